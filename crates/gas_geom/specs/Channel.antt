@@ -1,0 +1,28 @@
+-- Channels: a width, a height and the solid cells, walls and obstacles alike.
+use Rattle.std.specs.Prelude.{ℕ, ◌<◌, ◌≡◌, Bool, true, false, List, [], length, replicate, slice_index_or, slice_set}
+use Rattle.gas_geom.specs.Size.{IsSize}
+
+-- the solid cells are a list of rows from the top, a truth value a cell
+pub record ChannelModel : Type 0 where
+  pub width : ℕ
+  pub height : ℕ
+  pub solid : List (List Bool)
+
+-- whether the cell (x, y) is solid
+abbrev pub is_solid : ChannelModel → ℕ → ℕ → Bool
+is_solid channel x y = slice_index_or (slice_index_or channel.solid y []) x false
+
+-- a channel within the limits, with a truth value for each of its cells
+pub record IsChannel (channel : ChannelModel) : Type 0 where
+  pub size : IsSize channel.width channel.height
+  pub high : length channel.solid ≡ channel.height
+  pub wide : (y : ℕ) → y < channel.height → length (slice_index_or channel.solid y []) ≡ channel.width
+
+-- a channel whose cells are all fluid
+abbrev pub free_channel : ℕ → ℕ → ChannelModel
+free_channel width height = record { width = width; height = height; solid = replicate height (replicate width false) }
+
+-- the channel with the cell (x, y) solid
+abbrev pub with_solid : ChannelModel → ℕ → ℕ → ChannelModel
+with_solid channel x y =
+    record channel { solid = slice_set channel.solid y (slice_set (slice_index_or channel.solid y []) x true) }

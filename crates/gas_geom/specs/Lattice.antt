@@ -1,0 +1,79 @@
+-- Lattices: a set of directions for each cell, and the lattices that follow.
+use Rattle.std.specs.Prelude.{◌≡◌, ℕ, zero, suc, ◌+◌, ◌*◌, ◌^◌, ◌<◌, Bool, true, false, if◌then◌else◌, List, [], map, length, replicate, slice_index, slice_index_or, slice_set, sum_by}
+use Rattle.std.specs.List.{range_with_len}
+use Rattle.std.specs.Option.{option_map_or}
+use Rattle.std.specs.Int.{bit_at}
+use Rattle.gas_geom.specs.Gas.{Rules, sum_below, particles}
+use Rattle.gas_geom.specs.Neighbour.{neighbour_of}
+use Rattle.gas_geom.specs.Channel.{ChannelModel, is_solid, with_solid}
+
+-- a channel, and the sets of its cells as a list of rows from the top
+pub record LatticeModel : Type 0 where
+  pub channel : ChannelModel
+  pub rows : List (List ℕ)
+
+-- the set at the cell (x, y) of a list of rows, and the empty set outside
+abbrev pub cell : List (List ℕ) → ℕ → ℕ → ℕ
+cell rows x y = slice_index (slice_index_or rows y []) x
+
+-- a row, and rows, by their cells
+abbrev pub row_of : ℕ → (ℕ → ℕ) → List ℕ
+row_of width at = map at (range_with_len 0 width)
+
+abbrev pub rows_of : ℕ → ℕ → (ℕ → ℕ → ℕ) → List (List ℕ)
+rows_of width height at = map (λ y. row_of width (λ x. at x y)) (range_with_len 0 height)
+
+-- the rows are those of a lattice: sets of the gas's directions, empty at solid cells
+pub record IsLattice (gas : Rules) (channel : ChannelModel) (rows : List (List ℕ)) : Type 0 where
+  pub high : length rows ≡ channel.height
+  pub wide : (y : ℕ) → y < channel.height → length (slice_index_or rows y []) ≡ channel.width
+  pub sets : (x y : ℕ) → cell rows x y < 2 ^ gas.dirs
+  pub empty : (x y : ℕ) → is_solid channel x y ≡ true → cell rows x y ≡ 0
+
+-- the lattice of a channel with no particle
+abbrev pub empty_lattice : ChannelModel → LatticeModel
+empty_lattice channel = record { channel = channel; rows = replicate channel.height (replicate channel.width 0) }
+
+-- the rows with another set at the cell (x, y)
+abbrev pub with_cell : List (List ℕ) → ℕ → ℕ → ℕ → List (List ℕ)
+with_cell rows x y state = slice_set rows y (slice_set (slice_index_or rows y []) x state)
+
+-- the collided lattice, where `chi` is the random bit of each cell
+abbrev pub collided : Rules → ChannelModel → (ℕ → ℕ → Bool) → (ℕ → ℕ → ℕ) → ℕ → ℕ → ℕ
+collided gas channel chi at x y = if is_solid channel x y then 0 else gas.collide (at x y) (chi x y)
+
+-- whether a particle, 1 or 0, comes to the fluid cell (x, y) in direction i: one from the neighbour against i, or, where
+-- that is solid or the wall, the cell's own that goes towards it and is sent back
+abbrev pub arriving : Rules → ChannelModel → (ℕ → ℕ → ℕ) → ℕ → ℕ → ℕ → ℕ
+arriving gas channel at x y i =
+    let sent_back : ℕ = bit_at (at x y) (gas.opposite i) in
+    option_map_or (λ u. if is_solid channel u.0 u.1 then sent_back else bit_at (at u.0 u.1) i)
+    (neighbour_of gas channel.width channel.height x y (gas.opposite i)) sent_back
+
+-- the set of the numbers i below n at which f is 1
+abbrev pub set_of : ℕ → (ℕ → ℕ) → ℕ
+set_of n f = sum_below n (λ i. f i * 2 ^ i)
+
+-- the lattice after every particle moved along its link
+abbrev pub streamed : Rules → ChannelModel → (ℕ → ℕ → ℕ) → ℕ → ℕ → ℕ
+streamed gas channel at x y = if is_solid channel x y then 0 else set_of gas.dirs (arriving gas channel at x y)
+
+-- the next lattice
+abbrev pub next : Rules → ChannelModel → (ℕ → ℕ → Bool) → List (List ℕ) → List (List ℕ)
+next gas channel chi rows =
+    rows_of channel.width channel.height (streamed gas channel (collided gas channel chi (cell rows)))
+
+-- the lattice n generations after generation `start`, where `chi` is the random bit of each generation and cell
+abbrev pub generation : Rules → ChannelModel → (ℕ → ℕ → ℕ → Bool) → ℕ → List (List ℕ) → ℕ → List (List ℕ)
+generation gas channel chi start rows zero = rows
+generation gas channel chi start rows (suc n) =
+    next gas channel (chi (start + n)) (generation gas channel chi start rows n)
+
+-- the number of particles
+abbrev pub count : Rules → List (List ℕ) → ℕ
+count gas rows = sum_by (λ row. sum_by (particles gas) row) rows
+
+-- a collided row, from its sets, its solid cells and its random bits
+abbrev pub collided_row : Rules → List Bool → List Bool → List ℕ → List ℕ
+collided_row gas solid chi row =
+    row_of (length row) (λ x. if slice_index_or solid x false then 0 else gas.collide (slice_index row x) (slice_index_or chi x false))

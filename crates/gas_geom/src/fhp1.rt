@@ -1,0 +1,64 @@
+ghost use Rattle.std.specs.Prelude.{◌≡◌, ◌<◌, ◌≤◌, ◌^◌, ℕ, refl};
+ghost use Rattle.gas_geom.specs.Fhp1.{fhp1};
+ghost use Rattle.gas_geom.specs.Laws.Fhp1.{IsGas-fhp1};
+
+use crate::gas::Gas;
+
+/// The gas FHP-I of Frisch, Hasslacher and Pomeau (1986): the directions E, NE, NW, W, SW and SE
+/// of the triangular lattice, two-body and three-body collisions, no particle at rest.
+/// Momentum is in half units eastwards and in units of half the square root of 3 northwards.
+#[derive(Clone, Copy)]
+pub struct Fhp1;
+
+impl Gas for Fhp1 {
+    ghost rules = { fhp1 };
+
+    ghost DIRS = { 6 };
+
+    const DIRS: u32 = 6;
+
+    ghost dirs_are = { refl };
+
+    ghost laws = { IsGas-fhp1 };
+
+    fn opposite(i: u32) -> u32 {
+        (i + 3) % 6
+    }
+
+    fn step(i: u32, odd: bool) -> (i32, i32) {
+        match (i, odd) {
+            (0, _) => (1, 0),
+            (1, false) => (0, -1),
+            (1, true) => (1, -1),
+            (2, false) => (-1, -1),
+            (2, true) => (0, -1),
+            (3, _) => (-1, 0),
+            (4, false) => (-1, 1),
+            (4, true) => (0, 1),
+            (_, false) => (0, 1),
+            (_, true) => (1, 1),
+        }
+    }
+
+    fn collide(state: u8, chi: bool) -> u8 {
+        match state {
+            0x09 => if chi { 0x12 } else { 0x24 },
+            0x12 => if chi { 0x24 } else { 0x09 },
+            0x24 => if chi { 0x09 } else { 0x12 },
+            0x15 => 0x2a,
+            0x2a => 0x15,
+            other => other,
+        }
+    }
+
+    fn momentum(i: u32) -> (i32, i32) {
+        match i {
+            0 => (2, 0),
+            1 => (1, 1),
+            2 => (-1, 1),
+            3 => (-2, 0),
+            4 => (-1, -1),
+            _ => (1, -1),
+        }
+    }
+}

@@ -1,0 +1,40 @@
+ghost use Rattle.std.specs.Prelude.{◌≡◌, ◌<◌, ◌≤◌, ◌^◌, ℕ};
+ghost use Rattle.gas_geom.specs.Gas.{Rules, IsGas, amount};
+
+/// A lattice gas. A direction is a number below `DIRS`, and a cell's state is the set of the
+/// directions in which a particle moves: bit `i` stands for direction `i`.
+pub trait Gas {
+    ghost rules: { Rules };
+
+    ghost DIRS: { ℕ };
+
+    /// The number of directions, 1 to 8.
+    const DIRS: u32;
+
+    /// The direction that leads back.
+    fn opposite(i: u32) -> u32
+        requires { i < rules.dirs }
+        ensures { result ≡ rules.opposite i };
+
+    /// The step in a direction from an even or an odd row: the columns to the east and the rows
+    /// downwards, each -1 to 1.
+    fn step(i: u32, odd: bool) -> (i32, i32)
+        requires { i < rules.dirs }
+        ensures across { result.0 ≡ amount (rules.step i odd).0 }
+        ensures down { result.1 ≡ amount (rules.step i odd).1 };
+
+    /// The state after a collision, where the random bit `chi` decides a choice.
+    fn collide(state: u8, chi: bool) -> u8
+        requires { state < 2 ^ rules.dirs }
+        ensures { result ≡ rules.collide state chi };
+
+    /// The momentum of a particle in a direction, eastwards and northwards, each -2 to 2.
+    fn momentum(i: u32) -> (i32, i32)
+        requires { i < rules.dirs }
+        ensures eastwards { result.0 ≡ (rules.momentum i).0 }
+        ensures northwards { result.1 ≡ (rules.momentum i).1 };
+
+    ghost dirs_are: { rules.dirs ≡ DIRS };
+
+    ghost laws: { IsGas rules };
+}

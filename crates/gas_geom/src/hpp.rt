@@ -1,0 +1,52 @@
+ghost use Rattle.std.specs.Prelude.{◌≡◌, ◌<◌, ◌≤◌, ◌^◌, ℕ, refl};
+ghost use Rattle.gas_geom.specs.Hpp.{hpp};
+ghost use Rattle.gas_geom.specs.Laws.Hpp.{IsGas-hpp};
+
+use crate::gas::Gas;
+
+/// The gas HPP of Hardy, de Pazzis and Pomeau (1973): the directions E, N, W and S of the square
+/// lattice, head-on collisions. It does not look at the random bit. Momentum is in whole units.
+#[derive(Clone, Copy)]
+pub struct Hpp;
+
+impl Gas for Hpp {
+    ghost rules = { hpp };
+
+    ghost DIRS = { 4 };
+
+    const DIRS: u32 = 4;
+
+    ghost dirs_are = { refl };
+
+    ghost laws = { IsGas-hpp };
+
+    fn opposite(i: u32) -> u32 {
+        (i + 2) % 4
+    }
+
+    fn step(i: u32, _odd: bool) -> (i32, i32) {
+        match i {
+            0 => (1, 0),
+            1 => (0, -1),
+            2 => (-1, 0),
+            _ => (0, 1),
+        }
+    }
+
+    fn collide(state: u8, _chi: bool) -> u8 {
+        match state {
+            0x05 => 0x0a,
+            0x0a => 0x05,
+            other => other,
+        }
+    }
+
+    fn momentum(i: u32) -> (i32, i32) {
+        match i {
+            0 => (1, 0),
+            1 => (0, 1),
+            2 => (-1, 0),
+            _ => (0, -1),
+        }
+    }
+}
