@@ -1,9 +1,8 @@
 -- Steps: what the columns and rows after a step are, and that the step back leads home.
-use Rattle.std.proofs.Common.{◌≡◌, ◌≢◌, ℕ, zero, suc, ◌+◌, ◌-◌, ◌%◌, ◌<◌, ◌≤◌, Bool, true, false, not, Some, None, Option, option_map, ℤ, pos, negsuc, ◌<ℤ◌, ◌≤ℤ◌, ap, ◌∙◌, sym, refl, arith, ⊎_elim, subst}
+use Rattle.std.proofs.Common.{◌≡◌, ◌≢◌, ℕ, ◌+◌, ◌-◌, ◌%◌, ◌<◌, Bool, true, false, not, Some, None, Option, option_map, ℤ, pos, ◌<ℤ◌, ◌≤ℤ◌, ap, ◌∙◌, sym, refl, arith, ⊎_elim, subst}
 use Rattle.std.proofs.Math.Nat.{mod-eq_of_lt, mod_self, add-mod_right}
-use Rattle.std.proofs.lemmas.Bool.{cases_lt, cases_eq, eq-eqb, ne_eqb}
+use Rattle.std.proofs.lemmas.Bool.{cases_eq, eq-eqb, ne_eqb}
 use Rattle.std.proofs.lemmas.Int.{ints}
-use Rattle.std.proofs.lemmas.Grind.{common_steps}
 use Rattle.std.proofs.lemmas.Bool.Decides.{nat_tests}
 use Rattle.gas_geom.specs.Gas.{Move, Back, Stay, On, amount, reversed, odd_after, Rules, IsGas}
 use Rattle.gas_geom.specs.Neighbour.{column_after, row_after, is_odd, neighbour_of}

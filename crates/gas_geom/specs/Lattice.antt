@@ -5,7 +5,7 @@ use Rattle.std.specs.Option.{option_map_or}
 use Rattle.std.specs.Int.{bit_at}
 use Rattle.gas_geom.specs.Gas.{Rules, sum_below, particles}
 use Rattle.gas_geom.specs.Neighbour.{neighbour_of}
-use Rattle.gas_geom.specs.Channel.{ChannelModel, is_solid, with_solid}
+use Rattle.gas_geom.specs.Channel.{ChannelModel, is_solid}
 
 -- a channel, and the sets of its cells as a list of rows from the top
 pub record LatticeModel : Type 0 where

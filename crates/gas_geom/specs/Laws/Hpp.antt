@@ -1,9 +1,9 @@
 -- HPP is a gas.
-use Rattle.std.proofs.Common.{◌≡◌, ℕ, zero, suc, ◌+◌, ◌^◌, ◌<◌, ◌≤◌, ◌%◌, Bool, true, false, not, pos, negsuc, arith, lit≤, ap, sym, ◌∙◌, refl}
+use Rattle.std.proofs.Common.{◌≡◌, ℕ, zero, suc, ◌+◌, ◌<◌, ◌%◌, Bool, arith, lit≤, ap, sym, ◌∙◌, refl}
 use Rattle.std.specs.Prelude.{◌==◌, nat_lt}
 use Rattle.std.proofs.lemmas.Bool.{eqb-true, ltb-true}
 use Rattle.std.proofs.lemmas.Int.{ints}
-use Rattle.gas_geom.specs.Gas.{Move, Back, Stay, On, Rules, IsGas, IsSmall, particles, momentum_of, reversed, odd_after}
+use Rattle.gas_geom.specs.Gas.{IsGas, IsSmall, particles, momentum_of, reversed, odd_after}
 use Rattle.gas_geom.specs.Hpp.{hpp, collision}
 use Rattle.gas_geom.specs.Laws.Finite.{each_below, same_pair, same_pair-is}
 
