@@ -1,0 +1,128 @@
+ghost use Rattle.std.specs.Prelude.{◌≡◌, ◌<◌, ◌^◌, [], false, length, slice_index_or, IfOk};
+ghost use Rattle.gas_geom.specs.Channel.{is_solid, with_solid};
+ghost use Rattle.gas_geom.specs.Lattice.{LatticeModel, IsLattice, cell, count, empty_lattice, with_cell};
+
+use crate::channel::Channel;
+use crate::row::Row;
+use gas_geom::gas::Gas;
+use std::alloc::{AllocError, Global};
+use std::marker::Model;
+
+/// A lattice: a channel, and a state for each of its cells, which is empty at solid cells.
+#[derive(Drop)]
+pub struct Lattice<G: Gas> {
+    channel: Channel,
+    rows: Vec<Row<G>>,
+}
+
+impl<G: Gas> Model for Lattice<G> {
+    ghost use Rattle.gas_geom.specs.Lattice.{LatticeModel, IsLattice};
+
+    ghost Value = { LatticeModel };
+
+    ghost view = { λ l. record { channel = l.channel; rows = l.rows.items } };
+
+    ghost invariant = { λ l. IsLattice G.rules l.channel l.rows.items };
+}
+
+impl<G: Gas> Lattice<G> {
+    /// A lattice with no particle. Where memory is refused the channel is given up.
+    pub fn blank(alloc: Global, channel: Channel) -> Result<Self, AllocError>
+        ensures { IfOk result (λ l. l ≡ empty_lattice channel) }
+    {
+        let size = channel.size();
+        let mut rows = Vec::with_capacity(alloc, size.height() as usize)?;
+        for _ in 0..size.height() {
+            rows.push(Row::blank(alloc, size.width())?)?;
+        }
+        Ok(Lattice { channel, rows })
+    }
+
+    /// The lattice of these rows, from the top.
+    pub fn from_rows(channel: Channel, rows: Vec<Row<G>>) -> Self
+        requires { IsLattice G.rules channel rows.items }
+        ensures { result ≡ record { channel = channel; rows = rows.items } }
+    {
+        Lattice { channel, rows }
+    }
+
+    /// The channel and the rows, from the top.
+    pub fn into_rows(self) -> (Channel, Vec<Row<G>>)
+        ensures channel { result.0 ≡ self.channel }
+        ensures rows { result.1.items ≡ self.rows }
+        ensures whole { IsLattice G.rules self.channel self.rows }
+    {
+        (self.channel, self.rows)
+    }
+
+    /// An equal lattice.
+    pub fn copy(&self, alloc: Global) -> Result<Self, AllocError>
+        ensures { IfOk result (λ l. l ≡ self.now) }
+    {
+        let channel = self.channel.copy(alloc)?;
+        let mut rows = Vec::with_capacity(alloc, self.rows.len())?;
+        for row in &self.rows {
+            rows.push(row.copy(alloc)?)?;
+        }
+        Ok(Lattice { channel, rows })
+    }
+
+    pub fn channel(&self) -> &Channel
+        ensures channel { result.now ≡ self.now.channel }
+        ensures whole { IsLattice G.rules self.now.channel self.now.rows }
+    {
+        &self.channel
+    }
+
+    /// The state of a cell, 0 at a solid one.
+    pub fn cell(&self, x: u32, y: u32) -> u8
+        requires column { x < self.now.channel.width }
+        requires row { y < self.now.channel.height }
+        ensures value { result ≡ cell self.now.rows x y }
+        ensures state { result < 2 ^ G.rules.dirs }
+    {
+        self.row(y).get(x)
+    }
+
+    pub fn row(&self, y: u32) -> &Row<G>
+        requires { y < self.now.channel.height }
+        ensures row { result.now ≡ slice_index_or self.now.rows y [] }
+        ensures wide { length result.now ≡ self.now.channel.width }
+    {
+        &self.rows[y as usize]
+    }
+
+    /// The number of particles.
+    pub fn count(&self) -> u64
+        ensures { result ≡ count G.rules self.now.rows }
+    {
+        let mut total = 0;
+        for y in 0..self.channel.size().height() {
+            total += u64::from(self.row(y).count());
+        }
+        total
+    }
+
+    /// Changes the state of one fluid cell.
+    pub fn set_cell(&mut self, x: u32, y: u32, state: u8)
+        requires column { x < self.old.channel.width }
+        requires row { y < self.old.channel.height }
+        requires fluid { is_solid self.old.channel x y ≡ false }
+        requires state { state < 2 ^ G.rules.dirs }
+        ensures { self.new ≡ record self.old { rows = with_cell self.old.rows x y state } }
+    {
+        let row = &mut self.rows[y as usize];
+        row.set(x, state);
+    }
+
+    /// Makes one cell solid and empty.
+    pub fn make_solid(&mut self, x: u32, y: u32)
+        requires column { x < self.old.channel.width }
+        requires row { y < self.old.channel.height }
+        ensures { self.new ≡ record { channel = with_solid self.old.channel x y; rows = with_cell self.old.rows x y 0 } }
+    {
+        self.channel.make_solid(x, y);
+        let row = &mut self.rows[y as usize];
+        row.set(x, 0);
+    }
+}

@@ -1,0 +1,12 @@
+//! Rows, masks, channels and lattices, the random bits of a row, and its collision.
+#![tactic(auto)]
+
+pub mod channel;
+pub mod chirality;
+pub mod collide;
+pub mod key;
+pub mod lattice;
+pub mod mask;
+pub mod row;
+#[cfg(test)]
+mod tests;
