@@ -1,0 +1,105 @@
+-- A row of the next lattice depends on the row itself and the two beside it alone. So rows that are fed later change no row
+-- that was given, and the rows of the next lattice come one by one, each with the row after it.
+use Rattle.std.proofs.Common.{◌≡◌, ℕ, ◌+◌, ◌*◌, ◌^◌, ◌<◌, ◌≤◌, Bool, if◌then◌else◌, Option, Some, None, List, [], ◌∷◌, ◌++◌, map, take, length, get_or, ap, ◌∙◌, sym, refl, arith}
+use Rattle.std.specs.List.{range_with_len}
+use Rattle.std.specs.Int.{bit_at}
+use Rattle.std.proofs.lemmas.List.{get_or_append_left, get_or-append-add}
+use Rattle.std.proofs.lemmas.List.FromFn.{fill_by_all, get_or-map-range_with_len, length-map-range_with_len, take-map-range_with_len, map-range_with_len_more}
+use Rattle.std.proofs.lemmas.Bool.Decides.{nat_tests}
+use Rattle.gas_geom.specs.Gas.{Rules, Move, Back, Stay, On}
+use Rattle.gas_geom.specs.Neighbour.{row_after, is_odd}
+use Rattle.gas_geom.proofs.Steps.{neighbour-parts}
+use Rattle.gas_geom.specs.Channel.{ChannelModel, is_solid}
+use Rattle.gas_geom.specs.Lattice.{cell, row_of, arriving, collided, streamed, next}
+use Rattle.gas_stage.proofs.Arriving.{behind, sent_back, arriving_by}
+use Rattle.gas_stage.proofs.Sums.{sum_below-cong}
+
+-- lists made by index are equal where their elements are
+pub range-cong : {X : Type 0} (f g : ℕ → X) (n : ℕ) (d : X) → ((k : ℕ) → k < n → f k ≡ g k) →
+    map f (range_with_len 0 n) ≡ map g (range_with_len 0 n)
+range-cong f g n d e =
+    fill_by_all g (map f (range_with_len 0 n)) n d (length-map-range_with_len f 0 n)
+    (λ k h. get_or-map-range_with_len f 0 n k k d h (omega arith) ∙ e k h)
+
+row_after-le : (h y y' : ℕ) (m : Move) → row_after h y m ≡ Some y' → y' ≤ y + 1
+row_after-le h y y' Back there = grind (arith, nat_tests)
+row_after-le h y y' Stay there = grind (arith, nat_tests)
+row_after-le h y y' On there = grind (arith, nat_tests)
+
+-- streaming at a row reads no row past the next one
+streamed-local : (gas : Rules) (c : ChannelModel) (at at' : ℕ → ℕ → ℕ) (x y : ℕ) →
+    ((x' y' : ℕ) → y' ≤ y + 1 → at x' y' ≡ at' x' y') → streamed gas c at x y ≡ streamed gas c at' x y
+streamed-local gas c at at' x y same =
+    ap (λ s. if is_solid c x y then 0 else s)
+    (sum_below-cong gas.dirs (λ i. arriving gas c at x y i * 2 ^ i) (λ i. arriving gas c at' x y i * 2 ^ i)
+    (λ i _. ap (λ v. v * 2 ^ i) (arrives i (behind gas c x y i) refl)))
+  where
+    own : (i : ℕ) → sent_back gas c at x y i ≡ sent_back gas c at' x y i
+    own i = ap (λ s. bit_at s (gas.opposite i)) (same x y (omega arith))
+
+    arrives : (i : ℕ) (o : Option (ℕ × ℕ)) → behind gas c x y i ≡ o → arriving_by gas c at x y i o ≡ arriving_by gas c at' x y i o
+    arrives i None e = own i
+    arrives i (Some u) e =
+        let parts = neighbour-parts gas c.width c.height x y (gas.opposite i) u.0 u.1 e in
+        let near = row_after-le c.height y u.1 (gas.step (gas.opposite i) (is_odd y)).1 parts.1 in
+        ap (λ v. if is_solid c u.0 u.1 then v else bit_at (at u.0 u.1) i) (own i)
+        ∙ ap (λ s. if is_solid c u.0 u.1 then sent_back gas c at' x y i else bit_at s i) (same u.0 u.1 near)
+
+-- the cells of a list of rows with more
+cell-append : (q more : List (List ℕ)) (x y : ℕ) → y < length q → cell (q ++ more) x y ≡ cell q x y
+cell-append q more x y h = ap (λ (row : List ℕ). get_or row x 0) (get_or_append_left q more [] y h)
+
+pub cell-push_at : (q : List (List ℕ)) (r : List ℕ) (x y : ℕ) → y ≡ length q → cell (q ++ r ∷ []) x y ≡ get_or r x 0
+cell-push_at q r x y e =
+    ap (λ (row : List ℕ). get_or row x 0)
+    (ap (λ n. get_or (q ++ r ∷ []) n []) (let e' : y ≡ length q + 0 = omega arith in e') ∙ get_or-append-add q (r ∷ []) 0 [])
+
+module _ (gas : Rules) (c : ChannelModel) (chi : ℕ → ℕ → Bool) where
+  -- the collided lattice of the rows q
+  abbrev pub collided_of : List (List ℕ) → ℕ → ℕ → ℕ
+  collided_of q = collided gas c chi (cell q)
+
+  -- which does not change at the rows that are there
+  pub collided_of-append : (q more : List (List ℕ)) (x y : ℕ) → y < length q → collided_of (q ++ more) x y ≡ collided_of q x y
+  collided_of-append q more x y h = ap (λ s. if is_solid c x y then 0 else gas.collide s (chi x y)) (cell-append q more x y h)
+
+  -- row y of the next lattice of the rows q
+  abbrev pub next_row : List (List ℕ) → ℕ → List ℕ
+  next_row q y = row_of c.width (λ x. streamed gas c (collided_of q) x y)
+
+  -- a row whose neighbours are all in q does not change with more rows
+  next_row-append : (q more : List (List ℕ)) (y : ℕ) → y + 1 < length q → next_row (q ++ more) y ≡ next_row q y
+  next_row-append q more y h =
+      range-cong (λ x. streamed gas c (collided_of (q ++ more)) x y) (λ x. streamed gas c (collided_of q) x y) c.width 0
+      (λ x _. streamed-local gas c (collided_of (q ++ more)) (collided_of q) x y
+      (λ x' y' near. collided_of-append q more x' y' (omega arith)))
+
+  take-next : (q : List (List ℕ)) (n : ℕ) → n ≤ c.height → take n (next gas c chi q) ≡ map (next_row q) (range_with_len 0 n)
+  take-next q n h = take-map-range_with_len (next_row q) 0 c.height n h
+
+  -- the rows of the next lattice before the last of q stay with more rows
+  pub take-next-append : (q more : List (List ℕ)) (n : ℕ) → n + 1 ≤ length q → n ≤ c.height →
+      take n (next gas c chi (q ++ more)) ≡ take n (next gas c chi q)
+  take-next-append q more n within h =
+      take-next (q ++ more) n h
+      ∙ range-cong (next_row (q ++ more)) (next_row q) n [] (λ y hy. next_row-append q more y (omega arith))
+      ∙ sym (take-next q n h)
+
+  -- with the row that follows row m of q, the next lattice's row m is known beside those before it
+  pub take-next-push : (q : List (List ℕ)) (r : List ℕ) (m : ℕ) → length q ≡ m + 1 → length q < c.height →
+      take (m + 1) (next gas c chi (q ++ r ∷ [])) ≡ take m (next gas c chi q) ++ next_row (q ++ r ∷ []) m ∷ []
+  take-next-push q r m e h =
+      take-next (q ++ r ∷ []) (m + 1) (omega arith)
+      ∙ map-range_with_len_more (next_row (q ++ r ∷ [])) 0 m m (omega arith)
+      ∙ ap (λ (l : List (List ℕ)). l ++ next_row (q ++ r ∷ []) m ∷ [])
+      (sym (take-next (q ++ r ∷ []) m (omega arith)) ∙ take-next-append q (r ∷ []) m (omega arith) (omega arith))
+
+  -- the bottom row is the last
+  pub next-all : (q : List (List ℕ)) (m : ℕ) → m + 1 ≡ c.height → next gas c chi q ≡ take m (next gas c chi q) ++ next_row q m ∷ []
+  next-all q m e =
+      ap (λ n. map (next_row q) (range_with_len 0 n)) (sym e)
+      ∙ map-range_with_len_more (next_row q) 0 m m (omega arith)
+      ∙ ap (λ (l : List (List ℕ)). l ++ next_row q m ∷ []) (sym (take-next q m (omega arith)))
+
+  pub length-next : (q : List (List ℕ)) → length (next gas c chi q) ≡ c.height
+  length-next q = length-map-range_with_len (next_row q) 0 c.height

@@ -1,0 +1,62 @@
+-- Finite sums over the numbers below n: equal terms, sums of sums, a double sum in either order, and a sum of which a test
+-- picks one term.
+use Rattle.std.proofs.Common.{◌≡◌, ◌≢◌, ℕ, zero, suc, ◌+◌, ◌<◌, ◌≤◌, Bool, true, false, if◌then◌else◌, ◌==◌, ◌&&◌, ap, ◌∙◌, sym, refl, arith, ⊎_elim, zero-add}
+use Rattle.std.proofs.lemmas.Bool.{cases_eq, eq-eqb, ne_eqb}
+use Rattle.gas_geom.specs.Gas.{sum_below}
+
+pub sum_below-cong : (n : ℕ) (f g : ℕ → ℕ) → ((k : ℕ) → k < n → f k ≡ g k) → sum_below n f ≡ sum_below n g
+sum_below-cong zero f g e = refl
+sum_below-cong (suc n) f g e =
+    let rest : sum_below n f ≡ sum_below n g = sum_below-cong n f g (λ k h. e k (omega arith)) in
+    let last : f n ≡ g n = e n (omega arith) in
+    omega arith
+
+pub sum_below-zero : (n : ℕ) → sum_below n (λ _. 0) ≡ 0
+sum_below-zero zero = refl
+sum_below-zero (suc n) = omega (arith, sum_below-zero n)
+
+pub sum_below-add : (n : ℕ) (f g : ℕ → ℕ) → sum_below n (λ k. f k + g k) ≡ sum_below n f + sum_below n g
+sum_below-add zero f g = refl
+sum_below-add (suc n) f g = omega (arith, sum_below-add n f g)
+
+-- a double sum in either order
+pub sum_below-swap : (m n : ℕ) (f : ℕ → ℕ → ℕ) →
+    sum_below m (λ i. sum_below n (λ j. f i j)) ≡ sum_below n (λ j. sum_below m (λ i. f i j))
+sum_below-swap zero n f = sym (sum_below-zero n)
+sum_below-swap (suc m) n f =
+    ap (λ v. v + sum_below n (λ j. f m j)) (sum_below-swap m n f)
+    ∙ sym (sum_below-add n (λ j. sum_below m (λ i. f i j)) (λ j. f m j))
+
+-- a number where a test holds, else 0
+abbrev pub when : Bool → ℕ → ℕ
+when b n = if b then n else 0
+
+pub sum_below-when : (b : Bool) (n : ℕ) (f : ℕ → ℕ) → sum_below n (λ k. when b (f k)) ≡ when b (sum_below n f)
+sum_below-when true n f = refl
+sum_below-when false n f = sum_below-zero n
+
+pub when-and : (a b : Bool) (n : ℕ) → when (a && b) n ≡ when a (when b n)
+when-and true b n = refl
+when-and false b n = refl
+
+-- a sum of which one term is picked
+sum_below-unpicked : (k n : ℕ) (f : ℕ → ℕ) → n ≤ k → sum_below n (λ j. when (k == j) (f j)) ≡ 0
+sum_below-unpicked k zero f h = refl
+sum_below-unpicked k (suc n) f h =
+    let rest : sum_below n (λ j. when (k == j) (f j)) ≡ 0 = sum_below-unpicked k n f (omega arith) in
+    let last : when (k == n) (f n) ≡ 0 = ap (λ b. when b (f n)) (ne_eqb k n (omega arith)) in
+    omega arith
+
+pub sum_below-pick : (k n : ℕ) (f : ℕ → ℕ) → k < n → sum_below n (λ j. when (k == j) (f j)) ≡ f k
+sum_below-pick k zero f h = absurd (omega arith)
+sum_below-pick k (suc n) f h =
+    ⊎_elim
+    (λ (e : k ≡ n).
+    let rest : sum_below n (λ j. when (k == j) (f j)) ≡ 0 = sum_below-unpicked k n f (omega arith) in
+    let last : when (k == n) (f n) ≡ f n = ap (λ b. when b (f n)) (eq-eqb k n e) in
+    ap (λ v. v + when (k == n) (f n)) rest ∙ zero-add (when (k == n) (f n)) ∙ last ∙ ap f (sym e))
+    (λ (ne : k ≢ n).
+    let rest : sum_below n (λ j. when (k == j) (f j)) ≡ f k = sum_below-pick k n f (omega arith) in
+    let last : when (k == n) (f n) ≡ 0 = ap (λ b. when b (f n)) (ne_eqb k n ne) in
+    omega arith)
+    (cases_eq k n)

@@ -1,0 +1,3 @@
+pub mod Streaming
+pub mod Stage
+pub mod Evolution

@@ -1,0 +1,85 @@
+//! Generations of a whole lattice, by one stage on one thread.
+ghost use Rattle.std.specs.Prelude.{◌≡◌, ◌<◌, ◌++◌, None, IsSome, IfOk};
+ghost use Rattle.std.specs.Option.{option_to_list};
+ghost use Rattle.std.specs.VecDeque.{deque_len, deque_capacity};
+ghost use Rattle.gas_geom.specs.Lattice.{IsLattice, next, generation};
+ghost use Rattle.gas_rows.specs.Chirality.{chirality_bit};
+ghost use Rattle.gas_stage.specs.Evolution.{lattice_after};
+
+use crate::stage::Stage;
+use gas_geom::gas::Gas;
+use gas_rows::channel::Channel;
+use gas_rows::chirality::Chirality;
+use gas_rows::lattice::Lattice;
+use gas_rows::row::Row;
+use std::alloc::{AllocError, Global};
+use std::collections::VecDeque;
+
+/// The lattice some generations after a lattice of generation 0. It takes memory for one copy of
+/// the lattice and for one stage, and none after that.
+pub fn lattice_after<G: Gas>(
+    alloc: Global,
+    lattice: &Lattice<G>,
+    chirality: Chirality,
+    generations: u64,
+) -> Result<Lattice<G>, AllocError>
+    ensures { IfOk result (λ l. l ≡ lattice_after G.rules chirality lattice.now generations) }
+{
+    let (channel, rows) = lattice.copy(alloc)?.into_rows();
+    let rows = advance(
+        alloc,
+        &channel,
+        chirality,
+        generations,
+        VecDeque::from(rows),
+    )?;
+    Ok(Lattice::from_rows(channel, Vec::from(rows)))
+}
+
+// The rows some generations after those of generation 0.
+fn advance<G: Gas>(
+    alloc: Global,
+    channel: &Channel,
+    chirality: Chirality,
+    generations: u64,
+    mut rows: VecDeque<Row<G>>,
+) -> Result<VecDeque<Row<G>>, AllocError>
+    requires { IsLattice G.rules channel.now rows.items }
+    ensures { IfOk result (λ r. r.items ≡ generation G.rules channel.now (chirality_bit chirality channel.now.width) 0 rows.items generations) }
+{
+    let mut stage = Stage::new(alloc, channel, chirality)?;
+    for generation in 0..generations {
+        pass(&mut stage, generation, &mut rows);
+    }
+    Ok(rows)
+}
+
+// One pass: each row leaves the queue at its front and goes through the stage, and what the stage
+// gives joins the queue at its end.
+fn pass<G: Gas>(stage: &mut Stage<'_, G>, generation: u64, rows: &mut VecDeque<Row<G>>)
+    requires closed { stage.old.pass ≡ None }
+    requires some_rows { 0 < stage.old.channel.height }
+    requires lattice { IsLattice G.rules stage.old.channel rows.old.items }
+    ensures channel { stage.new.channel ≡ stage.old.channel }
+    ensures chirality { stage.new.chirality ≡ stage.old.chirality }
+    ensures closed { stage.new.pass ≡ None }
+    ensures next { rows.new.items ≡ next G.rules stage.old.channel (chirality_bit stage.old.chirality stage.old.channel.width generation) rows.old.items }
+{
+    stage.begin(Some(generation));
+    for _ in 0..rows.len() {
+        let row = rows.pop_front().unwrap();
+        push_some(rows, stage.feed(row));
+    }
+    push_some(rows, stage.flush());
+}
+
+// Puts a row, if there is one, at the end.
+fn push_some<G: Gas>(rows: &mut VecDeque<Row<G>>, row: Option<Row<G>>)
+    requires room { IsSome row → deque_len rows.old < deque_capacity rows.old }
+    ensures items { rows.new.items ≡ rows.old.items ++ option_to_list row }
+    ensures capacity { deque_capacity rows.new ≡ deque_capacity rows.old }
+{
+    if let Some(row) = row {
+        rows.push_back_reserved(row);
+    }
+}

@@ -1,0 +1,226 @@
+//! A stage: it computes the step from one generation to the next row by row, and keeps three rows.
+ghost use Rattle.std.specs.Prelude.{◌≡◌, ◌+◌, ◌<◌, ◌≤◌, ◌++◌, ◌∷◌, ℕ, [], List, length, Option, Some, None, IsSome, IfSome, IfOk, IsTrue, ◌↔◌};
+ghost use Rattle.std.specs.Option.{option_to_list};
+ghost use Rattle.gas_geom.specs.Channel.{IsChannel};
+ghost use Rattle.gas_geom.specs.Lattice.{streamed, row_of};
+ghost use Rattle.gas_stage.specs.Streaming.{AreRowsAbout, AreWide};
+ghost use Rattle.gas_stage.specs.Stage.{StageModel, Fits, owed, given};
+
+use crate::stream::stream_row;
+use gas_geom::gas::Gas;
+use gas_rows::channel::Channel;
+use gas_rows::chirality::{Chirality, chi_row};
+use gas_rows::collide::collide_row;
+use gas_rows::mask::Mask;
+use gas_rows::row::Row;
+use std::alloc::{AllocError, Global};
+use std::marker::Model;
+use std::mem;
+
+// Row y after streaming. The row above is not read at the top, nor the row below at the bottom.
+fn stream_between<G: Gas>(
+    channel: &Channel,
+    y: u32,
+    above: &Row<G>,
+    middle: &Row<G>,
+    below: &Row<G>,
+    out: &mut Row<G>,
+)
+    requires row { y < channel.now.height }
+    requires wide { AreWide channel.now above.now middle.now below.now }
+    requires out_wide { length out.old ≡ channel.now.width }
+    ensures wide { length out.new ≡ channel.now.width }
+    ensures streamed { (at : ℕ → ℕ → ℕ) →
+        AreRowsAbout channel.now at y above.now middle.now below.now →
+        out.new ≡ row_of channel.now.width (λ x. streamed G.rules channel.now at x y) }
+{
+    let height = channel.size().height();
+    let up = (y > 0).then_some(above);
+    let down = (y + 1 < height).then_some(below);
+    stream_row(channel, y, up, middle, down, out);
+}
+
+// What a stage does with the rows that it is fed.
+#[derive(Clone, Copy)]
+enum Pass {
+    Closed,
+    Passing,
+    Computing(u64),
+}
+
+/// A stage of one channel. In each of its passes it is fed the rows of a lattice from the top, and
+/// either computes the next lattice's rows or passes the rows on. It keeps three rows, whatever the
+/// height.
+#[derive(Drop)]
+pub struct Stage<'a, G: Gas> {
+    channel: &'a Channel,
+    chirality: Chirality,
+    pass: Pass,
+    fed: u32,
+    chi: Mask,
+    spare: Row<G>,
+    before_last: Row<G>,
+    last: Option<Row<G>>,
+}
+
+impl<'a, G: Gas> Model for Stage<'a, G> {
+    ghost use Rattle.std.specs.Prelude.{◌≡◌, ◌<◌, ◌≤◌, ℕ, [], length, unwrap_or, IsSome, None};
+    ghost use Rattle.std.specs.Option.{ForSome};
+    ghost use Rattle.gas_stage.specs.Stage.{StageModel, pass_of};
+    ghost use Rattle.gas_stage.specs.declared.stage.Pass.TheVariants.{Closed, Passing, Computing};
+
+    ghost Value = { StageModel };
+
+    ghost view = { λ s. record {
+      channel = s.channel.now;
+      chirality = s.chirality;
+      pass = pass_of s.pass;
+      fed = s.fed;
+      before_last = s.before_last;
+      last = unwrap_or s.last [];
+    } };
+
+    ghost invariant = { λ s. record {
+      chi_wide : length s.chi ≡ s.channel.now.width;
+      spare_wide : length s.spare ≡ s.channel.now.width;
+      before_last_wide : length s.before_last ≡ s.channel.now.width;
+      last_wide : ForSome s.last (λ r. length r ≡ s.channel.now.width);
+      few_rows : s.channel.now.height ≤ 4096;
+      fed_fits : s.fed ≤ s.channel.now.height;
+      last_fed : IsSome s.last → 0 < s.fed;
+      computing : (g : ℕ) → s.pass ≡ Computing g → 0 < s.fed → IsSome s.last;
+      passing : s.pass ≡ Passing → s.last ≡ None;
+      closed : s.pass ≡ Closed → s.last ≡ None;
+      none_fed : s.pass ≡ Closed → s.fed ≡ 0;
+    } };
+}
+
+impl<'a, G: Gas> Stage<'a, G> {
+    /// A stage with no open pass. It takes all its memory here: two rows and the random bits of a
+    /// row.
+    pub fn new(
+        alloc: Global,
+        channel: &'a Channel,
+        chirality: Chirality,
+    ) -> Result<Self, AllocError>
+        ensures channel { IfOk result (λ s. s.channel ≡ channel.now) }
+        ensures chirality { IfOk result (λ s. s.chirality ≡ chirality) }
+        ensures closed { IfOk result (λ s. s.pass ≡ None) }
+        ensures whole { IsChannel channel.now }
+    {
+        let width = channel.size().width();
+        Ok(Stage {
+            channel,
+            chirality,
+            pass: Pass::Closed,
+            fed: 0,
+            chi: Mask::blank(alloc, width)?,
+            spare: Row::blank(alloc, width)?,
+            before_last: Row::blank(alloc, width)?,
+            last: None,
+        })
+    }
+
+    /// Opens a pass that computes the step from a generation, or, with None, one that passes rows
+    /// on.
+    pub fn begin(&mut self, generation: Option<u64>)
+        requires closed { self.old.pass ≡ None }
+        ensures opened { self.new ≡ record self.old { pass = Some generation } }
+        ensures fits { Fits G.rules self.new generation [] }
+    {
+        self.pass = match generation {
+            Some(generation) => Pass::Computing(generation),
+            None => Pass::Passing,
+        };
+    }
+
+    /// Takes the next row of the open pass. A computing pass gives nothing for the first row, and
+    /// then the next lattice's row before the one fed; a passing one gives the row itself. States
+    /// at solid cells of a row are taken as empty when a pass computes.
+    pub fn feed(&mut self, mut row: Row<G>) -> Option<Row<G>>
+        requires open { IsSome self.old.pass }
+        requires room { self.old.fed < self.old.channel.height }
+        requires wide { length row ≡ self.old.channel.width }
+        ensures channel { self.new.channel ≡ self.old.channel }
+        ensures chirality { self.new.chirality ≡ self.old.chirality }
+        ensures pass { self.new.pass ≡ self.old.pass }
+        ensures fed { self.new.fed ≡ self.old.fed + 1 }
+        ensures passes_on { self.old.pass ≡ Some None → result ≡ Some row }
+        ensures wide { IfSome result (λ r. length r ≡ self.old.channel.width) }
+        ensures fits { (p : Option ℕ) (q : List (List ℕ)) → Fits G.rules self.old p q →
+            Fits G.rules self.new p (q ++ row ∷ []) }
+        ensures gives { (p : Option ℕ) (q : List (List ℕ)) → Fits G.rules self.old p q →
+            given G.rules self.old.channel self.old.chirality p (q ++ row ∷ [])
+            ≡ given G.rules self.old.channel self.old.chirality p q ++ option_to_list result }
+    {
+        let y = self.fed;
+        self.fed += 1;
+        let Pass::Computing(generation) = self.pass else {
+            return Some(row);
+        };
+        chi_row(self.chirality, generation, y, row.width(), &mut self.chi);
+        collide_row(&mut row, self.channel.mask(y), &self.chi);
+        let Some(last) = self.last.take() else {
+            self.last = Some(row);
+            return None;
+        };
+        stream_between(
+            self.channel,
+            y - 1,
+            &self.before_last,
+            &last,
+            &row,
+            &mut self.spare,
+        );
+        let oldest = mem::replace(&mut self.before_last, last);
+        self.last = Some(row);
+        Some(mem::replace(&mut self.spare, oldest))
+    }
+
+    /// Closes the open pass, in which all rows were fed. A computing pass gives the last row of the
+    /// next lattice, and a passing one nothing.
+    pub fn flush(&mut self) -> Option<Row<G>>
+        requires open { IsSome self.old.pass }
+        requires all { self.old.fed ≡ self.old.channel.height }
+        ensures channel { self.new.channel ≡ self.old.channel }
+        ensures chirality { self.new.chirality ≡ self.old.chirality }
+        ensures closed { self.new.pass ≡ None }
+        ensures none_fed { self.new.fed ≡ 0 }
+        ensures passes_on { self.old.pass ≡ Some None → result ≡ None }
+        ensures wide { IfSome result (λ r. length r ≡ self.old.channel.width) }
+        ensures gives_all { (p : Option ℕ) (q : List (List ℕ)) → Fits G.rules self.old p q →
+            owed G.rules self.old.channel self.old.chirality p q
+            ≡ given G.rules self.old.channel self.old.chirality p q ++ option_to_list result }
+    {
+        let y = self.fed;
+        self.fed = 0;
+        self.pass = Pass::Closed;
+        let last = self.last.take()?;
+        // No row is below the bottom one, and none is read.
+        stream_between(
+            self.channel,
+            y - 1,
+            &self.before_last,
+            &last,
+            &last,
+            &mut self.spare,
+        );
+        Some(mem::replace(&mut self.spare, last))
+    }
+
+    /// The rows fed in the open pass, 0 where none is open.
+    pub fn fed(&self) -> u32
+        ensures value { result ≡ self.now.fed }
+        ensures within { result ≤ self.now.channel.height }
+        ensures closed { self.now.pass ≡ None → result ≡ 0 }
+    {
+        self.fed
+    }
+
+    /// Whether a pass is open.
+    pub fn is_open(&self) -> bool
+        ensures { IsTrue result ↔ IsSome self.now.pass }
+    {
+        !matches!(self.pass, Pass::Closed)
+    }
+}
