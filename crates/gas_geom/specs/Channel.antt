@@ -1,5 +1,5 @@
 -- Channels: a width, a height and the solid cells, walls and obstacles alike.
-use Rattle.std.specs.Prelude.{ℕ, ◌<◌, ◌≡◌, Bool, true, false, List, [], length, replicate, slice_index_or, slice_set}
+use Rattle.std.specs.Prelude.{ℕ, ◌<◌, ◌≡◌, Bool, true, false, List, [], length, replicate, slice_index_or, slice_set, sum_by, count_by}
 use Rattle.gas_geom.specs.Size.{IsSize}
 
 -- the solid cells are a list of rows from the top, a truth value a cell
@@ -11,6 +11,10 @@ pub record ChannelModel : Type 0 where
 -- whether the cell (x, y) is solid
 abbrev pub is_solid : ChannelModel → ℕ → ℕ → Bool
 is_solid channel x y = slice_index_or (slice_index_or channel.solid y []) x false
+
+-- the number of solid cells
+abbrev pub solid_cells : ChannelModel → ℕ
+solid_cells channel = sum_by (λ row. count_by (λ b. b) row) channel.solid
 
 -- a channel within the limits, with a truth value for each of its cells
 pub record IsChannel (channel : ChannelModel) : Type 0 where

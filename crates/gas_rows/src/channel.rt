@@ -1,6 +1,6 @@
 ghost use Rattle.std.specs.Prelude.{◌≡◌, ◌<◌, [], length, slice_index_or, IfOk};
 ghost use Rattle.gas_geom.specs.Size.{SizeModel};
-ghost use Rattle.gas_geom.specs.Channel.{ChannelModel, IsChannel, is_solid, free_channel, with_solid};
+ghost use Rattle.gas_geom.specs.Channel.{ChannelModel, IsChannel, is_solid, solid_cells, free_channel, with_solid};
 
 use crate::mask::Mask;
 use gas_geom::size::Size;
@@ -84,5 +84,16 @@ impl Channel {
     {
         let mask = &mut self.masks[y as usize];
         mask.set(x, true);
+    }
+
+    /// The number of solid cells.
+    pub fn count_solid(&self) -> u64
+        ensures { result ≡ solid_cells self.now }
+    {
+        let mut total = 0;
+        for y in 0..self.size.height() {
+            total += u64::from(self.mask(y).count());
+        }
+        total
     }
 }

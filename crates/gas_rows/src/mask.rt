@@ -1,4 +1,4 @@
-ghost use Rattle.std.specs.Prelude.{◌≡◌, ◌<◌, ◌≤◌, ℕ, Bool, false, List, length, replicate, slice_index_or, slice_set, IfOk};
+ghost use Rattle.std.specs.Prelude.{◌≡◌, ◌<◌, ◌≤◌, ℕ, Bool, false, List, length, replicate, slice_index_or, slice_set, count_by, IfOk};
 
 use std::alloc::{AllocError, Global};
 use std::marker::Model;
@@ -60,5 +60,12 @@ impl Mask {
         ensures { self.new ≡ slice_set self.old x value }
     {
         self.cells[x as usize] = value;
+    }
+
+    /// The number of cells that are true.
+    pub fn count(&self) -> u32
+        ensures { result ≡ count_by (λ b. b) self.now }
+    {
+        self.cells.iter().filter(|value| **value).count() as u32
     }
 }

@@ -35,6 +35,7 @@ fn a_mask_is_false_at_first(rt: HostRuntime) -> Result<(), Fail> {
     let copy = mask.copy(rt.alloc())?;
     assert_eq!(rt; copy.width(), 65);
     assert!(rt; copy.get(64) && !copy.get(63));
+    assert_eq!(rt; copy.count(), 1);
     Ok(())
 }
 
@@ -61,6 +62,7 @@ fn lattices(rt: HostRuntime) -> Result<(), Fail> {
     lattice.make_solid(1, 2);
     assert!(rt; lattice.channel().is_solid(1, 2) && lattice.channel().mask(2).get(1));
     assert_eq!(rt; (lattice.cell(1, 2), lattice.count()), (0, 0));
+    assert_eq!(rt; lattice.channel().count_solid(), 1);
     let (channel, rows) = lattice.into_rows();
     let back = Lattice::from_rows(channel, rows);
     assert!(rt; back.channel().is_solid(1, 2));
