@@ -1,0 +1,13 @@
+pub mod Answers
+pub mod Accepted
+pub mod Areas
+pub mod Filled
+pub mod Placing
+pub mod Painting
+pub mod Maps
+pub mod Grids
+pub mod Verdicts
+pub mod Filling
+pub mod Digits
+pub mod First
+pub mod Values

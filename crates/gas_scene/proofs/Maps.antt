@@ -1,0 +1,76 @@
+-- The lattice of a map, cell by cell.
+use Rattle.std.proofs.Common.{◌≡◌, ℕ, ◌+◌, ◌*◌, ◌<◌, Bool, true, false, List, length, Option, Some, None, ap, sym, ◌∙◌, refl, nat_lt, if◌then◌else◌}
+use Rattle.std.proofs.lemmas.Bool.{ltb-true}
+use Rattle.gas_geom.specs.Channel.{is_solid, free_channel}
+use Rattle.gas_geom.specs.Lattice.{empty_lattice}
+use Rattle.gas_scene.specs.declared.cells.Cell.{Cell}
+use Rattle.gas_scene.specs.declared.cells.Cell.TheVariants.{Solid, State}
+use Rattle.gas_scene.specs.declared.cells.TheConstants.{SOLID_MARK, EMPTY_MARK}
+use Rattle.gas_scene.specs.Cells.{digit_of, state_of, is_marked, cell_of}
+use Rattle.gas_scene.specs.Map.{is_solid_cell, state_in, map_cell, map_width, map_lattice, map_before, with_put}
+use Rattle.gas_scene.proofs.Grids.{is_solid-lattice_before, lattice_before-solid, lattice_before-state, lattice_before-row, lattice_before-none, lattice_before-all}
+
+module _ (states : ℕ) (rows : List (List ℕ)) where
+  abbrev solid_at : ℕ → ℕ → Bool
+  solid_at u v = is_solid_cell (map_cell states rows u v)
+
+  abbrev state_at : ℕ → ℕ → ℕ
+  state_at u v = state_in (map_cell states rows u v)
+
+  pub width-map_before : (x y : ℕ) → (map_before states rows x y).channel.width ≡ map_width rows
+  unfolding map_before
+  width-map_before x y = refl
+
+  pub height-map_before : (x y : ℕ) → (map_before states rows x y).channel.height ≡ length rows
+  unfolding map_before
+  height-map_before x y = refl
+
+  pub is_solid-map_before : (x y : ℕ) → x < map_width rows → y < length rows → is_solid (map_before states rows x y).channel x y ≡ false
+  unfolding map_before
+  is_solid-map_before x y in_columns in_rows = is_solid-lattice_before (map_width rows) (length rows) solid_at state_at x y in_columns in_rows
+
+  pub with_put-map_before : (x y : ℕ) (cell : Cell) → x < map_width rows → y < length rows → map_cell states rows x y ≡ Some cell
+      → with_put (map_before states rows x y) x y cell ≡ map_before states rows (x + 1) y
+  unfolding map_before
+  with_put-map_before x y Solid in_columns in_rows is =
+      lattice_before-solid (map_width rows) (length rows) solid_at state_at x y in_columns in_rows (ap is_solid_cell is) (ap state_in is)
+  with_put-map_before x y (State s) in_columns in_rows is =
+      lattice_before-state (map_width rows) (length rows) solid_at state_at x y in_columns in_rows s (ap is_solid_cell is) (ap state_in is)
+
+  pub map_before-row : (y : ℕ) → map_before states rows (map_width rows) y ≡ map_before states rows 0 (y + 1)
+  unfolding map_before
+  map_before-row y = lattice_before-row (map_width rows) (length rows) solid_at state_at y
+
+  pub map_before-none : empty_lattice (free_channel (map_width rows) (length rows)) ≡ map_before states rows 0 0
+  unfolding map_before
+  map_before-none = lattice_before-none (map_width rows) (length rows) solid_at state_at
+
+  pub map_before-all : map_before states rows 0 (length rows) ≡ map_lattice states rows
+  unfolding map_before map_lattice
+  map_before-all = lattice_before-all (map_width rows) (length rows) solid_at state_at
+
+-- a state that two characters stand for is one of so many
+state_if : (states s : ℕ) (cell : Cell) (b : Bool) → nat_lt s states ≡ b → (if b then Some (State s) else None) ≡ Some cell → state_in (Some cell) < states
+state_if states s cell true below is = rw (sym (ap state_in is)) (ltb-true s states below)
+state_if states s cell false below is = absurd (cc)
+
+state_of-within : (states : ℕ) (high low : Option ℕ) (cell : Cell) → state_of states high low ≡ Some cell → state_in (Some cell) < states
+state_of-within states None low cell is = absurd (cc)
+state_of-within states (Some high) None cell is = absurd (cc)
+state_of-within states (Some high) (Some low) cell is = state_if states (high * 16 + low) cell (nat_lt (high * 16 + low) states) refl is
+
+zero_within : (states : ℕ) (o : Option Cell) (cell : Cell) → 0 < states → state_in o ≡ 0 → o ≡ Some cell → state_in (Some cell) < states
+zero_within states o cell some none is = rw (sym (ap state_in is) ∙ none) some
+
+by_marks : (states : ℕ) (solid empty : Bool) (other : Option Cell) (cell : Cell) → 0 < states
+    → (other ≡ Some cell → state_in (Some cell) < states)
+    → (if solid then Some Solid else if empty then Some (State 0) else other) ≡ Some cell → state_in (Some cell) < states
+by_marks states true empty other cell some rest is = zero_within states (Some Solid) cell some refl is
+by_marks states false true other cell some rest is = zero_within states (Some (State 0)) cell some refl is
+by_marks states false false other cell some rest is = rest is
+
+pub cell_of-within : (states a b : ℕ) (cell : Cell) → 0 < states → cell_of states a b ≡ Some cell → state_in (Some cell) < states
+unfolding cell_of
+cell_of-within states a b cell some is =
+    by_marks states (is_marked SOLID_MARK a b) (is_marked EMPTY_MARK a b) (state_of states (digit_of a) (digit_of b)) cell some
+    (state_of-within states (digit_of a) (digit_of b) cell) is

@@ -1,0 +1,12 @@
+use Rattle.std.proofs.Common.{sym, subst, inl}
+use Rattle.gas_scene.specs.Scene.{Gives}
+use Rattle.gas_scene.proofs.Answers.{scene_of_text-document, scene_of_text-none}
+use Rattle.gas_scene.proofs.scene.read.Goals as goal
+
+pub returns-in-Ok : goal.returns-in-Ok
+returns-in-Ok c =
+    subst (Gives c.read_table.result) (sym (scene_of_text-document c.args.text.now _ c.in-Ok.ensures.ok.0 c.in-Ok.ensures.ok.1)) c.read_table.ensures
+
+pub returns-else-is_memory : goal.returns-else-is_memory
+returns-else-is_memory c =
+    inl (sym (scene_of_text-none c.args.text.now (c.in-Err.ensures.refused (λ m. let bad = c.if-is_memory.ensures.1 m in cc))))

@@ -1,0 +1,8 @@
+-- The first answer.
+use Rattle.std.specs.Prelude.{ℕ, zero, suc, Option, None}
+use Rattle.std.specs.Option.{option_or}
+
+-- the answer of f at the least number below n at which it has one
+abbrev pub first_below : {A : Type 0} → (ℕ → Option A) → ℕ → Option A
+first_below f zero = None
+first_below f (suc n) = option_or (first_below f n) (f n)

@@ -1,0 +1,11 @@
+pub mod First
+pub mod GasName
+pub mod Fields
+pub mod Kind
+pub mod Cells
+pub mod Ranges
+pub mod Refusals
+pub mod Grid
+pub mod Map
+pub mod Area
+pub mod Scene

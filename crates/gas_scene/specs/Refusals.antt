@@ -1,0 +1,83 @@
+-- Why a document's table is no scene.
+use Rattle.std.specs.Prelude.{◌<◌, ◌≤◌, ℕ, ◌%◌, ◌==◌, ◌&&◌, ◌||◌, not, Bool, List, Option, Some, None, option_map, Result, Ok, Err, if◌then◌else◌, nat_le, length, codes}
+use Rattle.std.specs.Option.{option_or}
+use Rattle.toml.specs.Data.{Members}
+use Rattle.gas_scene.specs.declared.error.SceneError.{SceneError}
+use Rattle.gas_scene.specs.declared.error.SceneError.TheVariants.{UnknownKey, Missing, WrongType, Range, BothForms, RowLength, BadCell}
+use Rattle.gas_scene.specs.First.{first_below}
+use Rattle.gas_scene.specs.GasName.{states_named}
+use Rattle.gas_scene.specs.Fields.{has, text_at, rows_at, row_at}
+use Rattle.gas_scene.specs.Kind.{is_known, is_typed, members_all}
+use Rattle.gas_scene.specs.Cells.{bad_column}
+use Rattle.gas_scene.specs.Ranges.{is_in_range}
+
+abbrev pub refused_if : Bool → SceneError → Option SceneError
+refused_if b error = if b then Some error else None
+
+-- a key that no scene has
+unfoldable pub unknown_key : Members → Option SceneError
+unknown_key ms = refused_if (not (members_all (λ key d. is_known key) ms)) UnknownKey
+
+-- a key of the area
+abbrev pub has_area : Members → Bool
+has_area ms =
+    has (codes "width") ms || (has (codes "height") ms
+    || (has (codes "solid") ms || (has (codes "rate") ms || has (codes "particles") ms)))
+
+abbrev pub has_both_forms : Members → Bool
+has_both_forms ms = has (codes "cells") ms && has_area ms
+
+unfoldable pub both_forms : Members → Option SceneError
+both_forms ms = refused_if (has_both_forms ms) BothForms
+
+-- a map, or the size of an area
+abbrev pub has_form : Members → Bool
+has_form ms = has (codes "cells") ms || (has (codes "width") ms && has (codes "height") ms)
+
+abbrev pub is_complete : Members → Bool
+is_complete ms = has (codes "gas") ms && has_form ms
+
+unfoldable pub missing : Members → Option SceneError
+missing ms = refused_if (not (is_complete ms)) Missing
+
+unfoldable pub wrong_type : Members → Option SceneError
+wrong_type ms = refused_if (not (members_all is_typed ms)) WrongType
+
+unfoldable pub out_of_range : Members → Option SceneError
+out_of_range ms = refused_if (not (is_in_range ms)) Range
+
+-- two bytes for each of 1 to 4096 cells
+abbrev pub is_row_length : ℕ → Bool
+is_row_length n = (n % 2 == 0) && (nat_le 2 n && nat_le n 8192)
+
+-- whether row r has a wrong length: the first row's counts for each
+abbrev pub is_misfit : List (List ℕ) → ℕ → Bool
+is_misfit rows r = not (is_row_length (length (row_at rows r)) && (length (row_at rows r) == length (row_at rows 0)))
+
+-- the first row of a wrong length
+unfoldable pub row_length : Members → Option SceneError
+row_length ms = first_below (λ r. refused_if (is_misfit (rows_at ms) r) (RowLength r)) (length (rows_at ms))
+
+-- at most 4096 rows of 4096 cells
+pub record AreShort (rows : List (List ℕ)) : Type 0 where
+  pub high : length rows ≤ 4096
+  pub wide : (r : ℕ) → r < length rows → length (row_at rows r) ≤ 8192
+
+-- the first column of row r in which no cell stands
+abbrev pub bad_cell_in : ℕ → List (List ℕ) → ℕ → Option SceneError
+bad_cell_in states rows r = option_map (λ c. BadCell r c) (bad_column states (row_at rows r))
+
+-- the first row with such a column
+unfoldable pub bad_cell : Members → Option SceneError
+bad_cell ms = first_below (bad_cell_in (states_named (text_at (codes "gas") ms)) (rows_at ms)) (length (rows_at ms))
+
+-- the first refusal
+unfoldable pub refusal_of : Members → Option SceneError
+refusal_of ms =
+    option_or (unknown_key ms) (option_or (both_forms ms) (option_or (missing ms) (option_or (wrong_type ms)
+    (option_or (out_of_range ms) (option_or (row_length ms) (bad_cell ms))))))
+
+-- what a check answers
+abbrev pub verdict : Option SceneError → Result (Unit {0}) SceneError
+verdict None = Ok tt
+verdict (Some error) = Err error

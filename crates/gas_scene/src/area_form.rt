@@ -1,0 +1,229 @@
+//! The lattice of an area.
+
+ghost use Rattle.std.specs.Prelude.{◌≡◌, ℕ, ◌+◌, ◌*◌, ◌<◌, ◌≤◌, ◌^◌, ◌==◌, ◌&&◌, ◌||◌, Bool, true, false, length, map, slice_index, EachIndex, IfOk, All, nat_le, nat_lt, codes, pos, ◌≤ℤ◌, if◌then◌else◌};
+ghost use Rattle.std.specs.List.{list_all};
+ghost use Rattle.toml.specs.View.{view, table_view};
+ghost use Rattle.gas_geom.specs.Size.{IsSize};
+ghost use Rattle.gas_geom.specs.Channel.{is_solid, free_channel};
+ghost use Rattle.gas_geom.specs.Lattice.{empty_lattice, with_cell};
+ghost use Rattle.gas_scene.specs.GasName.{states_named};
+ghost use Rattle.gas_scene.specs.Fields.{text_at, rectangle_of, placement_of};
+ghost use Rattle.gas_scene.specs.Ranges.{is_extent, is_common_in_range, is_area_in_range};
+ghost use Rattle.gas_scene.specs.Grid.{lattice_of};
+ghost use Rattle.gas_scene.specs.Area.{natural, holds, is_covered, filled, filling, filled_before, is_at, placed, seed_of, rate_of, area_lattice, CanPlace, IsInside};
+
+use crate::fields::{Extent, Placement, Rectangle, array_at, integer_at};
+use gas_geom::gas::Gas;
+use gas_geom::size::Size;
+use gas_rows::channel::Channel;
+use gas_rows::key::key_words;
+use gas_rows::lattice::Lattice;
+use std::alloc::{AllocError, Global};
+use toml::{Table, Value};
+
+// The most cells of a row.
+const MOST_CELLS: usize = 4096;
+
+// The number of the key stream that fills direction 0.
+const FIRST_STREAM: u64 = 1 << 63;
+
+// A place in a channel as a number.
+fn place(number: i128) -> u32
+    requires low { pos 0 ≤ℤ number }
+    requires high { number ≤ℤ pos 4096 }
+    ensures { pos result ≡ number }
+{
+    number as u32
+}
+
+// Makes the cells of row `y` from column `start` up to `end` solid.
+fn make_row_solid<G: Gas>(lattice: &mut Lattice<G>, y: u32, start: u32, end: u32)
+    requires ordered { start ≤ end }
+    requires columns { end ≤ lattice.old.channel.width }
+    requires row { y < lattice.old.channel.height }
+    ensures wide { lattice.new.channel.width ≡ lattice.old.channel.width }
+    ensures high { lattice.new.channel.height ≡ lattice.old.channel.height }
+    ensures cells { (w h : ℕ) (solid : ℕ → ℕ → Bool) → lattice.old ≡ lattice_of w h solid (λ _ _. 0)
+        → lattice.new ≡ lattice_of w h (λ u v. solid u v || ((nat_le start u && nat_lt u end) && (v == y))) (λ _ _. 0) }
+{
+    for x in start..end {
+        lattice.make_solid(x, y);
+    }
+}
+
+// Makes the cells of a rectangle solid.
+fn make_rectangle_solid<G: Gas>(lattice: &mut Lattice<G>, rectangle: Rectangle)
+    requires size { IsSize lattice.old.channel.width lattice.old.channel.height }
+    requires inside { IsInside lattice.old.channel.width lattice.old.channel.height rectangle }
+    ensures wide { lattice.new.channel.width ≡ lattice.old.channel.width }
+    ensures high { lattice.new.channel.height ≡ lattice.old.channel.height }
+    ensures cells { (w h : ℕ) (solid : ℕ → ℕ → Bool) → lattice.old ≡ lattice_of w h solid (λ _ _. 0)
+        → lattice.new ≡ lattice_of w h (λ u v. solid u v || holds rectangle u v) (λ _ _. 0) }
+{
+    let start = place(rectangle.columns.start);
+    let end = place(rectangle.columns.end);
+    for y in place(rectangle.rows.start)..place(rectangle.rows.end) {
+        make_row_solid(lattice, y, start, end);
+    }
+}
+
+// Makes the cells of the rectangles solid.
+fn make_solid<G: Gas>(lattice: &mut Lattice<G>, solid: &[Value])
+    requires size { IsSize lattice.old.channel.width lattice.old.channel.height }
+    requires empty { lattice.old ≡ empty_lattice (free_channel lattice.old.channel.width lattice.old.channel.height) }
+    requires inside { All (λ v. IsInside lattice.old.channel.width lattice.old.channel.height (rectangle_of (view v))) solid.now }
+    ensures { lattice.new ≡ lattice_of lattice.old.channel.width lattice.old.channel.height (is_covered (map view solid.now)) (λ _ _. 0) }
+{
+    for value in solid {
+        make_rectangle_solid(lattice, Rectangle::read(value));
+    }
+}
+
+// Adds direction `i` to the states of row `y` where filling puts a particle into it.
+fn add_direction(states: &mut [u8], width: u32, seed: u64, rate: u32, y: u32, i: u32)
+    requires wide { width ≤ length states.old }
+    requires few { width ≤ 4096 }
+    requires row { y < 4096 }
+    requires direction { i < 8 }
+    requires below { (x : ℕ) → x < width → slice_index states.old x < 2 ^ i }
+    ensures { (x : ℕ) → x < width → slice_index states.new x ≡ slice_index states.old x + filled seed rate width x y i * 2 ^ i }
+{
+    let mut buffer = [0u32; MOST_CELLS];
+    let words = &mut buffer[..width as usize];
+    let first = u64::from(y) * u64::from(width);
+    key_words(seed, FIRST_STREAM + u64::from(i), first, words);
+    for x in 0..width as usize {
+        if words[x] % 1000 < rate {
+            states[x] += 1 << i;
+        }
+    }
+}
+
+// Sets the states of row `y` to what filling gives.
+fn fill_states<G: Gas>(states: &mut [u8], width: u32, seed: u64, rate: u32, y: u32)
+    requires wide { width ≤ length states.old }
+    requires few { width ≤ 4096 }
+    requires row { y < 4096 }
+    ensures { (x : ℕ) → x < width → slice_index states.new x ≡ filling G.rules seed rate width x y }
+{
+    states.fill(0);
+    for i in 0..G::DIRS {
+        add_direction(states, width, seed, rate, y, i);
+    }
+}
+
+// Sets the state of a cell that is fluid.
+fn set_fluid<G: Gas>(lattice: &mut Lattice<G>, x: u32, y: u32, state: u8)
+    requires column { x < lattice.old.channel.width }
+    requires row { y < lattice.old.channel.height }
+    requires state { state < 2 ^ G.rules.dirs }
+    ensures { lattice.new ≡ (if is_solid lattice.old.channel x y then lattice.old else record lattice.old { rows = with_cell lattice.old.rows x y state }) }
+{
+    if !lattice.channel().is_solid(x, y) {
+        lattice.set_cell(x, y, state);
+    }
+}
+
+// Fills the fluid cells of row `y`.
+fn fill_row<G: Gas>(lattice: &mut Lattice<G>, seed: u64, rate: u32, y: u32)
+    requires size { IsSize lattice.old.channel.width lattice.old.channel.height }
+    requires row { y < lattice.old.channel.height }
+    ensures wide { lattice.new.channel.width ≡ lattice.old.channel.width }
+    ensures high { lattice.new.channel.height ≡ lattice.old.channel.height }
+    ensures cells { (h : ℕ) (solid : ℕ → ℕ → Bool)
+        → lattice.old ≡ filled_before G.rules seed rate lattice.old.channel.width h solid 0 y
+        → lattice.new ≡ filled_before G.rules seed rate lattice.old.channel.width h solid 0 (y + 1) }
+{
+    let width = lattice.channel().size().width();
+    let mut states = [0u8; MOST_CELLS];
+    fill_states::<G>(&mut states, width, seed, rate, y);
+    for x in 0..width {
+        set_fluid(lattice, x, y, states[x as usize]);
+    }
+}
+
+// Fills the fluid cells.
+fn fill<G: Gas>(lattice: &mut Lattice<G>, seed: u64, rate: u32)
+    requires size { IsSize lattice.old.channel.width lattice.old.channel.height }
+    ensures { (solid : ℕ → ℕ → Bool)
+        → lattice.old ≡ filled_before G.rules seed rate lattice.old.channel.width lattice.old.channel.height solid 0 0
+        → lattice.new ≡ filled_before G.rules seed rate lattice.old.channel.width lattice.old.channel.height solid 0 lattice.old.channel.height }
+{
+    for y in 0..lattice.channel().size().height() {
+        fill_row(lattice, seed, rate, y);
+    }
+}
+
+// Sets the state of the cell of a placement.
+fn put<G: Gas>(lattice: &mut Lattice<G>, placement: Placement)
+    requires size { IsSize lattice.old.channel.width lattice.old.channel.height }
+    requires can { CanPlace (2 ^ G.rules.dirs) lattice.old.channel placement }
+    ensures channel { lattice.new.channel ≡ lattice.old.channel }
+    ensures cells { (w h : ℕ) (solid : ℕ → ℕ → Bool) (at : ℕ → ℕ → ℕ) → lattice.old ≡ lattice_of w h solid at
+        → lattice.new ≡ lattice_of w h solid (λ u v. if is_at placement u v then natural placement.state else at u v) }
+{
+    lattice.set_cell(
+        placement.x as u32,
+        placement.y as u32,
+        placement.state as u8,
+    );
+}
+
+// Sets the states of the cells of the placements, in order.
+fn put_all<G: Gas>(lattice: &mut Lattice<G>, particles: &[Value])
+    requires size { IsSize lattice.old.channel.width lattice.old.channel.height }
+    requires can { All (λ v. CanPlace (2 ^ G.rules.dirs) lattice.old.channel (placement_of (view v))) particles.now }
+    ensures { (w h : ℕ) (solid : ℕ → ℕ → Bool) (at : ℕ → ℕ → ℕ) → lattice.old ≡ lattice_of w h solid at
+        → lattice.new ≡ lattice_of w h solid (λ u v. placed (map placement_of (map view particles.now)) u v (at u v)) }
+{
+    for value in particles {
+        put(lattice, Placement::read(value));
+    }
+}
+
+// A number that is not negative.
+fn natural(number: i64) -> u64
+    requires { pos 0 ≤ℤ number }
+    ensures { result ≡ natural number }
+{
+    number as u64
+}
+
+// The lattice of an area whose cells are all fluid and empty.
+fn blank<G: Gas>(alloc: Global, extent: Extent) -> Result<Lattice<G>, AllocError>
+    requires { is_extent extent ≡ true }
+    ensures { IfOk result (λ l. l ≡ empty_lattice (free_channel (natural extent.width) (natural extent.height))) }
+{
+    let size = Size::new(extent.width as u32, extent.height as u32).unwrap();
+    Lattice::blank(alloc, Channel::free(alloc, size)?)
+}
+
+/// The seed, or 0 where it is absent.
+pub fn seed(table: &Table) -> u64
+    requires { is_common_in_range (table_view table.now) ≡ true }
+    ensures { result ≡ seed_of (table_view table.now) }
+{
+    natural(integer_at(table, "seed"))
+}
+
+// The rate of filling, or 0 where it is absent.
+fn rate(table: &Table) -> u32
+    requires { is_area_in_range (table_view table.now) ≡ true }
+    ensures { result ≡ rate_of (table_view table.now) }
+{
+    natural(integer_at(table, "rate")) as u32
+}
+
+/// The lattice of an area.
+pub fn area_lattice<G: Gas>(alloc: Global, table: &Table) -> Result<Lattice<G>, AllocError>
+    requires gas { states_named (text_at (codes "gas") (table_view table.now)) ≡ 2 ^ G.rules.dirs }
+    requires common { is_common_in_range (table_view table.now) ≡ true }
+    requires area { is_area_in_range (table_view table.now) ≡ true }
+    ensures { IfOk result (λ l. l ≡ area_lattice G.rules (table_view table.now)) }
+{
+    let mut lattice = blank(alloc, Extent::read(table))?;
+    make_solid(&mut lattice, array_at(table, "solid"));
+    fill(&mut lattice, seed(table), rate(table));
+    put_all(&mut lattice, array_at(table, "particles"));
+    Ok(lattice)
+}

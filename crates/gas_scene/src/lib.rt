@@ -1,0 +1,16 @@
+//! Scenes: a TOML text read as a lattice and the chirality of its collisions.
+#![tactic(auto)]
+
+pub mod any_lattice;
+mod area_form;
+mod cells;
+mod checks;
+pub mod error;
+mod fields;
+mod gas_name;
+mod kind;
+mod map_form;
+mod ranges;
+pub mod scene;
+#[cfg(test)]
+mod tests;

@@ -1,0 +1,195 @@
+//! The ranges of the values of a scene.
+
+ghost use Rattle.std.specs.Prelude.{◌≡◌, map, codes, pos};
+ghost use Rattle.std.specs.List.{list_all, list_any};
+ghost use Rattle.toml.specs.View.{view, table_view};
+ghost use Rattle.gas_scene.specs.Fields.{text_at, rectangle_of, placement_of};
+ghost use Rattle.gas_scene.specs.GasName.{states_named};
+ghost use Rattle.gas_scene.specs.Ranges.{is_size, is_rate, is_below, is_span_of, fits, spans, covers, is_free, is_inside, is_placed, is_version, is_gas, is_chirality, is_common_in_range, is_map_in_range, is_filling, is_extent, is_area_in_range, is_in_range};
+
+use crate::fields::{Extent, Placement, Rectangle, Span, array_at, has, integer_at, text_at};
+use crate::gas_name::GasName;
+use toml::{Table, Value};
+
+// Whether this is a width or a height.
+fn is_size(size: i64) -> bool
+    ensures { result ≡ is_size size }
+{
+    1 <= size && size <= 4096
+}
+
+// Whether this is a rate of filling, in thousandths.
+fn is_rate(rate: i64) -> bool
+    ensures { result ≡ is_rate rate }
+{
+    0 <= rate && rate <= 1000
+}
+
+// Whether this is a number from 0 that is below the limit.
+fn is_below(limit: i64, number: i64) -> bool
+    ensures { result ≡ is_below limit number }
+{
+    0 <= number && number < limit
+}
+
+// Whether there are places from the start up to the end, all of them below the length.
+fn is_span_of(length: i64, span: Span) -> bool
+    ensures { result ≡ is_span_of length span }
+{
+    0 <= span.start && span.start < span.end && span.end <= i128::from(length)
+}
+
+// Whether the rectangle has cells, all of them in the area.
+fn fits(extent: Extent, rectangle: Rectangle) -> bool
+    ensures { result ≡ fits extent rectangle }
+{
+    is_span_of(extent.width, rectangle.columns) && is_span_of(extent.height, rectangle.rows)
+}
+
+// Whether the place lies from the start up to the end.
+fn spans(place: i64, span: Span) -> bool
+    ensures { result ≡ spans place span }
+{
+    let place = i128::from(place);
+    span.start <= place && place < span.end
+}
+
+// Whether the cell of the placement lies in the rectangle.
+fn covers(rectangle: Rectangle, placement: Placement) -> bool
+    ensures { result ≡ covers placement rectangle }
+{
+    spans(placement.x, rectangle.columns) && spans(placement.y, rectangle.rows)
+}
+
+// Whether each rectangle has cells, all of them in the area.
+fn are_rectangles(values: &[Value], extent: Extent) -> bool
+    ensures { result ≡ list_all (λ v. fits extent (rectangle_of (view v))) values.now }
+{
+    values
+        .iter()
+        .all(|value| fits(extent, Rectangle::read(value)))
+}
+
+// Whether the cell of the placement lies in one of the rectangles.
+fn is_covered(solid: &[Value], placement: Placement) -> bool
+    ensures { result ≡ list_any (λ v. covers placement (rectangle_of (view v))) solid.now }
+{
+    solid
+        .iter()
+        .any(|value| covers(Rectangle::read(value), placement))
+}
+
+// Whether the cell of the placement lies in none of the rectangles.
+fn is_free(solid: &[Value], placement: Placement) -> bool
+    ensures { result ≡ is_free (map view solid.now) placement }
+{
+    !is_covered(solid, placement)
+}
+
+// Whether the state is one of so many.
+fn is_state(states: u16, state: i64) -> bool
+    ensures { result ≡ is_below (pos states) state }
+{
+    is_below(i64::from(states), state)
+}
+
+// Whether the cell of the placement lies in the area.
+fn is_inside(extent: Extent, placement: Placement) -> bool
+    ensures { result ≡ is_inside extent placement }
+{
+    is_below(extent.width, placement.x) && is_below(extent.height, placement.y)
+}
+
+// Whether the cell of the placement lies in the area and in no rectangle, and its state is one
+// of so many.
+fn is_placed(states: u16, extent: Extent, solid: &[Value], placement: Placement) -> bool
+    ensures { result ≡ is_placed states extent (map view solid.now) placement }
+{
+    is_inside(extent, placement) && is_state(states, placement.state) && is_free(solid, placement)
+}
+
+// Whether each placement is within its ranges.
+fn are_placed(values: &[Value], states: u16, extent: Extent, solid: &[Value]) -> bool
+    ensures { result ≡ list_all (λ v. is_placed states extent (map view solid.now) (placement_of (view v))) values.now }
+{
+    values.iter().all(|value| is_placed(states, extent, solid, Placement::read(value)))
+}
+
+fn is_version(table: &Table) -> bool
+    ensures { result ≡ is_version (table_view table.now) }
+{
+    !has(table, "version") || integer_at(table, "version") == 1
+}
+
+fn is_gas(table: &Table) -> bool
+    ensures { result ≡ is_gas (table_view table.now) }
+{
+    GasName::named(text_at(table, "gas")).is_some()
+}
+
+fn is_chirality(table: &Table) -> bool
+    ensures { result ≡ is_chirality (table_view table.now) }
+{
+    let name = text_at(table, "chirality");
+    !has(table, "chirality") || name == "seeded" || name == "left" || name == "right"
+}
+
+// Whether the values that both forms have are in range.
+fn is_common_in_range(table: &Table) -> bool
+    ensures { result ≡ is_common_in_range (table_view table.now) }
+{
+    is_version(table) && is_gas(table) && is_chirality(table) && 0 <= integer_at(table, "seed")
+}
+
+// Whether the number of rows of the map is in range.
+fn is_map_in_range(table: &Table) -> bool
+    ensures { result ≡ is_map_in_range (table_view table.now) }
+{
+    let rows = array_at(table, "cells").len();
+    1 <= rows && rows <= 4096
+}
+
+/// The number of states of a cell, or 0 where the gas is none.
+pub fn states(table: &Table) -> u16
+    ensures { result ≡ states_named (text_at (codes "gas") (table_view table.now)) }
+{
+    match GasName::named(text_at(table, "gas")) {
+        Some(gas) => gas.states(),
+        None => 0,
+    }
+}
+
+// Whether the rectangles and the placements of the area are in range.
+fn is_filling(table: &Table, extent: Extent) -> bool
+    ensures { result ≡ is_filling extent (table_view table.now) }
+{
+    let solid = array_at(table, "solid");
+    let particles = array_at(table, "particles");
+    are_rectangles(solid, extent) && are_placed(particles, states(table), extent, solid)
+}
+
+fn is_extent(extent: Extent) -> bool
+    ensures { result ≡ is_extent extent }
+{
+    is_size(extent.width) && is_size(extent.height)
+}
+
+// Whether the values of the area are in range.
+fn is_area_in_range(table: &Table) -> bool
+    ensures { result ≡ is_area_in_range (table_view table.now) }
+{
+    let extent = Extent::read(table);
+    is_extent(extent) && is_rate(integer_at(table, "rate")) && is_filling(table, extent)
+}
+
+/// Whether the values are in their ranges.
+pub fn is_in_range(table: &Table) -> bool
+    ensures { result ≡ is_in_range (table_view table.now) }
+{
+    is_common_in_range(table)
+        && if has(table, "cells") {
+            is_map_in_range(table)
+        } else {
+            is_area_in_range(table)
+        }
+}
