@@ -1,0 +1,7 @@
+pub mod Status
+pub mod Plan
+pub mod Output
+pub mod Text
+pub mod Words
+pub mod Requests
+pub mod Outcome

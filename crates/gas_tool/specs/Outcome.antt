@@ -1,0 +1,76 @@
+-- What `perform` answers and writes.
+use Rattle.std.specs.Prelude.{◌≡◌, ◌≢◌, ◌≤◌, ℕ, List, length, take, codes, Option, None, Some, Result, Ok, Err, ⊤}
+use Rattle.std.specs.Io.KnownBytes.{Appends}
+use Rattle.gas_geom.specs.Gas.{Rules}
+use Rattle.gas_geom.specs.Fhp1.{fhp1}
+use Rattle.gas_geom.specs.Hpp.{hpp}
+use Rattle.gas_geom.specs.Lattice.{LatticeModel, count}
+use Rattle.gas_rows.specs.declared.chirality.Chirality.{Chirality}
+use Rattle.gas_stage.specs.Evolution.{lattice_after}
+use Rattle.gas_scene.specs.declared.any_lattice.AnyLattice.{AnyLattice}
+use Rattle.gas_scene.specs.declared.any_lattice.AnyLattice.TheVariants.{Fhp1, Hpp}
+use Rattle.gas_scene.specs.declared.error.SceneError.{SceneError}
+use Rattle.gas_scene.specs.declared.error.SceneError.TheVariants as scene
+use Rattle.gas_scene.specs.Scene.{SceneModel, scene_of_text}
+use Rattle.gas_tool.specs.Plan.{plan_refusal}
+use Rattle.gas_tool.specs.Text.{cells_text, check_text}
+use Rattle.gas_tool.specs.declared.faults.ToolError.{ToolError}
+use Rattle.gas_tool.specs.declared.faults.ToolError.TheVariants.{Memory, Scene, Plan, Write}
+use Rattle.gas_tool.specs.declared.plan.PlanError.{PlanError}
+use Rattle.gas_tool.specs.declared.request.Request.{Request}
+use Rattle.gas_tool.specs.declared.request.Request.TheVariants.{Check, Run}
+
+-- the text of a lattice's cells at a generation
+abbrev pub lattice_text : Rules → LatticeModel → ℕ → List ℕ
+lattice_text gas lattice generation =
+    cells_text lattice.channel lattice.rows generation (count gas lattice.rows)
+
+-- the cells of a scene's lattice after n generations
+abbrev pub run_text : AnyLattice → Chirality → ℕ → List ℕ
+run_text (Fhp1 lattice) chirality n = lattice_text fhp1 (lattice_after fhp1 chirality lattice n) n
+run_text (Hpp lattice) chirality n = lattice_text hpp (lattice_after hpp chirality lattice n) n
+
+-- the line of a scene's lattice
+abbrev pub scene_text : AnyLattice → List ℕ
+scene_text (Fhp1 lattice) = check_text (codes "fhp1") lattice.channel (count fhp1 lattice.rows)
+scene_text (Hpp lattice) = check_text (codes "hpp") lattice.channel (count hpp lattice.rows)
+
+-- the text that answers a request on a scene
+abbrev pub answer : Request → SceneModel → List ℕ
+answer Check scene = scene_text scene.lattice
+answer (Run stages capacity generations) scene = run_text scene.lattice scene.chirality generations
+
+-- why the plan of a request is refused, where it has one
+abbrev pub refused_plan : Request → Option PlanError
+refused_plan Check = None
+refused_plan (Run stages capacity generations) = plan_refusal stages capacity generations
+
+-- the fault of a scene's error: its want of memory is the tool's
+abbrev pub scene_fault : SceneError → ToolError
+scene_fault scene.Memory = Memory
+scene_fault error = Scene error
+
+-- the text is a scene, and this holds of it
+pub record OnScene (text : List ℕ) (Holds : SceneModel → Type 0) : Type 0 where
+  pub scene : SceneModel
+  pub is_scene : scene_of_text text ≡ Ok scene
+  pub holds : Holds scene
+
+-- what the answer to a request on a text says, and what went out with it: the whole answer, its first n bytes, or nothing
+abbrev pub Performs : List ℕ → Request → Option (List ℕ) → Option (List ℕ) → Result ⊤ ToolError → Type 0
+Performs text request old new (Ok _) =
+    OnScene text (λ s. (refused_plan request ≡ None) × Appends old new (answer request s))
+Performs text request old new (Err Memory) = new ≡ old
+Performs text request old new (Err (Scene e)) = (scene_of_text text ≡ Err e) × (e ≢ scene.Memory) × (new ≡ old)
+Performs text request old new (Err (Plan e)) =
+    OnScene text (λ s. (refused_plan request ≡ Some e) × (new ≡ old))
+Performs text request old new (Err (Write n)) =
+    OnScene text (λ s. (refused_plan request ≡ None) × (n ≤ length (answer request s)) × Appends old new (take n (answer request s)))
+
+-- a text went out whole, or only its first n bytes, or memory was refused before the first
+abbrev pub Sends : Option (List ℕ) → Option (List ℕ) → List ℕ → Result ⊤ ToolError → Type 0
+Sends old new text (Ok _) = Appends old new text
+Sends old new text (Err Memory) = new ≡ old
+Sends old new text (Err (Scene e)) = ⊥
+Sends old new text (Err (Plan e)) = ⊥
+Sends old new text (Err (Write n)) = (n ≤ length text) × Appends old new (take n text)

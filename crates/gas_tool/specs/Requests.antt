@@ -1,0 +1,39 @@
+-- The request of the matches of the words, and the fault where they give none.
+use Rattle.std.specs.Prelude.{◌≡◌, ◌≢◌, ℕ, List, [], ◌∷◌, Option, Some, None, Ok, codes, ⊤}
+use Rattle.std.specs.Str.Parse.{ParsesUnsigned}
+use Rattle.std.specs.declared.num.ParseIntError.{ParseIntError}
+use Rattle.clap.specs.Words.{Row, Text, one_of, IsAmong, Kinds}
+use Rattle.clap.specs.declared.error.kind.ErrorKind.{ErrorKind}
+use Rattle.clap.specs.declared.error.kind.ErrorKind.TheVariants.{DisplayHelp, OutOfMemory}
+use Rattle.gas_tool.specs.declared.faults.UsageFault.{UsageFault}
+use Rattle.gas_tool.specs.declared.faults.UsageFault.TheVariants as fault
+use Rattle.gas_tool.specs.declared.request.Request.{Request}
+use Rattle.gas_tool.specs.declared.request.Request.TheVariants.{Check, Run}
+
+-- the decimal number that the rows hold for an option
+pub record IsNumberAt (bits : ℕ) (option : Text) (rows : List Row) (n : ℕ) : Type 0 where
+  pub text : Text
+  pub stands : one_of option rows ≡ Some text
+  pub reads : ParsesUnsigned {E = ParseIntError} bits 10 text (Ok n)
+
+-- the request of a subcommand's name and rows
+abbrev pub IsRequestOf : Option (Text × List Row) → Request → Type 0
+IsRequestOf None request = ⊥
+IsRequestOf (Some sub) Check = sub.0 ≡ codes "check"
+IsRequestOf (Some sub) (Run stages capacity generations) =
+    (sub.0 ≡ codes "run") × IsNumberAt 32 (codes "stages") sub.1 stages
+    × IsNumberAt 32 (codes "capacity") sub.1 capacity
+    × IsNumberAt 64 (codes "generations") sub.1 generations
+
+-- the fault of an error of this kind
+abbrev pub TellsKind : ErrorKind → UsageFault → Type 0
+TellsKind kind fault.Memory = ⊤
+TellsKind kind (fault.Help text) = kind ≡ DisplayHelp
+TellsKind kind (fault.Usage text) = (kind ≢ DisplayHelp) × (kind ≢ OutOfMemory)
+
+-- the fault of words for which `clap` gives errors of these kinds: help only where they ask for it,
+-- and never usage where they ask for help alone
+abbrev pub IsFaultOf : Kinds → UsageFault → Type 0
+IsFaultOf kinds fault.Memory = ⊤
+IsFaultOf kinds (fault.Help text) = IsAmong DisplayHelp kinds
+IsFaultOf kinds (fault.Usage text) = kinds ≢ DisplayHelp ∷ []

@@ -1,0 +1,49 @@
+-- The command line, as `clap` sees it.
+use Rattle.std.specs.Prelude.{pos, [], ◌∷◌, Some, true, codes}
+use Rattle.clap.specs.Words.{App, Rule, Text, new_app, new_rule, with_rule, with_subcommand}
+use Rattle.clap.specs.Simple.{on_top}
+use Rattle.clap.specs.declared.builder.action.ArgAction.TheVariants.{Set}
+use Rattle.clap.specs.declared.builder.value_parser.ValueParser.{ValueParser}
+use Rattle.clap.specs.declared.builder.value_parser.ValueParser.TheVariants as parser
+
+-- the numbers that fit 64 and 32 bits
+abbrev pub any_u64 : ValueParser
+any_u64 = parser.Unsigned 0 18446744073709551615
+
+abbrev pub any_u32 : ValueParser
+any_u32 = parser.Signed (pos 0) (pos 4294967295)
+
+-- an option `--name VALUE`
+abbrev pub option_rule : Text → ValueParser → Rule
+option_rule name values =
+    record (new_rule name) { long = Some name; value_names = 1; action = Some Set; parser = Some values }
+
+-- one that has to be there, and one with a default
+abbrev pub required_rule : Text → ValueParser → Rule
+required_rule name values = record (option_rule name values) { required = true }
+
+abbrev pub default_rule : Text → Text → Rule
+default_rule name value = record (option_rule name any_u32) { defaults = value ∷ [] }
+
+abbrev pub generations_rule : Rule
+generations_rule = required_rule (codes "generations") any_u64
+
+abbrev pub stages_rule : Rule
+stages_rule = default_rule (codes "stages") (codes "4")
+
+abbrev pub capacity_rule : Rule
+capacity_rule = default_rule (codes "capacity") (codes "2")
+
+-- fhpgas run --generations G [--stages N] [--capacity C]
+abbrev pub run_app : App
+run_app =
+    with_rule (with_rule (with_rule (new_app (codes "run")) generations_rule) stages_rule) capacity_rule
+
+-- fhpgas check
+abbrev pub check_app : App
+check_app = new_app (codes "check")
+
+abbrev pub program_app : App
+program_app =
+    with_subcommand (with_subcommand
+    (on_top (λ s. record s { subcommand_required = true }) (new_app (codes "fhpgas"))) check_app.top) run_app.top

@@ -1,0 +1,13 @@
+//! The tool's parts: its command line, its input, its printed texts, and their faults.
+#![tactic(auto)]
+
+pub mod faults;
+pub mod input;
+pub mod output;
+pub mod perform;
+pub mod plan;
+pub mod request;
+#[cfg(test)]
+mod tests;
+pub mod text;
+pub mod words;
