@@ -1,0 +1,100 @@
+//! The program `fhpgas`: words, a scene on standard input, the answer on standard output.
+#![tactic(auto)]
+
+use gas_tool::faults::{InputFault, ToolError, UsageFault};
+use gas_tool::input::slurp;
+use gas_tool::perform::perform;
+use gas_tool::request::Request;
+use gas_tool::words::parse_words;
+use std::alloc::AllocError;
+use std::env;
+use std::io::ErrorKind;
+use std::process::ExitCode;
+use thiserror::Error;
+
+/// Why there is no answer.
+#[derive(Debug, Drop, Error)]
+enum Fault {
+    #[error(transparent)]
+    Usage(#[from] UsageFault),
+    #[error(transparent)]
+    Input(#[from] InputFault),
+    #[error(transparent)]
+    Tool(#[from] ToolError),
+}
+
+impl Fault {
+    fn status(&self) -> u8 {
+        match self {
+            Fault::Usage(fault) => fault.status(),
+            Fault::Input(fault) => fault.status(),
+            Fault::Tool(fault) => fault.status(),
+        }
+    }
+}
+
+// The words of the command line. They come all or none: one that is not UTF-8 is wrong usage.
+fn words(rt: &HostRuntime) -> Result<Vec<String>, UsageFault> {
+    let words = match env::args(rt) {
+        Ok(words) => words,
+        Err(error) if error.kind() == ErrorKind::InvalidData => return Err(not_utf8(rt)),
+        Err(_) => return Err(UsageFault::Memory),
+    };
+    let mut list = Vec::new(rt.alloc());
+    for word in words {
+        if list.push(word).is_err() {
+            return Err(UsageFault::Memory);
+        }
+    }
+    Ok(list)
+}
+
+fn not_utf8(rt: &HostRuntime) -> UsageFault {
+    match String::from_str(rt.alloc(), "error: a word is not UTF-8\n") {
+        Ok(text) => UsageFault::Usage(text),
+        Err(_) => UsageFault::Memory,
+    }
+}
+
+fn texts<'a>(rt: &HostRuntime, words: &'a Vec<String>) -> Result<Vec<&'a str>, AllocError> {
+    let mut texts = Vec::with_capacity(rt.alloc(), words.len())?;
+    for word in words {
+        texts.push(word.as_str())?;
+    }
+    Ok(texts)
+}
+
+fn request(rt: &HostRuntime) -> Result<Request, UsageFault> {
+    let words = words(rt)?;
+    match texts(rt, &words) {
+        Ok(texts) => parse_words(rt.alloc(), texts.as_slice()),
+        Err(_) => Err(UsageFault::Memory),
+    }
+}
+
+fn answer(rt: &HostRuntime) -> Result<(), Fault> {
+    let request = request(rt)?;
+    let text = slurp(rt.alloc(), &mut rt.reader())?;
+    perform(rt.alloc(), text.as_slice(), &request, &mut rt.stdout())?;
+    Ok(())
+}
+
+// Prints a fault's line, or the texts that come with their line feeds. Nothing tells of a printing
+// that failed.
+fn tell(rt: &HostRuntime, fault: &Fault) {
+    let _ = match fault {
+        Fault::Usage(UsageFault::Help(text)) => print!(rt; "{text}"),
+        Fault::Usage(UsageFault::Usage(text)) => eprint!(rt; "{text}"),
+        _ => eprintln!(rt; "{fault}"),
+    };
+}
+
+fn main(rt: HostRuntime) -> ExitCode {
+    match answer(&rt) {
+        Ok(()) => ExitCode::SUCCESS,
+        Err(fault) => {
+            tell(&rt, &fault);
+            ExitCode::from(fault.status())
+        }
+    }
+}
