@@ -1,0 +1,56 @@
+#!/bin/bash
+# Builds the program: proves each crate that it stands on as soon as those below it are proved, side by side where it can,
+# and links. Says on standard error how far it is; where a crate fails it shows the end of that crate's log and fails.
+cd "$(dirname "$0")" || exit 1
+command -v rt > /dev/null || { echo "fhpgas: the Rattle kit's command rt is not on the PATH (see README.md)" >&2; exit 1; }
+
+# below NAME: the crates of this repository that it names in crates.txt
+below() {
+    for crate in $(sed -n "s/^$1:\(.*\)/\1/p" crates.txt); do
+        if [ -d "crates/$crate" ]; then echo "$crate"; fi
+    done
+}
+
+# prove NAME: its log is out/build.log in the crate's folder
+prove() {
+    mkdir -p "crates/$1/out"
+    if [ "$1" = fhpgas ]; then set -- "$1" run -- --help; else set -- "$1" lib; fi
+    (cd "crates/$1" && shift && exec rt "$@") > "crates/$1/out/build.log" 2>&1
+}
+
+declare -A left started by_job
+
+# add NAME: the crate is to be built, and those below it
+add() {
+    local crate
+    left[$1]=1
+    for crate in $(below "$1"); do add "$crate"; done
+}
+
+add fhpgas
+echo "fhpgas: building ${#left[@]} crates; the first time each is proved, which takes some minutes" >&2
+while [ ${#left[@]} -gt 0 ]; do
+    for crate in "${!left[@]}"; do
+        ready=yes
+        for other in $(below "$crate"); do
+            if [ -n "${left[$other]}" ]; then ready=; fi
+        done
+        if [ -n "$ready" ] && [ -z "${started[$crate]}" ]; then
+            echo "fhpgas: proving $crate (${#left[@]} left)" >&2
+            prove "$crate" &
+            started[$crate]=1
+            by_job[$!]=$crate
+        fi
+    done
+    wait -n -p job
+    status=$?
+    crate=${by_job[$job]}
+    if [ $status != 0 ]; then
+        echo "fhpgas: crate $crate was not built; the end of its log:" >&2
+        tail -n 20 "crates/$crate/out/build.log" >&2
+        kill $(jobs -p) 2> /dev/null
+        exit 1
+    fi
+    unset "left[$crate]"
+done
+touch crates/fhpgas/out/built
