@@ -1,0 +1,137 @@
+#!/bin/bash
+# Tries the built program from outside: what it prints and how it ends for words and scenes of each kind. Ends with the
+# counts.
+cd "$(dirname "$0")/.." || exit 1
+program=$PWD/crates/fhpgas/out/fhpgas
+room=$(mktemp -d) || exit 1
+trap 'rm -rf "$room"' EXIT
+passed=0
+failed=0
+
+# count NAME: whether the test before it passed
+count() {
+    if [ $? = 0 ]; then
+        passed=$((passed + 1))
+    else
+        echo "FAILED: $1"
+        failed=$((failed + 1))
+    fi
+}
+
+# ends STATUS SCENE WORDS..: runs the program on the text of a scene and compares the status
+ends() {
+    wanted=$1
+    printf '%s' "$2" > "$room/scene"
+    shift 2
+    "$program" "$@" < "$room/scene" > "$room/out" 2> "$room/err"
+    [ $? = "$wanted" ]
+}
+
+drift='gas = "fhp1"
+chirality = "left"
+cells = ["........", "......01", "........"]
+'
+drifted='generation 1 particles 1
+........
+01......
+........
+'
+ends 0 "$drift" run --generations 1 && [ "$(cat "$room/out"; echo .)" = "$drifted." ] && [ ! -s "$room/err" ]
+count "one particle drifts"
+[ "$(wc -c < "$room/out")" = 52 ]
+count "the lattice of the drifting particle has 52 bytes"
+
+# refuses LINE SCENE WORDS..: status 1, the line on standard error, and nothing printed
+refuses() {
+    line=$1
+    shift
+    ends 1 "$@" && [ ! -s "$room/out" ] && [ "$(cat "$room/err")" = "$line" ]
+    count "$line"
+}
+refuses 'scene: missing key' '' run --generations 1
+refuses 'scene: not TOML' 'gas = ' run --generations 1
+refuses 'scene: not TOML' $'\xff' run --generations 1
+refuses 'scene: unknown key' 'gas = "fhp1"
+cells = ["01"]
+colour = 1' run --generations 1
+refuses 'scene: wrong type' 'gas = 1
+chirality = "left"
+cells = ["01"]' run --generations 1
+refuses 'scene: out of range' 'gas = "fhp2"
+chirality = "left"
+cells = ["01"]' run --generations 1
+refuses 'scene: both forms' 'gas = "fhp1"
+cells = ["01"]
+width = 4' run --generations 1
+refuses 'scene: out of range' 'gas = "fhp1"
+width = 4
+height = 3
+particles = [[4, 0, 1]]' check
+refuses 'scene: wrong type' 'gas = "fhp1"
+seed = true
+cells = ["01"]' check
+refuses 'scene: row 1 has a wrong length' 'gas = "fhp1"
+chirality = "left"
+cells = ["0101", "0g"]' run --generations 1
+refuses 'scene: row 0 cell 0 is not a cell' 'gas = "fhp1"
+chirality = "left"
+cells = ["40"]' run --generations 1
+refuses 'scene: row 0 cell 0 is not a cell' 'gas = "fhp1"
+chirality = "left"
+cells = ["0A"]' run --generations 1
+refuses 'plan: stages must be 1 to 64' "$drift" run --generations 1 --stages 0
+refuses 'plan: capacity must be 1 to 1024' "$drift" run --generations 1 --capacity 1025
+refuses 'plan: generations must be 0 to 1000000' "$drift" run --generations 1000001
+# the scene's faults come before the plan's
+refuses 'scene: missing key' '' run --generations 1 --stages 0
+
+# usage WORDS..: status 2, a text on standard error and nothing printed
+usage() {
+    ends 2 "$drift" "$@" && [ ! -s "$room/out" ] && [ -s "$room/err" ]
+    count "usage: $*"
+}
+usage
+usage run
+usage dance --generations 1
+usage run --generations
+usage run --generations -1
+usage run --generations 18446744073709551616
+usage run --generations 1 --generations 1
+usage run --generations 1 --stages 4294967296
+usage run --generations 1 --capacity many
+usage run --generations 1 $'\xff'
+usage check --generations 1
+
+for words in --help "run --help" "check --help"; do
+    # shellcheck disable=SC2086
+    ends 0 '' $words && [ -s "$room/out" ] && [ ! -s "$room/err" ]
+    count "help: $words"
+done
+
+"$program" run --generations 1 < scenes/drift.toml > /dev/full 2> "$room/err"
+[ $? = 4 ] && [ "$(cat "$room/err")" = "write: failed after 0 bytes" ]
+count "a full disk is a failed write"
+"$program" run --generations 1 < . > "$room/out" 2> "$room/err"
+[ $? = 1 ] && [ ! -s "$room/out" ] && [ "$(cat "$room/err")" = "input: read failed" ]
+count "a directory is no input"
+head -c 67108865 /dev/zero | "$program" run --generations 1 > "$room/out" 2> "$room/err"
+[ $? = 1 ] && [ ! -s "$room/out" ] && [ "$(cat "$room/err")" = "input: too long" ]
+count "an input of one byte too many"
+
+# worked examples: NAME.toml with the words NAME.words prints NAME.wanted
+for wanted in tests/examples/*.wanted; do
+    name=${wanted%.wanted}
+    read -r -a words < "$name.words"
+    "$program" "${words[@]}" < "$name.toml" > "$room/out" 2> "$room/err"
+    [ $? = 0 ] && cmp -s "$room/out" "$wanted" && [ ! -s "$room/err" ]
+    count "$name"
+done
+
+for scene in scenes/*.toml; do
+    "$program" run --generations 3 < "$scene" > "$room/out" 2> "$room/err"
+    [ $? = 0 ] && head -n 1 "$room/out" | grep -q '^generation 3 particles '
+    count "$scene runs"
+done
+
+echo "$passed passed, $failed failed"
+[ $failed = 0 ]
