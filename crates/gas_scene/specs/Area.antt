@@ -42,6 +42,32 @@ abbrev pub placed : List Placement → ℕ → ℕ → ℕ → ℕ
 placed [] x y state = state
 placed (p ∷ ps) x y state = placed ps x y (if is_at p x y then natural p.state else state)
 
+abbrev pub area_width : Members → ℕ
+area_width ms = natural (extent_of ms).width
+
+abbrev pub area_height : Members → ℕ
+area_height ms = natural (extent_of ms).height
+
+-- the seed and the rate of filling, each 0 where it is absent
+abbrev pub seed_of : Members → ℕ
+seed_of ms = natural (integer_at (codes "seed") ms)
+
+abbrev pub rate_of : Members → ℕ
+rate_of ms = natural (integer_at (codes "rate") ms)
+
+abbrev pub is_solid_in : Members → ℕ → ℕ → Bool
+is_solid_in ms x y = is_covered (array_at (codes "solid") ms) x y
+
+abbrev pub state_filled : Rules → Members → ℕ → ℕ → ℕ
+state_filled gas ms x y = if is_solid_in ms x y then 0 else filling gas (seed_of ms) (rate_of ms) (area_width ms) x y
+
+unfoldable pub area_lattice : Rules → Members → LatticeModel
+area_lattice gas ms =
+    lattice_of (area_width ms) (area_height ms) (is_solid_in ms)
+    (λ x y. placed (map placement_of (array_at (codes "particles") ms)) x y (state_filled gas ms x y))
+
+-- Steps on the way: what the functions that build the lattice promise one another.
+
 -- the fluid cells before the cell (x, y) are filled, and the others are empty
 unfoldable pub filled_before : Rules → ℕ → ℕ → ℕ → ℕ → (ℕ → ℕ → Bool) → ℕ → ℕ → LatticeModel
 filled_before gas seed rate width height solid x y =
@@ -66,27 +92,3 @@ pub record CanPlace (states : ℕ) (channel : ChannelModel) (p : Placement) : Ty
   pub fluid : is_solid channel (natural p.x) (natural p.y) ≡ false
   pub low : pos 0 ≤ℤ p.state
   pub high : p.state <ℤ pos states
-
-abbrev pub area_width : Members → ℕ
-area_width ms = natural (extent_of ms).width
-
-abbrev pub area_height : Members → ℕ
-area_height ms = natural (extent_of ms).height
-
--- the seed and the rate of filling, each 0 where it is absent
-abbrev pub seed_of : Members → ℕ
-seed_of ms = natural (integer_at (codes "seed") ms)
-
-abbrev pub rate_of : Members → ℕ
-rate_of ms = natural (integer_at (codes "rate") ms)
-
-abbrev pub is_solid_in : Members → ℕ → ℕ → Bool
-is_solid_in ms x y = is_covered (array_at (codes "solid") ms) x y
-
-abbrev pub state_filled : Rules → Members → ℕ → ℕ → ℕ
-state_filled gas ms x y = if is_solid_in ms x y then 0 else filling gas (seed_of ms) (rate_of ms) (area_width ms) x y
-
-unfoldable pub area_lattice : Rules → Members → LatticeModel
-area_lattice gas ms =
-    lattice_of (area_width ms) (area_height ms) (is_solid_in ms)
-    (λ x y. placed (map placement_of (array_at (codes "particles") ms)) x y (state_filled gas ms x y))

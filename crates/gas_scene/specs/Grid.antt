@@ -14,6 +14,8 @@ lattice_of width height solid at = record {
   rows = grid width height at;
 }
 
+-- For lattices that are built cell by cell:
+
 -- whether the cell (u, v) comes before the cell (x, y), row by row
 abbrev pub is_before : ℕ → ℕ → ℕ → ℕ → Bool
 is_before x y u v = nat_lt v y || ((v == y) && nat_lt u x)

@@ -28,6 +28,8 @@ unfoldable pub map_lattice : ℕ → List (List ℕ) → LatticeModel
 map_lattice states rows =
     lattice_of (map_width rows) (length rows) (λ x y. is_solid_cell (map_cell states rows x y)) (λ x y. state_in (map_cell states rows x y))
 
+-- Steps on the way: what the functions that build the lattice promise one another.
+
 -- the lattice of the cells before the cell (x, y)
 unfoldable pub map_before : ℕ → List (List ℕ) → ℕ → ℕ → LatticeModel
 map_before states rows x y =

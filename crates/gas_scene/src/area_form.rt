@@ -1,7 +1,6 @@
 //! The lattice of an area.
 
-ghost use Rattle.std.specs.Prelude.{◌≡◌, ℕ, ◌+◌, ◌*◌, ◌<◌, ◌≤◌, ◌^◌, ◌==◌, ◌&&◌, ◌||◌, Bool, true, false, length, map, slice_index, EachIndex, IfOk, All, nat_le, nat_lt, codes, pos, ◌≤ℤ◌, if◌then◌else◌};
-ghost use Rattle.std.specs.List.{list_all};
+ghost use Rattle.std.specs.Prelude.{◌≡◌, ℕ, ◌+◌, ◌*◌, ◌<◌, ◌≤◌, ◌^◌, ◌==◌, ◌&&◌, ◌||◌, Bool, true, length, map, slice_index, IfOk, All, nat_le, nat_lt, codes, pos, ◌≤ℤ◌, if◌then◌else◌};
 ghost use Rattle.toml.specs.View.{view, table_view};
 ghost use Rattle.gas_geom.specs.Size.{IsSize};
 ghost use Rattle.gas_geom.specs.Channel.{is_solid, free_channel};

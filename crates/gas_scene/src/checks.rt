@@ -2,8 +2,7 @@
 
 ghost use Rattle.std.specs.Prelude.{◌≡◌, ◌<◌, ◌≤◌, length, map};
 ghost use Rattle.toml.specs.View.{view, table_view};
-ghost use Rattle.gas_scene.specs.Fields.{has, text_of, rows_at};
-ghost use Rattle.gas_scene.specs.Ranges.{is_in_range};
+ghost use Rattle.gas_scene.specs.Fields.{text_of, rows_at};
 ghost use Rattle.gas_scene.specs.Refusals.{refused_if, verdict, unknown_key, both_forms, missing, wrong_type, out_of_range, row_length, bad_cell, refusal_of, has_area, has_both_forms, has_form, is_complete, is_row_length, is_misfit, AreShort};
 
 use crate::cells::bad_column;
@@ -50,10 +49,7 @@ fn has_both_forms(table: &Table) -> bool
 pub fn check_form(table: &Table) -> Result<(), SceneError>
     ensures { result ≡ verdict (both_forms (table_view table.now)) }
 {
-    refuse_if(
-        has(table, "cells") && has_area(table),
-        SceneError::BothForms,
-    )
+    refuse_if(has_both_forms(table), SceneError::BothForms)
 }
 
 // Whether there are the rows of a map, or the size of an area.

@@ -1,4 +1,4 @@
-ghost use Rattle.std.specs.Prelude.{◌≡◌, ◌^◌, ◌≤◌};
+ghost use Rattle.std.specs.Prelude.{◌≡◌, ◌^◌};
 ghost use Rattle.gas_scene.specs.GasName.{gas_named, rules_of};
 
 use gas_geom::fhp1::Fhp1;

@@ -1,10 +1,10 @@
 //! The lattice of a map.
 
-ghost use Rattle.std.specs.Prelude.{◌≡◌, ◌+◌, ◌<◌, ◌≤◌, ◌^◌, false, length, map, Some, IfOk};
+ghost use Rattle.std.specs.Prelude.{◌≡◌, ◌+◌, ◌<◌, ◌^◌, false, length, map, Some, IfOk};
 ghost use Rattle.toml.specs.View.{view, table_view};
 ghost use Rattle.gas_geom.specs.Channel.{is_solid};
 ghost use Rattle.gas_scene.specs.Fields.{text_of, rows_at};
-ghost use Rattle.gas_scene.specs.Map.{state_in, map_lattice, map_before, map_width, IsMap, with_put};
+ghost use Rattle.gas_scene.specs.Map.{state_in, map_lattice, map_before, IsMap, with_put};
 
 use crate::cells::Cell;
 use crate::fields::{array_at, row};
