@@ -1,0 +1,8 @@
+//! Tests that cross crates, and the plain next lattice that they compare with.
+#![tactic(auto)]
+
+pub mod plain;
+#[cfg(test)]
+mod printed;
+#[cfg(test)]
+mod tests;

@@ -1,0 +1,109 @@
+ghost use Rattle.std.specs.Prelude.{◌≡◌, ◌<◌, ◌^◌};
+
+use crate::plain::lattice_after;
+use gas_geom::fhp1::Fhp1;
+use gas_geom::gas::Gas;
+use gas_geom::hpp::Hpp;
+use gas_geom::size::Size;
+use gas_rows::channel::Channel;
+use gas_rows::chirality::Chirality;
+use gas_rows::lattice::Lattice;
+use gas_stage::advance;
+use rand_core::Rng;
+use rand_core::utils::NextWord;
+use rand_pcg::Pcg32;
+use std::alloc::{AllocError, Global};
+use std::process::Abort;
+use std::test::Fail;
+
+// A set of the gas's directions.
+fn random_state<G: Gas>(random: &mut Pcg32) -> u8
+    ensures { result < 2 ^ G.rules.dirs }
+{
+    (random.next_word() % 2u32.pow(G::DIRS)) as u8
+}
+
+// Gives the cells of row `y` random states, and makes about one in eight solid.
+fn scatter<G: Gas>(lattice: &mut Lattice<G>, y: u32, random: &mut Pcg32)
+    requires { y < lattice.old.channel.height }
+    ensures width { lattice.new.channel.width ≡ lattice.old.channel.width }
+    ensures height { lattice.new.channel.height ≡ lattice.old.channel.height }
+{
+    for x in 0..lattice.channel().size().width() {
+        if random.next_word() % 8 == 0 {
+            lattice.make_solid(x, y);
+        } else if !lattice.channel().is_solid(x, y) {
+            lattice.set_cell(x, y, random_state::<G>(random));
+        }
+    }
+}
+
+fn random_lattice<G: Gas>(
+    alloc: Global,
+    size: Size,
+    random: &mut Pcg32,
+) -> Result<Lattice<G>, AllocError> {
+    let mut lattice = Lattice::blank(alloc, Channel::free(alloc, size)?)?;
+    for y in 0..size.height() {
+        scatter(&mut lattice, y, random);
+    }
+    Ok(lattice)
+}
+
+fn assert_same<G: Gas>(rt: &impl Abort, found: &Lattice<G>, wanted: &Lattice<G>) {
+    let size = wanted.channel().size();
+    assert!(rt; found.channel().size().width() == size.width());
+    assert!(rt; found.channel().size().height() == size.height());
+    for y in 0..size.height() {
+        for x in 0..size.width() {
+            let solid = wanted.channel().is_solid(x, y);
+            assert!(rt; found.channel().is_solid(x, y) == solid, "cell ({x}, {y})");
+            assert_eq!(rt; found.cell(x, y), wanted.cell(x, y), "cell ({x}, {y})");
+        }
+    }
+}
+
+// Three steps of a random lattice, by a stage and cell by cell.
+fn compare_steps<G: Gas>(
+    rt: &impl Abort,
+    alloc: Global,
+    size: Size,
+    random: &mut Pcg32,
+) -> Result<(), AllocError> {
+    let lattice = random_lattice::<G>(alloc, size, random)?;
+    let seed = random.next_u64();
+    for chirality in [Chirality::Left, Chirality::Right, Chirality::Seeded(seed)] {
+        let by_stage = advance::lattice_after(alloc, &lattice, chirality, 3)?;
+        assert_same(
+            rt,
+            &by_stage,
+            &lattice_after(alloc, &lattice, chirality, 3)?,
+        );
+    }
+    Ok(())
+}
+
+#[test]
+fn a_stage_gives_the_next_lattices(rt: HostRuntime) -> Result<(), Fail> {
+    let mut random = Pcg32::new(42, 54);
+    for width in [1, 2, 3, 63, 64, 65] {
+        for height in [1, 2, 3, 4] {
+            let size = Size::new(width, height).ok_or("a size")?;
+            compare_steps::<Fhp1>(&rt, rt.alloc(), size, &mut random)?;
+            compare_steps::<Hpp>(&rt, rt.alloc(), size, &mut random)?;
+        }
+    }
+    Ok(())
+}
+
+#[test]
+fn the_fifth_generation(rt: HostRuntime) -> Result<(), Fail> {
+    let alloc = rt.alloc();
+    let chirality = Chirality::Seeded(7);
+    let size = Size::new(40, 5).ok_or("a size")?;
+    let start = random_lattice::<Fhp1>(alloc, size, &mut Pcg32::new(42, 54))?;
+    let by_stage = advance::lattice_after(alloc, &start, chirality, 5)?;
+    assert_same(&rt, &by_stage, &lattice_after(alloc, &start, chirality, 5)?);
+    assert_eq!(rt; by_stage.count(), start.count());
+    Ok(())
+}
