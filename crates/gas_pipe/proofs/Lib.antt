@@ -1,0 +1,9 @@
+pub mod Prefixes
+pub mod Turns
+pub mod Kept
+pub mod Progress
+pub mod Totals
+pub mod Rounds
+pub mod Generations
+pub mod Workers
+pub mod Feeds

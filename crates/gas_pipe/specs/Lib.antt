@@ -1,0 +1,5 @@
+pub mod Line
+pub mod Pass
+pub mod Belt
+pub mod Worker
+pub mod Feeder

@@ -1,0 +1,58 @@
+//! The two ends of a belt.
+ghost use Rattle.std.specs.Prelude.{ℕ, List, OnOk, IfErr, IfSome, IfNone, OnErr, IsOk, IsSome, ◌≡◌};
+
+/// An end that rows are put on.
+pub trait PutEnd<T> {
+    /// The step by which a row is put.
+    ghost puts: { Self → T → Self → Type 0 };
+
+    /// No row was put.
+    ghost rests: { Self → Self → Type 0 };
+
+    /// A try to put succeeds.
+    ghost ready: { Self → Type 0 };
+
+    /// Puts a row, or hands it back.
+    fn try_put(&mut self, row: T) -> Result<(), T>
+        ensures put { OnOk result (puts self.old row self.new) }
+        ensures back { IfErr result (λ r. r ≡ row) }
+        ensures rests { OnErr result (rests self.old self.new) }
+        ensures ready { ready self.old → IsOk result };
+
+    ghost rests_alone: { (end : Self) → rests end end };
+}
+
+/// An end that rows are taken from.
+pub trait TakeEnd<T> {
+    /// The step by which a row is taken.
+    ghost takes: { Self → T → Self → Type 0 };
+
+    /// No row was taken.
+    ghost rests: { Self → Self → Type 0 };
+
+    /// A try to take succeeds.
+    ghost ready: { Self → Type 0 };
+
+    /// Takes the next row, if one came.
+    fn try_take(&mut self) -> Option<T>
+        ensures take { IfSome result (λ row. takes self.old row self.new) }
+        ensures rests { IfNone result (rests self.old self.new) }
+        ensures ready { ready self.old → IsSome result };
+
+    ghost rests_alone: { (end : Self) → rests end end };
+}
+
+/// What a turn of a member of the line did.
+#[derive(Clone, Copy, Debug, PartialEq, Eq)]
+pub enum Turned {
+    /// A row was taken.
+    Took,
+    /// A row was put.
+    Put,
+    /// No end to be tried was ready.
+    Idle,
+    /// No pass is open, or the turn closed it.
+    Done,
+    /// A row of another width than the channel's came, now or before.
+    Stray,
+}
