@@ -7,3 +7,4 @@ pub mod Rounds
 pub mod Generations
 pub mod Workers
 pub mod Feeds
+pub mod Queues

@@ -1,7 +1,8 @@
 -- A feeder: what it holds and what it has done since it began.
-use Rattle.std.specs.Prelude.{◌≡◌, ℕ, ◌+◌, ◌*◌, ◌%◌, ◌<◌, ◌≤◌, ◌++◌, Bool, false, if◌then◌else◌, List, [], ◌∷◌, length, slice_index}
+use Rattle.std.specs.Prelude.{◌≡◌, ℕ, ◌+◌, ◌*◌, ◌%◌, ◌^◌, ◌<◌, ◌≤◌, ◌++◌, Bool, true, false, if◌then◌else◌, List, [], ◌∷◌, length, slice_index, slice_index_or}
+use Rattle.gas_geom.specs.Gas.{Rules}
 use Rattle.gas_geom.specs.Channel.{ChannelModel, is_solid}
-use Rattle.gas_geom.specs.Lattice.{row_of}
+use Rattle.gas_geom.specs.Lattice.{cell, row_of}
 use Rattle.gas_pipe.specs.Line.{Row}
 
 -- A feeder as its callers see it: the rows that it holds, the next to be put first; how many it is still to put and to take;
@@ -48,3 +49,12 @@ AfterPut old row new = (passes : ℕ) (rows gave took : List Row) → HasFed old
 pub record HasRowToPut (f : FeederModel) : Type 0 where
   pub left : 0 < f.to_put
   pub held : 0 < length f.rows
+
+-- The rows that a feeder holds, where so many rows are still to be put and taken and row `next` comes back next: rows of a
+-- lattice, where row y has the place y + to_put, counted round the height.
+pub record IsQueue (gas : Rules) (channel : ChannelModel) (rows : List Row) (to_put to_take next : ℕ) : Type 0 where
+  pub long : length rows + to_take ≡ channel.height + to_put
+  pub place : (next + to_take) % channel.height ≡ 0
+  pub wide : (i : ℕ) → i < length rows → length (slice_index_or rows i []) ≡ channel.width
+  pub sets : (x i : ℕ) → cell rows x i < 2 ^ gas.dirs
+  pub empty : (x y : ℕ) → y < channel.height → is_solid channel x y ≡ true → cell rows x ((y + to_put) % channel.height) ≡ 0

@@ -1,5 +1,6 @@
 //! The feeder of the line, over any two ends.
-ghost use Rattle.std.specs.Prelude.{◌≡◌, ◌≢◌, ◌<◌, ◌≤◌, ◌+◌, ◌*◌, ◌%◌, ◌++◌, ◌∷◌, ◌^◌, ℕ, [], List, IfOk, IsTrue, IsFalse, true, false, length};
+ghost use Rattle.std.specs.Prelude.{◌≡◌, ◌≢◌, ◌<◌, ◌≤◌, ◌+◌, ◌*◌, ◌%◌, ◌++◌, ◌∷◌, ◌^◌, ℕ, [], List, IfOk, IsTrue, IsFalse, true, false, length, slice_index};
+ghost use Rattle.gas_geom.specs.Lattice.{IsLattice};
 ghost use Rattle.gas_pipe.specs.Line.{Row as States, IsPrefix};
 ghost use Rattle.gas_pipe.specs.Feeder.{FeederModel, HasFed, AfterTake, AfterPut, HasRowToPut, emptied_row, emptied};
 
@@ -43,7 +44,7 @@ pub struct Feeder<G: Gas> {
 impl<G: Gas> Model for Feeder<G> {
     ghost use Rattle.std.specs.Prelude.{◌≡◌, ◌+◌, ◌≤◌, ◌<◌, true};
     ghost use Rattle.std.specs.VecDeque.{deque_capacity, deque_len};
-    ghost use Rattle.gas_pipe.specs.Feeder.{FeederModel};
+    ghost use Rattle.gas_pipe.specs.Feeder.{FeederModel, IsQueue};
 
     ghost Value = { FeederModel };
 
@@ -64,6 +65,7 @@ impl<G: Gas> Model for Feeder<G> {
       height : f.size.height ≡ f.channel.height;
       few_rows : f.channel.height ≤ 4096;
       stray_in_pass : f.stray ≡ true → 0 < f.to_take;
+      queue : IsQueue G.rules f.channel f.rows.items f.to_put f.to_take f.next;
     } };
 }
 
@@ -72,6 +74,7 @@ impl<G: Gas> Feeder<G> {
     pub fn new(alloc: Global, lattice: &Lattice<G>) -> Result<Self, AllocError>
         ensures channel { IfOk result (λ f. f.channel ≡ lattice.now.channel) }
         ensures rows { IfOk result (λ f. f.rows ≡ lattice.now.rows) }
+        ensures whole { IfOk result (λ f. IsLattice G.rules f.channel f.rows) }
         ensures closed { IfOk result (λ f. f.to_take ≡ 0) }
         ensures no_stray { IfOk result (λ f. f.stray ≡ false) }
     {
@@ -139,12 +142,14 @@ impl<G: Gas> Feeder<G> {
         requires owed { self.old.to_put < self.old.to_take }
         requires no_stray { self.old.stray ≡ false }
         requires wide { length row ≡ self.old.channel.width }
+        requires sets { (x : ℕ) → slice_index row x < 2 ^ G.rules.dirs }
         ensures channel { self.new.channel ≡ self.old.channel }
         ensures rows { self.new.rows ≡ self.old.rows ++ emptied_row self.old.channel self.old.next row ∷ [] }
         ensures to_put { self.new.to_put ≡ self.old.to_put }
         ensures to_take { self.new.to_take + 1 ≡ self.old.to_take }
         ensures next { self.new.next ≡ (self.old.next + 1) % self.old.channel.height }
         ensures stray { self.new.stray ≡ self.old.stray }
+        ensures whole { self.new.to_take ≡ 0 → IsLattice G.rules self.new.channel self.new.rows }
     {
         empty_solid(&self.channel, self.next, &mut row);
         self.next = (self.next + 1) % self.size.height();
@@ -180,6 +185,7 @@ impl<G: Gas> Feeder<G> {
             (row : States) × T.takes take.old row take.new × P.rests put.old put.new × (length row ≢ self.old.channel.width) }
         ensures stray_ever { self.old.stray ≡ true →
             (result ≡ Turned.Stray) × T.rests take.old take.new × P.rests put.old put.new × (self.new ≡ self.old) }
+        ensures whole { self.new.to_take ≡ 0 → IsLattice G.rules self.new.channel self.new.rows }
     {
         if self.stray {
             return Turned::Stray;
@@ -202,6 +208,15 @@ impl<G: Gas> Feeder<G> {
         }
         self.accept(row);
         Turned::Took
+    }
+
+    /// The lattice of the rows that it holds, where no pass is open.
+    pub fn finish(self) -> Lattice<G>
+        requires closed { self.to_take ≡ 0 }
+        ensures channel { result.channel ≡ self.channel }
+        ensures rows { result.rows ≡ self.rows }
+    {
+        Lattice::from_rows(self.channel, Vec::from(self.rows))
     }
 }
 

@@ -90,3 +90,32 @@ fn a_feeder_over_two_belts(rt: HostRuntime) -> Result<(), Fail> {
     assert!(rt; feeder.turn(&mut first, &mut last) == Done);
     Ok(())
 }
+
+// One particle goes east through a line of one worker, of which each turn is made by hand.
+#[test]
+fn a_pass_by_hand(rt: HostRuntime) -> Result<(), Fail> {
+    let size = Size::new(4, 1).ok_or("a size")?;
+    let channel = Channel::free(rt.alloc(), size)?;
+    let mut lattice = Lattice::<Fhp1>::blank(rt.alloc(), channel.copy(rt.alloc())?)?;
+    lattice.set_cell(0, 0, 0x01);
+    let mut feeder = Feeder::new(rt.alloc(), &lattice)?;
+    let mut worker = Worker::<Fhp1>::new(rt.alloc(), &channel, Chirality::Left)?;
+    let mut first = PlainBelt::new(rt.alloc(), 1)?;
+    let mut last = PlainBelt::new(rt.alloc(), 1)?;
+    feeder.begin();
+    worker.begin(Some(0));
+    assert!(rt; feeder.turn(&mut first, &mut last) == Put);
+    assert!(rt; worker.turn(&mut first, &mut last) == Took);
+    assert!(rt; worker.turn(&mut first, &mut last) == Put);
+    assert!(rt; feeder.turn(&mut first, &mut last) == Took);
+    assert!(rt; worker.turn(&mut first, &mut last) == Done);
+    assert!(rt; feeder.turn(&mut first, &mut last) == Done);
+    let result = feeder.finish();
+    for x in 0..4 {
+        assert!(rt;
+            result.cell(x, 0) == if x == 1 { 0x01 } else { 0x00 },
+            "({x}, 0)"
+        );
+    }
+    Ok(())
+}

@@ -1,6 +1,9 @@
-use Rattle.std.proofs.Common.{◌<◌, sym, subst, refl, arith}
+use Rattle.std.proofs.Common.{◌<◌, ◌^◌, ◌∙◌, ap, get_or, sym, subst, refl, arith}
+use Rattle.gas_geom.specs.Lattice.{IsLattice}
+use Rattle.gas_pipe.specs.Line.{Row as States}
 use Rattle.gas_pipe.specs.Feeder.{FeederModel, HasFed}
 use Rattle.gas_pipe.proofs.Feeds.{fed_take}
+use Rattle.gas_pipe.proofs.Queues.{queue_closed}
 use Rattle.gas_pipe.proofs.feeder.Feeder.turn.Goals as goal
 
 pub returns-clause-took : goal.returns-clause-took
@@ -16,3 +19,15 @@ returns-clause-took g c = λ _.
           c.accept.ensures.to_take c.accept.ensures.next c.accept.ensures.stray some passes rows gave took
           (subst (λ (f : FeederModel). HasFed f passes rows gave took) (sym rests.1) fed),
     )
+
+pub accept-requires-clause-sets : goal.accept-requires-clause-sets
+accept-requires-clause-sets g c = λ x. subst (λ (row : States). get_or row x 0 < 2 ^ g.G.Gas.rules.dirs) c.row.view_is (c.row.invariant.sets x)
+
+pub returns-then-self-eq0-clause-whole : goal.returns-then-self-eq0-clause-whole
+returns-then-self-eq0-clause-whole g c = λ closed.
+    subst (λ (f : FeederModel). IsLattice g.G.Gas.rules f.channel f.rows) c.self.view_is
+    (queue_closed g.G.Gas.rules c.self.inside.channel c.self.inside.rows.items c.self.inside.to_put c.self.inside.to_take c.self.inside.next
+    c.self.invariant.queue c.self.invariant.put_first (ap (λ (f : FeederModel). f.to_take) c.self.view_is ∙ closed))
+
+pub returns-clause-whole : goal.returns-clause-whole
+returns-clause-whole g c = c.accept.ensures.whole
