@@ -7,4 +7,12 @@ pub mod Rounds
 pub mod Generations
 pub mod Workers
 pub mod Feeds
+pub mod Slots
+pub mod Opens
+pub mod Wide
+pub mod WorkerSteps
+pub mod FeederSteps
+pub mod Begun
+pub mod Counted
 pub mod Queues
+pub mod Finished

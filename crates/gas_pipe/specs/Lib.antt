@@ -3,3 +3,6 @@ pub mod Pass
 pub mod Belt
 pub mod Worker
 pub mod Feeder
+pub mod Plan
+pub mod Chain
+pub mod Replay

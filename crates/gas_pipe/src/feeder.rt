@@ -1,5 +1,5 @@
 //! The feeder of the line, over any two ends.
-ghost use Rattle.std.specs.Prelude.{◌≡◌, ◌≢◌, ◌<◌, ◌≤◌, ◌+◌, ◌*◌, ◌%◌, ◌++◌, ◌∷◌, ◌^◌, ℕ, [], List, IfOk, IsTrue, IsFalse, true, false, length, slice_index};
+ghost use Rattle.std.specs.Prelude.{◌≡◌, ◌≢◌, ◌<◌, ◌≤◌, ◌↔◌, ◌+◌, ◌*◌, ◌%◌, ◌++◌, ◌∷◌, ◌^◌, ℕ, [], List, IfOk, IsTrue, IsFalse, true, false, length, slice_index};
 ghost use Rattle.gas_geom.specs.Lattice.{IsLattice};
 ghost use Rattle.gas_pipe.specs.Line.{Row as States, IsPrefix};
 ghost use Rattle.gas_pipe.specs.Feeder.{FeederModel, HasFed, AfterTake, AfterPut, HasRowToPut, emptied_row, emptied};
@@ -97,6 +97,26 @@ impl<G: Gas> Feeder<G> {
         ensures nothing_done { HasFed self.new 1 self.old.rows [] [] }
     {
         self.begin_passes(1);
+    }
+
+    /// Whether no pass is open.
+    pub fn is_closed(&self) -> bool
+        ensures { IsTrue result ↔ self.now.to_take ≡ 0 }
+    {
+        self.to_take == 0
+    }
+
+    /// The number of rows that it took of the lattice under way, or, where no pass is open, of the
+    /// last one.
+    pub fn taken(&self) -> u32
+        ensures value { (rows gave took : List States) → HasFed self.now 1 rows gave took → result ≡ length took }
+        ensures few { result ≤ 4096 }
+    {
+        if self.to_take == 0 {
+            self.size.height()
+        } else {
+            self.next
+        }
     }
 
     // Opens up to a million passes, one after another: rows that came back are put again.

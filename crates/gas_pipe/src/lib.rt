@@ -1,12 +1,18 @@
-//! The line of workers: its laws over every list of turns, the members, and the belts of one thread.
+//! The line of workers: its laws over every list of turns, the members, the belts of one thread, and
+//! a pass on one thread turn by turn.
 #![tactic(auto)]
 
 pub mod belt_ends;
+mod chain;
 pub mod ends;
+pub mod error;
 pub mod feeder;
 pub mod line;
 pub mod pass;
 pub mod plain;
+pub mod plan;
+pub mod replay;
+pub mod standing;
 #[cfg(test)]
 mod tests;
 pub mod worker;

@@ -25,7 +25,11 @@ impl<G: Gas> Model for PlainBelt<G> {
 
     ghost view = { λ b. record { rows = b.rows.items; capacity = b.capacity } };
 
-    ghost invariant = { λ b. (length b.rows.items ≤ b.capacity) × (b.capacity ≤ deque_capacity b.rows) };
+    ghost invariant = { λ b. record {
+      some_places : b.capacity ≤ deque_capacity b.rows;
+      few_rows : length b.rows.items ≤ b.capacity;
+      few_places : b.capacity ≤ 1024;
+    } };
 }
 
 impl<G: Gas> PlainBelt<G> {
@@ -39,6 +43,14 @@ impl<G: Gas> PlainBelt<G> {
             rows: VecDeque::with_capacity(alloc, capacity as usize)?,
             capacity,
         })
+    }
+
+    /// The number of rows under way.
+    pub fn len(&self) -> u32
+        ensures value { result ≡ length self.now.rows }
+        ensures few { result ≤ 1024 }
+    {
+        self.rows.len() as u32
     }
 }
 

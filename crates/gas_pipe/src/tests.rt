@@ -2,6 +2,7 @@ use crate::ends::Turned::{Done, Idle, Put, Stray, Took};
 use crate::ends::{PutEnd, TakeEnd, Turned};
 use crate::feeder::Feeder;
 use crate::plain::PlainBelt;
+use crate::plan::{Plan, PlanError};
 use crate::worker::Worker;
 use gas_geom::fhp1::Fhp1;
 use gas_geom::size::Size;
@@ -117,5 +118,30 @@ fn a_pass_by_hand(rt: HostRuntime) -> Result<(), Fail> {
             "({x}, 0)"
         );
     }
+    Ok(())
+}
+
+#[test]
+fn plans(rt: HostRuntime) -> Result<(), Fail> {
+    let refused = [
+        (0, 0, 0, PlanError::Stages),
+        (65, 1, 0, PlanError::Stages),
+        (1, 0, 1_000_001, PlanError::Capacity),
+        (1, 1025, 0, PlanError::Capacity),
+        (1, 1, 1_000_001, PlanError::Generations),
+    ];
+    for (stages, capacity, generations, want) in refused {
+        assert!(rt;
+            Plan::new(stages, capacity, generations).is_err_and(|e| e == want),
+            "{stages} {capacity} {generations}"
+        );
+    }
+    let plan = Plan::new(64, 1024, 1_000_000)?;
+    assert_eq!(rt; plan.stages(), 64);
+    assert_eq!(rt; plan.capacity(), 1024);
+    assert_eq!(rt; plan.generations(), 1_000_000);
+    assert_eq!(rt; plan.passes(), 15_625);
+    assert_eq!(rt; Plan::new(2, 1, 5)?.passes(), 3);
+    assert_eq!(rt; Plan::new(2, 1, 0)?.passes(), 0);
     Ok(())
 }

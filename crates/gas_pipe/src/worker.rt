@@ -69,6 +69,19 @@ impl<'a, G: Gas> Worker<'a, G> {
         self.stage.begin(generation);
     }
 
+    /// The number of rows that it took in its pass, or in the pass that it closed last.
+    pub fn taken(&self) -> u32
+        ensures value { (e : Option ℕ) (took gave : List States) → HasDone G.rules self.now e took gave → result ≡ length took }
+        ensures few { result ≤ 4096 }
+    {
+        let height = self.size.height();
+        if self.stage.is_open() {
+            self.stage.fed()
+        } else {
+            height
+        }
+    }
+
     // Tries to put a row, which waits where it is handed back.
     fn give<P: PutEnd<Row<G>>>(&mut self, row: Row<G>, put: &mut P) -> Turned
         requires none { self.old.waiting ≡ None }

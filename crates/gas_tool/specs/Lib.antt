@@ -1,5 +1,4 @@
 pub mod Status
-pub mod Plan
 pub mod Output
 pub mod Text
 pub mod Words

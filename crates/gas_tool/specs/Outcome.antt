@@ -12,11 +12,11 @@ use Rattle.gas_scene.specs.declared.any_lattice.AnyLattice.TheVariants.{Fhp1, Hp
 use Rattle.gas_scene.specs.declared.error.SceneError.{SceneError}
 use Rattle.gas_scene.specs.declared.error.SceneError.TheVariants as scene
 use Rattle.gas_scene.specs.Scene.{SceneModel, scene_of_text}
-use Rattle.gas_tool.specs.Plan.{plan_refusal}
+use Rattle.gas_pipe.specs.Plan.{plan_refusal}
 use Rattle.gas_tool.specs.Text.{cells_text, check_text}
 use Rattle.gas_tool.specs.declared.faults.ToolError.{ToolError}
 use Rattle.gas_tool.specs.declared.faults.ToolError.TheVariants.{Memory, Scene, Plan, Write}
-use Rattle.gas_tool.specs.declared.plan.PlanError.{PlanError}
+use Rattle.gas_pipe.specs.declared.plan.PlanError.{PlanError}
 use Rattle.gas_tool.specs.declared.request.Request.{Request}
 use Rattle.gas_tool.specs.declared.request.Request.TheVariants.{Check, Run}
 

@@ -5,7 +5,7 @@ ghost use Rattle.gas_tool.specs.declared.faults.ToolError.TheVariants.{Memory, P
 ghost use Rattle.gas_tool.specs.Outcome.{scene_fault};
 ghost use Rattle.gas_tool.specs.Status.{input_status, tool_status, usage_status};
 
-use crate::plan::PlanError;
+use gas_pipe::plan::PlanError;
 use gas_scene::error::SceneError;
 use std::alloc::AllocError;
 use thiserror::Error;

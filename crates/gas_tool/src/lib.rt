@@ -5,7 +5,6 @@ pub mod faults;
 pub mod input;
 pub mod output;
 pub mod perform;
-pub mod plan;
 pub mod request;
 #[cfg(test)]
 mod tests;

@@ -5,10 +5,10 @@ ghost use Rattle.gas_stage.specs.Evolution.{lattice_after};
 ghost use Rattle.gas_tool.specs.Outcome.{Performs, Sends, lattice_text, run_text, scene_text};
 
 use crate::faults::ToolError;
-use crate::plan::Plan;
 use crate::request::Request;
 use crate::text::{write_cells, write_check};
 use gas_geom::gas::Gas;
+use gas_pipe::plan::Plan;
 use gas_rows::chirality::Chirality;
 use gas_rows::lattice::Lattice;
 use gas_scene::any_lattice::AnyLattice;

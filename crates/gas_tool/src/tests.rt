@@ -2,12 +2,12 @@ use crate::faults::{InputFault, ToolError, UsageFault, WriteFault};
 use crate::input::{LONGEST_INPUT, slurp};
 use crate::output::Sink;
 use crate::perform::perform;
-use crate::plan::{Plan, PlanError};
 use crate::request::Request;
 use crate::text::{cell_pair, put_header, write_cells};
 use crate::words::parse_words;
 use gas_geom::fhp1::Fhp1;
 use gas_geom::size::Size;
+use gas_pipe::plan::PlanError;
 use gas_rows::channel::Channel;
 use gas_rows::lattice::Lattice;
 use gas_scene::error::SceneError;
@@ -15,31 +15,6 @@ use std::alloc::{AllocError, Global};
 use std::io;
 use std::io::{ErrorKind, Read, Write};
 use std::test::Fail;
-
-#[test]
-fn plans(rt: HostRuntime) -> Result<(), Fail> {
-    let refused = [
-        (0, 0, 0, PlanError::Stages),
-        (65, 1, 0, PlanError::Stages),
-        (1, 0, 1_000_001, PlanError::Capacity),
-        (1, 1025, 0, PlanError::Capacity),
-        (1, 1, 1_000_001, PlanError::Generations),
-    ];
-    for (stages, capacity, generations, want) in refused {
-        assert!(rt;
-            Plan::new(stages, capacity, generations).is_err_and(|e| e == want),
-            "{stages} {capacity} {generations}"
-        );
-    }
-    let plan = Plan::new(64, 1024, 1_000_000)?;
-    assert_eq!(rt; plan.stages(), 64);
-    assert_eq!(rt; plan.capacity(), 1024);
-    assert_eq!(rt; plan.generations(), 1_000_000);
-    assert_eq!(rt; plan.passes(), 15_625);
-    assert_eq!(rt; Plan::new(2, 1, 5)?.passes(), 3);
-    assert_eq!(rt; Plan::new(2, 1, 0)?.passes(), 0);
-    Ok(())
-}
 
 #[test]
 fn fault_lines(rt: HostRuntime) -> Result<(), Fail> {

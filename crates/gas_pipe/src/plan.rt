@@ -1,7 +1,7 @@
 //! The plan of a run: the stages of its line, the rows that a belt holds, the generations to compute.
 
 ghost use Rattle.std.specs.Prelude.{◌≡◌, ◌≤◌, IfOk, IfErr, None, Some};
-ghost use Rattle.gas_tool.specs.Plan.{IsPlan, passes_of, plan_refusal};
+ghost use Rattle.gas_pipe.specs.Plan.{IsPlan, passes_of, plan_refusal};
 
 use std::marker::Model;
 use thiserror::Error;
@@ -27,7 +27,7 @@ pub struct Plan {
 }
 
 impl Model for Plan {
-    ghost use Rattle.gas_tool.specs.Plan.{PlanModel, IsPlan};
+    ghost use Rattle.gas_pipe.specs.Plan.{PlanModel, IsPlan};
 
     ghost Value = { PlanModel };
 

@@ -1,8 +1,8 @@
 -- Plans: how many stages a line has, how many rows a belt holds, how many generations are computed.
 use Rattle.std.specs.Prelude.{ℕ, ◌≤◌, Bool, not, ◌&&◌, nat_le, if◌then◌else◌, Option, Some, None}
 use Rattle.std.specs.Int.{div_ceil}
-use Rattle.gas_tool.specs.declared.plan.PlanError.{PlanError}
-use Rattle.gas_tool.specs.declared.plan.PlanError.TheVariants.{Stages, Capacity, Generations}
+use Rattle.gas_pipe.specs.declared.plan.PlanError.{PlanError}
+use Rattle.gas_pipe.specs.declared.plan.PlanError.TheVariants.{Stages, Capacity, Generations}
 
 pub record PlanModel : Type 0 where
   pub stages : ℕ
