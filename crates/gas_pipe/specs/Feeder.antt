@@ -54,6 +54,7 @@ pub record HasRowToPut (f : FeederModel) : Type 0 where
 -- lattice, where row y has the place y + to_put, counted round the height.
 pub record IsQueue (gas : Rules) (channel : ChannelModel) (rows : List Row) (to_put to_take next : ℕ) : Type 0 where
   pub long : length rows + to_take ≡ channel.height + to_put
+  -- the last row that comes back is a lattice's last
   pub place : (next + to_take) % channel.height ≡ 0
   pub wide : (i : ℕ) → i < length rows → length (slice_index_or rows i []) ≡ channel.width
   pub sets : (x i : ℕ) → cell rows x i < 2 ^ gas.dirs

@@ -6,3 +6,4 @@ pub mod Feeder
 pub mod Plan
 pub mod Chain
 pub mod Replay
+pub mod Run
