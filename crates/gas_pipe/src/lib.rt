@@ -12,6 +12,8 @@ pub mod pass;
 pub mod plain;
 pub mod plan;
 pub mod replay;
+#[cfg(test)]
+mod replays;
 pub mod standing;
 #[cfg(test)]
 mod tests;
