@@ -1,6 +1,8 @@
 //! Tests that cross crates, and the plain next lattice that they compare with.
 #![tactic(auto)]
 
+#[cfg(test)]
+mod lines;
 pub mod plain;
 #[cfg(test)]
 mod printed;

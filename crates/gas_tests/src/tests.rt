@@ -38,7 +38,7 @@ fn scatter<G: Gas>(lattice: &mut Lattice<G>, y: u32, random: &mut Pcg32)
     }
 }
 
-fn random_lattice<G: Gas>(
+pub fn random_lattice<G: Gas>(
     alloc: Global,
     size: Size,
     random: &mut Pcg32,
@@ -50,7 +50,7 @@ fn random_lattice<G: Gas>(
     Ok(lattice)
 }
 
-fn assert_same<G: Gas>(rt: &impl Abort, found: &Lattice<G>, wanted: &Lattice<G>) {
+pub fn assert_same<G: Gas>(rt: &impl Abort, found: &Lattice<G>, wanted: &Lattice<G>) {
     let size = wanted.channel().size();
     assert!(rt; found.channel().size().width() == size.width());
     assert!(rt; found.channel().size().height() == size.height());
