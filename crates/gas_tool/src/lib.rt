@@ -5,6 +5,7 @@ pub mod faults;
 pub mod input;
 pub mod output;
 pub mod perform;
+pub mod replayed;
 pub mod request;
 #[cfg(test)]
 mod tests;

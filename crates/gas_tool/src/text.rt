@@ -73,6 +73,21 @@ fn put_rows<G: Gas, W: Write>(sink: &mut Sink, out: &mut W, lattice: &Lattice<G>
     }
 }
 
+/// Adds the cells of a lattice: the line of its generation and its particles, then its rows from the
+/// top.
+pub(crate) fn put_cells<G: Gas, W: Write>(
+    sink: &mut Sink,
+    out: &mut W,
+    lattice: &Lattice<G>,
+    generation: u64,
+)
+    ensures { Adds (W.contents out.old) (W.contents out.new) sink.old sink.new
+        (cells_text lattice.now.channel lattice.now.rows generation (count G.rules lattice.now.rows)) }
+{
+    put_header(sink, out, generation, lattice.count());
+    put_rows(sink, out, lattice);
+}
+
 /// Writes the cells of a lattice: the line of its generation and its particles, then its rows from
 /// the top, two characters a cell. Then the writer is flushed once. Any error of the writer, or a
 /// write of 0 bytes, is the fault. It takes no memory.
@@ -85,8 +100,7 @@ pub fn write_cells<G: Gas, W: Write>(
         (cells_text lattice.now.channel lattice.now.rows generation (count G.rules lattice.now.rows)) result }
 {
     let mut sink = Sink::new();
-    put_header(&mut sink, out, generation, lattice.count());
-    put_rows(&mut sink, out, lattice);
+    put_cells(&mut sink, out, lattice, generation);
     sink.finish(out)
 }
 
