@@ -1,2 +1,4 @@
 pub mod Matches
+pub mod Ranges
 pub mod Sinks
+pub mod Tallies

@@ -2,6 +2,8 @@ pub mod Status
 pub mod Output
 pub mod Text
 pub mod Replayed
+pub mod Blocks
+pub mod Tally
 pub mod Words
 pub mod Requests
 pub mod Outcome

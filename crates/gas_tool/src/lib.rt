@@ -1,6 +1,7 @@
 //! The tool's parts: its command line, its input, its printed texts, and their faults.
 #![tactic(auto)]
 
+pub mod blocks;
 pub mod faults;
 pub mod input;
 pub mod output;
