@@ -1,3 +1,4 @@
+pub mod Lines
 pub mod Matches
 pub mod Ranges
 pub mod Sinks

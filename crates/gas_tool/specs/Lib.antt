@@ -4,6 +4,7 @@ pub mod Text
 pub mod Replayed
 pub mod Blocks
 pub mod Tally
+pub mod Table
 pub mod Words
 pub mod Requests
 pub mod Outcome

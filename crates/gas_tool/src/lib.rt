@@ -8,6 +8,7 @@ pub mod output;
 pub mod perform;
 pub mod replayed;
 pub mod request;
+pub mod table;
 #[cfg(test)]
 mod tests;
 pub mod text;
