@@ -1,6 +1,9 @@
 //! The program `fhpgas`: words, a scene on standard input, the answer on standard output.
 #![tactic(auto)]
 
+ghost use Rattle.std.specs.Prelude.{IfOk};
+ghost use Rattle.gas_tool.specs.Requests.{IsAllowed};
+
 use gas_tool::faults::{InputFault, ToolError, UsageFault};
 use gas_tool::input::slurp;
 use gas_tool::perform::perform;
@@ -64,7 +67,9 @@ fn texts<'a>(rt: &HostRuntime, words: &'a Vec<String>) -> Result<Vec<&'a str>, A
     Ok(texts)
 }
 
-fn request(rt: &HostRuntime) -> Result<Request, UsageFault> {
+fn request(rt: &HostRuntime) -> Result<Request, UsageFault>
+    ensures { IfOk result IsAllowed }
+{
     let words = words(rt)?;
     match texts(rt, &words) {
         Ok(texts) => parse_words(rt.alloc(), texts.as_slice()),

@@ -1,6 +1,6 @@
 -- Lemmas on what the matches of the words say.
-use Rattle.std.proofs.Common.{[], ◌∷◌, inl, inr, ◌≡◌, ℕ, List, Option, Some, None, refl, sym, ◌∙◌, option_map, subst, Box}
-use Rattle.std.specs.Prelude.{Result, true, codes}
+use Rattle.std.proofs.Common.{[], ◌∷◌, inl, inr, ◌≡◌, ℕ, List, Option, Some, None, refl, sym, ap, ap₂, ◌∙◌, option_map, subst, Box}
+use Rattle.std.specs.Prelude.{Result, true}
 use Rattle.std.specs.Str.Parse.{ParsesUnsigned, ExplainsUnsignedError, HasUnsignedDigitsIfOk}
 use Rattle.std.specs.declared.num.ParseIntError.{ParseIntError}
 use Rattle.clap.specs.Words.{Row, Text, ReadsOne, one_text, rows_of, is_simple, subcommand_name_of, subcommand_rows, subcommand_rows_of}
@@ -15,8 +15,7 @@ use Rattle.clap.specs.declared.error.kind.ErrorKind.{ErrorKind}
 use Rattle.clap.specs.declared.error.kind.ErrorKind.TheVariants.{DisplayHelp, OutOfMemory}
 use Rattle.gas_tool.specs.declared.faults.UsageFault.{UsageFault}
 use Rattle.gas_tool.specs.declared.faults.UsageFault.TheVariants as fault
-use Rattle.gas_tool.specs.Requests.{IsNumberAt, IsRequestOf, IsFaultOf, TellsKind}
-use Rattle.gas_tool.specs.declared.request.Request.TheVariants.{Run}
+use Rattle.gas_tool.specs.Requests.{IsNumberAt, IsFaultOf, TellsKind}
 use Rattle.std.specs.Box.{box_value}
 use Rattle.clap.specs.declared.parser.matches.SubCommand.{SubCommand}
 use Rattle.clap.specs.declared.parser.matches.ArgMatches.TheViews.{out-ArgMatches, out-SubCommand}
@@ -47,13 +46,14 @@ name_of_rows m = by_case (out-ArgMatches m).subcommand
     by_case None = refl
     by_case (Some b) = refl
 
--- a request of the subcommand's rows
-pub request_is : (o : Option (Text × List Row)) (rows : List Row) (s k n : ℕ) → option_map (λ p. p.1) o ≡ Some rows → option_map (λ p. p.0) o ≡ Some (codes "run")
-    → IsNumberAt 32 (codes "stages") rows s → IsNumberAt 32 (codes "capacity") rows k → IsNumberAt 64 (codes "generations") rows n → IsRequestOf o (Run s k n)
-request_is None rows s k n e f a b d = absurd (let bad : None ≡ Some rows = e in cc)
-request_is (Some p) rows s k n e f a b d =
-    let same : rows ≡ p.1 = cc in
-    (cc, subst (λ (r : List Row). IsNumberAt 32 (codes "stages") r s) same a, subst (λ (r : List Row). IsNumberAt 32 (codes "capacity") r k) same b, subst (λ (r : List Row). IsNumberAt 64 (codes "generations") r n) same d)
+-- the name and the rows of the subcommand
+pub is_subcommand : (name : Text) (o : Option (Text × List Row)) (rows : List Row) → option_map (λ p. p.1) o ≡ Some rows → option_map (λ p. p.0) o ≡ Some name
+    → o ≡ Some (name, rows)
+is_subcommand name None rows e f = absurd (let bad : None ≡ Some rows = e in cc)
+is_subcommand name (Some p) rows e f = ap Some (ap₂ (λ (a : Text) (b : List Row). (a, b)) (some_same f) (some_same e))
+  where
+    some_same : {X : Type 0} {x y : X} → Some x ≡ Some y → x ≡ y
+    some_same h = cc
 
 -- the command's parses tell the kinds of their errors
 pub program_is_free : is_simple_and_free program_app ≡ true

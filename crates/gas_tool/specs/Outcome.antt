@@ -14,21 +14,35 @@ use Rattle.gas_scene.specs.declared.error.SceneError.TheVariants as scene
 use Rattle.gas_scene.specs.Scene.{SceneModel, scene_of_text}
 use Rattle.gas_pipe.specs.Plan.{plan_refusal}
 use Rattle.gas_tool.specs.Text.{cells_text, check_text}
+use Rattle.gas_tool.specs.Blocks.{blocks_of}
+use Rattle.gas_tool.specs.Table.{table_text}
 use Rattle.gas_tool.specs.declared.faults.ToolError.{ToolError}
 use Rattle.gas_tool.specs.declared.faults.ToolError.TheVariants.{Memory, Scene, Plan, Write}
 use Rattle.gas_pipe.specs.declared.plan.PlanError.{PlanError}
 use Rattle.gas_tool.specs.declared.request.Request.{Request}
-use Rattle.gas_tool.specs.declared.request.Request.TheVariants.{Check, Run}
+use Rattle.gas_tool.specs.declared.request.Request.TheVariants.{Check, Run, Coarse}
+use Rattle.gas_tool.specs.declared.perform.View.{View}
+use Rattle.gas_tool.specs.declared.perform.View.TheVariants.{Cells, Blocks}
 
 -- the text of a lattice's cells at a generation
 abbrev pub lattice_text : Rules → LatticeModel → ℕ → List ℕ
 lattice_text gas lattice generation =
     cells_text lattice.channel lattice.rows generation (count gas lattice.rows)
 
--- the cells of a scene's lattice after n generations
-abbrev pub run_text : AnyLattice → Chirality → ℕ → List ℕ
-run_text (Fhp1 lattice) chirality n = lattice_text fhp1 (lattice_after fhp1 chirality lattice n) n
-run_text (Hpp lattice) chirality n = lattice_text hpp (lattice_after hpp chirality lattice n) n
+-- what is printed of a lattice at a generation: its cells, or the table of its blocks
+abbrev pub view_text : View → Rules → LatticeModel → ℕ → List ℕ
+view_text Cells gas lattice generation = lattice_text gas lattice generation
+view_text (Blocks width height) gas lattice generation = table_text (blocks_of gas lattice width height)
+
+-- blocks have a column and a row at least
+abbrev pub HasSomeCells : View → Type 0
+HasSomeCells Cells = ⊤
+HasSomeCells (Blocks width height) = (1 ≤ width) × (1 ≤ height)
+
+-- what is printed of a scene's lattice after n generations
+abbrev pub run_text : View → AnyLattice → Chirality → ℕ → List ℕ
+run_text view (Fhp1 lattice) chirality n = view_text view fhp1 (lattice_after fhp1 chirality lattice n) n
+run_text view (Hpp lattice) chirality n = view_text view hpp (lattice_after hpp chirality lattice n) n
 
 -- the line of a scene's lattice
 abbrev pub scene_text : AnyLattice → List ℕ
@@ -38,12 +52,15 @@ scene_text (Hpp lattice) = check_text (codes "hpp") lattice.channel (count hpp l
 -- the text that answers a request on a scene
 abbrev pub answer : Request → SceneModel → List ℕ
 answer Check scene = scene_text scene.lattice
-answer (Run stages capacity generations) scene = run_text scene.lattice scene.chirality generations
+answer (Run stages capacity generations) scene = run_text Cells scene.lattice scene.chirality generations
+answer (Coarse stages capacity generations width height) scene =
+    run_text (Blocks width height) scene.lattice scene.chirality generations
 
 -- why the plan of a request is refused, where it has one
 abbrev pub refused_plan : Request → Option PlanError
 refused_plan Check = None
 refused_plan (Run stages capacity generations) = plan_refusal stages capacity generations
+refused_plan (Coarse stages capacity generations width height) = plan_refusal stages capacity generations
 
 -- the fault of a scene's error: its want of memory is the tool's
 abbrev pub scene_fault : SceneError → ToolError

@@ -1,5 +1,5 @@
 -- The request of the matches of the words, and the fault where they give none.
-use Rattle.std.specs.Prelude.{◌≡◌, ◌≢◌, ℕ, List, [], ◌∷◌, Option, Some, None, Ok, codes, ⊤}
+use Rattle.std.specs.Prelude.{◌≡◌, ◌≢◌, ◌≤◌, ℕ, List, [], ◌∷◌, Option, Some, None, Ok, codes, ⊤}
 use Rattle.std.specs.Str.Parse.{ParsesUnsigned}
 use Rattle.std.specs.declared.num.ParseIntError.{ParseIntError}
 use Rattle.clap.specs.Words.{Row, Text, one_of, IsAmong, Kinds}
@@ -8,7 +8,7 @@ use Rattle.clap.specs.declared.error.kind.ErrorKind.TheVariants.{DisplayHelp, Ou
 use Rattle.gas_tool.specs.declared.faults.UsageFault.{UsageFault}
 use Rattle.gas_tool.specs.declared.faults.UsageFault.TheVariants as fault
 use Rattle.gas_tool.specs.declared.request.Request.{Request}
-use Rattle.gas_tool.specs.declared.request.Request.TheVariants.{Check, Run}
+use Rattle.gas_tool.specs.declared.request.Request.TheVariants.{Check, Run, Coarse}
 
 -- the decimal number that the rows hold for an option
 pub record IsNumberAt (bits : ℕ) (option : Text) (rows : List Row) (n : ℕ) : Type 0 where
@@ -16,14 +16,35 @@ pub record IsNumberAt (bits : ℕ) (option : Text) (rows : List Row) (n : ℕ) :
   pub stands : one_of option rows ≡ Some text
   pub reads : ParsesUnsigned {E = ParseIntError} bits 10 text (Ok n)
 
+-- the numbers of a plan, as the rows hold them
+pub record IsPlanAt (rows : List Row) (stages capacity generations : ℕ) : Type 0 where
+  pub stages_at : IsNumberAt 32 (codes "stages") rows stages
+  pub capacity_at : IsNumberAt 32 (codes "capacity") rows capacity
+  pub generations_at : IsNumberAt 64 (codes "generations") rows generations
+
+-- the width and the height of blocks, each 1 to 4096, as the rows hold them
+pub record AreSidesAt (rows : List Row) (width height : ℕ) : Type 0 where
+  pub width_at : IsNumberAt 32 (codes "block-width") rows width
+  pub height_at : IsNumberAt 32 (codes "block-height") rows height
+  pub some_columns : 1 ≤ width
+  pub few_columns : width ≤ 4096
+  pub some_rows : 1 ≤ height
+  pub few_rows : height ≤ 4096
+
 -- the request of a subcommand's name and rows
 abbrev pub IsRequestOf : Option (Text × List Row) → Request → Type 0
 IsRequestOf None request = ⊥
 IsRequestOf (Some sub) Check = sub.0 ≡ codes "check"
 IsRequestOf (Some sub) (Run stages capacity generations) =
-    (sub.0 ≡ codes "run") × IsNumberAt 32 (codes "stages") sub.1 stages
-    × IsNumberAt 32 (codes "capacity") sub.1 capacity
-    × IsNumberAt 64 (codes "generations") sub.1 generations
+    (sub.0 ≡ codes "run") × IsPlanAt sub.1 stages capacity generations
+IsRequestOf (Some sub) (Coarse stages capacity generations width height) =
+    (sub.0 ≡ codes "coarse") × IsPlanAt sub.1 stages capacity generations × AreSidesAt sub.1 width height
+
+-- what a request must have to be performed: blocks with a column and a row at least
+abbrev pub IsAllowed : Request → Type 0
+IsAllowed Check = ⊤
+IsAllowed (Run stages capacity generations) = ⊤
+IsAllowed (Coarse stages capacity generations width height) = (1 ≤ width) × (1 ≤ height)
 
 -- the fault of an error of this kind
 abbrev pub TellsKind : ErrorKind → UsageFault → Type 0

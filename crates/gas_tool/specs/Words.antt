@@ -34,10 +34,27 @@ stages_rule = default_rule (codes "stages") (codes "4")
 abbrev pub capacity_rule : Rule
 capacity_rule = default_rule (codes "capacity") (codes "2")
 
+-- a command with --generations G [--stages N] [--capacity C]
+abbrev pub with_plan : App → App
+with_plan app = with_rule (with_rule (with_rule app generations_rule) stages_rule) capacity_rule
+
+-- the width or the height of blocks
+abbrev pub side : ValueParser
+side = parser.Signed (pos 1) (pos 4096)
+
+abbrev pub block_width_rule : Rule
+block_width_rule = required_rule (codes "block-width") side
+
+abbrev pub block_height_rule : Rule
+block_height_rule = required_rule (codes "block-height") side
+
 -- fhpgas run --generations G [--stages N] [--capacity C]
 abbrev pub run_app : App
-run_app =
-    with_rule (with_rule (with_rule (new_app (codes "run")) generations_rule) stages_rule) capacity_rule
+run_app = with_plan (new_app (codes "run"))
+
+-- fhpgas coarse --generations G [--stages N] [--capacity C] --block-width BW --block-height BH
+abbrev pub coarse_app : App
+coarse_app = with_rule (with_rule (with_plan (new_app (codes "coarse"))) block_width_rule) block_height_rule
 
 -- fhpgas check
 abbrev pub check_app : App
@@ -45,5 +62,5 @@ check_app = new_app (codes "check")
 
 abbrev pub program_app : App
 program_app =
-    with_subcommand (with_subcommand
-    (on_top (λ s. record s { subcommand_required = true }) (new_app (codes "fhpgas"))) check_app.top) run_app.top
+    with_subcommand (with_subcommand (with_subcommand
+    (on_top (λ s. record s { subcommand_required = true }) (new_app (codes "fhpgas"))) check_app.top) run_app.top) coarse_app.top

@@ -2,10 +2,13 @@
 
 ghost use Rattle.std.specs.Prelude.{◌≡◌};
 ghost use Rattle.gas_stage.specs.Evolution.{lattice_after};
-ghost use Rattle.gas_tool.specs.Outcome.{Performs, Sends, lattice_text, run_text, scene_text};
+ghost use Rattle.gas_tool.specs.Outcome.{Performs, Sends, HasSomeCells, run_text, scene_text, view_text};
+ghost use Rattle.gas_tool.specs.Requests.{IsAllowed};
 
+use crate::blocks::coarse;
 use crate::faults::ToolError;
 use crate::request::Request;
+use crate::table::write_table;
 use crate::text::{write_cells, write_check};
 use gas_geom::gas::Gas;
 use gas_pipe::plan::Plan;
@@ -17,15 +20,26 @@ use gas_stage::advance::lattice_after;
 use std::alloc::Global;
 use std::io::Write;
 
+/// What is printed of a lattice.
+#[derive(Clone, Copy)]
+enum View {
+    /// Its cells.
+    Cells,
+    /// The table of its blocks, so many columns wide and so many rows high.
+    Blocks { width: u32, height: u32 },
+}
+
 /// Writes the answer to a request on the scene that a text holds. It is refused in this order: the
 /// scene, the plan, the work. Nothing is written before the answer is whole, and the writer is
-/// flushed once after the last byte. Want of memory is `Memory`, also while the scene is read.
+/// flushed once after the last byte. Want of memory is `Memory`, also while the scene is read. The
+/// blocks of a table have a column and a row at least.
 pub fn perform<W: Write>(
     alloc: Global,
     text: &[u8],
     request: &Request,
     out: &mut W,
 ) -> Result<(), ToolError>
+    requires { IsAllowed request.now }
     ensures { Performs text.now request.now (W.contents out.old) (W.contents out.new) result }
 {
     let scene = read(alloc, text)?;
@@ -37,41 +51,80 @@ pub fn perform<W: Write>(
             generations,
         } => {
             let plan = Plan::new(stages, capacity, generations)?;
-            run(alloc, &scene, plan.generations(), out)
+            run(alloc, &scene, plan.generations(), View::Cells, out)
+        }
+        Request::Coarse {
+            stages,
+            capacity,
+            generations,
+            block_width,
+            block_height,
+        } => {
+            let plan = Plan::new(stages, capacity, generations)?;
+            let view = View::Blocks {
+                width: block_width,
+                height: block_height,
+            };
+            run(alloc, &scene, plan.generations(), view, out)
         }
     }
 }
 
-// Computes generations of a scene and writes the cells.
+// Computes generations of a scene and prints the lattice that they lead to.
 fn run<W: Write>(
     alloc: Global,
     scene: &Scene,
     generations: u64,
+    view: View,
     out: &mut W,
 ) -> Result<(), ToolError>
+    requires { HasSomeCells view }
     ensures { Sends (W.contents out.old) (W.contents out.new)
-        (run_text scene.now.lattice scene.now.chirality generations) result }
+        (run_text view scene.now.lattice scene.now.chirality generations) result }
 {
     let chirality = scene.chirality();
     match scene.lattice() {
-        AnyLattice::Fhp1(lattice) => run_gas(alloc, lattice, chirality, generations, out),
-        AnyLattice::Hpp(lattice) => run_gas(alloc, lattice, chirality, generations, out),
+        AnyLattice::Fhp1(lattice) => run_gas(alloc, lattice, chirality, generations, view, out),
+        AnyLattice::Hpp(lattice) => run_gas(alloc, lattice, chirality, generations, view, out),
     }
 }
 
-// Computes generations of a lattice and writes the cells.
+// Computes generations of a lattice and prints the lattice that they lead to. No other function
+// computes one.
 fn run_gas<G: Gas, W: Write>(
     alloc: Global,
     lattice: &Lattice<G>,
     chirality: Chirality,
     generations: u64,
+    view: View,
     out: &mut W,
 ) -> Result<(), ToolError>
+    requires { HasSomeCells view }
     ensures { Sends (W.contents out.old) (W.contents out.new)
-        (lattice_text G.rules (lattice_after G.rules chirality lattice.now generations) generations) result }
+        (view_text view G.rules (lattice_after G.rules chirality lattice.now generations) generations) result }
 {
     let lattice = lattice_after(alloc, lattice, chirality, generations)?;
-    write_cells(&lattice, generations, out)?;
+    print(alloc, &lattice, generations, view, out)
+}
+
+// Prints a lattice at a generation.
+fn print<G: Gas, W: Write>(
+    alloc: Global,
+    lattice: &Lattice<G>,
+    generation: u64,
+    view: View,
+    out: &mut W,
+) -> Result<(), ToolError>
+    requires { HasSomeCells view }
+    ensures { Sends (W.contents out.old) (W.contents out.new) (view_text view G.rules lattice.now generation) result }
+{
+    match view {
+        View::Cells => write_cells(lattice, generation, out)?,
+        View::Blocks { width, height } => {
+            let blocks = coarse(alloc, lattice, width, height)?;
+            write_table(blocks.as_slice(), out)?;
+        }
+    }
     Ok(())
 }
 

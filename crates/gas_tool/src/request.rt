@@ -12,4 +12,13 @@ pub enum Request {
         capacity: u32,
         generations: u64,
     },
+    /// Compute generations and print a table of the lattice's blocks, `block_width` columns wide and
+    /// `block_height` rows high.
+    Coarse {
+        stages: u32,
+        capacity: u32,
+        generations: u64,
+        block_width: u32,
+        block_height: u32,
+    },
 }

@@ -1,11 +1,15 @@
+use crate::blocks::{Block, coarse};
 use crate::faults::{InputFault, ToolError, UsageFault, WriteFault};
 use crate::input::{LONGEST_INPUT, slurp};
 use crate::output::Sink;
 use crate::perform::perform;
 use crate::request::Request;
+use crate::table::write_table;
 use crate::text::{cell_pair, put_header, write_cells};
 use crate::words::parse_words;
 use gas_geom::fhp1::Fhp1;
+use gas_geom::gas::Gas;
+use gas_geom::hpp::Hpp;
 use gas_geom::size::Size;
 use gas_pipe::plan::PlanError;
 use gas_rows::channel::Channel;
@@ -66,6 +70,80 @@ fn fault_lines(rt: HostRuntime) -> Result<(), Fail> {
     assert_eq!(rt;
         format!(in alloc; "{}", ToolError::Write(10))?.as_str(),
         "write: failed after 10 bytes"
+    );
+    Ok(())
+}
+
+#[test]
+fn words_of_coarse(rt: HostRuntime) -> Result<(), Fail> {
+    let alloc = rt.alloc();
+    let sides = ["--block-width", "4096", "--block-height", "1"];
+    let [width, most, height, least] = sides;
+    let request = parse_words(
+        alloc,
+        &[
+            "fhpgas",
+            "coarse",
+            "--generations",
+            "7",
+            width,
+            most,
+            height,
+            least,
+        ],
+    )?;
+    let want = Request::Coarse {
+        stages: 4,
+        capacity: 2,
+        generations: 7,
+        block_width: 4096,
+        block_height: 1,
+    };
+    assert!(rt; request == want);
+    for side in ["0", "4097", "-1", "1.5", ""] {
+        let refused = parse_words(
+            alloc,
+            &[
+                "fhpgas",
+                "coarse",
+                "--generations",
+                "7",
+                width,
+                side,
+                height,
+                least,
+            ],
+        );
+        assert!(rt; refused.is_err_and(|e| e.status() == 2), "{side}");
+        let refused = parse_words(
+            alloc,
+            &[
+                "fhpgas",
+                "coarse",
+                "--generations",
+                "7",
+                width,
+                most,
+                height,
+                side,
+            ],
+        );
+        assert!(rt; refused.is_err_and(|e| e.status() == 2), "{side}");
+    }
+    assert!(rt;
+        parse_words(
+            alloc,
+            &["fhpgas", "coarse", "--generations", "7", width, most]
+        )
+        .is_err_and(|e| e.status() == 2)
+    );
+    assert!(rt;
+        parse_words(alloc, &["fhpgas", "coarse", width, most, height, least]).is_err_and(
+            |e| e.status() == 2
+        )
+    );
+    assert!(rt;
+        parse_words(alloc, &["fhpgas", "coarse", "--help"]).is_err_and(|e| e.status() == 0)
     );
     Ok(())
 }
@@ -339,6 +417,163 @@ fn requests(rt: HostRuntime) -> Result<(), Fail> {
     assert!(rt; out.taken.as_slice() == b"generation".as_slice());
     let mut out = Narrow::new(alloc, 100, 100, End::Error);
     let refused = perform(alloc, b"gas = ", &request, &mut out);
+    assert!(rt; matches!(refused, Err(ToolError::Scene(SceneError::Syntax))));
+    assert!(rt; out.taken.is_empty() && out.flushes == 0);
+    Ok(())
+}
+
+/// The block at a place, with these numbers of fluid cells and particles and this momentum.
+fn block(place: (u32, u32), fluid: u32, particles: u32, momentum: (i32, i32)) -> Block {
+    Block {
+        col: place.0,
+        row: place.1,
+        fluid,
+        particles,
+        px: momentum.0,
+        py: momentum.1,
+    }
+}
+
+/// The lattice with the states 01 and 02 in its first row, and in its second a solid cell and 3f.
+fn obstacle(alloc: Global) -> Result<Lattice<Fhp1>, AllocError> {
+    let Some(size) = Size::new(4, 2) else {
+        return Err(AllocError);
+    };
+    let mut lattice = Lattice::blank(alloc, Channel::free(alloc, size)?)?;
+    lattice.set_cell(0, 0, 0x01);
+    lattice.set_cell(1, 0, 0x02);
+    lattice.make_solid(0, 1);
+    if !lattice.channel().is_solid(1, 1) {
+        lattice.set_cell(1, 1, 0x3f);
+    }
+    Ok(lattice)
+}
+
+#[test]
+fn blocks(rt: HostRuntime) -> Result<(), Fail> {
+    let alloc = rt.alloc();
+    let lattice = obstacle(alloc)?;
+    let squares = [block((0, 0), 3, 8, (3, 1)), block((1, 0), 4, 0, (0, 0))];
+    assert!(rt; coarse(alloc, &lattice, 2, 2)?.as_slice() == squares.as_slice());
+    let uneven = [
+        block((0, 0), 3, 2, (3, 1)),
+        block((1, 0), 1, 0, (0, 0)),
+        block((0, 1), 2, 6, (0, 0)),
+        block((1, 1), 1, 0, (0, 0)),
+    ];
+    assert!(rt; coarse(alloc, &lattice, 3, 1)?.as_slice() == uneven.as_slice());
+    let whole = [block((0, 0), 7, 8, (3, 1))];
+    for side in [4, 8, u32::MAX] {
+        assert!(rt;
+            coarse(alloc, &lattice, side, side)?.as_slice() == whole.as_slice(),
+            "{side}"
+        );
+    }
+    let columns = [
+        block((0, 0), 1, 1, (2, 0)),
+        block((1, 0), 2, 7, (1, 1)),
+        block((2, 0), 2, 0, (0, 0)),
+        block((3, 0), 2, 0, (0, 0)),
+    ];
+    assert!(rt; coarse(alloc, &lattice, 1, 2)?.as_slice() == columns.as_slice());
+    Ok(())
+}
+
+#[test]
+fn blocks_of_hpp(rt: HostRuntime) -> Result<(), Fail> {
+    let alloc = rt.alloc();
+    let Some(size) = Size::new(1, 1) else {
+        return Err(Fail::from(AllocError));
+    };
+    let mut lattice = Lattice::<Hpp>::blank(alloc, Channel::free(alloc, size)?)?;
+    if !lattice.channel().is_solid(0, 0) {
+        lattice.set_cell(0, 0, 0x0c);
+    }
+    let want = [block((0, 0), 1, 2, (-1, -1))];
+    assert!(rt; coarse(alloc, &lattice, 1, 1)?.as_slice() == want.as_slice());
+    Ok(())
+}
+
+const TABLE: &str = "  col   row    fluid particles         px         py
+    0     0        3         8          3          1
+    1     0        4         0          0          0
+";
+
+#[test]
+fn tables(rt: HostRuntime) -> Result<(), Fail> {
+    let alloc = rt.alloc();
+    let blocks = [block((0, 0), 3, 8, (3, 1)), block((1, 0), 4, 0, (0, 0))];
+    for room in 0..160 {
+        let mut out = Narrow::new(alloc, 5, room, End::Error);
+        let written = write_table(&blocks, &mut out)
+            .err()
+            .map(|fault| fault.written);
+        let want = if room < 159 { Some(room as u64) } else { None };
+        assert_eq!(rt; written, want);
+        let taken = room.min(159);
+        assert!(rt;
+            out.taken.as_slice() == &TABLE.as_bytes()[..taken],
+            "{room}"
+        );
+        assert_eq!(rt; out.flushes, usize::from(room >= 159), "{room}");
+    }
+    let mut out = Narrow::new(alloc, 100, 1000, End::Flush);
+    let written = write_table(&[], &mut out).err().map(|fault| fault.written);
+    assert_eq!(rt; written, Some(53));
+    assert!(rt; out.taken.as_slice() == &TABLE.as_bytes()[..53]);
+    Ok(())
+}
+
+#[test]
+fn wide_numbers_in_a_table(rt: HostRuntime) -> Result<(), Fail> {
+    let most = u32::MAX;
+    let blocks = [
+        block((most, most), most, most, (i32::MIN, i32::MAX)),
+        block(
+            (12345, 123456),
+            12345678,
+            123456789,
+            (-100000000, -1000000000),
+        ),
+    ];
+    let mut out = Narrow::new(rt.alloc(), 100, 1000, End::Error);
+    write_table(&blocks, &mut out)?;
+    let want = "  col   row    fluid particles         px         py
+4294967295 4294967295 4294967295 4294967295 -2147483648 2147483647
+12345 123456 12345678 123456789 -100000000 -1000000000
+";
+    assert!(rt; out.taken.as_slice() == want.as_bytes());
+    Ok(())
+}
+
+const ALONG_A_ROW: &[u8] =
+    b"gas = \"fhp1\"\nchirality = \"left\"\nwidth = 7\nheight = 3\nparticles = [[0, 1, 1]]\n";
+
+#[test]
+fn requests_of_coarse(rt: HostRuntime) -> Result<(), Fail> {
+    let alloc = rt.alloc();
+    let request = |generations| Request::Coarse {
+        stages: 4,
+        capacity: 1,
+        generations,
+        block_width: 8,
+        block_height: 8,
+    };
+    let mut out = Narrow::new(alloc, 100, 1000, End::Error);
+    perform(alloc, ALONG_A_ROW, &request(5), &mut out)?;
+    let want = "  col   row    fluid particles         px         py
+    0     0       21         1          2          0
+";
+    assert!(rt; out.taken.as_slice() == want.as_bytes());
+    assert_eq!(rt; out.flushes, 1);
+    let mut out = Narrow::new(alloc, 100, 60, End::Error);
+    let cut_short = perform(alloc, ALONG_A_ROW, &request(5), &mut out);
+    assert!(rt; matches!(cut_short, Err(ToolError::Write(60))));
+    assert!(rt; out.taken.as_slice() == &want.as_bytes()[..60]);
+    let mut out = Narrow::new(alloc, 100, 100, End::Error);
+    let refused = perform(alloc, ALONG_A_ROW, &request(1_000_001), &mut out);
+    assert!(rt; matches!(refused, Err(ToolError::Plan(PlanError::Generations))));
+    let refused = perform(alloc, b"gas = ", &request(1_000_001), &mut out);
     assert!(rt; matches!(refused, Err(ToolError::Scene(SceneError::Syntax))));
     assert!(rt; out.taken.is_empty() && out.flushes == 0);
     Ok(())

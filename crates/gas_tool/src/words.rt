@@ -2,11 +2,12 @@
 
 ghost use Rattle.std.specs.Prelude.{◌≡◌, [], IfOk, IfErr, IfSome, map, false};
 ghost use Rattle.clap.specs.declared.builder.command.Command.TheViews.{out-Command as fields_of};
-ghost use Rattle.clap.specs.Words.{app_of, fault_of, kind_of, new_app, rule_of};
+ghost use Rattle.clap.specs.Words.{app_of, fault_of, found_of, kind_of, new_app, rows_of, rule_of};
 ghost use Rattle.clap.specs.Words.{subcommand_of, subcommand_rows_of};
-ghost use Rattle.gas_tool.specs.Words.{program_app, check_app, run_app, default_rule};
-ghost use Rattle.gas_tool.specs.Words.{generations_rule, stages_rule, capacity_rule};
-ghost use Rattle.gas_tool.specs.Requests.{IsRequestOf, IsFaultOf, TellsKind};
+ghost use Rattle.gas_tool.specs.Words.{program_app, check_app, coarse_app, run_app, default_rule};
+ghost use Rattle.gas_tool.specs.Words.{generations_rule, stages_rule, capacity_rule, with_plan};
+ghost use Rattle.gas_tool.specs.Words.{block_height_rule, block_width_rule, required_rule, side};
+ghost use Rattle.gas_tool.specs.Requests.{AreSidesAt, IsAllowed, IsFaultOf, IsPlanAt, IsRequestOf, TellsKind};
 
 use crate::faults::UsageFault;
 use crate::request::Request;
@@ -34,6 +35,20 @@ const CELLS: &str =
     "The first line tells the generation reached and the number of particles. Then come the rows
 of the channel from the top, two characters a cell: `..` is empty, `##` is solid, and other
 cells show the set of directions of their particles in hexadecimal, bit i for direction i.";
+
+const ABOUT_COARSE: &str =
+    "Compute generations of the scene and print a table of its blocks of cells";
+
+const BLOCKS: &str =
+    "The lattice falls into blocks of BW columns and BH rows, from the top left; those at the right
+and at the bottom are smaller where the lattice ends. After a header there is a line a block, row
+of blocks by row of blocks, from the left in each. Its columns are:
+  col        the block's place from the left, from 0
+  row        the block's place from the top, from 0
+  fluid      the number of its cells that are not solid
+  particles  the number of its particles
+  px, py     the sums of its particles' momenta, eastwards and northwards: in half steps and in
+             units of half the square root of 3 in FHP-I, in whole steps in HPP";
 
 fn generations_arg<'a>(alloc: Global) -> Arg<'a>
     ensures rule { rule_of result ≡ generations_rule }
@@ -87,14 +102,71 @@ fn described<'a>(alloc: Global, name: &'a str, about: &'a str, notes: &'a str) -
     Command::new(alloc, name).about(about).after_help(notes)
 }
 
+// The command with the options of a plan.
+fn with_plan_args<'a>(alloc: Global, command: Command<'a>) -> Result<Command<'a>, AllocError>
+    requires { (fields_of command).has_globals ≡ false }
+    ensures app { IfOk result (λ r. app_of r ≡ with_plan (app_of command.entry)) }
+    ensures local { IfOk result (λ r. (fields_of r).has_globals ≡ false) }
+{
+    let first = command.arg(generations_arg(alloc))?;
+    let second = first.arg(stages_arg(alloc))?;
+    let third = second.arg(capacity_arg(alloc))?;
+    Ok(third)
+}
+
 fn run_command<'a>(alloc: Global) -> Result<Command<'a>, AllocError>
     ensures app { IfOk result (λ r. app_of r ≡ run_app) }
     ensures local { IfOk result (λ r. (fields_of r).has_globals ≡ false) }
 {
-    let run = described(alloc, "run", ABOUT_RUN, CELLS);
-    let first = run.arg(generations_arg(alloc))?;
-    let second = first.arg(stages_arg(alloc))?;
-    let third = second.arg(capacity_arg(alloc))?;
+    with_plan_args(alloc, described(alloc, "run", ABOUT_RUN, CELLS))
+}
+
+// An option for the width or the height of blocks.
+fn side_arg<'a>(alloc: Global, name: &'a str, value_name: &'a str, help: &'a str) -> Arg<'a>
+    ensures rule { rule_of result ≡ required_rule name.entry.now side }
+    ensures local { result.global ≡ false }
+{
+    Arg::new(alloc, name)
+        .long(name)
+        .value_name(value_name)
+        .action(ArgAction::Set)
+        .required(true)
+        .value_parser(value_parser!(u32).range(1..=4096))
+        .help(help)
+}
+
+fn block_width_arg<'a>(alloc: Global) -> Arg<'a>
+    ensures rule { rule_of result ≡ block_width_rule }
+    ensures local { result.global ≡ false }
+{
+    side_arg(
+        alloc,
+        "block-width",
+        "BW",
+        "Columns of cells in a block: 1 to 4096",
+    )
+}
+
+fn block_height_arg<'a>(alloc: Global) -> Arg<'a>
+    ensures rule { rule_of result ≡ block_height_rule }
+    ensures local { result.global ≡ false }
+{
+    side_arg(
+        alloc,
+        "block-height",
+        "BH",
+        "Rows of cells in a block: 1 to 4096",
+    )
+}
+
+fn coarse_command<'a>(alloc: Global) -> Result<Command<'a>, AllocError>
+    ensures app { IfOk result (λ r. app_of r ≡ coarse_app) }
+    ensures local { IfOk result (λ r. (fields_of r).has_globals ≡ false) }
+{
+    let command = described(alloc, "coarse", ABOUT_COARSE, BLOCKS);
+    let first = with_plan_args(alloc, command)?;
+    let second = first.arg(block_width_arg(alloc))?;
+    let third = second.arg(block_height_arg(alloc))?;
     Ok(third)
 }
 
@@ -109,10 +181,12 @@ fn program_command<'a>(alloc: Global) -> Result<Command<'a>, AllocError>
     ensures { IfOk result (λ r. app_of r ≡ program_app) }
 {
     let run = run_command(alloc)?;
+    let coarse = coarse_command(alloc)?;
     let command = described(alloc, "fhpgas", ABOUT, SCENES)
         .subcommand_required(true)
         .subcommand(check_command(alloc))?
-        .subcommand(run)?;
+        .subcommand(run)?
+        .subcommand(coarse)?;
     Ok(command)
 }
 
@@ -144,26 +218,66 @@ fn unread(alloc: Global) -> UsageFault
 
 // The request of the matches.
 fn request_of(matches: &ArgMatches) -> Option<Request>
-    ensures { IfSome result (λ q. IsRequestOf (subcommand_rows_of matches.now) q) }
+    ensures { IfSome result (IsRequestOf (subcommand_rows_of matches.now)) }
 {
     match matches.subcommand_matches("check") {
         Some(_) => Some(Request::Check),
-        None => run_of(matches),
+        None => match matches.subcommand_matches("run") {
+            Some(_) => run_of(matches),
+            None => coarse_of(matches),
+        },
+    }
+}
+
+// The numbers of a plan, the stages first and the generations last.
+fn plan_of(matches: &ArgMatches) -> Option<(u32, u32, u64)>
+    ensures { IfSome result (λ p. IsPlanAt (rows_of (found_of matches.now)) p.0 p.1 p.2) }
+{
+    let stages = matches.get_one::<u32>("stages")?;
+    let capacity = matches.get_one::<u32>("capacity")?;
+    let generations = matches.get_one::<u64>("generations")?;
+    Some((stages, capacity, generations))
+}
+
+// The width and the height of blocks.
+fn sides_of(matches: &ArgMatches) -> Option<(u32, u32)>
+    ensures { IfSome result (λ s. AreSidesAt (rows_of (found_of matches.now)) s.0 s.1) }
+{
+    let width = matches.get_one::<u32>("block-width")?;
+    let height = matches.get_one::<u32>("block-height")?;
+    if 1 <= width && width <= 4096 && 1 <= height && height <= 4096 {
+        Some((width, height))
+    } else {
+        None
     }
 }
 
 // The request of the matches of `run`.
 fn run_of(matches: &ArgMatches) -> Option<Request>
-    ensures { IfSome result (λ q. IsRequestOf (subcommand_rows_of matches.now) q) }
+    ensures { IfSome result (IsRequestOf (subcommand_rows_of matches.now)) }
 {
     let run = matches.subcommand_matches("run")?;
-    let stages = run.get_one::<u32>("stages")?;
-    let capacity = run.get_one::<u32>("capacity")?;
-    let generations = run.get_one::<u64>("generations")?;
+    let (stages, capacity, generations) = plan_of(run)?;
     Some(Request::Run {
         stages,
         capacity,
         generations,
+    })
+}
+
+// The request of the matches of `coarse`.
+fn coarse_of(matches: &ArgMatches) -> Option<Request>
+    ensures { IfSome result (IsRequestOf (subcommand_rows_of matches.now)) }
+{
+    let coarse = matches.subcommand_matches("coarse")?;
+    let (stages, capacity, generations) = plan_of(coarse)?;
+    let (block_width, block_height) = sides_of(coarse)?;
+    Some(Request::Coarse {
+        stages,
+        capacity,
+        generations,
+        block_width,
+        block_height,
     })
 }
 
@@ -172,6 +286,7 @@ fn run_of(matches: &ArgMatches) -> Option<Request>
 pub fn parse_words<'a>(alloc: Global, words: &'a [&'a str]) -> Result<Request, UsageFault>
     ensures fault { IfErr result (IsFaultOf
         (fault_of program_app (map (λ s. s.now) words.entry.now))) }
+    ensures allowed { IfOk result IsAllowed }
     ensures request { IfOk result (IsRequestOf
         (subcommand_of program_app (map (λ s. s.now) words.entry.now))) }
 {
