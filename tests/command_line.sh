@@ -82,7 +82,9 @@ cells = ["0A"]' run --generations 1
 refuses 'plan: stages must be 1 to 64' "$drift" run --generations 1 --stages 0
 refuses 'plan: capacity must be 1 to 1024' "$drift" run --generations 1 --capacity 1025
 refuses 'plan: generations must be 0 to 1000000' "$drift" run --generations 1000001
-# the scene's faults come before the plan's
+refuses 'replay: the plan needs more than one pass' "$drift" replay --generations 2 --stages 1
+# the scene's faults come before the plan's, and the plan's before the number of passes
+refuses 'plan: capacity must be 1 to 1024' "$drift" replay --generations 2 --stages 1 --capacity 0
 refuses 'scene: missing key' '' run --generations 1 --stages 0
 
 # usage WORDS..: status 2, a text on standard error and nothing printed
@@ -101,8 +103,14 @@ usage run --generations 1 --stages 4294967296
 usage run --generations 1 --capacity many
 usage run --generations 1 $'\xff'
 usage check --generations 1
+usage coarse --generations 1 --block-width 2
+usage coarse --generations 1 --block-width 0 --block-height 2
+usage coarse --generations 1 --block-width 2 --block-height 4097
+usage replay --generations 1 0 feeder
+usage replay --generations 1 -- -1
+usage replay 0 1
 
-for words in --help "run --help" "check --help"; do
+for words in --help "run --help" "check --help" "coarse --help" "replay --help"; do
     # shellcheck disable=SC2086
     ends 0 '' $words && [ -s "$room/out" ] && [ ! -s "$room/err" ]
     count "help: $words"

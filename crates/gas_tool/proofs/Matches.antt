@@ -1,5 +1,7 @@
 -- Lemmas on what the matches of the words say.
-use Rattle.std.proofs.Common.{[], ◌∷◌, inl, inr, ◌≡◌, ℕ, List, Option, Some, None, refl, sym, ap, ap₂, ◌∙◌, option_map, subst, Box}
+use Rattle.std.proofs.lemmas.Bool.{cases_lt}
+use Rattle.std.proofs.lemmas.List.{get_or_append_left, get_or_push}
+use Rattle.std.proofs.Common.{◌+◌, ◌<◌, ◌≤◌, ◌++◌, length, get_or, arith, ⊎_elim, [], ◌∷◌, inl, inr, ◌≡◌, ℕ, List, Option, Some, None, refl, sym, ap, ap₂, ◌∙◌, option_map, subst, Box}
 use Rattle.std.specs.Prelude.{Result, true}
 use Rattle.std.specs.Str.Parse.{ParsesUnsigned, ExplainsUnsignedError, HasUnsignedDigitsIfOk}
 use Rattle.std.specs.declared.num.ParseIntError.{ParseIntError}
@@ -71,3 +73,14 @@ fault_tells kinds e (fault.Usage text) (inr among) t = λ only. is_help (subst (
     is_help : IsAmong (kind_of e) (DisplayHelp ∷ []) → ⊥
     is_help (inl same) = t.0 same
     is_help (inr none) = none
+
+-- what holds of each number of a list, and of one more, holds of the list with that one
+pub one_more : (P : ℕ → ℕ → Type 0) (numbers : List ℕ) (n i : ℕ) → length numbers ≡ i → ((k : ℕ) → k < i → P k (get_or numbers k 0)) → P i n →
+    (k : ℕ) → k < i + 1 → P k (get_or (numbers ++ n ∷ []) k 0)
+one_more P numbers n i count before here k below =
+    ⊎_elim
+    (λ (low : k < i). subst (P k) (sym (get_or_append_left numbers (n ∷ []) 0 k (omega (arith, low, count)))) (before k low))
+    (λ (top : i ≤ k).
+    let same : i ≡ k = omega (arith, top, below) in
+    subst (P k) (sym (get_or_push numbers n 0 k (count ∙ same))) (subst (λ j. P j n) same here))
+    (cases_lt k i)

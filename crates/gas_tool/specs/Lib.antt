@@ -1,10 +1,10 @@
 pub mod Status
 pub mod Output
 pub mod Text
-pub mod Replayed
 pub mod Blocks
 pub mod Tally
 pub mod Table
+pub mod Replayed
 pub mod Words
 pub mod Requests
 pub mod Outcome

@@ -29,3 +29,4 @@ tool_status tool.Memory = 3
 tool_status (tool.Scene error) = scene_status error
 tool_status (tool.Plan error) = 1
 tool_status (tool.Write written) = 4
+tool_status tool.MorePasses = 1

@@ -2,7 +2,7 @@
 use Rattle.std.specs.Prelude.{pos, [], ◌∷◌, Some, true, codes}
 use Rattle.clap.specs.Words.{App, Rule, Text, new_app, new_rule, with_rule, with_subcommand}
 use Rattle.clap.specs.Simple.{on_top}
-use Rattle.clap.specs.declared.builder.action.ArgAction.TheVariants.{Set}
+use Rattle.clap.specs.declared.builder.action.ArgAction.TheVariants.{Append, Set}
 use Rattle.clap.specs.declared.builder.value_parser.ValueParser.{ValueParser}
 use Rattle.clap.specs.declared.builder.value_parser.ValueParser.TheVariants as parser
 
@@ -56,11 +56,24 @@ run_app = with_plan (new_app (codes "run"))
 abbrev pub coarse_app : App
 coarse_app = with_rule (with_rule (with_plan (new_app (codes "coarse"))) block_width_rule) block_height_rule
 
+-- any number of words, each a number
+abbrev pub turns_rule : Rule
+turns_rule = record (new_rule (codes "turns")) {
+  action = Some Append;
+  range = Some (record { start_inclusive = 0; end_inclusive = 18446744073709551615 });
+  value_names = 1;
+  parser = Some any_u32;
+}
+
+-- fhpgas replay --generations G [--stages N] [--capacity C] [TURN]...
+abbrev pub replay_app : App
+replay_app = with_rule (with_plan (new_app (codes "replay"))) turns_rule
+
 -- fhpgas check
 abbrev pub check_app : App
 check_app = new_app (codes "check")
 
 abbrev pub program_app : App
 program_app =
-    with_subcommand (with_subcommand (with_subcommand
-    (on_top (λ s. record s { subcommand_required = true }) (new_app (codes "fhpgas"))) check_app.top) run_app.top) coarse_app.top
+    with_subcommand (with_subcommand (with_subcommand (with_subcommand
+    (on_top (λ s. record s { subcommand_required = true }) (new_app (codes "fhpgas"))) check_app.top) run_app.top) coarse_app.top) replay_app.top

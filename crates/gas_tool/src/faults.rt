@@ -2,9 +2,10 @@
 
 ghost use Rattle.std.specs.Prelude.{◌≡◌};
 ghost use Rattle.gas_tool.specs.declared.faults.ToolError.TheVariants.{Memory, Plan, Write};
-ghost use Rattle.gas_tool.specs.Outcome.{scene_fault};
+ghost use Rattle.gas_tool.specs.Outcome.{run_fault, scene_fault};
 ghost use Rattle.gas_tool.specs.Status.{input_status, tool_status, usage_status};
 
+use gas_pipe::error::RunError;
 use gas_pipe::plan::PlanError;
 use gas_scene::error::SceneError;
 use std::alloc::AllocError;
@@ -76,6 +77,8 @@ pub enum ToolError {
     Plan(PlanError),
     #[error("write: failed after {0} bytes")]
     Write(u64),
+    #[error("replay: the plan needs more than one pass")]
+    MorePasses,
 }
 
 impl ToolError {
@@ -85,7 +88,7 @@ impl ToolError {
     {
         match self {
             ToolError::Memory | ToolError::Scene(SceneError::Memory) => 3,
-            ToolError::Scene(_) | ToolError::Plan(_) => 1,
+            ToolError::Scene(_) | ToolError::Plan(_) | ToolError::MorePasses => 1,
             ToolError::Write(_) => 4,
         }
     }
@@ -115,6 +118,17 @@ impl From<PlanError> for ToolError {
 
     fn from(error: PlanError) -> ToolError {
         ToolError::Plan(error)
+    }
+}
+
+impl From<RunError> for ToolError {
+    ghost from_gives = { λ error fault. fault ≡ run_fault error };
+
+    fn from(error: RunError) -> ToolError {
+        match error {
+            RunError::Memory => ToolError::Memory,
+            RunError::MorePasses => ToolError::MorePasses,
+        }
     }
 }
 

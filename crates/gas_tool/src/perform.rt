@@ -1,17 +1,22 @@
 //! The answer to a request on a scene.
 
-ghost use Rattle.std.specs.Prelude.{◌≡◌};
+ghost use Rattle.std.specs.Prelude.{◌≡◌, nat_lt};
 ghost use Rattle.gas_stage.specs.Evolution.{lattice_after};
-ghost use Rattle.gas_tool.specs.Outcome.{Performs, Sends, HasSomeCells, run_text, scene_text, view_text};
+ghost use Rattle.gas_tool.specs.Outcome.{Performs, Sends, SendsUnless, HasSomeCells, run_text, scene_text, turns_text, view_text};
+ghost use Rattle.gas_tool.specs.Replayed.{replay_text};
+ghost use Rattle.gas_pipe.specs.Plan.{passes_of};
+ghost use Rattle.gas_pipe.specs.Replay.{replay_of};
 ghost use Rattle.gas_tool.specs.Requests.{IsAllowed};
 
 use crate::blocks::coarse;
 use crate::faults::ToolError;
+use crate::replayed::write_replay;
 use crate::request::Request;
 use crate::table::write_table;
 use crate::text::{write_cells, write_check};
 use gas_geom::gas::Gas;
 use gas_pipe::plan::Plan;
+use gas_pipe::replay::replay;
 use gas_rows::chirality::Chirality;
 use gas_rows::lattice::Lattice;
 use gas_scene::any_lattice::AnyLattice;
@@ -31,8 +36,7 @@ enum View {
 
 /// Writes the answer to a request on the scene that a text holds. It is refused in this order: the
 /// scene, the plan, the work. Nothing is written before the answer is whole, and the writer is
-/// flushed once after the last byte. Want of memory is `Memory`, also while the scene is read. The
-/// blocks of a table have a column and a row at least.
+/// flushed once after the last byte. Want of memory is `Memory`, also while the scene is read.
 pub fn perform<W: Write>(
     alloc: Global,
     text: &[u8],
@@ -43,14 +47,14 @@ pub fn perform<W: Write>(
     ensures { Performs text.now request.now (W.contents out.old) (W.contents out.new) result }
 {
     let scene = read(alloc, text)?;
-    match *request {
+    match request {
         Request::Check => check(&scene, out),
         Request::Run {
             stages,
             capacity,
             generations,
         } => {
-            let plan = Plan::new(stages, capacity, generations)?;
+            let plan = Plan::new(*stages, *capacity, *generations)?;
             run(alloc, &scene, plan.generations(), View::Cells, out)
         }
         Request::Coarse {
@@ -60,12 +64,21 @@ pub fn perform<W: Write>(
             block_width,
             block_height,
         } => {
-            let plan = Plan::new(stages, capacity, generations)?;
+            let plan = Plan::new(*stages, *capacity, *generations)?;
             let view = View::Blocks {
-                width: block_width,
-                height: block_height,
+                width: *block_width,
+                height: *block_height,
             };
             run(alloc, &scene, plan.generations(), view, out)
+        }
+        Request::Replay {
+            stages,
+            capacity,
+            generations,
+            turns,
+        } => {
+            let plan = Plan::new(*stages, *capacity, *generations)?;
+            replay_turns(alloc, &scene, plan, turns.as_slice(), out)
         }
     }
 }
@@ -105,6 +118,41 @@ fn run_gas<G: Gas, W: Write>(
 {
     let lattice = lattice_after(alloc, lattice, chirality, generations)?;
     print(alloc, &lattice, generations, view, out)
+}
+
+// Lets the members of a line over a scene's lattice make these turns, and prints where they stand.
+fn replay_turns<W: Write>(
+    alloc: Global,
+    scene: &Scene,
+    plan: Plan,
+    turns: &[u32],
+    out: &mut W,
+) -> Result<(), ToolError>
+    ensures { SendsUnless (nat_lt 1 (passes_of plan.generations plan.stages)) (W.contents out.old) (W.contents out.new)
+        (turns_text scene.now.lattice scene.now.chirality plan turns.now) result }
+{
+    let chirality = scene.chirality();
+    match scene.lattice() {
+        AnyLattice::Fhp1(lattice) => replay_gas(alloc, lattice, chirality, plan, turns, out),
+        AnyLattice::Hpp(lattice) => replay_gas(alloc, lattice, chirality, plan, turns, out),
+    }
+}
+
+// Lets the members of a line over a lattice make these turns, and prints where they stand.
+fn replay_gas<G: Gas, W: Write>(
+    alloc: Global,
+    lattice: &Lattice<G>,
+    chirality: Chirality,
+    plan: Plan,
+    turns: &[u32],
+    out: &mut W,
+) -> Result<(), ToolError>
+    ensures { SendsUnless (nat_lt 1 (passes_of plan.generations plan.stages)) (W.contents out.old) (W.contents out.new)
+        (replay_text G.rules (replay_of G.rules chirality lattice.now plan turns.now) plan.generations) result }
+{
+    let replay = replay(alloc, lattice, chirality, plan, turns)?;
+    write_replay(&replay, plan.generations(), out)?;
+    Ok(())
 }
 
 // Prints a lattice at a generation.

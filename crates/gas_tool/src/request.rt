@@ -1,5 +1,53 @@
 //! What the words of the command line ask for.
 
+ghost use Rattle.std.specs.Prelude.{◌≡◌, nat_eq};
+ghost use Rattle.std.specs.Cmp.{partial_equiv_from_equiv};
+ghost use Rattle.std.specs.Cmp.Lexicographic.{nat_list_eq_equiv, pointwise};
+
+use std::marker::Model;
+
+/// A list of turns of a line's members: 0 is the feeder, k is worker k.
+#[derive(Debug, Drop)]
+pub struct Turns {
+    list: Vec<u32>,
+}
+
+impl Model for Turns {
+    ghost use Rattle.std.specs.Prelude.{ℕ, List};
+
+    ghost Value = { List ℕ };
+
+    ghost view = { λ t. t.list.items };
+}
+
+impl Turns {
+    pub fn new(list: Vec<u32>) -> Turns
+        ensures { result ≡ list.items }
+    {
+        Turns { list }
+    }
+
+    pub fn as_slice(&self) -> &[u32]
+        ensures { result.now ≡ self.now }
+    {
+        self.list.as_slice()
+    }
+}
+
+impl PartialEq for Turns {
+    ghost eq = { λ a b. pointwise nat_eq a b };
+
+    ghost laws = { partial_equiv_from_equiv nat_list_eq_equiv };
+
+    fn eq(&self, other: &Self) -> bool {
+        self.as_slice() == other.as_slice()
+    }
+}
+
+impl Eq for Turns {
+    ghost laws = { nat_list_eq_equiv };
+}
+
 /// What the words of the command line ask for. The limits of stages, capacity and generations are a
 /// plan's to check.
 #[derive(Debug, Drop, PartialEq, Eq)]
@@ -20,5 +68,13 @@ pub enum Request {
         generations: u64,
         block_width: u32,
         block_height: u32,
+    },
+    /// Let the members of a line make these turns, in one pass on one thread, and print where it
+    /// stands.
+    Replay {
+        stages: u32,
+        capacity: u32,
+        generations: u64,
+        turns: Turns,
     },
 }

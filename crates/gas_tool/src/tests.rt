@@ -3,7 +3,7 @@ use crate::faults::{InputFault, ToolError, UsageFault, WriteFault};
 use crate::input::{LONGEST_INPUT, slurp};
 use crate::output::Sink;
 use crate::perform::perform;
-use crate::request::Request;
+use crate::request::{Request, Turns};
 use crate::table::write_table;
 use crate::text::{cell_pair, put_header, write_cells};
 use crate::words::parse_words;
@@ -575,6 +575,85 @@ fn requests_of_coarse(rt: HostRuntime) -> Result<(), Fail> {
     assert!(rt; matches!(refused, Err(ToolError::Plan(PlanError::Generations))));
     let refused = perform(alloc, b"gas = ", &request(1_000_001), &mut out);
     assert!(rt; matches!(refused, Err(ToolError::Scene(SceneError::Syntax))));
+    assert!(rt; out.taken.is_empty() && out.flushes == 0);
+    Ok(())
+}
+
+#[test]
+fn words_of_replay(rt: HostRuntime) -> Result<(), Fail> {
+    let alloc = rt.alloc();
+    let words = [
+        "fhpgas",
+        "replay",
+        "--generations",
+        "2",
+        "0",
+        "4294967295",
+        "--stages",
+        "3",
+        "1",
+    ];
+    let request = parse_words(alloc, &words)?;
+    let want = Request::Replay {
+        stages: 3,
+        capacity: 2,
+        generations: 2,
+        turns: Turns::new(vec![in alloc; 0, 4294967295, 1]?),
+    };
+    assert!(rt; request == want);
+    let none = parse_words(alloc, &["fhpgas", "replay", "--generations", "2"])?;
+    let want = Request::Replay {
+        stages: 4,
+        capacity: 2,
+        generations: 2,
+        turns: Turns::new(Vec::new(alloc)),
+    };
+    assert!(rt; none == want);
+    for turn in ["4294967296", "-1", "feeder", "1.5", ""] {
+        let refused = parse_words(alloc, &["fhpgas", "replay", "--generations", "2", turn]);
+        assert!(rt; refused.is_err_and(|e| e.status() == 2), "{turn}");
+    }
+    assert!(rt; parse_words(alloc, &["fhpgas", "replay", "1"]).is_err_and(|e| e.status() == 2));
+    Ok(())
+}
+
+#[test]
+fn requests_of_replay(rt: HostRuntime) -> Result<(), Fail> {
+    let alloc = rt.alloc();
+    let turns = [0, 1, 2, 0, 1, 2];
+    let request = Request::Replay {
+        stages: 2,
+        capacity: 1,
+        generations: 2,
+        turns: Turns::new(Vec::from_array(alloc, turns)?),
+    };
+    let want = "not done
+belt 0 put 2 taken 2
+belt 1 put 0 taken 0
+belt 2 put 0 taken 0
+";
+    let mut out = Narrow::new(alloc, 7, 1000, End::Error);
+    perform(alloc, ALONG_A_ROW, &request, &mut out)?;
+    assert!(rt; out.taken.as_slice() == want.as_bytes());
+    assert_eq!(rt; out.flushes, 1);
+    let mut out = Narrow::new(alloc, 7, 40, End::Error);
+    let cut_short = perform(alloc, ALONG_A_ROW, &request, &mut out);
+    assert!(rt; matches!(cut_short, Err(ToolError::Write(40))));
+    assert!(rt; out.taken.as_slice() == &want.as_bytes()[..40]);
+    let request = |stages| {
+        Request::Replay {
+            stages,
+            capacity: 1,
+            generations: 2,
+            turns: Turns::new(Vec::new(alloc)),
+        }
+    };
+    let mut out = Narrow::new(alloc, 100, 1000, End::Error);
+    let refused = perform(alloc, ALONG_A_ROW, &request(1), &mut out);
+    assert!(rt; matches!(refused, Err(ToolError::MorePasses)));
+    assert!(rt; refused.is_err_and(|e| e.status() == 1));
+    let refused = perform(alloc, ALONG_A_ROW, &request(0), &mut out);
+    assert!(rt; matches!(refused, Err(ToolError::Plan(PlanError::Stages))));
     assert!(rt; out.taken.is_empty() && out.flushes == 0);
     Ok(())
 }

@@ -4,13 +4,13 @@ ghost use Rattle.std.specs.Prelude.{◌≡◌, [], IfOk, IfErr, IfSome, map, fal
 ghost use Rattle.clap.specs.declared.builder.command.Command.TheViews.{out-Command as fields_of};
 ghost use Rattle.clap.specs.Words.{app_of, fault_of, found_of, kind_of, new_app, rows_of, rule_of};
 ghost use Rattle.clap.specs.Words.{subcommand_of, subcommand_rows_of};
-ghost use Rattle.gas_tool.specs.Words.{program_app, check_app, coarse_app, run_app, default_rule};
+ghost use Rattle.gas_tool.specs.Words.{program_app, check_app, coarse_app, replay_app, run_app, default_rule};
 ghost use Rattle.gas_tool.specs.Words.{generations_rule, stages_rule, capacity_rule, with_plan};
-ghost use Rattle.gas_tool.specs.Words.{block_height_rule, block_width_rule, required_rule, side};
-ghost use Rattle.gas_tool.specs.Requests.{AreSidesAt, IsAllowed, IsFaultOf, IsPlanAt, IsRequestOf, TellsKind};
+ghost use Rattle.gas_tool.specs.Words.{block_height_rule, block_width_rule, required_rule, side, turns_rule};
+ghost use Rattle.gas_tool.specs.Requests.{AreSidesAt, AreTurnsAt, IsAllowed, IsFaultOf, IsPlanAt, IsRequestOf, Read, TellsKind};
 
 use crate::faults::UsageFault;
-use crate::request::Request;
+use crate::request::{Request, Turns};
 use clap::error::ErrorKind;
 use clap::{Arg, ArgAction, ArgMatches, Command, value_parser};
 use std::alloc::{AllocError, Global};
@@ -49,6 +49,17 @@ of blocks by row of blocks, from the left in each. Its columns are:
   particles  the number of its particles
   px, py     the sums of its particles' momenta, eastwards and northwards: in half steps and in
              units of half the square root of 3 in FHP-I, in whole steps in HPP";
+
+const ABOUT_REPLAY: &str =
+    "Let the members of a line make given turns, in one pass on one thread, and print where it stands";
+
+const TURNS: &str =
+    "Each TURN names a member of the line: 0 is the feeder, which holds the lattice's rows, and k is
+stage k; a number above N names nobody. Its turn is the put of its next row on the belt behind it,
+if it owes one and the belt has room, else the take of a row from the belt before it, else nothing.
+The first line tells whether all rows have come back to the feeder (`done`); then there is a line a
+belt, from 0, with the numbers of rows put on it and taken from it; and where it is done, the cells
+as `run` prints them. G generations need G stages at least.";
 
 fn generations_arg<'a>(alloc: Global) -> Arg<'a>
     ensures rule { rule_of result ≡ generations_rule }
@@ -170,6 +181,28 @@ fn coarse_command<'a>(alloc: Global) -> Result<Command<'a>, AllocError>
     Ok(third)
 }
 
+fn turns_arg<'a>(alloc: Global) -> Arg<'a>
+    ensures rule { rule_of result ≡ turns_rule }
+    ensures local { result.global ≡ false }
+{
+    Arg::new(alloc, "turns")
+        .value_name("TURN")
+        .action(ArgAction::Append)
+        .num_args(0..)
+        .value_parser(value_parser!(u32))
+        .help("Members that make a turn, one after another")
+}
+
+fn replay_command<'a>(alloc: Global) -> Result<Command<'a>, AllocError>
+    ensures app { IfOk result (λ r. app_of r ≡ replay_app) }
+    ensures local { IfOk result (λ r. (fields_of r).has_globals ≡ false) }
+{
+    let command = described(alloc, "replay", ABOUT_REPLAY, TURNS);
+    let first = with_plan_args(alloc, command)?;
+    let second = first.arg(turns_arg(alloc))?;
+    Ok(second)
+}
+
 fn check_command<'a>(alloc: Global) -> Command<'a>
     ensures app { app_of result ≡ check_app }
     ensures local { (fields_of result).has_globals ≡ false }
@@ -182,11 +215,13 @@ fn program_command<'a>(alloc: Global) -> Result<Command<'a>, AllocError>
 {
     let run = run_command(alloc)?;
     let coarse = coarse_command(alloc)?;
+    let replay = replay_command(alloc)?;
     let command = described(alloc, "fhpgas", ABOUT, SCENES)
         .subcommand_required(true)
         .subcommand(check_command(alloc))?
         .subcommand(run)?
-        .subcommand(coarse)?;
+        .subcommand(coarse)?
+        .subcommand(replay)?;
     Ok(command)
 }
 
@@ -217,16 +252,19 @@ fn unread(alloc: Global) -> UsageFault
 }
 
 // The request of the matches.
-fn request_of(matches: &ArgMatches) -> Option<Request>
-    ensures { IfSome result (IsRequestOf (subcommand_rows_of matches.now)) }
+fn request_of(alloc: Global, matches: &ArgMatches) -> Result<Option<Request>, AllocError>
+    ensures { IfOk result (λ r. IfSome r (IsRequestOf (subcommand_rows_of matches.now))) }
 {
-    match matches.subcommand_matches("check") {
-        Some(_) => Some(Request::Check),
-        None => match matches.subcommand_matches("run") {
-            Some(_) => run_of(matches),
-            None => coarse_of(matches),
-        },
+    if matches.subcommand_matches("check").is_some() {
+        return Ok(Some(Request::Check));
     }
+    if let Some(request) = run_of(matches) {
+        return Ok(Some(request));
+    }
+    if let Some(request) = coarse_of(matches) {
+        return Ok(Some(request));
+    }
+    replay_of(alloc, matches)
 }
 
 // The numbers of a plan, the stages first and the generations last.
@@ -281,6 +319,54 @@ fn coarse_of(matches: &ArgMatches) -> Option<Request>
     })
 }
 
+// The numbers that the words are; None where one is none.
+fn numbers(alloc: Global, words: &[&str]) -> Result<Option<Vec<u32>>, AllocError>
+    ensures { IfOk result (λ r. IfSome r (λ numbers. Read 32 (map (λ w. w.now) words.now) numbers.items)) }
+{
+    let mut numbers = Vec::with_capacity(alloc, words.len())?;
+    for word in words {
+        let Ok(number) = word.parse::<u32>() else {
+            return Ok(None);
+        };
+        numbers.push(number)?;
+    }
+    Ok(Some(numbers))
+}
+
+// The turns; None where a word is no number, which `clap` has refused before.
+fn turns_of(alloc: Global, matches: &ArgMatches) -> Result<Option<Turns>, AllocError>
+    ensures { IfOk result (λ r. IfSome r (AreTurnsAt (rows_of (found_of matches.now)))) }
+{
+    let Some(words) = matches.get_raw("turns") else {
+        return Ok(Some(Turns::new(Vec::new(alloc))));
+    };
+    match numbers(alloc, words)? {
+        Some(turns) => Ok(Some(Turns::new(turns))),
+        None => Ok(None),
+    }
+}
+
+// The request of the matches of `replay`.
+fn replay_of(alloc: Global, matches: &ArgMatches) -> Result<Option<Request>, AllocError>
+    ensures { IfOk result (λ r. IfSome r (IsRequestOf (subcommand_rows_of matches.now))) }
+{
+    let Some(replay) = matches.subcommand_matches("replay") else {
+        return Ok(None);
+    };
+    let Some((stages, capacity, generations)) = plan_of(replay) else {
+        return Ok(None);
+    };
+    let Some(turns) = turns_of(alloc, replay)? else {
+        return Ok(None);
+    };
+    Ok(Some(Request::Replay {
+        stages,
+        capacity,
+        generations,
+        turns,
+    }))
+}
+
 /// The request of the words, the program's name first. `Help` is for words that ask for help, and
 /// `Usage` for all others that give no request.
 pub fn parse_words<'a>(alloc: Global, words: &'a [&'a str]) -> Result<Request, UsageFault>
@@ -294,9 +380,10 @@ pub fn parse_words<'a>(alloc: Global, words: &'a [&'a str]) -> Result<Request, U
         return Err(UsageFault::Memory);
     };
     match command.try_get_matches_from(words) {
-        Ok(matches) => match request_of(&matches) {
-            Some(request) => Ok(request),
-            None => Err(unread(alloc)),
+        Ok(matches) => match request_of(alloc, &matches) {
+            Ok(Some(request)) => Ok(request),
+            Ok(None) => Err(unread(alloc)),
+            Err(_) => Err(UsageFault::Memory),
         },
         Err(error) => Err(usage_of(alloc, error)),
     }
