@@ -62,10 +62,18 @@ impl Mask {
         self.cells[x as usize] = value;
     }
 
+    /// Takes over these values.
+    pub(crate) fn copy_from(&mut self, cells: &[bool])
+        requires { length cells.now ≡ length self.old }
+        ensures { self.new ≡ cells.now }
+    {
+        self.cells.as_mut_slice().copy_from_slice(cells);
+    }
+
     /// The number of cells that are true.
     pub fn count(&self) -> u32
         ensures { result ≡ count_by (λ b. b) self.now }
     {
-        self.cells.iter().filter(|value| **value).count() as u32
+        self.cells.iter().map(|value| u32::from(*value)).sum()
     }
 }
