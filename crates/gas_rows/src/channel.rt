@@ -1,4 +1,4 @@
-ghost use Rattle.std.specs.Prelude.{◌≡◌, ◌<◌, [], length, slice_index_or, IfOk};
+ghost use Rattle.std.specs.Prelude.{◌≡◌, ◌<◌, [], length, slice_index_or, slice_set, IfOk};
 ghost use Rattle.gas_geom.specs.Size.{SizeModel};
 ghost use Rattle.gas_geom.specs.Channel.{ChannelModel, IsChannel, is_solid, solid_cells, free_channel, with_solid};
 
@@ -84,6 +84,16 @@ impl Channel {
     {
         let mask = &mut self.masks[y as usize];
         mask.set(x, true);
+    }
+
+    /// Sets which cells of row `y` are solid.
+    pub(crate) fn set_row(&mut self, y: u32, solid: &[bool])
+        requires row { y < self.old.height }
+        requires wide { length solid.now ≡ self.old.width }
+        ensures { self.new ≡ record self.old { solid = slice_set self.old.solid y solid.now } }
+    {
+        let mask = &mut self.masks[y as usize];
+        mask.copy_from(solid);
     }
 
     /// The number of solid cells.

@@ -1,4 +1,4 @@
-ghost use Rattle.std.specs.Prelude.{◌≡◌, ◌<◌, ◌^◌, [], false, length, slice_index_or, IfOk};
+ghost use Rattle.std.specs.Prelude.{◌≡◌, ◌<◌, ◌^◌, ℕ, [], true, false, length, slice_index, slice_index_or, slice_set, IfOk};
 ghost use Rattle.gas_geom.specs.Channel.{is_solid, with_solid};
 ghost use Rattle.gas_geom.specs.Lattice.{LatticeModel, IsLattice, cell, count, empty_lattice, with_cell};
 
@@ -124,5 +124,22 @@ impl<G: Gas> Lattice<G> {
         self.channel.make_solid(x, y);
         let row = &mut self.rows[y as usize];
         row.set(x, 0);
+    }
+
+    /// Sets which cells of row `y` are solid, and the states of all of them, 0 at the solid ones.
+    pub fn set_row(&mut self, y: u32, solid: &[bool], states: &[u8])
+        requires row { y < self.old.channel.height }
+        requires as_wide { length solid.now ≡ self.old.channel.width }
+        requires wide { length states.now ≡ self.old.channel.width }
+        requires states { (x : ℕ) → slice_index states.now x < 2 ^ G.rules.dirs }
+        requires empty { (x : ℕ) → slice_index_or solid.now x false ≡ true → slice_index states.now x ≡ 0 }
+        ensures { self.new ≡ record {
+          channel = record self.old.channel { solid = slice_set self.old.channel.solid y solid.now };
+          rows = slice_set self.old.rows y states.now;
+        } }
+    {
+        self.channel.set_row(y, solid);
+        let row = &mut self.rows[y as usize];
+        row.copy_from(states);
     }
 }

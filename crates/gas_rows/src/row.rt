@@ -73,6 +73,15 @@ impl<G: Gas> Row<G> {
         self.cells[x as usize] = state;
     }
 
+    /// Takes over these states.
+    pub(crate) fn copy_from(&mut self, states: &[u8])
+        requires wide { length states.now ≡ length self.old }
+        requires states { (x : ℕ) → slice_index states.now x < 2 ^ G.rules.dirs }
+        ensures { self.new ≡ states.now }
+    {
+        self.cells.as_mut_slice().copy_from_slice(states);
+    }
+
     /// The number of particles.
     pub fn count(&self) -> u32
         ensures { result ≡ sum_by (particles G.rules) self.now }

@@ -63,6 +63,13 @@ fn lattices(rt: HostRuntime) -> Result<(), Fail> {
     assert!(rt; lattice.channel().is_solid(1, 2) && lattice.channel().mask(2).get(1));
     assert_eq!(rt; (lattice.cell(1, 2), lattice.count()), (0, 0));
     assert_eq!(rt; lattice.channel().count_solid(), 1);
+    lattice.set_row(0, &[true, false, false, true], &[0, 0x0d, 0x02, 0]);
+    assert!(rt; lattice.channel().is_solid(3, 0) && !lattice.channel().is_solid(1, 0));
+    assert_eq!(rt;
+        (lattice.cell(0, 0), lattice.cell(1, 0), lattice.cell(2, 0)),
+        (0, 0x0d, 0x02)
+    );
+    assert_eq!(rt; (lattice.count(), lattice.channel().count_solid()), (4, 3));
     let (channel, rows) = lattice.into_rows();
     let back = Lattice::from_rows(channel, rows);
     assert!(rt; back.channel().is_solid(1, 2));
