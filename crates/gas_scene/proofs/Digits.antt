@@ -1,9 +1,14 @@
--- The value of a hexadecimal digit by ranges of characters.
+-- The value of a hexadecimal digit by ranges of characters, and the cell that two characters stand for by their values.
 use Rattle.std.proofs.Common.{◌≡◌, ℕ, ◌+◌, ◌-◌, ◌<◌, ◌≤◌, true, ◌&&◌, if◌then◌else◌, Option, Some, None, nat_eq, nat_le, refl, ap, arith}
-use Rattle.std.specs.Option.{option_eq}
-use Rattle.std.proofs.lemmas.Bool.{agree_below_at, eqb-true, false≢true}
+use Rattle.std.proofs.Common.{Bool, false, ◌*◌, ◌%◌, ◌||◌, ◌==◌, nat_lt, sym, subst}
+use Rattle.std.specs.Prelude.{is_some}
+use Rattle.std.specs.Option.{option_eq, unwrap_or}
+use Rattle.std.proofs.lemmas.Bool.{agree_below_at, eqb-true, ltb-true, false≢true}
 use Rattle.std.proofs.lemmas.Bool.Decides.{nat_tests}
-use Rattle.gas_scene.specs.Cells.{digit_of}
+use Rattle.gas_scene.specs.declared.cells.Cell.{Cell}
+use Rattle.gas_scene.specs.declared.cells.Cell.TheVariants.{Solid, State}
+use Rattle.gas_scene.specs.declared.cells.TheConstants.{SOLID_MARK, EMPTY_MARK}
+use Rattle.gas_scene.specs.Cells.{digit_of, state_of, is_marked, cell_of}
 
 same_option : (a b : Option ℕ) → option_eq nat_eq a b ≡ true → a ≡ b
 same_option None None e = refl
@@ -35,3 +40,94 @@ digit_of-between b low high = grind (arith, nat_tests, digit_of-by_ranges)
 
 pub digit_of-above : (b : ℕ) → 103 ≤ b → b < 256 → None ≡ digit_of b
 digit_of-above b low high = grind (arith, nat_tests, digit_of-by_ranges)
+
+-- a digit's value is below 16
+pub digit_of-small : (b : ℕ) → b < 256 → unwrap_or (digit_of b) 0 < 16
+unfolding digit_of
+digit_of-small b h = ltb-true _ _ (agree_below_at (λ b. nat_lt (unwrap_or (digit_of b) 0) 16) (λ _. true) 256 b refl h)
+
+-- the value of what may be a digit, by one that is 16 where it is none
+pub value-rest : (o : Option ℕ) → unwrap_or o 0 < 16 → unwrap_or o 16 % 16 ≡ unwrap_or o 0
+value-rest None small = refl
+value-rest (Some d) small = omega (arith, small)
+
+below : (n : ℕ) → n < 16 → nat_lt n 16 ≡ true
+below n h = grind (arith, nat_tests)
+
+some_if : {A : Type 0} (b : Bool) (x : A) → b ≡ is_some (if b then Some x else None)
+some_if true x = refl
+some_if false x = refl
+
+by_values : (states : ℕ) (high low : Option ℕ) → unwrap_or high 0 < 16 → unwrap_or low 0 < 16
+    → ((nat_lt (unwrap_or high 16) 16 && nat_lt (unwrap_or low 16) 16) && nat_lt (unwrap_or high 16 * 16 + unwrap_or low 16) states)
+    ≡ is_some (state_of states high low)
+by_values states None low p q = refl
+by_values states (Some h) None p q = rw (below h p) refl
+by_values states (Some h) (Some l) p q = rw (below h p, below l q) (some_if (nat_lt (h * 16 + l) states) (State (h * 16 + l)))
+
+-- whether two digits are a state, by such values
+pub is_some-state_of : (states : ℕ) (high low : Option ℕ) (h l g k : ℕ) → unwrap_or high 0 < 16 → unwrap_or low 0 < 16
+    → h ≡ unwrap_or high 16 → l ≡ unwrap_or low 16 → g ≡ h → k ≡ l
+    → ((nat_lt h 16 && nat_lt l 16) && nat_lt (g * 16 + k) states) ≡ is_some (state_of states high low)
+is_some-state_of states high low h l g k p q eh el eg ek = rw (eg, ek, eh, el) (by_values states high low p q)
+
+some_by_marks : (solid empty : Bool) (other : Option Cell)
+    → ((solid || empty) || is_some other) ≡ is_some (if solid then Some Solid else if empty then Some (State 0) else other)
+some_by_marks true empty other = refl
+some_by_marks false true other = refl
+some_by_marks false false other = refl
+
+-- whether two characters are a cell
+pub is_some-cell_of : (states a b : ℕ)
+    → ((is_marked SOLID_MARK a b || is_marked EMPTY_MARK a b) || is_some (state_of states (digit_of a) (digit_of b))) ≡ is_some (cell_of states a b)
+unfolding cell_of
+is_some-cell_of states a b = some_by_marks (is_marked SOLID_MARK a b) (is_marked EMPTY_MARK a b) (state_of states (digit_of a) (digit_of b))
+
+solid_if : (t : Bool) → is_some (if t then Some Solid else None) ≡ true → Some Solid ≡ (if t then Some Solid else None)
+solid_if true some = refl
+solid_if false some = absurd (false≢true some)
+
+solid_at : (states b : ℕ) → is_some (cell_of states SOLID_MARK b) ≡ true → Some Solid ≡ cell_of states SOLID_MARK b
+unfolding cell_of digit_of
+solid_at states b some = solid_if (b == SOLID_MARK) some
+
+-- a cell whose first character is the mark of solid cells
+pub cell_of-solid : (states a b : ℕ) → a ≡ SOLID_MARK → is_some (cell_of states a b) ≡ true → Some Solid ≡ cell_of states a b
+cell_of-solid states a b mark =
+    subst (λ c. is_some (cell_of states c b) ≡ true → Some Solid ≡ cell_of states c b) (sym mark) (solid_at states b)
+
+state_if : (t : Bool) (s : ℕ) → is_some (if t then Some (State s) else None) ≡ true → Some (State s) ≡ (if t then Some (State s) else None)
+state_if true s some = refl
+state_if false s some = absurd (false≢true some)
+
+state_at : (states : ℕ) (high low : Option ℕ) → is_some (state_of states high low) ≡ true
+    → Some (State (unwrap_or high 0 * 16 + unwrap_or low 0)) ≡ state_of states high low
+state_at states None low some = absurd (false≢true some)
+state_at states (Some h) None some = absurd (false≢true some)
+state_at states (Some h) (Some l) some = state_if (nat_lt (h * 16 + l) states) (h * 16 + l) some
+
+state_by_mark : (solid empty : Bool) (states : ℕ) (high low : Option ℕ) → solid ≡ false
+    → (empty ≡ true → unwrap_or high 0 * 16 + unwrap_or low 0 ≡ 0)
+    → is_some (if solid then Some Solid else if empty then Some (State 0) else state_of states high low) ≡ true
+    → Some (State (unwrap_or high 0 * 16 + unwrap_or low 0)) ≡ (if solid then Some Solid else if empty then Some (State 0) else state_of states high low)
+state_by_mark true empty states high low fluid none some = absurd (false≢true (sym fluid))
+state_by_mark false true states high low fluid none some = ap (λ s. Some (State s)) (none refl)
+state_by_mark false false states high low fluid none some = state_at states high low some
+
+not_marked : (t u : Bool) → t ≡ false → (t && u) ≡ false
+not_marked t u e = rw e refl
+
+empty_at : (a b : ℕ) → is_marked EMPTY_MARK a b ≡ true → unwrap_or (digit_of a) 0 * 16 + unwrap_or (digit_of b) 0 ≡ 0
+unfolding digit_of
+empty_at a b marked =
+    let first : a ≡ EMPTY_MARK = grind (arith, nat_tests, marked) in
+    let second : b ≡ EMPTY_MARK = grind (arith, nat_tests, marked) in
+    rw (first, second) refl
+
+-- a cell whose first character is another
+pub cell_of-state : (states a b : ℕ) → (a == SOLID_MARK) ≡ false → is_some (cell_of states a b) ≡ true
+    → Some (State (unwrap_or (digit_of a) 0 * 16 + unwrap_or (digit_of b) 0)) ≡ cell_of states a b
+unfolding cell_of
+cell_of-state states a b other some =
+    state_by_mark (is_marked SOLID_MARK a b) (is_marked EMPTY_MARK a b) states (digit_of a) (digit_of b)
+    (not_marked (a == SOLID_MARK) (b == SOLID_MARK) other) (empty_at a b) some

@@ -1,7 +1,8 @@
 -- Lemmas on the first answer.
 use Rattle.std.proofs.Common.{◌≡◌, ℕ, ◌+◌, ◌<◌, zero, suc, Option, Some, None, refl, ap, arith, add-one, inl, inr, ◌∙◌}
+use Rattle.std.proofs.Common.{Bool, true, false, ◌&&◌, is_none, if◌then◌else◌}
 use Rattle.std.specs.Option.{option_or}
-use Rattle.std.proofs.lemmas.Bool.{cases_lt}
+use Rattle.std.proofs.lemmas.Bool.{cases_lt, false≢true}
 use Rattle.gas_scene.specs.First.{first_below}
 
 pub first_below-next : {A : Type 0} (f : ℕ → Option A) (n : ℕ) → first_below f n ≡ None → f n ≡ None → first_below f (n + 1) ≡ None
@@ -28,3 +29,21 @@ first_below-none f (suc n) none k within =
       | inl lt ↦ first_below-none f n both.0 k lt
       | inr ge ↦ let e : k ≡ n = omega arith in ap f e ∙ both.1
     ]
+
+no_answer : {A : Type 0} (a b : Option A) → (is_none a && is_none b) ≡ is_none (option_or a b)
+no_answer None b = refl
+no_answer (Some x) b = refl
+
+-- whether there is no answer, by the numbers one after another
+pub first_below-more : {A : Type 0} (f : ℕ → Option A) (n : ℕ) (so_far here : Bool) → so_far ≡ is_none (first_below f n) → here ≡ is_none (f n)
+    → (so_far && here) ≡ is_none (first_below f (n + 1))
+first_below-more f n so_far here e h = rw (add-one, e, h) (no_answer (first_below f n) (f n))
+
+-- an answer that is absent
+pub absent : {A : Type 0} (o : Option A) → is_none o ≡ true → None ≡ o
+absent None e = refl
+absent (Some x) e = absurd (false≢true e)
+
+pub absent-if : (t : Bool) (k : ℕ) → t ≡ is_none (if t then None else Some k)
+absent-if true k = refl
+absent-if false k = refl

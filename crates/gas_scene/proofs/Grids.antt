@@ -5,7 +5,7 @@ use Rattle.std.proofs.lemmas.Bool.{cases_eq}
 use Rattle.std.proofs.lemmas.Bool.Decides.{nat_tests}
 use Rattle.std.proofs.lemmas.List.{get_or-replicate, length-replicate, get_or-set_same, get_or-set_other, length-set}
 use Rattle.std.proofs.lemmas.List.FromFn.{fill_by_all, length-map-range_with_len, get_or-map-range_with_len}
-use Rattle.gas_geom.specs.Channel.{is_solid, with_solid, free_channel}
+use Rattle.gas_geom.specs.Channel.{with_solid, free_channel}
 use Rattle.gas_geom.specs.Lattice.{with_cell, empty_lattice}
 use Rattle.gas_scene.specs.Grid.{grid, lattice_of, is_before, lattice_before}
 
@@ -64,6 +64,30 @@ grid-set {A = A} w h f g x y v in_columns in_rows new old =
         (λ (ne : u ≢ x). get_or-set_other (get_or (grid w h f) y []) x u v v ne ∙ value-grid w h f u y v in_row in_rows ∙ old u y (inl ne))
         (cases_eq u x))
 
+-- a grid with another row
+pub grid-set_row : {A : Type 0} (w h : ℕ) (f g : ℕ → ℕ → A) (y : ℕ) (row : List A) (d : A) → y < h → length row ≡ w
+    → ((u : ℕ) → u < w → get_or row u d ≡ g u y) → ((u k : ℕ) → k ≢ y → f u k ≡ g u k) → set (grid w h f) y row ≡ grid w h g
+grid-set_row w h f g y row d in_rows wide new old =
+    fill_by_all (λ k. map (λ u. g u k) (range_with_len 0 w)) (set (grid w h f) y row) h []
+    (length-set (grid w h f) y row ∙ high)
+    (λ k within. ⊎_elim
+    (λ (e : k ≡ y). ap (λ j. get_or (set (grid w h f) y row) j []) e
+    ∙ get_or-set_same (grid w h f) y row [] (omega (arith, high))
+    ∙ fill_by_all (λ u. g u y) row w d wide new ∙ ap (λ j. map (λ u. g u j) (range_with_len 0 w)) (sym e))
+    (λ (ne : k ≢ y). get_or-set_other (grid w h f) y k row [] ne ∙ row-grid w h f k within
+    ∙ row-same w (λ u. f u k) (λ u. g u k) d (λ u in_row. old u k ne))
+    (cases_eq k y))
+  where
+    high : length (grid w h f) ≡ h
+    high = length-map-range_with_len (λ k. map (λ u. f u k) (range_with_len 0 w)) 0 h
+
+-- the cells before the next row
+pub before-row_here : (y u : ℕ) → is_before 0 (y + 1) u y ≡ true
+before-row_here y u = grind (arith, nat_tests)
+
+pub before-row_other : (y u k : ℕ) → k ≢ y → is_before 0 y u k ≡ is_before 0 (y + 1) u k
+before-row_other y u k ne = grind (arith, nat_tests)
+
 -- the cells before the next column
 pub before-other : (x y u k : ℕ) → (u ≢ x) ⊎ (k ≢ y) → is_before x y u k ≡ is_before (x + 1) y u k
 before-other x y u k (inl ne) = grind (arith, nat_tests)
@@ -87,50 +111,6 @@ before-all h u k within = grind (arith, nat_tests)
 pub if_same : {A : Type 0} (b c : Bool) (v d : A) → b ≡ c → (if b then v else d) ≡ (if c then v else d)
 if_same b c v d e = ap (λ (t : Bool). if t then v else d) e
 
--- the cell (x, y) of the lattice before it, and the lattice before the next cell
-module _ (w h : ℕ) (solid : ℕ → ℕ → Bool) (at : ℕ → ℕ → ℕ) (x y : ℕ) (in_columns : x < w) (in_rows : y < h) where
-  abbrev solid_before : ℕ → ℕ → ℕ → Bool
-  solid_before n u v = if is_before n y u v then solid u v else false
-
-  abbrev at_before : ℕ → ℕ → ℕ → ℕ
-  at_before n u v = if is_before n y u v then at u v else 0
-
-  pub is_solid-lattice_before : is_solid (lattice_before w h solid at x y).channel x y ≡ false
-  is_solid-lattice_before =
-      value-grid w h (solid_before x) x y false in_columns in_rows ∙ if_same (is_before x y x y) false (solid x y) false (before-here x y)
-
-  rows_next : (s : ℕ) → s ≡ at x y → with_cell (grid w h (at_before x)) x y s ≡ grid w h (at_before (x + 1))
-  rows_next s same =
-      grid-set w h (at_before x) (at_before (x + 1)) x y s in_columns in_rows
-      (same ∙ sym (if_same (is_before (x + 1) y x y) true (at x y) 0 (before-next x y)))
-      (λ u k other. if_same (is_before x y u k) (is_before (x + 1) y u k) (at u k) 0 (before-other x y u k other))
-
-  pub lattice_before-solid : solid x y ≡ true → at x y ≡ 0
-      → record { channel = with_solid (lattice_before w h solid at x y).channel x y; rows = with_cell (lattice_before w h solid at x y).rows x y 0 }
-      ≡ lattice_before w h solid at (x + 1) y
-  lattice_before-solid is_solid_here none_here =
-      ap (λ s. record { channel = record { width = w; height = h; solid = s }; rows = with_cell (grid w h (at_before x)) x y 0 })
-      (grid-set w h (solid_before x) (solid_before (x + 1)) x y true in_columns in_rows
-      (sym is_solid_here ∙ sym (if_same (is_before (x + 1) y x y) true (solid x y) false (before-next x y)))
-      (λ u k other. if_same (is_before x y u k) (is_before (x + 1) y u k) (solid u k) false (before-other x y u k other)))
-      ∙ ap (λ rs. record { channel = record { width = w; height = h; solid = grid w h (solid_before (x + 1)) }; rows = rs }) (rows_next 0 (sym none_here))
-
-  same_solid : solid x y ≡ false → (u k : ℕ) → solid_before x u k ≡ solid_before (x + 1) u k
-  same_solid fluid u k = ⊎_elim
-      (λ (eu : u ≡ x). ⊎_elim
-      (λ (ek : k ≡ y). rw (eu, ek) (if_same (is_before x y x y) false (solid x y) false (before-here x y) ∙ sym (if_same (is_before (x + 1) y x y) true (solid x y) false (before-next x y) ∙ fluid)))
-      (λ (ne : k ≢ y). if_same (is_before x y u k) (is_before (x + 1) y u k) (solid u k) false (before-other x y u k (inr ne)))
-      (cases_eq k y))
-      (λ (ne : u ≢ x). if_same (is_before x y u k) (is_before (x + 1) y u k) (solid u k) false (before-other x y u k (inl ne)))
-      (cases_eq u x)
-
-  pub lattice_before-state : (s : ℕ) → solid x y ≡ false → at x y ≡ s
-      → record (lattice_before w h solid at x y) { rows = with_cell (lattice_before w h solid at x y).rows x y s } ≡ lattice_before w h solid at (x + 1) y
-  lattice_before-state s fluid here =
-      ap (λ g. record { channel = record { width = w; height = h; solid = g }; rows = with_cell (grid w h (at_before x)) x y s })
-      (grid-same w h (solid_before x) (solid_before (x + 1)) false (λ u k _ _. same_solid fluid u k))
-      ∙ ap (λ rs. record { channel = record { width = w; height = h; solid = grid w h (solid_before (x + 1)) }; rows = rs }) (rows_next s (sym here))
-
 -- two lattices of the same values
 pub lattice_of-same : (w h : ℕ) (solid solid' : ℕ → ℕ → Bool) (at at' : ℕ → ℕ → ℕ)
     → ((u k : ℕ) → u < w → k < h → solid u k ≡ solid' u k) → ((u k : ℕ) → u < w → k < h → at u k ≡ at' u k)
@@ -140,10 +120,27 @@ lattice_of-same w h solid solid' at at' same_solid same_at =
     ∙ ap (λ rs. record { channel = record { width = w; height = h; solid = grid w h solid' }; rows = rs }) (grid-same w h at at' 0 same_at)
 
 module _ (w h : ℕ) (solid : ℕ → ℕ → Bool) (at : ℕ → ℕ → ℕ) where
-  pub lattice_before-row : (y : ℕ) → lattice_before w h solid at w y ≡ lattice_before w h solid at 0 (y + 1)
-  lattice_before-row y = lattice_of-same w h _ _ _ _
-      (λ u k in_row _. if_same (is_before w y u k) (is_before 0 (y + 1) u k) (solid u k) false (before-row w y u k in_row))
-      (λ u k in_row _. if_same (is_before w y u k) (is_before 0 (y + 1) u k) (at u k) 0 (before-row w y u k in_row))
+  abbrev solid_before : ℕ → ℕ → ℕ → Bool
+  solid_before y u v = if is_before 0 y u v then solid u v else false
+
+  abbrev at_before : ℕ → ℕ → ℕ → ℕ
+  at_before y u v = if is_before 0 y u v then at u v else 0
+
+  pub lattice_before-next : (y : ℕ) (mask : List Bool) (row : List ℕ) → y < h → length mask ≡ w → length row ≡ w
+      → ((x : ℕ) → x < w → get_or mask x false ≡ solid x y) → ((x : ℕ) → x < w → get_or row x 0 ≡ at x y)
+      → record {
+        channel = record { width = w; height = h; solid = set (grid w h (solid_before y)) y mask };
+        rows = set (grid w h (at_before y)) y row;
+      } ≡ lattice_before w h solid at 0 (y + 1)
+  lattice_before-next y mask row in_rows wide_mask wide_row same_solid same_at =
+      ap (λ g. record { channel = record { width = w; height = h; solid = g }; rows = set (grid w h (at_before y)) y row })
+      (grid-set_row w h (solid_before y) (solid_before (y + 1)) y mask false in_rows wide_mask
+      (λ u in_row. same_solid u in_row ∙ sym (if_same (is_before 0 (y + 1) u y) true (solid u y) false (before-row_here y u)))
+      (λ u k other. if_same (is_before 0 y u k) (is_before 0 (y + 1) u k) (solid u k) false (before-row_other y u k other)))
+      ∙ ap (λ rs. record { channel = record { width = w; height = h; solid = grid w h (solid_before (y + 1)) }; rows = rs })
+      (grid-set_row w h (at_before y) (at_before (y + 1)) y row 0 in_rows wide_row
+      (λ u in_row. same_at u in_row ∙ sym (if_same (is_before 0 (y + 1) u y) true (at u y) 0 (before-row_here y u)))
+      (λ u k other. if_same (is_before 0 y u k) (is_before 0 (y + 1) u k) (at u k) 0 (before-row_other y u k other)))
 
   pub lattice_before-none : empty_lattice (free_channel w h) ≡ lattice_before w h solid at 0 0
   lattice_before-none =

@@ -1,14 +1,17 @@
 -- The lattice of a map, cell by cell.
-use Rattle.std.proofs.Common.{◌≡◌, ℕ, ◌+◌, ◌*◌, ◌<◌, Bool, true, false, List, length, Option, Some, None, ap, sym, ◌∙◌, refl, nat_lt, if◌then◌else◌}
-use Rattle.std.proofs.lemmas.Bool.{ltb-true}
-use Rattle.gas_geom.specs.Channel.{is_solid, free_channel}
-use Rattle.gas_geom.specs.Lattice.{empty_lattice}
+use Rattle.std.proofs.Common.{◌≡◌, ℕ, ◌+◌, ◌*◌, ◌<◌, Bool, true, false, List, length, get_or, set, Option, Some, None, ap, sym, ◌∙◌, refl, nat_lt, if◌then◌else◌}
+use Rattle.std.proofs.lemmas.Bool.{ltb-true, false≢true}
+use Rattle.gas_geom.specs.Channel.{free_channel}
+use Rattle.gas_geom.specs.Lattice.{LatticeModel, empty_lattice}
 use Rattle.gas_scene.specs.declared.cells.Cell.{Cell}
 use Rattle.gas_scene.specs.declared.cells.Cell.TheVariants.{Solid, State}
 use Rattle.gas_scene.specs.declared.cells.TheConstants.{SOLID_MARK, EMPTY_MARK}
-use Rattle.gas_scene.specs.Cells.{digit_of, state_of, is_marked, cell_of}
-use Rattle.gas_scene.specs.Map.{is_solid_cell, state_in, map_cell, map_width, map_lattice, map_before, with_put}
-use Rattle.gas_scene.proofs.Grids.{is_solid-lattice_before, lattice_before-solid, lattice_before-state, lattice_before-row, lattice_before-none, lattice_before-all}
+use Rattle.gas_scene.specs.Cells.{digit_of, state_of, is_marked, cell_of, cell_at}
+use Rattle.gas_scene.specs.Map.{is_solid_cell, state_in, map_cell, map_width, map_lattice, map_before}
+use Rattle.gas_scene.proofs.Grids.{lattice_before-next, lattice_before-none, lattice_before-all}
+
+abbrev pub with_row : LatticeModel → ℕ → List Bool → List ℕ → LatticeModel
+with_row l y mask row = record { channel = record l.channel { solid = set l.channel.solid y mask }; rows = set l.rows y row }
 
 module _ (states : ℕ) (rows : List (List ℕ)) where
   abbrev solid_at : ℕ → ℕ → Bool
@@ -17,29 +20,19 @@ module _ (states : ℕ) (rows : List (List ℕ)) where
   abbrev state_at : ℕ → ℕ → ℕ
   state_at u v = state_in (map_cell states rows u v)
 
-  pub width-map_before : (x y : ℕ) → (map_before states rows x y).channel.width ≡ map_width rows
+  pub width-map_before : (y : ℕ) → (map_before states rows 0 y).channel.width ≡ map_width rows
   unfolding map_before
-  width-map_before x y = refl
+  width-map_before y = refl
 
-  pub height-map_before : (x y : ℕ) → (map_before states rows x y).channel.height ≡ length rows
+  pub height-map_before : (y : ℕ) → (map_before states rows 0 y).channel.height ≡ length rows
   unfolding map_before
-  height-map_before x y = refl
+  height-map_before y = refl
 
-  pub is_solid-map_before : (x y : ℕ) → x < map_width rows → y < length rows → is_solid (map_before states rows x y).channel x y ≡ false
+  pub map_before-next : (y : ℕ) (mask : List Bool) (row : List ℕ) → y < length rows → length mask ≡ map_width rows → length row ≡ map_width rows
+      → ((x : ℕ) → x < map_width rows → get_or mask x false ≡ solid_at x y) → ((x : ℕ) → x < map_width rows → get_or row x 0 ≡ state_at x y)
+      → with_row (map_before states rows 0 y) y mask row ≡ map_before states rows 0 (y + 1)
   unfolding map_before
-  is_solid-map_before x y in_columns in_rows = is_solid-lattice_before (map_width rows) (length rows) solid_at state_at x y in_columns in_rows
-
-  pub with_put-map_before : (x y : ℕ) (cell : Cell) → x < map_width rows → y < length rows → map_cell states rows x y ≡ Some cell
-      → with_put (map_before states rows x y) x y cell ≡ map_before states rows (x + 1) y
-  unfolding map_before
-  with_put-map_before x y Solid in_columns in_rows is =
-      lattice_before-solid (map_width rows) (length rows) solid_at state_at x y in_columns in_rows (ap is_solid_cell is) (ap state_in is)
-  with_put-map_before x y (State s) in_columns in_rows is =
-      lattice_before-state (map_width rows) (length rows) solid_at state_at x y in_columns in_rows s (ap is_solid_cell is) (ap state_in is)
-
-  pub map_before-row : (y : ℕ) → map_before states rows (map_width rows) y ≡ map_before states rows 0 (y + 1)
-  unfolding map_before
-  map_before-row y = lattice_before-row (map_width rows) (length rows) solid_at state_at y
+  map_before-next y mask row = lattice_before-next (map_width rows) (length rows) solid_at state_at y mask row
 
   pub map_before-none : empty_lattice (free_channel (map_width rows) (length rows)) ≡ map_before states rows 0 0
   unfolding map_before
@@ -69,8 +62,22 @@ by_marks states true empty other cell some rest is = zero_within states (Some So
 by_marks states false true other cell some rest is = zero_within states (Some (State 0)) cell some refl is
 by_marks states false false other cell some rest is = rest is
 
-pub cell_of-within : (states a b : ℕ) (cell : Cell) → 0 < states → cell_of states a b ≡ Some cell → state_in (Some cell) < states
+cell_of-within : (states a b : ℕ) (cell : Cell) → 0 < states → cell_of states a b ≡ Some cell → state_in (Some cell) < states
 unfolding cell_of
 cell_of-within states a b cell some is =
     by_marks states (is_marked SOLID_MARK a b) (is_marked EMPTY_MARK a b) (state_of states (digit_of a) (digit_of b)) cell some
     (state_of-within states (digit_of a) (digit_of b) cell) is
+
+-- the state of what may be a cell is one of so many, and 0 at a solid cell
+some_cell-within : (states a b : ℕ) (o : Option Cell) → 0 < states → cell_of states a b ≡ o → state_in o < states
+some_cell-within states a b None some is = some
+some_cell-within states a b (Some cell) some is = cell_of-within states a b cell some is
+
+pub cell_at-within : (states : ℕ) (row : List ℕ) (x : ℕ) → 0 < states → state_in (cell_at states row x) < states
+cell_at-within states row x some = some_cell-within states _ _ (cell_at states row x) some refl
+
+-- a cell that is solid has no state
+pub solid-empty : (o : Option Cell) → is_solid_cell o ≡ true → state_in o ≡ 0
+solid-empty None solid = refl
+solid-empty (Some Solid) solid = refl
+solid-empty (Some (State s)) solid = absurd (false≢true solid)

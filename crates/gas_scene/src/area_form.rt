@@ -11,6 +11,7 @@ ghost use Rattle.gas_scene.specs.Ranges.{is_extent, is_common_in_range, is_area_
 ghost use Rattle.gas_scene.specs.Grid.{lattice_of};
 ghost use Rattle.gas_scene.specs.Area.{natural, holds, is_covered, filled, filling, filled_before, is_at, placed, seed_of, rate_of, area_lattice, CanPlace, IsInside};
 
+use crate::cells::MOST_CELLS;
 use crate::fields::{Extent, Placement, Rectangle, array_at, integer_at};
 use gas_geom::gas::Gas;
 use gas_geom::size::Size;
@@ -19,9 +20,6 @@ use gas_rows::key::key_words;
 use gas_rows::lattice::Lattice;
 use std::alloc::{AllocError, Global};
 use toml::{Table, Value};
-
-// The most cells of a row.
-const MOST_CELLS: usize = 4096;
 
 // The number of the key stream that fills direction 0.
 const FIRST_STREAM: u64 = 1 << 63;

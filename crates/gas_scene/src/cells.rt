@@ -1,13 +1,18 @@
 //! The cells of a map, two characters each.
 
-ghost use Rattle.std.specs.Prelude.{◌≡◌, ◌<◌, ◌/◌, length, IfSome};
+ghost use Rattle.std.specs.Prelude.{◌≡◌, ℕ, ◌+◌, ◌*◌, ◌<◌, ◌/◌, length, Some, is_some, is_none, IsSome, IfSome};
+ghost use Rattle.std.specs.Option.{unwrap_or};
 ghost use Rattle.gas_scene.specs.Cells.{digit_of, state_of, is_marked, cell_of, bad_column};
+ghost use Rattle.gas_scene.specs.Map.{is_solid_cell, state_in};
 
 /// What stands twice for a solid cell.
 pub const SOLID_MARK: u8 = b'#';
 
 /// What stands twice for an empty cell.
 pub const EMPTY_MARK: u8 = b'.';
+
+/// The most cells of a row.
+pub const MOST_CELLS: usize = 4096;
 
 /// A cell of a map: solid, or fluid with its state.
 #[derive(Clone, Copy, Debug, PartialEq, Eq)]
@@ -16,28 +21,14 @@ pub enum Cell {
     State(u8),
 }
 
-fn digit(byte: u8) -> Option<u8>
-    ensures value { result ≡ digit_of byte }
-    ensures within { IfSome result (λ d. d < 16) }
+// The value of a lower-case hexadecimal digit, or 16.
+fn digit(byte: u8) -> u8
+    ensures { result ≡ unwrap_or (digit_of byte) 16 }
 {
     match byte {
-        b'0'..=b'9' => Some(byte - b'0'),
-        b'a'..=b'f' => Some(byte - b'a' + 10),
-        _ => None,
-    }
-}
-
-// The state of two digits, where it is below `states`.
-fn state(high: Option<u8>, low: Option<u8>, states: u16) -> Option<Cell>
-    requires high { IfSome high (λ d. d < 16) }
-    requires low { IfSome low (λ d. d < 16) }
-    ensures { result ≡ state_of states high low }
-{
-    match (high, low) {
-        (Some(high), Some(low)) if u16::from(high * 16 + low) < states => Some(Cell::State(
-            high * 16 + low,
-        )),
-        _ => None,
+        b'0'..=b'9' => byte - b'0',
+        b'a'..=b'f' => byte - b'a' + 10,
+        _ => 16,
     }
 }
 
@@ -45,24 +36,77 @@ fn state(high: Option<u8>, low: Option<u8>, states: u16) -> Option<Cell>
 fn is_marked(mark: u8, first: u8, second: u8) -> bool
     ensures { result ≡ is_marked mark first second }
 {
-    first == mark && second == mark
+    (first == mark) & (second == mark)
+}
+
+// Whether two characters are digits of a state below `states`.
+fn is_state(first: u8, second: u8, states: u16) -> bool
+    ensures { result ≡ is_some (state_of states (digit_of first) (digit_of second)) }
+{
+    let high = digit(first);
+    let low = digit(second);
+    (high < 16) & (low < 16) & (u16::from(high) * 16 + u16::from(low) < states)
+}
+
+// Whether two characters stand for a cell. Each test is made, with `&` and `|`, so that the
+// compiler can take many cells at a time: of random cells a processor guesses branches wrong.
+fn is_cell(first: u8, second: u8, states: u16) -> bool
+    ensures { result ≡ is_some (cell_of states first second) }
+{
+    is_marked(SOLID_MARK, first, second)
+        | is_marked(EMPTY_MARK, first, second)
+        | is_state(first, second, states)
+}
+
+// The number of two digits, where what is no digit counts as 0.
+fn two_digits(first: u8, second: u8) -> u8
+    ensures { result ≡ unwrap_or (digit_of first) 0 * 16 + unwrap_or (digit_of second) 0 }
+{
+    digit(first) % 16 * 16 + digit(second) % 16
 }
 
 impl Cell {
-    /// The cell that two characters stand for, if they do: two equal marks, or two lower-case
-    /// hexadecimal digits that are a state below `states`.
-    #[tactic(auto, unfolding(crate::specs::Cells::cell_of))]
-    pub fn read(first: u8, second: u8, states: u16) -> Option<Cell>
-        ensures { result ≡ cell_of states first second }
+    /// The cell that two characters stand for, where they do: two equal marks, or two lower-case
+    /// hexadecimal digits.
+    pub fn read(first: u8, second: u8) -> Cell
+        ensures { (states : ℕ) → IsSome (cell_of states first second) → Some result ≡ cell_of states first second }
     {
-        if is_marked(SOLID_MARK, first, second) {
-            Some(Cell::Solid)
-        } else if is_marked(EMPTY_MARK, first, second) {
-            Some(Cell::State(0))
+        if first == SOLID_MARK {
+            Cell::Solid
         } else {
-            state(digit(first), digit(second), states)
+            Cell::State(two_digits(first, second))
         }
     }
+
+    pub fn is_solid(self) -> bool
+        ensures { result ≡ is_solid_cell (Some self) }
+    {
+        match self {
+            Cell::Solid => true,
+            Cell::State(_) => false,
+        }
+    }
+
+    /// The state, 0 of a solid cell.
+    pub fn state(self) -> u8
+        ensures { result ≡ state_in (Some self) }
+    {
+        match self {
+            Cell::Solid => 0,
+            Cell::State(state) => state,
+        }
+    }
+}
+
+// Whether a cell stands in each column of a row.
+fn are_cells(row: &[u8], states: u16) -> bool
+    ensures { result ≡ is_none (bad_column states row.now) }
+{
+    let mut all = true;
+    for c in 0..row.len() / 2 {
+        all &= is_cell(row[2 * c], row[2 * c + 1], states);
+    }
+    all
 }
 
 /// The first column of a row in which no cell stands.
@@ -70,8 +114,12 @@ pub fn bad_column(row: &[u8], states: u16) -> Option<usize>
     ensures value { result ≡ bad_column states row.now }
     ensures within { IfSome result (λ c. c < length row.now / 2) }
 {
+    // Only a row that has one is gone through cell by cell.
+    if are_cells(row, states) {
+        return None;
+    }
     for c in 0..row.len() / 2 {
-        if Cell::read(row[2 * c], row[2 * c + 1], states).is_none() {
+        if !is_cell(row[2 * c], row[2 * c + 1], states) {
             return Some(c);
         }
     }

@@ -1,12 +1,12 @@
 //! The lattice of a map.
 
-ghost use Rattle.std.specs.Prelude.{◌≡◌, ◌+◌, ◌<◌, ◌^◌, false, length, map, Some, IfOk};
+ghost use Rattle.std.specs.Prelude.{◌≡◌, ℕ, ◌+◌, ◌/◌, ◌<◌, ◌^◌, false, length, map, slice_index, slice_index_or, Some, IsSome, IfOk};
 ghost use Rattle.toml.specs.View.{view, table_view};
-ghost use Rattle.gas_geom.specs.Channel.{is_solid};
 ghost use Rattle.gas_scene.specs.Fields.{text_of, rows_at};
-ghost use Rattle.gas_scene.specs.Map.{state_in, map_lattice, map_before, IsMap, with_put};
+ghost use Rattle.gas_scene.specs.Cells.{cell_at};
+ghost use Rattle.gas_scene.specs.Map.{is_solid_cell, state_in, map_lattice, map_before, IsMap};
 
-use crate::cells::Cell;
+use crate::cells::{Cell, MOST_CELLS};
 use crate::fields::{array_at, row};
 use gas_geom::gas::Gas;
 use gas_geom::size::Size;
@@ -15,24 +15,21 @@ use gas_rows::lattice::Lattice;
 use std::alloc::{AllocError, Global};
 use toml::{Table, Value};
 
-// The number of states of a cell.
-fn states<G: Gas>() -> u16
-    ensures { result ≡ 2 ^ G.rules.dirs }
+// Reads which cells of a row are solid, and the states of all of them.
+fn read_row(row: &[u8], solid: &mut [bool], state_of: &mut [u8])
+    requires wide { length solid.old ≡ length row.now / 2 }
+    requires as_wide { length state_of.old ≡ length row.now / 2 }
+    ensures wide { length solid.new ≡ length row.now / 2 }
+    ensures as_wide { length state_of.new ≡ length row.now / 2 }
+    ensures solid { (states x : ℕ) → x < length row.now / 2 → IsSome (cell_at states row.now x)
+        → slice_index_or solid.new x false ≡ is_solid_cell (cell_at states row.now x) }
+    ensures states { (states x : ℕ) → x < length row.now / 2 → IsSome (cell_at states row.now x)
+        → slice_index state_of.new x ≡ state_in (cell_at states row.now x) }
 {
-    1 << G::DIRS
-}
-
-// Puts a cell where a fluid one is.
-fn put<G: Gas>(lattice: &mut Lattice<G>, x: u32, y: u32, cell: Cell)
-    requires column { x < lattice.old.channel.width }
-    requires row { y < lattice.old.channel.height }
-    requires fluid { is_solid lattice.old.channel x y ≡ false }
-    requires state { state_in (Some cell) < 2 ^ G.rules.dirs }
-    ensures { lattice.new ≡ with_put lattice.old x y cell }
-{
-    match cell {
-        Cell::Solid => lattice.make_solid(x, y),
-        Cell::State(state) => lattice.set_cell(x, y, state),
+    for x in 0..solid.len() {
+        let cell = Cell::read(row[2 * x], row[2 * x + 1]);
+        solid[x] = cell.is_solid();
+        state_of[x] = cell.state();
     }
 }
 
@@ -43,13 +40,14 @@ fn put_row<G: Gas>(lattice: &mut Lattice<G>, rows: &[Value], y: u32)
     requires before { lattice.old ≡ map_before (2 ^ G.rules.dirs) (map text_of (map view rows.now)) 0 y }
     ensures { lattice.new ≡ map_before (2 ^ G.rules.dirs) (map text_of (map view rows.now)) 0 (y + 1) }
 {
-    let states = states::<G>();
     let row = row(rows, y as usize);
     let width = row.len() / 2;
-    for x in 0..width {
-        let cell = Cell::read(row[2 * x], row[2 * x + 1], states).unwrap();
-        put(lattice, x as u32, y, cell);
-    }
+    let mut solid_buffer = [false; MOST_CELLS];
+    let mut state_buffer = [0u8; MOST_CELLS];
+    let solid = &mut solid_buffer[..width];
+    let state_of = &mut state_buffer[..width];
+    read_row(row, solid, state_of);
+    lattice.set_row(y, solid, state_of);
 }
 
 /// The lattice of a map.
