@@ -2,6 +2,7 @@
 use Rattle.std.proofs.Common.{◌≡◌, ◌≢◌, inl, inr, ℕ, zero, suc, ◌+◌, ◌*◌, ◌^◌, ◌%◌, ◌<◌, ◌≤◌, Bool, true, false, List, nat_lt, ap, sym, ◌∙◌, refl, arith, mul-le-mul_right, if◌then◌else◌, ⊎_elim, subst}
 use Rattle.std.proofs.Math.Nat.{pow-suc}
 use Rattle.std.proofs.lemmas.Bool.{cases_eq, cases_Bool}
+use Rattle.std.proofs.lemmas.Bool.Decides.{nat_tests}
 use Rattle.gas_geom.specs.Gas.{Rules}
 use Rattle.gas_geom.specs.Channel.{is_solid}
 use Rattle.gas_geom.specs.Lattice.{LatticeModel, set_of, with_cell}
@@ -32,6 +33,18 @@ filling-below gas seed rate width x y = set_of-filled-below gas.dirs seed rate w
 pub filling-is : (gas : Rules) (n seed rate width x y : ℕ) → n ≡ gas.dirs → set_of n (filled seed rate width x y) ≡ filling gas seed rate width x y
 unfolding filling
 filling-is gas n seed rate width x y same = ap (λ m. set_of m (filled seed rate width x y)) same
+
+none-below : (n : ℕ) (f : ℕ → ℕ) → ((i : ℕ) → f i ≡ 0) → set_of n f ≡ 0
+none-below zero f none = refl
+none-below (suc n) f none = omega (arith, none-below n f none, ap (λ k. k * 2 ^ n) (none n))
+
+-- filling at the rate 0 puts no particle anywhere
+filled-never : (seed width x y i : ℕ) → filled seed 0 width x y i ≡ 0
+filled-never seed width x y i = grind (arith, nat_tests)
+
+filling-never : (gas : Rules) (seed width x y : ℕ) → filling gas seed 0 width x y ≡ 0
+unfolding filling
+filling-never gas seed width x y = none-below gas.dirs (filled seed 0 width x y) (filled-never seed width x y)
 
 module _ (gas : Rules) (seed rate w h : ℕ) (solid : ℕ → ℕ → Bool) where
   abbrev state : ℕ → ℕ → ℕ
@@ -99,6 +112,24 @@ module _ (gas : Rules) (seed rate w h : ℕ) (solid : ℕ → ℕ → Bool) wher
   pub height-filled_before : (x y : ℕ) → (filled_before gas seed rate w h solid x y).channel.height ≡ h
   unfolding filled_before
   height-filled_before x y = refl
+
+same_if : (b : Bool) (n : ℕ) → n ≡ 0 → (if b then n else 0) ≡ 0
+same_if true n none = none
+same_if false n none = refl
+
+nothing_if : (b : Bool) (n : ℕ) → n ≡ 0 → (if b then 0 else n) ≡ 0
+nothing_if true n none = refl
+nothing_if false n none = none
+
+filled_before-never : (gas : Rules) (seed w h : ℕ) (solid : ℕ → ℕ → Bool) (x y : ℕ) → filled_before gas seed 0 w h solid x y ≡ lattice_of w h solid (λ _ _. 0)
+unfolding filled_before
+filled_before-never gas seed w h solid x y = lattice_of-same w h solid solid _ (λ _ _. 0) (λ u k _ _. refl)
+    (λ u k _ _. same_if (is_before x y u k) (if solid u k then 0 else filling gas seed 0 w u k) (nothing_if (solid u k) (filling gas seed 0 w u k) (filling-never gas seed w u k)))
+
+pub filled_before-rate_0 : (gas : Rules) (seed rate w h : ℕ) (solid : ℕ → ℕ → Bool) (x y u v : ℕ) → rate ≡ 0
+    → filled_before gas seed rate w h solid x y ≡ filled_before gas seed rate w h solid u v
+filled_before-rate_0 gas seed rate w h solid x y u v none =
+    rw none (filled_before-never gas seed w h solid x y ∙ sym (filled_before-never gas seed w h solid u v))
 
 -- a cell that is set where it is fluid leaves the channel as it is
 pub channel-if : (b : Bool) (l : LatticeModel) (rows : List (List ℕ)) → (if b then l else record l { rows = rows }).channel ≡ l.channel

@@ -1,6 +1,6 @@
 //! The lattice of an area.
 
-ghost use Rattle.std.specs.Prelude.{◌≡◌, ℕ, ◌+◌, ◌*◌, ◌<◌, ◌≤◌, ◌^◌, ◌==◌, ◌&&◌, ◌||◌, Bool, true, length, map, slice_index, IfOk, All, nat_le, nat_lt, codes, pos, ◌≤ℤ◌, if◌then◌else◌};
+ghost use Rattle.std.specs.Prelude.{◌≡◌, ℕ, ◌+◌, ◌*◌, ◌%◌, ◌<◌, ◌≤◌, ◌^◌, ◌==◌, ◌&&◌, ◌||◌, Bool, true, length, map, slice_index, IfOk, All, nat_le, nat_lt, codes, pos, ◌≤ℤ◌, if◌then◌else◌};
 ghost use Rattle.toml.specs.View.{view, table_view};
 ghost use Rattle.gas_geom.specs.Size.{IsSize};
 ghost use Rattle.gas_geom.specs.Channel.{is_solid, free_channel};
@@ -76,6 +76,15 @@ fn make_solid<G: Gas>(lattice: &mut Lattice<G>, solid: &[Value])
     }
 }
 
+// The bit of direction `i` where a word is a particle at the rate, and else 0. There is no branch:
+// the processor would guess it wrong for random words.
+fn particle(word: u32, rate: u32, i: u32) -> u8
+    requires { i < 8 }
+    ensures { result ≡ (if nat_lt (word % 1000) rate then 1 else 0) * 2 ^ i }
+{
+    u8::from(word % 1000 < rate) << i
+}
+
 // Adds direction `i` to the states of row `y` where filling puts a particle into it.
 fn add_direction(states: &mut [u8], width: u32, seed: u64, rate: u32, y: u32, i: u32)
     requires wide { width ≤ length states.old }
@@ -90,9 +99,7 @@ fn add_direction(states: &mut [u8], width: u32, seed: u64, rate: u32, y: u32, i:
     let first = u64::from(y) * u64::from(width);
     key_words(seed, FIRST_STREAM + u64::from(i), first, words);
     for x in 0..width as usize {
-        if words[x] % 1000 < rate {
-            states[x] += 1 << i;
-        }
+        states[x] += particle(words[x], rate, i);
     }
 }
 
@@ -146,6 +153,9 @@ fn fill<G: Gas>(lattice: &mut Lattice<G>, seed: u64, rate: u32)
         → lattice.old ≡ filled_before G.rules seed rate lattice.old.channel.width lattice.old.channel.height solid 0 0
         → lattice.new ≡ filled_before G.rules seed rate lattice.old.channel.width lattice.old.channel.height solid 0 lattice.old.channel.height }
 {
+    if rate == 0 {
+        return;
+    }
     for y in 0..lattice.channel().size().height() {
         fill_row(lattice, seed, rate, y);
     }
