@@ -1,7 +1,6 @@
 -- The lattice of a map.
 use Rattle.std.specs.Prelude.{◌≡◌, ℕ, ◌<◌, ◌≤◌, ◌/◌, Bool, true, false, List, Option, Some, IsSome, length}
-use Rattle.gas_geom.specs.Channel.{with_solid}
-use Rattle.gas_geom.specs.Lattice.{LatticeModel, with_cell}
+use Rattle.gas_geom.specs.Lattice.{LatticeModel}
 use Rattle.gas_scene.specs.declared.cells.Cell.{Cell}
 use Rattle.gas_scene.specs.declared.cells.Cell.TheVariants.{Solid, State}
 use Rattle.gas_scene.specs.Cells.{cell_at}
@@ -43,8 +42,3 @@ pub record IsMap (states : ℕ) (rows : List (List ℕ)) : Type 0 where
   pub few_cells : map_width rows ≤ 4096
   pub wide : (y : ℕ) → y < length rows → length (row_at rows y) / 2 ≡ map_width rows
   pub cells : (x y : ℕ) → x < map_width rows → y < length rows → IsSome (map_cell states rows x y)
-
--- a lattice with a cell put at (x, y)
-abbrev pub with_put : LatticeModel → ℕ → ℕ → Cell → LatticeModel
-with_put l x y Solid = record { channel = with_solid l.channel x y; rows = with_cell l.rows x y 0 }
-with_put l x y (State s) = record l { rows = with_cell l.rows x y s }
