@@ -41,6 +41,8 @@ sweep() {
 sweep scenes/drift.toml run --generations 1
 sweep scenes/obstacle.toml run --generations 2 --stages 1 --capacity 1
 sweep scenes/channel.toml run --generations 1
+sweep scenes/wind.toml coarse --generations 2 --block-width 8 --block-height 8
+sweep scenes/drift.toml replay --generations 2 --stages 2 0 1 2 0 1 2
 sweep scenes/square.toml check
 sweep scenes/drift.toml run --help
 echo "$passed passed, $failed failed"
