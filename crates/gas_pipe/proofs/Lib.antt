@@ -16,3 +16,4 @@ pub mod Begun
 pub mod Counted
 pub mod Queues
 pub mod Finished
+pub mod Passes

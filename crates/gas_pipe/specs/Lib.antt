@@ -7,3 +7,4 @@ pub mod Plan
 pub mod Chain
 pub mod Replay
 pub mod Run
+pub mod Jobs

@@ -3,14 +3,18 @@
 #![tactic(auto)]
 
 pub mod belt_ends;
+mod carry;
 mod chain;
 pub mod ends;
 pub mod error;
+mod feed;
 pub mod feeder;
 pub mod gate;
+mod job;
 pub mod line;
 pub mod nth_pass;
 pub mod pass;
+mod pause;
 pub mod plain;
 pub mod plan;
 pub mod replay;
@@ -19,4 +23,5 @@ mod replays;
 pub mod standing;
 #[cfg(test)]
 mod tests;
+mod work;
 pub mod worker;
