@@ -17,3 +17,5 @@ pub mod Counted
 pub mod Queues
 pub mod Finished
 pub mod Passes
+pub mod Chains
+pub mod Meetings

@@ -8,3 +8,4 @@ pub mod Chain
 pub mod Replay
 pub mod Run
 pub mod Jobs
+pub mod Links

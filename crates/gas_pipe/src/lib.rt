@@ -3,6 +3,7 @@
 #![tactic(auto)]
 
 pub mod belt_ends;
+mod build;
 mod carry;
 mod chain;
 pub mod ends;
@@ -10,6 +11,7 @@ pub mod error;
 mod feed;
 pub mod feeder;
 pub mod gate;
+mod gather;
 mod job;
 pub mod line;
 pub mod nth_pass;
@@ -21,6 +23,7 @@ pub mod replay;
 #[cfg(test)]
 mod replays;
 pub mod standing;
+mod start;
 #[cfg(test)]
 mod tests;
 mod work;

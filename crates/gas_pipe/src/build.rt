@@ -1,0 +1,73 @@
+//! Making the belts and the workers of a pass.
+ghost use Rattle.std.specs.Prelude.{◌≡◌, ◌<◌, ◌*◌, [], List, IfOk, vec_len};
+ghost use Rattle.gas_pipe.specs.Line.{Row as States};
+ghost use Rattle.gas_pipe.specs.Links.{Takes, Linked, last_belt, pass_over};
+
+use crate::job::Job;
+use crate::nth_pass::NthPass;
+use crate::worker::Worker;
+use gas_belt::belt::belt;
+use gas_belt::rx::Rx;
+use gas_belt::tx::Tx;
+use gas_geom::gas::Gas;
+use gas_rows::channel::Channel;
+use std::alloc::{AllocError, Global};
+
+// The job of the worker that takes from belt k, and the end behind it, of the next belt.
+fn job_behind<'a, G: Gas>(
+    alloc: Global,
+    channel: &'a Channel,
+    pass: &NthPass,
+    k: u32,
+    rx: Rx<G>,
+) -> Result<(Job<'a, G>, Rx<G>), AllocError>
+    requires pass { pass.now.number * pass.now.plan.stages < pass.now.plan.generations }
+    requires one_of { k < pass.now.plan.stages }
+    requires nothing_taken { rx.taken ≡ [] }
+    ensures takes { IfOk result (λ r. (rows : List States) → Takes (pass_over G.rules channel.now pass.now rows) k rx.belt r.0) }
+    ensures next { IfOk result (λ r. r.0.tx.belt ≡ r.1.belt) }
+    ensures nothing_taken { IfOk result (λ r. r.1.taken ≡ []) }
+{
+    let (tx, next) = belt(alloc, pass.plan.capacity(), channel.size().width())?;
+    let job = Job {
+        who: k + 1,
+        generation: pass.generation(k + 1),
+        worker: Worker::new(alloc, channel, pass.chirality)?,
+        rx,
+        tx,
+    };
+    Ok((job, next))
+}
+
+/// The ends of all belts of a pass: the feeder's, and those of the workers in order.
+#[derive(Drop)]
+pub struct Ends<'a, G: Gas> {
+    pub first: Tx<G>,
+    pub jobs: Vec<Job<'a, G>>,
+    pub last: Rx<G>,
+}
+
+/// Makes the belts, and a worker for each stage.
+pub fn build<'a, G: Gas>(
+    alloc: Global,
+    channel: &'a Channel,
+    pass: &NthPass,
+) -> Result<Ends<'a, G>, AllocError>
+    requires pass { pass.now.number * pass.now.plan.stages < pass.now.plan.generations }
+    ensures nothing_put { IfOk result (λ ends. ends.first.put ≡ []) }
+    ensures nothing_taken { IfOk result (λ ends. ends.last.taken ≡ []) }
+    ensures count { IfOk result (λ ends. vec_len ends.jobs ≡ pass.now.plan.stages) }
+    ensures linked { IfOk result (λ ends. (rows : List States) →
+        Linked (pass_over G.rules channel.now pass.now rows) 0 ends.first.belt ends.jobs.items) }
+    ensures closed { IfOk result (λ ends. last_belt ends.first.belt ends.jobs.items ≡ ends.last.belt) }
+{
+    let stages = pass.plan.stages();
+    let mut jobs = Vec::with_capacity(alloc, stages as usize)?;
+    let (first, mut last) = belt(alloc, pass.plan.capacity(), channel.size().width())?;
+    for k in 0..stages {
+        let (job, next) = job_behind(alloc, channel, pass, k, last)?;
+        jobs.push(job)?;
+        last = next;
+    }
+    Ok(Ends { first, jobs, last })
+}

@@ -1,0 +1,57 @@
+//! Joining the workers' threads, and bringing the two ends of each belt together.
+ghost use Rattle.std.specs.Prelude.{◌≡◌, ◌++◌, length, map, IfSome, vec_len};
+ghost use Rattle.gas_pipe.specs.Pass.{IsPass};
+ghost use Rattle.gas_pipe.specs.Links.{Linked, Advanced, Reached, belts_before, job_of, last_belt, pass_over};
+
+use crate::job::Ended;
+use crate::nth_pass::NthPass;
+use crate::start::Started;
+use gas_belt::meeting::{Carried, meet};
+use gas_belt::tx::Spent;
+use gas_geom::gas::Gas;
+use gas_rows::channel::Channel;
+use std::thread::Threads;
+
+// Lets the two ends of a belt meet, and goes on to the next belt.
+fn advance<G: Gas>(
+    current: Option<Spent<G>>,
+    ended: Option<Ended<G>>,
+    belts: &mut Vec<Carried<G>>,
+) -> Option<Spent<G>>
+    requires one_belt { IfSome current (λ spent. IfSome ended (λ e. spent.belt ≡ e.rx.belt)) }
+    requires as_many { IfSome current (λ spent. IfSome ended (λ e. length spent.put ≡ length e.rx.taken)) }
+    ensures { IfSome result (λ next. Advanced current ended belts.old.items belts.new.items next) }
+{
+    let spent = current?;
+    let Ended { rx, spent: next } = ended?;
+    let Ok(carried) = meet(spent, rx) else {
+        unreachable!()
+    };
+    let Ok(()) = belts.push(carried) else {
+        return None;
+    };
+    Some(next)
+}
+
+/// Joins all threads of a pass, and lets the ends of the belts meet, from the feeder's on, as far
+/// as no worker stopped early. It gives what is left of the end that the last worker put on.
+pub fn gather<G: Gas, R: Threads>(
+    rt: &R,
+    channel: &Channel,
+    pass: &NthPass,
+    spent: Spent<G>,
+    handles: Vec<Started<'_, G>>,
+    belts: &mut Vec<Carried<G>>,
+) -> Option<Spent<G>>
+    requires pass { IsPass (pass_over G.rules channel.now pass.now spent.put) }
+    requires linked { Linked (pass_over G.rules channel.now pass.now spent.put) 0 spent.belt (map job_of handles.items) }
+    ensures next { IfSome result (λ s. s.belt ≡ last_belt spent.belt (map job_of handles.entry.items)) }
+    ensures reached { IfSome result (λ s. Reached (pass_over G.rules channel.now pass.now spent.put) (vec_len handles.entry) s.put belts.old.items belts.new.items) }
+{
+    let mut current = Some(spent);
+    for handle in handles {
+        let ended = handle.join(rt);
+        current = advance(current, ended, belts);
+    }
+    current
+}
