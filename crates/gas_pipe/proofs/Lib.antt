@@ -19,3 +19,4 @@ pub mod Finished
 pub mod Passes
 pub mod Chains
 pub mod Meetings
+pub mod Settled

@@ -1,9 +1,10 @@
-//! The line of workers: its laws over every list of turns, the members, the belts of one thread, and
-//! a pass on one thread turn by turn.
+//! The line of workers: its laws over every list of turns, the members, the belts of one thread, a
+//! pass on one thread turn by turn, and a pass by threads.
 #![tactic(auto)]
 
 pub mod belt_ends;
 mod build;
+pub mod by_threads;
 mod carry;
 mod chain;
 pub mod ends;
