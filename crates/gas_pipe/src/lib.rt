@@ -5,6 +5,8 @@
 pub mod belt_ends;
 mod build;
 pub mod by_threads;
+#[cfg(test)]
+mod by_threads_tests;
 mod carry;
 mod chain;
 pub mod ends;
