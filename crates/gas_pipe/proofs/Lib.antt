@@ -20,3 +20,4 @@ pub mod Passes
 pub mod Chains
 pub mod Meetings
 pub mod Settled
+pub mod Boundaries

@@ -1,7 +1,12 @@
 //! The laws of the line of one pass over a lattice, for every list of turns.
-ghost use Rattle.std.specs.Prelude.{◌≡◌, ℕ, true, false, ◌+◌, ◌*◌, ◌≤◌, min, List, length};
+ghost use Rattle.std.specs.Prelude.{◌≡◌, ℕ, true, false, ◌+◌, ◌*◌, ◌≤◌, ◌<◌, min, List, length};
 ghost use Rattle.gas_pipe.specs.Line.{IsLine, IsPrefix, start, run, moves, events, is_done, carried, HasRounds};
+ghost use Rattle.gas_geom.specs.Gas.{Rules};
+ghost use Rattle.gas_geom.specs.Lattice.{LatticeModel};
+ghost use Rattle.gas_rows.specs.declared.chirality.Chirality.{Chirality};
 ghost use Rattle.gas_pipe.specs.Pass.{PassModel, IsPass, line_of, rows_after};
+ghost use Rattle.gas_pipe.specs.Plan.{PlanModel};
+ghost use Rattle.gas_pipe.specs.Run.{nth_pass, belts_of, lattice_on, carried_in};
 
 /// The line of a pass over a lattice is a line, and belt k carries in the end the rows of the
 /// lattice k generations on, or, behind the workers that compute, of the last generation.
@@ -50,4 +55,18 @@ pub fn pass_done_in_rounds()
     ensures { (p : PassModel) (turns : List ℕ) → IsPass p →
         HasRounds p.workers (2 * p.lattice.channel.height * (p.workers + 1)) turns →
         is_done (line_of p) (run (line_of p) turns start) ≡ true }
+{}
+
+/// Each pass of a plan that has generations to compute begins where the one before it ended: over
+/// the lattice on its first belt, its belts carry the plan's lattices, and it ends with that on the
+/// first belt of the next pass.
+pub fn passes_in_order()
+    ensures carried { (gas : Rules) (chirality : Chirality) (lattice : LatticeModel) (plan : PlanModel) (n : ℕ) →
+        n * plan.stages < plan.generations →
+        belts_of (nth_pass gas chirality plan n (lattice_on gas chirality lattice plan n 0)) ≡ carried_in gas chirality lattice plan n }
+    ensures next { (gas : Rules) (chirality : Chirality) (lattice : LatticeModel) (plan : PlanModel) (n : ℕ) →
+        n * plan.stages < plan.generations →
+        rows_after (nth_pass gas chirality plan n (lattice_on gas chirality lattice plan n 0))
+        (nth_pass gas chirality plan n (lattice_on gas chirality lattice plan n 0)).generations
+        ≡ (lattice_on gas chirality lattice plan (n + 1) 0).rows }
 {}
