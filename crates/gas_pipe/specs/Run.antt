@@ -41,3 +41,10 @@ carried_in gas chirality lattice plan n = map (λ k. (lattice_on gas chirality l
 abbrev pub carried_until : Rules → Chirality → LatticeModel → PlanModel → ℕ → List (List Row)
 carried_until gas chirality lattice plan zero = []
 carried_until gas chirality lattice plan (suc n) = carried_until gas chirality lattice plan n ++ carried_in gas chirality lattice plan n
+
+-- a run as its callers see it: the lattice that it gives, the stages of its line, its passes, and what their belts carried
+pub record RunModel : Type 0 where
+  pub lattice : LatticeModel
+  pub stages : ℕ
+  pub passes : ℕ
+  pub belts : List (List Row)

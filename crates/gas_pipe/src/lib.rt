@@ -18,6 +18,7 @@ mod gather;
 mod job;
 pub mod line;
 pub mod nth_pass;
+pub mod outcome;
 pub mod pass;
 mod pause;
 pub mod plain;
