@@ -21,3 +21,4 @@ pub mod Chains
 pub mod Meetings
 pub mod Settled
 pub mod Boundaries
+pub mod PassByPass

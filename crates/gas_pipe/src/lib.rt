@@ -1,5 +1,5 @@
 //! The line of workers: its laws over every list of turns, the members, the belts of one thread, a
-//! pass on one thread turn by turn, and a pass by threads.
+//! pass on one thread turn by turn, a pass by threads, and runs of many passes.
 #![tactic(auto)]
 
 pub mod belt_ends;
@@ -26,6 +26,7 @@ pub mod plan;
 pub mod replay;
 #[cfg(test)]
 mod replays;
+pub mod running;
 pub mod standing;
 mod start;
 #[cfg(test)]

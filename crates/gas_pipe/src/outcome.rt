@@ -78,7 +78,7 @@ impl<G: Gas> Run<G> {
         ensures some { IfSome result (λ rows. (pass < self.now.passes) × (belt ≤ self.now.stages) × (rows ≡ self.now.lattice.channel.height)) }
         ensures none { IfNone result ((pass < self.now.passes) × (belt ≤ self.now.stages) → ⊥) }
     {
-        let is_there = pass < self.plan.passes() && belt <= self.plan.stages();
+        let is_there = pass < self.passes() && belt <= self.plan.stages();
         is_there.then_some(self.lattice.channel().size().height())
     }
 }
