@@ -27,6 +27,8 @@ pub mod replay;
 #[cfg(test)]
 mod replays;
 pub mod running;
+#[cfg(test)]
+mod runs;
 pub mod standing;
 mod start;
 #[cfg(test)]
