@@ -4,6 +4,7 @@
 ghost use Rattle.std.specs.Prelude.{IfOk};
 ghost use Rattle.gas_tool.specs.Requests.{IsAllowed};
 
+use gas_pipe::gate::NoGate;
 use gas_tool::faults::{InputFault, ToolError, UsageFault};
 use gas_tool::input::slurp;
 use gas_tool::perform::perform;
@@ -13,6 +14,8 @@ use std::alloc::AllocError;
 use std::env;
 use std::io::ErrorKind;
 use std::process::ExitCode;
+use std::sync::Wait;
+use std::thread::Threads;
 use thiserror::Error;
 
 /// Why there is no answer.
@@ -77,10 +80,17 @@ fn request(rt: &HostRuntime) -> Result<Request, UsageFault>
     }
 }
 
-fn answer(rt: &HostRuntime) -> Result<(), Fault> {
+fn answer<R: Threads + Wait + Sync>(rt: &HostRuntime, threads: &R) -> Result<(), Fault> {
     let request = request(rt)?;
     let text = slurp(rt.alloc(), &mut rt.reader())?;
-    perform(rt.alloc(), text.as_slice(), &request, &mut rt.stdout())?;
+    perform(
+        threads,
+        rt.alloc(),
+        text.as_slice(),
+        &request,
+        &NoGate,
+        &mut rt.stdout(),
+    )?;
     Ok(())
 }
 
@@ -95,7 +105,7 @@ fn tell(rt: &HostRuntime, fault: &Fault) {
 }
 
 fn main(rt: HostRuntime) -> ExitCode {
-    match answer(&rt) {
+    match answer(&rt, &rt) {
         Ok(()) => ExitCode::SUCCESS,
         Err(fault) => {
             tell(&rt, &fault);

@@ -1,9 +1,12 @@
 // What `run` prints, on worked examples.
+use gas_pipe::gate::NoGate;
 use gas_tool::perform::perform;
 use gas_tool::request::Request;
 use std::alloc::Global;
 use std::process::Abort;
+use std::sync::Wait;
 use std::test::Fail;
+use std::thread::Threads;
 
 // A scene of these keys and rows of cells.
 fn scene_of(alloc: Global, keys: &str, cells: &[&str]) -> Result<String, Fail> {
@@ -24,8 +27,8 @@ fn text_of(alloc: Global, generation: u64, particles: u64, cells: &[&str]) -> Re
     Ok(text)
 }
 
-fn assert_prints(
-    rt: &impl Abort,
+fn assert_prints<R: Abort + Threads + Wait + Sync>(
+    rt: &R,
     alloc: Global,
     scene: &str,
     generations: u64,
@@ -37,7 +40,7 @@ fn assert_prints(
         generations,
     };
     let mut out = Vec::new(alloc);
-    perform(alloc, scene.as_bytes(), &request, &mut out)?;
+    perform(rt, alloc, scene.as_bytes(), &request, &NoGate, &mut out)?;
     assert!(rt;
         out.as_slice() == wanted.as_bytes(),
         "{generations} generations of {scene}"

@@ -15,15 +15,18 @@ use crate::request::Request;
 use crate::table::write_table;
 use crate::text::{write_cells, write_check};
 use gas_geom::gas::Gas;
+use gas_pipe::gate::Gate;
 use gas_pipe::plan::Plan;
 use gas_pipe::replay::replay;
+use gas_pipe::running::run;
 use gas_rows::chirality::Chirality;
 use gas_rows::lattice::Lattice;
 use gas_scene::any_lattice::AnyLattice;
 use gas_scene::scene::{Scene, read};
-use gas_stage::advance::lattice_after;
 use std::alloc::Global;
 use std::io::Write;
+use std::sync::Wait;
+use std::thread::Threads;
 
 /// What is printed of a lattice.
 #[derive(Clone, Copy)]
@@ -35,12 +38,15 @@ enum View {
 }
 
 /// Writes the answer to a request on the scene that a text holds. It is refused in this order: the
-/// scene, the plan, the work. Nothing is written before the answer is whole, and the writer is
-/// flushed once after the last byte. Want of memory is `Memory`, also while the scene is read.
-pub fn perform<W: Write>(
+/// scene, the plan, the passes of a replay, the work. Nothing is written before the answer is whole,
+/// and the writer is flushed once after the last byte. Want of memory is `Memory`, also while the
+/// scene is read, and so is a thread that cannot be had. Each worker's thread goes through the gate.
+pub fn perform<W: Write, H: Gate + Sync, R: Threads + Wait + Sync>(
+    rt: &R,
     alloc: Global,
     text: &[u8],
     request: &Request,
+    gate: &H,
     out: &mut W,
 ) -> Result<(), ToolError>
     requires { IsAllowed request.now }
@@ -55,7 +61,7 @@ pub fn perform<W: Write>(
             generations,
         } => {
             let plan = Plan::new(*stages, *capacity, *generations)?;
-            run(alloc, &scene, plan.generations(), View::Cells, out)
+            run_scene(rt, alloc, &scene, plan, gate, View::Cells, out)
         }
         Request::Coarse {
             stages,
@@ -69,7 +75,7 @@ pub fn perform<W: Write>(
                 width: *block_width,
                 height: *block_height,
             };
-            run(alloc, &scene, plan.generations(), view, out)
+            run_scene(rt, alloc, &scene, plan, gate, view, out)
         }
         Request::Replay {
             stages,
@@ -83,41 +89,45 @@ pub fn perform<W: Write>(
     }
 }
 
-// Computes generations of a scene and prints the lattice that they lead to.
-fn run<W: Write>(
+// Computes the generations of a plan over a scene, by the line of threads, and prints the lattice
+// that they lead to.
+fn run_scene<W: Write, H: Gate + Sync, R: Threads + Wait + Sync>(
+    rt: &R,
     alloc: Global,
     scene: &Scene,
-    generations: u64,
+    plan: Plan,
+    gate: &H,
     view: View,
     out: &mut W,
 ) -> Result<(), ToolError>
     requires { HasSomeCells view }
     ensures { Sends (W.contents out.old) (W.contents out.new)
-        (run_text view scene.now.lattice scene.now.chirality generations) result }
+        (run_text view scene.now.lattice scene.now.chirality plan.generations) result }
 {
     let chirality = scene.chirality();
     match scene.lattice() {
-        AnyLattice::Fhp1(lattice) => run_gas(alloc, lattice, chirality, generations, view, out),
-        AnyLattice::Hpp(lattice) => run_gas(alloc, lattice, chirality, generations, view, out),
+        AnyLattice::Fhp1(lattice) => run_gas(rt, alloc, lattice, chirality, plan, gate, view, out),
+        AnyLattice::Hpp(lattice) => run_gas(rt, alloc, lattice, chirality, plan, gate, view, out),
     }
 }
 
-// Computes generations of a lattice and prints the lattice that they lead to. No other function
-// computes one.
-fn run_gas<G: Gas, W: Write>(
+// Computes the generations of a plan over a lattice, and prints the one that they lead to.
+fn run_gas<G: Gas + Send, W: Write, H: Gate + Sync, R: Threads + Wait + Sync>(
+    rt: &R,
     alloc: Global,
     lattice: &Lattice<G>,
     chirality: Chirality,
-    generations: u64,
+    plan: Plan,
+    gate: &H,
     view: View,
     out: &mut W,
 ) -> Result<(), ToolError>
     requires { HasSomeCells view }
     ensures { Sends (W.contents out.old) (W.contents out.new)
-        (view_text view G.rules (lattice_after G.rules chirality lattice.now generations) generations) result }
+        (view_text view G.rules (lattice_after G.rules chirality lattice.now plan.generations) plan.generations) result }
 {
-    let lattice = lattice_after(alloc, lattice, chirality, generations)?;
-    print(alloc, &lattice, generations, view, out)
+    let run = run(rt, alloc, lattice, chirality, plan, gate)?;
+    print(alloc, run.lattice(), plan.generations(), view, out)
 }
 
 // Lets the members of a line over a scene's lattice make these turns, and prints where they stand.

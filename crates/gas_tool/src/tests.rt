@@ -11,6 +11,7 @@ use gas_geom::fhp1::Fhp1;
 use gas_geom::gas::Gas;
 use gas_geom::hpp::Hpp;
 use gas_geom::size::Size;
+use gas_pipe::gate::NoGate;
 use gas_pipe::plan::PlanError;
 use gas_rows::channel::Channel;
 use gas_rows::lattice::Lattice;
@@ -169,7 +170,7 @@ fn words(rt: HostRuntime) -> Result<(), Fail> {
     };
     assert!(rt; request == want);
     let mut out = Narrow::new(alloc, 100, 100, End::Error);
-    let refused = perform(alloc, SCENE, &request, &mut out);
+    let refused = perform(&rt, alloc, SCENE, &request, &NoGate, &mut out);
     assert!(rt; matches!(refused, Err(ToolError::Plan(PlanError::Stages))));
     assert!(rt; refused.is_err_and(|e| e.status() == 1));
     assert!(rt; out.taken.is_empty() && out.flushes == 0);
@@ -408,15 +409,15 @@ fn requests(rt: HostRuntime) -> Result<(), Fail> {
         generations: 1,
     };
     let mut out = Narrow::new(alloc, 100, 100, End::Error);
-    perform(alloc, SCENE, &request, &mut out)?;
+    perform(&rt, alloc, SCENE, &request, &NoGate, &mut out)?;
     assert!(rt; out.taken.as_slice() == CELLS);
     assert_eq!(rt; out.flushes, 1);
     let mut out = Narrow::new(alloc, 100, 10, End::Error);
-    let cut_short = perform(alloc, SCENE, &request, &mut out);
+    let cut_short = perform(&rt, alloc, SCENE, &request, &NoGate, &mut out);
     assert!(rt; matches!(cut_short, Err(ToolError::Write(10))));
     assert!(rt; out.taken.as_slice() == b"generation".as_slice());
     let mut out = Narrow::new(alloc, 100, 100, End::Error);
-    let refused = perform(alloc, b"gas = ", &request, &mut out);
+    let refused = perform(&rt, alloc, b"gas = ", &request, &NoGate, &mut out);
     assert!(rt; matches!(refused, Err(ToolError::Scene(SceneError::Syntax))));
     assert!(rt; out.taken.is_empty() && out.flushes == 0);
     Ok(())
@@ -560,20 +561,34 @@ fn requests_of_coarse(rt: HostRuntime) -> Result<(), Fail> {
         block_height: 8,
     };
     let mut out = Narrow::new(alloc, 100, 1000, End::Error);
-    perform(alloc, ALONG_A_ROW, &request(5), &mut out)?;
+    perform(&rt, alloc, ALONG_A_ROW, &request(5), &NoGate, &mut out)?;
     let want = "  col   row    fluid particles         px         py
     0     0       21         1          2          0
 ";
     assert!(rt; out.taken.as_slice() == want.as_bytes());
     assert_eq!(rt; out.flushes, 1);
     let mut out = Narrow::new(alloc, 100, 60, End::Error);
-    let cut_short = perform(alloc, ALONG_A_ROW, &request(5), &mut out);
+    let cut_short = perform(&rt, alloc, ALONG_A_ROW, &request(5), &NoGate, &mut out);
     assert!(rt; matches!(cut_short, Err(ToolError::Write(60))));
     assert!(rt; out.taken.as_slice() == &want.as_bytes()[..60]);
     let mut out = Narrow::new(alloc, 100, 100, End::Error);
-    let refused = perform(alloc, ALONG_A_ROW, &request(1_000_001), &mut out);
+    let refused = perform(
+        &rt,
+        alloc,
+        ALONG_A_ROW,
+        &request(1_000_001),
+        &NoGate,
+        &mut out,
+    );
     assert!(rt; matches!(refused, Err(ToolError::Plan(PlanError::Generations))));
-    let refused = perform(alloc, b"gas = ", &request(1_000_001), &mut out);
+    let refused = perform(
+        &rt,
+        alloc,
+        b"gas = ",
+        &request(1_000_001),
+        &NoGate,
+        &mut out,
+    );
     assert!(rt; matches!(refused, Err(ToolError::Scene(SceneError::Syntax))));
     assert!(rt; out.taken.is_empty() && out.flushes == 0);
     Ok(())
@@ -633,11 +648,11 @@ belt 1 put 0 taken 0
 belt 2 put 0 taken 0
 ";
     let mut out = Narrow::new(alloc, 7, 1000, End::Error);
-    perform(alloc, ALONG_A_ROW, &request, &mut out)?;
+    perform(&rt, alloc, ALONG_A_ROW, &request, &NoGate, &mut out)?;
     assert!(rt; out.taken.as_slice() == want.as_bytes());
     assert_eq!(rt; out.flushes, 1);
     let mut out = Narrow::new(alloc, 7, 40, End::Error);
-    let cut_short = perform(alloc, ALONG_A_ROW, &request, &mut out);
+    let cut_short = perform(&rt, alloc, ALONG_A_ROW, &request, &NoGate, &mut out);
     assert!(rt; matches!(cut_short, Err(ToolError::Write(40))));
     assert!(rt; out.taken.as_slice() == &want.as_bytes()[..40]);
     let request = |stages| {
@@ -649,10 +664,10 @@ belt 2 put 0 taken 0
         }
     };
     let mut out = Narrow::new(alloc, 100, 1000, End::Error);
-    let refused = perform(alloc, ALONG_A_ROW, &request(1), &mut out);
+    let refused = perform(&rt, alloc, ALONG_A_ROW, &request(1), &NoGate, &mut out);
     assert!(rt; matches!(refused, Err(ToolError::MorePasses)));
     assert!(rt; refused.is_err_and(|e| e.status() == 1));
-    let refused = perform(alloc, ALONG_A_ROW, &request(0), &mut out);
+    let refused = perform(&rt, alloc, ALONG_A_ROW, &request(0), &NoGate, &mut out);
     assert!(rt; matches!(refused, Err(ToolError::Plan(PlanError::Stages))));
     assert!(rt; out.taken.is_empty() && out.flushes == 0);
     Ok(())
