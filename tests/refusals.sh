@@ -1,6 +1,7 @@
 #!/bin/sh
 # Refuses each request for memory of the built program in turn: each time it must end with status 3 and "memory refused",
-# with nothing on standard output; and where nothing is refused any more it must end with 0. Ends with the counts.
+# with nothing on standard output; and where nothing is refused any more it must end with 0. Starts of threads are among the
+# requests. Ends with the counts.
 cd "$(dirname "$0")/.." || exit 1
 program=crates/fhpgas/out/fhpgas
 room=$(mktemp -d) || exit 1
@@ -40,6 +41,8 @@ sweep() {
 
 sweep scenes/drift.toml run --generations 1
 sweep scenes/obstacle.toml run --generations 2 --stages 1 --capacity 1
+sweep scenes/drift.toml run --generations 3 --stages 2 --capacity 1
+sweep scenes/drift.toml run --generations 5 --stages 4
 sweep scenes/channel.toml run --generations 1
 sweep scenes/wind.toml coarse --generations 2 --block-width 8 --block-height 8
 sweep scenes/drift.toml replay --generations 2 --stages 2 0 1 2 0 1 2

@@ -1,7 +1,7 @@
 // Runs by threads on worked examples.
 ghost use Rattle.std.specs.Prelude.{◌≡◌, ◌<◌};
 
-use crate::gate::{Gate, NoGate};
+use crate::gate::NoGate;
 use crate::outcome::Run;
 use crate::plan::Plan;
 use crate::running::run;
@@ -12,12 +12,10 @@ use gas_geom::size::Size;
 use gas_rows::channel::Channel;
 use gas_rows::chirality::Chirality;
 use gas_rows::lattice::Lattice;
-use std::alloc::{AllocError, Global};
+use std::alloc::Global;
 use std::process::Abort;
 use std::sync::Wait;
-use std::sync::atomic::{AtomicU64, Ordering};
 use std::test::Fail;
-use std::thread;
 use std::thread::Threads;
 
 // The column and the row of a cell, and its state.
@@ -189,73 +187,5 @@ fn a_full_lattice_in_three_passes(rt: HostRuntime) -> Result<(), Fail> {
     assert!(rt; run.rows_through(3, 0).is_none());
     assert!(rt; run.rows_through(0, 4).is_none());
     went_through(&rt, &run, 3, 4, 4);
-    Ok(())
-}
-
-// A gate in which each worker waits until all have entered as often as it has. It counts those for
-// whom the others never came.
-#[derive(Drop)]
-struct Meeting {
-    entered: Vec<AtomicU64>,
-    left: AtomicU64,
-    missed: AtomicU64,
-}
-
-impl Meeting {
-    fn of(alloc: Global, workers: usize) -> Result<Meeting, AllocError> {
-        let mut entered = Vec::with_capacity(alloc, workers)?;
-        for _ in 0..workers {
-            entered.push(AtomicU64::new(0))?;
-        }
-        Ok(Meeting {
-            entered,
-            left: AtomicU64::new(0),
-            missed: AtomicU64::new(0),
-        })
-    }
-
-    fn have_all_entered(&self, times: u64) -> bool {
-        self.entered
-            .iter()
-            .all(|others| others.load(Ordering::SeqCst) >= times)
-    }
-
-    fn waits(&self, who: u32) -> bool {
-        let Some(mine) = self.entered.get(who.wrapping_sub(1) as usize) else {
-            return false;
-        };
-        let times = mine.fetch_add(1, Ordering::SeqCst).wrapping_add(1);
-        for _ in 0..10_000_000 {
-            if self.have_all_entered(times) {
-                return true;
-            }
-            thread::yield_now();
-        }
-        false
-    }
-}
-
-impl Gate for Meeting {
-    fn enter(&self, who: u32) {
-        if !self.waits(who) {
-            self.missed.fetch_add(1, Ordering::SeqCst);
-        }
-    }
-
-    fn leave(&self, _who: u32) {
-        self.left.fetch_add(1, Ordering::SeqCst);
-    }
-}
-
-#[test]
-fn all_workers_run_at_the_same_time(rt: HostRuntime) -> Result<(), Fail> {
-    let lattice = lattice::<Fhp1>(rt.alloc(), (7, 3), &[], &[(0, 1, 0x01)])?;
-    let gate = Meeting::of(rt.alloc(), 4)?;
-    let plan = Plan::new(4, 1, 5)?;
-    let run = run(&rt, rt.alloc(), &lattice, Chirality::Left, plan, &gate)?;
-    assert_eq!(rt; gate.missed.load(Ordering::SeqCst), 0);
-    assert_eq!(rt; gate.left.load(Ordering::SeqCst), 8);
-    holds(&rt, run.lattice(), &[(5, 1, 0x01)]);
-    went_through(&rt, &run, 2, 5, 3);
     Ok(())
 }

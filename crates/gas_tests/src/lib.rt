@@ -3,6 +3,8 @@
 
 #[cfg(test)]
 mod lines;
+#[cfg(test)]
+mod meeting;
 pub mod plain;
 #[cfg(test)]
 mod printed;
