@@ -10,3 +10,5 @@ pub mod plain;
 mod printed;
 #[cfg(test)]
 mod tests;
+#[cfg(test)]
+mod threads;

@@ -1,0 +1,61 @@
+// Runs by threads beside the stage on one thread.
+use crate::tests::{assert_same, random_lattice};
+use gas_geom::fhp1::Fhp1;
+use gas_geom::gas::Gas;
+use gas_geom::hpp::Hpp;
+use gas_geom::size::Size;
+use gas_pipe::gate::NoGate;
+use gas_pipe::plan::Plan;
+use gas_pipe::running::run;
+use gas_rows::chirality::Chirality;
+use gas_stage::advance::lattice_after;
+use rand_core::Rng;
+use rand_core::utils::NextWord;
+use rand_pcg::Pcg32;
+use std::alloc::Global;
+use std::process::Abort;
+use std::sync::Wait;
+use std::test::Fail;
+use std::thread::Threads;
+
+// A run of a random lattice for a random number of generations.
+fn compare<G: Gas + Send, R: Abort + Threads + Wait + Sync>(
+    rt: &R,
+    alloc: Global,
+    stages: u32,
+    capacity: u32,
+    random: &mut Pcg32,
+) -> Result<(), Fail> {
+    let width = random.next_word() % 70 + 1;
+    let height = random.next_word() % 6 + 1;
+    let generations = u64::from(random.next_word() % 20);
+    let chirality = Chirality::Seeded(random.next_u64());
+    let size = Size::new(width, height).ok_or("a size")?;
+    let lattice = random_lattice::<G>(alloc, size, random)?;
+    let plan = Plan::new(stages, capacity, generations)?;
+    let run = run(rt, alloc, &lattice, chirality, plan, &NoGate)?;
+    assert_same(
+        rt,
+        run.lattice(),
+        &lattice_after(alloc, &lattice, chirality, generations)?,
+    );
+    assert_eq!(rt; run.lattice().count(), lattice.count());
+    for carried in run.belts() {
+        assert_eq!(rt; carried.len(), u64::from(height));
+    }
+    Ok(())
+}
+
+#[test]
+fn small_runs(rt: HostRuntime) -> Result<(), Fail> {
+    let mut random = Pcg32::new(42, 54);
+    for _ in 0..40 {
+        for stages in [1, 2, 3, 4, 8] {
+            for capacity in [1, 2, 7] {
+                compare::<Fhp1, _>(&rt, rt.alloc(), stages, capacity, &mut random)?;
+                compare::<Hpp, _>(&rt, rt.alloc(), stages, capacity, &mut random)?;
+            }
+        }
+    }
+    Ok(())
+}
