@@ -1,4 +1,8 @@
 // A gate in which the workers of a run wait for one another: that they run at the same time.
+ghost use Rattle.gas_tool.specs.Requests.{IsAllowed};
+
+use crate::plain::lattice_after;
+use crate::tests::assert_same;
 use gas_geom::fhp1::Fhp1;
 use gas_geom::size::Size;
 use gas_pipe::gate::Gate;
@@ -87,7 +91,9 @@ fn assert_prints<R: Abort + Threads + Wait + Sync>(
     alloc: Global,
     request: &Request,
     wanted: &str,
-) -> Result<(), Fail> {
+) -> Result<(), Fail>
+    requires { IsAllowed request.now }
+{
     let gate = Meeting::of(alloc, 4)?;
     let mut out = Vec::new(alloc);
     perform(rt, alloc, SCENE, request, &gate, &mut out)?;
@@ -105,9 +111,9 @@ fn all_workers_of_a_run_meet(rt: HostRuntime) -> Result<(), Fail> {
     let plan = Plan::new(4, 1, 5)?;
     let run = run(&rt, rt.alloc(), &lattice, Chirality::Left, plan, &gate)?;
     gate.was_kept(&rt, 8);
-    assert_eq!(rt; run.lattice().count(), 1);
-    assert_eq!(rt; run.lattice().row(1).get(5), 0x01);
     assert_eq!(rt; run.belts_made(), 10);
+    let wanted = lattice_after(rt.alloc(), &lattice, Chirality::Left, 5)?;
+    assert_same(&rt, run.lattice(), &wanted);
     Ok(())
 }
 
