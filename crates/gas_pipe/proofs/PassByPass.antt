@@ -1,6 +1,7 @@
 -- How far a run is: the feeder holds the rows that the next pass begins with, and all belts so far carry the plan's lattices.
-use Rattle.std.proofs.Common.{◌≡◌, ℕ, ◌+◌, ◌*◌, ◌≤◌, ◌<◌, List, [], ◌++◌, ap, ◌∙◌, sym, subst, arith, refl, add-one}
-use Rattle.std.proofs.Math.Nat.{min-eq_left}
+use Rattle.std.proofs.Common.{◌≡◌, ℕ, zero, suc, ◌+◌, ◌*◌, ◌≤◌, ◌<◌, List, [], ◌++◌, length, length-append, ap, ◌∙◌, sym, subst, arith, refl, add-one}
+use Rattle.std.proofs.Math.Nat.{min-eq_left, suc-mul}
+use Rattle.std.proofs.lemmas.List.FromFn.{length-map-range_with_len}
 use Rattle.gas_geom.specs.Gas.{Rules}
 use Rattle.gas_geom.specs.Channel.{ChannelModel}
 use Rattle.gas_geom.specs.Lattice.{LatticeModel, IsLattice}
@@ -11,7 +12,7 @@ use Rattle.gas_pipe.specs.Pass.{rows_after}
 use Rattle.gas_pipe.specs.Plan.{PlanModel, passes_of}
 use Rattle.gas_pipe.specs.Feeder.{FeederModel}
 use Rattle.gas_pipe.specs.Links.{HasPassed, pass_over}
-use Rattle.gas_pipe.specs.Run.{nth_pass, belts_of, boundary, lattice_on, carried_until}
+use Rattle.gas_pipe.specs.Run.{nth_pass, belts_of, boundary, lattice_on, carried_in, carried_until}
 use Rattle.gas_pipe.proofs.Finished.{same_lattice}
 use Rattle.gas_pipe.proofs.Boundaries.{pass_at, belts_carry, begins_next, all_passes}
 
@@ -57,6 +58,22 @@ module _ (gas : Rules) (chirality : Chirality) (lattice : LatticeModel) (plan : 
             ∙ ap (λ bs. carried_until gas chirality lattice plan n ++ bs) (belts_carry gas chirality lattice plan n left)
             ∙ ap (carried_until gas chirality lattice plan) (sym (add-one n));
       }
+
+  made : (n : ℕ) → length (carried_until gas chirality lattice plan n) ≡ n * (plan.stages + 1)
+  made zero = let e : 0 ≡ 0 * (plan.stages + 1) = omega arith in e
+  made (suc n) =
+      length-append (carried_until gas chirality lattice plan n) (carried_in gas chirality lattice plan n)
+      ∙ ap (λ m. m + length (carried_in gas chirality lattice plan n)) (made n)
+      ∙ ap (λ m. n * (plan.stages + 1) + m) (length-map-range_with_len (λ k. (lattice_on gas chirality lattice plan n k).rows) 0 (plan.stages + 1))
+      ∙ sym (suc-mul n (plan.stages + 1))
+
+  -- the number of belts of all passes
+  pub belts_made : (belts : List (List Row)) (stages passes n last : ℕ) → stages ≡ plan.stages → passes ≡ passes_of plan.generations plan.stages →
+      last ≡ passes_of plan.generations plan.stages → n ≤ last → last ≤ n → belts ≡ carried_until gas chirality lattice plan n →
+      length belts ≡ passes * (stages + 1)
+  belts_made belts stages passes n last is_stages is_passes is_last within reached is =
+      let all : n ≡ passes = omega (arith, is_passes, is_last, within, reached) in
+      ap length is ∙ made n ∙ ap (λ s. n * (s + 1)) (sym is_stages) ∙ ap (λ p. p * (stages + 1)) all
 
   -- after all passes
   pub over : (l : LatticeModel) (f : FeederModel) (n last : ℕ) (belts : List (List Row)) → 0 < plan.stages →

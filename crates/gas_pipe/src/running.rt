@@ -1,5 +1,5 @@
 //! A run: all passes of a plan, one after another.
-ghost use Rattle.std.specs.Prelude.{◌≡◌, ◌≤◌, ℕ, [], IfOk, IfErr};
+ghost use Rattle.std.specs.Prelude.{◌≡◌, ◌+◌, ◌*◌, ◌≤◌, ℕ, [], length, IfOk, IfErr};
 ghost use Rattle.gas_geom.specs.Lattice.{count};
 ghost use Rattle.gas_stage.specs.Evolution.{lattice_after};
 ghost use Rattle.gas_pipe.specs.Plan.{passes_of};
@@ -32,6 +32,7 @@ pub fn run<G: Gas + Send, H: Gate + Sync, R: Threads + Wait + Sync>(
 ) -> Result<Run<G>, RunError>
     ensures carried { IfOk result (λ r.
         r.belts ≡ carried_until G.rules chirality lattice.now plan (passes_of plan.generations plan.stages)) }
+    ensures belts_made { IfOk result (λ r. length r.belts ≡ r.passes * (r.stages + 1)) }
     ensures lattice { IfOk result (λ r. r.lattice ≡ lattice_after G.rules chirality lattice.now plan.generations) }
     ensures number { IfOk result (λ _. (n : ℕ) → n ≤ plan.generations →
         count G.rules (lattice_after G.rules chirality lattice.now n).rows ≡ count G.rules lattice.now.rows) }

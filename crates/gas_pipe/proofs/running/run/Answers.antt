@@ -2,7 +2,7 @@ use Rattle.std.proofs.Common.{ap, ◌∙◌, arith}
 use Rattle.gas_rows.specs.Chirality.{chirality_bit}
 use Rattle.gas_stage.proofs.Lattices.{count-generation}
 use Rattle.gas_pipe.proofs.Boundaries.{open_pass}
-use Rattle.gas_pipe.proofs.PassByPass.{goes_on, over}
+use Rattle.gas_pipe.proofs.PassByPass.{goes_on, belts_made, over}
 use Rattle.gas_pipe.proofs.running.run.Goals as goal
 
 pub loop-number-preserved : goal.loop-number-preserved
@@ -11,6 +11,12 @@ loop-number-preserved g c =
     c.in_ok-progress.progress.feeder c.loop-number.progress.belts.items c.in_ok-progress.progress.belts.items
     (open_pass c.args.plan.generations c.args.plan.stages c.loop-number.number c.stages.ensures.within.some_stages (omega (arith, c.loop-number-test.true, c.passes-number-end.ensures.value)))
     c.channel-channel.ensures.channel c.loop-number.invariant c.in_ok-progress.ensures
+
+pub returns-clause-belts_made : goal.returns-clause-belts_made
+returns-clause-belts_made g c =
+    belts_made g.G.Gas.rules c.args.chirality c.args.lattice.now c.args.plan c.new-2.result.belts c.new-2.result.stages c.new-2.result.passes c.loop-number.number
+    c.passes-number-end.result c.new-2.ensures.stages c.new-2.ensures.passes c.passes-number-end.ensures.value c.loop-number.auto.number-end c.loop-number-test.false
+    (c.new-2.ensures.belts ∙ c.loop-number.invariant.belts_are)
 
 pub returns-clause-lattice : goal.returns-clause-lattice
 returns-clause-lattice g c =
