@@ -1,8 +1,8 @@
 -- A chain of jobs grows at its end.
-use Rattle.std.proofs.Common.{◌≡◌, ℕ, suc, ◌+◌, List, [], ◌∷◌, ◌++◌, length, refl, subst, arith}
+use Rattle.std.proofs.Common.{◌≡◌, ℕ, suc, ◌+◌, List, [], ◌∷◌, ◌++◌, length, refl, subst, ap, ◌∙◌, arith}
 use Rattle.gas_belt.specs.Belt.{Belt}
-use Rattle.gas_pipe.specs.Pass.{PassModel}
-use Rattle.gas_pipe.specs.Jobs.{JobModel}
+use Rattle.gas_pipe.specs.Pass.{PassModel, computes_from}
+use Rattle.gas_pipe.specs.Jobs.{JobModel, IsReady}
 use Rattle.gas_pipe.specs.Links.{Takes, Linked, last_belt, AllReady}
 
 pub last_belt_snoc : (from : Belt) (js : List JobModel) (j : JobModel) → last_belt from (js ++ j ∷ []) ≡ j.tx.belt
@@ -21,3 +21,17 @@ linked_snoc p g k from (i ∷ js) j at l next =
 pub all_ready : (p : PassModel) (k : ℕ) (from : Belt) (js : List JobModel) → Linked p k from js → AllReady js
 all_ready p k from [] l = tt
 all_ready p k from (j ∷ js) l = (l.0.ready, all_ready p (suc k) j.tx.belt js l.1)
+
+-- the job of the worker behind belt k
+pub takes_next : (p : PassModel) (k : ℕ) (from : Belt) (j : JobModel) → from ≡ j.rx.belt → IsReady j → j.who ≡ k + 1 →
+    j.generation ≡ computes_from p (k + 1) → j.worker.stage.channel ≡ p.lattice.channel → j.worker.stage.chirality ≡ p.chirality → Takes p k from j
+takes_next p k from j link ready who generation channel chirality =
+    let more : k + 1 ≡ suc k = omega arith in
+    record {
+      link = link;
+      ready = ready;
+      who = who ∙ more;
+      generation = generation ∙ ap (computes_from p) more;
+      channel = channel;
+      chirality = chirality;
+    }

@@ -1,7 +1,9 @@
 //! Making the belts and the workers of a pass.
-ghost use Rattle.std.specs.Prelude.{◌≡◌, ◌<◌, ◌*◌, [], List, IfOk, vec_len};
+ghost use Rattle.std.specs.Prelude.{◌≡◌, ◌<◌, ◌+◌, ◌*◌, [], List, IfOk, vec_len};
 ghost use Rattle.gas_pipe.specs.Line.{Row as States};
-ghost use Rattle.gas_pipe.specs.Links.{Takes, Linked, last_belt, pass_over};
+ghost use Rattle.gas_pipe.specs.Pass.{computes_from};
+ghost use Rattle.gas_pipe.specs.Jobs.{IsReady};
+ghost use Rattle.gas_pipe.specs.Links.{Linked, last_belt, pass_over};
 
 use crate::job::Job;
 use crate::nth_pass::NthPass;
@@ -24,7 +26,12 @@ fn job_behind<'a, G: Gas>(
     requires pass { pass.now.number * pass.now.plan.stages < pass.now.plan.generations }
     requires one_of { k < pass.now.plan.stages }
     requires nothing_taken { rx.taken ≡ [] }
-    ensures takes { IfOk result (λ r. (rows : List States) → Takes (pass_over G.rules channel.now pass.now rows) k rx.belt r.0) }
+    ensures ready { IfOk result (λ r. IsReady r.0) }
+    ensures link { IfOk result (λ r. rx.belt ≡ r.0.rx.belt) }
+    ensures who { IfOk result (λ r. r.0.who ≡ k + 1) }
+    ensures generation { IfOk result (λ r. (rows : List States) → r.0.generation ≡ computes_from (pass_over G.rules channel.now pass.now rows) (k + 1)) }
+    ensures channel { IfOk result (λ r. r.0.worker.stage.channel ≡ channel.now) }
+    ensures chirality { IfOk result (λ r. r.0.worker.stage.chirality ≡ pass.now.chirality) }
     ensures next { IfOk result (λ r. r.0.tx.belt ≡ r.1.belt) }
     ensures nothing_taken { IfOk result (λ r. r.1.taken ≡ []) }
 {

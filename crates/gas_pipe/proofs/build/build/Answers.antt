@@ -1,7 +1,6 @@
-use Rattle.std.proofs.Common.{rules, ◌≡◌, ◌+◌, arith, length, subst, sym}
-use Rattle.gas_belt.specs.Belt.{Belt}
-use Rattle.gas_pipe.specs.Links.{Takes, pass_over}
-use Rattle.gas_pipe.proofs.Chains.{linked_snoc, last_belt_snoc}
+use Rattle.std.proofs.Common.{rules, ◌≡◌, ◌+◌, arith, length, ◌∙◌}
+use Rattle.gas_pipe.specs.Links.{pass_over}
+use Rattle.gas_pipe.proofs.Chains.{linked_snoc, last_belt_snoc, takes_next}
 use Rattle.gas_pipe.proofs.build.build.Goals as goal
 
 pub loop-k-preserved : goal.loop-k-preserved
@@ -14,9 +13,10 @@ loop-k-preserved g c =
     record {
       linked = λ rows.
           let p = pass_over g.G.Gas.rules c.args.channel.now c.args.pass.now rows in
+          let job = c.in_ok-job.ensures in
           rw items
           (linked_snoc p 0 c.loop-k.k first jobs _ len (was.linked rows)
-          (subst (λ (b : Belt). Takes p c.loop-k.k b c.in_ok-job.job) (sym was.closed) (c.in_ok-job.ensures.takes rows)));
+          (takes_next p c.loop-k.k _ c.in_ok-job.job (was.closed ∙ job.link) job.ready job.who (job.generation rows) job.channel job.chirality));
       closed = rw (items, last_belt_snoc first jobs) c.in_ok-job.ensures.next;
       count = search rules;
       nothing_taken = c.in_ok-job.ensures.nothing_taken;
