@@ -1,37 +1,64 @@
 #!/bin/bash
-# Site updates per second (cells times generations by seconds) of fhpgas and, beside it, of a plain C program on the same
-# lattice: 1024 x 1024 cells of FHP-I, filled at rate 300, 100 generations. The time that reading and printing take is
-# measured by a run of 0 generations and taken off. The two must print the same lattice.
-# Usage: bench/site_updates.sh [SIDE [GENERATIONS [CHIRALITY]]]
+# Site updates per second (cells times generations by seconds) of `fhpgas run` with 1, 2 and 4 stages and, beside it, of one
+# stage on one thread and of a plain C program, all on the same lattice of FHP-I, filled at rate 300. The time that reading
+# and printing take is measured by a run of 0 generations and taken off; of several tries the best counts. All must print the
+# same lattice. Last, what starting the line costs: a run of one generation on a tiny lattice, less one of none.
+# Usage: bench/site_updates.sh [SIDE [GENERATIONS [CHIRALITY [CAPACITY]]]]
 cd "$(dirname "$0")/.." || exit 1
 side=${1:-1024}
 generations=${2:-100}
 chirality=${3:-left}
+capacity=${4:-2}
 program=crates/fhpgas/out/fhpgas
+single=crates/single_stage/out/single_stage
 ./fhpgas --help > /dev/null || exit 1
+(cd crates/single_stage && rt run -- 0 < stdin) > /dev/null 2>&1 || { echo "single_stage was not built" >&2; exit 1; }
 room=$(mktemp -d) || exit 1
 trap 'rm -rf "$room"' EXIT
 cc -O2 -o "$room/plain" bench/plain.c || exit 1
 printf 'gas = "fhp1"\nchirality = "%s"\nseed = 1\nwidth = %s\nheight = %s\nrate = 300\n' "$chirality" "$side" "$side" > "$room/scene"
 
-# seconds WORDS..: runs the program on the scene, its output in the room's file out
+# seconds COMMAND..: the best of three runs of the command on the scene, its output in the room's file out
 seconds() {
-    local begun=$EPOCHREALTIME
-    "$program" "$@" < "$room/scene" > "$room/out" || exit 1
-    echo "$begun $EPOCHREALTIME" | awk '{ printf "%.3f", $2 - $1 }'
+    local begun
+    for _ in 1 2 3; do
+        begun=$EPOCHREALTIME
+        "$@" < "$room/scene" > "$room/out" || exit 1
+        echo "$begun $EPOCHREALTIME"
+    done | awk '{ t = $2 - $1; if (NR == 1 || t < best) best = t } END { printf "%.4f", best }'
 }
 
-around=$(seconds run --generations 0) || exit 1
+# tell NAME SECONDS: the site updates per second, and how many times faster than the plain C program
+tell() {
+    awk -v name="$1" -v seconds="$2" -v updates=$((side * side * generations)) -v plain="$plain" \
+        'BEGIN { printf "%-24s %7.1f million site updates a second, %5.2f times plain C\n", name, updates / seconds / 1e6, plain / seconds }'
+}
+
+# less A B
+less() {
+    awk -v a="$1" -v b="$2" 'BEGIN { printf "%.4f", a - b }'
+}
+
+around=$(seconds "$single" 0) || exit 1
 cp "$room/out" "$room/start"
-whole=$(seconds run --generations "$generations") || exit 1
 "$room/plain" "$generations" < "$room/start" > "$room/plain_out" 2> "$room/plain_seconds" || exit 1
+plain=$(cat "$room/plain_seconds")
+tell "plain C" "$plain"
+whole=$(seconds "$single" "$generations") || exit 1
+cp "$room/out" "$room/wanted"
 if [ "$chirality" = left ]; then
-    cmp "$room/out" "$room/plain_out" || exit 1
+    cmp "$room/wanted" "$room/plain_out" || exit 1
 fi
-awk -v side="$side" -v generations="$generations" -v around="$around" -v whole="$whole" -v plain="$(cat "$room/plain_seconds")" '
-BEGIN {
-    updates = side * side * generations
-    printf "fhpgas: %.1f million site updates a second (%.3f s, and %.3f s to read and print)\n", updates / (whole - around) / 1e6, whole - around, around
-    printf "plain C: %.1f million site updates a second (%.3f s)\n", updates / plain / 1e6, plain
-    printf "ratio: %.2f\n", plain / (whole - around)
-}'
+tell "one stage, no thread" "$(less "$whole" "$around")"
+for stages in 1 2 4; do
+    whole=$(seconds "$program" run --generations "$generations" --stages $stages --capacity "$capacity") || exit 1
+    cmp "$room/out" "$room/wanted" || exit 1
+    tell "$stages stages, by threads" "$(less "$whole" "$around")"
+done
+
+cp scenes/drift.toml "$room/scene"
+for stages in 1 2 4; do
+    none=$(seconds bash -c "for i in {1..100}; do $program run --generations 0 < $room/scene; done")
+    one=$(seconds bash -c "for i in {1..100}; do $program run --generations 1 --stages $stages < $room/scene; done")
+    awk -v stages=$stages -v none="$none" -v one="$one" 'BEGIN { printf "starting %d stages: %.0f microseconds\n", stages, (one - none) * 1e4 }'
+done
