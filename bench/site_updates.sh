@@ -53,12 +53,12 @@ tell "one stage, no thread" "$(less "$whole" "$around")"
 for stages in 1 2 4; do
     whole=$(seconds "$program" run --generations "$generations" --stages $stages --capacity "$capacity") || exit 1
     cmp "$room/out" "$room/wanted" || exit 1
-    tell "$stages stages, by threads" "$(less "$whole" "$around")"
+    tell "stages $stages, by threads" "$(less "$whole" "$around")"
 done
 
 cp scenes/drift.toml "$room/scene"
 for stages in 1 2 4; do
     none=$(seconds bash -c "for i in {1..100}; do $program run --generations 0 < $room/scene; done")
     one=$(seconds bash -c "for i in {1..100}; do $program run --generations 1 --stages $stages < $room/scene; done")
-    awk -v stages=$stages -v none="$none" -v one="$one" 'BEGIN { printf "starting %d stages: %.0f microseconds\n", stages, (one - none) * 1e4 }'
+    awk -v stages=$stages -v none="$none" -v one="$one" 'BEGIN { printf "starting the line, stages %d: %.0f microseconds\n", stages, (one - none) * 1e4 }'
 done
