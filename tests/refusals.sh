@@ -1,7 +1,7 @@
 #!/bin/sh
 # Refuses each request for memory of the built program in turn: each time it must end with status 3 and "memory refused",
 # with nothing on standard output; and where nothing is refused any more it must end with 0. Starts of threads are among the
-# requests. Ends with the counts.
+# requests, and every thread that was started must have been joined. Ends with the counts.
 cd "$(dirname "$0")/.." || exit 1
 program=crates/fhpgas/out/fhpgas
 room=$(mktemp -d) || exit 1
@@ -19,24 +19,25 @@ sweep() {
         REFUSE_AT=$request REFUSE_SEEN=$room/seen LD_PRELOAD=$room/refuse.so \
             "$program" "$@" < "$scene" > "$room/out" 2> "$room/err"
         status=$?
-        if [ "$(cat "$room/seen")" -lt "$request" ]; then
+        read -r seen started joined < "$room/seen"
+        if [ "$seen" -lt "$request" ]; then
             break
         fi
-        if [ $status = 3 ] && [ ! -s "$room/out" ] && [ "$(cat "$room/err")" = "memory refused" ]; then
+        if [ $status = 3 ] && [ "$started" = "$joined" ] && [ ! -s "$room/out" ] && [ "$(cat "$room/err")" = "memory refused" ]; then
             passed=$((passed + 1))
         else
-            echo "FAILED: $scene $*: request $request refused gave status $status, $(wc -c < "$room/out") bytes: $(head -c 200 "$room/err")"
+            echo "FAILED: $scene $*: request $request refused gave status $status, $joined of $started threads joined, $(wc -c < "$room/out") bytes: $(head -c 200 "$room/err")"
             failed=$((failed + 1))
         fi
         request=$((request + 1))
     done
-    if [ $status = 0 ] && [ -s "$room/out" ] && [ $request -gt 1 ]; then
+    if [ $status = 0 ] && [ "$started" = "$joined" ] && [ -s "$room/out" ] && [ $request -gt 1 ]; then
         passed=$((passed + 1))
     else
         echo "FAILED: $scene $*: status $status where nothing was refused"
         failed=$((failed + 1))
     fi
-    echo "$scene $*: $((request - 1)) requests, each refused once"
+    echo "$scene $*: $((request - 1)) requests, each refused once; $started threads where none was"
 }
 
 sweep scenes/drift.toml run --generations 1

@@ -1,6 +1,6 @@
 /* Refuses one request for memory or for a thread: the REFUSE_AT-th call of malloc, realloc or pthread_create that the
-   program itself makes; what its libraries ask for is let through. At the end it writes how many it saw to the file
-   REFUSE_SEEN. Loaded with LD_PRELOAD. */
+   program itself makes; what its libraries ask for is let through. At the end it writes to the file REFUSE_SEEN how many it
+   saw, how many threads were started, and how many of these were joined. Loaded with LD_PRELOAD. */
 #define _GNU_SOURCE
 #include <dlfcn.h>
 #include <errno.h>
@@ -13,7 +13,7 @@
 #include <sys/syscall.h>
 #include <unistd.h>
 
-static atomic_long seen;
+static atomic_long seen, started, joined;
 static long refuse_at = -1;
 static char *low, *high; /* where the program's own code lies */
 
@@ -40,8 +40,8 @@ __attribute__((constructor)) static void begin(void) {
 __attribute__((destructor)) static void end(void) {
     const char *file = getenv("REFUSE_SEEN");
     if (!file) return;
-    char text[32];
-    int length = snprintf(text, sizeof text, "%ld\n", atomic_load(&seen));
+    char text[96];
+    int length = snprintf(text, sizeof text, "%ld %ld %ld\n", atomic_load(&seen), atomic_load(&started), atomic_load(&joined));
     int to = open(file, O_WRONLY | O_CREAT | O_TRUNC, 0644);
     if (to < 0) return;
     if (write(to, text, length) < 0) abort();
@@ -83,5 +83,15 @@ int pthread_create(pthread_t *thread, const pthread_attr_t *attributes, void *(*
     static int (*real)(pthread_t *, const pthread_attr_t *, void *(*)(void *), void *);
     if (!real) *(void **)&real = dlsym(RTLD_NEXT, "pthread_create");
     if (is_refused(__builtin_return_address(0))) return EAGAIN;
-    return real(thread, attributes, run, argument);
+    int status = real(thread, attributes, run, argument);
+    if (status == 0) atomic_fetch_add(&started, 1);
+    return status;
+}
+
+int pthread_join(pthread_t thread, void **value) {
+    static int (*real)(pthread_t, void **);
+    if (!real) *(void **)&real = dlsym(RTLD_NEXT, "pthread_join");
+    int status = real(thread, value);
+    if (status == 0) atomic_fetch_add(&joined, 1);
+    return status;
 }
