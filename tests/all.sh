@@ -1,5 +1,14 @@
-#!/bin/sh
-# The test command: the gate proves every crate from nothing, tries the must-fail edits, and runs the tests and the stored
-# run of the program; then the built program is tried from outside.
+#!/bin/bash
+# The test command: the definitions are compared with the document that lists them; the gate proves every crate from nothing,
+# tries the must-fail edits, and runs the tests and the stored run of the program; then the built program is tried from
+# outside. A must-fail edit that says little of a contract is named.
 cd "$(dirname "$0")/.." || exit 1
-rt ci && tests/command_line.sh && tests/mutated_scenes.py && tests/refusals.sh
+set -o pipefail
+tests/definitions.py || exit 1
+log=$(mktemp) || exit 1
+trap 'rm -f "$log"' EXIT
+rt ci 2>&1 | tee "$log" || exit 1
+if grep 'only because a proof file names what the edit took away' "$log"; then
+    echo 'tests: these edits say little of a contract: let them change a value and keep the names'
+fi
+tests/command_line.sh && tests/mutated_scenes.py && tests/refusals.sh

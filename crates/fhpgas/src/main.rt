@@ -4,7 +4,7 @@
 ghost use Rattle.std.specs.Prelude.{IfOk};
 ghost use Rattle.gas_tool.specs.Requests.{IsAllowed};
 
-use gas_pipe::gate::NoGate;
+use gas_pipe::threads::gate::NoGate;
 use gas_tool::faults::{InputFault, ToolError, UsageFault};
 use gas_tool::input::slurp;
 use gas_tool::perform::perform;

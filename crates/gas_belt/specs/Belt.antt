@@ -3,12 +3,7 @@ use Rattle.std.specs.Prelude.{ℕ, List}
 use Rattle.std.specs.Global.{Global}
 use denote.RawPtr.{Ptr}
 use Rattle.rtrb.specs.Shared.{Names}
-use Rattle.rtrb.specs.declared.AnyItems.{AnyItems}
-use Rattle.rtrb.specs.declared.end.End.{End}
-
--- a row is the list of its cells' states
-abbrev pub Row : Type 0
-Row = List ℕ
+use Rattle.gas_rows.specs.Row.{RowModel}
 
 -- which belt it is, by the ring that it has: where that lies in memory, and its names in proofs
 pub record Belt : Type 0 where
@@ -17,16 +12,17 @@ pub record Belt : Type 0 where
   pub names : Names
   pub heap : Global
 
--- the belt that an end of a ring is of
-abbrev pub belt_of : End Row Global AnyItems → Belt
-belt_of e = record { words = e.words; slots = e.slots; names = e.names; heap = e.heap }
-
 -- the end of a belt that rows are put on, open or closed: the belt that it is of, and all rows put so far, in order
 pub record Sender : Type 0 where
   pub belt : Belt
-  pub put : List Row
+  pub put : List RowModel
 
 -- the end that rows are taken from: the belt that it is of, and all rows taken so far, in order
 pub record Receiver : Type 0 where
   pub belt : Belt
-  pub taken : List Row
+  pub taken : List RowModel
+
+-- what a belt carried: all rows put on it, and all rows taken from it, in order
+pub record CarriedModel : Type 0 where
+  pub put : List RowModel
+  pub taken : List RowModel

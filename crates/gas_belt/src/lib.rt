@@ -2,7 +2,7 @@
 #![tactic(auto)]
 
 pub mod belt;
-pub mod meeting;
+pub mod carried;
 pub mod rx;
 #[cfg(test)]
 mod tests;

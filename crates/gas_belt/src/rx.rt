@@ -1,7 +1,7 @@
 //! The end of a belt that rows are taken from.
 ghost use Rattle.std.specs.Prelude.{◌≡◌, ◌++◌, ◌∷◌, [], length, IfSome, IfNone, IsNone};
 ghost use Rattle.rtrb.specs.Ring.{received};
-ghost use Rattle.gas_belt.specs.Belt.{belt_of};
+ghost use Rattle.gas_belt.specs.Ring.{belt_of};
 
 use gas_geom::gas::Gas;
 use gas_rows::row::Row;
@@ -18,7 +18,8 @@ pub struct Rx<G: Gas> {
 impl<G: Gas> Model for Rx<G> {
     ghost use Rattle.std.specs.Prelude.{◌≡◌, length};
     ghost use Rattle.rtrb.specs.Ring.{received};
-    ghost use Rattle.gas_belt.specs.Belt.{Receiver, belt_of};
+    ghost use Rattle.gas_belt.specs.Belt.{Receiver};
+    ghost use Rattle.gas_belt.specs.Ring.{belt_of};
 
     ghost Value = { Receiver };
 

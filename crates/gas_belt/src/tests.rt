@@ -1,7 +1,7 @@
 ghost use Rattle.std.specs.Prelude.{◌≡◌, ◌+◌, ◌*◌, ◌<◌, IfOk, IfSome};
 
 use crate::belt::belt;
-use crate::meeting::meet;
+use crate::carried::meet;
 use crate::rx::Rx;
 use crate::tx::{Spent, Tx};
 use gas_geom::fhp1::Fhp1;

@@ -1,7 +1,7 @@
 //! The end of a belt that rows are put on.
 ghost use Rattle.std.specs.Prelude.{◌≡◌, ◌++◌, ◌∷◌, [], length, OnOk, IfErr, OnErr, IsErr};
 ghost use Rattle.rtrb.specs.Ring.{sent};
-ghost use Rattle.gas_belt.specs.Belt.{belt_of};
+ghost use Rattle.gas_belt.specs.Ring.{belt_of};
 
 use gas_geom::gas::Gas;
 use gas_rows::row::Row;
@@ -18,7 +18,8 @@ pub struct Tx<G: Gas> {
 impl<G: Gas> Model for Tx<G> {
     ghost use Rattle.std.specs.Prelude.{◌≡◌, length};
     ghost use Rattle.rtrb.specs.Ring.{sent};
-    ghost use Rattle.gas_belt.specs.Belt.{Sender, belt_of};
+    ghost use Rattle.gas_belt.specs.Belt.{Sender};
+    ghost use Rattle.gas_belt.specs.Ring.{belt_of};
 
     ghost Value = { Sender };
 
@@ -76,7 +77,8 @@ pub struct Spent<G: Gas> {
 impl<G: Gas> Model for Spent<G> {
     ghost use Rattle.std.specs.Prelude.{◌≡◌, length};
     ghost use Rattle.rtrb.specs.Ring.{sent};
-    ghost use Rattle.gas_belt.specs.Belt.{Sender, belt_of};
+    ghost use Rattle.gas_belt.specs.Belt.{Sender};
+    ghost use Rattle.gas_belt.specs.Ring.{belt_of};
 
     ghost Value = { Sender };
 

@@ -1,6 +1,6 @@
 -- FHP-I, the gas of U. Frisch, B. Hasslacher and Y. Pomeau, "Lattice-gas automata for the Navier-Stokes equation",
 -- Physical Review Letters 56 (1986) 1505: six directions on the triangular lattice, no particle at rest.
-use Rattle.std.specs.Prelude.{ℕ, ◌+◌, ◌%◌, Bool, if◌then◌else◌, ◌==◌, List, [], ◌∷◌, slice_index_or, ℤ, pos, negsuc}
+use Rattle.std.specs.Prelude.{ℕ, ◌+◌, ◌%◌, Bool, if◌then◌else◌, ◌==◌, List, [], ◌∷◌, slice_index_or, codes, ℤ, pos, negsuc}
 use Rattle.gas_geom.specs.Gas.{Move, Back, Stay, On, Rules}
 
 -- the steps of E, NE, NW, W, SW and SE from an even row
@@ -28,6 +28,7 @@ collision s chi =
 
 abbrev pub fhp1 : Rules
 fhp1 = record {
+  name = codes "fhp1";
   dirs = 6;
   opposite = λ i. (i + 3) % 6;
   step = λ i odd. slice_index_or (if odd then steps_from_odd else steps_from_even) i (Stay, Stay);

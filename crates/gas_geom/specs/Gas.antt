@@ -1,5 +1,5 @@
--- What a lattice gas is: its directions, their steps and momenta, and what a collision does.
-use Rattle.std.specs.Prelude.{◌≡◌, ℕ, zero, suc, ◌+◌, ◌^◌, ◌<◌, ◌≤◌, ◌==◌, Bool, not, if◌then◌else◌, ℤ, pos, negsuc, ◌+ℤ◌, ◌≤ℤ◌}
+-- What a lattice gas is: its name, its directions, their steps and momenta, and what a collision does.
+use Rattle.std.specs.Prelude.{◌≡◌, ℕ, zero, suc, ◌+◌, ◌^◌, ◌<◌, ◌≤◌, ◌==◌, Bool, not, if◌then◌else◌, List, ℤ, pos, negsuc, ◌+ℤ◌, ◌≤ℤ◌}
 use Rattle.std.specs.Int.{bit_at}
 
 -- a step along one axis
@@ -29,6 +29,8 @@ odd_after On odd = not odd
 -- A set of directions is a number, which holds direction `i` where bit `i` is 1.
 -- The rules of a gas: its directions are the numbers below `dirs`, and its sets those below `2 ^ dirs`.
 pub record Rules : Type 0 where
+  -- the name as text
+  pub name : List ℕ
   pub dirs : ℕ
   -- the direction that leads back
   pub opposite : ℕ → ℕ
@@ -38,6 +40,10 @@ pub record Rules : Type 0 where
   pub collide : ℕ → Bool → ℕ
   -- the momentum of a direction: eastwards and northwards
   pub momentum : ℕ → ℤ × ℤ
+
+-- whether a set holds direction i, which is whether bit i of the number is 1
+abbrev pub holds : ℕ → ℕ → Bool
+holds s i = bit_at s i == 1
 
 -- the sum of `f` over the numbers below `n`
 abbrev pub sum_below : ℕ → (ℕ → ℕ) → ℕ
@@ -51,7 +57,7 @@ particles gas s = sum_below gas.dirs (λ i. bit_at s i)
 -- the sum of the numbers `f i` for the `i` below `n` that a set holds
 abbrev pub sum_held : ℕ → ℕ → (ℕ → ℤ) → ℤ
 sum_held zero s f = pos 0
-sum_held (suc n) s f = sum_held n s f +ℤ (if bit_at s n == 1 then f n else pos 0)
+sum_held (suc n) s f = sum_held n s f +ℤ (if holds s n then f n else pos 0)
 
 -- the momentum of a set
 abbrev pub momentum_of : Rules → ℕ → ℤ × ℤ

@@ -1,6 +1,6 @@
 -- HPP, the gas of J. Hardy, O. de Pazzis and Y. Pomeau, "Time evolution of a two-dimensional model system",
 -- Journal of Mathematical Physics 14 (1973) 1746: four directions on the square lattice.
-use Rattle.std.specs.Prelude.{ℕ, ◌+◌, ◌%◌, if◌then◌else◌, ◌==◌, List, [], ◌∷◌, slice_index_or, ℤ, pos, negsuc}
+use Rattle.std.specs.Prelude.{ℕ, ◌+◌, ◌%◌, if◌then◌else◌, ◌==◌, List, [], ◌∷◌, slice_index_or, codes, ℤ, pos, negsuc}
 use Rattle.gas_geom.specs.Gas.{Move, Back, Stay, On, Rules}
 
 -- the steps of E, N, W and S
@@ -17,6 +17,7 @@ collision s = if s == 0x05 then 0x0a else if s == 0x0a then 0x05 else s
 
 abbrev pub hpp : Rules
 hpp = record {
+  name = codes "hpp";
   dirs = 4;
   opposite = λ i. (i + 2) % 4;
   step = λ i odd. slice_index_or steps i (Stay, Stay);

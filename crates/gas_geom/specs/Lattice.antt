@@ -1,9 +1,7 @@
 -- Lattices: a set of directions for each cell, and the lattices that follow.
-use Rattle.std.specs.Prelude.{◌≡◌, ℕ, zero, suc, ◌+◌, ◌*◌, ◌^◌, ◌<◌, Bool, true, false, if◌then◌else◌, List, [], map, length, replicate, slice_index, slice_index_or, slice_set, sum_by}
+use Rattle.std.specs.Prelude.{◌≡◌, ℕ, zero, suc, ◌+◌, ◌^◌, ◌<◌, Bool, true, false, if◌then◌else◌, List, [], map, length, replicate, slice_index, slice_index_or, slice_set, sum_by, Option, Some, None}
 use Rattle.std.specs.List.{range_with_len}
-use Rattle.std.specs.Option.{option_map_or}
-use Rattle.std.specs.Int.{bit_at}
-use Rattle.gas_geom.specs.Gas.{Rules, sum_below, particles}
+use Rattle.gas_geom.specs.Gas.{Rules, holds, sum_below, particles}
 use Rattle.gas_geom.specs.Neighbour.{neighbour_of}
 use Rattle.gas_geom.specs.Channel.{ChannelModel, is_solid}
 
@@ -16,11 +14,11 @@ pub record LatticeModel : Type 0 where
 abbrev pub cell : List (List ℕ) → ℕ → ℕ → ℕ
 cell rows x y = slice_index (slice_index_or rows y []) x
 
--- a row, and rows, by their cells
-abbrev pub row_of : ℕ → (ℕ → ℕ) → List ℕ
+-- a row, and rows from the top, by what stands at each column and row
+abbrev pub row_of : {A : Type 0} → ℕ → (ℕ → A) → List A
 row_of width at = map at (range_with_len 0 width)
 
-abbrev pub rows_of : ℕ → ℕ → (ℕ → ℕ → ℕ) → List (List ℕ)
+abbrev pub rows_of : {A : Type 0} → ℕ → ℕ → (ℕ → ℕ → A) → List (List A)
 rows_of width height at = map (λ y. row_of width (λ x. at x y)) (range_with_len 0 height)
 
 -- the rows are those of a lattice: sets of the gas's directions, empty at solid cells
@@ -42,17 +40,20 @@ with_cell rows x y state = slice_set rows y (slice_set (slice_index_or rows y []
 abbrev pub collided : Rules → ChannelModel → (ℕ → ℕ → Bool) → (ℕ → ℕ → ℕ) → ℕ → ℕ → ℕ
 collided gas channel chi at x y = if is_solid channel x y then 0 else gas.collide (at x y) (chi x y)
 
--- whether a particle, 1 or 0, comes to the fluid cell (x, y) in direction i: one from the neighbour against i, or, where
--- that is solid or the wall, the cell's own that goes towards it and is sent back
-abbrev pub arriving : Rules → ChannelModel → (ℕ → ℕ → ℕ) → ℕ → ℕ → ℕ → ℕ
-arriving gas channel at x y i =
-    let sent_back : ℕ = bit_at (at x y) (gas.opposite i) in
-    option_map_or (λ u. if is_solid channel u.0 u.1 then sent_back else bit_at (at u.0 u.1) i)
-    (neighbour_of gas channel.width channel.height x y (gas.opposite i)) sent_back
+-- whether a particle comes to the fluid cell (x, y) in direction i from the neighbour against i, or, where that is the wall or
+-- solid, the cell's own that goes towards it is sent back
+abbrev pub arrives_from : Rules → ChannelModel → (ℕ → ℕ → ℕ) → ℕ → ℕ → ℕ → Option (ℕ × ℕ) → Bool
+arrives_from gas channel at x y i None = holds (at x y) (gas.opposite i)
+arrives_from gas channel at x y i (Some u) =
+    if is_solid channel u.0 u.1 then holds (at x y) (gas.opposite i) else holds (at u.0 u.1) i
 
--- the set of the numbers i below n at which f is 1
-abbrev pub set_of : ℕ → (ℕ → ℕ) → ℕ
-set_of n f = sum_below n (λ i. f i * 2 ^ i)
+abbrev pub arriving : Rules → ChannelModel → (ℕ → ℕ → ℕ) → ℕ → ℕ → ℕ → Bool
+arriving gas channel at x y i =
+    arrives_from gas channel at x y i (neighbour_of gas channel.width channel.height x y (gas.opposite i))
+
+-- the set of the directions i below n for which f holds
+abbrev pub set_of : ℕ → (ℕ → Bool) → ℕ
+set_of n f = sum_below n (λ i. if f i then 2 ^ i else 0)
 
 -- the lattice after every particle moved along its link
 abbrev pub streamed : Rules → ChannelModel → (ℕ → ℕ → ℕ) → ℕ → ℕ → ℕ

@@ -5,4 +5,5 @@ pub mod Hpp
 pub mod Neighbour
 pub mod Channel
 pub mod Lattice
+pub mod Planes
 pub mod Laws

@@ -21,6 +21,10 @@ impl Gas for Fhp1 {
 
     ghost laws = { IsGas-fhp1 };
 
+    fn name() -> &'static str {
+        "fhp1"
+    }
+
     fn opposite(i: u32) -> u32 {
         (i + 3) % 6
     }
@@ -49,6 +53,32 @@ impl Gas for Fhp1 {
             0x2a => 0x15,
             other => other,
         }
+    }
+
+    fn collide64(planes: [u64; 8], chi: u64) -> [u64; 8] {
+        let [e, ne, nw, w, sw, se, _, _] = planes;
+        // Where an axis holds one particle, a pair has a spectator; a triple has one on each axis.
+        let (one_e, one_ne, one_nw) = (e ^ w, ne ^ sw, nw ^ se);
+        let unlike = e ^ ne;
+        let triple = one_e & one_ne & one_nw & unlike & (ne ^ nw);
+        let pair = (unlike ^ nw) & !((e & ne) | one_e | one_ne | one_nw);
+        // A pair leaves its axis for the next one to the left or to the right.
+        let right = !chi;
+        let pair_e = pair & (e | (nw ^ right));
+        let pair_ne = pair & (ne | (e ^ right));
+        let along_e = triple | pair_e;
+        let along_ne = triple | pair_ne;
+        let along_nw = triple | (pair_e ^ pair_ne);
+        [
+            e ^ along_e,
+            ne ^ along_ne,
+            nw ^ along_nw,
+            w ^ along_e,
+            sw ^ along_ne,
+            se ^ along_nw,
+            0,
+            0,
+        ]
     }
 
     fn momentum(i: u32) -> (i32, i32) {

@@ -1,5 +1,6 @@
 ghost use Rattle.std.specs.Prelude.{◌≡◌, ◌<◌, ◌≤◌, ◌^◌, ℕ};
-ghost use Rattle.gas_geom.specs.Gas.{Rules, IsGas, amount};
+ghost use Rattle.gas_geom.specs.Gas.{Rules, IsGas, amount, holds};
+ghost use Rattle.gas_geom.specs.Planes.{set_at, ZeroFrom};
 
 /// A lattice gas. A direction is a number below `DIRS`, and a cell's state is the set of the
 /// directions in which a particle moves: bit `i` stands for direction `i`.
@@ -10,6 +11,10 @@ pub trait Gas {
 
     /// The number of directions, 1 to 8.
     const DIRS: u32;
+
+    /// The name.
+    fn name() -> &'static str
+        ensures { result.now ≡ rules.name };
 
     /// The direction that leads back.
     fn opposite(i: u32) -> u32
@@ -27,6 +32,14 @@ pub trait Gas {
     fn collide(state: u8, chi: bool) -> u8
         requires { state < 2 ^ rules.dirs }
         ensures { result ≡ rules.collide state chi };
+
+    /// The states of 64 cells after a collision. Bit `b` of plane `i` says whether cell `b` holds
+    /// direction `i`, and bit `b` of `chi` is the random bit of cell `b`. The planes from `DIRS` on
+    /// are zero.
+    fn collide64(planes: [u64; 8], chi: u64) -> [u64; 8]
+        requires { ZeroFrom rules.dirs planes }
+        ensures cells { (b : ℕ) → b < 64 → set_at rules.dirs result b ≡ rules.collide (set_at rules.dirs planes b) (holds chi b) }
+        ensures rest { ZeroFrom rules.dirs result };
 
     /// The momentum of a particle in a direction, eastwards and northwards, each -2 to 2.
     fn momentum(i: u32) -> (i32, i32)

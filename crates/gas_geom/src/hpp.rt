@@ -20,6 +20,10 @@ impl Gas for Hpp {
 
     ghost laws = { IsGas-hpp };
 
+    fn name() -> &'static str {
+        "hpp"
+    }
+
     fn opposite(i: u32) -> u32 {
         (i + 2) % 4
     }
@@ -39,6 +43,13 @@ impl Gas for Hpp {
             0x0a => 0x05,
             other => other,
         }
+    }
+
+    fn collide64(planes: [u64; 8], _chi: u64) -> [u64; 8] {
+        let [e, n, w, s, _, _, _, _] = planes;
+        // One pair head on: the two of an axis are alike, and the two axes are not.
+        let turns = (e ^ n) & !((e ^ w) | (n ^ s));
+        [e ^ turns, n ^ turns, w ^ turns, s ^ turns, 0, 0, 0, 0]
     }
 
     fn momentum(i: u32) -> (i32, i32) {

@@ -1,9 +1,10 @@
-//! Lattice gases on a channel: directions, neighbours and collisions.
+//! Lattice gases on a channel: directions, neighbours, collisions and the number law.
 #![tactic(auto)]
 
 pub mod fhp1;
 pub mod gas;
 pub mod hpp;
+pub mod law;
 pub mod size;
 #[cfg(test)]
 mod tests;

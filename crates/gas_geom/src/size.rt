@@ -6,7 +6,10 @@ ghost use Rattle.gas_geom.specs.Size.{SizeModel, IsSize};
 use crate::gas::Gas;
 use std::marker::Model;
 
-/// The width and the height of a channel in cells, each 1 to 4096.
+/// The most columns of a channel, and the most rows.
+pub const MOST_SIDE: u32 = 4096;
+
+/// The width and the height of a channel in cells, each 1 to `MOST_SIDE`.
 #[derive(Clone, Copy)]
 pub struct Size {
     width: u32,
@@ -27,12 +30,12 @@ impl Model for Size {
 }
 
 impl Size {
-    /// A size, or None where the width or the height is not 1 to 4096.
+    /// A size, or None where the width or the height is not 1 to `MOST_SIDE`.
     pub fn new(width: u32, height: u32) -> Option<Size>
         ensures within { IsSome result ↔ IsSize width height }
         ensures made { IfSome result (λ s. s ≡ record { width = width; height = height }) }
     {
-        if width >= 1 && width <= 4096 && height >= 1 && height <= 4096 {
+        if width >= 1 && width <= MOST_SIDE && height >= 1 && height <= MOST_SIDE {
             Some(Size { width, height })
         } else {
             None

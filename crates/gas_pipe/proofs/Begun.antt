@@ -2,17 +2,17 @@
 use Rattle.std.proofs.Common.{◌≡◌, ℕ, suc, ◌+◌, ◌-◌, ◌<◌, ltb, if◌then◌else◌, Option, Some, None, List, [], ◌∷◌, ◌++◌, length, ap, sym, ◌∙◌, subst, arith}
 use Rattle.std.proofs.lemmas.List.{length_push}
 use Rattle.gas_geom.specs.Gas.{Rules}
-use Rattle.gas_pipe.specs.Pass.{PassModel, IsPass, computes_from}
+use Rattle.gas_line.specs.Pass.{PassModel, IsPass, computes_from, rows_on}
 use Rattle.gas_pipe.specs.Belt.{BeltModel}
 use Rattle.gas_pipe.specs.Worker.{WorkerModel, HasDone}
 use Rattle.gas_pipe.specs.Feeder.{FeederModel, HasFed}
 use Rattle.gas_pipe.specs.Replay.{after}
-use Rattle.gas_pipe.specs.Chain.{IsAt, HaveBegun, AreUnused, Shows}
+use Rattle.gas_pipe.specs.Inner.LocalLine.{IsAt, HaveBegun, AreUnused, Shows}
 use Rattle.gas_pipe.proofs.Slots.{at_push}
 
 -- one worker more has begun its pass
 pub begun_more : (gas : Rules) (p : PassModel) (workers : List WorkerModel) (n : ℕ) (w : WorkerModel) (e : Option ℕ) → HaveBegun gas p workers n →
-    w.stage.channel ≡ p.lattice.channel → w.stage.chirality ≡ p.chirality → e ≡ computes_from p (suc n) → HasDone gas w e [] [] →
+    w.stage.channel ≡ p.lattice.channel → w.stage.chirality ≡ p.chirality → e ≡ computes_from p (n + 1) → HasDone gas w e [] [] →
     HaveBegun gas p (workers ++ w ∷ []) (n + 1)
 begun_more gas p workers n w e begun channel chirality from done = (
   length_push workers w ∙ ap (λ k. k + 1) begun.0,
@@ -20,28 +20,22 @@ begun_more gas p workers n w e begun channel chirality from done = (
       (λ is. subst (λ i. IsAt gas p i w [] []) (sym is) (record {
         channel = channel;
         chirality = chirality;
-        done = subst (λ x. HasDone gas w x [] []) from done;
+        done = subst (λ x. HasDone gas w x [] []) (from ∙ ap (computes_from p) (let more : n + 1 ≡ suc n = omega arith in more)) done;
       }))
       (λ low. begun.1 k d low)),
 )
 
-pub begun_shows : (gas : Rules) (p : PassModel) (f : FeederModel) (workers : List WorkerModel) (belts : List BeltModel) → IsPass p → p.gas ≡ gas → 0 < p.workers →
-    HaveBegun gas p workers p.workers → AreUnused p.capacity belts (p.workers + 1) → f.channel ≡ p.lattice.channel → HasFed f 1 p.lattice.rows [] [] →
-    Shows gas p f workers belts (after p [])
-begun_shows gas p f workers belts pass same some begun unused channel fed = record {
+pub begun_shows : (gas : Rules) (p : PassModel) (f : FeederModel) (workers : List WorkerModel) (belts : List BeltModel) → IsPass gas p → 0 < p.plan.stages →
+    HaveBegun gas p workers p.plan.stages → AreUnused p.plan.capacity belts (p.plan.stages + 1) → f.channel ≡ p.lattice.channel → HasFed f 1 (rows_on gas p 0) [] [] →
+    Shows gas p f workers belts (after gas p [])
+begun_shows gas p f workers belts pass some begun unused channel fed = record {
   pass = pass;
-  same_gas = same;
   some = some;
   workers_are = begun.0;
-  belts_are = (let e : length belts ≡ suc p.workers = omega (arith, unused.0) in e);
+  belts_are = (let e : length belts ≡ suc p.plan.stages = omega (arith, unused.0) in e);
   channel = channel;
   fed = fed;
   done = begun.1;
   holds = λ k h. ap (λ (b : BeltModel). b.rows) (unused.1 k (omega (arith, h)));
   capacity = λ k h. ap (λ (b : BeltModel). b.capacity) (unused.1 k (omega (arith, h)));
 }
-
--- the generation that worker n + 1 computes the step from, in a pass over a lattice of generation 0
-pub computes : (p : PassModel) (n : ℕ) → p.start ≡ 0 → (if ltb n p.generations then Some n else None) ≡ computes_from p (suc n)
-computes p n first =
-    ap (λ (g : ℕ). if ltb n p.generations then Some g else None) (let e : n ≡ p.start + suc n - 1 = omega (arith, first) in e)

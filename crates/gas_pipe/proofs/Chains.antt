@@ -1,9 +1,9 @@
 -- A chain of jobs grows at its end.
 use Rattle.std.proofs.Common.{◌≡◌, ℕ, suc, ◌+◌, List, [], ◌∷◌, ◌++◌, length, refl, subst, ap, ◌∙◌, arith}
 use Rattle.gas_belt.specs.Belt.{Belt}
-use Rattle.gas_pipe.specs.Pass.{PassModel, computes_from}
-use Rattle.gas_pipe.specs.Jobs.{JobModel, IsReady}
-use Rattle.gas_pipe.specs.Links.{Takes, Linked, last_belt, AllReady}
+use Rattle.gas_line.specs.Pass.{PassModel, computes_from}
+use Rattle.gas_pipe.specs.Inner.Job.{JobModel, IsReady}
+use Rattle.gas_pipe.specs.Inner.Links.{Takes, Linked, last_belt, AllReady}
 
 pub last_belt_snoc : (from : Belt) (js : List JobModel) (j : JobModel) → last_belt from (js ++ j ∷ []) ≡ j.tx.belt
 last_belt_snoc from [] j = refl

@@ -3,17 +3,17 @@ use Rattle.std.proofs.Common.{◌≡◌, ℕ, ◌+◌, ◌≤◌, List, [], ◌�
 use Rattle.std.specs.List.{range_with_len}
 use Rattle.std.proofs.lemmas.List.FromFn.{map-range_with_len_more}
 use Rattle.gas_geom.specs.Gas.{Rules}
-use Rattle.gas_pipe.specs.Line.{State}
-use Rattle.gas_pipe.specs.Pass.{PassModel}
+use Rattle.gas_line.specs.Line.{State}
+use Rattle.gas_line.specs.Pass.{PassModel}
 use Rattle.gas_pipe.specs.Belt.{BeltModel}
 use Rattle.gas_pipe.specs.Worker.{WorkerModel}
 use Rattle.gas_pipe.specs.Feeder.{FeederModel}
 use Rattle.gas_pipe.specs.Replay.{counts_of}
-use Rattle.gas_pipe.specs.Chain.{belt, Shows}
-use Rattle.gas_pipe.specs.declared.standing.Counts.{Counts}
+use Rattle.gas_pipe.specs.Inner.LocalLine.{belt, Shows}
+use Rattle.gas_pipe.specs.declared.replay.answer.Counts.{Counts}
 
 pub counts_more : (gas : Rules) (p : PassModel) (f : FeederModel) (ws : List WorkerModel) (bs : List BeltModel) (s : State) → Shows gas p f ws bs s →
-    (k : ℕ) → k ≤ p.workers → (counts : List Counts) → counts ≡ map (counts_of s) (range_with_len 0 k) →
+    (k : ℕ) → k ≤ p.plan.stages → (counts : List Counts) → counts ≡ map (counts_of s) (range_with_len 0 k) →
     (taken here : ℕ) → taken ≡ length (s.taken k) → here ≡ length (belt bs k).rows →
     counts ++ record { put = taken + here; taken = taken } ∷ [] ≡ map (counts_of s) (range_with_len 0 (k + 1))
 counts_more gas p f ws bs s sh k h counts before taken here is_taken is_here =

@@ -3,38 +3,39 @@ use Rattle.std.proofs.Common.{◌≡◌, ℕ, ◌+◌, ◌*◌, ◌%◌, ◌≤�
 use Rattle.std.proofs.lemmas.List.{length-append, take_at, drop_at, take-append-le, take-append-drop}
 use Rattle.std.proofs.Math.Nat.{mod-add-mod}
 use Rattle.gas_geom.specs.Channel.{ChannelModel}
-use Rattle.gas_pipe.specs.Line.{Row, IsPrefix}
+use Rattle.gas_rows.specs.Row.{RowModel}
+use mathlib.Core.List.{IsPrefix}
 use Rattle.gas_pipe.specs.Feeder.{FeederModel, HasFed, emptied_row, emptied_from, emptied}
 
-emptied_from-snoc : (c : ChannelModel) (n : ℕ) (xs : List Row) (row : Row) →
+emptied_from-snoc : (c : ChannelModel) (n : ℕ) (xs : List RowModel) (row : RowModel) →
     emptied_from c n (xs ++ row ∷ []) ≡ emptied_from c n xs ++ emptied_row c ((n + length xs) % c.height) row ∷ []
 emptied_from-snoc c n [] row = ap (λ (k : ℕ). emptied_row c (k % c.height) row ∷ []) (let e : n ≡ n + 0 = omega arith in e)
 emptied_from-snoc c n (x ∷ xs) row =
-    ap (λ (l : List Row). emptied_row c (n % c.height) x ∷ l) (emptied_from-snoc c (n + 1) xs row)
+    ap (λ (l : List RowModel). emptied_row c (n % c.height) x ∷ l) (emptied_from-snoc c (n + 1) xs row)
     ∙ ap (λ (k : ℕ). emptied_row c (n % c.height) x ∷ (emptied_from c (n + 1) xs ++ emptied_row c (k % c.height) row ∷ []))
     (let e : n + 1 + length xs ≡ n + length (x ∷ xs) = omega arith in e)
 
-emptied-snoc : (c : ChannelModel) (xs : List Row) (row : Row) → emptied c (xs ++ row ∷ []) ≡ emptied c xs ++ emptied_row c (length xs % c.height) row ∷ []
+emptied-snoc : (c : ChannelModel) (xs : List RowModel) (row : RowModel) → emptied c (xs ++ row ∷ []) ≡ emptied c xs ++ emptied_row c (length xs % c.height) row ∷ []
 emptied-snoc c xs row =
     emptied_from-snoc c 0 xs row
     ∙ ap (λ (k : ℕ). emptied c xs ++ emptied_row c (k % c.height) row ∷ []) (let e : 0 + length xs ≡ length xs = omega arith in e)
 
 -- the next row came back
-pub fed_take : (a b : FeederModel) (row : Row) → b.channel ≡ a.channel → b.rows ≡ a.rows ++ emptied_row a.channel a.next row ∷ [] →
+pub fed_take : (a b : FeederModel) (row : RowModel) → b.channel ≡ a.channel → b.rows ≡ a.rows ++ emptied_row a.channel a.next row ∷ [] →
     b.to_put ≡ a.to_put → b.to_take + 1 ≡ a.to_take → b.next ≡ (a.next + 1) % a.channel.height → b.stray ≡ a.stray → a.to_put < a.to_take →
-    (passes : ℕ) (rows gave took : List Row) → HasFed a passes rows gave took → HasFed b passes rows gave (took ++ row ∷ [])
+    (passes : ℕ) (rows gave took : List RowModel) → HasFed a passes rows gave took → HasFed b passes rows gave (took ++ row ∷ [])
 fed_take a b row channel items put take next stray some passes rows gave took h =
     let high : b.channel.height ≡ a.channel.height = ap (λ (c : ChannelModel). c.height) channel in
     let longer : length (took ++ row ∷ []) ≡ length took + 1 = length-append took (row ∷ []) in
     record {
       no_stray = stray ∙ h.no_stray;
       queue =
-          ap (λ (l : List Row). gave ++ l) items
+          ap (λ (l : List RowModel). gave ++ l) items
           ∙ sym (append_assoc gave a.rows (emptied_row a.channel a.next row ∷ []))
-          ∙ ap (λ (l : List Row). l ++ emptied_row a.channel a.next row ∷ []) h.queue
+          ∙ ap (λ (l : List RowModel). l ++ emptied_row a.channel a.next row ∷ []) h.queue
           ∙ append_assoc rows (emptied a.channel took) (emptied_row a.channel a.next row ∷ [])
           ∙ ap (λ (k : ℕ). rows ++ (emptied a.channel took ++ emptied_row a.channel k row ∷ [])) h.place
-          ∙ ap (λ (l : List Row). rows ++ l) (sym (emptied-snoc a.channel took row))
+          ∙ ap (λ (l : List RowModel). rows ++ l) (sym (emptied-snoc a.channel took row))
           ∙ ap (λ (c : ChannelModel). rows ++ emptied c (took ++ row ∷ [])) (sym channel);
       puts = ap (λ (n : ℕ). length gave + n) put ∙ h.puts ∙ ap (λ (n : ℕ). passes * n) (sym high);
       takes =
@@ -47,8 +48,8 @@ fed_take a b row channel items put take next stray some passes rows gave took h 
     }
 
 -- the next row was put
-pub fed_put : (a b : FeederModel) (row : Row) → a ≡ record b { rows = row ∷ b.rows; to_put = b.to_put + 1 } →
-    (passes : ℕ) (rows gave took : List Row) → HasFed a passes rows gave took → HasFed b passes rows (gave ++ row ∷ []) took
+pub fed_put : (a b : FeederModel) (row : RowModel) → a ≡ record b { rows = row ∷ b.rows; to_put = b.to_put + 1 } →
+    (passes : ℕ) (rows gave took : List RowModel) → HasFed a passes rows gave took → HasFed b passes rows (gave ++ row ∷ []) took
 fed_put a b row is passes rows gave took was = by (subst (λ (f : FeederModel). HasFed f passes rows gave took) is was)
   where
     by : HasFed (record b { rows = row ∷ b.rows; to_put = b.to_put + 1 }) passes rows gave took → HasFed b passes rows (gave ++ row ∷ []) took
@@ -62,31 +63,30 @@ fed_put a b row is passes rows gave took was = by (subst (λ (f : FeederModel). 
     }
 
 -- a list that begins xs ++ more and is no longer than xs begins xs
-shorter_prefix : (gave queue xs more : List Row) → gave ++ queue ≡ xs ++ more → length gave ≤ length xs → IsPrefix gave xs
-shorter_prefix gave queue xs more e short = record {
-  rest = drop (length gave) xs;
-  is =
-      ap (λ (l : List Row). l ++ drop (length gave) xs)
+shorter_prefix : (gave queue xs more : List RowModel) → gave ++ queue ≡ xs ++ more → length gave ≤ length xs → IsPrefix gave xs
+shorter_prefix gave queue xs more e short = (
+  drop (length gave) xs,
+  ap (λ (l : List RowModel). l ++ drop (length gave) xs)
       (sym (take_at gave queue (length gave) refl) ∙ ap (take (length gave)) e ∙ take-append-le (length gave) xs more short)
-      ∙ take-append-drop (length gave) xs;
-}
+      ∙ take-append-drop (length gave) xs,
+)
 
-pub one_pass_prefix : (f : FeederModel) (rows gave took : List Row) → HasFed f 1 rows gave took → length rows ≡ f.channel.height → IsPrefix gave rows
+pub one_pass_prefix : (f : FeederModel) (rows gave took : List RowModel) → HasFed f 1 rows gave took → length rows ≡ f.channel.height → IsPrefix gave rows
 one_pass_prefix f rows gave took h high =
     shorter_prefix gave f.rows rows (emptied f.channel took) h.queue (omega (arith, h.puts, high))
 
-pub one_pass_taken : (f : FeederModel) (rows gave took : List Row) → HasFed f 1 rows gave took → f.to_take ≡ 0 → length took ≡ f.channel.height
+pub one_pass_taken : (f : FeederModel) (rows gave took : List RowModel) → HasFed f 1 rows gave took → f.to_take ≡ 0 → length took ≡ f.channel.height
 one_pass_taken f rows gave took h over = omega (arith, h.takes, over)
 
-one_pass_long : (f : FeederModel) (rows gave took : List Row) → HasFed f 1 rows gave took → length rows ≡ f.channel.height → f.to_take ≡ 0 → length gave ≡ length rows
+one_pass_long : (f : FeederModel) (rows gave took : List RowModel) → HasFed f 1 rows gave took → length rows ≡ f.channel.height → f.to_take ≡ 0 → length gave ≡ length rows
 one_pass_long f rows gave took h high over = omega (arith, h.puts, h.takes, h.behind, high, over)
 
-pub one_pass_put : (f : FeederModel) (rows gave took : List Row) → HasFed f 1 rows gave took → length rows ≡ f.channel.height → f.to_take ≡ 0 → gave ≡ rows
+pub one_pass_put : (f : FeederModel) (rows gave took : List RowModel) → HasFed f 1 rows gave took → length rows ≡ f.channel.height → f.to_take ≡ 0 → gave ≡ rows
 one_pass_put f rows gave took h high over =
     sym (take_at gave f.rows (length rows) (one_pass_long f rows gave took h high over))
     ∙ ap (take (length rows)) h.queue ∙ take_at rows (emptied f.channel took) (length rows) refl
 
-pub one_pass_holds : (f : FeederModel) (rows gave took : List Row) → HasFed f 1 rows gave took → length rows ≡ f.channel.height → f.to_take ≡ 0 → f.rows ≡ emptied f.channel took
+pub one_pass_holds : (f : FeederModel) (rows gave took : List RowModel) → HasFed f 1 rows gave took → length rows ≡ f.channel.height → f.to_take ≡ 0 → f.rows ≡ emptied f.channel took
 one_pass_holds f rows gave took h high over =
     sym (drop_at gave f.rows (length rows) (one_pass_long f rows gave took h high over))
     ∙ ap (drop (length rows)) h.queue ∙ drop_at rows (emptied f.channel took) (length rows) refl

@@ -9,29 +9,29 @@ use Rattle.std.proofs.lemmas.Grind.{div_ceil_times}
 use Rattle.gas_geom.specs.Gas.{Rules, IsGas}
 use Rattle.gas_geom.specs.Channel.{ChannelModel, is_solid}
 use Rattle.gas_geom.specs.Lattice.{LatticeModel, IsLattice, cell, row_of}
-use Rattle.gas_rows.specs.declared.chirality.Chirality.{Chirality}
 use Rattle.gas_stage.specs.Evolution.{lattice_after}
 use Rattle.gas_stage.proofs.Local.{range-cong}
-use Rattle.gas_pipe.specs.Line.{Row, State, is_done}
-use Rattle.gas_pipe.specs.Pass.{PassModel, line_of, rows_after}
+use Rattle.gas_rows.specs.Row.{RowModel}
+use Rattle.gas_line.specs.Line.{State, is_done}
+use Rattle.gas_line.specs.Pass.{PassModel, line_of, rows_on, nth_pass}
 use Rattle.gas_pipe.specs.Belt.{BeltModel}
 use Rattle.gas_pipe.specs.Worker.{WorkerModel}
 use Rattle.gas_pipe.specs.Feeder.{FeederModel, emptied_row, emptied_from, emptied}
-use Rattle.gas_pipe.specs.Plan.{PlanModel, passes_of}
-use Rattle.gas_pipe.specs.Replay.{ReplayModel, after, pass_of, counts_of, replay_of}
-use Rattle.gas_pipe.specs.declared.standing.Counts.{Counts}
-use Rattle.gas_pipe.specs.Chain.{Shows}
-use Rattle.gas_pipe.proofs.Kept.{fits}
-use Rattle.gas_pipe.proofs.Totals.{carried_all}
-use Rattle.gas_pipe.proofs.Generations.{pass_is_line, carries}
+use Rattle.gas_line.specs.Plan.{passes_of}
+use Rattle.gas_pipe.specs.Replay.{ReplayModel, after, counts_of, replay_of}
+use Rattle.gas_pipe.specs.declared.replay.answer.Counts.{Counts}
+use Rattle.gas_pipe.specs.Inner.LocalLine.{Shows}
+use Rattle.gas_line.proofs.Kept.{fits}
+use Rattle.gas_line.proofs.Totals.{carried_all}
+use Rattle.gas_line.proofs.Generations.{pass_is_line, carries, rows_high, ends_last}
 use Rattle.gas_pipe.proofs.Feeds.{one_pass_holds}
-use Rattle.gas_pipe.proofs.Wide.{after_is_lattice}
+use Rattle.gas_line.proofs.Wide.{after_is_lattice}
 
-row_same : (row : Row) → row_of (length row) (λ x. get_or row x 0) ≡ row
+row_same : (row : RowModel) → row_of (length row) (λ x. get_or row x 0) ≡ row
 row_same row = sym (fill_by_all (λ x. get_or row x 0) row (length row) 0 refl (λ _ _. refl))
 
 -- a row that is empty at its solid cells stays as it is
-emptied_row_same : (c : ChannelModel) (y : ℕ) (row : Row) → ((x : ℕ) → is_solid c x y ≡ true → get_or row x 0 ≡ 0) → emptied_row c y row ≡ row
+emptied_row_same : (c : ChannelModel) (y : ℕ) (row : RowModel) → ((x : ℕ) → is_solid c x y ≡ true → get_or row x 0 ≡ 0) → emptied_row c y row ≡ row
 emptied_row_same c y row empty =
     range-cong (λ x. if is_solid c x y then 0 else get_or row x 0) (λ x. get_or row x 0) (length row) 0 same ∙ row_same row
   where
@@ -42,7 +42,7 @@ emptied_row_same c y row empty =
         (λ (free : is_solid c x y ≡ false). ap (λ (b : Bool). if b then 0 else get_or row x 0) free)
         (cases_Bool (is_solid c x y))
 
-emptied_same : (c : ChannelModel) (n : ℕ) (rows : List Row) → n + length rows ≤ c.height →
+emptied_same : (c : ChannelModel) (n : ℕ) (rows : List RowModel) → n + length rows ≤ c.height →
     ((x y : ℕ) → y < length rows → is_solid c x (n + y) ≡ true → cell rows x y ≡ 0) → emptied_from c n rows ≡ rows
 emptied_same c n [] fit empty = refl
 emptied_same c n (row ∷ rows) fit empty =
@@ -50,60 +50,60 @@ emptied_same c n (row ∷ rows) fit empty =
     ap (λ k. emptied_row c k row ∷ emptied_from c (n + 1) rows) here
     ∙ ap (λ r. r ∷ emptied_from c (n + 1) rows)
     (emptied_row_same c n row (λ x solid. empty x 0 (omega arith) (subst (λ k. is_solid c x k ≡ true) (let e : n ≡ n + 0 = omega arith in e) solid)))
-    ∙ ap (λ (rest : List Row). row ∷ rest)
+    ∙ ap (λ (rest : List RowModel). row ∷ rest)
     (emptied_same c (n + 1) rows (omega arith)
     (λ x y h solid. empty x (suc y) (omega arith) (subst (λ k. is_solid c x k ≡ true) (let e : n + 1 + y ≡ n + suc y = omega arith in e) solid)))
 
 -- a lattice's rows are empty at its solid cells already
-pub emptied_lattice : (gas : Rules) (c : ChannelModel) (rows : List Row) → IsLattice gas c rows → emptied c rows ≡ rows
+pub emptied_lattice : (gas : Rules) (c : ChannelModel) (rows : List RowModel) → IsLattice gas c rows → emptied c rows ≡ rows
 emptied_lattice gas c rows is =
     emptied_same c 0 rows (let high = is.high in omega arith)
     (λ x y _ solid. is.empty x y (subst (λ k. is_solid c x k ≡ true) (let e : 0 + y ≡ y = omega arith in e) solid))
 
 module _ (gas : Rules) (p : PassModel) (f : FeederModel) (ws : List WorkerModel) (bs : List BeltModel) (turns : List ℕ)
-    (laws : IsGas gas) (sh : Shows gas p f ws bs (after p turns)) where
+    (laws : IsGas gas) (sh : Shows gas p f ws bs (after gas p turns)) where
   abbrev now : State
-  now = after p turns
+  now = after gas p turns
 
-  high : length p.lattice.rows ≡ f.channel.height
-  high = sh.pass.lattice.high ∙ ap (λ c. c.height) (sym sh.channel)
+  high : length (rows_on gas p 0) ≡ f.channel.height
+  high = rows_high gas p sh.pass 0 ∙ ap (λ c. c.height) (sym sh.channel)
 
-  closed_done : f.to_take ≡ 0 → is_done (line_of p) now ≡ true
+  closed_done : f.to_take ≡ 0 → is_done (line_of gas p) now ≡ true
   unfolding is_done
   closed_done over =
       let fed = sh.fed in
-      and_from (eqb (length (now.put 0)) (length p.lattice.rows)) (eqb (length (now.taken p.workers)) (length p.lattice.rows))
-      (eq-eqb (length (now.put 0)) (length p.lattice.rows) (omega (arith, high, over, fed.puts, fed.takes, fed.behind)))
-      (eq-eqb (length (now.taken p.workers)) (length p.lattice.rows) (omega (arith, high, over, fed.takes)))
+      and_from (eqb (length (now.put 0)) (length (rows_on gas p 0))) (eqb (length (now.taken p.plan.stages)) (length (rows_on gas p 0)))
+      (eq-eqb (length (now.put 0)) (length (rows_on gas p 0)) (omega (arith, high, over, fed.puts, fed.takes, fed.behind)))
+      (eq-eqb (length (now.taken p.plan.stages)) (length (rows_on gas p 0)) (omega (arith, high, over, fed.takes)))
 
-  open_not_done : (f.to_take ≡ 0 → ⊥) → is_done (line_of p) now ≡ false
+  open_not_done : (f.to_take ≡ 0 → ⊥) → is_done (line_of gas p) now ≡ false
   unfolding is_done
   open_not_done left =
       let fed = sh.fed in
-      and_right (eqb (length (now.put 0)) (length p.lattice.rows)) (eqb (length (now.taken p.workers)) (length p.lattice.rows))
-      (ne_eqb (length (now.taken p.workers)) (length p.lattice.rows) (λ e. left (omega (arith, high, e, fed.takes))))
+      and_right (eqb (length (now.put 0)) (length (rows_on gas p 0))) (eqb (length (now.taken p.plan.stages)) (length (rows_on gas p 0)))
+      (ne_eqb (length (now.taken p.plan.stages)) (length (rows_on gas p 0)) (λ e. left (omega (arith, high, e, fed.takes))))
 
-  -- the rows that came back are those of the last generation
-  holds_last : f.to_take ≡ 0 → p.generations ≤ p.workers → f.rows ≡ rows_after p p.generations
-  holds_last over enough =
-      let line = pass_is_line p sh.pass in
-      let back : now.taken p.workers ≡ rows_after p p.generations =
-      (carried_all (line_of p) line now (fits (line_of p) line turns) (closed_done over) p.workers (omega arith)).1
-      ∙ carries p sh.pass p.workers ∙ ap (rows_after p) (min-eq_right enough) in
-      one_pass_holds f p.lattice.rows (now.put 0) (now.taken p.workers) sh.fed high over
-      ∙ ap (λ c. emptied c (now.taken p.workers)) sh.channel
+  -- the rows that came back are those of the last belt
+  holds_last : f.to_take ≡ 0 → f.rows ≡ rows_on gas p p.plan.stages
+  holds_last over =
+      let line = pass_is_line gas p sh.pass in
+      let back : now.taken p.plan.stages ≡ rows_on gas p p.plan.stages =
+      (carried_all (line_of gas p) line now (fits (line_of gas p) line turns) (closed_done over) p.plan.stages (omega arith)).1
+      ∙ carries gas p sh.pass p.plan.stages in
+      one_pass_holds f (rows_on gas p 0) (now.put 0) (now.taken p.plan.stages) sh.fed high over
+      ∙ ap (λ c. emptied c (now.taken p.plan.stages)) sh.channel
       ∙ ap (emptied p.lattice.channel) back
-      ∙ emptied_lattice p.gas p.lattice.channel (rows_after p p.generations) (after_is_lattice p (subst IsGas (sym sh.same_gas) laws) sh.pass p.generations)
+      ∙ emptied_lattice gas p.lattice.channel (rows_on gas p p.plan.stages) (after_is_lattice gas p laws sh.pass p.plan.stages)
 
-  pub finished : f.to_take ≡ 0 → p.generations ≤ p.workers → (is_done (line_of p) now ≡ true) × (f.rows ≡ rows_after p p.generations)
-  finished over enough = (closed_done over, holds_last over enough)
+  pub finished : f.to_take ≡ 0 → (is_done (line_of gas p) now ≡ true) × (f.rows ≡ rows_on gas p p.plan.stages)
+  finished over = (closed_done over, holds_last over)
 
-  pub unfinished : (f.to_take ≡ 0 → ⊥) → is_done (line_of p) now ≡ false
+  pub unfinished : (f.to_take ≡ 0 → ⊥) → is_done (line_of gas p) now ≡ false
   unfinished left = open_not_done left
 
-pub same_lattice : (l : LatticeModel) (c : ChannelModel) (rows : List Row) → l.channel ≡ c → l.rows ≡ rows → l ≡ record { channel = c; rows = rows }
+pub same_lattice : (l : LatticeModel) (c : ChannelModel) (rows : List RowModel) → l.channel ≡ c → l.rows ≡ rows → l ≡ record { channel = c; rows = rows }
 same_lattice l c rows channel is =
-    ap (λ (d : ChannelModel). record { channel = d; rows = l.rows }) channel ∙ ap (λ (r : List Row). record { channel = c; rows = r }) is
+    ap (λ (d : ChannelModel). record { channel = d; rows = l.rows }) channel ∙ ap (λ (r : List RowModel). record { channel = c; rows = r }) is
 
 -- a plan that needs no more than one pass has a stage for each generation
 pub one_pass : (generations stages : ℕ) → 0 < stages → passes_of generations stages ≤ 1 → generations ≤ stages
@@ -112,21 +112,31 @@ one_pass generations stages some few =
     let one : passes_of generations stages * stages ≤ 1 * stages = mul-le-mul_right stages few in
     omega arith
 
--- how a pass with generations to compute stands
-pub stands : (gas : Rules) (chirality : Chirality) (lattice : LatticeModel) (plan : PlanModel) (turns : List ℕ) (r : ReplayModel) →
-    (plan.generations ≡ 0 → ⊥) →
-    r.lattice ≡ (if is_done (line_of (pass_of gas chirality lattice plan)) (after (pass_of gas chirality lattice plan) turns)
-    then Some (lattice_after gas chirality lattice plan.generations) else None) →
-    r.belts ≡ map (counts_of (after (pass_of gas chirality lattice plan) turns)) (range_with_len 0 (plan.stages + 1)) →
-    r ≡ replay_of gas chirality lattice plan turns
-stands gas chirality lattice plan turns r some is_lattice is_belts =
-    rw (ne_eqb plan.generations 0 some)
-    (ap (λ (l : Option LatticeModel). record { lattice = l; belts = r.belts }) is_lattice
+-- how the only pass of a plan stands, where it has generations to compute
+pub stands : (gas : Rules) (p : PassModel) (turns : List ℕ) (r : ReplayModel) → p ≡ nth_pass p.chirality p.lattice p.plan 0 →
+    (p.plan.generations ≡ 0 → ⊥) → p.plan.generations ≤ p.plan.stages →
+    r.lattice ≡ (if is_done (line_of gas p) (after gas p turns) then Some (record p.lattice { rows = rows_on gas p p.plan.stages }) else None) →
+    r.belts ≡ map (counts_of (after gas p turns)) (range_with_len 0 (p.plan.stages + 1)) →
+    r ≡ replay_of gas p.chirality p.lattice p.plan turns
+stands gas p turns r first some enough is_lattice is_belts =
+    let last : rows_on gas p p.plan.stages ≡ (lattice_after gas p.chirality p.lattice p.plan.generations).rows =
+    ends_last gas p (let more : p.plan.generations ≤ (p.number + 1) * p.plan.stages = omega (arith, enough, suc_times p.number p.plan.stages) in more) in
+    rw (ne_eqb p.plan.generations 0 some)
+    (ap (λ (l : Option LatticeModel). record { lattice = l; belts = r.belts })
+    (is_lattice ∙ ap (λ rows. if is_done (line_of gas p) (after gas p turns) then Some (record p.lattice { rows = rows }) else None) last)
     ∙ ap (λ (b : List Counts). record {
-      lattice = if is_done (line_of (pass_of gas chirality lattice plan)) (after (pass_of gas chirality lattice plan) turns)
-          then Some (lattice_after gas chirality lattice plan.generations) else None;
+      lattice = if is_done (line_of gas p) (after gas p turns)
+          then Some (lattice_after gas p.chirality p.lattice p.plan.generations) else None;
       belts = b;
-    }) is_belts)
+    }) is_belts
+    ∙ ap (λ (q : PassModel). record {
+      lattice = if is_done (line_of gas q) (after gas q turns)
+          then Some (lattice_after gas p.chirality p.lattice p.plan.generations) else None;
+      belts = map (counts_of (after gas q turns)) (range_with_len 0 (p.plan.stages + 1));
+    }) first)
+  where
+    suc_times : (n m : ℕ) → (n + 1) * m ≡ n * m + m
+    suc_times n m = omega arith
 
 pub done_is_some : (b : Bool) (l : LatticeModel) (o : Option LatticeModel) → o ≡ (if b then Some l else None) → b ≡ true → IsSome o
 done_is_some b l o is done = is_some o (is ∙ ap (λ (x : Bool). if x then Some l else None) done)

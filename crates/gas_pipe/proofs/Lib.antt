@@ -1,15 +1,6 @@
-pub mod Prefixes
-pub mod Turns
-pub mod Kept
-pub mod Progress
-pub mod Totals
-pub mod Rounds
-pub mod Generations
 pub mod Workers
 pub mod Feeds
 pub mod Slots
-pub mod Opens
-pub mod Wide
 pub mod WorkerSteps
 pub mod FeederSteps
 pub mod Begun
@@ -20,5 +11,4 @@ pub mod Passes
 pub mod Chains
 pub mod Meetings
 pub mod Settled
-pub mod Boundaries
 pub mod PassByPass

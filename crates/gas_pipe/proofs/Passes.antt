@@ -5,9 +5,9 @@ use Rattle.gas_geom.specs.Channel.{ChannelModel}
 use Rattle.gas_rows.specs.declared.chirality.Chirality.{Chirality}
 use Rattle.gas_stage.specs.Stage.{owed}
 use Rattle.gas_belt.specs.Belt.{Sender, Receiver}
-use Rattle.gas_pipe.specs.Line.{Row}
+use Rattle.gas_rows.specs.Row.{RowModel}
 use Rattle.gas_pipe.specs.Worker.{WorkerModel, HasDone, HasTakenAll, HasPutAll, AfterTake, AfterPut, AfterNone}
-use Rattle.gas_pipe.specs.Jobs.{OnePass}
+use Rattle.gas_pipe.specs.Inner.Job.{OnePass}
 
 -- an end stays on its belt
 pub same_sender : (tx tx2 : Sender) → tx2 ≡ tx → tx2.belt ≡ tx.belt
@@ -16,16 +16,16 @@ same_sender tx tx2 is = ap (λ (t : Sender). t.belt) is
 pub same_receiver : (rx rx2 : Receiver) → rx2 ≡ rx → rx2.belt ≡ rx.belt
 same_receiver rx rx2 is = ap (λ (r : Receiver). r.belt) is
 
-pub put_sender : (tx tx2 : Sender) (row : Row) → tx2 ≡ record tx { put = tx.put ++ row ∷ [] } → tx2.belt ≡ tx.belt
+pub put_sender : (tx tx2 : Sender) (row : RowModel) → tx2 ≡ record tx { put = tx.put ++ row ∷ [] } → tx2.belt ≡ tx.belt
 put_sender tx tx2 row is = ap (λ (t : Sender). t.belt) is
 
-pub took_receiver : (rx rx2 : Receiver) (row : Row) → rx2 ≡ record rx { taken = rx.taken ++ row ∷ [] } → rx2.belt ≡ rx.belt
+pub took_receiver : (rx rx2 : Receiver) (row : RowModel) → rx2 ≡ record rx { taken = rx.taken ++ row ∷ [] } → rx2.belt ≡ rx.belt
 took_receiver rx rx2 row is = ap (λ (r : Receiver). r.belt) is
 
 -- in the pass e that w0 began the worker came to w, and its ends from rx0 and tx0 to rx and tx
 pub record Running (gas : Rules) (e : Option ℕ) (w0 w : WorkerModel) (rx0 rx : Receiver) (tx0 tx : Sender) : Type 0 where
-  pub took : List Row
-  pub gave : List Row
+  pub took : List RowModel
+  pub gave : List RowModel
   pub done : HasDone gas w e took gave
   pub came : rx.taken ≡ rx0.taken ++ took
   pub went : tx.put ≡ tx0.put ++ gave
@@ -51,12 +51,12 @@ module _ (gas : Rules) (e : Option ℕ) (w0 : WorkerModel) (rx0 : Receiver) (tx0
 
   module _ (w v : WorkerModel) (rx rx2 : Receiver) (tx tx2 : Sender) (was : Running gas e w0 w rx0 rx tx0 tx)
       (channel : v.stage.channel ≡ w.stage.channel) (chirality : v.stage.chirality ≡ w.stage.chirality) where
-    pub run_took : (row : Row) → rx2 ≡ record rx { taken = rx.taken ++ row ∷ [] } → tx2 ≡ tx → AfterTake gas w row v → Running gas e w0 v rx0 rx2 tx0 tx2
+    pub run_took : (row : RowModel) → rx2 ≡ record rx { taken = rx.taken ++ row ∷ [] } → tx2 ≡ tx → AfterTake gas w row v → Running gas e w0 v rx0 rx2 tx0 tx2
     run_took row took rests after = record {
       took = was.took ++ row ∷ [];
       gave = was.gave;
       done = after e was.took was.gave was.done;
-      came = ap (λ (r : Receiver). r.taken) took ∙ ap (λ (l : List Row). l ++ row ∷ []) was.came ∙ append_assoc rx0.taken was.took (row ∷ []);
+      came = ap (λ (r : Receiver). r.taken) took ∙ ap (λ (l : List RowModel). l ++ row ∷ []) was.came ∙ append_assoc rx0.taken was.took (row ∷ []);
       went = ap (λ (t : Sender). t.put) rests ∙ was.went;
       channel = channel ∙ was.channel;
       chirality = chirality ∙ was.chirality;
@@ -64,13 +64,13 @@ module _ (gas : Rules) (e : Option ℕ) (w0 : WorkerModel) (rx0 : Receiver) (tx0
       tx_is = ap (λ (t : Sender). t.belt) rests ∙ was.tx_is;
     }
 
-    pub run_put : (row : Row) → tx2 ≡ record tx { put = tx.put ++ row ∷ [] } → rx2 ≡ rx → AfterPut gas w row v → Running gas e w0 v rx0 rx2 tx0 tx2
+    pub run_put : (row : RowModel) → tx2 ≡ record tx { put = tx.put ++ row ∷ [] } → rx2 ≡ rx → AfterPut gas w row v → Running gas e w0 v rx0 rx2 tx0 tx2
     run_put row put rests after = record {
       took = was.took;
       gave = was.gave ++ row ∷ [];
       done = after e was.took was.gave was.done;
       came = ap (λ (r : Receiver). r.taken) rests ∙ was.came;
-      went = ap (λ (t : Sender). t.put) put ∙ ap (λ (l : List Row). l ++ row ∷ []) was.went ∙ append_assoc tx0.put was.gave (row ∷ []);
+      went = ap (λ (t : Sender). t.put) put ∙ ap (λ (l : List RowModel). l ++ row ∷ []) was.went ∙ append_assoc tx0.put was.gave (row ∷ []);
       channel = channel ∙ was.channel;
       chirality = chirality ∙ was.chirality;
       rx_is = ap (λ (r : Receiver). r.belt) rests ∙ was.rx_is;
@@ -99,7 +99,7 @@ module _ (gas : Rules) (e : Option ℕ) (w0 : WorkerModel) (rx0 : Receiver) (tx0
     came = ap (λ (r : Receiver). r.taken) rests_rx ∙ was.came;
     went =
         ap (λ (t : Sender). t.put) rests_tx ∙ was.went
-        ∙ ap (λ (l : List Row). tx0.put ++ l)
+        ∙ ap (λ (l : List RowModel). tx0.put ++ l)
         (put e was.took was.gave was.done
         ∙ ap (λ (c : ChannelModel). owed gas c w.stage.chirality e was.took) was.channel
         ∙ ap (λ (h : Chirality). owed gas w0.stage.channel h e was.took) was.chirality);

@@ -8,8 +8,9 @@ use Rattle.std.proofs.Math.Nat.{mod-add-mod, mod-eq_of_lt, zero-mod, add-mod_lef
 use Rattle.gas_geom.specs.Gas.{Rules}
 use Rattle.gas_geom.specs.Channel.{ChannelModel, is_solid}
 use Rattle.gas_geom.specs.Lattice.{IsLattice, cell}
-use Rattle.gas_pipe.specs.Line.{Row}
-use Rattle.gas_pipe.specs.Feeder.{IsQueue, emptied_row}
+use Rattle.gas_rows.specs.Row.{RowModel}
+use Rattle.gas_pipe.specs.Feeder.{emptied_row}
+use Rattle.gas_pipe.specs.Inner.Queue.{IsQueue}
 
 -- numbers below h are equal where they are so, up to multiples of h, with k more
 mod_cancel : (a b k h : ℕ) → a < h → b < h → (a + k) % h ≡ (b + k) % h → a ≡ b
@@ -40,11 +41,11 @@ next_place h y next to_put to_take n below_y below_next long place at =
         ∙ sym (mod-add-mod (next + to_take) h to_put)
         ∙ ap (λ (m : ℕ). (m + to_put) % h) place ∙ ap (λ (m : ℕ). m % h) (let e : 0 + to_put ≡ to_put = omega arith in e)
 
-cell_past : (rows : List Row) (x y : ℕ) → length rows ≤ y → cell rows x y ≡ 0
-cell_past rows x y past = ap (λ (row : Row). get_or row x 0) (get_or_past rows y [] past)
+cell_past : (rows : List RowModel) (x y : ℕ) → length rows ≤ y → cell rows x y ≡ 0
+cell_past rows x y past = ap (λ (row : RowModel). get_or row x 0) (get_or_past rows y [] past)
 
 -- what holds of each row, of one more, and of no row, holds of the rows with that one behind
-at_push : (P : ℕ → Row → Type 0) (rows : List Row) (row : Row) → ((i : ℕ) → i < length rows → P i (get_or rows i [])) → P (length rows) row →
+at_push : (P : ℕ → RowModel → Type 0) (rows : List RowModel) (row : RowModel) → ((i : ℕ) → i < length rows → P i (get_or rows i [])) → P (length rows) row →
     ((i : ℕ) → length rows < i → P i []) → (i : ℕ) → P i (get_or (rows ++ row ∷ []) i [])
 at_push P rows row before last past i =
     ⊎_elim
@@ -58,7 +59,7 @@ at_push P rows row before last past i =
     (cases_lt i (length rows))
 
 -- what holds of 0, and of each cell that is not solid, holds of each cell of the row with its solid cells empty
-at_emptied : (P : ℕ → Type 0) (c : ChannelModel) (y : ℕ) (row : Row) (x : ℕ) → P 0 → (is_solid c x y ≡ false → P (get_or row x 0)) →
+at_emptied : (P : ℕ → Type 0) (c : ChannelModel) (y : ℕ) (row : RowModel) (x : ℕ) → P 0 → (is_solid c x y ≡ false → P (get_or row x 0)) →
     P (get_or (emptied_row c y row) x 0)
 at_emptied P c y row x none fluid =
     ⊎_elim
@@ -76,7 +77,7 @@ at_emptied P c y row x none fluid =
     value k = if is_solid c k y then 0 else get_or row k 0
 
 -- a lattice's rows, before the first pass
-pub queue_new : (gas : Rules) (c : ChannelModel) (rows : List Row) → IsLattice gas c rows → IsQueue gas c rows 0 0 0
+pub queue_new : (gas : Rules) (c : ChannelModel) (rows : List RowModel) → IsLattice gas c rows → IsQueue gas c rows 0 0 0
 queue_new gas c rows is = record {
   long = omega (arith, is.high);
   place = zero-mod c.height;
@@ -87,7 +88,7 @@ queue_new gas c rows is = record {
 }
 
 -- passes are opened over all rows
-pub queue_begin : (gas : Rules) (c : ChannelModel) (rows : List Row) (to_put to_take next passes total : ℕ) → IsQueue gas c rows to_put to_take next →
+pub queue_begin : (gas : Rules) (c : ChannelModel) (rows : List RowModel) (to_put to_take next passes total : ℕ) → IsQueue gas c rows to_put to_take next →
     to_put ≤ to_take → to_take ≡ 0 → total ≡ passes * c.height → IsQueue gas c rows total total 0
 queue_begin gas c rows to_put to_take next passes total q first over all = record {
   long = omega (arith, q.long);
@@ -102,7 +103,7 @@ queue_begin gas c rows to_put to_take next passes total q first over all = recor
 }
 
 -- the first row was put
-pub queue_put : (gas : Rules) (c : ChannelModel) (row : Row) (rows : List Row) (old_put to_put to_take next : ℕ) →
+pub queue_put : (gas : Rules) (c : ChannelModel) (row : RowModel) (rows : List RowModel) (old_put to_put to_take next : ℕ) →
     IsQueue gas c (row ∷ rows) old_put to_take next → old_put ≡ to_put + 1 → old_put ≤ to_take → IsQueue gas c rows to_put to_take next
 queue_put gas c row rows old_put to_put to_take next q one first = record {
   long = omega (arith, q.long);
@@ -126,7 +127,7 @@ queue_put gas c row rows old_put to_put to_take next q one first = record {
         (cases_lt (i + 1) c.height)
 
 -- the next row came back
-pub queue_take : (gas : Rules) (c : ChannelModel) (rows : List Row) (to_put old_take to_take old_next next : ℕ) (row : Row) →
+pub queue_take : (gas : Rules) (c : ChannelModel) (rows : List RowModel) (to_put old_take to_take old_next next : ℕ) (row : RowModel) →
     IsQueue gas c rows to_put old_take old_next → old_take ≡ to_take + 1 → next ≡ (old_next + 1) % c.height → old_next < c.height →
     length row ≡ c.width → ((x : ℕ) → get_or row x 0 < 2 ^ gas.dirs) → IsQueue gas c (rows ++ emptied_row c old_next row ∷ []) to_put to_take next
 queue_take gas c rows to_put old_take to_take old_next next row q one follows below wide sets = record {
@@ -160,7 +161,7 @@ queue_take gas c rows to_put old_take to_take old_next next row q one follows be
         (λ free. absurd (both_ways (is_solid c x old_next) free (sym (ap (λ (k : ℕ). is_solid c x k) here) ∙ solid)))
 
 -- where nothing is left to put or take the queue is a lattice
-pub queue_closed : (gas : Rules) (c : ChannelModel) (rows : List Row) (to_put to_take next : ℕ) → IsQueue gas c rows to_put to_take next →
+pub queue_closed : (gas : Rules) (c : ChannelModel) (rows : List RowModel) (to_put to_take next : ℕ) → IsQueue gas c rows to_put to_take next →
     to_put ≤ to_take → to_take ≡ 0 → IsLattice gas c rows
 queue_closed gas c rows to_put to_take next q first over = record {
   high = high;

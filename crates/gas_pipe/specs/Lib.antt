@@ -1,11 +1,7 @@
-pub mod Line
-pub mod Pass
 pub mod Belt
 pub mod Worker
 pub mod Feeder
 pub mod Plan
-pub mod Chain
 pub mod Replay
 pub mod Run
-pub mod Jobs
-pub mod Links
+pub mod Inner

@@ -3,12 +3,12 @@ use Rattle.std.specs.Prelude.{◌≡◌, ℕ, ◌<◌, ◌≤◌, ◌++◌, ◌�
 use Rattle.std.specs.Option.{option_to_list}
 use Rattle.gas_geom.specs.Gas.{Rules}
 use Rattle.gas_stage.specs.Stage.{StageModel, Fits, owed, given}
-use Rattle.gas_pipe.specs.Line.{Row}
+use Rattle.gas_rows.specs.Row.{RowModel}
 
 -- a worker as its callers see it: its stage, the row that it has to put next, and whether a row of another width came
 pub record WorkerModel : Type 0 where
   pub stage : StageModel
-  pub waiting : Option Row
+  pub waiting : Option RowModel
   pub stray : Bool
 
 -- no pass is open: the stage's is closed, and no row is left to put
@@ -17,13 +17,13 @@ pub record IsClosed (w : WorkerModel) : Type 0 where
   pub waiting : w.waiting ≡ None
 
 -- what a worker owes for the rows that it took, in a pass that computes the step from generation e or, with None, passes rows on
-abbrev pub owes : Rules → WorkerModel → Option ℕ → List Row → List Row
+abbrev pub owes : Rules → WorkerModel → Option ℕ → List RowModel → List RowModel
 owes gas w e took = owed gas w.stage.channel w.stage.chirality e took
 
 -- The worker may have come to its state in the pass e by taking the rows `took` and putting the rows `gave`: until the stage's
 -- pass is closed it has put, but for the row that waits, what the stage gave, and from then on all that it owes. A new pass
 -- fits two empty lists; so what is promised for all lists that a worker fits is promised for those of its open pass.
-pub record HasDone (gas : Rules) (w : WorkerModel) (e : Option ℕ) (took gave : List Row) : Type 0 where
+pub record HasDone (gas : Rules) (w : WorkerModel) (e : Option ℕ) (took gave : List RowModel) : Type 0 where
   pub no_stray : w.stray ≡ false
   pub few : length took ≤ w.stage.channel.height
   pub fed : IsSome w.stage.pass → Fits gas w.stage e took
@@ -33,21 +33,21 @@ pub record HasDone (gas : Rules) (w : WorkerModel) (e : Option ℕ) (took gave :
   pub flushed : w.stage.pass ≡ None → gave ++ option_to_list w.waiting ≡ owes gas w e took
 
 -- what a step does to all rows that the worker may have taken and put: one more was taken, one more was put, or none
-abbrev pub AfterTake : Rules → WorkerModel → Row → WorkerModel → Type 0
-AfterTake gas old row new = (e : Option ℕ) (took gave : List Row) → HasDone gas old e took gave → HasDone gas new e (took ++ row ∷ []) gave
+abbrev pub AfterTake : Rules → WorkerModel → RowModel → WorkerModel → Type 0
+AfterTake gas old row new = (e : Option ℕ) (took gave : List RowModel) → HasDone gas old e took gave → HasDone gas new e (took ++ row ∷ []) gave
 
-abbrev pub AfterPut : Rules → WorkerModel → Row → WorkerModel → Type 0
-AfterPut gas old row new = (e : Option ℕ) (took gave : List Row) → HasDone gas old e took gave → HasDone gas new e took (gave ++ row ∷ [])
+abbrev pub AfterPut : Rules → WorkerModel → RowModel → WorkerModel → Type 0
+AfterPut gas old row new = (e : Option ℕ) (took gave : List RowModel) → HasDone gas old e took gave → HasDone gas new e took (gave ++ row ∷ [])
 
 abbrev pub AfterNone : Rules → WorkerModel → WorkerModel → Type 0
-AfterNone gas old new = (e : Option ℕ) (took gave : List Row) → HasDone gas old e took gave → HasDone gas new e took gave
+AfterNone gas old new = (e : Option ℕ) (took gave : List RowModel) → HasDone gas old e took gave → HasDone gas new e took gave
 
 -- it has put all that it owes for the rows that it took; all rows were taken; rows are still to come
 abbrev pub HasPutAll : Rules → WorkerModel → Type 0
-HasPutAll gas w = (e : Option ℕ) (took gave : List Row) → HasDone gas w e took gave → gave ≡ owes gas w e took
+HasPutAll gas w = (e : Option ℕ) (took gave : List RowModel) → HasDone gas w e took gave → gave ≡ owes gas w e took
 
 abbrev pub HasTakenAll : Rules → WorkerModel → Type 0
-HasTakenAll gas w = (e : Option ℕ) (took gave : List Row) → HasDone gas w e took gave → length took ≡ w.stage.channel.height
+HasTakenAll gas w = (e : Option ℕ) (took gave : List RowModel) → HasDone gas w e took gave → length took ≡ w.stage.channel.height
 
 abbrev pub HasMoreToTake : Rules → WorkerModel → Type 0
-HasMoreToTake gas w = (e : Option ℕ) (took gave : List Row) → HasDone gas w e took gave → length took < w.stage.channel.height
+HasMoreToTake gas w = (e : Option ℕ) (took gave : List RowModel) → HasDone gas w e took gave → length took < w.stage.channel.height

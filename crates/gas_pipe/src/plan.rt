@@ -1,7 +1,8 @@
 //! The plan of a run: the stages of its line, the rows that a belt holds, the generations to compute.
 
 ghost use Rattle.std.specs.Prelude.{◌≡◌, ◌≤◌, IfOk, IfErr, None, Some};
-ghost use Rattle.gas_pipe.specs.Plan.{IsPlan, passes_of, plan_refusal};
+ghost use Rattle.gas_line.specs.Plan.{passes_of};
+ghost use Rattle.gas_pipe.specs.Plan.{plan_refusal};
 
 use std::marker::Model;
 use thiserror::Error;
@@ -27,7 +28,8 @@ pub struct Plan {
 }
 
 impl Model for Plan {
-    ghost use Rattle.gas_pipe.specs.Plan.{PlanModel, IsPlan};
+    ghost use Rattle.gas_line.specs.Plan.{PlanModel};
+    ghost use Rattle.std.specs.Prelude.{◌≤◌};
 
     ghost Value = { PlanModel };
 
@@ -37,7 +39,13 @@ impl Model for Plan {
       generations = p.generations;
     } };
 
-    ghost invariant = { λ p. IsPlan p.stages p.capacity p.generations };
+    ghost invariant = { λ p. record {
+      some_stages : 1 ≤ p.stages;
+      few_stages : p.stages ≤ 64;
+      some_capacity : 1 ≤ p.capacity;
+      few_rows : p.capacity ≤ 1024;
+      few_generations : p.generations ≤ 1000000;
+    } };
 
     ghost inverse = { λ v. record {
       stages = v.stages;
@@ -72,7 +80,9 @@ impl Plan {
     /// The number of stages of the line.
     pub fn stages(self) -> u32
         ensures value { result ≡ self.stages }
-        ensures within { IsPlan self.stages self.capacity self.generations }
+        ensures some { 1 ≤ result }
+        ensures few { result ≤ 64 }
+        ensures accepted { plan_refusal self.stages self.capacity self.generations ≡ None }
     {
         self.stages
     }
@@ -80,7 +90,9 @@ impl Plan {
     /// The number of rows that a belt holds.
     pub fn capacity(self) -> u32
         ensures value { result ≡ self.capacity }
-        ensures within { IsPlan self.stages self.capacity self.generations }
+        ensures some { 1 ≤ result }
+        ensures few { result ≤ 1024 }
+        ensures accepted { plan_refusal self.stages self.capacity self.generations ≡ None }
     {
         self.capacity
     }
@@ -88,7 +100,8 @@ impl Plan {
     /// The number of generations to compute.
     pub fn generations(self) -> u64
         ensures value { result ≡ self.generations }
-        ensures within { IsPlan self.stages self.capacity self.generations }
+        ensures few { result ≤ 1000000 }
+        ensures accepted { plan_refusal self.stages self.capacity self.generations ≡ None }
     {
         self.generations
     }

@@ -1,15 +1,20 @@
 //! One pass on one thread, in which the members make given turns.
+
+pub mod answer;
+mod local_line;
+
 ghost use Rattle.std.specs.Prelude.{◌≡◌, ◌≤◌, ◌<◌, ◌+◌, ◌*◌, ℕ, Err, IfOk, IsSome, ◌↔◌};
-ghost use Rattle.gas_geom.specs.Lattice.{count, generation};
-ghost use Rattle.gas_rows.specs.Chirality.{chirality_bit};
-ghost use Rattle.gas_pipe.specs.Line.{HasRounds};
-ghost use Rattle.gas_pipe.specs.Plan.{passes_of};
+ghost use Rattle.gas_geom.specs.Lattice.{count};
+ghost use Rattle.gas_stage.specs.Evolution.{lattice_after};
+ghost use Rattle.gas_line.specs.Line.{HasRounds};
+ghost use Rattle.gas_line.specs.Plan.{passes_of};
 ghost use Rattle.gas_pipe.specs.Replay.{replay_of};
 
-use crate::chain::Chain;
 use crate::error::RunError;
+use crate::pass::NthPass;
 use crate::plan::Plan;
-use crate::standing::Replay;
+use crate::replay::answer::Replay;
+use crate::replay::local_line::LocalLine;
 use gas_geom::gas::Gas;
 use gas_rows::chirality::Chirality;
 use gas_rows::lattice::Lattice;
@@ -29,7 +34,7 @@ pub fn replay<G: Gas>(
     ensures state { IfOk result (λ r. r ≡ replay_of G.rules chirality lattice.now plan turns.now) }
     ensures done { IfOk result (λ r. HasRounds plan.stages (2 * lattice.now.channel.height * (plan.stages + 1)) turns.now → IsSome r.lattice) }
     ensures number { IfOk result (λ _. (n : ℕ) → n ≤ plan.generations →
-        count G.rules (generation G.rules lattice.now.channel (chirality_bit chirality lattice.now.channel.width) 0 lattice.now.rows n) ≡ count G.rules lattice.now.rows) }
+        count G.rules (lattice_after G.rules chirality lattice.now n).rows ≡ count G.rules lattice.now.rows) }
 {
     if plan.passes() > 1 {
         return Err(RunError::MorePasses);
@@ -37,8 +42,14 @@ pub fn replay<G: Gas>(
     if plan.generations() == 0 {
         return Ok(Replay::new(Some(lattice.copy(alloc)?), Vec::new(alloc)));
     }
-    let mut chain = Chain::new(alloc, lattice, chirality, plan)?;
-    chain.run(turns);
-    let belts = chain.counts(alloc)?;
-    Ok(Replay::new(chain.finish(), belts))
+    let pass = NthPass {
+        lattice,
+        chirality,
+        plan,
+        number: 0,
+    };
+    let mut line = LocalLine::new(alloc, &pass)?;
+    line.run(turns);
+    let belts = line.counts(alloc)?;
+    Ok(Replay::new(line.finish(), belts))
 }

@@ -1,11 +1,12 @@
--- Lattices stay lattices: the empty one, one with another set at a cell, and one with a cell made solid.
-use Rattle.std.proofs.Common.{◌≡◌, ◌≢◌, ◌⊎◌, inl, inr, ℕ, ◌<◌, ◌≤◌, ◌^◌, Bool, true, false, List, [], length, replicate, get_or, set, ap, ◌∙◌, sym, subst, refl, arith, ⊎_elim}
+-- Lattices stay lattices: the empty one, one with another set at a cell, one with other sets in a row, and one with a cell made solid.
+use Rattle.std.proofs.Common.{◌≡◌, ◌≢◌, ◌⊎◌, inl, inr, ℕ, ◌<◌, ◌≤◌, ◌^◌, Bool, true, false, List, [], length, replicate, get_or, set, ap, ◌∙◌, sym, subst, refl, arith, if◌then◌else◌, ⊎_elim}
 use Rattle.std.proofs.lemmas.Bool.{cases_eq, cases_lt}
 use Rattle.std.proofs.lemmas.List.{get_or-replicate, get_or_past, length-replicate, get_or-set_same, get_or-set_other, length-set, set_past}
+use Rattle.std.proofs.lemmas.List.FromFn.{get_or-map-range_with_len, length-map-range_with_len}
 use Rattle.std.proofs.lemmas.Nat.{pow_pos}
 use Rattle.gas_geom.specs.Gas.{Rules}
 use Rattle.gas_geom.specs.Channel.{ChannelModel, is_solid, with_solid}
-use Rattle.gas_geom.specs.Lattice.{IsLattice, cell, empty_lattice, with_cell}
+use Rattle.gas_geom.specs.Lattice.{IsLattice, cell, empty_lattice, row_of, with_cell}
 
 -- an item of a list of equal items, or the default past its end
 get_or-replicate_either : {A : Type 0} (n i : ℕ) (a d : A) → (get_or (replicate n a) i d ≡ a) ⊎ (get_or (replicate n a) i d ≡ d)
@@ -94,6 +95,70 @@ IsLattice-with_cell gas channel rows x y state is inx iny small stays_empty =
           (λ h. h ∙ is.empty u v solid)
           (cell-with_cell_either rows x y state u v row_there cell_there);
     }
+
+-- another row, whose cells are empty where they are solid
+IsLattice-with_row : (gas : Rules) (channel : ChannelModel) (rows : List (List ℕ)) (y : ℕ) (row : List ℕ) → IsLattice gas channel rows →
+    y < channel.height → length row ≡ channel.width → ((x : ℕ) → get_or row x 0 < 2 ^ gas.dirs) →
+    ((x : ℕ) → is_solid channel x y ≡ true → get_or row x 0 ≡ 0) → IsLattice gas channel (set rows y row)
+IsLattice-with_row gas channel rows y row is iny as_wide small stays_empty = record {
+  high = length-set rows y row ∙ is.high;
+  wide = λ v inv. ⊎_elim
+      (λ (e : v ≡ y). ap (λ k. length (get_or (set rows y row) k [])) e ∙ ap length here ∙ as_wide)
+      (λ (ne : v ≢ y). ap length (get_or-set_other rows y v row [] ne) ∙ is.wide v inv)
+      (cases_eq v y);
+  sets = λ u v. ⊎_elim
+      (λ (e : v ≡ y). subst (λ s. s < 2 ^ gas.dirs) (sym (same u v e)) (small u))
+      (λ (ne : v ≢ y). subst (λ s. s < 2 ^ gas.dirs) (sym (other u v ne)) (is.sets u v))
+      (cases_eq v y);
+  empty = λ u v solid. ⊎_elim
+      (λ (e : v ≡ y). same u v e ∙ stays_empty u (ap (λ k. is_solid channel u k) (sym e) ∙ solid))
+      (λ (ne : v ≢ y). other u v ne ∙ is.empty u v solid)
+      (cases_eq v y);
+}
+  where
+    here : get_or (set rows y row) y [] ≡ row
+    here = get_or-set_same rows y row [] (omega (arith, is.high))
+
+    same : (u v : ℕ) → v ≡ y → cell (set rows y row) u v ≡ get_or row u 0
+    same u v e = ap (λ k. cell (set rows y row) u k) e ∙ ap (λ (r : List ℕ). get_or r u 0) here
+
+    other : (u v : ℕ) → v ≢ y → cell (set rows y row) u v ≡ cell rows u v
+    other u v ne = ap (λ (r : List ℕ). get_or r u 0) (get_or-set_other rows y v row [] ne)
+
+-- states for the fluid cells of a row, and 0 for the solid ones
+abbrev pub fluid_state : ChannelModel → ℕ → List ℕ → ℕ → ℕ
+fluid_state channel y states x = if is_solid channel x y then 0 else get_or states x 0
+
+-- 0, or a state, by whether a cell is solid
+if_small : (b : Bool) (s n : ℕ) → 0 < n → s < n → (if b then 0 else s) < n
+if_small true s n some small = some
+if_small false s n some small = small
+
+pub IsLattice-with_states : (gas : Rules) (channel : ChannelModel) (rows : List (List ℕ)) (y : ℕ) (states : List ℕ) →
+    IsLattice gas channel rows → y < channel.height → ((x : ℕ) → get_or states x 0 < 2 ^ gas.dirs) →
+    IsLattice gas channel (set rows y (row_of channel.width (fluid_state channel y states)))
+IsLattice-with_states gas channel rows y states is iny small =
+    IsLattice-with_row gas channel rows y row is iny (length-map-range_with_len at 0 channel.width)
+    (λ x. ⊎_elim
+    (λ (h : x < channel.width). subst (λ s. s < 2 ^ gas.dirs) (sym (within x h)) (if_small (is_solid channel x y) (get_or states x 0) (2 ^ gas.dirs) (pow_pos gas.dirs) (small x)))
+    (λ (h : channel.width ≤ x). subst (λ s. s < 2 ^ gas.dirs) (sym (past x h)) (pow_pos gas.dirs))
+    (cases_lt x channel.width))
+    (λ x solid. ⊎_elim
+    (λ (h : x < channel.width). within x h ∙ ap (λ (b : Bool). if b then 0 else get_or states x 0) solid)
+    (λ (h : channel.width ≤ x). past x h)
+    (cases_lt x channel.width))
+  where
+    at : ℕ → ℕ
+    at = fluid_state channel y states
+
+    row : List ℕ
+    row = row_of channel.width at
+
+    within : (x : ℕ) → x < channel.width → get_or row x 0 ≡ fluid_state channel y states x
+    within x h = get_or-map-range_with_len at 0 channel.width x x 0 h (omega arith)
+
+    past : (x : ℕ) → channel.width ≤ x → get_or row x 0 ≡ 0
+    past x h = get_or_past row x 0 (omega (arith, length-map-range_with_len at 0 channel.width))
 
 -- the solid cells are one more
 pub is_solid-with_solid_other : (channel : ChannelModel) (x y u v : ℕ) → (u ≢ x) ⊎ (v ≢ y) →

@@ -1,6 +1,6 @@
 -- The random bit of a generation and a cell.
-use Rattle.std.specs.Prelude.{ℕ, ◌+◌, ◌*◌, ◌/◌, ◌%◌, ◌==◌, Bool, true, false}
-use Rattle.std.specs.Int.{bit_at}
+use Rattle.std.specs.Prelude.{ℕ, ◌+◌, ◌*◌, ◌/◌, ◌%◌, Bool, true, false}
+use Rattle.gas_geom.specs.Gas.{holds}
 use Rattle.gas_rows.specs.Key.{key_word}
 use Rattle.gas_rows.specs.declared.chirality.Chirality.{Chirality}
 use Rattle.gas_rows.specs.declared.chirality.Chirality.TheVariants.{Seeded, Left, Right}
@@ -13,6 +13,6 @@ words_of_row width = (width + 31) / 32
 -- stream, the least of a word first; the stream is the generation, and each row begins at a word.
 abbrev pub chirality_bit : Chirality → ℕ → ℕ → ℕ → ℕ → Bool
 chirality_bit (Seeded seed) width g x y =
-    bit_at (key_word seed g (y * words_of_row width + x / 32)) (x % 32) == 1
+    holds (key_word seed g (y * words_of_row width + x / 32)) (x % 32)
 chirality_bit Left width g x y = true
 chirality_bit Right width g x y = false

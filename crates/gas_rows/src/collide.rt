@@ -13,12 +13,5 @@ pub fn collide_row<G: Gas>(row: &mut Row<G>, solid: &Mask, chi: &Mask)
     ensures wide { length row.new ≡ length row.old }
     ensures collided { row.new ≡ collided_row G.rules solid.now chi.now row.old }
 {
-    for x in 0..row.width() {
-        let state = if solid.get(x) {
-            0
-        } else {
-            G::collide(row.get(x), chi.get(x))
-        };
-        row.set(x, state);
-    }
+    row.collide(solid.words(), chi.words());
 }

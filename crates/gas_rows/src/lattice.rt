@@ -1,6 +1,6 @@
-ghost use Rattle.std.specs.Prelude.{◌≡◌, ◌<◌, ◌^◌, ℕ, [], true, false, length, slice_index, slice_index_or, slice_set, IfOk};
+ghost use Rattle.std.specs.Prelude.{◌≡◌, ◌<◌, ◌^◌, ℕ, [], true, false, length, slice_index, slice_index_or, slice_set, if◌then◌else◌, IfOk};
 ghost use Rattle.gas_geom.specs.Channel.{is_solid, with_solid};
-ghost use Rattle.gas_geom.specs.Lattice.{LatticeModel, IsLattice, cell, count, empty_lattice, with_cell};
+ghost use Rattle.gas_geom.specs.Lattice.{LatticeModel, IsLattice, cell, count, empty_lattice, row_of, with_cell};
 
 use crate::channel::Channel;
 use crate::row::Row;
@@ -141,5 +141,20 @@ impl<G: Gas> Lattice<G> {
         self.channel.set_row(y, solid);
         let row = &mut self.rows[y as usize];
         row.copy_from(states);
+    }
+
+    /// Sets the states of the fluid cells of row `y`. The solid ones stay empty.
+    pub fn set_states(&mut self, y: u32, states: &[u8])
+        requires row { y < self.old.channel.height }
+        requires wide { length states.now ≡ self.old.channel.width }
+        requires states { (x : ℕ) → slice_index states.now x < 2 ^ G.rules.dirs }
+        ensures { self.new ≡ record self.old {
+          rows = slice_set self.old.rows y (row_of self.old.channel.width (λ x.
+              if is_solid self.old.channel x y then 0 else slice_index states.now x));
+        } }
+    {
+        let cells = &mut self.rows[y as usize];
+        cells.copy_from(states);
+        cells.empty_solid(self.channel.mask(y));
     }
 }

@@ -7,6 +7,11 @@ pub mod collide;
 pub mod key;
 pub mod lattice;
 pub mod mask;
+mod mask_words;
+mod planes;
 pub mod row;
+mod shift;
 #[cfg(test)]
 mod tests;
+mod transpose;
+mod word;

@@ -1,32 +1,41 @@
-ghost use Rattle.std.specs.Prelude.{◌≡◌, ◌<◌, ◌≤◌, ℕ, Bool, false, List, length, replicate, slice_index_or, slice_set, count_by, IfOk};
+ghost use Rattle.std.specs.Prelude.{◌≡◌, ◌<◌, ◌≤◌, ◌+◌, ◌*◌, ◌/◌, ◌%◌, ℕ, Bool, false, List, length, map, replicate, slice_index, slice_index_or, slice_set, count_by, IfOk};
+ghost use Rattle.std.specs.List.{range_with_len};
+ghost use Rattle.gas_geom.specs.Gas.{holds};
+ghost use Rattle.gas_rows.specs.Words.{words_in, bit};
+ghost use Rattle.gas_geom.specs.declared.size.TheConstants.{MOST_SIDE};
 
+use crate::mask_words;
+use crate::word::{has_bit, with_bit, words_for};
 use std::alloc::{AllocError, Global};
 use std::marker::Model;
 
 /// A truth value for each cell of a row.
 #[derive(Drop)]
 pub struct Mask {
-    cells: Vec<bool>,
+    width: u32,
+    words: Vec<u64>,
 }
 
 impl Model for Mask {
+    ghost use Rattle.std.specs.Prelude.{Bool, List};
+    ghost use Rattle.gas_rows.specs.Mask.{cells, IsMask};
+
     ghost Value = { List Bool };
 
-    ghost view = { λ m. m.cells.items };
+    ghost view = { λ m. cells m.width m.words.items };
 
-    ghost invariant = { λ m. (1 ≤ length m.cells.items) × (length m.cells.items ≤ 4096) };
+    ghost invariant = { λ m. IsMask m.width m.words.items };
 }
 
 impl Mask {
-    /// A mask of 1 to 4096 cells that is false everywhere.
+    /// A mask of 1 to `MOST_SIDE` cells that is false everywhere.
     pub fn blank(alloc: Global, width: u32) -> Result<Mask, AllocError>
         requires some_cells { 1 ≤ width }
-        requires few_cells { width ≤ 4096 }
+        requires few_cells { width ≤ MOST_SIDE }
         ensures { IfOk result (λ m. m ≡ replicate width false) }
     {
-        Ok(Mask {
-            cells: vec![in alloc; false; width as usize]?,
-        })
+        let words = vec![in alloc; 0; words_for(width)]?;
+        Ok(Mask { width, words })
     }
 
     /// An equal mask.
@@ -34,24 +43,25 @@ impl Mask {
         ensures { IfOk result (λ m. m ≡ self.now) }
     {
         Ok(Mask {
-            cells: self.cells.as_slice().to_vec(alloc)?,
+            width: self.width,
+            words: self.words.as_slice().to_vec(alloc)?,
         })
     }
 
-    /// The number of cells, 1 to 4096.
+    /// The number of cells, 1 to `MOST_SIDE`.
     pub fn width(&self) -> u32
         ensures value { result ≡ length self.now }
         ensures some_cells { 1 ≤ result }
-        ensures few_cells { result ≤ 4096 }
+        ensures few_cells { result ≤ MOST_SIDE }
     {
-        self.cells.len() as u32
+        self.width
     }
 
     pub fn get(&self, x: u32) -> bool
         requires { x < length self.now }
         ensures { result ≡ slice_index_or self.now x false }
     {
-        self.cells[x as usize]
+        has_bit(self.words[x as usize / 64], x % 64)
     }
 
     /// Changes the value of one cell.
@@ -59,7 +69,26 @@ impl Mask {
         requires { x < length self.old }
         ensures { self.new ≡ slice_set self.old x value }
     {
-        self.cells[x as usize] = value;
+        let at = x as usize / 64;
+        self.words[at] = with_bit(self.words[at], x % 64, value);
+    }
+
+    /// The values of the cells `64 * j` to `64 * j + 63`, the first in the least bit; bits past the
+    /// width are zero.
+    pub fn word(&self, j: u32) -> u64
+        requires { j < words_in (length self.now) }
+        ensures { (b : ℕ) → b < 64 → holds result b ≡ slice_index_or self.now (64 * j + b) false }
+    {
+        self.words[j as usize]
+    }
+
+    /// The values of all cells, 64 in a word, the first in the least bit; bits past the width are
+    /// zero.
+    pub fn words(&self) -> &[u64]
+        ensures long { length result.now ≡ words_in (length self.now) }
+        ensures bits { (x : ℕ) → bit result.now x ≡ slice_index_or self.now x false }
+    {
+        &self.words
     }
 
     /// Takes over these values.
@@ -67,13 +96,32 @@ impl Mask {
         requires { length cells.now ≡ length self.old }
         ensures { self.new ≡ cells.now }
     {
-        self.cells.as_mut_slice().copy_from_slice(cells);
+        mask_words::pack(cells, &mut self.words);
+    }
+
+    /// Gives all cells one value.
+    pub(crate) fn fill(&mut self, value: bool)
+        ensures { self.new ≡ replicate (length self.old) value }
+    {
+        mask_words::fill(&mut self.words, self.width, value);
+    }
+
+    /// Takes over the bits of these words of 32 cells each, the first cell in the least bit.
+    pub(crate) fn load_halves(&mut self, halves: &[u32])
+        requires { 2 * words_in (length self.old) ≤ length halves.now }
+        ensures { self.new ≡ map (λ x. holds (slice_index halves.now (x / 32)) (x % 32)) (range_with_len 0 (length self.old)) }
+    {
+        mask_words::load_halves(halves, &mut self.words, self.width);
     }
 
     /// The number of cells that are true.
     pub fn count(&self) -> u32
         ensures { result ≡ count_by (λ b. b) self.now }
     {
-        self.cells.iter().map(|value| u32::from(*value)).sum()
+        let mut total = 0;
+        for word in &self.words {
+            total += word.count_ones();
+        }
+        total
     }
 }

@@ -1,37 +1,51 @@
-ghost use Rattle.std.specs.Prelude.{◌≡◌, ◌<◌, ◌≤◌, ◌^◌, ℕ, List, length, replicate, slice_index, slice_set, sum_by, IfOk};
-ghost use Rattle.gas_geom.specs.Gas.{particles};
+ghost use Rattle.std.specs.Prelude.{◌≡◌, ◌≢◌, ◌⊎◌, ◌+◌, ◌*◌, ◌/◌, ◌<◌, ◌≤◌, ◌^◌, ℕ, List, length, replicate, slice_index, slice_index_or, slice_set, false, sum_by, if◌then◌else◌, IfOk};
+ghost use Rattle.gas_geom.specs.Gas.{Move, amount, holds, particles};
+ghost use Rattle.gas_geom.specs.Lattice.{row_of};
+ghost use Rattle.gas_geom.specs.Neighbour.{column_after};
+ghost use Rattle.gas_rows.specs.Shift.{streamed_bit};
+ghost use Rattle.gas_rows.specs.Words.{words_in, bit};
+ghost use Rattle.gas_rows.specs.Planes.{AreWordsOf, cells_of};
+ghost use Rattle.gas_geom.specs.declared.size.TheConstants.{MOST_SIDE};
 
+use crate::mask::Mask;
+use crate::planes::{collide, directions, empty, gather, load, load_states, read_cell, write_cell};
+use crate::shift::{reflect_part, stream_part};
+use crate::transpose::states_of;
+use crate::word::{cut, words_for};
 use gas_geom::gas::Gas;
 use std::alloc::{AllocError, Global};
 use std::marker::{Model, PhantomData};
 
-/// The states of a row's cells.
+/// The states of a row's cells, held as words of 64 cells for each direction.
 #[derive(Drop)]
 pub struct Row<G: Gas> {
-    cells: Vec<u8>,
+    width: u32,
+    words: Vec<u64>,
     gas: PhantomData<G>,
 }
 
 impl<G: Gas> Model for Row<G> {
     ghost use Rattle.std.specs.Prelude.{ℕ, List};
-    ghost use Rattle.gas_rows.specs.Row.{IsRow};
+    ghost use Rattle.gas_rows.specs.Planes.{cells_of};
+    ghost use Rattle.gas_rows.specs.Inside.{ArePlanes};
 
     ghost Value = { List ℕ };
 
-    ghost view = { λ r. r.cells.items };
+    ghost view = { λ r. cells_of G.rules.dirs r.width r.words.items };
 
-    ghost invariant = { λ r. IsRow G.rules r.cells.items };
+    ghost invariant = { λ r. ArePlanes G.rules.dirs r.width r.words.items };
 }
 
 impl<G: Gas> Row<G> {
-    /// A row of 1 to 4096 empty cells.
+    /// A row of 1 to `MOST_SIDE` empty cells.
     pub fn blank(alloc: Global, width: u32) -> Result<Self, AllocError>
         requires some_cells { 1 ≤ width }
-        requires few_cells { width ≤ 4096 }
+        requires few_cells { width ≤ MOST_SIDE }
         ensures { IfOk result (λ r. r ≡ replicate width 0) }
     {
         Ok(Row {
-            cells: vec![in alloc; 0u8; width as usize]?,
+            width,
+            words: vec![in alloc; 0u64; directions::<G>() * words_for(width)]?,
             gas: PhantomData,
         })
     }
@@ -41,18 +55,19 @@ impl<G: Gas> Row<G> {
         ensures { IfOk result (λ r. r ≡ self.now) }
     {
         Ok(Row {
-            cells: self.cells.as_slice().to_vec(alloc)?,
+            width: self.width,
+            words: self.words.as_slice().to_vec(alloc)?,
             gas: PhantomData,
         })
     }
 
-    /// The number of cells, 1 to 4096.
+    /// The number of cells, 1 to `MOST_SIDE`.
     pub fn width(&self) -> u32
         ensures value { result ≡ length self.now }
         ensures some_cells { 1 ≤ result }
-        ensures few_cells { result ≤ 4096 }
+        ensures few_cells { result ≤ MOST_SIDE }
     {
-        self.cells.len() as u32
+        self.width
     }
 
     /// The state of a cell.
@@ -61,7 +76,7 @@ impl<G: Gas> Row<G> {
         ensures value { result ≡ slice_index self.now x }
         ensures state { result < 2 ^ G.rules.dirs }
     {
-        self.cells[x as usize]
+        read_cell(&self.words, words_for(self.width), directions::<G>(), x)
     }
 
     /// Changes the state of one cell.
@@ -70,7 +85,8 @@ impl<G: Gas> Row<G> {
         requires state { state < 2 ^ G.rules.dirs }
         ensures { self.new ≡ slice_set self.old x state }
     {
-        self.cells[x as usize] = state;
+        let count = words_for(self.width);
+        write_cell(&mut self.words, count, directions::<G>(), x, state);
     }
 
     /// Takes over these states.
@@ -79,7 +95,8 @@ impl<G: Gas> Row<G> {
         requires states { (x : ℕ) → slice_index states.now x < 2 ^ G.rules.dirs }
         ensures { self.new ≡ states.now }
     {
-        self.cells.as_mut_slice().copy_from_slice(states);
+        let count = words_for(self.width);
+        load_states(&mut self.words, count, directions::<G>(), states);
     }
 
     /// The number of particles.
@@ -87,9 +104,155 @@ impl<G: Gas> Row<G> {
         ensures { result ≡ sum_by (particles G.rules) self.now }
     {
         let mut total = 0;
-        for state in &self.cells {
-            total += state.count_ones();
+        for word in &self.words {
+            total += word.count_ones();
         }
         total
+    }
+
+    /// All words: those of direction 0 from cell 0 on, then those of direction 1, and so on. A
+    /// direction has a word for each 64 cells and for a rest of them.
+    pub fn as_words(&self) -> &[u64]
+        ensures words { AreWordsOf G.rules.dirs self.now result.now }
+        ensures cells { cells_of G.rules.dirs (length self.now) result.now ≡ self.now }
+    {
+        &self.words
+    }
+
+    /// Writes all words, as `as_words` has them.
+    pub fn words(&self, out: &mut [u64])
+        requires { length out.old ≡ G.rules.dirs * words_in (length self.now) }
+        ensures words { AreWordsOf G.rules.dirs self.now out.new }
+        ensures cells { cells_of G.rules.dirs (length self.now) out.new ≡ self.now }
+    {
+        out.copy_from_slice(&self.words);
+    }
+
+    /// Takes over the cells that these words hold, and drops bits past the width.
+    pub fn load_words(&mut self, words: &[u64])
+        requires { length words.now ≡ G.rules.dirs * words_in (length self.old) }
+        ensures wide { length self.new ≡ length self.old }
+        ensures cells { self.new ≡ cells_of G.rules.dirs (length self.old) words.now }
+    {
+        load(&mut self.words, words, directions::<G>(), self.width);
+    }
+
+    /// The words of one direction: bit `b` of word `j` says whether cell `64 * j + b` holds it, and
+    /// bits past the width are zero.
+    pub fn plane(&self, i: u32) -> &[u64]
+        requires { i < G.rules.dirs }
+        ensures long { length result.now ≡ words_in (length self.now) }
+        ensures bits { (x : ℕ) → bit result.now x ≡ holds (slice_index self.now x) i }
+    {
+        let count = words_for(self.width);
+        let start = i as usize * count;
+        &self.words[start..start + count]
+    }
+
+    /// Word `j` of direction `i`, for the cells from `64 * j` on.
+    pub fn plane_word(&self, i: u32, j: u32) -> u64
+        requires direction { i < G.rules.dirs }
+        requires place { j < words_in (length self.now) }
+        ensures { (b : ℕ) → b < 64 → holds result b ≡ holds (slice_index self.now (64 * j + b)) i }
+    {
+        self.words[i as usize * words_for(self.width) + j as usize]
+    }
+
+    /// Changes word `j` of direction `i`. Bits past the width are dropped, and nothing else changes.
+    pub fn set_plane_word(&mut self, i: u32, j: u32, word: u64)
+        requires direction { i < G.rules.dirs }
+        requires place { j < words_in (length self.old) }
+        ensures wide { length self.new ≡ length self.old }
+        ensures written { (b : ℕ) → b < 64 → 64 * j + b < length self.old →
+            holds (slice_index self.new (64 * j + b)) i ≡ holds word b }
+        ensures others { (x k : ℕ) → (x / 64 ≢ j) ⊎ (k ≢ i) →
+            holds (slice_index self.new x) k ≡ holds (slice_index self.old x) k }
+    {
+        let count = words_for(self.width);
+        self.words[i as usize * count + j as usize] = cut(word, j, self.width);
+    }
+
+    /// The states of the cells from `64 * j` on, 0 past the width.
+    pub fn states64(&self, j: u32) -> [u8; 64]
+        requires { j < words_in (length self.now) }
+        ensures { (b : ℕ) → b < 64 → slice_index result b ≡ slice_index self.now (64 * j + b) }
+    {
+        let count = words_for(self.width);
+        let planes = gather(&self.words, count, directions::<G>(), j as usize);
+        states_of(planes)
+    }
+
+    /// Empties the solid cells. The row and the mask have one width.
+    pub fn empty_solid(&mut self, solid: &Mask)
+        requires { length solid.now ≡ length self.old }
+        ensures { self.new ≡ row_of (length self.old) (λ x.
+            if slice_index_or solid.now x false then 0 else slice_index self.old x) }
+    {
+        let count = words_for(self.width);
+        empty(&mut self.words, count, directions::<G>(), solid.words());
+    }
+
+    /// Collides each fluid cell by itself with its random bit, and empties the solid cells.
+    pub(crate) fn collide(&mut self, solid: &[u64], chi: &[u64])
+        requires solid { length solid.now ≡ words_in (length self.old) }
+        requires chi { length chi.now ≡ words_in (length self.old) }
+        ensures { self.new ≡ row_of (length self.old) (λ x.
+            if bit solid.now x then 0 else G.rules.collide (slice_index self.old x) (bit chi.now x)) }
+    {
+        let count = words_for(self.width);
+        collide::<G>(&mut self.words, count, solid, chi);
+    }
+
+    /// Streams direction `i` into this row from the row that its particles come from: `along` is
+    /// the step along the row that leads there, `from` the words of the direction in that row, and
+    /// `met` its solid cells. A particle that would come from a solid cell is sent back: `back`
+    /// holds the opposite direction, and `own` the solid cells, of the row that is streamed.
+    pub fn stream_plane(
+        &mut self,
+        i: u32,
+        along: i32,
+        from: &[u64],
+        met: &[u64],
+        back: &[u64],
+        own: &[u64],
+    )
+        requires direction { i < G.rules.dirs }
+        requires from { length from.now ≡ words_in (length self.old) }
+        requires met { length met.now ≡ words_in (length self.old) }
+        requires back { length back.now ≡ words_in (length self.old) }
+        requires own { length own.now ≡ words_in (length self.old) }
+        ensures wide { length self.new ≡ length self.old }
+        ensures states { (x : ℕ) → slice_index self.new x < 2 ^ G.rules.dirs }
+        ensures streamed { (m : Move) → along ≡ amount m → (x : ℕ) → x < length self.old →
+            holds (slice_index self.new x) i
+            ≡ streamed_bit (bit from.now (column_after (length self.old) x m)) (bit met.now (column_after (length self.old) x m)) (bit back.now x) (bit own.now x) }
+        ensures others { (x k : ℕ) → k ≢ i → holds (slice_index self.new x) k ≡ holds (slice_index self.old x) k }
+    {
+        stream_part(
+            &mut self.words,
+            i as usize,
+            along,
+            from,
+            met,
+            back,
+            own,
+            self.width,
+        );
+    }
+
+    /// Streams direction `i` into this row where its particles would come from past the wall, which
+    /// sends back those of the opposite direction: `back` holds it, and `own` the solid cells, of
+    /// the row that is streamed.
+    pub fn reflect_plane(&mut self, i: u32, back: &[u64], own: &[u64])
+        requires direction { i < G.rules.dirs }
+        requires back { length back.now ≡ words_in (length self.old) }
+        requires own { length own.now ≡ words_in (length self.old) }
+        ensures wide { length self.new ≡ length self.old }
+        ensures states { (x : ℕ) → slice_index self.new x < 2 ^ G.rules.dirs }
+        ensures reflected { (x : ℕ) → x < length self.old →
+            holds (slice_index self.new x) i ≡ (if bit own.now x then false else bit back.now x) }
+        ensures others { (x k : ℕ) → k ≢ i → holds (slice_index self.new x) k ≡ holds (slice_index self.old x) k }
+    {
+        reflect_part(&mut self.words, i as usize, back, own, self.width);
     }
 }

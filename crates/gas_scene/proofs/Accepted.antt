@@ -1,27 +1,29 @@
 -- What is known of a table that no check refuses.
-use Rattle.std.proofs.Common.{◌≡◌, ℕ, ◌<◌, ◌≤◌, ◌/◌, ◌%◌, ◌==◌, Bool, true, false, not, ◌&&◌, length, Option, Some, None, codes, nat_le, refl, ap, sym, ◌∙◌, arith, if◌then◌else◌}
+use Rattle.std.proofs.Common.{◌≡◌, ℕ, ◌*◌, ◌<◌, ◌≤◌, ◌/◌, ◌%◌, ◌==◌, Bool, true, false, not, ◌&&◌, [], ◌∷◌, length, Option, Some, None, codes, nat_le, refl, ap, sym, ◌∙◌, arith, if◌then◌else◌}
 use Rattle.std.specs.Prelude.{is_some, IsSome, option_map}
-use Rattle.std.specs.Option.{option_or}
+use Rattle.gas_geom.specs.declared.size.TheConstants.{MOST_SIDE}
+use Rattle.gas_scene.specs.First.{first_of}
 use Rattle.std.proofs.lemmas.Bool.{and_parts, leb-true, eqb-true}
 use Rattle.toml.specs.Data.{Members}
 use Rattle.gas_scene.specs.declared.error.SceneError.{SceneError}
 use Rattle.gas_scene.specs.declared.error.SceneError.TheVariants.{Range, RowLength}
 use Rattle.gas_scene.specs.declared.cells.Cell.{Cell}
-use Rattle.gas_scene.specs.GasName.{gas_named, states_named}
+use Rattle.gas_scene.specs.Gases.{gas_named, states_named}
 use Rattle.gas_scene.specs.Fields.{has, text_at, rows_at, row_at}
 use Rattle.gas_scene.specs.Cells.{cell_at, bad_at, bad_column}
 use Rattle.gas_scene.specs.Ranges.{is_version, is_gas, is_common_in_range, is_map_in_range, is_area_in_range, is_in_range}
 use Rattle.gas_scene.specs.Refusals.{refused_if, unknown_key, both_forms, missing, wrong_type, out_of_range, row_length, bad_cell, bad_cell_in, refusal_of, is_row_length, is_misfit}
-use Rattle.gas_scene.specs.Map.{map_width, IsMap}
+use Rattle.gas_scene.specs.Map.{map_width}
 use Rattle.gas_scene.proofs.First.{none_before, first_below-none}
 use Rattle.gas_scene.proofs.Verdicts.{not_false}
+use Rattle.gas_scene.specs.Building.{IsMap}
 
 passed : (b : Bool) (e : SceneError) → refused_if b e ≡ None → b ≡ false
 passed true e none = absurd (cc)
 passed false e none = refl
 
 module _ (ms : Members) (accepted : refusal_of ms ≡ None) where
-  late : option_or (out_of_range ms) (option_or (row_length ms) (bad_cell ms)) ≡ None
+  late : first_of (out_of_range ms ∷ row_length ms ∷ bad_cell ms ∷ []) ≡ None
   unfolding refusal_of
   late =
       let first = none_before (unknown_key ms) _ accepted in
@@ -42,15 +44,15 @@ module _ (ms : Members) (accepted : refusal_of ms ≡ None) where
   pub area-range : has (codes "cells") ms ≡ false → is_area_in_range ms ≡ true
   area-range no_cells = sym (ap (λ (b : Bool). if b then is_map_in_range ms else is_area_in_range ms) no_cells) ∙ form_range
 
-  pub gas-named : IsSome (gas_named (text_at (codes "gas") ms))
-  gas-named =
+  pub gas_is_named : IsSome (gas_named (text_at (codes "gas") ms))
+  gas_is_named =
       (and_parts (is_gas ms) _ (and_parts (is_version ms) _ common-range).1).0
 
   lengths : row_length ms ≡ None
-  lengths = (none_before (row_length ms) (bad_cell ms) (none_before (out_of_range ms) _ late).1).0
+  lengths = (none_before (row_length ms) _ (none_before (out_of_range ms) _ late).1).0
 
   cells : bad_cell ms ≡ None
-  cells = (none_before (row_length ms) (bad_cell ms) (none_before (out_of_range ms) _ late).1).1
+  cells = (none_before (bad_cell ms) None (none_before (row_length ms) _ (none_before (out_of_range ms) _ late).1).1).0
 
   fitting : (r : ℕ) → r < length (rows_at ms)
       → (is_row_length (length (row_at (rows_at ms) r)) ≡ true) × ((length (row_at (rows_at ms) r) == length (row_at (rows_at ms) 0)) ≡ true)
@@ -71,22 +73,22 @@ some_cell : (o : Option Cell) (c : ℕ) → (if is_some o then None else Some c)
 some_cell None c e = absurd (cc)
 some_cell (Some cell) c e = refl
 
-row_bounds : (n : ℕ) → is_row_length n ≡ true → (2 ≤ n) × (n ≤ 8192)
+row_bounds : (n : ℕ) → is_row_length n ≡ true → (2 ≤ n) × (n ≤ (2 * MOST_SIDE))
 row_bounds n held =
-    let both = and_parts (nat_le 2 n) (nat_le n 8192) (and_parts (n % 2 == 0) (nat_le 2 n && nat_le n 8192) held).1 in
-    (leb-true 2 n both.0, leb-true n 8192 both.1)
+    let both = and_parts (nat_le 2 n) (nat_le n (2 * MOST_SIDE)) (and_parts (n % 2 == 0) (nat_le 2 n && nat_le n (2 * MOST_SIDE)) held).1 in
+    (leb-true 2 n both.0, leb-true n (2 * MOST_SIDE) both.1)
 
 pub IsMap-accepted : (ms : Members) (states : ℕ) → refusal_of ms ≡ None → has (codes "cells") ms ≡ true → states_named (text_at (codes "gas") ms) ≡ states → IsMap states (rows_at ms)
 IsMap-accepted ms states accepted has_cells gas =
     let rows = rows_at ms in
-    let high = and_parts (nat_le 1 (length rows)) (nat_le (length rows) 4096)
+    let high = and_parts (nat_le 1 (length rows)) (nat_le (length rows) MOST_SIDE)
     (sym (ap (λ (b : Bool). if b then is_map_in_range ms else is_area_in_range ms) has_cells) ∙ form_range ms accepted) in
     let some_rows = leb-true 1 (length rows) high.0 in
     let first = row_bounds (length (row_at rows 0)) (fitting ms accepted 0 some_rows).0 in
     let wide : (y : ℕ) → y < length rows → length (row_at rows y) / 2 ≡ map_width rows = λ y within. ap (λ n. n / 2) (eqb-true _ _ (fitting ms accepted y within).1) in
     record {
       some_rows = some_rows;
-      few_rows = leb-true (length rows) 4096 high.1;
+      few_rows = leb-true (length rows) MOST_SIDE high.1;
       some_cells = omega arith;
       few_cells = omega arith;
       wide = wide;

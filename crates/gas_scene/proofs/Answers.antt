@@ -7,8 +7,9 @@ use Rattle.toml.specs.Data.{Members}
 use Rattle.toml.specs.Parse.{parse_document}
 use Rattle.gas_scene.specs.declared.error.SceneError.{SceneError}
 use Rattle.gas_scene.specs.declared.error.SceneError.TheVariants.{Syntax}
-use Rattle.gas_scene.specs.Refusals.{refusal_of, verdict}
+use Rattle.gas_scene.specs.Refusals.{refusal_of}
 use Rattle.gas_scene.specs.Scene.{scene_of, answer_of, table_answer, document_answer, scene_of_text}
+use Rattle.gas_scene.specs.Checking.{verdict}
 
 answer_if-refused : (ms : Members) (o : Option SceneError) (e : SceneError) → verdict o ≡ Err e → answer_of ms o ≡ Err e
 answer_if-refused ms None e is = absurd (cc)

@@ -1,7 +1,7 @@
 -- What the checks say of an area, and its lattice step by step.
 use Rattle.std.proofs.Common.{◌≡◌, ℕ, ◌<◌, Bool, true, false, not, ◌&&◌, List, map, length, get_or, ℤ, pos, ◌≤ℤ◌, ◌<ℤ◌, codes, ap, ap₂, sym, ◌∙◌, refl, subst, arith, if◌then◌else◌}
 use Rattle.std.specs.Prelude.{int_le, int_lt, All}
-use Rattle.std.specs.List.{list_all, list_any}
+use Rattle.std.specs.List.{list_all}
 use Rattle.std.proofs.lemmas.Bool.{and_parts}
 use Rattle.std.proofs.lemmas.Int.{ints}
 use Rattle.std.proofs.lemmas.List.{length-map, get_or-map}
@@ -12,15 +12,18 @@ use Rattle.toml.specs.declared.value.Value.{Value}
 use Rattle.gas_geom.specs.Gas.{Rules}
 use Rattle.gas_geom.specs.Size.{IsSize}
 use Rattle.gas_geom.specs.Lattice.{LatticeModel}
+use Rattle.gas_geom.specs.declared.size.TheConstants.{MOST_SIDE}
 use Rattle.gas_scene.specs.declared.fields.Extent.{Extent}
 use Rattle.gas_scene.specs.declared.fields.Rectangle.{Rectangle}
 use Rattle.gas_scene.specs.declared.fields.Placement.{Placement}
-use Rattle.gas_scene.specs.GasName.{states_named}
+use Rattle.gas_scene.specs.Gases.{states_named}
 use Rattle.gas_scene.specs.Fields.{text_at, integer_at, array_at, extent_of, rectangle_of, placement_of}
-use Rattle.gas_scene.specs.Ranges.{is_size, is_rate, is_below, is_span_of, is_extent, fits, spans, is_free, is_inside, is_placed, is_version, is_gas, is_chirality, is_common_in_range, is_filling, is_area_in_range}
+use Rattle.gas_scene.specs.Ranges.{is_size, is_rate, is_below, is_span_of, is_extent, fits, is_free, is_inside, is_placed, is_version, is_gas, is_chirality, is_common_in_range, is_filling, is_area_in_range, is_covered}
 use Rattle.gas_scene.specs.Grid.{lattice_of}
-use Rattle.gas_scene.specs.Area.{natural, is_covered, filling, placed, area_width, area_height, seed_of, rate_of, is_solid_in, area_lattice, IsInside, CanPlace}
-use Rattle.gas_scene.proofs.Grids.{value-grid}
+use Rattle.gas_scene.specs.Area.{filling, placed, area_width, area_height, seed_of, rate_of, is_solid_in, area_lattice}
+use Rattle.gas_scene.proofs.Grids.{value-rows_of}
+use Rattle.gas_scene.specs.Building.{CanPlace, IsInside}
+use Rattle.std.specs.Prelude.{nat_abs}
 
 int_le-true : (a b : ℤ) → int_le a b ≡ true → a ≤ℤ b
 int_le-true a b e = grind (arith, ints)
@@ -62,12 +65,12 @@ module _ (ms : Members) (held : is_area_in_range ms ≡ true) where
   placements-range = (and_parts (list_all (λ d. fits (extent_of ms) (rectangle_of d)) (array_at (codes "solid") ms))
       (list_all (λ d. is_placed (states_named (text_at (codes "gas") ms)) (extent_of ms) (array_at (codes "solid") ms) (placement_of d)) (array_at (codes "particles") ms)) filling_holds).1
 
-size_range : (z : ℤ) → is_size z ≡ true → (pos 1 ≤ℤ z) × (z ≤ℤ pos 4096)
+size_range : (z : ℤ) → is_size z ≡ true → (pos 1 ≤ℤ z) × (z ≤ℤ pos MOST_SIDE)
 size_range z held =
-    let both = and_parts (int_le (pos 1) z) (int_le z (pos 4096)) held in
-    (int_le-true (pos 1) z both.0, int_le-true z (pos 4096) both.1)
+    let both = and_parts (int_le (pos 1) z) (int_le z (pos MOST_SIDE)) held in
+    (int_le-true (pos 1) z both.0, int_le-true z (pos MOST_SIDE) both.1)
 
-pub IsSize-extent : (e : Extent) → is_extent e ≡ true → IsSize (natural e.width) (natural e.height)
+pub IsSize-extent : (e : Extent) → is_extent e ≡ true → IsSize (nat_abs e.width) (nat_abs e.height)
 IsSize-extent e held =
     let both = and_parts (is_size e.width) (is_size e.height) held in
     let wide = size_range e.width both.0 in
@@ -86,7 +89,7 @@ all_seen test vs ds seen held k d within =
     let each = AllPass-from_list_all test (map view vs) (ap (list_all test) seen ∙ held) k (view d) (omega (arith, length-map vs view)) in
     ap test (sym (get_or-map view vs k d (view d) within)) ∙ each
 
-fits-inside : (e : Extent) (r : Rectangle) → is_extent e ≡ true → fits e r ≡ true → IsInside (natural e.width) (natural e.height) r
+fits-inside : (e : Extent) (r : Rectangle) → is_extent e ≡ true → fits e r ≡ true → IsInside (nat_abs e.width) (nat_abs e.height) r
 fits-inside e r sized held =
     let sizes = and_parts (is_size e.width) (is_size e.height) sized in
     let wide = size_range e.width sizes.0 in
@@ -119,7 +122,7 @@ not_true true e = sym e
 not_true false e = refl
 
 placed-can : (states : ℕ) (e : Extent) (solid : List Data) (p : Placement) (at : ℕ → ℕ → ℕ) → is_extent e ≡ true → is_placed states e solid p ≡ true
-    → CanPlace states (lattice_of (natural e.width) (natural e.height) (is_covered solid) at).channel p
+    → CanPlace states (lattice_of (nat_abs e.width) (nat_abs e.height) (λ u v. is_covered solid (pos u) (pos v)) at).channel p
 placed-can states e solid p at sized held =
     let sizes = and_parts (is_size e.width) (is_size e.height) sized in
     let wide = size_range e.width sizes.0 in
@@ -134,16 +137,15 @@ placed-can states e solid p at sized held =
     let right = int_lt-true p.x e.width x.1 in
     let top = int_le-true (pos 0) p.y y.0 in
     let bottom = int_lt-true p.y e.height y.1 in
-    let x_is : pos (natural p.x) ≡ p.x = omega (arith, ints) in
-    let y_is : pos (natural p.y) ≡ p.y = omega (arith, ints) in
-    let free : is_covered solid (natural p.x) (natural p.y) ≡ false =
-    ap₂ (λ (u : ℤ) (v : ℤ). list_any (λ d. spans u (rectangle_of d).columns && spans v (rectangle_of d).rows) solid) x_is y_is ∙ not_true _ second.1 in
+    let x_is : pos (nat_abs p.x) ≡ p.x = omega (arith, ints) in
+    let y_is : pos (nat_abs p.y) ≡ p.y = omega (arith, ints) in
+    let free : is_covered solid (pos (nat_abs p.x)) (pos (nat_abs p.y)) ≡ false = ap₂ (is_covered solid) x_is y_is ∙ not_true _ second.1 in
     record {
       left = left;
       right = omega (arith, ints);
       top = top;
       bottom = omega (arith, ints);
-      fluid = value-grid (natural e.width) (natural e.height) (is_covered solid) (natural p.x) (natural p.y) false (omega (arith, ints)) (omega (arith, ints)) ∙ free;
+      fluid = value-rows_of (nat_abs e.width) (nat_abs e.height) (λ u v. is_covered solid (pos u) (pos v)) (nat_abs p.x) (nat_abs p.y) false (omega (arith, ints)) (omega (arith, ints)) ∙ free;
       low = int_le-true (pos 0) p.state state.0;
       high = int_lt-true p.state (pos states) state.1;
     }
@@ -160,11 +162,11 @@ All-can ms held states vs l at gas seen is k d within =
 
 -- the steps to the lattice of an area
 pub lattice_of-solid_in : (ms : Members) (w h : ℕ) (vs : List Value) → w ≡ area_width ms → h ≡ area_height ms → map view vs ≡ array_at (codes "solid") ms
-    → lattice_of w h (is_covered (map view vs)) (λ _ _. 0) ≡ lattice_of (area_width ms) (area_height ms) (is_solid_in ms) (λ _ _. 0)
+    → lattice_of w h (λ u v. is_covered (map view vs) (pos u) (pos v)) (λ _ _. 0) ≡ lattice_of (area_width ms) (area_height ms) (is_solid_in ms) (λ _ _. 0)
 lattice_of-solid_in ms w h vs wide high seen =
-    ap (λ n. lattice_of n h (is_covered (map view vs)) (λ _ _. 0)) wide
-    ∙ ap (λ n. lattice_of (area_width ms) n (is_covered (map view vs)) (λ _ _. 0)) high
-    ∙ ap (λ ds. lattice_of (area_width ms) (area_height ms) (is_covered ds) (λ _ _. 0)) seen
+    ap (λ n. lattice_of n h (λ u v. is_covered (map view vs) (pos u) (pos v)) (λ _ _. 0)) wide
+    ∙ ap (λ n. lattice_of (area_width ms) n (λ u v. is_covered (map view vs) (pos u) (pos v)) (λ _ _. 0)) high
+    ∙ ap (λ ds. lattice_of (area_width ms) (area_height ms) (λ u v. is_covered ds (pos u) (pos v)) (λ _ _. 0)) seen
 
 abbrev whole : Members → Rules → ℕ → ℕ → List Data → LatticeModel
 whole ms gas seed rate ds =

@@ -1,14 +1,19 @@
 -- The value of a hexadecimal digit by ranges of characters, and the cell that two characters stand for by their values.
 use Rattle.std.proofs.Common.{◌≡◌, ℕ, ◌+◌, ◌-◌, ◌<◌, ◌≤◌, true, ◌&&◌, if◌then◌else◌, Option, Some, None, nat_eq, nat_le, refl, ap, arith}
-use Rattle.std.proofs.Common.{Bool, false, ◌*◌, ◌%◌, ◌||◌, ◌==◌, nat_lt, sym, subst}
+use Rattle.std.proofs.Common.{Bool, false, [], ◌∷◌, ◌*◌, ◌%◌, ◌||◌, ◌==◌, nat_lt, sym, subst}
 use Rattle.std.specs.Prelude.{is_some}
 use Rattle.std.specs.Option.{option_eq, unwrap_or}
+use Rattle.std.specs.Str.{bytes_eq}
 use Rattle.std.proofs.lemmas.Bool.{agree_below_at, eqb-true, ltb-true, false≢true}
 use Rattle.std.proofs.lemmas.Bool.Decides.{nat_tests}
 use Rattle.gas_scene.specs.declared.cells.Cell.{Cell}
 use Rattle.gas_scene.specs.declared.cells.Cell.TheVariants.{Solid, State}
 use Rattle.gas_scene.specs.declared.cells.TheConstants.{SOLID_MARK, EMPTY_MARK}
-use Rattle.gas_scene.specs.Cells.{digit_of, state_of, is_marked, cell_of}
+use Rattle.gas_scene.specs.Cells.{digit_of, state_of, cell_of}
+
+-- whether both characters are the mark
+abbrev pub is_marked : ℕ → ℕ → ℕ → Bool
+is_marked mark a b = bytes_eq (a ∷ b ∷ []) (mark ∷ mark ∷ [])
 
 same_option : (a b : Option ℕ) → option_eq nat_eq a b ≡ true → a ≡ b
 same_option None None e = refl
@@ -89,7 +94,7 @@ solid_if false some = absurd (false≢true some)
 
 solid_at : (states b : ℕ) → is_some (cell_of states SOLID_MARK b) ≡ true → Some Solid ≡ cell_of states SOLID_MARK b
 unfolding cell_of digit_of
-solid_at states b some = solid_if (b == SOLID_MARK) some
+solid_at states b some = solid_if ((b == SOLID_MARK) && true) some
 
 -- a cell whose first character is the mark of solid cells
 pub cell_of-solid : (states a b : ℕ) → a ≡ SOLID_MARK → is_some (cell_of states a b) ≡ true → Some Solid ≡ cell_of states a b
@@ -120,8 +125,9 @@ not_marked t u e = rw e refl
 empty_at : (a b : ℕ) → is_marked EMPTY_MARK a b ≡ true → unwrap_or (digit_of a) 0 * 16 + unwrap_or (digit_of b) 0 ≡ 0
 unfolding digit_of
 empty_at a b marked =
-    let first : a ≡ EMPTY_MARK = grind (arith, nat_tests, marked) in
-    let second : b ≡ EMPTY_MARK = grind (arith, nat_tests, marked) in
+    let both : ((a == EMPTY_MARK) && ((b == EMPTY_MARK) && true)) ≡ true = marked in
+    let first : a ≡ EMPTY_MARK = grind (arith, nat_tests, both) in
+    let second : b ≡ EMPTY_MARK = grind (arith, nat_tests, both) in
     rw (first, second) refl
 
 -- a cell whose first character is another
@@ -130,4 +136,4 @@ pub cell_of-state : (states a b : ℕ) → (a == SOLID_MARK) ≡ false → is_so
 unfolding cell_of
 cell_of-state states a b other some =
     state_by_mark (is_marked SOLID_MARK a b) (is_marked EMPTY_MARK a b) states (digit_of a) (digit_of b)
-    (not_marked (a == SOLID_MARK) (b == SOLID_MARK) other) (empty_at a b) some
+    (not_marked (a == SOLID_MARK) ((b == SOLID_MARK) && true) other) (empty_at a b) some

@@ -1,30 +1,18 @@
 -- Filling: the states that it gives, and a lattice whose cells before one are filled.
-use Rattle.std.proofs.Common.{◌≡◌, ◌≢◌, inl, inr, ℕ, zero, suc, ◌+◌, ◌*◌, ◌^◌, ◌%◌, ◌<◌, ◌≤◌, Bool, true, false, List, nat_lt, ap, sym, ◌∙◌, refl, arith, mul-le-mul_right, if◌then◌else◌, ⊎_elim, subst}
-use Rattle.std.proofs.Math.Nat.{pow-suc}
-use Rattle.std.proofs.lemmas.Bool.{cases_eq, cases_Bool}
+use Rattle.std.proofs.Common.{◌≡◌, ℕ, zero, suc, ◌+◌, ◌^◌, ◌<◌, Bool, true, false, List, get_or, set, ap, sym, ◌∙◌, refl, arith, if◌then◌else◌, subst}
 use Rattle.std.proofs.lemmas.Bool.Decides.{nat_tests}
+use Rattle.std.proofs.lemmas.List.FromFn.{get_or-map-range_with_len, length-map-range_with_len}
 use Rattle.gas_geom.specs.Gas.{Rules}
-use Rattle.gas_geom.specs.Channel.{is_solid}
-use Rattle.gas_geom.specs.Lattice.{LatticeModel, set_of, with_cell}
-use Rattle.gas_rows.specs.Key.{key_word}
-use Rattle.gas_scene.specs.Grid.{lattice_of, is_before}
-use Rattle.gas_scene.specs.Area.{filled, filling, filled_before}
-use Rattle.gas_scene.proofs.Grids.{value-grid, lattice_of-same, lattice_of-state, if_same, before-other, before-here, before-next, before-row, before-none, before-all}
-
-set_of-below : (f : ℕ → ℕ) (n : ℕ) → ((i : ℕ) → f i ≤ 1) → set_of n f < 2 ^ n
-set_of-below f zero few = omega arith
-set_of-below f (suc n) few =
-    omega (arith, set_of-below f n few, mul-le-mul_right (2 ^ n) (few n), pow-suc 2 n)
-
-bit : (b : Bool) → (if b then 1 else 0) ≤ 1
-bit true = omega arith
-bit false = omega arith
-
-pub filled-few : (seed rate width x y i : ℕ) → filled seed rate width x y i ≤ 1
-filled-few seed rate width x y i = bit (nat_lt (key_word seed (2 ^ 63 + i) (y * width + x) % 1000) rate)
+use Rattle.gas_geom.specs.Lattice.{LatticeModel, set_of, row_of}
+use Rattle.gas_geom.proofs.Sets.{set_of-lt}
+use Rattle.gas_rows.proofs.Lattices.{fluid_state}
+use Rattle.gas_scene.specs.Grid.{lattice_of}
+use Rattle.gas_scene.specs.Area.{filled, filling}
+use Rattle.gas_scene.proofs.Grids.{value-rows_of, rows_of-set_row, lattice_of-same, if_same, before-row_here, before-row_other, before-none, before-all}
+use Rattle.gas_scene.specs.Building.{filled_before, is_before}
 
 pub set_of-filled-below : (n seed rate width x y : ℕ) → set_of n (filled seed rate width x y) < 2 ^ n
-set_of-filled-below n seed rate width x y = set_of-below (filled seed rate width x y) n (filled-few seed rate width x y)
+set_of-filled-below n seed rate width x y = set_of-lt n (filled seed rate width x y)
 
 pub filling-below : (gas : Rules) (seed rate width x y : ℕ) → filling gas seed rate width x y < 2 ^ gas.dirs
 unfolding filling
@@ -34,17 +22,21 @@ pub filling-is : (gas : Rules) (n seed rate width x y : ℕ) → n ≡ gas.dirs 
 unfolding filling
 filling-is gas n seed rate width x y same = ap (λ m. set_of m (filled seed rate width x y)) same
 
-none-below : (n : ℕ) (f : ℕ → ℕ) → ((i : ℕ) → f i ≡ 0) → set_of n f ≡ 0
+none-below : (n : ℕ) (f : ℕ → Bool) → ((i : ℕ) → f i ≡ false) → set_of n f ≡ 0
 none-below zero f none = refl
-none-below (suc n) f none = omega (arith, none-below n f none, ap (λ k. k * 2 ^ n) (none n))
+none-below (suc n) f none = omega (arith, none-below n f none, ap (λ (b : Bool). if b then 2 ^ n else 0) (none n))
 
 -- filling at the rate 0 puts no particle anywhere
-filled-never : (seed width x y i : ℕ) → filled seed 0 width x y i ≡ 0
+filled-never : (seed width x y i : ℕ) → filled seed 0 width x y i ≡ false
 filled-never seed width x y i = grind (arith, nat_tests)
 
 filling-never : (gas : Rules) (seed width x y : ℕ) → filling gas seed 0 width x y ≡ 0
 unfolding filling
 filling-never gas seed width x y = none-below gas.dirs (filled seed 0 width x y) (filled-never seed width x y)
+
+-- the lattice with states for the fluid cells of row y
+abbrev pub with_states : LatticeModel → ℕ → List ℕ → LatticeModel
+with_states l y states = record l { rows = set l.rows y (row_of l.channel.width (fluid_state l.channel y states)) }
 
 module _ (gas : Rules) (seed rate w h : ℕ) (solid : ℕ → ℕ → Bool) where
   abbrev state : ℕ → ℕ → ℕ
@@ -53,47 +45,19 @@ module _ (gas : Rules) (seed rate w h : ℕ) (solid : ℕ → ℕ → Bool) wher
   abbrev at_before : ℕ → ℕ → ℕ → ℕ → ℕ
   at_before x y u v = if is_before x y u v then state u v else 0
 
-  abbrev set_fluid : LatticeModel → ℕ → ℕ → ℕ → LatticeModel
-  set_fluid l x y s = if is_solid l.channel x y then l else record l { rows = with_cell l.rows x y s }
-
-  same_state : (x y : ℕ) → state x y ≡ 0 → (u k : ℕ) → at_before x y u k ≡ at_before (x + 1) y u k
-  same_state x y none u k = ⊎_elim
-      (λ (eu : u ≡ x). ⊎_elim
-      (λ (ek : k ≡ y). rw (eu, ek) (if_same (is_before x y x y) false (state x y) 0 (before-here x y) ∙ sym (if_same (is_before (x + 1) y x y) true (state x y) 0 (before-next x y) ∙ none)))
-      (λ (ne : k ≢ y). if_same (is_before x y u k) (is_before (x + 1) y u k) (state u k) 0 (before-other x y u k (inr ne)))
-      (cases_eq k y))
-      (λ (ne : u ≢ x). if_same (is_before x y u k) (is_before (x + 1) y u k) (state u k) 0 (before-other x y u k (inl ne)))
-      (cases_eq u x)
-
-  at_solid : (x y s : ℕ) (l : LatticeModel) → is_solid l.channel x y ≡ true → set_fluid l x y s ≡ l
-  at_solid x y s l is = ap (λ (b : Bool). if b then l else record l { rows = with_cell l.rows x y s }) is
-
-  at_fluid : (x y s : ℕ) (l : LatticeModel) → is_solid l.channel x y ≡ false → set_fluid l x y s ≡ record l { rows = with_cell l.rows x y s }
-  at_fluid x y s l is = ap (λ (b : Bool). if b then l else record l { rows = with_cell l.rows x y s }) is
-
-  pub set_fluid-filled_before : (x y s : ℕ) → x < w → y < h → s ≡ filling gas seed rate w x y
-      → set_fluid (filled_before gas seed rate w h solid x y) x y s ≡ filled_before gas seed rate w h solid (x + 1) y
+  pub set_states-filled_before : (y : ℕ) (states : List ℕ) → y < h → ((x : ℕ) → x < w → get_or states x 0 ≡ filling gas seed rate w x y)
+      → with_states (filled_before gas seed rate w h solid 0 y) y states ≡ filled_before gas seed rate w h solid 0 (y + 1)
   unfolding filled_before
-  set_fluid-filled_before x y s in_columns in_rows same =
-      let l = lattice_of w h solid (at_before x y) in
-      let here : is_solid l.channel x y ≡ solid x y = value-grid w h solid x y false in_columns in_rows in
-      ⊎_elim
-      (λ (yes' : solid x y ≡ true).
-      at_solid x y s l (here ∙ yes')
-      ∙ lattice_of-same w h solid solid (at_before x y) (at_before (x + 1) y) (λ u k _ _. refl)
-      (λ u k _ _. same_state x y (ap (λ (b : Bool). if b then 0 else filling gas seed rate w x y) yes') u k))
-      (λ (no' : solid x y ≡ false).
-      at_fluid x y s l (here ∙ no')
-      ∙ ap (λ n. record l { rows = with_cell l.rows x y n })
-      (same ∙ sym (ap (λ (b : Bool). if b then 0 else filling gas seed rate w x y) no') ∙ sym (if_same (is_before (x + 1) y x y) true (state x y) 0 (before-next x y)))
-      ∙ lattice_of-state w h solid (at_before x y) (at_before (x + 1) y) x y in_columns in_rows
-      (λ u k other. if_same (is_before x y u k) (is_before (x + 1) y u k) (state u k) 0 (before-other x y u k other)))
-      (cases_Bool (solid x y))
-
-  pub filled_before-row : (y : ℕ) → filled_before gas seed rate w h solid w y ≡ filled_before gas seed rate w h solid 0 (y + 1)
-  unfolding filled_before
-  filled_before-row y = lattice_of-same w h solid solid (at_before w y) (at_before 0 (y + 1)) (λ u k _ _. refl)
-      (λ u k in_row _. if_same (is_before w y u k) (is_before 0 (y + 1) u k) (state u k) 0 (before-row w y u k in_row))
+  set_states-filled_before y states in_rows same =
+      let l = lattice_of w h solid (at_before 0 y) in
+      let row = row_of w (fluid_state l.channel y states) in
+      ap (λ rs. record l { rows = rs })
+      (rows_of-set_row w h (at_before 0 y) (at_before 0 (y + 1)) y row 0 in_rows (length-map-range_with_len (fluid_state l.channel y states) 0 w)
+      (λ u in_row. get_or-map-range_with_len (fluid_state l.channel y states) 0 w u u 0 in_row (omega arith)
+      ∙ ap (λ (b : Bool). if b then 0 else get_or states u 0) (value-rows_of w h solid u y false in_row in_rows)
+      ∙ ap (λ s. if solid u y then 0 else s) (same u in_row)
+      ∙ sym (if_same (is_before 0 (y + 1) u y) true (state u y) 0 (before-row_here y u)))
+      (λ u k other. if_same (is_before 0 y u k) (is_before 0 (y + 1) u k) (state u k) 0 (before-row_other y u k other)))
 
   pub filled_before-none : lattice_of w h solid (λ _ _. 0) ≡ filled_before gas seed rate w h solid 0 0
   unfolding filled_before
@@ -130,11 +94,6 @@ pub filled_before-rate_0 : (gas : Rules) (seed rate w h : ℕ) (solid : ℕ → 
     → filled_before gas seed rate w h solid x y ≡ filled_before gas seed rate w h solid u v
 filled_before-rate_0 gas seed rate w h solid x y u v none =
     rw none (filled_before-never gas seed w h solid x y ∙ sym (filled_before-never gas seed w h solid u v))
-
--- a cell that is set where it is fluid leaves the channel as it is
-pub channel-if : (b : Bool) (l : LatticeModel) (rows : List (List ℕ)) → (if b then l else record l { rows = rows }).channel ≡ l.channel
-channel-if true l rows = refl
-channel-if false l rows = refl
 
 -- what filling makes of a lattice without particles
 pub lattice_of-filled : (gas : Rules) (seed rate w h : ℕ) (solid : ℕ → ℕ → Bool) (before after : LatticeModel) → before ≡ lattice_of w h solid (λ _ _. 0)

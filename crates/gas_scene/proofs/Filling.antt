@@ -5,7 +5,7 @@ use Rattle.toml.specs.Data.{Data, Members}
 use Rattle.toml.specs.View.{view}
 use Rattle.toml.specs.declared.value.Value.{Value}
 use Rattle.gas_scene.specs.declared.fields.Extent.{Extent}
-use Rattle.gas_scene.specs.GasName.{states_named}
+use Rattle.gas_scene.specs.Gases.{states_named}
 use Rattle.gas_scene.specs.Fields.{array_at, text_at, rectangle_of, placement_of}
 use Rattle.gas_scene.specs.Ranges.{fits, is_placed, is_filling}
 use Rattle.gas_scene.proofs.Values.{list_all-view}

@@ -6,79 +6,80 @@ use Rattle.std.proofs.lemmas.Bool.Decides.{nat_tests}
 use Rattle.std.proofs.lemmas.List.{get_or-replicate, length-replicate, get_or-set_same, get_or-set_other, length-set}
 use Rattle.std.proofs.lemmas.List.FromFn.{fill_by_all, length-map-range_with_len, get_or-map-range_with_len}
 use Rattle.gas_geom.specs.Channel.{with_solid, free_channel}
-use Rattle.gas_geom.specs.Lattice.{with_cell, empty_lattice}
-use Rattle.gas_scene.specs.Grid.{grid, lattice_of, is_before, lattice_before}
+use Rattle.gas_geom.specs.Lattice.{with_cell, empty_lattice, rows_of}
+use Rattle.gas_scene.specs.Grid.{lattice_of}
+use Rattle.gas_scene.specs.Building.{is_before, lattice_before}
 
 -- row k, and the value at a cell
-row-grid : {A : Type 0} (w h : ℕ) (f : ℕ → ℕ → A) (k : ℕ) → k < h → get_or (grid w h f) k [] ≡ map (λ u. f u k) (range_with_len 0 w)
-row-grid w h f k within = get_or-map-range_with_len (λ y. map (λ u. f u y) (range_with_len 0 w)) 0 h k k [] within (omega arith)
+row-rows_of : {A : Type 0} (w h : ℕ) (f : ℕ → ℕ → A) (k : ℕ) → k < h → get_or (rows_of w h f) k [] ≡ map (λ u. f u k) (range_with_len 0 w)
+row-rows_of w h f k within = get_or-map-range_with_len (λ y. map (λ u. f u y) (range_with_len 0 w)) 0 h k k [] within (omega arith)
 
-pub value-grid : {A : Type 0} (w h : ℕ) (f : ℕ → ℕ → A) (x y : ℕ) (d : A) → x < w → y < h → get_or (get_or (grid w h f) y []) x d ≡ f x y
-value-grid w h f x y d in_columns in_rows =
-    ap (λ row. get_or row x d) (row-grid w h f y in_rows) ∙ get_or-map-range_with_len (λ u. f u y) 0 w x x d in_columns (omega arith)
+pub value-rows_of : {A : Type 0} (w h : ℕ) (f : ℕ → ℕ → A) (x y : ℕ) (d : A) → x < w → y < h → get_or (get_or (rows_of w h f) y []) x d ≡ f x y
+value-rows_of w h f x y d in_columns in_rows =
+    ap (λ row. get_or row x d) (row-rows_of w h f y in_rows) ∙ get_or-map-range_with_len (λ u. f u y) 0 w x x d in_columns (omega arith)
 
 row-same : {A : Type 0} (w : ℕ) (f g : ℕ → A) (d : A) → ((u : ℕ) → u < w → f u ≡ g u) → map f (range_with_len 0 w) ≡ map g (range_with_len 0 w)
 row-same w f g d same =
     fill_by_all g (map f (range_with_len 0 w)) w d (length-map-range_with_len f 0 w)
     (λ u within. get_or-map-range_with_len f 0 w u u d within (omega arith) ∙ same u within)
 
--- two grids of the same values
-pub grid-same : {A : Type 0} (w h : ℕ) (f g : ℕ → ℕ → A) (d : A) → ((u k : ℕ) → u < w → k < h → f u k ≡ g u k) → grid w h f ≡ grid w h g
-grid-same w h f g d same =
-    fill_by_all (λ k. map (λ u. g u k) (range_with_len 0 w)) (grid w h f) h [] (length-map-range_with_len (λ k. map (λ u. f u k) (range_with_len 0 w)) 0 h)
-    (λ k within. row-grid w h f k within ∙ row-same w (λ u. f u k) (λ u. g u k) d (λ u in_row. same u k in_row within))
+-- rows of the same values
+pub rows_of-same : {A : Type 0} (w h : ℕ) (f g : ℕ → ℕ → A) (d : A) → ((u k : ℕ) → u < w → k < h → f u k ≡ g u k) → rows_of w h f ≡ rows_of w h g
+rows_of-same w h f g d same =
+    fill_by_all (λ k. map (λ u. g u k) (range_with_len 0 w)) (rows_of w h f) h [] (length-map-range_with_len (λ k. map (λ u. f u k) (range_with_len 0 w)) 0 h)
+    (λ k within. row-rows_of w h f k within ∙ row-same w (λ u. f u k) (λ u. g u k) d (λ u in_row. same u k in_row within))
 
-pub grid-replicate : {A : Type 0} (w h : ℕ) (f : ℕ → ℕ → A) (d : A) → ((u k : ℕ) → d ≡ f u k) → replicate h (replicate w d) ≡ grid w h f
-grid-replicate w h f d same =
+pub rows_of-replicate : {A : Type 0} (w h : ℕ) (f : ℕ → ℕ → A) (d : A) → ((u k : ℕ) → d ≡ f u k) → replicate h (replicate w d) ≡ rows_of w h f
+rows_of-replicate w h f d same =
     fill_by_all (λ k. map (λ u. f u k) (range_with_len 0 w)) (replicate h (replicate w d)) h [] (length-replicate h (replicate w d))
     (λ k within. get_or-replicate h k (replicate w d) [] within
     ∙ fill_by_all (λ u. f u k) (replicate w d) w d (length-replicate w d) (λ u in_row. get_or-replicate w u d d in_row ∙ same u k))
 
--- a grid with another value at one cell
-pub grid-set : {A : Type 0} (w h : ℕ) (f g : ℕ → ℕ → A) (x y : ℕ) (v : A) → x < w → y < h → v ≡ g x y
+-- rows with another value at one cell
+pub rows_of-set : {A : Type 0} (w h : ℕ) (f g : ℕ → ℕ → A) (x y : ℕ) (v : A) → x < w → y < h → v ≡ g x y
     → ((u k : ℕ) → (u ≢ x) ⊎ (k ≢ y) → f u k ≡ g u k)
-    → set (grid w h f) y (set (get_or (grid w h f) y []) x v) ≡ grid w h g
-grid-set {A = A} w h f g x y v in_columns in_rows new old =
-    fill_by_all (λ k. map (λ u. g u k) (range_with_len 0 w)) (set (grid w h f) y changed) h []
-    (length-set (grid w h f) y changed ∙ high)
+    → set (rows_of w h f) y (set (get_or (rows_of w h f) y []) x v) ≡ rows_of w h g
+rows_of-set {A = A} w h f g x y v in_columns in_rows new old =
+    fill_by_all (λ k. map (λ u. g u k) (range_with_len 0 w)) (set (rows_of w h f) y changed) h []
+    (length-set (rows_of w h f) y changed ∙ high)
     (λ k within. ⊎_elim
-    (λ (e : k ≡ y). ap (λ j. get_or (set (grid w h f) y changed) j []) e
-    ∙ get_or-set_same (grid w h f) y changed [] (omega (arith, high)) ∙ row_y ∙ ap (λ j. map (λ u. g u j) (range_with_len 0 w)) (sym e))
-    (λ (ne : k ≢ y). get_or-set_other (grid w h f) y k changed [] ne ∙ row-grid w h f k within
+    (λ (e : k ≡ y). ap (λ j. get_or (set (rows_of w h f) y changed) j []) e
+    ∙ get_or-set_same (rows_of w h f) y changed [] (omega (arith, high)) ∙ row_y ∙ ap (λ j. map (λ u. g u j) (range_with_len 0 w)) (sym e))
+    (λ (ne : k ≢ y). get_or-set_other (rows_of w h f) y k changed [] ne ∙ row-rows_of w h f k within
     ∙ row-same w (λ u. f u k) (λ u. g u k) v (λ u in_row. old u k (inr ne)))
     (cases_eq k y))
   where
     changed : List A
-    changed = set (get_or (grid w h f) y []) x v
+    changed = set (get_or (rows_of w h f) y []) x v
 
-    high : length (grid w h f) ≡ h
+    high : length (rows_of w h f) ≡ h
     high = length-map-range_with_len (λ k. map (λ u. f u k) (range_with_len 0 w)) 0 h
 
-    wide : length (get_or (grid w h f) y []) ≡ w
-    wide = ap length (row-grid w h f y in_rows) ∙ length-map-range_with_len (λ u. f u y) 0 w
+    wide : length (get_or (rows_of w h f) y []) ≡ w
+    wide = ap length (row-rows_of w h f y in_rows) ∙ length-map-range_with_len (λ u. f u y) 0 w
 
     row_y : changed ≡ map (λ u. g u y) (range_with_len 0 w)
-    row_y = fill_by_all (λ u. g u y) changed w v (length-set (get_or (grid w h f) y []) x v ∙ wide)
+    row_y = fill_by_all (λ u. g u y) changed w v (length-set (get_or (rows_of w h f) y []) x v ∙ wide)
         (λ u in_row. ⊎_elim
-        (λ (e : u ≡ x). ap (λ j. get_or changed j v) e ∙ get_or-set_same (get_or (grid w h f) y []) x v v (omega (arith, wide)) ∙ new ∙ ap (λ j. g j y) (sym e))
-        (λ (ne : u ≢ x). get_or-set_other (get_or (grid w h f) y []) x u v v ne ∙ value-grid w h f u y v in_row in_rows ∙ old u y (inl ne))
+        (λ (e : u ≡ x). ap (λ j. get_or changed j v) e ∙ get_or-set_same (get_or (rows_of w h f) y []) x v v (omega (arith, wide)) ∙ new ∙ ap (λ j. g j y) (sym e))
+        (λ (ne : u ≢ x). get_or-set_other (get_or (rows_of w h f) y []) x u v v ne ∙ value-rows_of w h f u y v in_row in_rows ∙ old u y (inl ne))
         (cases_eq u x))
 
--- a grid with another row
-pub grid-set_row : {A : Type 0} (w h : ℕ) (f g : ℕ → ℕ → A) (y : ℕ) (row : List A) (d : A) → y < h → length row ≡ w
-    → ((u : ℕ) → u < w → get_or row u d ≡ g u y) → ((u k : ℕ) → k ≢ y → f u k ≡ g u k) → set (grid w h f) y row ≡ grid w h g
-grid-set_row w h f g y row d in_rows wide new old =
-    fill_by_all (λ k. map (λ u. g u k) (range_with_len 0 w)) (set (grid w h f) y row) h []
-    (length-set (grid w h f) y row ∙ high)
+-- rows with another row
+pub rows_of-set_row : {A : Type 0} (w h : ℕ) (f g : ℕ → ℕ → A) (y : ℕ) (row : List A) (d : A) → y < h → length row ≡ w
+    → ((u : ℕ) → u < w → get_or row u d ≡ g u y) → ((u k : ℕ) → k ≢ y → f u k ≡ g u k) → set (rows_of w h f) y row ≡ rows_of w h g
+rows_of-set_row w h f g y row d in_rows wide new old =
+    fill_by_all (λ k. map (λ u. g u k) (range_with_len 0 w)) (set (rows_of w h f) y row) h []
+    (length-set (rows_of w h f) y row ∙ high)
     (λ k within. ⊎_elim
-    (λ (e : k ≡ y). ap (λ j. get_or (set (grid w h f) y row) j []) e
-    ∙ get_or-set_same (grid w h f) y row [] (omega (arith, high))
+    (λ (e : k ≡ y). ap (λ j. get_or (set (rows_of w h f) y row) j []) e
+    ∙ get_or-set_same (rows_of w h f) y row [] (omega (arith, high))
     ∙ fill_by_all (λ u. g u y) row w d wide new ∙ ap (λ j. map (λ u. g u j) (range_with_len 0 w)) (sym e))
-    (λ (ne : k ≢ y). get_or-set_other (grid w h f) y k row [] ne ∙ row-grid w h f k within
+    (λ (ne : k ≢ y). get_or-set_other (rows_of w h f) y k row [] ne ∙ row-rows_of w h f k within
     ∙ row-same w (λ u. f u k) (λ u. g u k) d (λ u in_row. old u k ne))
     (cases_eq k y))
   where
-    high : length (grid w h f) ≡ h
+    high : length (rows_of w h f) ≡ h
     high = length-map-range_with_len (λ k. map (λ u. f u k) (range_with_len 0 w)) 0 h
 
 -- the cells before the next row
@@ -88,20 +89,7 @@ before-row_here y u = grind (arith, nat_tests)
 pub before-row_other : (y u k : ℕ) → k ≢ y → is_before 0 y u k ≡ is_before 0 (y + 1) u k
 before-row_other y u k ne = grind (arith, nat_tests)
 
--- the cells before the next column
-pub before-other : (x y u k : ℕ) → (u ≢ x) ⊎ (k ≢ y) → is_before x y u k ≡ is_before (x + 1) y u k
-before-other x y u k (inl ne) = grind (arith, nat_tests)
-before-other x y u k (inr ne) = grind (arith, nat_tests)
-
-pub before-here : (x y : ℕ) → is_before x y x y ≡ false
-before-here x y = grind (arith, nat_tests)
-
-pub before-next : (x y : ℕ) → is_before (x + 1) y x y ≡ true
-before-next x y = grind (arith, nat_tests)
-
-pub before-row : (w y u k : ℕ) → u < w → is_before w y u k ≡ is_before 0 (y + 1) u k
-before-row w y u k within = grind (arith, nat_tests)
-
+-- no cell, and every cell
 pub before-none : (u k : ℕ) → is_before 0 0 u k ≡ false
 before-none u k = grind (arith, nat_tests)
 
@@ -116,8 +104,8 @@ pub lattice_of-same : (w h : ℕ) (solid solid' : ℕ → ℕ → Bool) (at at' 
     → ((u k : ℕ) → u < w → k < h → solid u k ≡ solid' u k) → ((u k : ℕ) → u < w → k < h → at u k ≡ at' u k)
     → lattice_of w h solid at ≡ lattice_of w h solid' at'
 lattice_of-same w h solid solid' at at' same_solid same_at =
-    ap (λ g. record { channel = record { width = w; height = h; solid = g }; rows = grid w h at }) (grid-same w h solid solid' false same_solid)
-    ∙ ap (λ rs. record { channel = record { width = w; height = h; solid = grid w h solid' }; rows = rs }) (grid-same w h at at' 0 same_at)
+    ap (λ g. record { channel = record { width = w; height = h; solid = g }; rows = rows_of w h at }) (rows_of-same w h solid solid' false same_solid)
+    ∙ ap (λ rs. record { channel = record { width = w; height = h; solid = rows_of w h solid' }; rows = rs }) (rows_of-same w h at at' 0 same_at)
 
 module _ (w h : ℕ) (solid : ℕ → ℕ → Bool) (at : ℕ → ℕ → ℕ) where
   abbrev solid_before : ℕ → ℕ → ℕ → Bool
@@ -129,25 +117,25 @@ module _ (w h : ℕ) (solid : ℕ → ℕ → Bool) (at : ℕ → ℕ → ℕ) w
   pub lattice_before-next : (y : ℕ) (mask : List Bool) (row : List ℕ) → y < h → length mask ≡ w → length row ≡ w
       → ((x : ℕ) → x < w → get_or mask x false ≡ solid x y) → ((x : ℕ) → x < w → get_or row x 0 ≡ at x y)
       → record {
-        channel = record { width = w; height = h; solid = set (grid w h (solid_before y)) y mask };
-        rows = set (grid w h (at_before y)) y row;
+        channel = record { width = w; height = h; solid = set (rows_of w h (solid_before y)) y mask };
+        rows = set (rows_of w h (at_before y)) y row;
       } ≡ lattice_before w h solid at 0 (y + 1)
   lattice_before-next y mask row in_rows wide_mask wide_row same_solid same_at =
-      ap (λ g. record { channel = record { width = w; height = h; solid = g }; rows = set (grid w h (at_before y)) y row })
-      (grid-set_row w h (solid_before y) (solid_before (y + 1)) y mask false in_rows wide_mask
+      ap (λ g. record { channel = record { width = w; height = h; solid = g }; rows = set (rows_of w h (at_before y)) y row })
+      (rows_of-set_row w h (solid_before y) (solid_before (y + 1)) y mask false in_rows wide_mask
       (λ u in_row. same_solid u in_row ∙ sym (if_same (is_before 0 (y + 1) u y) true (solid u y) false (before-row_here y u)))
       (λ u k other. if_same (is_before 0 y u k) (is_before 0 (y + 1) u k) (solid u k) false (before-row_other y u k other)))
-      ∙ ap (λ rs. record { channel = record { width = w; height = h; solid = grid w h (solid_before (y + 1)) }; rows = rs })
-      (grid-set_row w h (at_before y) (at_before (y + 1)) y row 0 in_rows wide_row
+      ∙ ap (λ rs. record { channel = record { width = w; height = h; solid = rows_of w h (solid_before (y + 1)) }; rows = rs })
+      (rows_of-set_row w h (at_before y) (at_before (y + 1)) y row 0 in_rows wide_row
       (λ u in_row. same_at u in_row ∙ sym (if_same (is_before 0 (y + 1) u y) true (at u y) 0 (before-row_here y u)))
       (λ u k other. if_same (is_before 0 y u k) (is_before 0 (y + 1) u k) (at u k) 0 (before-row_other y u k other)))
 
   pub lattice_before-none : empty_lattice (free_channel w h) ≡ lattice_before w h solid at 0 0
   lattice_before-none =
       ap (λ g. record { channel = record { width = w; height = h; solid = g }; rows = replicate h (replicate w 0) })
-      (grid-replicate w h (λ u v. if is_before 0 0 u v then solid u v else false) false (λ u k. sym (if_same (is_before 0 0 u k) false (solid u k) false (before-none u k))))
-      ∙ ap (λ rs. record { channel = record { width = w; height = h; solid = grid w h (λ u v. if is_before 0 0 u v then solid u v else false) }; rows = rs })
-      (grid-replicate w h (λ u v. if is_before 0 0 u v then at u v else 0) 0 (λ u k. sym (if_same (is_before 0 0 u k) false (at u k) 0 (before-none u k))))
+      (rows_of-replicate w h (λ u v. if is_before 0 0 u v then solid u v else false) false (λ u k. sym (if_same (is_before 0 0 u k) false (solid u k) false (before-none u k))))
+      ∙ ap (λ rs. record { channel = record { width = w; height = h; solid = rows_of w h (λ u v. if is_before 0 0 u v then solid u v else false) }; rows = rs })
+      (rows_of-replicate w h (λ u v. if is_before 0 0 u v then at u v else 0) 0 (λ u k. sym (if_same (is_before 0 0 u k) false (at u k) 0 (before-none u k))))
 
   pub lattice_before-all : lattice_before w h solid at 0 h ≡ lattice_of w h solid at
   lattice_before-all = lattice_of-same w h _ _ _ _
@@ -160,21 +148,21 @@ pub lattice_of-solid : (w h : ℕ) (solid solid' : ℕ → ℕ → Bool) (x y : 
     → record { channel = with_solid (lattice_of w h solid (λ _ _. 0)).channel x y; rows = with_cell (lattice_of w h solid (λ _ _. 0)).rows x y 0 }
     ≡ lattice_of w h solid' (λ _ _. 0)
 lattice_of-solid w h solid solid' x y in_columns in_rows here others =
-    ap (λ s. record { channel = record { width = w; height = h; solid = s }; rows = with_cell (grid w h (λ _ _. 0)) x y 0 })
-    (grid-set w h solid solid' x y true in_columns in_rows (sym here) others)
-    ∙ ap (λ rs. record { channel = record { width = w; height = h; solid = grid w h solid' }; rows = rs })
-    (grid-set w h (λ _ _. 0) (λ _ _. 0) x y 0 in_columns in_rows refl (λ u k other. refl))
+    ap (λ s. record { channel = record { width = w; height = h; solid = s }; rows = with_cell (rows_of w h (λ _ _. 0)) x y 0 })
+    (rows_of-set w h solid solid' x y true in_columns in_rows (sym here) others)
+    ∙ ap (λ rs. record { channel = record { width = w; height = h; solid = rows_of w h solid' }; rows = rs })
+    (rows_of-set w h (λ _ _. 0) (λ _ _. 0) x y 0 in_columns in_rows refl (λ u k other. refl))
 
 -- a lattice with another state at one cell
 pub lattice_of-state : (w h : ℕ) (solid : ℕ → ℕ → Bool) (at at' : ℕ → ℕ → ℕ) (x y : ℕ) → x < w → y < h
     → ((u k : ℕ) → (u ≢ x) ⊎ (k ≢ y) → at u k ≡ at' u k)
     → record (lattice_of w h solid at) { rows = with_cell (lattice_of w h solid at).rows x y (at' x y) } ≡ lattice_of w h solid at'
 lattice_of-state w h solid at at' x y in_columns in_rows others =
-    ap (λ rs. record { channel = record { width = w; height = h; solid = grid w h solid }; rows = rs })
-    (grid-set w h at at' x y (at' x y) in_columns in_rows refl others)
+    ap (λ rs. record { channel = record { width = w; height = h; solid = rows_of w h solid }; rows = rs })
+    (rows_of-set w h at at' x y (at' x y) in_columns in_rows refl others)
 
 -- the empty lattice of a channel whose cells are all fluid
 pub lattice_of-empty : (w h : ℕ) → empty_lattice (free_channel w h) ≡ lattice_of w h (λ _ _. false) (λ _ _. 0)
 lattice_of-empty w h =
-    ap (λ g. record { channel = record { width = w; height = h; solid = g }; rows = replicate h (replicate w 0) }) (grid-replicate w h (λ _ _. false) false (λ u k. refl))
-    ∙ ap (λ rs. record { channel = record { width = w; height = h; solid = grid w h (λ _ _. false) }; rows = rs }) (grid-replicate w h (λ _ _. 0) 0 (λ u k. refl))
+    ap (λ g. record { channel = record { width = w; height = h; solid = g }; rows = replicate h (replicate w 0) }) (rows_of-replicate w h (λ _ _. false) false (λ u k. refl))
+    ∙ ap (λ rs. record { channel = record { width = w; height = h; solid = rows_of w h (λ _ _. false) }; rows = rs }) (rows_of-replicate w h (λ _ _. 0) 0 (λ u k. refl))

@@ -11,3 +11,4 @@ pub mod Filling
 pub mod Digits
 pub mod First
 pub mod Values
+pub mod Names

@@ -6,9 +6,11 @@ use Rattle.gas_geom.specs.Lattice.{LatticeModel, empty_lattice}
 use Rattle.gas_scene.specs.declared.cells.Cell.{Cell}
 use Rattle.gas_scene.specs.declared.cells.Cell.TheVariants.{Solid, State}
 use Rattle.gas_scene.specs.declared.cells.TheConstants.{SOLID_MARK, EMPTY_MARK}
-use Rattle.gas_scene.specs.Cells.{digit_of, state_of, is_marked, cell_of, cell_at}
-use Rattle.gas_scene.specs.Map.{is_solid_cell, state_in, map_cell, map_width, map_lattice, map_before}
+use Rattle.gas_scene.specs.Cells.{digit_of, state_of, cell_of, cell_at}
+use Rattle.gas_scene.specs.Map.{is_solid_cell, state_in, map_cell, map_width, map_lattice}
+use Rattle.gas_scene.proofs.Digits.{is_marked}
 use Rattle.gas_scene.proofs.Grids.{lattice_before-next, lattice_before-none, lattice_before-all}
+use Rattle.gas_scene.specs.Building.{map_before}
 
 abbrev pub with_row : LatticeModel → ℕ → List Bool → List ℕ → LatticeModel
 with_row l y mask row = record { channel = record l.channel { solid = set l.channel.solid y mask }; rows = set l.rows y row }

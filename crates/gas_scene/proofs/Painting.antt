@@ -7,8 +7,7 @@ use Rattle.toml.specs.View.{view}
 use Rattle.toml.specs.declared.value.Value.{Value}
 use Rattle.gas_scene.specs.declared.fields.Span.{Span}
 use Rattle.gas_scene.specs.Fields.{rectangle_of}
-use Rattle.gas_scene.specs.Ranges.{spans}
-use Rattle.gas_scene.specs.Area.{holds, is_covered}
+use Rattle.gas_scene.specs.Ranges.{spans, covers, is_covered}
 use Rattle.gas_scene.proofs.Values.{view-more}
 use Rattle.std.proofs.lemmas.Bool.Decides.{nat_tests}
 
@@ -59,6 +58,6 @@ list_any-last test [] d = or_false (test d)
 list_any-last test (x ∷ ds) d = ap (λ b. test x || b) (list_any-last test ds d) ∙ or_assoc (test x) (list_any test ds) (test d)
 
 pub is_covered-more : (vs : List Value) (k : ℕ) (v : Value) (x y : ℕ) → k < length vs → v ≡ get_or vs k v
-    → (is_covered (map view (take k vs)) x y || holds (rectangle_of (view v)) x y) ≡ is_covered (map view (take (k + 1) vs)) x y
+    → (is_covered (map view (take k vs)) (pos x) (pos y) || covers (rectangle_of (view v)) (pos x) (pos y)) ≡ is_covered (map view (take (k + 1) vs)) (pos x) (pos y)
 is_covered-more vs k v x y within is =
-    sym (ap (λ ds. is_covered ds x y) (view-more vs k v within is) ∙ list_any-last (λ d. holds (rectangle_of d) x y) (map view (take k vs)) (view v))
+    sym (ap (λ ds. is_covered ds (pos x) (pos y)) (view-more vs k v within is) ∙ list_any-last (λ d. covers (rectangle_of d) (pos x) (pos y)) (map view (take k vs)) (view v))

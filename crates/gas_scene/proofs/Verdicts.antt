@@ -1,15 +1,17 @@
 -- Verdicts, one after another, and what they tell.
-use Rattle.std.proofs.Common.{◌≡◌, ℕ, ◌≤◌, Bool, true, false, not, ◌&&◌, [], map, length, Option, Some, None, codes, nat_le, refl, ap, sym, ◌∙◌, arith, if◌then◌else◌}
+use Rattle.std.proofs.Common.{◌≡◌, ℕ, ◌*◌, ◌≤◌, Bool, true, false, not, ◌&&◌, [], map, length, Option, Some, None, codes, nat_le, refl, ap, sym, ◌∙◌, arith, if◌then◌else◌}
 use Rattle.std.specs.Prelude.{Result, Ok, Err, is_some}
 use Rattle.std.specs.Option.{option_or, option_map_or}
 use Rattle.std.proofs.lemmas.Bool.{and_parts, leb-true}
 use Rattle.toml.specs.Data.{Data, Members, get_member}
+use Rattle.gas_geom.specs.declared.size.TheConstants.{MOST_SIDE}
 use Rattle.gas_scene.specs.declared.error.SceneError.{SceneError}
 use Rattle.gas_scene.specs.declared.error.SceneError.TheVariants.{Range, RowLength}
 use Rattle.gas_scene.specs.Fields.{has, text_of, elements_of, rows_at, row_at}
 use Rattle.gas_scene.specs.Ranges.{is_common_in_range, is_map_in_range, is_area_in_range, is_in_range}
-use Rattle.gas_scene.specs.Refusals.{verdict, refused_if, out_of_range, row_length, is_row_length, is_misfit, AreShort}
+use Rattle.gas_scene.specs.Refusals.{refused_if, out_of_range, row_length, is_row_length, is_misfit}
 use Rattle.gas_scene.proofs.First.{first_below-none}
+use Rattle.gas_scene.specs.Checking.{AreShort, verdict}
 
 pub verdict-next : (here rest : Option SceneError) (r : Result (Unit {0}) SceneError) → verdict here ≡ Ok tt → r ≡ verdict rest → r ≡ verdict (option_or here rest)
 verdict-next None rest r ok is = is
@@ -18,6 +20,10 @@ verdict-next (Some e) rest r ok is = absurd (cc)
 pub verdict-stop : (here rest : Option SceneError) (e : SceneError) (r : Result (Unit {0}) SceneError) → verdict here ≡ Err e → r ≡ Err e → r ≡ verdict (option_or here rest)
 verdict-stop None rest e r refused is = absurd (cc)
 verdict-stop (Some f) rest e r refused is = is ∙ sym refused
+
+pub verdict-last : (o : Option SceneError) (r : Result (Unit {0}) SceneError) → r ≡ verdict o → r ≡ verdict (option_or o None)
+verdict-last None r is = is
+verdict-last (Some e) r is = is
 
 verdict_none : (o : Option SceneError) → verdict o ≡ Ok tt → o ≡ None
 verdict_none None ok = refl
@@ -31,27 +37,27 @@ pub not_false : (b : Bool) → not b ≡ false → b ≡ true
 not_false true e = refl
 not_false false e = sym e
 
-rows_of_none : (o : Option Data) → is_some o ≡ false → length (map text_of (option_map_or elements_of o [])) ≤ 4096
+rows_of_none : (o : Option Data) → is_some o ≡ false → length (map text_of (option_map_or elements_of o [])) ≤ MOST_SIDE
 rows_of_none None none = omega arith
 rows_of_none (Some d) none = absurd (cc)
 
-few_rows_if : (ms : Members) (b : Bool) → has (codes "cells") ms ≡ b → (if b then is_map_in_range ms else is_area_in_range ms) ≡ true → length (rows_at ms) ≤ 4096
-few_rows_if ms true is held = leb-true _ _ (and_parts (nat_le 1 (length (rows_at ms))) (nat_le (length (rows_at ms)) 4096) held).1
+few_rows_if : (ms : Members) (b : Bool) → has (codes "cells") ms ≡ b → (if b then is_map_in_range ms else is_area_in_range ms) ≡ true → length (rows_at ms) ≤ MOST_SIDE
+few_rows_if ms true is held = leb-true _ _ (and_parts (nat_le 1 (length (rows_at ms))) (nat_le (length (rows_at ms)) MOST_SIDE) held).1
 few_rows_if ms false is held = rows_of_none (get_member (codes "cells") ms) is
 
-pub few_rows : (ms : Members) → verdict (out_of_range ms) ≡ Ok tt → length (rows_at ms) ≤ 4096
+pub few_rows : (ms : Members) → verdict (out_of_range ms) ≡ Ok tt → length (rows_at ms) ≤ MOST_SIDE
 unfolding out_of_range
 few_rows ms ok =
     let held = not_false (is_in_range ms) (refused_if-none (not (is_in_range ms)) Range ok) in
     few_rows_if ms (has (codes "cells") ms) refl
     (and_parts (is_common_in_range ms) (if has (codes "cells") ms then is_map_in_range ms else is_area_in_range ms) held).1
 
-short_row : (n : ℕ) (b : Bool) → not (is_row_length n && b) ≡ false → n ≤ 8192
+short_row : (n : ℕ) (b : Bool) → not (is_row_length n && b) ≡ false → n ≤ (2 * MOST_SIDE)
 short_row n b held =
     let long = (and_parts (is_row_length n) b (not_false _ held)).0 in
-    leb-true _ _ (and_parts (nat_le 2 n) (nat_le n 8192) (and_parts _ (nat_le 2 n && nat_le n 8192) long).1).1
+    leb-true _ _ (and_parts (nat_le 2 n) (nat_le n (2 * MOST_SIDE)) (and_parts _ (nat_le 2 n && nat_le n (2 * MOST_SIDE)) long).1).1
 
-pub short_rows : (ms : Members) → length (rows_at ms) ≤ 4096 → verdict (row_length ms) ≡ Ok tt → AreShort (rows_at ms)
+pub short_rows : (ms : Members) → length (rows_at ms) ≤ MOST_SIDE → verdict (row_length ms) ≡ Ok tt → AreShort (rows_at ms)
 unfolding row_length
 short_rows ms high ok = record {
   high = high;

@@ -1,8 +1,8 @@
 -- The cells of a map, two characters each.
-use Rattle.std.specs.Prelude.{ℕ, ◌+◌, ◌*◌, ◌/◌, ◌==◌, ◌&&◌, List, Option, Some, None, is_some, if◌then◌else◌, nat_lt, nat_eq, Bool, slice_index, length, position, codes}
+use Rattle.std.specs.Prelude.{ℕ, ◌+◌, ◌*◌, ◌/◌, List, [], ◌∷◌, Option, Some, None, is_some, if◌then◌else◌, nat_lt, nat_eq, slice_index, length, position, codes}
+use Rattle.std.specs.Str.{bytes_eq}
 use Rattle.gas_scene.specs.declared.cells.Cell.{Cell}
 use Rattle.gas_scene.specs.declared.cells.Cell.TheVariants.{Solid, State}
-use Rattle.gas_scene.specs.declared.cells.TheConstants.{SOLID_MARK, EMPTY_MARK}
 use Rattle.gas_scene.specs.First.{first_below}
 
 -- the value of a lower-case hexadecimal digit
@@ -15,15 +15,11 @@ state_of states (Some high) (Some low) =
     if nat_lt (high * 16 + low) states then Some (State (high * 16 + low)) else None
 state_of states _ _ = None
 
--- whether both characters are the mark
-abbrev pub is_marked : ℕ → ℕ → ℕ → Bool
-is_marked mark a b = (a == mark) && (b == mark)
-
 -- the cell that two characters stand for
 unfoldable pub cell_of : ℕ → ℕ → ℕ → Option Cell
 cell_of states a b =
-    if is_marked SOLID_MARK a b then Some Solid
-    else if is_marked EMPTY_MARK a b then Some (State 0)
+    if bytes_eq (a ∷ b ∷ []) (codes "##") then Some Solid
+    else if bytes_eq (a ∷ b ∷ []) (codes "..") then Some (State 0)
     else state_of states (digit_of a) (digit_of b)
 
 -- the cell in column c of a row

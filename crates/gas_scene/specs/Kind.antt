@@ -1,6 +1,7 @@
 -- The keys of a scene, and the types of their values.
-use Rattle.std.specs.Prelude.{ℕ, ◌==◌, ◌&&◌, ◌||◌, Bool, true, List, Option, Some, None, is_some, if◌then◌else◌, length, codes}
+use Rattle.std.specs.Prelude.{ℕ, ◌==◌, ◌&&◌, Bool, true, List, [], ◌∷◌, Option, is_some, length, codes}
 use Rattle.std.specs.List.{list_all}
+use Rattle.std.specs.Map.{lookup}
 use Rattle.std.specs.Option.{option_map_or}
 use Rattle.std.specs.Str.{bytes_eq}
 use Rattle.toml.specs.Data.{Data, Members, no_members, member, as_str, as_integer, as_array}
@@ -8,16 +9,16 @@ use Rattle.gas_scene.specs.declared.kind.Kind.{Kind}
 use Rattle.gas_scene.specs.declared.kind.Kind.TheVariants.{Integer, Text, Texts, Tuples}
 use Rattle.gas_scene.specs.Fields.{elements_of}
 
+-- the keys, each with the type of its values
+abbrev pub key_kinds : List (List ℕ × Kind)
+key_kinds =
+    (codes "version", Integer) ∷ (codes "seed", Integer) ∷ (codes "width", Integer) ∷ (codes "height", Integer) ∷ (codes "rate", Integer)
+    ∷ (codes "gas", Text) ∷ (codes "chirality", Text) ∷ (codes "cells", Texts)
+    ∷ (codes "solid", Tuples 4) ∷ (codes "particles", Tuples 3) ∷ []
+
 -- the type of the values at a key, where a scene has the key
 abbrev pub kind_of : List ℕ → Option Kind
-kind_of key =
-    if bytes_eq key (codes "version") || (bytes_eq key (codes "seed") || (bytes_eq key (codes "width")
-    || (bytes_eq key (codes "height") || bytes_eq key (codes "rate")))) then Some Integer
-    else if bytes_eq key (codes "gas") || bytes_eq key (codes "chirality") then Some Text
-    else if bytes_eq key (codes "cells") then Some Texts
-    else if bytes_eq key (codes "solid") then Some (Tuples 4)
-    else if bytes_eq key (codes "particles") then Some (Tuples 3)
-    else None
+kind_of key = lookup (bytes_eq key) key_kinds
 
 abbrev pub is_text : Data → Bool
 is_text d = is_some (as_str d)

@@ -1,11 +1,13 @@
 pub mod First
-pub mod GasName
+pub mod Gases
 pub mod Fields
 pub mod Kind
 pub mod Cells
 pub mod Ranges
 pub mod Refusals
+pub mod Checking
 pub mod Grid
 pub mod Map
 pub mod Area
+pub mod Building
 pub mod Scene

@@ -4,11 +4,12 @@ use Rattle.std.specs.List.{list_all, list_any}
 use Rattle.std.specs.Ordering.{int_eq}
 use Rattle.std.specs.Str.{bytes_eq}
 use Rattle.toml.specs.Data.{Data, Members}
+use Rattle.gas_geom.specs.declared.size.TheConstants.{MOST_SIDE}
 use Rattle.gas_scene.specs.declared.fields.Extent.{Extent}
 use Rattle.gas_scene.specs.declared.fields.Span.{Span}
 use Rattle.gas_scene.specs.declared.fields.Rectangle.{Rectangle}
 use Rattle.gas_scene.specs.declared.fields.Placement.{Placement}
-use Rattle.gas_scene.specs.GasName.{gas_named, states_named}
+use Rattle.gas_scene.specs.Gases.{gas_named, states_named}
 use Rattle.gas_scene.specs.Fields.{has, text_at, integer_at, array_at, rows_at, extent_of, rectangle_of, placement_of}
 
 abbrev pub is_below : ℤ → ℤ → Bool
@@ -16,7 +17,7 @@ is_below limit z = int_le (pos 0) z && int_lt z limit
 
 -- a width or a height
 abbrev pub is_size : ℤ → Bool
-is_size z = int_le (pos 1) z && int_le z (pos 4096)
+is_size z = int_le (pos 1) z && int_le z (pos MOST_SIDE)
 
 -- a rate of filling, in thousandths
 abbrev pub is_rate : ℤ → Bool
@@ -34,13 +35,16 @@ fits e r = is_span_of e.width r.columns && is_span_of e.height r.rows
 abbrev pub spans : ℤ → Span → Bool
 spans place s = int_le s.start place && int_lt place s.end
 
--- whether the cell of a placement lies in a rectangle
-abbrev pub covers : Placement → Rectangle → Bool
-covers p r = spans p.x r.columns && spans p.y r.rows
+-- whether a rectangle covers the cell (x, y), and whether one of some does
+abbrev pub covers : Rectangle → ℤ → ℤ → Bool
+covers r x y = spans x r.columns && spans y r.rows
 
--- whether it lies in none of the rectangles
+abbrev pub is_covered : List Data → ℤ → ℤ → Bool
+is_covered solid x y = list_any (λ d. covers (rectangle_of d) x y) solid
+
+-- whether no rectangle covers the cell of a placement
 abbrev pub is_free : List Data → Placement → Bool
-is_free solid p = not (list_any (λ d. covers p (rectangle_of d)) solid)
+is_free solid p = not (is_covered solid p.x p.y)
 
 -- whether it lies in the area
 abbrev pub is_inside : Extent → Placement → Bool
@@ -68,7 +72,7 @@ is_common_in_range ms = is_version ms && (is_gas ms && (is_chirality ms && int_l
 
 -- the number of rows of the map
 abbrev pub is_map_in_range : Members → Bool
-is_map_in_range ms = nat_le 1 (length (rows_at ms)) && nat_le (length (rows_at ms)) 4096
+is_map_in_range ms = nat_le 1 (length (rows_at ms)) && nat_le (length (rows_at ms)) MOST_SIDE
 
 -- the rectangles and the placements of the area
 abbrev pub is_filling : Extent → Members → Bool

@@ -1,11 +1,11 @@
 -- Why a document's table is no scene.
-use Rattle.std.specs.Prelude.{◌<◌, ◌≤◌, ℕ, ◌%◌, ◌==◌, ◌&&◌, ◌||◌, not, Bool, List, Option, Some, None, option_map, Result, Ok, Err, if◌then◌else◌, nat_le, length, codes}
-use Rattle.std.specs.Option.{option_or}
+use Rattle.std.specs.Prelude.{ℕ, ◌*◌, ◌%◌, ◌==◌, ◌&&◌, ◌||◌, not, Bool, List, [], ◌∷◌, map, Option, Some, None, option_map, if◌then◌else◌, nat_le, length, codes}
 use Rattle.toml.specs.Data.{Members}
+use Rattle.gas_geom.specs.declared.size.TheConstants.{MOST_SIDE}
 use Rattle.gas_scene.specs.declared.error.SceneError.{SceneError}
 use Rattle.gas_scene.specs.declared.error.SceneError.TheVariants.{UnknownKey, Missing, WrongType, Range, BothForms, RowLength, BadCell}
-use Rattle.gas_scene.specs.First.{first_below}
-use Rattle.gas_scene.specs.GasName.{states_named}
+use Rattle.gas_scene.specs.First.{first_below, first_of}
+use Rattle.gas_scene.specs.Gases.{states_named}
 use Rattle.gas_scene.specs.Fields.{has, text_at, rows_at, row_at}
 use Rattle.gas_scene.specs.Kind.{is_known, is_typed, members_all}
 use Rattle.gas_scene.specs.Cells.{bad_column}
@@ -46,9 +46,9 @@ wrong_type ms = refused_if (not (members_all is_typed ms)) WrongType
 unfoldable pub out_of_range : Members → Option SceneError
 out_of_range ms = refused_if (not (is_in_range ms)) Range
 
--- two bytes for each of 1 to 4096 cells
+-- two bytes for each cell
 abbrev pub is_row_length : ℕ → Bool
-is_row_length n = (n % 2 == 0) && (nat_le 2 n && nat_le n 8192)
+is_row_length n = (n % 2 == 0) && (nat_le 2 n && nat_le n (2 * MOST_SIDE))
 
 -- whether row r has a wrong length: the first row's counts for each
 abbrev pub is_misfit : List (List ℕ) → ℕ → Bool
@@ -58,11 +58,6 @@ is_misfit rows r = not (is_row_length (length (row_at rows r)) && (length (row_a
 unfoldable pub row_length : Members → Option SceneError
 row_length ms = first_below (λ r. refused_if (is_misfit (rows_at ms) r) (RowLength r)) (length (rows_at ms))
 
--- at most 4096 rows of 4096 cells
-pub record AreShort (rows : List (List ℕ)) : Type 0 where
-  pub high : length rows ≤ 4096
-  pub wide : (r : ℕ) → r < length rows → length (row_at rows r) ≤ 8192
-
 -- the first column of row r in which no cell stands
 abbrev pub bad_cell_in : ℕ → List (List ℕ) → ℕ → Option SceneError
 bad_cell_in states rows r = option_map (λ c. BadCell r c) (bad_column states (row_at rows r))
@@ -71,13 +66,10 @@ bad_cell_in states rows r = option_map (λ c. BadCell r c) (bad_column states (r
 unfoldable pub bad_cell : Members → Option SceneError
 bad_cell ms = first_below (bad_cell_in (states_named (text_at (codes "gas") ms)) (rows_at ms)) (length (rows_at ms))
 
+-- the checks, in order
+abbrev pub checks : List (Members → Option SceneError)
+checks = unknown_key ∷ both_forms ∷ missing ∷ wrong_type ∷ out_of_range ∷ row_length ∷ bad_cell ∷ []
+
 -- the first refusal
 unfoldable pub refusal_of : Members → Option SceneError
-refusal_of ms =
-    option_or (unknown_key ms) (option_or (both_forms ms) (option_or (missing ms) (option_or (wrong_type ms)
-    (option_or (out_of_range ms) (option_or (row_length ms) (bad_cell ms))))))
-
--- what a check answers
-abbrev pub verdict : Option SceneError → Result (Unit {0}) SceneError
-verdict None = Ok tt
-verdict (Some error) = Err error
+refusal_of ms = first_of (map (λ check. check ms) checks)

@@ -1,5 +1,5 @@
 -- The scene of a text.
-use Rattle.std.specs.Prelude.{◌≡◌, ◌⊎◌, ℕ, ◌^◌, List, Option, Some, None, Result, Ok, Err, unwrap_or, if◌then◌else◌, codes}
+use Rattle.std.specs.Prelude.{◌≡◌, ◌⊎◌, ℕ, ◌^◌, List, Option, Some, None, Result, Ok, Err, if◌then◌else◌, codes}
 use Rattle.std.specs.Str.{bytes_eq, is_utf8}
 use Rattle.toml.specs.Data.{Members}
 use Rattle.toml.specs.Parse.{parse_document}
@@ -9,11 +9,7 @@ use Rattle.gas_rows.specs.declared.chirality.Chirality.{Chirality}
 use Rattle.gas_rows.specs.declared.chirality.Chirality.TheVariants.{Seeded, Left, Right}
 use Rattle.gas_scene.specs.declared.error.SceneError.{SceneError}
 use Rattle.gas_scene.specs.declared.error.SceneError.TheVariants.{Memory, Syntax}
-use Rattle.gas_scene.specs.declared.any_lattice.AnyLattice.{AnyLattice}
-use Rattle.gas_scene.specs.declared.any_lattice.AnyLattice.TheVariants.{Fhp1, Hpp}
-use Rattle.gas_scene.specs.declared.gas_name.GasName.{GasName}
-use Rattle.gas_scene.specs.declared.gas_name.GasName.TheVariants as gas_name
-use Rattle.gas_scene.specs.GasName.{gas_named, rules_of}
+use Rattle.gas_scene.specs.Gases.{rules_named, GasLattice}
 use Rattle.gas_scene.specs.Fields.{has, text_at, rows_at}
 use Rattle.gas_scene.specs.Refusals.{refusal_of}
 use Rattle.gas_scene.specs.Map.{map_lattice}
@@ -21,16 +17,12 @@ use Rattle.gas_scene.specs.Area.{seed_of, area_lattice}
 
 -- a lattice, and where the random bits of its collisions come from
 pub record SceneModel : Type 0 where
-  pub lattice : AnyLattice
+  pub lattice : GasLattice
   pub chirality : Chirality
 
 -- the lattice of a table of either form
 abbrev pub lattice_in : Rules → Members → LatticeModel
 lattice_in gas ms = if has (codes "cells") ms then map_lattice (2 ^ gas.dirs) (rows_at ms) else area_lattice gas ms
-
-abbrev pub lattice_of_gas : GasName → Members → AnyLattice
-lattice_of_gas gas_name.Fhp1 ms = Fhp1 (lattice_in (rules_of gas_name.Fhp1) ms)
-lattice_of_gas gas_name.Hpp ms = Hpp (lattice_in (rules_of gas_name.Hpp) ms)
 
 -- left out, it is seeded
 abbrev pub chirality_of : Members → Chirality
@@ -39,12 +31,15 @@ chirality_of ms =
     else if bytes_eq (text_at (codes "chirality") ms) (codes "right") then Right
     else Seeded (seed_of ms)
 
--- the scene of a table that no check refuses, which names one of the gases
-abbrev pub any_lattice_of : Members → AnyLattice
-any_lattice_of ms = lattice_of_gas (unwrap_or (gas_named (text_at (codes "gas") ms)) gas_name.Fhp1) ms
+-- the lattice of the gas that a table names
+abbrev pub gas_lattice_of : Members → GasLattice
+gas_lattice_of ms =
+    let gas : List ℕ = text_at (codes "gas") ms in
+    record { gas = gas; lattice = lattice_in (rules_named gas) ms }
 
+-- the scene of a table that no check refuses
 abbrev pub scene_of : Members → SceneModel
-scene_of ms = record { lattice = any_lattice_of ms; chirality = chirality_of ms }
+scene_of ms = record { lattice = gas_lattice_of ms; chirality = chirality_of ms }
 
 abbrev pub answer_of : Members → Option SceneError → Result SceneModel SceneError
 answer_of ms None = Ok (scene_of ms)

@@ -1,20 +1,21 @@
 //! The lattice of an area.
 
-ghost use Rattle.std.specs.Prelude.{◌≡◌, ℕ, ◌+◌, ◌*◌, ◌%◌, ◌<◌, ◌≤◌, ◌^◌, ◌==◌, ◌&&◌, ◌||◌, Bool, true, length, map, slice_index, IfOk, All, nat_le, nat_lt, codes, pos, ◌≤ℤ◌, if◌then◌else◌};
+ghost use Rattle.std.specs.Prelude.{◌≡◌, ℕ, ◌+◌, ◌*◌, ◌%◌, ◌<◌, ◌≤◌, ◌^◌, ◌==◌, ◌&&◌, ◌||◌, Bool, true, length, map, slice_index, IfOk, All, nat_le, nat_lt, nat_abs, codes, pos, ◌≤ℤ◌, if◌then◌else◌};
 ghost use Rattle.toml.specs.View.{view, table_view};
 ghost use Rattle.gas_geom.specs.Size.{IsSize};
-ghost use Rattle.gas_geom.specs.Channel.{is_solid, free_channel};
-ghost use Rattle.gas_geom.specs.Lattice.{empty_lattice, with_cell};
-ghost use Rattle.gas_scene.specs.GasName.{states_named};
+ghost use Rattle.gas_geom.specs.Channel.{free_channel};
+ghost use Rattle.gas_geom.specs.Lattice.{empty_lattice};
+ghost use Rattle.gas_geom.specs.declared.size.TheConstants.{MOST_SIDE};
+ghost use Rattle.gas_scene.specs.Gases.{states_named};
 ghost use Rattle.gas_scene.specs.Fields.{text_at, rectangle_of, placement_of};
-ghost use Rattle.gas_scene.specs.Ranges.{is_extent, is_common_in_range, is_area_in_range};
+ghost use Rattle.gas_scene.specs.Ranges.{covers, is_covered, is_extent, is_common_in_range, is_area_in_range};
 ghost use Rattle.gas_scene.specs.Grid.{lattice_of};
-ghost use Rattle.gas_scene.specs.Area.{natural, holds, is_covered, filled, filling, filled_before, is_at, placed, seed_of, rate_of, area_lattice, CanPlace, IsInside};
+ghost use Rattle.gas_scene.specs.Area.{filled, filling, is_at, placed, seed_of, rate_of, area_lattice};
+ghost use Rattle.gas_scene.specs.Building.{filled_before, CanPlace, IsInside};
 
-use crate::cells::MOST_CELLS;
 use crate::fields::{Extent, Placement, Rectangle, array_at, integer_at};
 use gas_geom::gas::Gas;
-use gas_geom::size::Size;
+use gas_geom::size::{MOST_SIDE, Size};
 use gas_rows::channel::Channel;
 use gas_rows::key::key_words;
 use gas_rows::lattice::Lattice;
@@ -27,7 +28,7 @@ const FIRST_STREAM: u64 = 1 << 63;
 // A place in a channel as a number.
 fn place(number: i128) -> u32
     requires low { pos 0 ≤ℤ number }
-    requires high { number ≤ℤ pos 4096 }
+    requires high { number ≤ℤ pos MOST_SIDE }
     ensures { pos result ≡ number }
 {
     number as u32
@@ -55,7 +56,7 @@ fn make_rectangle_solid<G: Gas>(lattice: &mut Lattice<G>, rectangle: Rectangle)
     ensures wide { lattice.new.channel.width ≡ lattice.old.channel.width }
     ensures high { lattice.new.channel.height ≡ lattice.old.channel.height }
     ensures cells { (w h : ℕ) (solid : ℕ → ℕ → Bool) → lattice.old ≡ lattice_of w h solid (λ _ _. 0)
-        → lattice.new ≡ lattice_of w h (λ u v. solid u v || holds rectangle u v) (λ _ _. 0) }
+        → lattice.new ≡ lattice_of w h (λ u v. solid u v || covers rectangle (pos u) (pos v)) (λ _ _. 0) }
 {
     let start = place(rectangle.columns.start);
     let end = place(rectangle.columns.end);
@@ -69,7 +70,7 @@ fn make_solid<G: Gas>(lattice: &mut Lattice<G>, solid: &[Value])
     requires size { IsSize lattice.old.channel.width lattice.old.channel.height }
     requires empty { lattice.old ≡ empty_lattice (free_channel lattice.old.channel.width lattice.old.channel.height) }
     requires inside { All (λ v. IsInside lattice.old.channel.width lattice.old.channel.height (rectangle_of (view v))) solid.now }
-    ensures { lattice.new ≡ lattice_of lattice.old.channel.width lattice.old.channel.height (is_covered (map view solid.now)) (λ _ _. 0) }
+    ensures { lattice.new ≡ lattice_of lattice.old.channel.width lattice.old.channel.height (λ u v. is_covered (map view solid.now) (pos u) (pos v)) (λ _ _. 0) }
 {
     for value in solid {
         make_rectangle_solid(lattice, Rectangle::read(value));
@@ -80,7 +81,7 @@ fn make_solid<G: Gas>(lattice: &mut Lattice<G>, solid: &[Value])
 // the processor would guess it wrong for random words.
 fn particle(word: u32, rate: u32, i: u32) -> u8
     requires { i < 8 }
-    ensures { result ≡ (if nat_lt (word % 1000) rate then 1 else 0) * 2 ^ i }
+    ensures { result ≡ (if nat_lt (word % 1000) rate then 2 ^ i else 0) }
 {
     u8::from(word % 1000 < rate) << i
 }
@@ -88,13 +89,13 @@ fn particle(word: u32, rate: u32, i: u32) -> u8
 // Adds direction `i` to the states of row `y` where filling puts a particle into it.
 fn add_direction(states: &mut [u8], width: u32, seed: u64, rate: u32, y: u32, i: u32)
     requires wide { width ≤ length states.old }
-    requires few { width ≤ 4096 }
-    requires row { y < 4096 }
+    requires few { width ≤ MOST_SIDE }
+    requires row { y < MOST_SIDE }
     requires direction { i < 8 }
     requires below { (x : ℕ) → x < width → slice_index states.old x < 2 ^ i }
-    ensures { (x : ℕ) → x < width → slice_index states.new x ≡ slice_index states.old x + filled seed rate width x y i * 2 ^ i }
+    ensures { (x : ℕ) → x < width → slice_index states.new x ≡ slice_index states.old x + (if filled seed rate width x y i then 2 ^ i else 0) }
 {
-    let mut buffer = [0u32; MOST_CELLS];
+    let mut buffer = [0u32; MOST_SIDE as usize];
     let words = &mut buffer[..width as usize];
     let first = u64::from(y) * u64::from(width);
     key_words(seed, FIRST_STREAM + u64::from(i), first, words);
@@ -106,25 +107,13 @@ fn add_direction(states: &mut [u8], width: u32, seed: u64, rate: u32, y: u32, i:
 // Sets the states of row `y` to what filling gives.
 fn fill_states<G: Gas>(states: &mut [u8], width: u32, seed: u64, rate: u32, y: u32)
     requires wide { width ≤ length states.old }
-    requires few { width ≤ 4096 }
-    requires row { y < 4096 }
+    requires few { width ≤ MOST_SIDE }
+    requires row { y < MOST_SIDE }
     ensures { (x : ℕ) → x < width → slice_index states.new x ≡ filling G.rules seed rate width x y }
 {
     states.fill(0);
     for i in 0..G::DIRS {
         add_direction(states, width, seed, rate, y, i);
-    }
-}
-
-// Sets the state of a cell that is fluid.
-fn set_fluid<G: Gas>(lattice: &mut Lattice<G>, x: u32, y: u32, state: u8)
-    requires column { x < lattice.old.channel.width }
-    requires row { y < lattice.old.channel.height }
-    requires state { state < 2 ^ G.rules.dirs }
-    ensures { lattice.new ≡ (if is_solid lattice.old.channel x y then lattice.old else record lattice.old { rows = with_cell lattice.old.rows x y state }) }
-{
-    if !lattice.channel().is_solid(x, y) {
-        lattice.set_cell(x, y, state);
     }
 }
 
@@ -139,11 +128,10 @@ fn fill_row<G: Gas>(lattice: &mut Lattice<G>, seed: u64, rate: u32, y: u32)
         → lattice.new ≡ filled_before G.rules seed rate lattice.old.channel.width h solid 0 (y + 1) }
 {
     let width = lattice.channel().size().width();
-    let mut states = [0u8; MOST_CELLS];
-    fill_states::<G>(&mut states, width, seed, rate, y);
-    for x in 0..width {
-        set_fluid(lattice, x, y, states[x as usize]);
-    }
+    let mut buffer = [0u8; MOST_SIDE as usize];
+    let states = &mut buffer[..width as usize];
+    fill_states::<G>(states, width, seed, rate, y);
+    lattice.set_states(y, states);
 }
 
 // Fills the fluid cells.
@@ -167,7 +155,7 @@ fn put<G: Gas>(lattice: &mut Lattice<G>, placement: Placement)
     requires can { CanPlace (2 ^ G.rules.dirs) lattice.old.channel placement }
     ensures channel { lattice.new.channel ≡ lattice.old.channel }
     ensures cells { (w h : ℕ) (solid : ℕ → ℕ → Bool) (at : ℕ → ℕ → ℕ) → lattice.old ≡ lattice_of w h solid at
-        → lattice.new ≡ lattice_of w h solid (λ u v. if is_at placement u v then natural placement.state else at u v) }
+        → lattice.new ≡ lattice_of w h solid (λ u v. if is_at placement u v then nat_abs placement.state else at u v) }
 {
     lattice.set_cell(
         placement.x as u32,
@@ -188,29 +176,21 @@ fn put_all<G: Gas>(lattice: &mut Lattice<G>, particles: &[Value])
     }
 }
 
-// A number that is not negative.
-fn natural(number: i64) -> u64
-    requires { pos 0 ≤ℤ number }
-    ensures { result ≡ natural number }
-{
-    number as u64
-}
-
 // The lattice of an area whose cells are all fluid and empty.
 fn blank<G: Gas>(alloc: Global, extent: Extent) -> Result<Lattice<G>, AllocError>
     requires { is_extent extent ≡ true }
-    ensures { IfOk result (λ l. l ≡ empty_lattice (free_channel (natural extent.width) (natural extent.height))) }
+    ensures { IfOk result (λ l. l ≡ empty_lattice (free_channel (nat_abs extent.width) (nat_abs extent.height))) }
 {
     let size = Size::new(extent.width as u32, extent.height as u32).unwrap();
     Lattice::blank(alloc, Channel::free(alloc, size)?)
 }
 
 /// The seed, or 0 where it is absent.
-pub fn seed(table: &Table) -> u64
+pub(crate) fn seed(table: &Table) -> u64
     requires { is_common_in_range (table_view table.now) ≡ true }
     ensures { result ≡ seed_of (table_view table.now) }
 {
-    natural(integer_at(table, "seed"))
+    integer_at(table, "seed").unsigned_abs()
 }
 
 // The rate of filling, or 0 where it is absent.
@@ -218,11 +198,11 @@ fn rate(table: &Table) -> u32
     requires { is_area_in_range (table_view table.now) ≡ true }
     ensures { result ≡ rate_of (table_view table.now) }
 {
-    natural(integer_at(table, "rate")) as u32
+    integer_at(table, "rate") as u32
 }
 
 /// The lattice of an area.
-pub fn area_lattice<G: Gas>(alloc: Global, table: &Table) -> Result<Lattice<G>, AllocError>
+pub(crate) fn area_lattice<G: Gas>(alloc: Global, table: &Table) -> Result<Lattice<G>, AllocError>
     requires gas { states_named (text_at (codes "gas") (table_view table.now)) ≡ 2 ^ G.rules.dirs }
     requires common { is_common_in_range (table_view table.now) ≡ true }
     requires area { is_area_in_range (table_view table.now) ≡ true }

@@ -1,18 +1,16 @@
 //! The cells of a map, two characters each.
 
-ghost use Rattle.std.specs.Prelude.{◌≡◌, ℕ, ◌+◌, ◌*◌, ◌<◌, ◌/◌, length, Some, is_some, is_none, IsSome, IfSome};
+ghost use Rattle.std.specs.Prelude.{◌≡◌, ℕ, ◌+◌, ◌*◌, ◌<◌, ◌/◌, [], ◌∷◌, length, Some, is_some, is_none, IsSome, IfSome};
 ghost use Rattle.std.specs.Option.{unwrap_or};
-ghost use Rattle.gas_scene.specs.Cells.{digit_of, state_of, is_marked, cell_of, bad_column};
+ghost use Rattle.std.specs.Str.{bytes_eq};
+ghost use Rattle.gas_scene.specs.Cells.{digit_of, state_of, cell_of, bad_column};
 ghost use Rattle.gas_scene.specs.Map.{is_solid_cell, state_in};
 
-/// What stands twice for a solid cell.
-pub const SOLID_MARK: u8 = b'#';
+// What stands twice for a solid cell.
+const SOLID_MARK: u8 = b'#';
 
-/// What stands twice for an empty cell.
-pub const EMPTY_MARK: u8 = b'.';
-
-/// The most cells of a row.
-pub const MOST_CELLS: usize = 4096;
+// What stands twice for an empty cell.
+const EMPTY_MARK: u8 = b'.';
 
 /// A cell of a map: solid, or fluid with its state.
 #[derive(Clone, Copy, Debug, PartialEq, Eq)]
@@ -34,7 +32,7 @@ fn digit(byte: u8) -> u8
 
 // Whether both characters are the mark.
 fn is_marked(mark: u8, first: u8, second: u8) -> bool
-    ensures { result ≡ is_marked mark first second }
+    ensures { result ≡ bytes_eq (first ∷ second ∷ []) (mark ∷ mark ∷ []) }
 {
     (first == mark) & (second == mark)
 }
@@ -68,7 +66,7 @@ fn two_digits(first: u8, second: u8) -> u8
 impl Cell {
     /// The cell that two characters stand for, where they do: two equal marks, or two lower-case
     /// hexadecimal digits.
-    pub fn read(first: u8, second: u8) -> Cell
+    pub(crate) fn read(first: u8, second: u8) -> Cell
         ensures { (states : ℕ) → IsSome (cell_of states first second) → Some result ≡ cell_of states first second }
     {
         if first == SOLID_MARK {
@@ -78,7 +76,7 @@ impl Cell {
         }
     }
 
-    pub fn is_solid(self) -> bool
+    pub(crate) fn is_solid(self) -> bool
         ensures { result ≡ is_solid_cell (Some self) }
     {
         match self {
@@ -88,7 +86,7 @@ impl Cell {
     }
 
     /// The state, 0 of a solid cell.
-    pub fn state(self) -> u8
+    pub(crate) fn state(self) -> u8
         ensures { result ≡ state_in (Some self) }
     {
         match self {
@@ -110,7 +108,7 @@ fn are_cells(row: &[u8], states: u16) -> bool
 }
 
 /// The first column of a row in which no cell stands.
-pub fn bad_column(row: &[u8], states: u16) -> Option<usize>
+pub(crate) fn bad_column(row: &[u8], states: u16) -> Option<usize>
     ensures value { result ≡ bad_column states row.now }
     ensures within { IfSome result (λ c. c < length row.now / 2) }
 {

@@ -2,14 +2,17 @@
 
 ghost use Rattle.std.specs.Prelude.{◌≡◌, ◌<◌, ◌≤◌, length, map};
 ghost use Rattle.toml.specs.View.{view, table_view};
+ghost use Rattle.gas_geom.specs.declared.size.TheConstants.{MOST_SIDE};
 ghost use Rattle.gas_scene.specs.Fields.{text_of, rows_at};
-ghost use Rattle.gas_scene.specs.Refusals.{refused_if, verdict, unknown_key, both_forms, missing, wrong_type, out_of_range, row_length, bad_cell, refusal_of, has_area, has_both_forms, has_form, is_complete, is_row_length, is_misfit, AreShort};
+ghost use Rattle.gas_scene.specs.Refusals.{refused_if, unknown_key, both_forms, missing, wrong_type, out_of_range, row_length, bad_cell, refusal_of, has_area, has_both_forms, has_form, is_complete, is_row_length, is_misfit};
+ghost use Rattle.gas_scene.specs.Checking.{verdict, AreShort};
 
 use crate::cells::bad_column;
 use crate::error::SceneError;
 use crate::fields::{array_at, has, row};
 use crate::kind::{has_known_keys, has_typed_values};
 use crate::ranges::{is_in_range, states};
+use gas_geom::size::MOST_SIDE;
 use toml::{Table, Value};
 
 // The error, where it is refused.
@@ -19,8 +22,8 @@ fn refuse_if(refused: bool, error: SceneError) -> Result<(), SceneError>
     if refused { Err(error) } else { Ok(()) }
 }
 
-/// Refuses a key that no scene has.
-pub fn check_keys(table: &Table) -> Result<(), SceneError>
+// Refuses a key that no scene has.
+fn check_keys(table: &Table) -> Result<(), SceneError>
     ensures { result ≡ verdict (unknown_key (table_view table.now)) }
 {
     refuse_if(!has_known_keys(table), SceneError::UnknownKey)
@@ -44,9 +47,9 @@ fn has_both_forms(table: &Table) -> bool
     has(table, "cells") && has_area(table)
 }
 
-/// Refuses the rows of a map beside keys of an area.
+// Refuses the rows of a map beside keys of an area.
 #[tactic(auto, unfolding(crate::specs::Refusals::both_forms))]
-pub fn check_form(table: &Table) -> Result<(), SceneError>
+fn check_form(table: &Table) -> Result<(), SceneError>
     ensures { result ≡ verdict (both_forms (table_view table.now)) }
 {
     refuse_if(has_both_forms(table), SceneError::BothForms)
@@ -66,34 +69,34 @@ fn is_complete(table: &Table) -> bool
     has(table, "gas") && has_form(table)
 }
 
-/// Refuses a table without a gas, or with neither a map nor the size of an area.
+// Refuses a table without a gas, or with neither a map nor the size of an area.
 #[tactic(auto, unfolding(crate::specs::Refusals::missing))]
-pub fn check_missing(table: &Table) -> Result<(), SceneError>
+fn check_missing(table: &Table) -> Result<(), SceneError>
     ensures { result ≡ verdict (missing (table_view table.now)) }
 {
     refuse_if(!is_complete(table), SceneError::Missing)
 }
 
-/// Refuses a value that is not of the type of its key.
-pub fn check_types(table: &Table) -> Result<(), SceneError>
+// Refuses a value that is not of the type of its key.
+fn check_types(table: &Table) -> Result<(), SceneError>
     ensures { result ≡ verdict (wrong_type (table_view table.now)) }
 {
     refuse_if(!has_typed_values(table), SceneError::WrongType)
 }
 
-/// Refuses a value out of its range.
+// Refuses a value out of its range.
 #[tactic(auto, unfolding(crate::specs::Refusals::out_of_range))]
-pub fn check_ranges(table: &Table) -> Result<(), SceneError>
+fn check_ranges(table: &Table) -> Result<(), SceneError>
     ensures { result ≡ verdict (out_of_range (table_view table.now)) }
 {
     refuse_if(!is_in_range(table), SceneError::Range)
 }
 
-// Two bytes for each of 1 to 4096 cells.
+// Two bytes for each cell.
 fn is_row_length(length: usize) -> bool
     ensures { result ≡ is_row_length length }
 {
-    length % 2 == 0 && 2 <= length && length <= 8192
+    length % 2 == 0 && 2 <= length && length <= 2 * MOST_SIDE as usize
 }
 
 // Whether the length of row `r` is wrong: the first row's counts for each.
@@ -106,9 +109,9 @@ fn is_misfit(rows: &[Value], r: usize) -> bool
     !(is_row_length(length) && length == first)
 }
 
-/// Refuses the first row of the map that has a wrong length.
-pub fn check_row_lengths(table: &Table) -> Result<(), SceneError>
-    requires { length (rows_at (table_view table.now)) ≤ 4096 }
+// Refuses the first row of the map that has a wrong length.
+fn check_row_lengths(table: &Table) -> Result<(), SceneError>
+    requires { length (rows_at (table_view table.now)) ≤ MOST_SIDE }
     ensures { result ≡ verdict (row_length (table_view table.now)) }
 {
     let rows = array_at(table, "cells");
@@ -120,8 +123,8 @@ pub fn check_row_lengths(table: &Table) -> Result<(), SceneError>
     Ok(())
 }
 
-/// Refuses the first pair of characters of the map that is no cell.
-pub fn check_cells(table: &Table) -> Result<(), SceneError>
+// Refuses the first pair of characters of the map that is no cell.
+fn check_cells(table: &Table) -> Result<(), SceneError>
     requires { AreShort (rows_at (table_view table.now)) }
     ensures { result ≡ verdict (bad_cell (table_view table.now)) }
 {
@@ -136,7 +139,7 @@ pub fn check_cells(table: &Table) -> Result<(), SceneError>
 }
 
 /// The first refusal of a table.
-pub fn check(table: &Table) -> Result<(), SceneError>
+pub(crate) fn check(table: &Table) -> Result<(), SceneError>
     ensures { result ≡ verdict (refusal_of (table_view table.now)) }
 {
     check_keys(table)?;

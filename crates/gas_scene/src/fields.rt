@@ -8,7 +8,7 @@ ghost use Rattle.gas_scene.specs.Fields.{has, text_of, integer_of, elements_of, 
 use toml::{Table, Value};
 
 /// Row `r` of a map, in bytes.
-pub fn row<'a>(rows: &'a [Value], r: usize) -> &'a [u8]
+pub(crate) fn row<'a>(rows: &'a [Value], r: usize) -> &'a [u8]
     requires { r < length rows.now }
     ensures { result.now ≡ row_at (map text_of (map view rows.now)) r }
 {
@@ -22,14 +22,14 @@ fn value_at<'a>(table: &'a Table, key: &str) -> Option<&'a Value>
 }
 
 /// Whether there is a value at the key.
-pub fn has(table: &Table, key: &str) -> bool
+pub(crate) fn has(table: &Table, key: &str) -> bool
     ensures { result ≡ has key.now (table_view table.now) }
 {
     value_at(table, key).is_some()
 }
 
-/// The text that a value is, or no text.
-pub fn text(value: &Value) -> &str
+// The text that a value is, or no text.
+fn text(value: &Value) -> &str
     ensures { result.now ≡ text_of (view value.now) }
 {
     match value {
@@ -38,8 +38,8 @@ pub fn text(value: &Value) -> &str
     }
 }
 
-/// The integer that a value is, or 0.
-pub fn integer(value: &Value) -> i64
+// The integer that a value is, or 0.
+fn integer(value: &Value) -> i64
     ensures { result ≡ integer_of (view value.now) }
 {
     match value {
@@ -49,7 +49,7 @@ pub fn integer(value: &Value) -> i64
 }
 
 /// The elements of the array that a value is, or none.
-pub fn elements(value: &Value) -> &[Value]
+pub(crate) fn elements(value: &Value) -> &[Value]
     ensures { map view result.now ≡ elements_of (view value.now) }
 {
     match value {
@@ -59,7 +59,7 @@ pub fn elements(value: &Value) -> &[Value]
 }
 
 /// The text at a key, or no text.
-pub fn text_at<'a>(table: &'a Table, key: &str) -> &'a str
+pub(crate) fn text_at<'a>(table: &'a Table, key: &str) -> &'a str
     ensures { result.now ≡ text_at key.now (table_view table.now) }
 {
     match value_at(table, key) {
@@ -69,7 +69,7 @@ pub fn text_at<'a>(table: &'a Table, key: &str) -> &'a str
 }
 
 /// The integer at a key, or 0.
-pub fn integer_at(table: &Table, key: &str) -> i64
+pub(crate) fn integer_at(table: &Table, key: &str) -> i64
     ensures { result ≡ integer_at key.now (table_view table.now) }
 {
     match value_at(table, key) {
@@ -79,7 +79,7 @@ pub fn integer_at(table: &Table, key: &str) -> i64
 }
 
 /// The elements of the array at a key, or none.
-pub fn array_at<'a>(table: &'a Table, key: &str) -> &'a [Value]
+pub(crate) fn array_at<'a>(table: &'a Table, key: &str) -> &'a [Value]
     ensures { map view result.now ≡ array_at key.now (table_view table.now) }
 {
     match value_at(table, key) {
@@ -108,7 +108,7 @@ pub struct Extent {
 impl Extent {
     ghost use Rattle.gas_scene.specs.Fields.{extent_of};
 
-    pub fn read(table: &Table) -> Extent
+    pub(crate) fn read(table: &Table) -> Extent
         ensures { result ≡ extent_of (table_view table.now) }
     {
         Extent {
@@ -150,7 +150,7 @@ impl Rectangle {
     ghost use Rattle.gas_scene.specs.Fields.{rectangle_of};
 
     /// The rectangle of `[x, y, w, h]`.
-    pub fn read(value: &Value) -> Rectangle
+    pub(crate) fn read(value: &Value) -> Rectangle
         ensures { result ≡ rectangle_of (view value.now) }
     {
         Rectangle {
@@ -172,7 +172,7 @@ impl Placement {
     ghost use Rattle.gas_scene.specs.Fields.{placement_of};
 
     /// The placement of `[x, y, state]`.
-    pub fn read(value: &Value) -> Placement
+    pub(crate) fn read(value: &Value) -> Placement
         ensures { result ≡ placement_of (view value.now) }
     {
         Placement {

@@ -21,8 +21,8 @@ pub enum Kind {
 }
 
 impl Kind {
-    /// The type of the values at a key, where a scene has the key.
-    pub fn of(key: &str) -> Option<Kind>
+    // The type of the values at a key, where a scene has the key.
+    fn of(key: &str) -> Option<Kind>
         ensures { result ≡ kind_of key.now }
     {
         if key == "version" || key == "seed" || key == "width" || key == "height" || key == "rate" {
@@ -40,8 +40,8 @@ impl Kind {
         }
     }
 
-    /// Whether the value is of this type.
-    pub fn is_of(self, value: &Value) -> bool
+    // Whether the value is of this type.
+    fn is_of(self, value: &Value) -> bool
         ensures { result ≡ is_of_kind self (view value.now) }
     {
         match self {
@@ -86,7 +86,7 @@ fn are_tuples(values: &[Value], n: usize) -> bool
 }
 
 /// Whether a scene has each of the keys.
-pub fn has_known_keys(table: &Table) -> bool
+pub(crate) fn has_known_keys(table: &Table) -> bool
     ensures { result ≡ list_all (λ k. is_known (string_bytes k)) (keys table.now) }
 {
     table.keys().all(|key| Kind::of(key.as_str()).is_some())
@@ -103,7 +103,7 @@ fn is_typed(key: &str, value: &Value) -> bool
 }
 
 /// Whether each value is of the type of its key.
-pub fn has_typed_values(table: &Table) -> bool
+pub(crate) fn has_typed_values(table: &Table) -> bool
     ensures { result ≡ list_all (λ e. is_typed (string_bytes e.0) (view e.1)) table.now.entries }
 {
     table

@@ -7,7 +7,7 @@ mod cells;
 mod checks;
 pub mod error;
 mod fields;
-mod gas_name;
+mod gases;
 mod kind;
 mod map_form;
 mod ranges;

@@ -4,12 +4,13 @@ ghost use Rattle.std.specs.Prelude.{◌≡◌, ℕ, ◌+◌, ◌/◌, ◌<◌, �
 ghost use Rattle.toml.specs.View.{view, table_view};
 ghost use Rattle.gas_scene.specs.Fields.{text_of, rows_at};
 ghost use Rattle.gas_scene.specs.Cells.{cell_at};
-ghost use Rattle.gas_scene.specs.Map.{is_solid_cell, state_in, map_lattice, map_before, IsMap};
+ghost use Rattle.gas_scene.specs.Map.{is_solid_cell, state_in, map_lattice};
+ghost use Rattle.gas_scene.specs.Building.{map_before, IsMap};
 
-use crate::cells::{Cell, MOST_CELLS};
+use crate::cells::Cell;
 use crate::fields::{array_at, row};
 use gas_geom::gas::Gas;
-use gas_geom::size::Size;
+use gas_geom::size::{MOST_SIDE, Size};
 use gas_rows::channel::Channel;
 use gas_rows::lattice::Lattice;
 use std::alloc::{AllocError, Global};
@@ -42,8 +43,8 @@ fn put_row<G: Gas>(lattice: &mut Lattice<G>, rows: &[Value], y: u32)
 {
     let row = row(rows, y as usize);
     let width = row.len() / 2;
-    let mut solid_buffer = [false; MOST_CELLS];
-    let mut state_buffer = [0u8; MOST_CELLS];
+    let mut solid_buffer = [false; MOST_SIDE as usize];
+    let mut state_buffer = [0u8; MOST_SIDE as usize];
     let solid = &mut solid_buffer[..width];
     let state_of = &mut state_buffer[..width];
     read_row(row, solid, state_of);
@@ -51,7 +52,7 @@ fn put_row<G: Gas>(lattice: &mut Lattice<G>, rows: &[Value], y: u32)
 }
 
 /// The lattice of a map.
-pub fn map_lattice<G: Gas>(alloc: Global, table: &Table) -> Result<Lattice<G>, AllocError>
+pub(crate) fn map_lattice<G: Gas>(alloc: Global, table: &Table) -> Result<Lattice<G>, AllocError>
     requires { IsMap (2 ^ G.rules.dirs) (rows_at (table_view table.now)) }
     ensures { IfOk result (λ l. l ≡ map_lattice (2 ^ G.rules.dirs) (rows_at (table_view table.now))) }
 {

@@ -4,18 +4,19 @@ ghost use Rattle.std.specs.Prelude.{◌≡◌, map, codes, pos};
 ghost use Rattle.std.specs.List.{list_all, list_any};
 ghost use Rattle.toml.specs.View.{view, table_view};
 ghost use Rattle.gas_scene.specs.Fields.{text_at, rectangle_of, placement_of};
-ghost use Rattle.gas_scene.specs.GasName.{states_named};
+ghost use Rattle.gas_scene.specs.Gases.{states_named};
 ghost use Rattle.gas_scene.specs.Ranges.{is_size, is_rate, is_below, is_span_of, fits, spans, covers, is_free, is_inside, is_placed, is_version, is_gas, is_chirality, is_common_in_range, is_map_in_range, is_filling, is_extent, is_area_in_range, is_in_range};
 
 use crate::fields::{Extent, Placement, Rectangle, Span, array_at, has, integer_at, text_at};
-use crate::gas_name::GasName;
+use crate::gases::states_named;
+use gas_geom::size::MOST_SIDE;
 use toml::{Table, Value};
 
 // Whether this is a width or a height.
 fn is_size(size: i64) -> bool
     ensures { result ≡ is_size size }
 {
-    1 <= size && size <= 4096
+    1 <= size && size <= i64::from(MOST_SIDE)
 }
 
 // Whether this is a rate of filling, in thousandths.
@@ -54,11 +55,11 @@ fn spans(place: i64, span: Span) -> bool
     span.start <= place && place < span.end
 }
 
-// Whether the cell of the placement lies in the rectangle.
-fn covers(rectangle: Rectangle, placement: Placement) -> bool
-    ensures { result ≡ covers placement rectangle }
+// Whether the rectangle covers the cell (x, y).
+fn covers(rectangle: Rectangle, x: i64, y: i64) -> bool
+    ensures { result ≡ covers rectangle x y }
 {
-    spans(placement.x, rectangle.columns) && spans(placement.y, rectangle.rows)
+    spans(x, rectangle.columns) && spans(y, rectangle.rows)
 }
 
 // Whether each rectangle has cells, all of them in the area.
@@ -70,16 +71,14 @@ fn are_rectangles(values: &[Value], extent: Extent) -> bool
         .all(|value| fits(extent, Rectangle::read(value)))
 }
 
-// Whether the cell of the placement lies in one of the rectangles.
+// Whether one of the rectangles covers the cell of the placement.
 fn is_covered(solid: &[Value], placement: Placement) -> bool
-    ensures { result ≡ list_any (λ v. covers placement (rectangle_of (view v))) solid.now }
+    ensures { result ≡ list_any (λ v. covers (rectangle_of (view v)) placement.x placement.y) solid.now }
 {
-    solid
-        .iter()
-        .any(|value| covers(Rectangle::read(value), placement))
+    solid.iter().any(|value| covers(Rectangle::read(value), placement.x, placement.y))
 }
 
-// Whether the cell of the placement lies in none of the rectangles.
+// Whether no rectangle covers the cell of the placement.
 fn is_free(solid: &[Value], placement: Placement) -> bool
     ensures { result ≡ is_free (map view solid.now) placement }
 {
@@ -124,7 +123,7 @@ fn is_version(table: &Table) -> bool
 fn is_gas(table: &Table) -> bool
     ensures { result ≡ is_gas (table_view table.now) }
 {
-    GasName::named(text_at(table, "gas")).is_some()
+    states_named(text_at(table, "gas")).is_some()
 }
 
 fn is_chirality(table: &Table) -> bool
@@ -146,17 +145,14 @@ fn is_map_in_range(table: &Table) -> bool
     ensures { result ≡ is_map_in_range (table_view table.now) }
 {
     let rows = array_at(table, "cells").len();
-    1 <= rows && rows <= 4096
+    1 <= rows && rows <= MOST_SIDE as usize
 }
 
 /// The number of states of a cell, or 0 where the gas is none.
-pub fn states(table: &Table) -> u16
+pub(crate) fn states(table: &Table) -> u16
     ensures { result ≡ states_named (text_at (codes "gas") (table_view table.now)) }
 {
-    match GasName::named(text_at(table, "gas")) {
-        Some(gas) => gas.states(),
-        None => 0,
-    }
+    states_named(text_at(table, "gas")).unwrap_or(0)
 }
 
 // Whether the rectangles and the placements of the area are in range.
@@ -183,7 +179,7 @@ fn is_area_in_range(table: &Table) -> bool
 }
 
 /// Whether the values are in their ranges.
-pub fn is_in_range(table: &Table) -> bool
+pub(crate) fn is_in_range(table: &Table) -> bool
     ensures { result ≡ is_in_range (table_view table.now) }
 {
     is_common_in_range(table)

@@ -1,19 +1,20 @@
 ghost use Rattle.std.specs.Prelude.{◌≡◌, ◌^◌, true, codes, IfOk};
 ghost use Rattle.toml.specs.View.{table_view};
-ghost use Rattle.gas_scene.specs.GasName.{states_named};
+ghost use Rattle.gas_scene.specs.Gases.{states_named, gas_lattice};
 ghost use Rattle.gas_scene.specs.Fields.{text_at};
 ghost use Rattle.gas_scene.specs.Ranges.{is_common_in_range};
 ghost use Rattle.gas_scene.specs.Refusals.{refusal_of};
-ghost use Rattle.gas_scene.specs.Scene.{chirality_of, lattice_in, any_lattice_of, scene_of, table_answer, scene_of_text, Gives};
+ghost use Rattle.gas_scene.specs.Scene.{chirality_of, lattice_in, gas_lattice_of, scene_of, table_answer, scene_of_text, Gives};
 
 use crate::any_lattice::AnyLattice;
 use crate::area_form::{area_lattice, seed};
 use crate::checks::check;
 use crate::error::SceneError;
 use crate::fields::{has, text_at};
-use crate::gas_name::GasName;
 use crate::map_form::map_lattice;
+use gas_geom::fhp1::Fhp1;
 use gas_geom::gas::Gas;
+use gas_geom::hpp::Hpp;
 use gas_rows::chirality::Chirality;
 use gas_rows::lattice::Lattice;
 use std::alloc::{AllocError, Global};
@@ -28,16 +29,17 @@ pub struct Scene {
 }
 
 impl Model for Scene {
+    ghost use Rattle.gas_scene.specs.Gases.{gas_lattice};
     ghost use Rattle.gas_scene.specs.Scene.{SceneModel};
 
     ghost Value = { SceneModel };
 
-    ghost view = { λ s. record { lattice = s.lattice; chirality = s.chirality } };
+    ghost view = { λ s. record { lattice = gas_lattice s.lattice; chirality = s.chirality } };
 }
 
 impl Scene {
     pub fn lattice(&self) -> &AnyLattice
-        ensures { result.now ≡ self.now.lattice }
+        ensures { gas_lattice result.now ≡ self.now.lattice }
     {
         &self.lattice
     }
@@ -78,14 +80,18 @@ fn lattice_in<G: Gas>(alloc: Global, table: &Table) -> Result<Lattice<G>, AllocE
 }
 
 // The lattice of the gas that a table names.
+#[tactic(auto, unfolding(crate::specs::Gases::rules_named))]
 fn any_lattice(alloc: Global, table: &Table) -> Result<AnyLattice, AllocError>
     requires { refusal_of (table_view table.now) ≡ None }
-    ensures { IfOk result (λ l. l ≡ any_lattice_of (table_view table.now)) }
+    ensures { IfOk result (λ l. gas_lattice l ≡ gas_lattice_of (table_view table.now)) }
 {
-    let gas = GasName::named(text_at(table, "gas")).unwrap();
-    match gas {
-        GasName::Fhp1 => Ok(AnyLattice::Fhp1(lattice_in(alloc, table)?)),
-        GasName::Hpp => Ok(AnyLattice::Hpp(lattice_in(alloc, table)?)),
+    let gas = text_at(table, "gas");
+    if gas == Fhp1::name() {
+        Ok(AnyLattice::Fhp1(lattice_in(alloc, table)?))
+    } else if gas == Hpp::name() {
+        Ok(AnyLattice::Hpp(lattice_in(alloc, table)?))
+    } else {
+        unreachable!()
     }
 }
 

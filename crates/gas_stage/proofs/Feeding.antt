@@ -11,7 +11,9 @@ use Rattle.gas_rows.specs.Chirality.{chirality_bit}
 use Rattle.gas_stage.specs.Streaming.{IsRowAt, AreRowsAbout}
 use Rattle.gas_stage.specs.declared.stage.Pass.{Pass}
 use Rattle.gas_stage.specs.declared.stage.Pass.TheVariants.{Closed, Passing, Computing}
-use Rattle.gas_stage.specs.Stage.{StageModel, Fits, given, owed, collided_at, pass_of}
+use Rattle.gas_stage.specs.Inside.{open_pass}
+use Rattle.gas_stage.specs.Stage.{StageModel, Fits, given, owed}
+use Rattle.gas_stage.proofs.Local.{collided_at}
 use Rattle.gas_stage.proofs.Local.{range-cong, cell-push_at, collided_of, collided_of-append, take-next-push, next-all}
 
 length-push : (q : List (List ℕ)) (row : List ℕ) → length (q ++ row ∷ []) ≡ length q + 1
@@ -225,7 +227,7 @@ pub nothing_there : (o : Option (List ℕ)) → None ≡ o → IsSome o → ⊥
 nothing_there None e h = cc
 nothing_there (Some x) e h = cc
 
-pub not_passing : (p : Pass) (o : Option (List ℕ)) (r : List ℕ) → Some r ≡ o → (p ≡ Passing → o ≡ None) → pass_of p ≡ Some None → ⊥
+pub not_passing : (p : Pass) (o : Option (List ℕ)) (r : List ℕ) → Some r ≡ o → (p ≡ Passing → o ≡ None) → open_pass p ≡ Some None → ⊥
 not_passing Closed o r e none passes = cc
 not_passing Passing o r e none passes = let n = none refl in cc
 not_passing (Computing g) o r e none passes = cc

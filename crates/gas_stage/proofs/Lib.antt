@@ -1,12 +1,5 @@
-pub mod Sums
-pub mod Involution
-pub mod Places
-pub mod Sets
-pub mod Arriving
-pub mod Turn
-pub mod Number
-pub mod Lattices
 pub mod Local
 pub mod Feeding
 pub mod Owed
 pub mod Passes
+pub mod Directions

@@ -1,18 +1,21 @@
 -- A row of the next lattice depends on the row itself and the two beside it alone. So rows that are fed later change no row
 -- that was given, and the rows of the next lattice come one by one, each with the row after it.
-use Rattle.std.proofs.Common.{◌≡◌, ℕ, ◌+◌, ◌*◌, ◌^◌, ◌<◌, ◌≤◌, Bool, if◌then◌else◌, Option, Some, None, List, [], ◌∷◌, ◌++◌, map, take, length, get_or, ap, ◌∙◌, sym, refl, arith}
+use Rattle.std.proofs.Common.{◌≡◌, ℕ, ◌+◌, ◌^◌, ◌<◌, ◌≤◌, Bool, if◌then◌else◌, Option, Some, None, List, [], ◌∷◌, ◌++◌, map, take, length, get_or, ap, ◌∙◌, sym, refl, arith}
 use Rattle.std.specs.List.{range_with_len}
-use Rattle.std.specs.Int.{bit_at}
 use Rattle.std.proofs.lemmas.List.{get_or_append_left, get_or-append-add}
 use Rattle.std.proofs.lemmas.List.FromFn.{fill_by_all, get_or-map-range_with_len, length-map-range_with_len, take-map-range_with_len, map-range_with_len_more}
 use Rattle.std.proofs.lemmas.Bool.Decides.{nat_tests}
-use Rattle.gas_geom.specs.Gas.{Rules, Move, Back, Stay, On}
+use Rattle.gas_geom.specs.Gas.{Rules, Move, Back, Stay, On, holds}
 use Rattle.gas_geom.specs.Neighbour.{row_after, is_odd}
 use Rattle.gas_geom.proofs.Steps.{neighbour-parts}
 use Rattle.gas_geom.specs.Channel.{ChannelModel, is_solid}
-use Rattle.gas_geom.specs.Lattice.{cell, row_of, arriving, collided, streamed, next}
-use Rattle.gas_stage.proofs.Arriving.{behind, sent_back, arriving_by}
-use Rattle.gas_stage.proofs.Sums.{sum_below-cong}
+use Rattle.gas_geom.specs.Lattice.{cell, row_of, arrives_from, arriving, collided, streamed, next}
+use Rattle.gas_geom.proofs.Arriving.{behind, sent_back}
+use Rattle.gas_geom.proofs.Sums.{sum_below-cong}
+
+-- row y of the rows q, collided
+abbrev pub collided_at : Rules → ChannelModel → (ℕ → ℕ → Bool) → List (List ℕ) → ℕ → List ℕ
+collided_at gas channel chi q y = row_of channel.width (λ x. collided gas channel chi (cell q) x y)
 
 -- lists made by index are equal where their elements are
 pub range-cong : {X : Type 0} (f g : ℕ → X) (n : ℕ) (d : X) → ((k : ℕ) → k < n → f k ≡ g k) →
@@ -31,19 +34,19 @@ streamed-local : (gas : Rules) (c : ChannelModel) (at at' : ℕ → ℕ → ℕ)
     ((x' y' : ℕ) → y' ≤ y + 1 → at x' y' ≡ at' x' y') → streamed gas c at x y ≡ streamed gas c at' x y
 streamed-local gas c at at' x y same =
     ap (λ s. if is_solid c x y then 0 else s)
-    (sum_below-cong gas.dirs (λ i. arriving gas c at x y i * 2 ^ i) (λ i. arriving gas c at' x y i * 2 ^ i)
-    (λ i _. ap (λ v. v * 2 ^ i) (arrives i (behind gas c x y i) refl)))
+    (sum_below-cong gas.dirs (λ i. if arriving gas c at x y i then 2 ^ i else 0) (λ i. if arriving gas c at' x y i then 2 ^ i else 0)
+    (λ i _. ap (λ (b : Bool). if b then 2 ^ i else 0) (arrives i (behind gas c x y i) refl)))
   where
     own : (i : ℕ) → sent_back gas c at x y i ≡ sent_back gas c at' x y i
-    own i = ap (λ s. bit_at s (gas.opposite i)) (same x y (omega arith))
+    own i = ap (λ s. holds s (gas.opposite i)) (same x y (omega arith))
 
-    arrives : (i : ℕ) (o : Option (ℕ × ℕ)) → behind gas c x y i ≡ o → arriving_by gas c at x y i o ≡ arriving_by gas c at' x y i o
+    arrives : (i : ℕ) (o : Option (ℕ × ℕ)) → behind gas c x y i ≡ o → arrives_from gas c at x y i o ≡ arrives_from gas c at' x y i o
     arrives i None e = own i
     arrives i (Some u) e =
         let parts = neighbour-parts gas c.width c.height x y (gas.opposite i) u.0 u.1 e in
         let near = row_after-le c.height y u.1 (gas.step (gas.opposite i) (is_odd y)).1 parts.1 in
-        ap (λ v. if is_solid c u.0 u.1 then v else bit_at (at u.0 u.1) i) (own i)
-        ∙ ap (λ s. if is_solid c u.0 u.1 then sent_back gas c at' x y i else bit_at s i) (same u.0 u.1 near)
+        ap (λ v. if is_solid c u.0 u.1 then v else holds (at u.0 u.1) i) (own i)
+        ∙ ap (λ s. if is_solid c u.0 u.1 then sent_back gas c at' x y i else holds s i) (same u.0 u.1 near)
 
 -- the cells of a list of rows with more
 cell-append : (q more : List (List ℕ)) (x y : ℕ) → y < length q → cell (q ++ more) x y ≡ cell q x y

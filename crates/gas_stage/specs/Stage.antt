@@ -1,12 +1,10 @@
 -- A stage: what it owes for the rows that it is fed.
-use Rattle.std.specs.Prelude.{◌≡◌, ℕ, ◌-◌, ◌≤◌, ◌==◌, Bool, if◌then◌else◌, Option, Some, None, List, length, take, IfSome}
+use Rattle.std.specs.Prelude.{◌≡◌, ℕ, ◌-◌, ◌≤◌, ◌==◌, if◌then◌else◌, Option, Some, None, List, length, take, IfSome}
 use Rattle.gas_geom.specs.Gas.{Rules}
 use Rattle.gas_geom.specs.Channel.{ChannelModel}
 use Rattle.gas_geom.specs.Lattice.{cell, row_of, collided, next}
 use Rattle.gas_rows.specs.Chirality.{chirality_bit}
 use Rattle.gas_rows.specs.declared.chirality.Chirality.{Chirality}
-use Rattle.gas_stage.specs.declared.stage.Pass.{Pass}
-use Rattle.gas_stage.specs.declared.stage.Pass.TheVariants.{Closed, Passing, Computing}
 
 -- A stage as its callers see it. The open pass, if there is one, is the generation that it computes the step from, or None
 -- where it passes rows on.
@@ -19,12 +17,6 @@ pub record StageModel : Type 0 where
   -- the last two of them, collided, in a pass that computes
   pub before_last : List ℕ
   pub last : List ℕ
-
--- a pass as its callers see it
-abbrev pub pass_of : Pass → Option (Option ℕ)
-pass_of Closed = None
-pass_of Passing = Some None
-pass_of (Computing g) = Some (Some g)
 
 -- What a stage owes for the rows q. In a pass that passes rows on, q itself. In one that computes the step from generation g,
 -- the rows of the next lattice: all of them where q has all rows, and before that one fewer than q has, since the last row of
@@ -40,16 +32,12 @@ abbrev pub given : Rules → ChannelModel → Chirality → Option ℕ → List 
 given gas channel chirality None q = q
 given gas channel chirality (Some g) q = take (length q - 1) (owed gas channel chirality (Some g) q)
 
--- row y of the rows q, collided
-abbrev pub collided_at : Rules → ChannelModel → (ℕ → ℕ → Bool) → List (List ℕ) → ℕ → List ℕ
-collided_at gas channel chi q y = row_of channel.width (λ x. collided gas channel chi (cell q) x y)
-
 -- of the rows q, a stage that computes the step from generation g holds the last two, collided
 pub record HoldsLast (gas : Rules) (s : StageModel) (g : ℕ) (q : List (List ℕ)) : Type 0 where
   pub before_last : 2 ≤ length q →
-      s.before_last ≡ collided_at gas s.channel (chirality_bit s.chirality s.channel.width g) q (length q - 2)
+      s.before_last ≡ row_of s.channel.width (λ x. collided gas s.channel (chirality_bit s.chirality s.channel.width g) (cell q) x (length q - 2))
   pub last : 1 ≤ length q →
-      s.last ≡ collided_at gas s.channel (chirality_bit s.chirality s.channel.width g) q (length q - 1)
+      s.last ≡ row_of s.channel.width (λ x. collided gas s.channel (chirality_bit s.chirality s.channel.width g) (cell q) x (length q - 1))
 
 -- The stage may have come to its state by the rows q, in the open pass p. A new pass fits the empty list, and each row fed
 -- is one more: so what is promised for every list that a stage fits is promised for the rows that it was fed.

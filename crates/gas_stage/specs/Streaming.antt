@@ -11,9 +11,3 @@ pub record AreRowsAbout (channel : ChannelModel) (at : ℕ → ℕ → ℕ) (y :
   pub up_is : 0 < y → IsRowAt channel at (y - 1) up
   pub mid_is : IsRowAt channel at y mid
   pub down_is : y + 1 < channel.height → IsRowAt channel at (y + 1) down
-
--- three rows are as wide as the channel
-pub record AreWide (channel : ChannelModel) (up mid down : List ℕ) : Type 0 where
-  pub up_wide : length up ≡ channel.width
-  pub mid_wide : length mid ≡ channel.width
-  pub down_wide : length down ≡ channel.width

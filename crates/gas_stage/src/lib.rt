@@ -1,8 +1,7 @@
-//! Streaming, a stage that computes the next lattice row by row, and the number law.
+//! Streaming, and a stage that computes the next lattice row by row.
 #![tactic(auto)]
 
 pub mod advance;
-pub mod law;
 pub mod stage;
 pub mod stream;
 #[cfg(test)]

@@ -3,7 +3,8 @@ ghost use Rattle.std.specs.Prelude.{◌≡◌, ◌+◌, ◌<◌, ◌≤◌, ◌+
 ghost use Rattle.std.specs.Option.{option_to_list};
 ghost use Rattle.gas_geom.specs.Channel.{IsChannel};
 ghost use Rattle.gas_geom.specs.Lattice.{streamed, row_of};
-ghost use Rattle.gas_stage.specs.Streaming.{AreRowsAbout, AreWide};
+ghost use Rattle.gas_stage.specs.Inside.{AreWide};
+ghost use Rattle.gas_stage.specs.Streaming.{AreRowsAbout};
 ghost use Rattle.gas_stage.specs.Stage.{StageModel, Fits, owed, given};
 
 use crate::stream::stream_row;
@@ -66,7 +67,9 @@ pub struct Stage<'a, G: Gas> {
 impl<'a, G: Gas> Model for Stage<'a, G> {
     ghost use Rattle.std.specs.Prelude.{◌≡◌, ◌<◌, ◌≤◌, ℕ, [], length, unwrap_or, IsSome, None};
     ghost use Rattle.std.specs.Option.{ForSome};
-    ghost use Rattle.gas_stage.specs.Stage.{StageModel, pass_of};
+    ghost use Rattle.gas_geom.specs.declared.size.TheConstants.{MOST_SIDE};
+    ghost use Rattle.gas_stage.specs.Inside.{open_pass};
+    ghost use Rattle.gas_stage.specs.Stage.{StageModel};
     ghost use Rattle.gas_stage.specs.declared.stage.Pass.TheVariants.{Closed, Passing, Computing};
 
     ghost Value = { StageModel };
@@ -74,7 +77,7 @@ impl<'a, G: Gas> Model for Stage<'a, G> {
     ghost view = { λ s. record {
       channel = s.channel.now;
       chirality = s.chirality;
-      pass = pass_of s.pass;
+      pass = open_pass s.pass;
       fed = s.fed;
       before_last = s.before_last;
       last = unwrap_or s.last [];
@@ -85,7 +88,7 @@ impl<'a, G: Gas> Model for Stage<'a, G> {
       spare_wide : length s.spare ≡ s.channel.now.width;
       before_last_wide : length s.before_last ≡ s.channel.now.width;
       last_wide : ForSome s.last (λ r. length r ≡ s.channel.now.width);
-      few_rows : s.channel.now.height ≤ 4096;
+      few_rows : s.channel.now.height ≤ MOST_SIDE;
       fed_fits : s.fed ≤ s.channel.now.height;
       last_fed : IsSome s.last → 0 < s.fed;
       computing : (g : ℕ) → s.pass ≡ Computing g → 0 < s.fed → IsSome s.last;

@@ -1,14 +1,9 @@
 -- The step from a generation to the next.
 use Rattle.std.specs.Prelude.{ℕ}
 use Rattle.gas_geom.specs.Gas.{Rules}
-use Rattle.gas_geom.specs.Lattice.{LatticeModel, cell, collided, next}
+use Rattle.gas_geom.specs.Lattice.{LatticeModel, next}
 use Rattle.gas_rows.specs.Chirality.{chirality_bit}
 use Rattle.gas_rows.specs.declared.chirality.Chirality.{Chirality}
-
--- the cells of a lattice after the collisions of the step from a generation
-abbrev pub collided_cells : Rules → Chirality → LatticeModel → ℕ → ℕ → ℕ → ℕ
-collided_cells gas chirality lattice generation =
-    collided gas lattice.channel (chirality_bit chirality lattice.channel.width generation) (cell lattice.rows)
 
 -- the lattice after that step
 abbrev pub next_lattice : Rules → Chirality → LatticeModel → ℕ → LatticeModel

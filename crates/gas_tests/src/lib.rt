@@ -7,8 +7,6 @@ mod lines;
 mod meeting;
 pub mod plain;
 #[cfg(test)]
-mod printed;
-#[cfg(test)]
 mod tests;
 #[cfg(test)]
 mod threads;

@@ -1,10 +1,11 @@
 //! The next lattice, cell by cell: plain and slow, for tests to compare with.
 ghost use Rattle.std.specs.Prelude.{◌≡◌, ◌<◌, ◌≤◌, ◌^◌, IfOk};
-ghost use Rattle.std.specs.Int.{bit_at};
+ghost use Rattle.gas_geom.specs.Gas.{holds};
 ghost use Rattle.gas_geom.specs.Lattice.{arriving, streamed, row_of};
 ghost use Rattle.gas_rows.specs.Chirality.{chirality_bit};
 ghost use Rattle.gas_stage.specs.Evolution.{lattice_after};
-ghost use Rattle.gas_tests.specs.Plain.{collided_cells, next_lattice};
+ghost use Rattle.gas_tests.specs.Inside.{collided_cells};
+ghost use Rattle.gas_tests.specs.Plain.{next_lattice};
 
 use gas_geom::gas::Gas;
 use gas_geom::size::neighbour;
@@ -58,15 +59,15 @@ fn collided_state<G: Gas>(
     )
 }
 
-// Whether a set holds a direction: 1 or 0.
-fn held(state: u8, i: u32) -> u8
+// Whether a set holds a direction.
+fn holds(state: u8, i: u32) -> bool
     requires { i < 8 }
-    ensures { result ≡ bit_at state i }
+    ensures { result ≡ holds state i }
 {
-    (state >> i) & 1
+    (state >> i) & 1 == 1
 }
 
-// Whether a particle comes to a fluid cell in direction `i`: 1 or 0.
+// Whether a particle comes to a fluid cell in direction `i`.
 fn arriving<G: Gas>(
     lattice: &Lattice<G>,
     chirality: Chirality,
@@ -74,19 +75,18 @@ fn arriving<G: Gas>(
     x: u32,
     y: u32,
     i: u32,
-) -> u8
+) -> bool
     requires column { x < lattice.now.channel.width }
     requires row { y < lattice.now.channel.height }
     requires direction { i < G.rules.dirs }
-    ensures bit { result < 2 }
-    ensures comes { result ≡ arriving G.rules lattice.now.channel (collided_cells G.rules chirality lattice.now generation) x y i }
+    ensures { result ≡ arriving G.rules lattice.now.channel (collided_cells G.rules chirality lattice.now generation) x y i }
 {
     let back = G::opposite(i);
     match neighbour::<G>(lattice.channel().size(), x, y, back) {
         Some((u, v)) if !lattice.channel().is_solid(u, v) => {
-            held(collided_state(lattice, chirality, generation, u, v), i)
+            holds(collided_state(lattice, chirality, generation, u, v), i)
         }
-        _ => held(collided_state(lattice, chirality, generation, x, y), back),
+        _ => holds(collided_state(lattice, chirality, generation, x, y), back),
     }
 }
 
@@ -108,7 +108,7 @@ fn streamed_state<G: Gas>(
     }
     let mut state = 0u8;
     for i in 0..G::DIRS {
-        state |= arriving(lattice, chirality, generation, x, y, i) << i;
+        state |= u8::from(arriving(lattice, chirality, generation, x, y, i)) << i;
     }
     state
 }

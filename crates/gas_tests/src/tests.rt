@@ -63,36 +63,62 @@ pub fn assert_same<G: Gas>(rt: &impl Abort, found: &Lattice<G>, wanted: &Lattice
     }
 }
 
-// Three steps of a random lattice, by a stage and cell by cell.
+// Makes the first cell of each even row solid, and the last of each odd one.
+fn block_seam<G: Gas>(lattice: &mut Lattice<G>) {
+    let size = lattice.channel().size();
+    for y in 0..size.height() {
+        let x = if y % 2 == 0 { 0 } else { size.width() - 1 };
+        lattice.make_solid(x, y);
+    }
+}
+
+// Three steps of a lattice, by a stage and cell by cell.
 fn compare_steps<G: Gas>(
+    rt: &impl Abort,
+    alloc: Global,
+    lattice: &Lattice<G>,
+    seed: u64,
+) -> Result<(), AllocError> {
+    for chirality in [Chirality::Left, Chirality::Right, Chirality::Seeded(seed)] {
+        let by_stage = advance::lattice_after(alloc, lattice, chirality, 3)?;
+        assert_same(rt, &by_stage, &lattice_after(alloc, lattice, chirality, 3)?);
+    }
+    Ok(())
+}
+
+// Three steps of a random lattice, and of the same with obstacles where its columns close.
+fn compare_random<G: Gas>(
     rt: &impl Abort,
     alloc: Global,
     size: Size,
     random: &mut Pcg32,
 ) -> Result<(), AllocError> {
-    let lattice = random_lattice::<G>(alloc, size, random)?;
+    let mut lattice = random_lattice::<G>(alloc, size, random)?;
     let seed = random.next_u64();
-    for chirality in [Chirality::Left, Chirality::Right, Chirality::Seeded(seed)] {
-        let by_stage = advance::lattice_after(alloc, &lattice, chirality, 3)?;
-        assert_same(
-            rt,
-            &by_stage,
-            &lattice_after(alloc, &lattice, chirality, 3)?,
-        );
-    }
-    Ok(())
+    compare_steps(rt, alloc, &lattice, seed)?;
+    block_seam(&mut lattice);
+    compare_steps(rt, alloc, &lattice, seed)
 }
 
 #[test]
 fn a_stage_gives_the_next_lattices(rt: HostRuntime) -> Result<(), Fail> {
     let mut random = Pcg32::new(42, 54);
-    for width in [1, 2, 3, 63, 64, 65] {
+    for width in [1, 2, 3, 62, 63, 64, 65, 66, 127, 128, 129, 191, 192, 193] {
         for height in [1, 2, 3, 4] {
             let size = Size::new(width, height).ok_or("a size")?;
-            compare_steps::<Fhp1>(&rt, rt.alloc(), size, &mut random)?;
-            compare_steps::<Hpp>(&rt, rt.alloc(), size, &mut random)?;
+            compare_random::<Fhp1>(&rt, rt.alloc(), size, &mut random)?;
+            compare_random::<Hpp>(&rt, rt.alloc(), size, &mut random)?;
         }
     }
+    Ok(())
+}
+
+#[test]
+fn a_stage_gives_the_next_wide_lattices(rt: HostRuntime) -> Result<(), Fail> {
+    let mut random = Pcg32::new(42, 55);
+    let size = Size::new(4095, 3).ok_or("a size")?;
+    compare_random::<Fhp1>(&rt, rt.alloc(), size, &mut random)?;
+    compare_random::<Hpp>(&rt, rt.alloc(), size, &mut random)?;
     Ok(())
 }
 

@@ -4,9 +4,9 @@ use gas_geom::fhp1::Fhp1;
 use gas_geom::gas::Gas;
 use gas_geom::hpp::Hpp;
 use gas_geom::size::Size;
-use gas_pipe::gate::NoGate;
 use gas_pipe::plan::Plan;
-use gas_pipe::running::run;
+use gas_pipe::threads::gate::NoGate;
+use gas_pipe::threads::run;
 use gas_rows::chirality::Chirality;
 use gas_stage::advance::lattice_after;
 use rand_core::Rng;
@@ -49,7 +49,7 @@ fn compare<G: Gas + Send, R: Abort + Threads + Wait + Sync>(
 #[test]
 fn small_runs(rt: HostRuntime) -> Result<(), Fail> {
     let mut random = Pcg32::new(42, 54);
-    for _ in 0..40 {
+    for _ in 0..15 {
         for stages in [1, 2, 3, 4, 8] {
             for capacity in [1, 2, 7] {
                 compare::<Fhp1, _>(&rt, rt.alloc(), stages, capacity, &mut random)?;

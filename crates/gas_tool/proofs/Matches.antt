@@ -17,7 +17,8 @@ use Rattle.clap.specs.declared.error.kind.ErrorKind.{ErrorKind}
 use Rattle.clap.specs.declared.error.kind.ErrorKind.TheVariants.{DisplayHelp, OutOfMemory}
 use Rattle.gas_tool.specs.declared.faults.UsageFault.{UsageFault}
 use Rattle.gas_tool.specs.declared.faults.UsageFault.TheVariants as fault
-use Rattle.gas_tool.specs.Requests.{IsNumberAt, IsFaultOf, TellsKind}
+use Rattle.gas_tool.specs.Requests.{IsNumberAt, IsFaultOf}
+use Rattle.gas_tool.specs.Kinds.{TellsKind}
 use Rattle.std.specs.Box.{box_value}
 use Rattle.clap.specs.declared.parser.matches.SubCommand.{SubCommand}
 use Rattle.clap.specs.declared.parser.matches.ArgMatches.TheViews.{out-ArgMatches, out-SubCommand}

@@ -10,7 +10,7 @@ use Rattle.std.proofs.lemmas.Fmt.{contents_after_writes}
 use Rattle.std.specs.Fmt.{WritesText}
 use Rattle.arrayvec.specs.ArrayString.{ArrayString}
 use Rattle.std.specs.Prelude.{IfSome}
-use Rattle.gas_tool.specs.Output.{SinkModel, Carries, Adds}
+use Rattle.gas_tool.specs.Sink.{SinkModel, HasSent, Adds}
 use Rattle.gas_tool.specs.Text.{texts_below}
 
 -- the next part of a text went out
@@ -20,8 +20,8 @@ Appends-part a b c n k xs p q =
     subst (Appends a c) (sym (take-add n k xs)) (Appends-trans a b c _ _ p (subst (λ (ys : List ℕ). Appends b c (take k ys)) whole q))
 
 -- a text that grew by nothing
-Carries-same : (start now : Option (List ℕ)) (s : SinkModel) (text : List ℕ) → Carries start now s text → Carries start now s (text ++ [])
-Carries-same start now s text h = subst (Carries start now s) (sym (append-nil text)) h
+HasSent-same : (start now : Option (List ℕ)) (s : SinkModel) (text : List ℕ) → HasSent start now s text → HasSent start now s (text ++ [])
+HasSent-same start now s text h = subst (HasSent start now s) (sym (append-nil text)) h
 
 -- where all went out, nothing waits
 none_waits : (w sent : ℕ) (text waiting : List ℕ) → drop w text ≡ waiting → nat_lt sent (length waiting) ≡ false → drop (w + sent) text ≡ []
@@ -53,7 +53,7 @@ Adds-handed a b before after sent e le out w f none = record {
       let part : Appends a b (take sent (drop before.written text)) = subst (λ (xs : List ℕ). Appends a b (take sent xs)) (sym held) out in
       let gone : Appends start b (take (before.written + sent) text) =
       subst (Appends start b) (sym (take-add before.written sent text)) (Appends-trans start a b _ _ h.out part) in
-      Carries-same start b after text (record {
+      HasSent-same start b after text (record {
         within = omega (arith, h.within, le, ap length held, length-drop before.written text, w);
         out = subst (λ (n : ℕ). Appends start b (take n text)) (sym w) gone;
         waiting = λ ok. subst (λ (n : ℕ). drop n text ≡ after.waiting) (sym w) (none_waits before.written sent text before.waiting held (sym f ∙ ok) ∙ sym none);
@@ -64,12 +64,12 @@ Adds-handed a b before after sent e le out w f none = record {
 pub Adds-then : (a b c : Option (List ℕ)) (p q r : SinkModel) (s t : List ℕ) → Adds a b p q s → Adds b c q r t → Adds a c p r (s ++ t)
 Adds-then a b c p q r s t h k = record {
   adds = λ start text carried.
-      subst (Carries start c r) (append_assoc text s t) (k.adds start (text ++ s) (h.adds start text carried));
+      subst (HasSent start c r) (append_assoc text s t) (k.adds start (text ++ s) (h.adds start text carried));
 }
 
 -- nothing adds the empty text
 pub Adds-nil : (a : Option (List ℕ)) (p : SinkModel) → Adds a a p p []
-Adds-nil a p = record { adds = λ start text carried. Carries-same start a p text carried }
+Adds-nil a p = record { adds = λ start text carried. HasSent-same start a p text carried }
 
 -- one more of the texts below a number
 pub Adds-next : (a b c : Option (List ℕ)) (p q r : SinkModel) (f : ℕ → List ℕ) (n : ℕ) → Adds a b p q (texts_below f n) → Adds b c q r (f n) → Adds a c p r (texts_below f (n + 1))
@@ -82,8 +82,8 @@ pub Adds-below : (a b : Option (List ℕ)) (p q : SinkModel) (f : ℕ → List �
 Adds-below a b p q f n m e h = subst (λ (k : ℕ). Adds a b p q (texts_below f k)) e h
 
 -- a text of which nothing waits went out whole, and a flush adds nothing
-pub Carries-whole : (start a b : Option (List ℕ)) (s : SinkModel) (text : List ℕ) → Carries start a s text → s.failed ≡ false → s.waiting ≡ [] → Keeps a b → Appends start b text
-Carries-whole start a b s text h ok none kept =
+pub HasSent-whole : (start a b : Option (List ℕ)) (s : SinkModel) (text : List ℕ) → HasSent start a s text → s.failed ≡ false → s.waiting ≡ [] → Keeps a b → Appends start b text
+HasSent-whole start a b s text h ok none kept =
     let rest : drop s.written text ≡ [] = h.waiting ok ∙ none in
     let all : take s.written text ≡ text = take_all s.written text (omega (arith, length-drop s.written text, ap length rest)) in
     Appends-kept start a b text (subst (Appends start a) all h.out) kept

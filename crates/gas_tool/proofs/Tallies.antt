@@ -1,7 +1,7 @@
 -- Lemmas on how a block's numbers come together.
 use Rattle.std.proofs.Common.{◌≡◌, ◌∙◌, ap, sym, subst, true, false, Bool, ℕ, zero, suc, ◌+◌, ◌-◌, ◌*◌, ◌/◌, ◌<◌, ◌≤◌, min, refl, pos, ◌+ℤ◌, ◌≤ℤ◌, neg_ℤ, ℤ, add-one, add-zero, zero-add, arith, List, [], ◌∷◌, ◌++◌, map, fold, length, slice_index, slice_index_or, append-nil, ap₂, length-append}
 use Rattle.std.specs.Prelude.{All, ◌==◌, if◌then◌else◌, not}
-use Rattle.std.specs.Int.{bit_at, div_ceil}
+use Rattle.std.specs.Int.{div_ceil}
 use Rattle.std.specs.List.{range_with_len, flat_map}
 use Rattle.std.proofs.lemmas.Int.{ints}
 use Rattle.std.proofs.Math.Nat.{mul-le-mul, suc-mul}
@@ -11,17 +11,17 @@ use Rattle.std.proofs.lemmas.Grind.{flat_map-append}
 use Rattle.std.proofs.lemmas.List.Sums.{fold-append}
 use Rattle.std.proofs.lemmas.List.{length-map}
 use Rattle.std.proofs.lemmas.List.Folds.{fold-map}
-use Rattle.gas_geom.specs.Gas.{Rules, IsGas, IsSmall, sum_held, particles, momentum_of}
+use Rattle.gas_geom.specs.Gas.{Rules, IsGas, IsSmall, holds, sum_held, particles, momentum_of}
 use Rattle.gas_geom.specs.Channel.{is_solid}
 use Rattle.gas_geom.specs.Lattice.{LatticeModel, cell}
-use Rattle.gas_rows.proofs.Particles.{held-le}
+use Rattle.gas_tool.proofs.Particles.{held-le}
 use Rattle.gas_tool.specs.Blocks.{part, cells_of, block_of_cells, strip_of}
-use Rattle.gas_tool.specs.Tally.{HasRoom, empty_block, with_cell, with_cell_of, with_row}
+use Rattle.gas_tool.specs.Tally.{HasRoom, empty_block, plus_cell, plus_cell_of, plus_row}
 use Rattle.gas_tool.specs.declared.blocks.Block.{Block}
 use Rattle.gas_tool.proofs.Ranges.{range-append, fold_range_more, part-range, part-short, begins-within}
 
 -- the sum over one direction more
-pub sum_held_more : (n s : ℕ) (f : ℕ → ℤ) → sum_held (n + 1) s f ≡ sum_held n s f +ℤ (if bit_at s n == 1 then f n else pos 0)
+pub sum_held_more : (n s : ℕ) (f : ℕ → ℤ) → sum_held (n + 1) s f ≡ sum_held n s f +ℤ (if holds s n then f n else pos 0)
 sum_held_more n s f = rw add-one refl
 
 -- a number from -m to m
@@ -42,7 +42,7 @@ Within-le m n z le h = record { low = omega (arith, ints, h.low); high = omega (
 sum_held_small : (n s : ℕ) (f : ℕ → ℤ) → ((i : ℕ) → i < n → IsSmall (f i)) → Within (2 * n) (sum_held n s f)
 sum_held_small zero s f h = record { low = omega (arith, ints); high = omega (arith, ints) }
 sum_held_small (suc n) s f h =
-    Within-le _ _ _ (omega arith) (Within-add _ _ _ _ (sum_held_small n s f (λ i lt. h i (omega arith))) (if_small (bit_at s n == 1) (f n) (h n (omega arith))))
+    Within-le _ _ _ (omega arith) (Within-add _ _ _ _ (sum_held_small n s f (λ i lt. h i (omega arith))) (if_small (holds s n) (f n) (h n (omega arith))))
 
 -- the momentum of a set is small
 pub momentum_within : (gas : Rules) → IsGas gas → (s : ℕ) → Within 16 (momentum_of gas s).0 × Within 16 (momentum_of gas s).1
@@ -57,7 +57,7 @@ solid_counts true = omega arith
 solid_counts false = omega arith
 
 -- a cell takes the room of a cell
-pub HasRoom-cell : (gas : Rules) → IsGas gas → (b : Block) (solid : Bool) (s n : ℕ) → HasRoom b n → HasRoom (with_cell gas b solid s) (n + 1)
+pub HasRoom-cell : (gas : Rules) → IsGas gas → (b : Block) (solid : Bool) (s n : ℕ) → HasRoom b n → HasRoom (plus_cell gas b solid s) (n + 1)
 HasRoom-cell gas laws b solid s n h =
     let m = momentum_within gas laws s in
     record {
@@ -71,7 +71,7 @@ HasRoom-cell gas laws b solid s n h =
 
 pub cell_made : (gas : Rules) (b : Block) (solid : Bool) (s f n : ℕ) (x y : ℤ) → f ≡ (if not solid then 1 else 0) → n ≡ particles gas s
     → x ≡ b.px +ℤ (momentum_of gas s).0 → y ≡ b.py +ℤ (momentum_of gas s).1
-    → let made : Block = record { col = b.col; row = b.row; fluid = b.fluid + f; particles = b.particles + n; px = x; py = y } in made ≡ with_cell gas b solid s
+    → let made : Block = record { col = b.col; row = b.row; fluid = b.fluid + f; particles = b.particles + n; px = x; py = y } in made ≡ plus_cell gas b solid s
 cell_made gas b solid s f n x y p q e h = rw (p, q, e, h) refl
 
 pub HasRoom-le : (b : Block) (m n : ℕ) → m ≤ n → HasRoom b m → HasRoom b n
@@ -86,31 +86,31 @@ HasRoom-le b m n le h = record {
 
 -- the cells of a row up to one column more
 pub cells_more : (gas : Rules) (solid : List Bool) (row : List ℕ) (b now more : Block) (s : Bool) (state a x : ℕ) → a ≤ x
-    → now ≡ fold (with_cell_of gas solid row) b (range_with_len a (x - a)) → s ≡ slice_index_or solid x false → state ≡ slice_index row x
-    → more ≡ with_cell gas now s state → more ≡ fold (with_cell_of gas solid row) b (range_with_len a (x + 1 - a))
+    → now ≡ fold (plus_cell_of gas solid row) b (range_with_len a (x - a)) → s ≡ slice_index_or solid x false → state ≡ slice_index row x
+    → more ≡ plus_cell gas now s state → more ≡ fold (plus_cell_of gas solid row) b (range_with_len a (x + 1 - a))
 cells_more gas solid row b now more s state a x le so_far is_solid is_state is_more =
     let one : x - a + 1 ≡ x + 1 - a = omega arith in
-    let step = fold_range_more (with_cell_of gas solid row) b a (x - a) x (omega arith) in
-    is_more ∙ ap (λ t. with_cell gas now t state) is_solid ∙ ap (with_cell gas now (slice_index_or solid x false)) is_state
-    ∙ ap (λ c. with_cell gas c (slice_index_or solid x false) (slice_index row x)) so_far
-    ∙ sym step ∙ ap (λ n. fold (with_cell_of gas solid row) b (range_with_len a n)) one
+    let step = fold_range_more (plus_cell_of gas solid row) b a (x - a) x (omega arith) in
+    is_more ∙ ap (λ t. plus_cell gas now t state) is_solid ∙ ap (plus_cell gas now (slice_index_or solid x false)) is_state
+    ∙ ap (λ c. plus_cell gas c (slice_index_or solid x false) (slice_index row x)) so_far
+    ∙ sym step ∙ ap (λ n. fold (plus_cell_of gas solid row) b (range_with_len a n)) one
 
-pub HasRoom-more : (gas : Rules) → IsGas gas → (b r : Block) (solid : Bool) (s m n : ℕ) → m + 1 ≤ n → HasRoom b m → r ≡ with_cell gas b solid s → HasRoom r n
+pub HasRoom-more : (gas : Rules) → IsGas gas → (b r : Block) (solid : Bool) (s m n : ℕ) → m + 1 ≤ n → HasRoom b m → r ≡ plus_cell gas b solid s → HasRoom r n
 HasRoom-more gas laws b r solid s m n le h e =
     subst (λ (x : Block). HasRoom x n) (sym e) (HasRoom-le _ (m + 1) n le (HasRoom-cell gas laws b solid s m h))
 
 -- the cells of a row that stand in a block's column of blocks are those of a range
 pub row_is : (gas : Rules) (width : ℕ) (solid : List Bool) (row : List ℕ) (b r : Block) (m : ℕ) → 1 ≤ width → b.col * width < length row
-    → m ≡ min width (length row - b.col * width) → r ≡ fold (with_cell_of gas solid row) b (range_with_len (b.col * width) (b.col * width + m - b.col * width))
-    → r ≡ with_row gas width solid row b
+    → m ≡ min width (length row - b.col * width) → r ≡ fold (plus_cell_of gas solid row) b (range_with_len (b.col * width) (b.col * width + m - b.col * width))
+    → r ≡ plus_row gas width solid row b
 row_is gas width solid row b r m some begins e is =
     let long : b.col * width + m - b.col * width ≡ m = omega arith in
-    is ∙ ap (λ n. fold (with_cell_of gas solid row) b (range_with_len (b.col * width) n)) long
-    ∙ ap (fold (with_cell_of gas solid row) b) (sym (part-range (length row) width b.col m some begins e))
+    is ∙ ap (λ n. fold (plus_cell_of gas solid row) b (range_with_len (b.col * width) n)) long
+    ∙ ap (fold (plus_cell_of gas solid row) b) (sym (part-range (length row) width b.col m some begins e))
 
 -- a block with the cell of a lattice at a place
-abbrev pub with_place : Rules → LatticeModel → Block → ℕ × ℕ → Block
-with_place gas lattice b c = with_cell gas b (is_solid lattice.channel c.0 c.1) (cell lattice.rows c.0 c.1)
+abbrev pub plus_place : Rules → LatticeModel → Block → ℕ × ℕ → Block
+plus_place gas lattice b c = plus_cell gas b (is_solid lattice.channel c.0 c.1) (cell lattice.rows c.0 c.1)
 
 -- the cells of n rows, from row `from` on, that stand in a column of blocks
 abbrev pub cells_from : LatticeModel → ℕ → ℕ → ℕ → ℕ → List (ℕ × ℕ)
@@ -118,7 +118,7 @@ cells_from lattice width col from n = flat_map (λ y. map (λ x. (x, y)) (part l
 
 -- a block with those cells
 abbrev pub block_from : Rules → LatticeModel → ℕ → ℕ → ℕ → ℕ → ℕ → Block
-block_from gas lattice width row from n col = fold (with_place gas lattice) (empty_block col row) (cells_from lattice width col from n)
+block_from gas lattice width row from n col = fold (plus_place gas lattice) (empty_block col row) (cells_from lattice width col from n)
 
 -- what the cells add to each number of a block
 folded : (gas : Rules) (lattice : LatticeModel) (cells : List (ℕ × ℕ)) (b : Block)
@@ -129,21 +129,21 @@ folded : (gas : Rules) (lattice : LatticeModel) (cells : List (ℕ × ℕ)) (b :
       particles = fold (λ a c. a + particles gas (cell lattice.rows c.0 c.1)) b.particles cells;
       px = fold (λ a c. a +ℤ (momentum_of gas (cell lattice.rows c.0 c.1)).0) b.px cells;
       py = fold (λ a c. a +ℤ (momentum_of gas (cell lattice.rows c.0 c.1)).1) b.py cells;
-    } in fold (with_place gas lattice) b cells ≡ sums
+    } in fold (plus_place gas lattice) b cells ≡ sums
 folded gas lattice [] b = refl
-folded gas lattice (c ∷ cells) b = folded gas lattice cells (with_place gas lattice b c)
+folded gas lattice (c ∷ cells) b = folded gas lattice cells (plus_place gas lattice b c)
 
 -- the block of cells, one added after the other
 pub block_folded : (gas : Rules) (lattice : LatticeModel) (col row : ℕ) (cells : List (ℕ × ℕ))
-    → fold (with_place gas lattice) (empty_block col row) cells ≡ block_of_cells gas lattice col row cells
+    → fold (plus_place gas lattice) (empty_block col row) cells ≡ block_of_cells gas lattice col row cells
 block_folded gas lattice col row cells = folded gas lattice cells (empty_block col row)
 
 HasRoom-fold : (gas : Rules) → IsGas gas → (lattice : LatticeModel) (cells : List (ℕ × ℕ)) (b : Block) (n : ℕ) → HasRoom b n
-    → HasRoom (fold (with_place gas lattice) b cells) (n + length cells)
+    → HasRoom (fold (plus_place gas lattice) b cells) (n + length cells)
 HasRoom-fold gas laws lattice [] b n h = subst (HasRoom b) (sym (add-zero n)) h
 HasRoom-fold gas laws lattice (c ∷ cells) b n h =
     HasRoom-le _ (n + 1 + length cells) (n + suc (length cells)) (omega arith)
-    (HasRoom-fold gas laws lattice cells (with_place gas lattice b c) (n + 1) (HasRoom-cell gas laws b _ _ n h))
+    (HasRoom-fold gas laws lattice cells (plus_place gas lattice b c) (n + 1) (HasRoom-cell gas laws b _ _ n h))
 
 -- n rows have at most n times as many cells as one
 cells_few : (lattice : LatticeModel) (width col from n : ℕ) → length (cells_from lattice width col from n) ≤ n * lattice.channel.width
@@ -173,19 +173,19 @@ block_from-room gas laws lattice width row from n col wide few =
 
 -- a block with the cells of one row more
 block_from-more : (gas : Rules) (lattice : LatticeModel) (width row from n y col : ℕ) → from + n ≡ y → length (slice_index_or lattice.rows y []) ≡ lattice.channel.width
-    → with_row gas width (slice_index_or lattice.channel.solid y []) (slice_index_or lattice.rows y []) (block_from gas lattice width row from n col) ≡ block_from gas lattice width row from (n + 1) col
+    → plus_row gas width (slice_index_or lattice.channel.solid y []) (slice_index_or lattice.rows y []) (block_from gas lattice width row from n col) ≡ block_from gas lattice width row from (n + 1) col
 block_from-more gas lattice width row from n y col e wide =
     let now : Block = block_from gas lattice width row from n col in
-    let f = with_cell_of gas (slice_index_or lattice.channel.solid y []) (slice_index_or lattice.rows y []) in
+    let f = plus_cell_of gas (slice_index_or lattice.channel.solid y []) (slice_index_or lattice.rows y []) in
     let at : now.col ≡ col = ap (λ (b : Block). b.col) (folded gas lattice (cells_from lattice width col from n) (empty_block col row)) in
     let g : ℕ → List (ℕ × ℕ) = λ z. map (λ x. (x, z)) (part lattice.channel.width width col) in
     let cells : cells_from lattice width col from (n + 1) ≡ cells_from lattice width col from n ++ g y =
     ap (flat_map g) (range-append from n 1) ∙ flat_map-append g (range_with_len from n) _ ∙ ap (λ z. cells_from lattice width col from n ++ (g z ++ [])) e
     ∙ ap (λ zs. cells_from lattice width col from n ++ zs) (append-nil (g y)) in
     ap₂ (λ w k. fold f now (part w width k)) wide at
-    ∙ sym (fold-map (with_place gas lattice) (λ x. (x, y)) now (part lattice.channel.width width col))
-    ∙ sym (fold-append (with_place gas lattice) (empty_block col row) (cells_from lattice width col from n) (g y))
-    ∙ ap (fold (with_place gas lattice) (empty_block col row)) (sym cells)
+    ∙ sym (fold-map (plus_place gas lattice) (λ x. (x, y)) now (part lattice.channel.width width col))
+    ∙ sym (fold-append (plus_place gas lattice) (empty_block col row) (cells_from lattice width col from n) (g y))
+    ∙ ap (fold (plus_place gas lattice) (empty_block col row)) (sym cells)
 
 map-map : {X Y Z : Type 0} (f : Y → Z) (g : X → Y) (h : X → Z) (xs : List X) → ((x : X) → f (g x) ≡ h x) → map f (map g xs) ≡ map h xs
 map-map f g h [] e = refl
@@ -194,7 +194,7 @@ map-map f g h (x ∷ xs) e = ap₂ (λ y ys. y ∷ ys) (e x) (map-map f g h xs e
 -- a strip with the cells of one row more
 pub strip-more : (gas : Rules) (lattice : LatticeModel) (width row from n y : ℕ) (cols : List ℕ) (strip more : List Block) → from + n ≡ y
     → length (slice_index_or lattice.rows y []) ≡ lattice.channel.width → strip ≡ map (block_from gas lattice width row from n) cols
-    → more ≡ map (with_row gas width (slice_index_or lattice.channel.solid y []) (slice_index_or lattice.rows y [])) strip
+    → more ≡ map (plus_row gas width (slice_index_or lattice.channel.solid y []) (slice_index_or lattice.rows y [])) strip
     → more ≡ map (block_from gas lattice width row from (n + 1)) cols
 strip-more gas lattice width row from n y cols strip more e wide is added =
     added ∙ ap (map _) is ∙ map-map _ _ _ cols (λ col. block_from-more gas lattice width row from n y col e wide)
@@ -226,7 +226,7 @@ pub strip-whole : (gas : Rules) (lattice : LatticeModel) (width height row n : �
     → strip ≡ map (block_from gas lattice width row (row * height) n) (range_with_len 0 (div_ceil lattice.channel.width width)) → strip ≡ strip_of gas lattice width height row
 strip-whole gas lattice width height row n strip some begins long is =
     is ∙ map_same _ _ _ (λ col.
-    ap (λ ys. fold (with_place gas lattice) (empty_block col row) (flat_map (λ y. map (λ x. (x, y)) (part lattice.channel.width width col)) ys)) (sym (part-range lattice.channel.height height row n some begins long))
+    ap (λ ys. fold (plus_place gas lattice) (empty_block col row) (flat_map (λ y. map (λ x. (x, y)) (part lattice.channel.width width col)) ys)) (sym (part-range lattice.channel.height height row n some begins long))
     ∙ block_folded gas lattice col row (cells_of lattice.channel width height col row))
   where
     map_same : (f g : ℕ → Block) (xs : List ℕ) → ((x : ℕ) → f x ≡ g x) → map f xs ≡ map g xs

@@ -1,5 +1,7 @@
 pub mod Status
+pub mod Input
 pub mod Output
+pub mod Sink
 pub mod Text
 pub mod Blocks
 pub mod Tally
@@ -7,4 +9,6 @@ pub mod Table
 pub mod Replayed
 pub mod Words
 pub mod Requests
+pub mod Kinds
 pub mod Outcome
+pub mod View

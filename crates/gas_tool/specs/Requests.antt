@@ -3,8 +3,8 @@ use Rattle.std.specs.Prelude.{◌≡◌, ◌≢◌, ◌≤◌, ◌<◌, ℕ, Lis
 use Rattle.std.specs.Str.Parse.{ParsesUnsigned}
 use Rattle.std.specs.declared.num.ParseIntError.{ParseIntError}
 use Rattle.clap.specs.Words.{Row, Text, all_of, one_of, IsAmong, Kinds}
-use Rattle.clap.specs.declared.error.kind.ErrorKind.{ErrorKind}
-use Rattle.clap.specs.declared.error.kind.ErrorKind.TheVariants.{DisplayHelp, OutOfMemory}
+use Rattle.clap.specs.declared.error.kind.ErrorKind.TheVariants.{DisplayHelp}
+use Rattle.gas_tool.specs.Words.{most_block_side}
 use Rattle.gas_tool.specs.declared.faults.UsageFault.{UsageFault}
 use Rattle.gas_tool.specs.declared.faults.UsageFault.TheVariants as fault
 use Rattle.gas_tool.specs.declared.request.Request.{Request}
@@ -22,24 +22,24 @@ pub record IsPlanAt (rows : List Row) (stages capacity generations : ℕ) : Type
   pub capacity_at : IsNumberAt 32 (codes "capacity") rows capacity
   pub generations_at : IsNumberAt 64 (codes "generations") rows generations
 
--- the width and the height of blocks, each 1 to 4096, as the rows hold them
+-- the width and the height of blocks, as the rows hold them
 pub record AreSidesAt (rows : List Row) (width height : ℕ) : Type 0 where
   pub width_at : IsNumberAt 32 (codes "block-width") rows width
   pub height_at : IsNumberAt 32 (codes "block-height") rows height
   pub some_columns : 1 ≤ width
-  pub few_columns : width ≤ 4096
+  pub few_columns : width ≤ most_block_side
   pub some_rows : 1 ≤ height
-  pub few_rows : height ≤ 4096
+  pub few_rows : height ≤ most_block_side
 
 -- the decimal numbers of these texts, one for each
-pub record Read (bits : ℕ) (texts : List Text) (numbers : List ℕ) : Type 0 where
+pub record AreNumbers (bits : ℕ) (texts : List Text) (numbers : List ℕ) : Type 0 where
   pub count : length numbers ≡ length texts
   pub reads : (k : ℕ) → k < length texts →
       ParsesUnsigned {E = ParseIntError} bits 10 (slice_index_or texts k []) (Ok (slice_index numbers k))
 
 -- the turns, as the rows hold them; none where there are no such words
 abbrev pub AreTurnsAt : List Row → List ℕ → Type 0
-AreTurnsAt rows turns = Read 32 (unwrap_or (all_of (codes "turns") rows) []) turns
+AreTurnsAt rows turns = AreNumbers 32 (unwrap_or (all_of (codes "turns") rows) []) turns
 
 -- the request of a subcommand's name and rows
 abbrev pub IsRequestOf : Option (Text × List Row) → Request → Type 0
@@ -58,12 +58,6 @@ IsAllowed Check = ⊤
 IsAllowed (Run stages capacity generations) = ⊤
 IsAllowed (Coarse stages capacity generations width height) = (1 ≤ width) × (1 ≤ height)
 IsAllowed (Replay stages capacity generations turns) = ⊤
-
--- the fault of an error of this kind
-abbrev pub TellsKind : ErrorKind → UsageFault → Type 0
-TellsKind kind fault.Memory = ⊤
-TellsKind kind (fault.Help text) = kind ≡ DisplayHelp
-TellsKind kind (fault.Usage text) = (kind ≢ DisplayHelp) × (kind ≢ OutOfMemory)
 
 -- the fault of words for which `clap` gives errors of these kinds: help only where they ask for it,
 -- and never usage where they ask for help alone

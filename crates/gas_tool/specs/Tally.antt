@@ -1,3 +1,4 @@
+-- Inner words: what functions of this crate promise one another. No public contract cites them.
 -- How a block's numbers come together, cell by cell and row by row.
 use Rattle.std.specs.Prelude.{ℕ, ◌+◌, ◌*◌, ◌≤◌, Bool, false, not, if◌then◌else◌, List, fold, length, slice_index, slice_index_or, pos, neg_ℤ, ◌+ℤ◌, ◌≤ℤ◌}
 use Rattle.gas_geom.specs.Gas.{Rules, particles, momentum_of}
@@ -8,8 +9,8 @@ abbrev pub empty_block : ℕ → ℕ → Block
 empty_block col row = record { col = col; row = row; fluid = 0; particles = 0; px = pos 0; py = pos 0 }
 
 -- a block with one more cell
-abbrev pub with_cell : Rules → Block → Bool → ℕ → Block
-with_cell gas b solid state = record {
+abbrev pub plus_cell : Rules → Block → Bool → ℕ → Block
+plus_cell gas b solid state = record {
   col = b.col;
   row = b.row;
   fluid = b.fluid + (if not solid then 1 else 0);
@@ -19,12 +20,12 @@ with_cell gas b solid state = record {
 }
 
 -- with the cell of column x of a row
-abbrev pub with_cell_of : Rules → List Bool → List ℕ → Block → ℕ → Block
-with_cell_of gas solid row b x = with_cell gas b (slice_index_or solid x false) (slice_index row x)
+abbrev pub plus_cell_of : Rules → List Bool → List ℕ → Block → ℕ → Block
+plus_cell_of gas solid row b x = plus_cell gas b (slice_index_or solid x false) (slice_index row x)
 
 -- with the cells of a row that stand in the block's column of blocks
-abbrev pub with_row : Rules → ℕ → List Bool → List ℕ → Block → Block
-with_row gas width solid row b = fold (with_cell_of gas solid row) b (part (length row) width b.col)
+abbrev pub plus_row : Rules → ℕ → List Bool → List ℕ → Block → Block
+plus_row gas width solid row b = fold (plus_cell_of gas solid row) b (part (length row) width b.col)
 
 -- a block of at most n cells may have these numbers
 pub record HasRoom (b : Block) (n : ℕ) : Type 0 where

@@ -1,5 +1,5 @@
 -- The command line, as `clap` sees it.
-use Rattle.std.specs.Prelude.{pos, [], ◌∷◌, Some, true, codes}
+use Rattle.std.specs.Prelude.{ℕ, pos, [], ◌∷◌, Some, true, codes}
 use Rattle.clap.specs.Words.{App, Rule, Text, new_app, new_rule, with_rule, with_subcommand}
 use Rattle.clap.specs.Simple.{on_top}
 use Rattle.clap.specs.declared.builder.action.ArgAction.TheVariants.{Append, Set}
@@ -38,9 +38,13 @@ capacity_rule = default_rule (codes "capacity") (codes "2")
 abbrev pub with_plan : App → App
 with_plan app = with_rule (with_rule (with_rule app generations_rule) stages_rule) capacity_rule
 
+-- the most columns, and the most rows, of a block
+abbrev pub most_block_side : ℕ
+most_block_side = 4096
+
 -- the width or the height of blocks
 abbrev pub side : ValueParser
-side = parser.Signed (pos 1) (pos 4096)
+side = parser.Signed (pos 1) (pos most_block_side)
 
 abbrev pub block_width_rule : Rule
 block_width_rule = required_rule (codes "block-width") side

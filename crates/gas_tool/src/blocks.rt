@@ -1,11 +1,11 @@
 //! Coarse tables of a lattice: density and momentum by blocks of cells.
 
 ghost use Rattle.std.specs.Prelude.{◌≡◌, ◌≤◌, ◌<◌, ◌-◌, ◌+◌, ◌++◌, ◌*◌, ◌^◌, All, IfOk, OnOk, fold, length, map, pos, ◌==◌, not, if◌then◌else◌};
-ghost use Rattle.std.specs.Int.{bit_at, div_ceil};
+ghost use Rattle.std.specs.Int.{div_ceil};
 ghost use Rattle.std.specs.List.{range_with_len};
-ghost use Rattle.gas_geom.specs.Gas.{IsSmall, momentum_of};
+ghost use Rattle.gas_geom.specs.Gas.{IsSmall, holds, momentum_of};
 ghost use Rattle.gas_tool.specs.Blocks.{blocks_of, part, strip_of};
-ghost use Rattle.gas_tool.specs.Tally.{HasRoom, empty_block, with_cell, with_cell_of, with_row};
+ghost use Rattle.gas_tool.specs.Tally.{HasRoom, empty_block, plus_cell, plus_cell_of, plus_row};
 
 use gas_geom::gas::Gas;
 use gas_rows::lattice::Lattice;
@@ -42,10 +42,10 @@ impl Block {
     }
 
     // The block with one more cell.
-    fn with_cell<G: Gas>(self, solid: bool, state: u8) -> Block
+    fn plus_cell<G: Gas>(self, solid: bool, state: u8) -> Block
         requires state { state < 2 ^ G.rules.dirs }
         requires room { HasRoom self (2 ^ 24 - 1) }
-        ensures { result ≡ with_cell G.rules self solid state }
+        ensures { result ≡ plus_cell G.rules self solid state }
     {
         let (px, py) = momentum::<G>(state);
         Block {
@@ -58,33 +58,33 @@ impl Block {
     }
 
     // The block with the cells of a row from column `from` up to column `to`.
-    fn with_cells<G: Gas>(self, row: &Row<G>, solid: &Mask, from: u32, to: u32) -> Block
+    fn plus_cells<G: Gas>(self, row: &Row<G>, solid: &Mask, from: u32, to: u32) -> Block
         requires order { from ≤ to }
         requires within { to ≤ length row.now }
         requires few { to ≤ 4096 }
         requires same { length solid.now ≡ length row.now }
         requires room { HasRoom self (2 ^ 24 - 4096) }
-        ensures { result ≡ fold (with_cell_of G.rules solid.now row.now) self (range_with_len from (to - from)) }
+        ensures { result ≡ fold (plus_cell_of G.rules solid.now row.now) self (range_with_len from (to - from)) }
     {
         let mut block = self;
         for x in from..to {
-            block = block.with_cell::<G>(solid.get(x), row.get(x));
+            block = block.plus_cell::<G>(solid.get(x), row.get(x));
         }
         block
     }
 
     // The block with those cells of a row that stand in its column of blocks, `width` columns wide.
-    fn with_row<G: Gas>(self, row: &Row<G>, solid: &Mask, width: u32) -> Block
+    fn plus_row<G: Gas>(self, row: &Row<G>, solid: &Mask, width: u32) -> Block
         requires some_columns { 1 ≤ width }
         requires same { length solid.now ≡ length row.now }
         requires begins { self.col * width < length row.now }
         requires room { HasRoom self (2 ^ 24 - 4096) }
-        ensures { result ≡ with_row G.rules width solid.now row.now self }
+        ensures { result ≡ plus_row G.rules width solid.now row.now self }
     {
         let cells = row.width();
         let from = self.col * width;
         let to = from + width.min(cells - from);
-        self.with_cells(row, solid, from, to)
+        self.plus_cells(row, solid, from, to)
     }
 }
 
@@ -98,7 +98,7 @@ fn fluid_cells(solid: bool) -> u32
 // Whether a state holds a direction.
 fn holds(state: u8, i: u32) -> bool
     requires { i < 8 }
-    ensures { result ≡ (bit_at state i == 1) }
+    ensures { result ≡ holds state i }
 {
     (state >> i) & 1 == 1
 }
@@ -106,8 +106,8 @@ fn holds(state: u8, i: u32) -> bool
 // The momentum of a direction where a state holds it, and none else.
 fn momentum_in<G: Gas>(state: u8, i: u32) -> (i32, i32)
     requires { i < G.rules.dirs }
-    ensures eastwards { result.0 ≡ (if bit_at state i == 1 then (G.rules.momentum i).0 else pos 0) }
-    ensures northwards { result.1 ≡ (if bit_at state i == 1 then (G.rules.momentum i).1 else pos 0) }
+    ensures eastwards { result.0 ≡ (if holds state i then (G.rules.momentum i).0 else pos 0) }
+    ensures northwards { result.1 ≡ (if holds state i then (G.rules.momentum i).1 else pos 0) }
     ensures small { IsSmall result.0 × IsSmall result.1 }
 {
     if holds(state, i) {
@@ -138,10 +138,10 @@ fn add_row<G: Gas>(strip: &mut [Block], row: &Row<G>, solid: &Mask, width: u32)
     requires same { length solid.now ≡ length row.now }
     requires blocks { All (λ b. b.col * width < length row.now) strip.old }
     requires room { All (λ b. HasRoom b (2 ^ 24 - 4096)) strip.old }
-    ensures { strip.new ≡ map (with_row G.rules width solid.now row.now) strip.old }
+    ensures { strip.new ≡ map (plus_row G.rules width solid.now row.now) strip.old }
 {
     for block in strip.iter_mut() {
-        *block = block.with_row(row, solid, width);
+        *block = block.plus_row(row, solid, width);
     }
 }
 

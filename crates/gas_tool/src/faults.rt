@@ -11,10 +11,12 @@ use gas_scene::error::SceneError;
 use std::alloc::AllocError;
 use thiserror::Error;
 
+const MEMORY_REFUSED: &str = "memory refused";
+
 /// Why an input was not read. Its `Display` text is the line that the program prints.
 #[derive(Debug, Drop, Error)]
 pub enum InputFault {
-    #[error("memory refused")]
+    #[error("{line}", line = MEMORY_REFUSED)]
     Memory,
     #[error("input: read failed")]
     Read,
@@ -44,7 +46,7 @@ pub struct WriteFault {
 /// Why the words gave no request. `Usage` and `Help` hold the text to print, with its last line feed.
 #[derive(Debug, Drop, Error)]
 pub enum UsageFault {
-    #[error("memory refused")]
+    #[error("{line}", line = MEMORY_REFUSED)]
     Memory,
     #[error("{0}")]
     Usage(String),
@@ -69,15 +71,15 @@ impl UsageFault {
 /// `Write` holds the number of bytes that went out before the writer failed.
 #[derive(Debug, Drop, Error)]
 pub enum ToolError {
-    #[error("memory refused")]
+    #[error("{line}", line = MEMORY_REFUSED)]
     Memory,
     #[error("{0}")]
     Scene(SceneError),
     #[error("{0}")]
     Plan(PlanError),
-    #[error("write: failed after {0} bytes")]
+    #[error("{line}", line = WriteFault {written: *.0})]
     Write(u64),
-    #[error("replay: the plan needs more than one pass")]
+    #[error("{line}", line = RunError::MorePasses)]
     MorePasses,
 }
 

@@ -4,9 +4,9 @@
 pub mod blocks;
 pub mod faults;
 pub mod input;
-pub mod output;
+mod output;
 pub mod perform;
-pub mod replayed;
+mod replayed;
 pub mod request;
 pub mod table;
 #[cfg(test)]

@@ -3,7 +3,8 @@
 ghost use Rattle.std.specs.Prelude.{◌≡◌, ◌≤◌, ℕ, List, [], length, take, false, Option, IfSome};
 ghost use Rattle.std.specs.Io.KnownBytes.{Appends};
 ghost use Rattle.std.specs.Fmt.{with_newline};
-ghost use Rattle.gas_tool.specs.Output.{Carries, Adds, Writes};
+ghost use Rattle.gas_tool.specs.Output.{Writes};
+ghost use Rattle.gas_tool.specs.Sink.{HasSent, Adds};
 
 use crate::faults::WriteFault;
 use arrayvec::{ArrayString, ArrayVec};
@@ -27,7 +28,7 @@ pub(crate) struct Sink {
 }
 
 impl Model for Sink {
-    ghost use Rattle.gas_tool.specs.Output.{SinkModel};
+    ghost use Rattle.gas_tool.specs.Sink.{SinkModel};
 
     ghost Value = { SinkModel };
 
@@ -40,7 +41,7 @@ impl Model for Sink {
 
 impl Sink {
     pub(crate) fn new() -> Sink
-        ensures empty { (start : Option (List ℕ)) → Carries start start result [] }
+        ensures empty { (start : Option (List ℕ)) → HasSent start start result [] }
         ensures fresh { result.failed ≡ false }
     {
         Sink {
@@ -89,7 +90,7 @@ impl Sink {
     /// whole text.
     pub(crate) fn finish<W: Write>(mut self, out: &mut W) -> Result<(), WriteFault>
         ensures { (start : Option (List ℕ)) (text : List ℕ) →
-            Carries start (W.contents out.old) self text →
+            HasSent start (W.contents out.old) self text →
             Writes start (W.contents out.new) text result }
     {
         self.hand_over(out);

@@ -1,12 +1,11 @@
 //! The answer to a request on a scene.
 
-ghost use Rattle.std.specs.Prelude.{◌≡◌, nat_lt};
+ghost use Rattle.std.specs.Prelude.{◌≡◌, Ok};
+ghost use Rattle.gas_geom.specs.Lattice.{count};
 ghost use Rattle.gas_stage.specs.Evolution.{lattice_after};
-ghost use Rattle.gas_tool.specs.Outcome.{Performs, Sends, SendsUnless, HasSomeCells, run_text, scene_text, turns_text, view_text};
-ghost use Rattle.gas_tool.specs.Replayed.{replay_text};
-ghost use Rattle.gas_pipe.specs.Plan.{passes_of};
-ghost use Rattle.gas_pipe.specs.Replay.{replay_of};
+ghost use Rattle.gas_tool.specs.Outcome.{Performs, gas_outcome, outcome, replay_outcome};
 ghost use Rattle.gas_tool.specs.Requests.{IsAllowed};
+ghost use Rattle.gas_tool.specs.View.{HasSomeCells, view_text};
 
 use crate::blocks::coarse;
 use crate::faults::ToolError;
@@ -15,18 +14,26 @@ use crate::request::Request;
 use crate::table::write_table;
 use crate::text::{write_cells, write_check};
 use gas_geom::gas::Gas;
-use gas_pipe::gate::Gate;
 use gas_pipe::plan::Plan;
 use gas_pipe::replay::replay;
-use gas_pipe::running::run;
+use gas_pipe::threads::gate::Gate;
+use gas_pipe::threads::run;
 use gas_rows::chirality::Chirality;
 use gas_rows::lattice::Lattice;
 use gas_scene::any_lattice::AnyLattice;
-use gas_scene::scene::{Scene, read};
+use gas_scene::scene::read;
 use std::alloc::Global;
 use std::io::Write;
 use std::sync::Wait;
 use std::thread::Threads;
+
+/// Where threads and memory come from, and the gate that each worker's thread goes through.
+#[derive(Clone, Copy)]
+struct Means<'a, H, R> {
+    rt: &'a R,
+    alloc: Global,
+    gate: &'a H,
+}
 
 /// What is printed of a lattice.
 #[derive(Clone, Copy)]
@@ -41,6 +48,7 @@ enum View {
 /// scene, the plan, the passes of a replay, the work. Nothing is written before the answer is whole,
 /// and the writer is flushed once after the last byte. Want of memory is `Memory`, also while the
 /// scene is read, and so is a thread that cannot be had. Each worker's thread goes through the gate.
+#[tactic(auto, unfolding(gas_scene::specs::Gases::rules_named))]
 pub fn perform<W: Write, H: Gate + Sync, R: Threads + Wait + Sync>(
     rt: &R,
     alloc: Global,
@@ -50,18 +58,38 @@ pub fn perform<W: Write, H: Gate + Sync, R: Threads + Wait + Sync>(
     out: &mut W,
 ) -> Result<(), ToolError>
     requires { IsAllowed request.now }
-    ensures { Performs text.now request.now (W.contents out.old) (W.contents out.new) result }
+    ensures { Performs (outcome text.now request.now) (W.contents out.old) (W.contents out.new) result }
 {
     let scene = read(alloc, text)?;
+    let means = Means { rt, alloc, gate };
+    let chirality = scene.chirality();
+    match scene.lattice() {
+        AnyLattice::Fhp1(lattice) => perform_on(&means, lattice, chirality, request, out),
+        AnyLattice::Hpp(lattice) => perform_on(&means, lattice, chirality, request, out),
+    }
+}
+
+// Writes the answer to a request on a lattice.
+fn perform_on<G: Gas + Send, W: Write, H: Gate + Sync, R: Threads + Wait + Sync>(
+    means: &Means<H, R>,
+    lattice: &Lattice<G>,
+    chirality: Chirality,
+    request: &Request,
+    out: &mut W,
+) -> Result<(), ToolError>
+    requires { IsAllowed request.now }
+    ensures { Performs (gas_outcome G.rules lattice.now chirality request.now)
+        (W.contents out.old) (W.contents out.new) result }
+{
     match request {
-        Request::Check => check(&scene, out),
+        Request::Check => Ok(write_check(lattice, out)?),
         Request::Run {
             stages,
             capacity,
             generations,
         } => {
             let plan = Plan::new(*stages, *capacity, *generations)?;
-            run_scene(rt, alloc, &scene, plan, gate, View::Cells, out)
+            print_run(means, lattice, chirality, plan, View::Cells, out)
         }
         Request::Coarse {
             stages,
@@ -75,7 +103,7 @@ pub fn perform<W: Write, H: Gate + Sync, R: Threads + Wait + Sync>(
                 width: *block_width,
                 height: *block_height,
             };
-            run_scene(rt, alloc, &scene, plan, gate, view, out)
+            print_run(means, lattice, chirality, plan, view, out)
         }
         Request::Replay {
             stages,
@@ -84,85 +112,29 @@ pub fn perform<W: Write, H: Gate + Sync, R: Threads + Wait + Sync>(
             turns,
         } => {
             let plan = Plan::new(*stages, *capacity, *generations)?;
-            replay_turns(alloc, &scene, plan, turns.as_slice(), out)
+            print_replay(means.alloc, lattice, chirality, plan, turns.as_slice(), out)
         }
     }
 }
 
-// Computes the generations of a plan over a scene, by the line of threads, and prints the lattice
-// that they lead to.
-fn run_scene<W: Write, H: Gate + Sync, R: Threads + Wait + Sync>(
-    rt: &R,
-    alloc: Global,
-    scene: &Scene,
+// Computes the generations of a plan over a lattice, by the line of threads, and prints the one that
+// they lead to.
+fn print_run<G: Gas + Send, W: Write, H: Gate + Sync, R: Threads + Wait + Sync>(
+    means: &Means<H, R>,
+    lattice: &Lattice<G>,
+    chirality: Chirality,
     plan: Plan,
-    gate: &H,
     view: View,
     out: &mut W,
 ) -> Result<(), ToolError>
     requires { HasSomeCells view }
-    ensures { Sends (W.contents out.old) (W.contents out.new)
-        (run_text view scene.now.lattice scene.now.chirality plan.generations) result }
+    ensures { Performs
+        (Ok (view_text view G.rules (lattice_after G.rules chirality lattice.now plan.generations) plan.generations))
+        (W.contents out.old) (W.contents out.new) result }
 {
-    let chirality = scene.chirality();
-    match scene.lattice() {
-        AnyLattice::Fhp1(lattice) => run_gas(rt, alloc, lattice, chirality, plan, gate, view, out),
-        AnyLattice::Hpp(lattice) => run_gas(rt, alloc, lattice, chirality, plan, gate, view, out),
-    }
-}
-
-// Computes the generations of a plan over a lattice, and prints the one that they lead to.
-fn run_gas<G: Gas + Send, W: Write, H: Gate + Sync, R: Threads + Wait + Sync>(
-    rt: &R,
-    alloc: Global,
-    lattice: &Lattice<G>,
-    chirality: Chirality,
-    plan: Plan,
-    gate: &H,
-    view: View,
-    out: &mut W,
-) -> Result<(), ToolError>
-    requires { HasSomeCells view }
-    ensures { Sends (W.contents out.old) (W.contents out.new)
-        (view_text view G.rules (lattice_after G.rules chirality lattice.now plan.generations) plan.generations) result }
-{
-    let run = run(rt, alloc, lattice, chirality, plan, gate)?;
-    print(alloc, run.lattice(), plan.generations(), view, out)
-}
-
-// Lets the members of a line over a scene's lattice make these turns, and prints where they stand.
-fn replay_turns<W: Write>(
-    alloc: Global,
-    scene: &Scene,
-    plan: Plan,
-    turns: &[u32],
-    out: &mut W,
-) -> Result<(), ToolError>
-    ensures { SendsUnless (nat_lt 1 (passes_of plan.generations plan.stages)) (W.contents out.old) (W.contents out.new)
-        (turns_text scene.now.lattice scene.now.chirality plan turns.now) result }
-{
-    let chirality = scene.chirality();
-    match scene.lattice() {
-        AnyLattice::Fhp1(lattice) => replay_gas(alloc, lattice, chirality, plan, turns, out),
-        AnyLattice::Hpp(lattice) => replay_gas(alloc, lattice, chirality, plan, turns, out),
-    }
-}
-
-// Lets the members of a line over a lattice make these turns, and prints where they stand.
-fn replay_gas<G: Gas, W: Write>(
-    alloc: Global,
-    lattice: &Lattice<G>,
-    chirality: Chirality,
-    plan: Plan,
-    turns: &[u32],
-    out: &mut W,
-) -> Result<(), ToolError>
-    ensures { SendsUnless (nat_lt 1 (passes_of plan.generations plan.stages)) (W.contents out.old) (W.contents out.new)
-        (replay_text G.rules (replay_of G.rules chirality lattice.now plan turns.now) plan.generations) result }
-{
-    let replay = replay(alloc, lattice, chirality, plan, turns)?;
-    write_replay(&replay, plan.generations(), out)?;
-    Ok(())
+    let Means { rt, alloc, gate } = means;
+    let run = run(*rt, *alloc, lattice, chirality, plan, *gate)?;
+    print(*alloc, run.lattice(), plan.generations(), view, out)
 }
 
 // Prints a lattice at a generation.
@@ -174,7 +146,7 @@ fn print<G: Gas, W: Write>(
     out: &mut W,
 ) -> Result<(), ToolError>
     requires { HasSomeCells view }
-    ensures { Sends (W.contents out.old) (W.contents out.new) (view_text view G.rules lattice.now generation) result }
+    ensures { Performs (Ok (view_text view G.rules lattice.now generation)) (W.contents out.old) (W.contents out.new) result }
 {
     match view {
         View::Cells => write_cells(lattice, generation, out)?,
@@ -186,13 +158,19 @@ fn print<G: Gas, W: Write>(
     Ok(())
 }
 
-// Writes the line of a scene.
-fn check<W: Write>(scene: &Scene, out: &mut W) -> Result<(), ToolError>
-    ensures { Sends (W.contents out.old) (W.contents out.new) (scene_text scene.now.lattice) result }
+// Lets the members of a line over a lattice make these turns, and prints where they stand.
+fn print_replay<G: Gas, W: Write>(
+    alloc: Global,
+    lattice: &Lattice<G>,
+    chirality: Chirality,
+    plan: Plan,
+    turns: &[u32],
+    out: &mut W,
+) -> Result<(), ToolError>
+    ensures { Performs (replay_outcome G.rules lattice.now chirality plan turns.now)
+        (W.contents out.old) (W.contents out.new) result }
 {
-    match scene.lattice() {
-        AnyLattice::Fhp1(lattice) => write_check("fhp1", lattice, out)?,
-        AnyLattice::Hpp(lattice) => write_check("hpp", lattice, out)?,
-    }
+    let replay = replay(alloc, lattice, chirality, plan, turns)?;
+    write_replay(&replay, plan.generations(), out)?;
     Ok(())
 }

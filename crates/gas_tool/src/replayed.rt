@@ -2,7 +2,8 @@
 
 ghost use Rattle.std.specs.Prelude.{◌≡◌, ◌<◌, length, IsTrue, ◌↔◌, IsSome, Option};
 ghost use Rattle.gas_geom.specs.Lattice.{LatticeModel};
-ghost use Rattle.gas_tool.specs.Output.{Adds, Writes};
+ghost use Rattle.gas_tool.specs.Output.{Writes};
+ghost use Rattle.gas_tool.specs.Sink.{Adds};
 ghost use Rattle.gas_tool.specs.Text.{texts_below};
 ghost use Rattle.gas_tool.specs.Replayed.{belt_line, done_line, end_text, line_of_belt, replay_text};
 
@@ -10,7 +11,7 @@ use crate::faults::WriteFault;
 use crate::output::{Sink, put_line};
 use crate::text::put_cells;
 use gas_geom::gas::Gas;
-use gas_pipe::standing::Replay;
+use gas_pipe::replay::answer::Replay;
 use std::io::Write;
 
 // Adds the line that says whether the pass is done.
@@ -36,16 +37,25 @@ fn put_belt<W: Write>(sink: &mut Sink, out: &mut W, belt: u32, put: u32, taken: 
     );
 }
 
+// Adds the line of one of the belts.
+fn put_belt_of<G: Gas, W: Write>(sink: &mut Sink, out: &mut W, replay: &Replay<G>, belt: u32)
+    requires { belt < length replay.now.belts }
+    ensures { Adds (W.contents out.old) (W.contents out.new) sink.old sink.new
+        (line_of_belt replay.now.belts belt) }
+{
+    let (Some(put), Some(taken)) = (replay.put(belt), replay.taken(belt)) else {
+        unreachable!()
+    };
+    put_belt(sink, out, belt, put, taken);
+}
+
 // Adds the lines of the belts.
 fn put_belts<G: Gas, W: Write>(sink: &mut Sink, out: &mut W, replay: &Replay<G>)
     ensures { Adds (W.contents out.old) (W.contents out.new) sink.old sink.new
         (texts_below (line_of_belt replay.now.belts) (length replay.now.belts)) }
 {
     for belt in 0..replay.belts() {
-        let (Some(put), Some(taken)) = (replay.put(belt), replay.taken(belt)) else {
-            unreachable!()
-        };
-        put_belt(sink, out, belt, put, taken);
+        put_belt_of(sink, out, replay, belt);
     }
 }
 
@@ -62,7 +72,7 @@ fn put_end<G: Gas, W: Write>(sink: &mut Sink, out: &mut W, replay: &Replay<G>, g
 /// Writes where a replayed pass stands: `done` or `not done`, a line a belt, and, where it is done, the
 /// cells of its lattice, which is of that generation. Then the writer is flushed once, with the faults
 /// of `write_cells`. It takes no memory.
-pub fn write_replay<G: Gas, W: Write>(
+pub(crate) fn write_replay<G: Gas, W: Write>(
     replay: &Replay<G>,
     generation: u64,
     out: &mut W,

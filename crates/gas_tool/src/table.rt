@@ -1,6 +1,7 @@
 //! The printed text of a coarse table.
 
-ghost use Rattle.gas_tool.specs.Output.{Adds, Writes};
+ghost use Rattle.gas_tool.specs.Output.{Writes};
+ghost use Rattle.gas_tool.specs.Sink.{Adds};
 ghost use Rattle.std.specs.List.{flat_map};
 ghost use Rattle.gas_tool.specs.Table.{block_line, table_header, table_text};
 

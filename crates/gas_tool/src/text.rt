@@ -1,10 +1,12 @@
 //! The printed texts.
 
-ghost use Rattle.std.specs.Prelude.{◌≡◌, ◌<◌, false};
+ghost use Rattle.std.specs.Prelude.{◌≡◌, ◌<◌, ◌≤◌, ◌*◌, ℕ, false, slice_index, take};
 ghost use Rattle.std.specs.Fmt.{digit_glyph};
+ghost use Rattle.gas_geom.specs.Gas.{holds};
 ghost use Rattle.gas_geom.specs.Lattice.{count};
-ghost use Rattle.gas_tool.specs.Output.{Adds, Writes};
-ghost use Rattle.gas_tool.specs.Text.{cell_text, cells_text, check_line, check_text, header_text, row_text, rows_text};
+ghost use Rattle.gas_tool.specs.Output.{Writes};
+ghost use Rattle.gas_tool.specs.Sink.{Adds};
+ghost use Rattle.gas_tool.specs.Text.{cell_text, cells_text, check_line, check_text, header_text, row_text, rows_text, texts_below};
 
 use crate::faults::WriteFault;
 use crate::output::{Sink, put_line};
@@ -36,6 +38,20 @@ pub(crate) fn cell_pair(solid: bool, state: u8) -> [u8; 2]
     }
 }
 
+// The characters of 64 cells, of their bits in a mask and their states.
+fn cell_pairs(solid: u64, states: [u8; 64]) -> [u8; 128]
+    ensures { (cells : ℕ) → cells ≤ 64 → take (2 * cells) result
+        ≡ texts_below (λ b. cell_text (holds solid b) (slice_index states b)) cells }
+{
+    let mut pairs = [0; 128];
+    for b in 0..64 {
+        let pair = cell_pair((solid >> b) & 1 == 1, states[b]);
+        pairs[2 * b] = pair[0];
+        pairs[2 * b + 1] = pair[1];
+    }
+    pairs
+}
+
 /// Adds the line above the cells of a lattice.
 pub(crate) fn put_header<W: Write>(sink: &mut Sink, out: &mut W, generation: u64, particles: u64)
     ensures { Adds (W.contents out.old) (W.contents out.new) sink.old sink.new
@@ -56,9 +72,11 @@ fn put_row<G: Gas, W: Write>(sink: &mut Sink, out: &mut W, lattice: &Lattice<G>,
 {
     let row = lattice.row(y);
     let solid = lattice.channel().mask(y);
-    for x in 0..row.width() {
-        let pair = cell_pair(solid.get(x), row.get(x));
-        sink.push(out, pair.as_slice());
+    let width = row.width();
+    for j in 0..width.div_ceil(64) {
+        let pairs = cell_pairs(solid.word(j), row.states64(j));
+        let cells = (width - 64 * j).min(64) as usize;
+        sink.push(out, &pairs[..2 * cells]);
     }
     sink.push(out, b"\n");
 }
@@ -124,27 +142,34 @@ fn put_check<W: Write>(
     );
 }
 
-/// Writes the line of a scene: the name of its gas, its width and its height, and how many solid
-/// cells and particles it has. Then the writer is flushed once, with the faults of `write_cells`. It
-/// takes no memory.
-pub fn write_check<G: Gas, W: Write>(
-    gas: &str,
-    lattice: &Lattice<G>,
-    out: &mut W,
-) -> Result<(), WriteFault>
-    ensures { Writes (W.contents out.old) (W.contents out.new)
-        (check_text gas.now lattice.now.channel (count G.rules lattice.now.rows)) result }
+// Adds the line of the scene of a lattice.
+fn put_scene<G: Gas, W: Write>(sink: &mut Sink, out: &mut W, lattice: &Lattice<G>)
+    ensures { Adds (W.contents out.old) (W.contents out.new) sink.old sink.new
+        (check_text G.rules.name lattice.now.channel (count G.rules lattice.now.rows)) }
 {
     let channel = lattice.channel();
     let size = channel.size();
-    let mut sink = Sink::new();
     put_check(
-        &mut sink,
+        sink,
         out,
-        gas,
+        G::name(),
         (size.width(), size.height()),
         channel.count_solid(),
         lattice.count(),
     );
+}
+
+/// Writes the line of a scene: the name of its gas, its width and its height, and how many solid
+/// cells and particles it has. Then the writer is flushed once, with the faults of `write_cells`. It
+/// takes no memory.
+pub(crate) fn write_check<G: Gas, W: Write>(
+    lattice: &Lattice<G>,
+    out: &mut W,
+) -> Result<(), WriteFault>
+    ensures { Writes (W.contents out.old) (W.contents out.new)
+        (check_text G.rules.name lattice.now.channel (count G.rules lattice.now.rows)) result }
+{
+    let mut sink = Sink::new();
+    put_scene(&mut sink, out, lattice);
     sink.finish(out)
 }

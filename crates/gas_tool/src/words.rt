@@ -7,13 +7,17 @@ ghost use Rattle.clap.specs.Words.{subcommand_of, subcommand_rows_of};
 ghost use Rattle.gas_tool.specs.Words.{program_app, check_app, coarse_app, replay_app, run_app, default_rule};
 ghost use Rattle.gas_tool.specs.Words.{generations_rule, stages_rule, capacity_rule, with_plan};
 ghost use Rattle.gas_tool.specs.Words.{block_height_rule, block_width_rule, required_rule, side, turns_rule};
-ghost use Rattle.gas_tool.specs.Requests.{AreSidesAt, AreTurnsAt, IsAllowed, IsFaultOf, IsPlanAt, IsRequestOf, Read, TellsKind};
+ghost use Rattle.gas_tool.specs.Requests.{AreSidesAt, AreTurnsAt, IsAllowed, IsFaultOf, IsPlanAt, IsRequestOf, AreNumbers};
+ghost use Rattle.gas_tool.specs.Kinds.{TellsKind};
 
 use crate::faults::UsageFault;
 use crate::request::{Request, Turns};
 use clap::error::ErrorKind;
 use clap::{Arg, ArgAction, ArgMatches, Command, value_parser};
 use std::alloc::{AllocError, Global};
+
+/// The most columns, and the most rows, of a block.
+const MOST_BLOCK_SIDE: u32 = 4096;
 
 const ABOUT: &str =
     "A lattice gas in a channel: particles move from cell to cell, collide, and are sent back by
@@ -142,7 +146,7 @@ fn side_arg<'a>(alloc: Global, name: &'a str, value_name: &'a str, help: &'a str
         .value_name(value_name)
         .action(ArgAction::Set)
         .required(true)
-        .value_parser(value_parser!(u32).range(1..=4096))
+        .value_parser(value_parser!(u32).range(1..=i64::from(MOST_BLOCK_SIDE)))
         .help(help)
 }
 
@@ -258,13 +262,13 @@ fn request_of(alloc: Global, matches: &ArgMatches) -> Result<Option<Request>, Al
     if matches.subcommand_matches("check").is_some() {
         return Ok(Some(Request::Check));
     }
-    if let Some(request) = run_of(matches) {
+    if let Some(request) = run_request(matches) {
         return Ok(Some(request));
     }
-    if let Some(request) = coarse_of(matches) {
+    if let Some(request) = coarse_request(matches) {
         return Ok(Some(request));
     }
-    replay_of(alloc, matches)
+    replay_request(alloc, matches)
 }
 
 // The numbers of a plan, the stages first and the generations last.
@@ -283,7 +287,7 @@ fn sides_of(matches: &ArgMatches) -> Option<(u32, u32)>
 {
     let width = matches.get_one::<u32>("block-width")?;
     let height = matches.get_one::<u32>("block-height")?;
-    if 1 <= width && width <= 4096 && 1 <= height && height <= 4096 {
+    if 1 <= width && width <= MOST_BLOCK_SIDE && 1 <= height && height <= MOST_BLOCK_SIDE {
         Some((width, height))
     } else {
         None
@@ -291,7 +295,7 @@ fn sides_of(matches: &ArgMatches) -> Option<(u32, u32)>
 }
 
 // The request of the matches of `run`.
-fn run_of(matches: &ArgMatches) -> Option<Request>
+fn run_request(matches: &ArgMatches) -> Option<Request>
     ensures { IfSome result (IsRequestOf (subcommand_rows_of matches.now)) }
 {
     let run = matches.subcommand_matches("run")?;
@@ -304,7 +308,7 @@ fn run_of(matches: &ArgMatches) -> Option<Request>
 }
 
 // The request of the matches of `coarse`.
-fn coarse_of(matches: &ArgMatches) -> Option<Request>
+fn coarse_request(matches: &ArgMatches) -> Option<Request>
     ensures { IfSome result (IsRequestOf (subcommand_rows_of matches.now)) }
 {
     let coarse = matches.subcommand_matches("coarse")?;
@@ -321,7 +325,7 @@ fn coarse_of(matches: &ArgMatches) -> Option<Request>
 
 // The numbers that the words are; None where one is none.
 fn numbers(alloc: Global, words: &[&str]) -> Result<Option<Vec<u32>>, AllocError>
-    ensures { IfOk result (λ r. IfSome r (λ numbers. Read 32 (map (λ w. w.now) words.now) numbers.items)) }
+    ensures { IfOk result (λ r. IfSome r (λ numbers. AreNumbers 32 (map (λ w. w.now) words.now) numbers.items)) }
 {
     let mut numbers = Vec::with_capacity(alloc, words.len())?;
     for word in words {
@@ -347,7 +351,7 @@ fn turns_of(alloc: Global, matches: &ArgMatches) -> Result<Option<Turns>, AllocE
 }
 
 // The request of the matches of `replay`.
-fn replay_of(alloc: Global, matches: &ArgMatches) -> Result<Option<Request>, AllocError>
+fn replay_request(alloc: Global, matches: &ArgMatches) -> Result<Option<Request>, AllocError>
     ensures { IfOk result (λ r. IfSome r (IsRequestOf (subcommand_rows_of matches.now))) }
 {
     let Some(replay) = matches.subcommand_matches("replay") else {

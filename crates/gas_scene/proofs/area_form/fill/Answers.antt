@@ -1,7 +1,7 @@
 use Rattle.std.proofs.Common.{◌≡◌, ◌+◌, subst, ◌∙◌}
-use Rattle.gas_scene.specs.Area.{filled_before}
 use Rattle.gas_scene.proofs.Filled.{filled_before-rate_0}
 use Rattle.gas_scene.proofs.area_form.fill.Goals as goal
+use Rattle.gas_scene.specs.Building.{filled_before}
 
 pub loop-y-preserved : goal.loop-y-preserved
 loop-y-preserved g c =

@@ -1,6 +1,6 @@
 use Rattle.std.proofs.Common.{◌≡◌, ℕ, Bool}
-use Rattle.gas_scene.specs.Area.{filled_before}
 use Rattle.gas_scene.proofs.area_form.fill.Given as goal
+use Rattle.gas_scene.specs.Building.{filled_before}
 
 abbrev pub invariant-loop-y : goal.invariant-loop-y
 invariant-loop-y g l = record {

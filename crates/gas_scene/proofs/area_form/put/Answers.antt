@@ -1,7 +1,7 @@
 use Rattle.std.proofs.Common.{◌≡◌, ℕ, Bool, pos, ap, sym, ◌∙◌, arith, rules, if◌then◌else◌, FitsSigned, w64, to_z, of_z, nat_abs}
 use Rattle.std.proofs.lemmas.Int.{ints}
 use Rattle.gas_geom.specs.Lattice.{LatticeModel, with_cell}
-use Rattle.gas_scene.specs.Area.{natural, is_at}
+use Rattle.gas_scene.specs.Area.{is_at}
 use Rattle.gas_scene.proofs.Grids.{lattice_of-state}
 use Rattle.gas_scene.proofs.Placing.{natural-pos, is_at-here, is_at-other}
 use Rattle.gas_scene.proofs.area_form.put.Goals as goal
@@ -18,11 +18,11 @@ returns-clause-cells g c = λ w h solid at e.
     let ex : p.x ≡ pos x = omega (arith, ints) in
     let ey : p.y ≡ pos y = omega (arith, ints) in
     let es : pos state ≡ p.state = omega (arith, ints) in
-    let after : ℕ → ℕ → ℕ = λ u v. if is_at p u v then natural p.state else at u v in
-    let here : after x y ≡ natural p.state = ap (λ (b : Bool). if b then natural p.state else at x y) (is_at-here p x y ex ey) in
+    let after : ℕ → ℕ → ℕ = λ u v. if is_at p u v then nat_abs p.state else at u v in
+    let here : after x y ≡ nat_abs p.state = ap (λ (b : Bool). if b then nat_abs p.state else at x y) (is_at-here p x y ex ey) in
     c.set_cell.ensures
     ∙ ap (λ n. record c.args.lattice.now { rows = with_cell c.args.lattice.now.rows x y n }) (natural-pos _ _ es ∙ sym here)
     ∙ ap (λ (l : LatticeModel). record l { rows = with_cell l.rows x y (after x y) }) e
     ∙ lattice_of-state w h solid at after x y
     (omega (arith, ints, c.requires.can.right, ap (λ (l : LatticeModel). l.channel.width) e)) (omega (arith, ints, c.requires.can.bottom, ap (λ (l : LatticeModel). l.channel.height) e))
-    (λ u k other. sym (ap (λ (b : Bool). if b then natural p.state else at u k) (is_at-other p x y u k ex ey other)))
+    (λ u k other. sym (ap (λ (b : Bool). if b then nat_abs p.state else at u k) (is_at-other p x y u k ex ey other)))

@@ -4,10 +4,11 @@ use Rattle.toml.specs.View.{view}
 use Rattle.gas_scene.specs.declared.fields.Placement.{Placement}
 use Rattle.gas_scene.specs.Fields.{placement_of}
 use Rattle.gas_scene.specs.Grid.{lattice_of}
-use Rattle.gas_scene.specs.Area.{natural, is_at, placed}
+use Rattle.gas_scene.specs.Area.{is_at, placed}
 use Rattle.gas_scene.proofs.Grids.{lattice_of-same}
 use Rattle.gas_scene.proofs.Placing.{placed-more}
 use Rattle.gas_scene.proofs.area_form.put_all.Goals as goal
+use Rattle.std.specs.Prelude.{nat_abs}
 
 pub loop-value-preserved : goal.loop-value-preserved
 loop-value-preserved g c =
@@ -18,9 +19,9 @@ loop-value-preserved g c =
       cells = λ w h solid at e.
           let before : ℕ → ℕ → ℕ = λ u v. placed (map placement_of (map view (take k vs))) u v (at u v) in
           c.put.ensures.cells w h solid before (c.loop-value.invariant.cells w h solid at e)
-          ∙ lattice_of-same w h solid solid (λ u v. if is_at c.read.result u v then natural c.read.result.state else before u v)
+          ∙ lattice_of-same w h solid solid (λ u v. if is_at c.read.result u v then nat_abs c.read.result.state else before u v)
           (λ u v. placed (map placement_of (map view (take (k + 1) vs))) u v (at u v)) (λ u v _ _. refl)
-          (λ u v _ _. ap (λ (p : Placement). if is_at p u v then natural p.state else before u v) c.read.ensures
+          (λ u v _ _. ap (λ (p : Placement). if is_at p u v then nat_abs p.state else before u v) c.read.ensures
           ∙ placed-more vs k c.value-item.result u v (at u v) c.loop-value-test.true c.value-item.is);
     }
 

@@ -3,7 +3,7 @@ use Rattle.std.specs.Prelude.{Err}
 use Rattle.std.proofs.lemmas.Result.{err_from_is_err_and}
 use Rattle.toml.specs.View.{table_view}
 use Rattle.gas_scene.specs.Refusals.{refusal_of}
-use Rattle.gas_scene.proofs.Verdicts.{verdict-next, verdict-stop, few_rows, short_rows}
+use Rattle.gas_scene.proofs.Verdicts.{verdict-next, verdict-stop, verdict-last, few_rows, short_rows}
 use Rattle.gas_scene.proofs.checks.check.Goals as goal
 
 pub returns-in_err-check_keys : goal.returns-in_err-check_keys
@@ -66,4 +66,4 @@ returns c =
     verdict-next _ _ _ (sym c.check_types.ensures ∙ c.in_ok-check_types.was) (
     verdict-next _ _ _ (sym c.check_ranges.ensures ∙ c.in_ok-check_ranges.was) (
     verdict-next _ _ _ (sym c.check_row_lengths.ensures ∙ c.in_ok-check_row_lengths.was) (
-    c.check_cells.ensures))))))
+    verdict-last _ _ c.check_cells.ensures))))))

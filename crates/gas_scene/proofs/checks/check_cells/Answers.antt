@@ -6,9 +6,10 @@ use Rattle.gas_scene.specs.declared.error.SceneError.TheVariants.{BadCell}
 use Rattle.gas_scene.specs.First.{first_below}
 use Rattle.gas_scene.specs.Fields.{text_of, rows_at}
 use Rattle.gas_scene.specs.Cells.{bad_column}
-use Rattle.gas_scene.specs.Refusals.{verdict, bad_cell_in, bad_cell}
+use Rattle.gas_scene.specs.Refusals.{bad_cell_in, bad_cell}
 use Rattle.gas_scene.proofs.First.{first_below-found}
 use Rattle.gas_scene.proofs.checks.check_cells.Goals as goal
+use Rattle.gas_scene.specs.Checking.{verdict}
 
 pub returns-in-Some : goal.returns-in-Some
 unfolding bad_cell

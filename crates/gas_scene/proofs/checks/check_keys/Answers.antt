@@ -1,9 +1,10 @@
 use Rattle.std.proofs.Common.{◌∙◌, ap, not}
 use Rattle.gas_scene.specs.declared.error.SceneError.TheVariants.{UnknownKey}
 use Rattle.gas_scene.specs.Kind.{is_known}
-use Rattle.gas_scene.specs.Refusals.{unknown_key, refused_if, verdict}
+use Rattle.gas_scene.specs.Refusals.{unknown_key, refused_if}
 use Rattle.gas_scene.proofs.Values.{list_all-keys}
 use Rattle.gas_scene.proofs.checks.check_keys.Goals as goal
+use Rattle.gas_scene.specs.Checking.{verdict}
 
 pub returns : goal.returns
 unfolding unknown_key

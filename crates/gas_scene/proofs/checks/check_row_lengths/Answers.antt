@@ -4,9 +4,10 @@ use Rattle.toml.specs.View.{view}
 use Rattle.gas_scene.specs.declared.error.SceneError.TheVariants.{RowLength}
 use Rattle.gas_scene.specs.First.{first_below}
 use Rattle.gas_scene.specs.Fields.{text_of}
-use Rattle.gas_scene.specs.Refusals.{verdict, refused_if, is_misfit, row_length}
+use Rattle.gas_scene.specs.Refusals.{refused_if, is_misfit, row_length}
 use Rattle.gas_scene.proofs.First.{first_below-found}
 use Rattle.gas_scene.proofs.checks.check_row_lengths.Goals as goal
+use Rattle.gas_scene.specs.Checking.{verdict}
 
 pub returns-then-is_misfit : goal.returns-then-is_misfit
 unfolding row_length

@@ -5,9 +5,10 @@ use Rattle.gas_geom.specs.Size.{SizeModel}
 use Rattle.gas_geom.specs.Channel.{free_channel}
 use Rattle.gas_geom.specs.Lattice.{empty_lattice}
 use Rattle.gas_scene.specs.Fields.{text_of}
-use Rattle.gas_scene.specs.Map.{map_width, map_before, map_lattice}
+use Rattle.gas_scene.specs.Map.{map_width, map_lattice}
 use Rattle.gas_scene.proofs.Maps.{map_before-none, map_before-all}
 use Rattle.gas_scene.proofs.map_form.map_lattice.Goals as goal
+use Rattle.gas_scene.specs.Building.{map_before}
 
 pub loop-y-init : goal.loop-y-init
 loop-y-init g c =

@@ -2,7 +2,7 @@ use Rattle.std.proofs.Common.{ℕ, List, ◌∙◌, sym, subst}
 use Rattle.gas_geom.specs.Channel.{ChannelModel}
 use Rattle.gas_geom.specs.Lattice.{IsLattice}
 use Rattle.gas_rows.specs.Chirality.{chirality_bit}
-use Rattle.gas_stage.proofs.Lattices.{IsLattice-generation}
+use Rattle.gas_geom.proofs.Runs.{IsLattice-generation}
 use Rattle.gas_stage.proofs.advance.lattice_after.Goals as goal
 
 pub from_rows-requires : goal.from_rows-requires

@@ -3,8 +3,8 @@ use Rattle.std.proofs.lemmas.List.FromFn.{map-range_with_len_more}
 use Rattle.gas_geom.specs.Channel.{ChannelModel}
 use Rattle.gas_geom.specs.Lattice.{IsLattice, row_of, rows_of, streamed}
 use Rattle.gas_rows.specs.Chirality.{chirality_bit}
-use Rattle.gas_tests.specs.Plain.{collided_cells}
-use Rattle.gas_stage.proofs.Lattices.{IsLattice-next}
+use Rattle.gas_tests.specs.Inside.{collided_cells}
+use Rattle.gas_geom.proofs.Runs.{IsLattice-next}
 use Rattle.gas_tests.proofs.plain.next_lattice.Goals as goal
 
 pub loop-y-preserved : goal.loop-y-preserved

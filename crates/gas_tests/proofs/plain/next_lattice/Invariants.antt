@@ -1,6 +1,6 @@
 use Rattle.std.proofs.Common.{◌≡◌}
 use Rattle.gas_geom.specs.Lattice.{rows_of, streamed}
-use Rattle.gas_tests.specs.Plain.{collided_cells}
+use Rattle.gas_tests.specs.Inside.{collided_cells}
 use Rattle.gas_tests.proofs.plain.next_lattice.Given as goal
 
 -- the rows before y are made

@@ -1,6 +1,6 @@
 use Rattle.std.proofs.Common.{◌≡◌, ℕ, ◌<◌, length, get_or}
 use Rattle.gas_geom.specs.Lattice.{streamed}
-use Rattle.gas_tests.specs.Plain.{collided_cells}
+use Rattle.gas_tests.specs.Inside.{collided_cells}
 use Rattle.gas_tests.proofs.plain.next_row.Given as goal
 
 -- the cells before x are made

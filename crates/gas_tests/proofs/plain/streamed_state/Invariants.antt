@@ -1,6 +1,6 @@
 use Rattle.std.proofs.Common.{◌≡◌, ◌<◌, ◌^◌}
 use Rattle.gas_geom.specs.Lattice.{arriving, set_of}
-use Rattle.gas_tests.specs.Plain.{collided_cells}
+use Rattle.gas_tests.specs.Inside.{collided_cells}
 use Rattle.gas_tests.proofs.plain.streamed_state.Given as goal
 
 -- the set has the directions before i

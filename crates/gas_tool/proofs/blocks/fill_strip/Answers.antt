@@ -2,7 +2,7 @@ use Rattle.std.proofs.Common.{◌≡◌, ◌∙◌, ◌<◌, ◌≤◌, ◌+◌,
 use Rattle.std.specs.Int.{div_ceil}
 use Rattle.std.specs.List.{range_with_len}
 use Rattle.gas_geom.specs.Channel.{ChannelModel}
-use Rattle.gas_tool.specs.Tally.{with_row}
+use Rattle.gas_tool.specs.Tally.{plus_row}
 use Rattle.gas_tool.proofs.Tallies.{block_from, strip-begins, strip-room, strip-more, strip-whole}
 use Rattle.gas_tool.proofs.blocks.fill_strip.Goals as goal
 
@@ -22,7 +22,7 @@ loop-y-preserved g c =
     let from : ℕ = c.args.row * c.args.height in
     let mask : c.mask.result.now ≡ slice_index_or lattice.channel.solid c.loop-y.y [] =
     c.mask.ensures.row ∙ ap (λ (a : ChannelModel). slice_index_or a.solid c.loop-y.y []) c.channel-in-loop-y.ensures.channel in
-    let added = c.add_row.ensures ∙ ap₂ (λ (m : List Bool) (r : List ℕ). map (with_row g.G.Gas.rules c.args.width m r) c.loop-y.strip) mask c.row.ensures.row in
+    let added = c.add_row.ensures ∙ ap₂ (λ (m : List Bool) (r : List ℕ). map (plus_row g.G.Gas.rules c.args.width m r) c.loop-y.strip) mask c.row.ensures.row in
     let one : c.loop-y.y - from + 1 ≡ c.loop-y.y + 1 - from = omega arith in
     let wide = sym (ap (λ (r : List ℕ). length r) c.row.ensures.row) ∙ c.row.ensures.wide in
     let all = strip-more g.G.Gas.rules lattice c.args.width c.args.row from (c.loop-y.y - from) c.loop-y.y _ c.loop-y.strip c.add_row.new.strip (omega arith) wide c.loop-y.invariant added in

@@ -1,4 +1,4 @@
-use Rattle.gas_tool.specs.Output.{Adds}
+use Rattle.gas_tool.specs.Sink.{Adds}
 use Rattle.gas_tool.specs.Text.{texts_below}
 use Rattle.gas_tool.specs.Replayed.{line_of_belt}
 use Rattle.gas_tool.proofs.replayed.put_belts.Given as goal

@@ -1,7 +1,7 @@
 use Rattle.std.proofs.Common.{◌≡◌, ◌∙◌, ap, subst, rules, to_z, of_z, w32, FitsSigned}
 use Rattle.std.specs.Fmt.{decimal, styled_decimal, styled_signed_decimal}
 use Rattle.std.proofs.lemmas.Int.{to_z-of_z}
-use Rattle.gas_tool.specs.Output.{Adds}
+use Rattle.gas_tool.specs.Sink.{Adds}
 use Rattle.gas_tool.proofs.Lines.{padded-right, signed-right, table_made}
 use Rattle.gas_tool.proofs.table.put_block.Goals as goal
 

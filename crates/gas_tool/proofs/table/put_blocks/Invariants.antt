@@ -1,6 +1,6 @@
 use Rattle.std.proofs.Common.{take}
 use Rattle.std.specs.List.{flat_map}
-use Rattle.gas_tool.specs.Output.{Adds}
+use Rattle.gas_tool.specs.Sink.{Adds}
 use Rattle.gas_tool.specs.Table.{block_line}
 use Rattle.gas_tool.proofs.table.put_blocks.Given as goal
 

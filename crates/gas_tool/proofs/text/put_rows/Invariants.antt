@@ -1,4 +1,4 @@
-use Rattle.gas_tool.specs.Output.{Adds}
+use Rattle.gas_tool.specs.Sink.{Adds}
 use Rattle.gas_tool.specs.Text.{row_text, texts_below}
 use Rattle.gas_tool.proofs.text.put_rows.Given as goal
 

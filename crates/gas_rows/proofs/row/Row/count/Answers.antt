@@ -1,21 +1,30 @@
-use Rattle.std.proofs.Common.{◌≡◌, ◌<◌, ◌^◌, ◌+◌, get_or, take, ap, ◌∙◌, sym, subst, arith}
-use Rattle.std.specs.Prelude.{sum_by, count_ones}
-use Rattle.std.proofs.lemmas.List.Sums.{sum_by_more}
-use Rattle.gas_geom.specs.Gas.{particles}
-use Rattle.gas_rows.proofs.Particles.{ones-particles, held-le}
+use Rattle.std.proofs.Common.{◌≡◌, suc, ◌+◌, ◌^◌, ◌<◌, length, get_or, refl, ap, subst, ◌∙◌, arith}
+use Rattle.std.specs.Prelude.{count_ones}
+use Rattle.gas_geom.specs.Gas.{sum_below}
+use Rattle.gas_rows.proofs.Counting.{particles-ones, ones-le_64}
 use Rattle.gas_rows.proofs.row.Row.count.Goals as goal
 
-pub loop-state-preserved : goal.loop-state-preserved
-loop-state-preserved g c =
-    let items = c.deref-state-items.result.now in
-    let i = c.loop-state.state-index in
-    let set : get_or items i 0 < 2 ^ g.G.Gas.rules.dirs =
-    subst (λ xs. get_or xs i 0 < 2 ^ g.G.Gas.rules.dirs) (sym c.deref-state-items.ensures.value) (c.self.invariant.sets i) in
-    let ones : count_ones (get_or items i 0) ≡ particles g.G.Gas.rules (get_or items i 0) =
-    ones-particles g.G.Gas.rules.dirs (get_or items i 0) g.met.G.Gas.laws.few_dirs set in
+pub loop-word-init : goal.loop-word-init
+loop-word-init g c = record { so_far = refl; fits = λ k. (c.type_inv.word-items k).fits; bounded = omega arith }
+
+pub loop-word-preserved : goal.loop-word-preserved
+loop-word-preserved g c =
+    let items = c.deref-word-items.result.now in
+    let i = c.loop-word.word-index in
     record {
-      so_far = ap (λ t. t + count_ones (get_or items i 0)) c.loop-state.invariant.so_far
-          ∙ ap (λ p. sum_by (particles g.G.Gas.rules) (take i items) + p) ones
-          ∙ sym (sum_by_more (particles g.G.Gas.rules) items i 0 (omega arith));
-      bounded = omega (arith, ones, held-le g.G.Gas.rules.dirs (get_or items i 0), g.met.G.Gas.laws.few_dirs);
+      so_far = ap (λ t. t + count_ones (get_or items i 0)) c.loop-word.invariant.so_far
+          ∙ ap (λ k. sum_below k (λ k. count_ones (get_or items k 0))) (let e : suc i ≡ i + 1 = omega arith in e);
+      fits = c.loop-word.invariant.fits;
+      bounded = omega (arith, ones-le_64 (get_or items i 0) (c.loop-word.invariant.fits i));
     }
+
+pub returns : goal.returns
+returns g c =
+    let items = c.deref-word-items.result.now in
+    let words = c.self.inside.words.items in
+    let all : c.loop-word.word-index ≡ length words = omega (arith, ap length c.deref-word-items.ensures.value) in
+    c.loop-word.invariant.so_far
+    ∙ ap (λ k. sum_below k (λ k. count_ones (get_or items k 0))) all
+    ∙ ap (λ ws. sum_below (length words) (λ k. count_ones (get_or ws k 0))) c.deref-word-items.ensures.value
+    ∙ particles-ones g.G.Gas.rules.dirs c.self.inside.width words c.args.self.now c.self.invariant c.self.view_is
+    (λ k. subst (λ ws. get_or ws k 0 < 2 ^ 64) c.deref-word-items.ensures.value (c.loop-word.invariant.fits k))

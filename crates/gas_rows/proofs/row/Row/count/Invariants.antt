@@ -1,10 +1,11 @@
-use Rattle.std.proofs.Common.{◌≡◌, ◌≤◌, ◌*◌, take}
-use Rattle.std.specs.Prelude.{sum_by}
-use Rattle.gas_geom.specs.Gas.{particles}
+use Rattle.std.proofs.Common.{◌≡◌, ◌≤◌, ◌*◌, ◌<◌, ◌^◌, ℕ, get_or}
+use Rattle.std.specs.Prelude.{count_ones}
+use Rattle.gas_geom.specs.Gas.{sum_below}
 use Rattle.gas_rows.proofs.row.Row.count.Given as goal
 
-abbrev pub invariant-loop-state : goal.invariant-loop-state
-invariant-loop-state g l = record {
-  so_far : l.total ≡ sum_by (particles g.G.Gas.rules) (take l.state-index l.state-items);
-  bounded : l.total ≤ 8 * l.state-index;
+abbrev pub invariant-loop-word : goal.invariant-loop-word
+invariant-loop-word g l = record {
+  so_far : l.total ≡ sum_below l.word-index (λ k. count_ones (get_or l.word-items k 0));
+  fits : (k : ℕ) → get_or l.word-items k 0 < 2 ^ 64;
+  bounded : l.total ≤ 64 * l.word-index;
 }

@@ -1,13 +1,14 @@
 use Rattle.std.proofs.Common.{◌-◌, ◌<◌, ℕ, List, ap, ◌∙◌, sym, subst}
 use Rattle.gas_stage.specs.Streaming.{AreRowsAbout}
-use Rattle.gas_stage.specs.Stage.{StageModel, pass_of}
+use Rattle.gas_stage.specs.Inside.{open_pass}
+use Rattle.gas_stage.specs.Stage.{StageModel}
 use Rattle.gas_stage.proofs.Feeding.{feed-fits, feed-gives, there, there-unwrap, nothing_there}
 use Rattle.gas_stage.proofs.stage.Stage.feed.Goals as goal
 
 pub returns-in_default-take-clause-fits : goal.returns-in_default-take-clause-fits
 returns-in_default-take-clause-fits g c = λ p q fits.
     feed-fits g.G.Gas.rules _ c.args.self.now c.self.view_is c.in-Computing.generation c.width.result c.args.row c.collide_row.new.row
-    c.mask.result.now c.chi_row.new.out (ap pass_of c.in-Computing.is) c.collide_row.ensures.collided c.mask.ensures.row
+    c.mask.result.now c.chi_row.new.out (ap open_pass c.in-Computing.is) c.collide_row.ensures.collided c.mask.ensures.row
     c.width.ensures.value c.chi_row.ensures.bits c.requires.wide p q c.self.inside.before_last fits
     (λ some. absurd (nothing_there c.self.inside.last c.in_default-take.ensures.value
     (c.self.invariant.computing c.in-Computing.generation c.in-Computing.is some)))
@@ -15,7 +16,7 @@ returns-in_default-take-clause-fits g c = λ p q fits.
 pub returns-clause-fits : goal.returns-clause-fits
 returns-clause-fits g c = λ p q fits.
     feed-fits g.G.Gas.rules _ c.args.self.now c.self.view_is c.in-Computing.generation c.width.result c.args.row c.collide_row.new.row
-    c.mask.result.now c.chi_row.new.out (ap pass_of c.in-Computing.is) c.collide_row.ensures.collided c.mask.ensures.row
+    c.mask.result.now c.chi_row.new.out (ap open_pass c.in-Computing.is) c.collide_row.ensures.collided c.mask.ensures.row
     c.width.ensures.value c.chi_row.ensures.bits c.requires.wide p q c.replace-oldest.new.dest fits
     (λ some. c.replace-oldest.ensures.after ∙ there-unwrap c.self.inside.last c.in-Some.last c.in-Some.ensures.value)
 
@@ -24,7 +25,7 @@ returns-clause-gives g c = λ p q fits.
     let some = c.in-Some.ensures.value in
     let held = there-unwrap c.self.inside.last c.in-Some.last some in
     feed-gives g.G.Gas.rules _ c.args.self.now c.self.view_is c.in-Computing.generation c.width.result c.args.row c.collide_row.new.row
-    c.mask.result.now c.chi_row.new.out (ap pass_of c.in-Computing.is) c.collide_row.ensures.collided c.mask.ensures.row
+    c.mask.result.now c.chi_row.new.out (ap open_pass c.in-Computing.is) c.collide_row.ensures.collided c.mask.ensures.row
     c.width.ensures.value c.chi_row.ensures.bits c.requires.wide p q c.replace.result fits
     (c.self.invariant.last_fed (there c.self.inside.last c.in-Some.last some))
     (subst (λ (v : StageModel). v.fed < v.channel.height) (sym c.self.view_is) c.requires.room)

@@ -1,0 +1,28 @@
+-- What comes to a cell in a direction, case by case. From a fluid neighbour it is the neighbour's particle; where the
+-- neighbour is solid or the wall, it is the cell's own particle, sent back.
+use Rattle.std.proofs.Common.{◌≡◌, ℕ, Bool, true, false, if◌then◌else◌, Option, Some, None, ap, ◌∙◌}
+use Rattle.gas_geom.specs.Gas.{Rules, holds}
+use Rattle.gas_geom.specs.Neighbour.{neighbour_of}
+use Rattle.gas_geom.specs.Channel.{ChannelModel, is_solid}
+use Rattle.gas_geom.specs.Lattice.{arrives_from, arriving}
+
+-- the neighbour that a particle going in direction i comes from
+abbrev pub behind : Rules → ChannelModel → ℕ → ℕ → ℕ → Option (ℕ × ℕ)
+behind gas c x y i = neighbour_of gas c.width c.height x y (gas.opposite i)
+
+module _ (gas : Rules) (c : ChannelModel) (at : ℕ → ℕ → ℕ) (x y i : ℕ) where
+  -- the cell's own particle, which goes towards that neighbour
+  abbrev pub sent_back : Bool
+  sent_back = holds (at x y) (gas.opposite i)
+
+  abbrev by_solid : ℕ → ℕ → Bool → Bool
+  by_solid u v solid = if solid then sent_back else holds (at u v) i
+
+  pub arriving-wall : behind gas c x y i ≡ None → arriving gas c at x y i ≡ sent_back
+  arriving-wall there = ap (arrives_from gas c at x y i) there
+
+  pub arriving-solid : (u v : ℕ) → behind gas c x y i ≡ Some (u, v) → is_solid c u v ≡ true → arriving gas c at x y i ≡ sent_back
+  arriving-solid u v there solid = ap (arrives_from gas c at x y i) there ∙ ap (by_solid u v) solid
+
+  pub arriving-fluid : (u v : ℕ) → behind gas c x y i ≡ Some (u, v) → is_solid c u v ≡ false → arriving gas c at x y i ≡ holds (at u v) i
+  arriving-fluid u v there fluid = ap (arrives_from gas c at x y i) there ∙ ap (by_solid u v) fluid

@@ -1,0 +1,89 @@
+-- The number law. The particles of a lattice are a sum over its places: a column, a row and a direction each. A collision
+-- keeps those of each cell. Streaming only moves them: what a place holds afterwards stood at another place before, and the
+-- map between the places is two involutions, neither of which changes the sum.
+use Rattle.std.proofs.Common.{◌≡◌, ℕ, zero, suc, ◌+◌, ◌<◌, ◌^◌, Bool, true, false, if◌then◌else◌, List, [], map, get_or, ap, ◌∙◌, sym, refl, add-one, zero-add}
+use Rattle.std.specs.Prelude.{sum_by}
+use Rattle.std.specs.List.{range_with_len}
+use Rattle.std.proofs.lemmas.List.FromFn.{sum_by-map-range_with_len_more, fill_by_all}
+use Rattle.gas_geom.specs.Gas.{Rules, IsGas, sum_below, particles}
+use Rattle.gas_geom.specs.Channel.{ChannelModel, is_solid}
+use Rattle.gas_geom.specs.Lattice.{cell, row_of, rows_of, IsLattice, collided, streamed, next, count}
+use Rattle.gas_geom.proofs.Sums.{sum_below-cong}
+use Rattle.gas_geom.proofs.Places.{Place, Within, total, same, total-cong, IsSum-total}
+use Rattle.gas_geom.proofs.Involution.{sum-involution}
+use Rattle.gas_geom.proofs.Links.{held}
+use Rattle.gas_geom.proofs.Links as links
+
+-- a sum over a list that is made by index
+pub sum_by-row : {X : Type 0} (g : X → ℕ) (f : ℕ → X) (n : ℕ) → sum_by g (map f (range_with_len 0 n)) ≡ sum_below n (λ k. g (f k))
+sum_by-row g f zero = refl
+sum_by-row g f (suc n) =
+    ap (λ m. sum_by g (map f (range_with_len 0 m))) (sym (add-one n))
+    ∙ sum_by-map-range_with_len_more g f 0 n n (zero-add n)
+    ∙ ap (λ s. s + g (f n)) (sum_by-row g f n)
+
+-- the particles of rows that are made cell by cell
+count-rows_of : (gas : Rules) (w h : ℕ) (at : ℕ → ℕ → ℕ) →
+    count gas (rows_of w h at) ≡ total w h gas.dirs (held at)
+count-rows_of gas w h at =
+    sum_by-row (λ row. sum_by (particles gas) row) (λ y. row_of w (λ x. at x y)) h
+    ∙ sum_below-cong h (λ y. sum_by (particles gas) (row_of w (λ x. at x y))) (λ y. sum_below w (λ x. particles gas (at x y)))
+    (λ y _. sum_by-row (particles gas) (λ x. at x y) w)
+
+-- a lattice's rows are made of its cells
+pub rows_of-cell : (gas : Rules) (c : ChannelModel) (rows : List (List ℕ)) → IsLattice gas c rows → rows ≡ rows_of c.width c.height (cell rows)
+rows_of-cell gas c rows lattice =
+    fill_by_all (λ y. row_of c.width (λ x. cell rows x y)) rows c.height [] lattice.high
+    (λ y h. fill_by_all (λ x. cell rows x y) (get_or rows y []) c.width 0 (lattice.wide y h) (λ x _. refl))
+
+-- a collision keeps the particles of each cell
+particles-collided : (gas : Rules) → IsGas gas → (c : ChannelModel) (chi : ℕ → ℕ → Bool) (at : ℕ → ℕ → ℕ) →
+    ((x y : ℕ) → at x y < 2 ^ gas.dirs) → ((x y : ℕ) → is_solid c x y ≡ true → at x y ≡ 0) → (x y : ℕ) →
+    particles gas (collided gas c chi at x y) ≡ particles gas (at x y)
+particles-collided gas laws c chi at sets empty x y = by (is_solid c x y) refl
+  where
+    by : (b : Bool) → is_solid c x y ≡ b → particles gas (if b then 0 else gas.collide (at x y) (chi x y)) ≡ particles gas (at x y)
+    by true e = ap (particles gas) (sym (empty x y e))
+    by false e = laws.collide_keeps (at x y) (chi x y) (sets x y)
+
+collided-empty : (gas : Rules) (c : ChannelModel) (chi : ℕ → ℕ → Bool) (at : ℕ → ℕ → ℕ) (x y : ℕ) →
+    is_solid c x y ≡ true → collided gas c chi at x y ≡ 0
+collided-empty gas c chi at x y e = ap (λ (b : Bool). if b then 0 else gas.collide (at x y) (chi x y)) e
+
+-- streaming keeps the particles of the whole lattice
+total-streamed : (gas : Rules) → IsGas gas → (c : ChannelModel) (at : ℕ → ℕ → ℕ) →
+    ((x y : ℕ) → is_solid c x y ≡ true → at x y ≡ 0) →
+    total c.width c.height gas.dirs (held (streamed gas c at)) ≡ total c.width c.height gas.dirs (held at)
+total-streamed gas laws c at empty =
+    total-cong w h d (held (streamed gas c at)) (λ p. held at (opposed (other_end p))) (links.held-streamed gas laws c at empty)
+    ∙ sum-involution (Within w h d) (same w h d) (total w h d) (IsSum-total w h d)
+    other_end (links.other_end-within gas laws c) (links.other_end-twice gas laws c) (λ p. held at (opposed p))
+    ∙ sum-involution (Within w h d) (same w h d) (total w h d) (IsSum-total w h d)
+    opposed (links.opposed-within gas laws c) (links.opposed-twice gas laws c) (held at)
+  where
+    other_end : Place → Place
+    other_end = links.other_end gas laws c
+
+    opposed : Place → Place
+    opposed = links.opposed gas laws c
+
+    w : ℕ
+    w = c.width
+
+    h : ℕ
+    h = c.height
+
+    d : ℕ
+    d = gas.dirs
+
+-- the next lattice has as many particles
+pub count-next : (gas : Rules) → IsGas gas → (c : ChannelModel) (chi : ℕ → ℕ → Bool) (rows : List (List ℕ)) → IsLattice gas c rows →
+    count gas (next gas c chi rows) ≡ count gas rows
+count-next gas laws c chi rows lattice =
+    count-rows_of gas c.width c.height (streamed gas c (collided gas c chi (cell rows)))
+    ∙ total-streamed gas laws c (collided gas c chi (cell rows)) (collided-empty gas c chi (cell rows))
+    ∙ sum_below-cong c.height (λ y. sum_below c.width (λ x. particles gas (collided gas c chi (cell rows) x y))) (λ y. sum_below c.width (λ x. particles gas (cell rows x y)))
+    (λ y _. sum_below-cong c.width (λ x. particles gas (collided gas c chi (cell rows) x y)) (λ x. particles gas (cell rows x y))
+    (λ x _. particles-collided gas laws c chi (cell rows) lattice.sets lattice.empty x y))
+    ∙ sym (count-rows_of gas c.width c.height (cell rows))
+    ∙ ap (count gas) (sym (rows_of-cell gas c rows lattice))

@@ -1,0 +1,25 @@
+use Rattle.std.proofs.Common.{List, [], ◌∷◌, arith, refl, rules}
+use Rattle.gas_geom.specs.Hpp.{hpp}
+use Rattle.gas_geom.proofs.Planes.{Formula, Plane, Zero, And, Or, Xor, Not, collided}
+use Rattle.gas_geom.proofs.hpp.HppGas.collide64.Goals as goal
+
+abbrev e : Formula
+e = Plane 0
+
+abbrev n : Formula
+n = Plane 1
+
+abbrev w : Formula
+w = Plane 2
+
+abbrev s : Formula
+s = Plane 3
+
+abbrev turns : Formula
+turns = And (Xor e n) (Not (Or (Xor e w) (Xor n s)))
+
+abbrev after : List Formula
+after = Xor e turns ∷ Xor n turns ∷ Xor w turns ∷ Xor s turns ∷ Zero ∷ Zero ∷ Zero ∷ Zero ∷ []
+
+pub returns-clause-cells : goal.returns-clause-cells
+returns-clause-cells c = collided hpp after refl c.args.planes c.args._chi (search rules) (omega arith) c.requires

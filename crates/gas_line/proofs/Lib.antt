@@ -1,0 +1,10 @@
+pub mod Prefixes
+pub mod Turns
+pub mod Kept
+pub mod Progress
+pub mod Totals
+pub mod Rounds
+pub mod Opens
+pub mod Generations
+pub mod Wide
+pub mod Boundaries

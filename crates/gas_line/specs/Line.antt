@@ -1,0 +1,101 @@
+-- A line of workers and one feeder, as the histories of its belts alone. The feeder is member 0 and puts rows on belt 0; worker
+-- k takes from belt k - 1 and puts on belt k; the feeder takes from the last belt.
+use Rattle.std.specs.Prelude.{◌≡◌, ℕ, zero, suc, ◌+◌, ◌≤◌, ◌<◌, Bool, ◌&&◌, ◌||◌, not, eqb, ltb, if◌then◌else◌, List, [], ◌∷◌, ◌++◌, length, take, drop}
+use mathlib.Core.List.{IsPrefix}
+use Rattle.gas_rows.specs.Row.{RowModel}
+
+-- The rows that the feeder holds, what worker k owes for the rows that it took, the number of workers, and how many rows a belt
+-- holds at most.
+pub record Line : Type 0 where
+  pub rows : List RowModel
+  pub owe : ℕ → List RowModel → List RowModel
+  pub workers : ℕ
+  pub capacity : ℕ
+
+-- the rows put on each belt so far, and those taken from it
+pub record State : Type 0 where
+  pub put : ℕ → List RowModel
+  pub taken : ℕ → List RowModel
+
+-- at the start all belts are unused
+abbrev pub start : State
+start = record { put = λ _. []; taken = λ _. [] }
+
+-- what is owed on belt k: all the feeder's rows, or what worker k owes for the rows that it took
+abbrev pub owed_on : Line → State → ℕ → List RowModel
+owed_on l s zero = l.rows
+owed_on l s (suc k) = l.owe (suc k) (s.taken k)
+
+-- the put on belt k is open where fewer rows were put than are owed, and the belt is not full
+unfoldable pub put_open : Line → State → ℕ → Bool
+put_open l s k = ltb (length (s.put k)) (length (owed_on l s k)) && ltb (length (s.put k)) (length (s.taken k) + l.capacity)
+
+-- the take from belt k is open where the belt holds a row, and the worker behind it, if it is not the last belt, has put all
+-- that it owes
+unfoldable pub take_open : Line → State → ℕ → Bool
+take_open l s k =
+    ltb (length (s.taken k)) (length (s.put k)) && (eqb k l.workers || eqb (length (s.put (suc k))) (length (owed_on l s (suc k))))
+
+-- the belt that member m takes from
+abbrev pub source : Line → ℕ → ℕ
+source l zero = l.workers
+source l (suc k) = k
+
+-- the histories f, where that of belt k got one more row: the one that comes next in `rows`
+unfoldable pub grown : (ℕ → List RowModel) → ℕ → List RowModel → ℕ → List RowModel
+grown f k rows j = if eqb j k then f k ++ take 1 (drop (length (f k)) rows) else f j
+
+-- a put on belt k is of the next row owed, a take from it of the next row put
+abbrev pub after_put : Line → State → ℕ → State
+after_put l s k = record { put = grown s.put k (owed_on l s k); taken = s.taken }
+
+abbrev pub after_take : State → ℕ → State
+after_take s k = record { put = s.put; taken = grown s.taken k (s.put k) }
+
+-- a turn of member m: its put where open, else its take where open, else nothing; a number above the workers' names nobody
+unfoldable pub turn : Line → State → ℕ → State
+turn l s m =
+    if ltb l.workers m then s
+    else (if put_open l s m then after_put l s m
+    else (if take_open l s (source l m) then after_take s (source l m) else s))
+
+-- whether that turn is an event, a put or a take
+unfoldable pub moves : Line → State → ℕ → Bool
+moves l s m = not (ltb l.workers m) && (put_open l s m || take_open l s (source l m))
+
+-- the histories after these turns
+abbrev pub after_turns : Line → List ℕ → State → State
+after_turns l [] s = s
+after_turns l (m ∷ ms) s = after_turns l ms (turn l s m)
+
+-- how many of these turns are events
+abbrev pub events : Line → List ℕ → State → ℕ
+events l [] s = 0
+events l (m ∷ ms) s = (if moves l s m then 1 else 0) + events l ms (turn l s m)
+
+-- the line is done where all rows were put on the first belt and taken from the last
+unfoldable pub is_done : Line → State → Bool
+is_done l s = eqb (length (s.put 0)) (length l.rows) && eqb (length (s.taken l.workers)) (length l.rows)
+
+-- the rows that belt k carries in the end: each worker's are what it owes for those of the belt before
+abbrev pub carried : Line → ℕ → List RowModel
+carried l zero = l.rows
+carried l (suc k) = l.owe (suc k) (carried l k)
+
+-- What makes it a line: what a worker owes only grows at its end as rows come, is all when all have come, and is never more
+-- than came; and a belt has room for a row.
+pub record IsLine (l : Line) : Type 0 where
+  pub grows : (k : ℕ) (xs ys : List RowModel) → length (xs ++ ys) ≤ length l.rows → IsPrefix (l.owe k xs) (l.owe k (xs ++ ys))
+  pub all : (k : ℕ) (xs : List RowModel) → length xs ≡ length l.rows → length (l.owe k xs) ≡ length l.rows
+  pub no_more : (k : ℕ) (xs : List RowModel) → length (l.owe k xs) ≤ length xs
+  pub room : 0 < l.capacity
+
+-- among these turns is one of every member
+abbrev pub HasEach : ℕ → List ℕ → Type 0
+HasEach workers turns = (m : ℕ) → m ≤ workers → (before : List ℕ) × ((after : List ℕ) × (before ++ m ∷ after ≡ turns))
+
+-- the turns can be cut into n rounds, each with a turn of every member
+abbrev pub HasRounds : ℕ → ℕ → List ℕ → Type 0
+HasRounds workers zero turns = Unit {0}
+HasRounds workers (suc n) turns =
+    (round : List ℕ) × ((rest : List ℕ) × ((round ++ rest ≡ turns) × (HasEach workers round × HasRounds workers n rest)))

@@ -1,0 +1,42 @@
+-- Inner words: what functions of this crate promise one another. No public contract cites them.
+-- What a worker's thread is given, and what it promises of its own two lists.
+use Rattle.std.specs.Prelude.{◌≡◌, ℕ, ◌++◌, [], List, Option, length}
+use Rattle.gas_geom.specs.Gas.{Rules}
+use Rattle.gas_belt.specs.Belt.{Sender, Receiver}
+use Rattle.gas_rows.specs.Row.{RowModel}
+use Rattle.gas_pipe.specs.Worker.{WorkerModel, IsClosed, owes}
+
+-- a worker's number, counted from 1, the generation that it computes the step from, or None where it passes rows on, and the
+-- ends that it takes from and puts on
+pub record JobModel : Type 0 where
+  pub who : ℕ
+  pub generation : Option ℕ
+  pub worker : WorkerModel
+  pub rx : Receiver
+  pub tx : Sender
+
+-- the ends of a worker whose pass is over
+pub record EndedModel : Type 0 where
+  pub rx : Receiver
+  pub spent : Sender
+
+-- its ends are unused, and no pass is open
+pub record IsReady (j : JobModel) : Type 0 where
+  pub nothing_taken : j.rx.taken ≡ []
+  pub nothing_put : j.tx.put ≡ []
+  pub closed : IsClosed j.worker
+
+-- In one whole pass e the worker took all rows of a lattice and put all that it owes for them: the lists taken and put went on
+-- from t and p to t2 and p2.
+pub record OnePass (gas : Rules) (w : WorkerModel) (e : Option ℕ) (t p t2 p2 : List RowModel) : Type 0 where
+  pub took : List RowModel
+  pub whole : length took ≡ w.stage.channel.height
+  pub came : t2 ≡ t ++ took
+  pub went : p2 ≡ p ++ owes gas w e took
+
+-- from the same two belts it took all rows of a lattice, and put all that it owes for them
+pub record Ran (gas : Rules) (j : JobModel) (e : EndedModel) : Type 0 where
+  pub rx : e.rx.belt ≡ j.rx.belt
+  pub tx : e.spent.belt ≡ j.tx.belt
+  pub whole : length e.rx.taken ≡ j.worker.stage.channel.height
+  pub owes_is : e.spent.put ≡ owes gas j.worker j.generation e.rx.taken

@@ -1,0 +1,49 @@
+//! What the caller's thread does while the workers run.
+ghost use Rattle.std.specs.Prelude.{◌≡◌, ℕ, List, IsTrue};
+ghost use Rattle.gas_geom.specs.Lattice.{IsLattice};
+ghost use Rattle.gas_rows.specs.Row.{RowModel};
+ghost use Rattle.gas_pipe.specs.Feeder.{HasFed};
+
+use crate::members::ends::Turned;
+use crate::members::feeder::Feeder;
+use crate::threads::pause::Pause;
+use gas_belt::rx::Rx;
+use gas_belt::tx::Tx;
+use gas_geom::gas::Gas;
+use std::sync::Wait;
+use std::sync::atomic::{AtomicBool, Ordering};
+
+/// Makes the feeder's turns, and says whether its pass is over. It is not where the flag is raised,
+/// or a row of another width came.
+pub(crate) fn feed_pass<G: Gas, R: Wait>(
+    rt: &R,
+    stop: &AtomicBool,
+    feeder: &mut Feeder<G>,
+    rx: &mut Rx<G>,
+    tx: &mut Tx<G>,
+) -> bool
+    ensures rx { rx.new.belt ≡ rx.old.belt }
+    ensures tx { tx.new.belt ≡ tx.old.belt }
+    ensures channel { feeder.new.channel ≡ feeder.old.channel }
+    ensures closed { IsTrue result → feeder.new.to_take ≡ 0 }
+    ensures whole { IsTrue result → IsLattice G.rules feeder.new.channel feeder.new.rows }
+    ensures fed { IsTrue result → (passes : ℕ) (rows : List RowModel) →
+        HasFed feeder.old passes rows tx.old.put rx.old.taken → HasFed feeder.new passes rows tx.new.put rx.new.taken }
+{
+    let mut pause = Pause::new();
+    for _ in rt.forever() {
+        match feeder.turn(tx, rx) {
+            Turned::Done => return true,
+            Turned::Idle => {
+                if stop.load(Ordering::SeqCst) {
+                    return false;
+                }
+                pause.wait();
+            }
+            Turned::Took => pause = Pause::new(),
+            Turned::Put => pause = Pause::new(),
+            Turned::Stray => return false,
+        }
+    }
+    unreachable!()
+}

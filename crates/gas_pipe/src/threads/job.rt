@@ -1,0 +1,80 @@
+//! A worker with its ends, for one pass.
+ghost use Rattle.std.specs.Prelude.{◌≡◌, IfSome};
+ghost use Rattle.gas_pipe.specs.Inner.Job.{JobModel, EndedModel, IsReady, Ran};
+
+use crate::members::worker::Worker;
+use crate::threads::gate::Gate;
+use crate::threads::work::Work;
+use crate::threads::worker_loop::make_pass;
+use gas_belt::rx::Rx;
+use gas_belt::tx::{Spent, Tx};
+use gas_geom::gas::Gas;
+use std::marker::Model;
+use std::sync::Wait;
+use std::sync::atomic::AtomicBool;
+
+/// The ends of a worker whose pass is over.
+#[derive(Drop)]
+pub struct Ended<G: Gas> {
+    pub rx: Rx<G>,
+    pub spent: Spent<G>,
+}
+
+impl<G: Gas> Model for Ended<G> {
+    ghost use Rattle.gas_pipe.specs.Inner.Job.{EndedModel};
+
+    ghost Value = { EndedModel };
+
+    ghost view = { λ e. record { rx = e.rx; spent = e.spent } };
+}
+
+/// A worker with the ends that it takes from and puts on, for one pass. Its number is counted from 1.
+#[derive(Drop)]
+pub struct Job<'a, G: Gas> {
+    pub who: u32,
+    pub generation: Option<u64>,
+    pub worker: Worker<'a, G>,
+    pub rx: Rx<G>,
+    pub tx: Tx<G>,
+}
+
+impl<'a, G: Gas> Model for Job<'a, G> {
+    ghost use Rattle.gas_pipe.specs.Inner.Job.{JobModel};
+
+    ghost Value = { JobModel };
+
+    ghost view = { λ j. record {
+      who = j.who;
+      generation = j.generation;
+      worker = j.worker;
+      rx = j.rx;
+      tx = j.tx;
+    } };
+}
+
+impl<'a, G: Gas> Work<Ended<G>> for Job<'a, G> {
+    ghost fresh = { λ j. IsReady j };
+
+    ghost kept = { λ j e. Ran G.rules j e };
+
+    fn do_work<H: Gate, R: Wait>(self, rt: &R, stop: &AtomicBool, gate: &H) -> Option<Ended<G>> {
+        let Job {
+            who,
+            generation,
+            mut worker,
+            mut rx,
+            mut tx,
+        } = self;
+        gate.enter(who);
+        let over = make_pass(rt, stop, generation, &mut worker, &mut rx, &mut tx);
+        gate.leave(who);
+        if over {
+            Some(Ended {
+                rx,
+                spent: tx.close(),
+            })
+        } else {
+            None
+        }
+    }
+}

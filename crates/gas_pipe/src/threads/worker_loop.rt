@@ -1,0 +1,54 @@
+//! What a worker's thread does.
+ghost use Rattle.std.specs.Prelude.{◌≡◌, IsTrue};
+ghost use Rattle.gas_pipe.specs.Worker.{IsClosed};
+ghost use Rattle.gas_pipe.specs.Inner.Job.{OnePass};
+
+use crate::members::ends::Turned;
+use crate::members::worker::Worker;
+use crate::threads::pause::Pause;
+use gas_belt::rx::Rx;
+use gas_belt::tx::Tx;
+use gas_geom::gas::Gas;
+use std::sync::Wait;
+use std::sync::atomic::{AtomicBool, Ordering};
+
+/// Makes one pass of a worker, and says whether it is over. It is not where the worker stopped
+/// early: because the flag is raised, or because a row of another width came, and then the worker
+/// raises the flag.
+pub(crate) fn make_pass<G: Gas, R: Wait>(
+    rt: &R,
+    stop: &AtomicBool,
+    generation: Option<u64>,
+    worker: &mut Worker<'_, G>,
+    rx: &mut Rx<G>,
+    tx: &mut Tx<G>,
+) -> bool
+    requires closed { IsClosed worker.old }
+    ensures rx { rx.new.belt ≡ rx.old.belt }
+    ensures tx { tx.new.belt ≡ tx.old.belt }
+    ensures channel { worker.new.stage.channel ≡ worker.old.stage.channel }
+    ensures chirality { worker.new.stage.chirality ≡ worker.old.stage.chirality }
+    ensures closed { IsTrue result → IsClosed worker.new }
+    ensures whole { IsTrue result → OnePass G.rules worker.old generation rx.old.taken tx.old.put rx.new.taken tx.new.put }
+{
+    worker.begin(generation);
+    let mut pause = Pause::new();
+    for _ in rt.forever() {
+        match worker.turn(rx, tx) {
+            Turned::Done => return true,
+            Turned::Idle => {
+                if stop.load(Ordering::SeqCst) {
+                    return false;
+                }
+                pause.wait();
+            }
+            Turned::Took => pause = Pause::new(),
+            Turned::Put => pause = Pause::new(),
+            Turned::Stray => {
+                stop.store(true, Ordering::SeqCst);
+                return false;
+            }
+        }
+    }
+    unreachable!()
+}

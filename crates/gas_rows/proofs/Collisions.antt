@@ -1,0 +1,151 @@
+-- A row collided 64 cells at a time: one word of each direction written, and then one word more of the row done.
+use Rattle.std.proofs.Common.{◌≡◌, ◌≢◌, ℕ, zero, suc, ◌+◌, ◌*◌, ◌/◌, ◌%◌, ◌<◌, ◌≤◌, Bool, true, false, not, ◌&&◌, ◌==◌, if◌then◌else◌, List, length, get_or, set, ltb, refl, sym, ap, ap₂, ◌∙◌, subst, arith, inl, inr, eq-eqb, ne_eqb}
+use Rattle.std.proofs.lemmas.Bool.{cases_eq, cases_lt}
+use Rattle.std.proofs.lemmas.Bool.Decides.{nat_tests}
+use Rattle.std.proofs.lemmas.Nat.{pow_pos}
+use Rattle.std.proofs.lemmas.Nat.Bits.{bit_at-zero, bit_at_above, same_from_bits}
+use Rattle.std.proofs.lemmas.List.FromFn.{get_or-map-range_with_len, length-map-range_with_len}
+use Rattle.std.specs.Int.{bit_at}
+use Rattle.gas_geom.specs.Gas.{Rules, IsGas, holds, sum_below}
+use Rattle.gas_geom.specs.Lattice.{row_of}
+use Rattle.gas_geom.specs.Planes.{set_at}
+use Rattle.gas_geom.proofs.Holds.{holds-zero, set_of-same}
+use Rattle.gas_rows.specs.Words.{words_in, bit}
+use Rattle.gas_rows.specs.Planes.{has, state, cells_of}
+use Rattle.gas_rows.specs.Inside.{ArePlanes}
+use Rattle.gas_rows.proofs.Cells.{has-set, state-from, state-same, holds-state, cells-from}
+use Rattle.gas_rows.proofs.Rows.{wide, read, planes-other}
+
+-- ---- the words with number j written, direction by direction
+scattered : (k i y j : ℕ) (new was old v set : Bool) →
+    new ≡ (if (k == i) && (y / 64 == j) then v else was) → was ≡ (if ltb k i && (y / 64 == j) then set else old) →
+    (k ≡ i → v ≡ set) → new ≡ (if ltb k (i + 1) && (y / 64 == j) then set else old)
+scattered k i y j new was old v set a b c = elim (cases_eq k i) [
+  | inl e ↦ let d = c e in grind (arith, nat_tests)
+  | inr ne ↦ grind (arith, nat_tests)
+]
+
+module _ (old words : List ℕ) (n i j v : ℕ) (planes : List ℕ) (solid : ℕ) (within : i * n + j < length words) (hj : j < n)
+    (put : (b : ℕ) → b < 64 → holds v b ≡ (holds (get_or planes i 0) b && not (holds solid b)))
+    (before : (k y : ℕ) → y / 64 < n → has words n k y
+    ≡ (if ltb k i && (y / 64 == j) then holds (get_or planes k 0) (y % 64) && not (holds solid (y % 64)) else has old n k y)) where
+  pub scatter-more : (k y : ℕ) → y / 64 < n → has (set words (i * n + j) v) n k y
+      ≡ (if ltb k (i + 1) && (y / 64 == j) then holds (get_or planes k 0) (y % 64) && not (holds solid (y % 64)) else has old n k y)
+  scatter-more k y hy =
+      scattered k i y j (has (set words (i * n + j) v) n k y) (has words n k y) (has old n k y) (holds v (y % 64))
+      (holds (get_or planes k 0) (y % 64) && not (holds solid (y % 64)))
+      (has-set words n i j v k y within hj hy) (before k y hy)
+      (λ e. put (y % 64) (omega arith) ∙ ap (λ m. holds (get_or planes m 0) (y % 64) && not (holds solid (y % 64))) (sym e))
+
+-- ---- 64 cells collided
+module _ (table : ℕ → Bool → ℕ) (old words new : List ℕ) (n j d dirs : ℕ) (planes after : List ℕ) (chi solid : List ℕ) (ed : dirs ≡ d)
+    (gathered : (i : ℕ) → i < dirs → get_or planes i 0 ≡ get_or words (i * n + j) 0)
+    (collided : (b : ℕ) → b < 64 → set_at d after b ≡ table (set_at d planes b) (holds (get_or chi j 0) b))
+    (scattered : (i y : ℕ) → i < dirs → y / 64 < n → has new n i y
+    ≡ (if y / 64 == j then holds (get_or after i 0) (y % 64) && not (holds (get_or solid j 0) (y % 64)) else has words n i y))
+    (done : (y : ℕ) → y < 64 * j → y / 64 < n → state words n d y ≡ (if bit solid y then 0 else table (state old n d y) (bit chi y)))
+    (rest : (i y : ℕ) → i < d → 64 * j ≤ y → y / 64 < n → has words n i y ≡ has old n i y) where
+  apart : (i y : ℕ) → i < d → y / 64 < n → y / 64 ≢ j → has new n i y ≡ has words n i y
+  apart i y hi hy ne =
+      scattered i y (omega arith) hy
+      ∙ ap (λ t. if t then holds (get_or after i 0) (y % 64) && not (holds (get_or solid j 0) (y % 64)) else has words n i y) (ne_eqb (y / 64) j ne)
+
+  pub rest-more : (i y : ℕ) → i < d → 64 * (j + 1) ≤ y → y / 64 < n → has new n i y ≡ has old n i y
+  rest-more i y hi le hy = apart i y hi hy (λ e. omega arith) ∙ rest i y hi (omega arith) hy
+
+  -- the cells before, as the gathered planes hold them
+  before-is : (y : ℕ) → y / 64 ≡ j → y / 64 < n → state old n d y ≡ set_at d planes (y % 64)
+  unfolding state has
+  before-is y e hy =
+      set_of-same d (λ i. has old n i y) (λ i. holds (get_or planes i 0) (y % 64)) (λ i hi.
+      sym (rest i y hi (omega arith) hy) ∙ ap (λ k. holds (get_or words (i * n + k) 0) (y % 64)) e
+      ∙ ap (λ w. holds w (y % 64)) (sym (gathered i (omega arith))))
+
+  and-false : (b : Bool) → (b && false) ≡ false
+  and-false true = refl
+  and-false false = refl
+
+  and-true : (b : Bool) → (b && true) ≡ b
+  and-true true = refl
+  and-true false = refl
+
+  here : (i y : ℕ) → i < d → y / 64 < n → y / 64 ≡ j →
+      has new n i y ≡ (holds (get_or after i 0) (y % 64) && not (holds (get_or solid j 0) (y % 64)))
+  here i y hi hy e =
+      scattered i y (omega arith) hy
+      ∙ ap (λ t. if t then holds (get_or after i 0) (y % 64) && not (holds (get_or solid j 0) (y % 64)) else has words n i y) (eq-eqb (y / 64) j e)
+
+  after-is : (y : ℕ) → y / 64 ≡ j → y / 64 < n → (s : Bool) → s ≡ holds (get_or solid j 0) (y % 64) →
+      state new n d y ≡ (if s then 0 else set_at d after (y % 64))
+  unfolding state
+  after-is y e hy true q =
+      state-from new n d y 0 (pow_pos d) (λ i hi. here i y hi hy e ∙ ap (λ t. holds (get_or after i 0) (y % 64) && not t) (sym q)
+      ∙ and-false (holds (get_or after i 0) (y % 64)) ∙ sym (holds-zero i))
+  after-is y e hy false q =
+      set_of-same d (λ i. has new n i y) (λ i. holds (get_or after i 0) (y % 64)) (λ i hi. here i y hi hy e
+      ∙ ap (λ t. holds (get_or after i 0) (y % 64) && not t) (sym q) ∙ and-true (holds (get_or after i 0) (y % 64)))
+
+  pub done-more : (y : ℕ) → y < 64 * (j + 1) → y / 64 < n →
+      state new n d y ≡ (if bit solid y then 0 else table (state old n d y) (bit chi y))
+  unfolding bit
+  done-more y lt hy = elim (cases_eq (y / 64) j) [
+    | inl e ↦ after-is y e hy (holds (get_or solid j 0) (y % 64)) refl
+        ∙ ap₂ (λ (s : Bool) t. if s then 0 else t) (ap (λ k. holds (get_or solid k 0) (y % 64)) (sym e))
+        (collided (y % 64) (omega arith) ∙ ap₂ table (sym (before-is y e hy)) (ap (λ k. holds (get_or chi k 0) (y % 64)) (sym e)))
+    | inr ne ↦ state-same new words n d y (λ i hi. apart i y hi hy ne) ∙ done y (omega arith) hy
+  ]
+
+-- ---- a row of which each cell was collided, the cells past the width too
+-- nothing collides to nothing
+no_bits : (n : ℕ) (s : ℕ) → sum_below n (λ i. bit_at s i) ≡ 0 → (i : ℕ) → i < n → bit_at s i ≡ 0
+no_bits zero s h i lt = absurd (omega arith)
+no_bits (suc n) s h i lt = elim (cases_eq i n) [
+  | inl e ↦ ap (bit_at s) e ∙ (let z : bit_at s n ≡ 0 = omega arith in z)
+  | inr ne ↦ no_bits n s (omega arith) i (omega arith)
+]
+
+zero_bits : (n : ℕ) → sum_below n (λ i. bit_at 0 i) ≡ 0
+zero_bits zero = refl
+zero_bits (suc n) = omega (arith, zero_bits n, bit_at-zero n)
+
+pub nothing : (gas : Rules) → IsGas gas → (r : Bool) → gas.collide 0 r ≡ 0
+nothing gas laws r =
+    let none : sum_below gas.dirs (λ i. bit_at (gas.collide 0 r) i) ≡ 0 =
+    laws.collide_keeps 0 r (pow_pos gas.dirs) ∙ zero_bits gas.dirs in
+    same_from_bits (gas.collide 0 r) 0 (λ i. elim (cases_lt i gas.dirs) [
+      | inl lt ↦ no_bits gas.dirs (gas.collide 0 r) none i lt ∙ sym (bit_at-zero i)
+      | inr le ↦ bit_at_above (gas.collide 0 r) gas.dirs i (laws.collide_within 0 r (pow_pos gas.dirs)) le ∙ sym (bit_at-zero i)
+    ])
+
+module _ (d : ℕ) (table : ℕ → Bool → ℕ) (none : (r : Bool) → table 0 r ≡ 0) (width : ℕ) (words row : List ℕ) (inside : ArePlanes d width words)
+    (view : cells_of d width words ≡ row) (new : List ℕ) (n : ℕ) (chi solid : List ℕ) (en : n ≡ words_in width)
+    (same_long : length new ≡ length words)
+    (each : (y : ℕ) → y / 64 < n → state new n d y ≡ (if bit solid y then 0 else table (state words n d y) (bit chi y))) where
+  each_here : (y : ℕ) → y / 64 < words_in width → state new (words_in width) d y
+      ≡ (if bit solid y then 0 else table (state words (words_in width) d y) (bit chi y))
+  each_here = subst (λ m. (y : ℕ) → y / 64 < m →
+      state new m d y ≡ (if bit solid y then 0 else table (state words m d y) (bit chi y))) en each
+
+  both_zero : (s : Bool) → ◌≡◌ {A = ℕ} (if s then 0 else 0) 0
+  both_zero true = refl
+  both_zero false = refl
+
+  pub planes-collided : ArePlanes d width new
+  planes-collided = planes-other d width words row inside view new same_long (λ i x hi le lt.
+      let blank : state words (words_in width) d x ≡ 0 =
+      state-from words (words_in width) d x 0 (pow_pos d) (λ k hk. inside.clear k x hk le lt ∙ sym (holds-zero k)) in
+      sym (holds-state new (words_in width) d x i hi)
+      ∙ ap (λ s. holds s i) (each_here x (omega arith)
+      ∙ ap (λ z. if bit solid x then 0 else z) (ap (λ z. table z (bit chi x)) blank ∙ none (bit chi x))
+      ∙ both_zero (bit solid x))
+      ∙ holds-zero i)
+
+  pub row-collided : cells_of d width new
+      ≡ row_of (length row) (λ x. if bit solid x then 0 else table (get_or row x 0) (bit chi x))
+  row-collided =
+      let e = wide d width words row inside view in
+      cells-from d width new _ (length-map-range_with_len _ 0 (length row) ∙ e) (λ x hx.
+      let lt : x < length row = omega arith in
+      each_here x (omega arith)
+      ∙ ap (λ s. if bit solid x then 0 else table s (bit chi x)) (read d width words row inside view x lt)
+      ∙ sym (get_or-map-range_with_len _ 0 (length row) x x 0 lt (omega arith)))

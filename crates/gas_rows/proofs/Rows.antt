@@ -1,0 +1,269 @@
+-- A row and its words: what the words of a row say, and what rows they are after a write.
+use Rattle.std.proofs.Common.{◌≡◌, ◌≢◌, ◌⊎◌, ℕ, ◌+◌, ◌*◌, ◌/◌, ◌%◌, ◌^◌, ◌<◌, ◌≤◌, Bool, true, false, ◌&&◌, ◌==◌, if◌then◌else◌, List, length, get_or, set, take, drop, rules, ltb, refl, sym, ap, ap₂, ◌∙◌, subst, arith, inl, inr, eq-eqb, ne_eqb}
+use Rattle.std.proofs.lemmas.Bool.{cases_eq, cases_lt}
+use Rattle.std.proofs.lemmas.Bool.Decides.{nat_tests}
+use Rattle.std.proofs.lemmas.List.{get_or_past, length-set, places}
+use Rattle.std.proofs.lemmas.List.FromFn.{get_or-map-range_with_len, length-map-range_with_len}
+use Rattle.std.proofs.lemmas.Grind.{same_number_lists}
+use Rattle.std.proofs.Math.Nat.{mul-le-mul_right}
+use Rattle.gas_geom.specs.Gas.{holds}
+use Rattle.gas_geom.specs.Lattice.{row_of}
+use Rattle.gas_rows.specs.Words.{words_in, bit}
+use Rattle.gas_rows.specs.Planes.{has, state, cells_of, AreWordsOf}
+use Rattle.gas_rows.specs.Inside.{ArePlanes, IsClear}
+use Rattle.gas_geom.proofs.Holds.{holds-zero, holds-above}
+use Rattle.gas_rows.proofs.Sets.{same_sets}
+use Rattle.gas_rows.proofs.Cells.{length-cells, holds-cells, has-set, place_in, width_of, get_or-cells, holds-cells_all, cells-from, state-lt, cells-written, IsClear-written, state-same, state-from}
+
+-- a fact on each cell and direction, at other names of the two counts
+pub each_at : (P : ℕ → ℕ → ℕ → Type 0) (n m dirs d : ℕ) → n ≡ m → dirs ≡ d →
+    ((i y : ℕ) → i < dirs → y / 64 < n → P n i y) → (i y : ℕ) → i < d → y / 64 < m → P m i y
+each_at P n m dirs d en ed each i y hi hy = subst (λ k. P k i y) en (each i y (omega arith) (omega arith))
+
+-- word by word
+pub has_word : (words : List ℕ) (n i j b : ℕ) → b < 64 → has words n i (64 * j + b) ≡ holds (get_or words (i * n + j) 0) b
+unfolding has
+has_word words n i j b h =
+    let q : (64 * j + b) / 64 ≡ j = omega arith in
+    let r : (64 * j + b) % 64 ≡ b = omega arith in
+    ap₂ (λ k c. holds (get_or words (i * n + k) 0) c) q r
+
+-- one direction
+pub whole_plane : (n d i : ℕ) → i < d → i * n + n ≤ d * n
+whole_plane n d i h = let le : (i + 1) * n ≤ d * n = mul-le-mul_right n (omega arith) in omega arith
+
+pub part_get : (xs : List ℕ) (a n j : ℕ) → j < n → a + n ≤ length xs → get_or (take n (drop a xs)) j 0 ≡ get_or xs (a + j) 0
+part_get xs a n j h le = search (rules, places)
+
+pub part_length : (xs : List ℕ) (a n : ℕ) → a + n ≤ length xs → length (take n (drop a xs)) ≡ n
+part_length xs a n le = grind (arith, places)
+
+and-false : (b : Bool) → (b && false) ≡ false
+and-false true = refl
+and-false false = refl
+
+either : (t a b : Bool) → a ≡ false → b ≡ false → (if t then a else b) ≡ false
+either true a b p q = p
+either false a b p q = q
+
+-- rows of equal cells
+pub row_of-same : (n : ℕ) (f g : ℕ → ℕ) → ((x : ℕ) → x < n → f x ≡ g x) → row_of n f ≡ row_of n g
+row_of-same n f g each =
+    same_number_lists _ _ (length-map-range_with_len f 0 n ∙ sym (length-map-range_with_len g 0 n)) (λ k h.
+    let lt : k < n = omega (arith, length-map-range_with_len f 0 n) in
+    get_or-map-range_with_len f 0 n k k 0 lt (omega arith) ∙ each k lt ∙ sym (get_or-map-range_with_len g 0 n k k 0 lt (omega arith)))
+
+module _ (d width : ℕ) (words row : List ℕ) (inside : ArePlanes d width words) (view : cells_of d width words ≡ row) where
+  pub wide : length row ≡ width
+  wide = width_of d width words row view
+
+  pub long : length words ≡ d * words_in (length row)
+  long = inside.long ∙ ap (λ w. d * words_in w) (sym wide)
+
+  pub place : (x : ℕ) → x < length row → x / 64 < words_in width
+  place x h = let e = wide in omega arith
+
+  pub read : (x : ℕ) → x < length row → state words (words_in width) d x ≡ get_or row x 0
+  read x h = sym (get_or-cells d width words x (let e = wide in omega arith)) ∙ ap (λ r. get_or r x 0) view
+
+  pub read-lt : (x : ℕ) → x < length row → get_or row x 0 < 2 ^ d
+  read-lt x h = subst (λ s. s < 2 ^ d) (read x h) (state-lt words (words_in width) d x)
+
+  pub decoded : cells_of d (length row) words ≡ row
+  decoded = ap (λ w. cells_of d w words) wide ∙ view
+
+  -- direction i of a cell, also of one past the width
+  pub held : (i x : ℕ) → i < d → x < 64 * words_in width → has words (words_in width) i x ≡ holds (get_or row x 0) i
+  held i x hi hx = holds-cells_all d width words inside.clear i x hi hx ∙ ap (λ r. holds (get_or r x 0) i) view
+
+  pub held_word : (i j b : ℕ) → i < d → j < words_in width → b < 64 →
+      holds (get_or words (i * words_in width + j) 0) b ≡ holds (get_or row (64 * j + b) 0) i
+  held_word i j b hi hj hb = sym (has_word words (words_in width) i j b hb) ∙ held i (64 * j + b) hi (omega arith)
+
+  pub words_of : AreWordsOf d row words
+  words_of = record {
+    long = long;
+    bits = λ i j b hi hj hb. subst
+        (λ w. j < words_in w → holds (get_or words (i * words_in w + j) 0) b ≡ holds (get_or row (64 * j + b) 0) i)
+        (sym wide) (λ h. held_word i j b hi h hb) hj;
+  }
+
+  pub plane-long : (i : ℕ) → i < d → length (take (words_in width) (drop (i * words_in width) words)) ≡ words_in (length row)
+  plane-long i hi =
+      part_length words (i * words_in width) (words_in width) (let e = whole_plane (words_in width) d i hi in omega (arith, inside.long))
+      ∙ ap words_in (sym wide)
+
+  pub plane-bits : (i : ℕ) → i < d → (x : ℕ) →
+      bit (take (words_in width) (drop (i * words_in width) words)) x ≡ holds (get_or row x 0) i
+  unfolding bit has
+  plane-bits i hi x = elim (cases_lt (x / 64) (words_in width)) [
+    | inl lt ↦ ap (λ w. holds w (x % 64)) (part_get words (i * words_in width) (words_in width) (x / 64) lt fits) ∙ held i x hi (omega arith)
+    | inr le ↦ ap (λ w. holds w (x % 64)) (get_or_past part (x / 64) 0 (omega (arith, part_length words (i * words_in width) (words_in width) fits)))
+        ∙ holds-zero (x % 64)
+        ∙ sym (ap (λ s. holds s i) (get_or_past row x 0 (let e = wide in omega arith)) ∙ holds-zero i)
+  ]
+    where
+      part : List ℕ
+      part = take (words_in width) (drop (i * words_in width) words)
+
+      fits : i * words_in width + words_in width ≤ length words
+      fits = let e = whole_plane (words_in width) d i hi in omega (arith, inside.long)
+
+  -- a row with one cell written
+  module _ (new : List ℕ) (n dirs x s : ℕ) (en : n ≡ words_in width) (ed : dirs ≡ d) (same_long : length new ≡ length words)
+      (hx : x < length row) (hs : s < 2 ^ d)
+      (each : (i y : ℕ) → i < dirs → y / 64 < n → has new n i y ≡ (if y == x then holds s i else has words n i y)) where
+    each_here : (i y : ℕ) → i < d → y / 64 < words_in width →
+        has new (words_in width) i y ≡ (if y == x then holds s i else has words (words_in width) i y)
+    each_here = each_at (λ m i y. has new m i y ≡ (if y == x then holds s i else has words m i y)) n (words_in width) dirs d en ed each
+
+    pub planes-written : ArePlanes d width new
+    planes-written = record {
+      some_cells = inside.some_cells;
+      few_cells = inside.few_cells;
+      long = same_long ∙ inside.long;
+      clear = IsClear-written words new d width x s (let e = wide in omega arith) hs each_here inside.clear;
+    }
+
+    pub row-written : cells_of d width new ≡ set row x s
+    row-written =
+        cells-written words new d width x s (let e = wide in omega arith) hs each_here ∙ ap (λ r. set r x s) view
+
+  -- 64 cells of the row, of a word for each direction
+  pub states-of_planes : (planes states : List ℕ) (n dirs j : ℕ) → n ≡ words_in width → dirs ≡ d → d ≤ 8 → j < words_in width →
+      ((i : ℕ) → i < dirs → get_or planes i 0 ≡ get_or words (i * n + j) 0) → ((i : ℕ) → dirs ≤ i → get_or planes i 0 ≡ 0) →
+      ((i b : ℕ) → i < 8 → b < 64 → holds (get_or states b 0) i ≡ holds (get_or planes i 0) b) →
+      (b : ℕ) → b < 64 → get_or states b 0 < 2 ^ 8 → get_or states b 0 ≡ get_or row (64 * j + b) 0
+  states-of_planes planes states n dirs j en ed few hj gathered rest each b hb byte =
+      same_sets (get_or states b 0) (get_or row (64 * j + b) 0) (λ i. elim (cases_lt i d) [
+        | inl lt ↦ each i b (omega arith) hb ∙ ap (λ w. holds w b) (gathered i (omega arith) ∙ ap (λ m. get_or words (i * m + j) 0) en)
+            ∙ held_word i j b lt hj hb
+        | inr le ↦ high i le (cases_lt i 8) ∙ sym (none i le)
+      ])
+    where
+      high : (i : ℕ) → d ≤ i → (i < 8) ⊎ (8 ≤ i) → holds (get_or states b 0) i ≡ false
+      high i le (inl lt) = each i b lt hb ∙ ap (λ w. holds w b) (rest i (omega arith)) ∙ holds-zero b
+      high i le (inr past) = holds-above (get_or states b 0) 8 i byte past
+
+      none : (i : ℕ) → d ≤ i → holds (get_or row (64 * j + b) 0) i ≡ false
+      none i le = elim (cases_lt (64 * j + b) (length row)) [
+        | inl lt ↦ holds-above (get_or row (64 * j + b) 0) d i (read-lt (64 * j + b) lt) le
+        | inr past ↦ ap (λ s. holds s i) (get_or_past row (64 * j + b) 0 past) ∙ holds-zero i
+      ]
+
+  -- a row of other words
+  module _ (new : List ℕ) (same_long : length new ≡ length words) where
+    pub planes-other : IsClear d width new → ArePlanes d width new
+    planes-other clear = record {
+      some_cells = inside.some_cells;
+      few_cells = inside.few_cells;
+      long = same_long ∙ inside.long;
+      clear = clear;
+    }
+
+    -- what a cell holds after as before, where the words say so of the cells and directions that there are
+    pub holds-other : (x k : ℕ) → (x < width → k < d → has new (words_in width) k x ≡ has words (words_in width) k x) →
+        holds (get_or (cells_of d width new) x 0) k ≡ holds (get_or row x 0) k
+    holds-other x k same = elim (cases_lt x width) [
+      | inl lt ↦ elim (cases_lt k d) [
+        | inl hk ↦ holds-cells d width new k x hk lt ∙ same lt hk ∙ held k x hk (omega arith)
+        | inr le ↦ ap (λ s. holds s k) (get_or-cells d width new x lt)
+            ∙ holds-above (state new (words_in width) d x) d k (state-lt new (words_in width) d x) le
+            ∙ sym (holds-above (get_or row x 0) d k (read-lt x (let e = wide in omega arith)) le)
+      ]
+      | inr le ↦ ap (λ s. holds s k) (get_or_past (cells_of d width new) x 0 (omega (arith, length-cells d width new)))
+          ∙ sym (ap (λ s. holds s k) (get_or_past row x 0 (let e = wide in omega arith)))
+    ]
+
+    -- only direction i changed, and it has nothing past the width
+    pub IsClear-changed : (i : ℕ) → ((x : ℕ) → width ≤ x → x < 64 * words_in width → has new (words_in width) i x ≡ false) →
+        ((k x : ℕ) → k < d → k ≢ i → x / 64 < words_in width → has new (words_in width) k x ≡ has words (words_in width) k x) →
+        IsClear d width new
+    IsClear-changed i none rest k x hk le hx = elim (cases_eq k i) [
+      | inl e ↦ ap (λ j. has new (words_in width) j x) e ∙ none x le hx
+      | inr ne ↦ rest k x hk ne (omega arith) ∙ inside.clear k x hk le hx
+    ]
+
+  -- a row with one word of one direction written, which has nothing past the width
+  module _ (i j v : ℕ) (hi : i < d) (hj : j < words_in width)
+      (none : (b : ℕ) → b < 64 → width ≤ 64 * j + b → holds v b ≡ false) where
+    within : i * words_in width + j < length words
+    within = omega (arith, place_in (words_in width) d i j hi hj, inside.long)
+
+    one_word : (k x : ℕ) → x / 64 < words_in width →
+        has (set words (i * words_in width + j) v) (words_in width) k x
+        ≡ (if (k == i) && (x / 64 == j) then holds v (x % 64) else has words (words_in width) k x)
+    one_word k x hx = has-set words (words_in width) i j v k x within hj hx
+
+    pub planes-word : ArePlanes d width (set words (i * words_in width + j) v)
+    planes-word = planes-other (set words (i * words_in width + j) v) (length-set words (i * words_in width + j) v) (λ k x hk le hx.
+        one_word k x (omega arith) ∙ past k x hk le hx)
+      where
+        past : (k x : ℕ) → k < d → width ≤ x → x < 64 * words_in width →
+            (if (k == i) && (x / 64 == j) then holds v (x % 64) else has words (words_in width) k x) ≡ false
+        past k x hk le hx = elim (cases_eq (x / 64) j) [
+          | inl e ↦ either ((k == i) && (x / 64 == j)) (holds v (x % 64)) (has words (words_in width) k x)
+              (none (x % 64) (omega arith) (omega arith)) (inside.clear k x hk le hx)
+          | inr ne ↦ ap (λ t. if t then holds v (x % 64) else has words (words_in width) k x)
+              (ap (λ t. (k == i) && t) (ne_eqb (x / 64) j ne) ∙ and-false (k == i))
+              ∙ inside.clear k x hk le hx
+        ]
+
+    pub word-written : (b : ℕ) → b < 64 → 64 * j + b < width →
+        holds (get_or (cells_of d width (set words (i * words_in width + j) v)) (64 * j + b) 0) i ≡ holds v b
+    word-written b hb h =
+        let q : (64 * j + b) / 64 ≡ j = omega arith in
+        let r : (64 * j + b) % 64 ≡ b = omega arith in
+        holds-cells d width (set words (i * words_in width + j) v) i (64 * j + b) hi h
+        ∙ one_word i (64 * j + b) (omega arith)
+        ∙ ap₂ (λ t c. if t then holds v c else has words (words_in width) i (64 * j + b))
+        (ap₂ (λ s t. s && t) (eq-eqb i i refl) (eq-eqb ((64 * j + b) / 64) j q)) r
+
+    pub word-others : (x k : ℕ) → (x / 64 ≢ j) ⊎ (k ≢ i) →
+        holds (get_or (cells_of d width (set words (i * words_in width + j) v)) x 0) k ≡ holds (get_or row x 0) k
+    word-others x k other = holds-other (set words (i * words_in width + j) v) (length-set words (i * words_in width + j) v) x k (λ hx hk.
+        one_word k x (omega arith) ∙ ap (λ t. if t then holds v (x % 64) else has words (words_in width) k x) (elim other [
+          | inl ne ↦ ap (λ t. (k == i) && t) (ne_eqb (x / 64) j ne) ∙ and-false (k == i)
+          | inr ne ↦ ap (λ t. t && (x / 64 == j)) (ne_eqb k i ne)
+        ]))
+
+-- a row whose words were taken over, and cut at the width
+module _ (d width : ℕ) (given new : List ℕ) (dirs : ℕ) (ed : dirs ≡ d) (some : 1 ≤ width) (few : width ≤ 4096)
+    (long_new : length new ≡ d * words_in width)
+    (each : (i y : ℕ) → i < dirs → y / 64 < words_in width →
+    has new (words_in width) i y ≡ (ltb y width && has given (words_in width) i y)) where
+  pub planes-loaded : ArePlanes d width new
+  planes-loaded = record {
+    some_cells = some;
+    few_cells = few;
+    long = long_new;
+    clear = λ i x hi le hx. each i x (omega arith) (omega arith)
+        ∙ ap (λ b. b && has given (words_in width) i x) (let t : ltb x width ≡ false = grind (arith, nat_tests) in t);
+  }
+
+  pub row-loaded : cells_of d width new ≡ cells_of d width given
+  row-loaded =
+      cells-from d width new (cells_of d width given) (width_of d width given _ refl) (λ x hx.
+      state-same new given (words_in width) d x (λ i hi. each i x (omega arith) (omega arith)
+      ∙ ap (λ b. b && has given (words_in width) i x) (let t : ltb x width ≡ true = grind (arith, nat_tests) in t))
+      ∙ sym (get_or-cells d width given x hx))
+
+-- a row of given states
+module _ (d width : ℕ) (new states : List ℕ) (n dirs : ℕ) (en : n ≡ words_in width) (ed : dirs ≡ d) (some : 1 ≤ width) (few : width ≤ 4096)
+    (long_new : length new ≡ d * words_in width) (all : length states ≡ width) (small : (x : ℕ) → get_or states x 0 < 2 ^ d)
+    (each : (i y : ℕ) → i < dirs → y / 64 < n → has new n i y ≡ holds (get_or states y 0) i) where
+  each_state : (i y : ℕ) → i < d → y / 64 < words_in width → has new (words_in width) i y ≡ holds (get_or states y 0) i
+  each_state = each_at (λ m i y. has new m i y ≡ holds (get_or states y 0) i) n (words_in width) dirs d en ed each
+
+  pub planes-of_states : ArePlanes d width new
+  planes-of_states = record {
+    some_cells = some;
+    few_cells = few;
+    long = long_new;
+    clear = λ i x hi le hx. each_state i x hi (omega arith)
+        ∙ ap (λ s. holds s i) (get_or_past states x 0 (omega arith)) ∙ holds-zero i;
+  }
+
+  pub row-of_states : cells_of d width new ≡ states
+  row-of_states = cells-from d width new states all (λ x hx.
+      state-from new (words_in width) d x (get_or states x 0) (small x) (λ i hi. each_state i x hi (omega arith)))

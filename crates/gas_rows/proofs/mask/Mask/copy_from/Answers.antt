@@ -1,0 +1,33 @@
+use Rattle.std.proofs.Common.{◌≡◌, ℕ, false, List, length, get_or, ap, ◌∙◌, sym, subst}
+use Rattle.std.proofs.lemmas.List.{with_items_is}
+use Rattle.gas_rows.specs.Words.{words_in}
+use Rattle.gas_rows.specs.Mask.{cells, IsMask}
+use Rattle.gas_rows.proofs.Masks.{width_of, cells-from, IsMask-written, cut-list}
+use Rattle.gas_rows.proofs.mask.Mask.copy_from.Goals as goal
+
+pub pack-requires : goal.pack-requires
+pack-requires c =
+    ap (λ (words : List ℕ). length words) c.deref_mut.ensures.value ∙ c.self.invariant.long
+    ∙ ap words_in (sym (c.requires ∙ width_of c.self.inside.width c.self.inside.words.items c.args.self.now c.self.view_is))
+
+pub invariant_of-self : goal.invariant_of-self
+invariant_of-self c =
+    let width = c.self.inside.width in
+    let old = c.self.inside.words.items in
+    let new = c.pack.new.words in
+    let cells = c.args.cells.now in
+    let same = with_items_is c.self.inside.words new (c.pack.auto.words ∙ c.deref_mut.ensures.len) in
+    let wide : length cells ≡ width = c.requires ∙ width_of width old c.args.self.now c.self.view_is in
+    let long : length new ≡ words_in width =
+    c.pack.auto.words ∙ ap (λ (words : List ℕ). length words) c.deref_mut.ensures.value ∙ c.self.invariant.long in
+    subst (IsMask width) (sym same)
+    (IsMask-written width new (λ x. get_or cells x false) c.self.invariant.some_cells c.self.invariant.few_cells long
+    (λ x. c.pack.ensures x ∙ cut-list width cells wide x))
+
+pub returns : goal.returns
+returns c =
+    let width = c.self.inside.width in
+    let new = c.pack.new.words in
+    let same = with_items_is c.self.inside.words new (c.pack.auto.words ∙ c.deref_mut.ensures.len) in
+    ap (cells width) same
+    ∙ cells-from width new c.args.cells.now (c.requires ∙ width_of width c.self.inside.words.items c.args.self.now c.self.view_is) (λ x h. c.pack.ensures x)

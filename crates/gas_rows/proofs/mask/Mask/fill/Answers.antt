@@ -1,0 +1,31 @@
+use Rattle.std.proofs.Common.{◌≡◌, ℕ, List, length, replicate, ap, ◌∙◌, sym, subst}
+use Rattle.std.proofs.lemmas.List.{with_items_is}
+use Rattle.gas_rows.specs.Words.{words_in}
+use Rattle.gas_rows.specs.Mask.{cells, IsMask}
+use Rattle.gas_rows.proofs.Masks.{width_of, IsMask-written, cells-filled}
+use Rattle.gas_rows.proofs.mask.Mask.fill.Goals as goal
+
+pub fill-requires : goal.fill-requires
+fill-requires c =
+    let long : length c.deref_mut.result.now ≡ words_in c.self.inside.width =
+    ap (λ (words : List ℕ). length words) c.deref_mut.ensures.value ∙ c.self.invariant.long in
+    record { some_cells = c.self.invariant.some_cells; long = long }
+
+pub invariant_of-self : goal.invariant_of-self
+invariant_of-self c =
+    let width = c.self.inside.width in
+    let new = c.fill.new.words in
+    let same = with_items_is c.self.inside.words new (c.fill.auto.words ∙ c.deref_mut.ensures.len) in
+    let long : length new ≡ words_in width =
+    c.fill.auto.words ∙ ap (λ (words : List ℕ). length words) c.deref_mut.ensures.value ∙ c.self.invariant.long in
+    subst (IsMask width) (sym same)
+    (IsMask-written width new (λ _. c.args.value) c.self.invariant.some_cells c.self.invariant.few_cells long c.fill.ensures)
+
+pub returns : goal.returns
+returns c =
+    let width = c.self.inside.width in
+    let new = c.fill.new.words in
+    let same = with_items_is c.self.inside.words new (c.fill.auto.words ∙ c.deref_mut.ensures.len) in
+    ap (cells width) same
+    ∙ cells-filled width new c.args.value c.fill.ensures
+    ∙ ap (λ n. replicate n c.args.value) (sym (width_of width c.self.inside.words.items c.args.self.now c.self.view_is))

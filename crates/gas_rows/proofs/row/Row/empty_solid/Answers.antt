@@ -1,0 +1,44 @@
+use Rattle.std.proofs.Common.{◌≡◌, ◌/◌, ◌<◌, ℕ, Bool, if◌then◌else◌, List, length, get_or, refl, ap, ◌∙◌, sym, subst}
+use Rattle.std.proofs.lemmas.List.{with_items_is}
+use Rattle.gas_rows.specs.Words.{words_in, bit}
+use Rattle.gas_rows.specs.Planes.{state, cells_of}
+use Rattle.gas_rows.specs.Inside.{ArePlanes}
+use Rattle.gas_rows.proofs.Rows.{wide, row_of-same}
+use Rattle.gas_rows.proofs.Collisions.{planes-collided, row-collided}
+use Rattle.gas_rows.proofs.row.Row.empty_solid.Goals as goal
+
+pub empty-requires-clause-solid : goal.empty-requires-clause-solid
+empty-requires-clause-solid g c =
+    c.words.ensures.long
+    ∙ ap words_in (c.requires ∙ wide g.G.Gas.rules.dirs c.self.inside.width c.self.inside.words.items c.args.self.now c.self.invariant c.self.view_is)
+    ∙ sym c.words_for-count.ensures
+
+Emptied : (new old : List ℕ) (n d : ℕ) (solid : List ℕ) → Type 0
+Emptied new old n d solid = (y : ℕ) → y / 64 < n → state new n d y ≡ (if bit solid y then 0 else state old n d y)
+
+pub invariant_of-self : goal.invariant_of-self
+unfolding Emptied
+invariant_of-self g c =
+    let d = g.G.Gas.rules.dirs in
+    let new = c.empty.new.words in
+    let n = c.words_for-count.result in
+    let same = with_items_is c.self.inside.words new (c.empty.auto.words ∙ c.deref_mut.ensures.len) in
+    subst (ArePlanes d c.self.inside.width) (sym same)
+    (planes-collided d (λ s _. s) (λ _. refl) c.self.inside.width c.self.inside.words.items c.args.self.now c.self.invariant c.self.view_is
+    new n c.words.result.now c.words.result.now c.words_for-count.ensures (c.empty.auto.words ∙ ap length c.deref_mut.ensures.value)
+    (subst (λ e. Emptied new c.self.inside.words.items n e c.words.result.now) c.directions.ensures.value
+    (subst (λ ws. Emptied new ws n c.directions.result c.words.result.now) c.deref_mut.ensures.value c.empty.ensures)))
+
+pub returns : goal.returns
+unfolding Emptied
+returns g c =
+    let d = g.G.Gas.rules.dirs in
+    let new = c.empty.new.words in
+    let n = c.words_for-count.result in
+    let same = with_items_is c.self.inside.words new (c.empty.auto.words ∙ c.deref_mut.ensures.len) in
+    ap (cells_of d c.self.inside.width) same
+    ∙ row-collided d (λ s _. s) (λ _. refl) c.self.inside.width c.self.inside.words.items c.args.self.now c.self.invariant c.self.view_is
+    new n c.words.result.now c.words.result.now c.words_for-count.ensures (c.empty.auto.words ∙ ap length c.deref_mut.ensures.value)
+    (subst (λ e. Emptied new c.self.inside.words.items n e c.words.result.now) c.directions.ensures.value
+    (subst (λ ws. Emptied new ws n c.directions.result c.words.result.now) c.deref_mut.ensures.value c.empty.ensures))
+    ∙ row_of-same (length c.args.self.now) _ _ (λ x h. ap (λ (s : Bool). if s then 0 else get_or c.args.self.now x 0) (c.words.ensures.bits x))

@@ -1,0 +1,178 @@
+//! The words of a row, cell by cell: each direction has `count` words, one after another.
+ghost use Rattle.std.specs.Prelude.{◌≡◌, ◌+◌, ◌*◌, ◌/◌, ◌^◌, ◌<◌, ◌≤◌, ◌==◌, ◌&&◌, ℕ, ◌%◌, not, nat_lt, if◌then◌else◌, length, slice_index};
+ghost use Rattle.gas_geom.specs.Gas.{holds};
+ghost use Rattle.gas_geom.specs.Planes.{ZeroFrom};
+ghost use Rattle.gas_rows.specs.Words.{words_in, bit};
+ghost use Rattle.gas_rows.specs.Planes.{has, state};
+
+use crate::transpose::planes_of;
+use crate::word::{has_bit, up_to, with_bit, without, words_for};
+use gas_geom::gas::Gas;
+
+/// The number of directions.
+#[inline(always)]
+pub(crate) fn directions<G: Gas>() -> usize
+    ensures value { result ≡ G.rules.dirs }
+    ensures some { 1 ≤ result }
+    ensures few { result ≤ 8 }
+{
+    G::DIRS as usize
+}
+
+/// The set of one cell.
+#[inline(always)]
+pub(crate) fn read_cell(words: &[u64], count: usize, dirs: usize, x: u32) -> u8
+    requires few_words { count ≤ 64 }
+    requires few_dirs { dirs ≤ 8 }
+    requires long { length words.now ≡ dirs * count }
+    requires within { x / 64 < count }
+    ensures { result ≡ state words.now count dirs x }
+{
+    let mut set = 0;
+    for i in 0..dirs {
+        if has_bit(words[i * count + x as usize / 64], x % 64) {
+            set += 1 << i;
+        }
+    }
+    set
+}
+
+/// Gives one cell another set.
+#[inline(always)]
+pub(crate) fn write_cell(words: &mut [u64], count: usize, dirs: usize, x: u32, set: u8)
+    requires few_words { count ≤ 64 }
+    requires few_dirs { dirs ≤ 8 }
+    requires long { length words.old ≡ dirs * count }
+    requires within { x / 64 < count }
+    ensures { (i y : ℕ) → i < dirs → y / 64 < count →
+        has words.new count i y ≡ (if y == x then holds set i else has words.old count i y) }
+{
+    for i in 0..dirs {
+        let at = i * count + x as usize / 64;
+        words[at] = with_bit(words[at], x % 64, has_bit(u64::from(set), i as u32));
+    }
+}
+
+/// Collides each cell by itself with its random bit, and empties the solid cells.
+pub(crate) fn collide<G: Gas>(words: &mut [u64], count: usize, solid: &[u64], chi: &[u64])
+    requires few_words { count ≤ 64 }
+    requires long { length words.old ≡ G.rules.dirs * count }
+    requires solid { length solid.now ≡ count }
+    requires chi { length chi.now ≡ count }
+    ensures { (y : ℕ) → y / 64 < count →
+        state words.new count G.rules.dirs y
+        ≡ (if bit solid.now y then 0 else G.rules.collide (state words.old count G.rules.dirs y) (bit chi.now y)) }
+{
+    let dirs = directions::<G>();
+    for j in 0..count {
+        let planes = gather(words, count, dirs, j);
+        let after = G::collide64(planes, chi[j]);
+        scatter(words, count, dirs, j, after, solid[j]);
+    }
+}
+
+/// Empties the solid cells.
+pub(crate) fn empty(words: &mut [u64], count: usize, dirs: usize, solid: &[u64])
+    requires few_words { count ≤ 64 }
+    requires few_dirs { dirs ≤ 8 }
+    requires long { length words.old ≡ dirs * count }
+    requires solid { length solid.now ≡ count }
+    ensures { (y : ℕ) → y / 64 < count →
+        state words.new count dirs y ≡ (if bit solid.now y then 0 else state words.old count dirs y) }
+{
+    for j in 0..count {
+        let planes = gather(words, count, dirs, j);
+        scatter(words, count, dirs, j, planes, solid[j]);
+    }
+}
+
+/// Word `j` of each direction.
+#[inline(always)]
+pub(crate) fn gather(words: &[u64], count: usize, dirs: usize, j: usize) -> [u64; 8]
+    requires few_words { count ≤ 64 }
+    requires few_dirs { dirs ≤ 8 }
+    requires long { length words.now ≡ dirs * count }
+    requires within { j < count }
+    ensures planes { (i : ℕ) → i < dirs → slice_index result i ≡ slice_index words.now (i * count + j) }
+    ensures rest { ZeroFrom dirs result }
+{
+    let mut planes = [0; 8];
+    for i in 0..dirs {
+        planes[i] = words[i * count + j];
+    }
+    planes
+}
+
+// Writes word j of each direction, with nothing at solid cells.
+#[inline(always)]
+fn scatter(words: &mut [u64], count: usize, dirs: usize, j: usize, planes: [u64; 8], solid: u64)
+    requires few_words { count ≤ 64 }
+    requires few_dirs { dirs ≤ 8 }
+    requires long { length words.old ≡ dirs * count }
+    requires within { j < count }
+    ensures { (i y : ℕ) → i < dirs → y / 64 < count →
+        has words.new count i y
+        ≡ (if y / 64 == j then holds (slice_index planes i) (y % 64) && not (holds solid (y % 64)) else has words.old count i y) }
+{
+    for i in 0..dirs {
+        words[i * count + j] = without(planes[i], solid);
+    }
+}
+
+/// Takes over the sets of all cells.
+pub(crate) fn load_states(words: &mut [u64], count: usize, dirs: usize, states: &[u8])
+    requires few_words { count ≤ 64 }
+    requires few_dirs { dirs ≤ 8 }
+    requires long { length words.old ≡ dirs * count }
+    requires wide { words_in (length states.now) ≡ count }
+    ensures { (i y : ℕ) → i < dirs → y / 64 < count → has words.new count i y ≡ holds (slice_index states.now y) i }
+{
+    for j in 0..count {
+        let end = states.len().min(64 * j + 64);
+        let planes = planes_of(block(&states[64 * j..end]));
+        scatter(words, count, dirs, j, planes, 0);
+    }
+}
+
+// The states of 64 cells, 0 past the given ones.
+#[inline(always)]
+fn block(states: &[u8]) -> [u8; 64]
+    requires { length states.now ≤ 64 }
+    ensures { (b : ℕ) → slice_index result b ≡ slice_index states.now b }
+{
+    let mut block = [0; 64];
+    for b in 0..states.len() {
+        block[b] = states[b];
+    }
+    block
+}
+
+/// Takes over the words of a row, and drops the bits past its width.
+pub(crate) fn load(words: &mut [u64], given: &[u64], dirs: usize, width: u32)
+    requires some_cells { 1 ≤ width }
+    requires few_cells { width ≤ 4096 }
+    requires few_dirs { dirs ≤ 8 }
+    requires long { length words.old ≡ dirs * words_in width }
+    requires given { length given.now ≡ dirs * words_in width }
+    ensures { (i y : ℕ) → i < dirs → y / 64 < words_in width →
+        has words.new (words_in width) i y ≡ (nat_lt y width && has given.now (words_in width) i y) }
+{
+    words.copy_from_slice(given);
+    clear_past(words, dirs, width);
+}
+
+// Clears the bits past the width.
+fn clear_past(words: &mut [u64], dirs: usize, width: u32)
+    requires some_cells { 1 ≤ width }
+    requires few_cells { width ≤ 4096 }
+    requires few_dirs { dirs ≤ 8 }
+    requires long { length words.old ≡ dirs * words_in width }
+    ensures { (i y : ℕ) → i < dirs → y / 64 < words_in width →
+        has words.new (words_in width) i y ≡ (nat_lt y width && has words.old (words_in width) i y) }
+{
+    let count = words_for(width);
+    for i in 0..dirs {
+        let at = i * count + (count - 1);
+        words[at] = up_to(words[at], (width - 1) % 64);
+    }
+}

@@ -1,0 +1,221 @@
+//! The streaming of one direction of a row, 64 cells at a time.
+ghost use Rattle.std.specs.Prelude.{◌≡◌, ◌≢◌, ◌/◌, ℕ, ◌*◌, ◌<◌, ◌≤◌, ◌&&◌, ◌+◌, nat_le, length, false, if◌then◌else◌};
+ghost use Rattle.gas_geom.specs.Gas.{Move, Back, Stay, On, amount, holds};
+ghost use Rattle.gas_geom.specs.Neighbour.{column_after};
+ghost use Rattle.gas_rows.specs.Words.{words_in, bit};
+ghost use Rattle.gas_rows.specs.Planes.{has};
+ghost use Rattle.gas_rows.specs.Moved.{moved_bit};
+ghost use Rattle.gas_rows.specs.Shift.{streamed_bit};
+
+use crate::word::{up_to, without, words_for};
+
+/// Where the particles of a direction come from, along the row.
+pub(crate) trait Source {
+    ghost source: { Move };
+
+    /// The cells that 64 cells get their particles from, of a word of them and the words before
+    /// and after it.
+    fn moved(before: u64, word: u64, after: u64) -> u64
+        ensures { (b : ℕ) → b < 64 → holds result b ≡ moved_bit source before word after b };
+}
+
+/// The cell to the west.
+pub(crate) struct West;
+
+/// The cell itself.
+pub(crate) struct Here;
+
+/// The cell to the east.
+pub(crate) struct East;
+
+impl Source for West {
+    ghost source = { Back };
+
+    #[inline(always)]
+    fn moved(before: u64, word: u64, _after: u64) -> u64 {
+        (word << 1) | (before >> 63)
+    }
+}
+
+impl Source for Here {
+    ghost source = { Stay };
+
+    #[inline(always)]
+    fn moved(_before: u64, word: u64, _after: u64) -> u64 {
+        word
+    }
+}
+
+impl Source for East {
+    ghost source = { On };
+
+    #[inline(always)]
+    fn moved(_before: u64, word: u64, after: u64) -> u64 {
+        (word >> 1) | (after << 63)
+    }
+}
+
+// Bit `last` moved to the last place.
+#[inline(always)]
+fn to_top(word: u64, last: u32) -> u64
+    requires { last < 64 }
+    ensures { holds result 63 ≡ holds word last }
+{
+    word << (63 - last)
+}
+
+// The bits of `word` up to `last`, which the first bit of `next` follows.
+#[inline(always)]
+fn continued(word: u64, last: u32, next: u64) -> u64
+    requires { last < 64 }
+    ensures here { (b : ℕ) → b ≤ last → holds result b ≡ holds word b }
+    ensures next { last < 63 → holds result (last + 1) ≡ holds next 0 }
+{
+    up_to(word, last) | ((next << 1) << last)
+}
+
+// What 64 cells hold after streaming.
+#[inline(always)]
+fn streamed(came: u64, met: u64, back: u64, own: u64) -> u64
+    ensures { (b : ℕ) → b < 64
+        → holds result b ≡ streamed_bit (holds came b) (holds met b) (holds back b) (holds own b) }
+{
+    ((came & !met) | (met & back)) & !own
+}
+
+/// Streams one direction of a row: `from` holds the direction in the row that its particles come
+/// from, `met` the solid cells there, `back` the opposite direction in the row itself, and `own`
+/// its solid cells. Bits past the width are dropped.
+pub(crate) fn stream_words<S: Source>(
+    from: &[u64],
+    met: &[u64],
+    back: &[u64],
+    own: &[u64],
+    out: &mut [u64],
+    width: u32,
+)
+    requires some_cells { 1 ≤ width }
+    requires few_cells { width ≤ 4096 }
+    requires from { length from.now ≡ words_in width }
+    requires met { length met.now ≡ words_in width }
+    requires back { length back.now ≡ words_in width }
+    requires own { length own.now ≡ words_in width }
+    requires out { length out.old ≡ words_in width }
+    ensures streamed { (x : ℕ) → x < width
+        → bit out.new x ≡ streamed_bit (bit from.now (column_after width x S.source)) (bit met.now (column_after width x S.source)) (bit back.now x) (bit own.now x) }
+    ensures clear { (x : ℕ) → width ≤ x → x < 64 * words_in width → bit out.new x ≡ false }
+{
+    let last = out.len() - 1;
+    let top = (width - 1) % 64;
+    let mut before = to_top(from[last], top);
+    let mut before_met = to_top(met[last], top);
+    for j in 0..last {
+        let came = S::moved(before, from[j], from[j + 1]);
+        let turned = S::moved(before_met, met[j], met[j + 1]);
+        out[j] = streamed(came, turned, back[j], own[j]);
+        before = from[j];
+        before_met = met[j];
+    }
+    let came = S::moved(before, continued(from[last], top, from[0]), from[0]);
+    let turned = S::moved(before_met, continued(met[last], top, met[0]), met[0]);
+    out[last] = up_to(streamed(came, turned, back[last], own[last]), top);
+}
+
+/// Streams one direction of a row whose particles would come from past the wall: it sends back
+/// those of the opposite direction, `back`, at the cells that are not solid. Bits past the width
+/// are dropped.
+pub(crate) fn reflect_words(back: &[u64], own: &[u64], out: &mut [u64], width: u32)
+    requires some_cells { 1 ≤ width }
+    requires few_cells { width ≤ 4096 }
+    requires back { length back.now ≡ words_in width }
+    requires own { length own.now ≡ words_in width }
+    requires out { length out.old ≡ words_in width }
+    ensures reflected { (x : ℕ) → x < width
+        → bit out.new x ≡ (if bit own.now x then false else bit back.now x) }
+    ensures clear { (x : ℕ) → width ≤ x → x < 64 * words_in width → bit out.new x ≡ false }
+{
+    for (j, word) in out.iter_mut().enumerate() {
+        *word = without(back[j], own[j]);
+    }
+    let last = out.len() - 1;
+    out[last] = up_to(out[last], (width - 1) % 64);
+}
+
+// Streams one direction of a row along the row, where `along` leads to where its particles come
+// from.
+fn stream_along(
+    along: i32,
+    from: &[u64],
+    met: &[u64],
+    back: &[u64],
+    own: &[u64],
+    out: &mut [u64],
+    width: u32,
+)
+    requires some_cells { 1 ≤ width }
+    requires few_cells { width ≤ 4096 }
+    requires from { length from.now ≡ words_in width }
+    requires met { length met.now ≡ words_in width }
+    requires back { length back.now ≡ words_in width }
+    requires own { length own.now ≡ words_in width }
+    requires out { length out.old ≡ words_in width }
+    ensures streamed { (m : Move) → along ≡ amount m → (x : ℕ) → x < width → bit out.new x
+        ≡ streamed_bit (bit from.now (column_after width x m)) (bit met.now (column_after width x m)) (bit back.now x) (bit own.now x) }
+    ensures clear { (x : ℕ) → width ≤ x → x < 64 * words_in width → bit out.new x ≡ false }
+{
+    if along < 0 {
+        stream_words::<West>(from, met, back, own, out, width);
+    } else if along > 0 {
+        stream_words::<East>(from, met, back, own, out, width);
+    } else {
+        stream_words::<Here>(from, met, back, own, out, width);
+    }
+}
+
+/// Streams direction `i` of the words of a row.
+#[inline(always)]
+pub(crate) fn stream_part(
+    words: &mut [u64],
+    i: usize,
+    along: i32,
+    from: &[u64],
+    met: &[u64],
+    back: &[u64],
+    own: &[u64],
+    width: u32,
+)
+    requires some_cells { 1 ≤ width }
+    requires few_cells { width ≤ 4096 }
+    requires direction { i < 8 }
+    requires within { i * words_in width + words_in width ≤ length words.old }
+    requires from { length from.now ≡ words_in width }
+    requires met { length met.now ≡ words_in width }
+    requires back { length back.now ≡ words_in width }
+    requires own { length own.now ≡ words_in width }
+    ensures streamed { (m : Move) → along ≡ amount m → (x : ℕ) → x < width → has words.new (words_in width) i x
+        ≡ streamed_bit (bit from.now (column_after width x m)) (bit met.now (column_after width x m)) (bit back.now x) (bit own.now x) }
+    ensures clear { (x : ℕ) → width ≤ x → x < 64 * words_in width → has words.new (words_in width) i x ≡ false }
+    ensures others { (k x : ℕ) → k ≢ i → x / 64 < words_in width → has words.new (words_in width) k x ≡ has words.old (words_in width) k x }
+{
+    let count = words_for(width);
+    let out = &mut words[i * count..i * count + count];
+    stream_along(along, from, met, back, own, out, width);
+}
+
+/// Streams direction `i` of the words of a row whose particles the wall sends back.
+#[inline(always)]
+pub(crate) fn reflect_part(words: &mut [u64], i: usize, back: &[u64], own: &[u64], width: u32)
+    requires some_cells { 1 ≤ width }
+    requires few_cells { width ≤ 4096 }
+    requires direction { i < 8 }
+    requires within { i * words_in width + words_in width ≤ length words.old }
+    requires back { length back.now ≡ words_in width }
+    requires own { length own.now ≡ words_in width }
+    ensures reflected { (x : ℕ) → x < width → has words.new (words_in width) i x ≡ (if bit own.now x then false else bit back.now x) }
+    ensures clear { (x : ℕ) → width ≤ x → x < 64 * words_in width → has words.new (words_in width) i x ≡ false }
+    ensures others { (k x : ℕ) → k ≢ i → x / 64 < words_in width → has words.new (words_in width) k x ≡ has words.old (words_in width) k x }
+{
+    let count = words_for(width);
+    let out = &mut words[i * count..i * count + count];
+    reflect_words(back, own, out, width);
+}

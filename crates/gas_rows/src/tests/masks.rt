@@ -1,0 +1,90 @@
+use super::WIDTHS;
+use crate::channel::Channel;
+use crate::mask::Mask;
+use gas_geom::size::Size;
+use std::alloc::Global;
+use std::process::Abort;
+use std::test::Fail;
+
+// Every third cell is true, from cell 1 on.
+fn every_third(rt: &impl Abort, alloc: Global, width: u32) -> Result<Mask, Fail> {
+    assert!(rt; 1 <= width && width <= 4096);
+    let mut mask = Mask::blank(alloc, width)?;
+    for x in 0..width {
+        assert!(rt; x < mask.width() && !mask.get(x), "cell {x} of {width}");
+        mask.set(x, x % 3 == 1);
+    }
+    Ok(mask)
+}
+
+#[test]
+fn cells_keep_their_values(rt: HostRuntime) -> Result<(), Fail> {
+    for width in WIDTHS {
+        let mask = every_third(&rt, rt.alloc(), width)?;
+        let copy = mask.copy(rt.alloc())?;
+        assert_eq!(rt; (mask.width(), copy.width()), (width, width));
+        for x in 0..width {
+            assert!(rt;
+                mask.get(x) == (x % 3 == 1) && copy.get(x) == (x % 3 == 1),
+                "cell {x} of {width}"
+            );
+        }
+        assert_eq!(rt;
+            (mask.count(), copy.count()),
+            ((width + 1) / 3, (width + 1) / 3)
+        );
+    }
+    Ok(())
+}
+
+#[test]
+fn a_copy_is_a_mask_of_its_own(rt: HostRuntime) -> Result<(), Fail> {
+    let mut mask = Mask::blank(rt.alloc(), 65)?;
+    mask.set(64, true);
+    let copy = mask.copy(rt.alloc())?;
+    mask.set(64, false);
+    assert!(rt; copy.width() == 65 && copy.get(64));
+    assert_eq!(rt; (mask.count(), copy.count()), (0, 1));
+    Ok(())
+}
+
+#[test]
+fn words_hold_64_cells_each(rt: HostRuntime) -> Result<(), Fail> {
+    for width in WIDTHS {
+        let mask = every_third(&rt, rt.alloc(), width)?;
+        assert_eq!(rt; mask.width(), width);
+        let words = mask.words();
+        assert_eq!(rt; words.len(), (width as usize).div_ceil(64));
+        for (j, word) in words.iter().enumerate() {
+            assert_eq!(rt; mask.word(j as u32), *word);
+            for b in 0u32..64 {
+                let x = 64 * j as u32 + b;
+                let wanted = x < width && x % 3 == 1;
+                assert!(rt;
+                    ((word >> b) & 1 == 1) == wanted,
+                    "bit {b} of word {j} of {width}"
+                );
+            }
+        }
+    }
+    Ok(())
+}
+
+// Rows of a channel take over values, 64 at a time.
+#[test]
+fn rows_take_over_values(rt: HostRuntime) -> Result<(), Fail> {
+    let mut solid = [false; 129];
+    solid[0] = true;
+    solid[63] = true;
+    solid[64] = true;
+    solid[128] = true;
+    let size = Size::new(129, 2).ok_or("a size")?;
+    let mut channel = Channel::free(rt.alloc(), size)?;
+    channel.set_row(1, &[true; 129]);
+    channel.set_row(1, &solid);
+    let mask = channel.mask(1);
+    assert_eq!(rt; mask.width(), 129);
+    assert!(rt; mask.words() == [0x8000_0000_0000_0001, 1, 1].as_slice());
+    assert_eq!(rt; channel.count_solid(), 4);
+    Ok(())
+}

@@ -1,0 +1,75 @@
+ghost use Rattle.std.specs.Prelude.{◌<◌, ◌^◌};
+
+use super::WIDTHS;
+use crate::row::Row;
+use gas_geom::fhp1::Fhp1;
+use gas_geom::hpp::Hpp;
+use std::alloc::Global;
+use std::process::Abort;
+use std::test::Fail;
+
+#[test]
+fn a_copied_row_is_a_row_of_its_own(rt: HostRuntime) -> Result<(), Fail> {
+    let mut row = Row::<Fhp1>::blank(rt.alloc(), 65)?;
+    assert_eq!(rt; row.width(), 65);
+    row.set(64, 0x3f);
+    let mut copy = row.copy(rt.alloc())?;
+    assert_eq!(rt; copy.width(), 65);
+    assert_eq!(rt; copy.get(64), 0x3f);
+    copy.set(64, 0);
+    assert_eq!(rt; row.count(), 6);
+    assert_eq!(rt; row.get(64), 0x3f);
+    assert_eq!(rt; copy.count(), 0);
+    Ok(())
+}
+
+// A state for each cell of FHP-I, with no order to be seen.
+fn fhp1_state(x: u32) -> u8
+    ensures { result < 2 ^ 6 }
+{
+    (x.wrapping_mul(0x9e37_79b1) >> 26) as u8
+}
+
+// Each cell keeps the state that it was given last, and the row counts their directions.
+fn each_cell_is_kept(rt: &impl Abort, alloc: Global, width: u32) -> Result<(), Fail> {
+    assert!(rt; 1 <= width && width <= 4096);
+    let mut row = Row::<Fhp1>::blank(alloc, width)?;
+    let mut wanted = 0u32;
+    for x in 0..width {
+        assert!(rt; x < row.width());
+        let state = fhp1_state(x);
+        row.set(x, state);
+        wanted = wanted.wrapping_add(state.count_ones());
+    }
+    assert_eq!(rt; row.count(), wanted, "width {width}");
+    let copy = row.copy(alloc)?;
+    for x in 0..width {
+        assert!(rt; x < row.width() && x < copy.width());
+        assert!(rt;
+            row.get(x) == fhp1_state(x) && copy.get(x) == fhp1_state(x),
+            "cell {x} of {width}"
+        );
+    }
+    Ok(())
+}
+
+#[test]
+fn cells_are_kept_at_each_width(rt: HostRuntime) -> Result<(), Fail> {
+    for width in WIDTHS {
+        each_cell_is_kept(&rt, rt.alloc(), width)?;
+    }
+    Ok(())
+}
+
+#[test]
+fn cells_of_hpp_are_kept(rt: HostRuntime) -> Result<(), Fail> {
+    let mut row = Row::<Hpp>::blank(rt.alloc(), 66)?;
+    row.set(0, 0x05);
+    row.set(63, 0x0f);
+    row.set(64, 0x0a);
+    row.set(65, 0x01);
+    row.set(63, 0x08);
+    assert_eq!(rt; (row.get(0), row.get(62), row.get(63)), (0x05, 0, 0x08));
+    assert_eq!(rt; (row.get(64), row.get(65), row.count()), (0x0a, 0x01, 6));
+    Ok(())
+}

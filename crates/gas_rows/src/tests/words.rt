@@ -1,0 +1,114 @@
+use super::WIDTHS;
+use crate::planes::directions;
+use crate::row::Row;
+use crate::word::words_for;
+use gas_geom::fhp1::Fhp1;
+use gas_geom::gas::Gas;
+use gas_geom::hpp::Hpp;
+use std::alloc::Global;
+use std::process::Abort;
+use std::test::Fail;
+
+// The last cell of 65 stands alone in the second word of each direction.
+#[test]
+fn the_last_cell_of_65(rt: HostRuntime) -> Result<(), Fail> {
+    let mut row = Row::<Fhp1>::blank(rt.alloc(), 65)?;
+    row.set(64, 0x3f);
+    let mut words = [7; 12];
+    row.words(&mut words);
+    assert!(rt; words == [0, 1, 0, 1, 0, 1, 0, 1, 0, 1, 0, 1]);
+    assert!(rt; row.as_words() == [0, 1, 0, 1, 0, 1, 0, 1, 0, 1, 0, 1].as_slice());
+    assert!(rt; row.plane(5) == [0, 1].as_slice());
+    Ok(())
+}
+
+#[test]
+fn bits_past_the_width_are_dropped(rt: HostRuntime) -> Result<(), Fail> {
+    let mut row = Row::<Fhp1>::blank(rt.alloc(), 65)?;
+    row.load_words(&[u64::MAX; 12]);
+    assert_eq!(rt; row.count(), 390);
+    let all = u64::MAX;
+    assert!(rt; row.as_words() == [all, 1, all, 1, all, 1, all, 1, all, 1, all, 1].as_slice());
+    row.set_plane_word(2, 1, u64::MAX - 1);
+    assert_eq!(rt; (row.get(63), row.get(64), row.count()), (0x3f, 0x3b, 389));
+    row.set_plane_word(2, 0, 4);
+    assert_eq!(rt; (row.get(1), row.get(2), row.get(3)), (0x3b, 0x3f, 0x3b));
+    Ok(())
+}
+
+// Each direction has its own words, the directions one after another.
+#[test]
+fn the_order_of_words(rt: HostRuntime) -> Result<(), Fail> {
+    let mut row = Row::<Hpp>::blank(rt.alloc(), 130)?;
+    row.load_words(&[1, 2, 1, 4, 8, 2, 16, 32, 3, 64, 128, 0]);
+    assert_eq!(rt;
+        (row.get(0), row.get(65), row.get(128), row.get(129)),
+        (0x01, 0x01, 0x05, 0x06)
+    );
+    assert_eq!(rt;
+        (row.get(2), row.get(67), row.get(4), row.get(69)),
+        (0x02, 0x02, 0x04, 0x04)
+    );
+    assert_eq!(rt; (row.get(6), row.get(71), row.count()), (0x08, 0x08, 12));
+    assert!(rt; row.plane(2) == [16, 32, 3].as_slice());
+    assert_eq!(rt; (row.plane_word(0, 1), row.plane_word(3, 0)), (2, 64));
+    Ok(())
+}
+
+// Whether the words say that cell x holds direction i.
+fn says(words: &[u64], count: usize, i: usize, x: u32) -> bool {
+    let at = i.wrapping_mul(count).wrapping_add(x as usize / 64);
+    at < words.len() && (words[at] >> (x % 64)) & 1 == 1
+}
+
+// Words with no order to be seen.
+fn mixed_words(alloc: Global, count: usize) -> Result<Vec<u64>, Fail> {
+    let mut words = Vec::with_capacity(alloc, count)?;
+    let mut word = 0u64;
+    for _ in 0..count {
+        word = word
+            .wrapping_mul(0x5851_f42d_4c95_7f2d)
+            .wrapping_add(0x1405_7b7e_f767_814f);
+        words.push(word ^ (word >> 29))?;
+    }
+    Ok(words)
+}
+
+// A row loaded from words holds what they say, and gives the same words without the bits past the
+// width.
+fn words_are_the_cells<G: Gas>(rt: &impl Abort, alloc: Global, width: u32) -> Result<(), Fail> {
+    assert!(rt; 1 <= width && width <= 4096);
+    let count = words_for(width);
+    let words = mixed_words(alloc, directions::<G>() * count)?;
+    let mut row = Row::<G>::blank(alloc, width)?;
+    assert!(rt; words.len() == directions::<G>() * words_for(row.width()));
+    row.load_words(&words);
+    let mut wanted = 0u32;
+    for x in 0..64 * count as u32 {
+        for i in 0..directions::<G>() {
+            let said = x < width && says(&words, count, i, x);
+            let held = x < row.width() && i < 8 && (row.get(x) >> i) & 1 == 1;
+            assert!(rt; held == said, "direction {i} of cell {x} of {width}");
+            assert!(rt;
+                says(row.as_words(), count, i, x) == said,
+                "word of {i} and cell {x} of {width}"
+            );
+            wanted = wanted.wrapping_add(u32::from(said));
+        }
+    }
+    assert_eq!(rt; row.count(), wanted, "width {width}");
+    let mut back = vec![in alloc; u64::MAX; words.len()]?;
+    assert!(rt; back.len() == directions::<G>() * words_for(row.width()));
+    row.words(&mut back);
+    assert!(rt; back.as_slice() == row.as_words(), "width {width}");
+    Ok(())
+}
+
+#[test]
+fn words_at_each_width(rt: HostRuntime) -> Result<(), Fail> {
+    for width in WIDTHS {
+        words_are_the_cells::<Fhp1>(&rt, rt.alloc(), width)?;
+        words_are_the_cells::<Hpp>(&rt, rt.alloc(), width)?;
+    }
+    Ok(())
+}

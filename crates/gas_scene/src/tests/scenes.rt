@@ -1,0 +1,93 @@
+//! What texts that are scenes hold.
+
+use super::helpers::cells_of;
+use crate::scene::read;
+use gas_rows::chirality::Chirality;
+use gas_rows::key::key_words;
+use std::fmt::Write;
+use std::test::Fail;
+
+#[test]
+fn cells(rt: HostRuntime) -> Result<(), Fail> {
+    for (text, wanted) in [
+        (
+            "gas = \"fhp1\"\nchirality = \"left\"\ncells = [\"........\", \"......01\", \"........\"]",
+            "........\n......01\n........\n",
+        ),
+        (
+            "gas = \"hpp\"\ncells = [\"00##\", \"0f..\"]",
+            "..##\n0f..\n",
+        ),
+        (
+            "gas = \"fhp1\"\nwidth = 5\nheight = 4\nsolid = [[2, 1, 1, 1]]\nrate = 1000",
+            "3f3f3f3f3f\n3f3f##3f3f\n3f3f3f3f3f\n3f3f3f3f3f\n",
+        ),
+        (
+            "gas = \"fhp1\"\nwidth = 5\nheight = 4\nsolid = [[2, 1, 1, 1]]\nrate = 1000\nparticles = [[0, 0, 9], [0, 0, 0]]",
+            "..3f3f3f3f\n3f3f##3f3f\n3f3f3f3f3f\n3f3f3f3f3f\n",
+        ),
+        (
+            "gas = \"fhp1\"\nwidth = 4\nheight = 2\nsolid = [[0, 0, 2, 1], [1, 0, 2, 2]]",
+            "######..\n..####..\n",
+        ),
+        (
+            "gas = \"fhp1\"\nseed = 3\nwidth = 5\nheight = 4\nrate = 500",
+            "2f1b1e181b\n260a08271b\n0c190e3f0c\n1d143c3535\n",
+        ),
+        (
+            "gas = \"hpp\"\nchirality = \"left\"\nseed = 3\nwidth = 5\nheight = 4\nrate = 300\nsolid = [[2, 1, 1, 2]]",
+            "0e020808..\n060a##0208\n0809##0b0c\n0d04040504\n",
+        ),
+    ] {
+        let scene = read(rt.alloc(), text.as_bytes())?;
+        let cells = cells_of(rt.alloc(), &scene)?;
+        assert_eq!(rt; cells.as_str(), wanted, "{text}");
+    }
+    Ok(())
+}
+
+#[test]
+fn chiralities(rt: HostRuntime) -> Result<(), Fail> {
+    for (keys, wanted) in [
+        ("", Chirality::Seeded(0)),
+        (
+            "seed = 9223372036854775807",
+            Chirality::Seeded(9223372036854775807),
+        ),
+        ("seed = 5\nchirality = \"seeded\"", Chirality::Seeded(5)),
+        ("seed = 5\nchirality = \"left\"", Chirality::Left),
+        ("chirality = \"right\"", Chirality::Right),
+    ] {
+        let text = format!(in rt.alloc(); "gas = \"fhp1\"\ncells = [\"01\"]\n{keys}")?;
+        let scene = read(rt.alloc(), text.as_str().as_bytes())?;
+        assert!(rt; scene.chirality() == wanted, "{keys}");
+    }
+    Ok(())
+}
+
+// Filling, asked cell by cell of the key stream.
+#[test]
+fn filling(rt: HostRuntime) -> Result<(), Fail> {
+    let scene = read(
+        rt.alloc(),
+        b"gas = \"fhp1\"\nseed = 3\nwidth = 5\nheight = 4\nrate = 500",
+    )?;
+    let mut wanted = String::new(rt.alloc());
+    for y in 0..4u64 {
+        for x in 0..5u64 {
+            let mut state = 0u32;
+            for i in 0..6u64 {
+                let mut word = [0u32];
+                key_words(3, (1 << 63) + i, y * 5 + x, &mut word);
+                if word[0] % 1000 < 500 {
+                    state |= 1 << i;
+                }
+            }
+            write!(wanted, "{state:02x}")?;
+        }
+        wanted.push_str("\n")?;
+    }
+    let cells = cells_of(rt.alloc(), &scene)?;
+    assert_eq!(rt; cells.as_str(), wanted.as_str());
+    Ok(())
+}

@@ -1,0 +1,114 @@
+-- One direction of a streamed cell, by the row that its particles come from, and a row whose directions are all streamed.
+use Rattle.std.proofs.Common.{◌≡◌, ℕ, ◌+◌, ◌-◌, ◌^◌, ◌<◌, ◌≤◌, ◌==◌, inl, inr, subst, option_map, Bool, true, false, if◌then◌else◌, Option, Some, None, List, length, get_or, ap, ◌∙◌, sym, arith, refl}
+use Rattle.std.specs.Int.{bit_at}
+use Rattle.std.proofs.lemmas.Bool.{cases_order}
+use Rattle.std.proofs.lemmas.Bool.Decides.{nat_tests}
+use Rattle.std.proofs.lemmas.List.FromFn.{fill_by_all}
+use Rattle.std.proofs.lemmas.Nat.{pow_pos}
+use Rattle.std.proofs.lemmas.Nat.Bits.{bit_at-lt, same_from_bits_below}
+use Rattle.gas_geom.specs.Gas.{Rules, Move, Back, Stay, On, holds}
+use Rattle.gas_geom.specs.Neighbour.{neighbour_of, row_after, column_after, is_odd}
+use Rattle.gas_geom.proofs.Steps.{neighbour-parts, row_after-lt}
+use Rattle.gas_geom.specs.Channel.{ChannelModel, is_solid}
+use Rattle.gas_geom.specs.Lattice.{arriving, arrives_from, streamed, set_of, row_of}
+use Rattle.gas_geom.proofs.Holds.{set_of-lt, holds-set_of, holds-zero}
+use Rattle.gas_rows.specs.Shift.{streamed_bit}
+use Rattle.gas_stage.specs.Streaming.{AreRowsAbout, IsRowAt}
+
+-- what a streamed cell holds
+holds-streamed : (gas : Rules) (c : ChannelModel) (at : ℕ → ℕ → ℕ) (x y i : ℕ) → i < gas.dirs
+    → holds (streamed gas c at x y) i ≡ (if is_solid c x y then false else arriving gas c at x y i)
+holds-streamed gas c at x y i h = by (is_solid c x y)
+  where
+    by : (solid : Bool) → holds (if solid then 0 else set_of gas.dirs (arriving gas c at x y)) i ≡ (if solid then false else arriving gas c at x y i)
+    by true = holds-zero i
+    by false = holds-set_of gas.dirs (arriving gas c at x y) i h
+
+by_cases : (s t own met back came back' came' : Bool) → own ≡ s → met ≡ t → (s ≡ false → back ≡ back') → (t ≡ false → came ≡ came')
+    → streamed_bit came met back own ≡ (if s then false else if t then back' else came')
+by_cases true t own met back came back' came' eo em hb hc = ap (λ o. streamed_bit came met back o) eo
+by_cases false true own met back came back' came' eo em hb hc = ap (λ o. streamed_bit came met back o) eo ∙ ap (λ m. if m then back else came) em ∙ hb refl
+by_cases false false own met back came back' came' eo em hb hc = ap (λ o. streamed_bit came met back o) eo ∙ ap (λ m. if m then back else came) em ∙ hc refl
+
+module _ (gas : Rules) (c : ChannelModel) (at : ℕ → ℕ → ℕ) (x y i : ℕ) (direction : i < gas.dirs) where
+  arrived : (o : Option (ℕ × ℕ)) → neighbour_of gas c.width c.height x y (gas.opposite i) ≡ o
+      → (if is_solid c x y then false else arrives_from gas c at x y i o) ≡ holds (streamed gas c at x y) i
+  arrived o there =
+      ap (λ a. if is_solid c x y then false else a) (sym (ap (arrives_from gas c at x y i) there)) ∙ sym (holds-streamed gas c at x y i direction)
+
+  -- from a cell of the channel
+  pub streamed_from_cell : (u v : ℕ) (came met back own : Bool) → neighbour_of gas c.width c.height x y (gas.opposite i) ≡ Some (u, v)
+      → own ≡ is_solid c x y → met ≡ is_solid c u v
+      → (is_solid c x y ≡ false → back ≡ holds (at x y) (gas.opposite i)) → (is_solid c u v ≡ false → came ≡ holds (at u v) i)
+      → streamed_bit came met back own ≡ holds (streamed gas c at x y) i
+  streamed_from_cell u v came met back own there eo em hb hc =
+      by_cases (is_solid c x y) (is_solid c u v) own met back came (holds (at x y) (gas.opposite i)) (holds (at u v) i) eo em hb hc
+      ∙ arrived (Some (u, v)) there
+
+  -- from the wall
+  pub streamed_from_wall : (back own : Bool) → neighbour_of gas c.width c.height x y (gas.opposite i) ≡ None
+      → own ≡ is_solid c x y → (is_solid c x y ≡ false → back ≡ holds (at x y) (gas.opposite i))
+      → (if own then false else back) ≡ holds (streamed gas c at x y) i
+  streamed_from_wall back own there eo hb =
+      by_cases (is_solid c x y) true own true back false (holds (at x y) (gas.opposite i)) false eo refl hb (λ no. refl)
+      ∙ arrived None there
+
+-- a set is known by its directions
+same_set : (n s t : ℕ) → s < 2 ^ n → t < 2 ^ n → ((i : ℕ) → i < n → holds s i ≡ holds t i) → s ≡ t
+same_set n s t hs ht same =
+    same_from_bits_below n s t hs ht (λ i h. same_bit (bit_at s i) (bit_at t i) (bit_at-lt s i) (bit_at-lt t i) (same i h))
+  where
+    same_bit : (a b : ℕ) → a < 2 → b < 2 → (a == 1) ≡ (b == 1) → a ≡ b
+    same_bit a b ha hb e = grind (arith, nat_tests)
+
+streamed-lt : (gas : Rules) (c : ChannelModel) (at : ℕ → ℕ → ℕ) (x y : ℕ) → streamed gas c at x y < 2 ^ gas.dirs
+streamed-lt gas c at x y = by (is_solid c x y)
+  where
+    by : (solid : Bool) → (if solid then 0 else set_of gas.dirs (arriving gas c at x y)) < 2 ^ gas.dirs
+    by true = pow_pos gas.dirs
+    by false = set_of-lt gas.dirs (arriving gas c at x y)
+
+pub row_streamed : (gas : Rules) (c : ChannelModel) (at : ℕ → ℕ → ℕ) (y : ℕ) (row : List ℕ) → length row ≡ c.width
+    → ((x : ℕ) → get_or row x 0 < 2 ^ gas.dirs)
+    → ((i x : ℕ) → i < gas.dirs → x < c.width → holds (get_or row x 0) i ≡ holds (streamed gas c at x y) i)
+    → row ≡ row_of c.width (λ x. streamed gas c at x y)
+row_streamed gas c at y row wide small each =
+    fill_by_all (λ x. streamed gas c at x y) row c.width 0 wide
+    (λ x h. same_set gas.dirs (get_or row x 0) (streamed gas c at x y) (small x) (streamed-lt gas c at x y) (λ i lt. each i x lt h))
+
+-- ---- the row beside
+row_after-near : (h y v : ℕ) (m : Move) → row_after h y m ≡ Some v → (y ≤ v + 1) × (v ≤ y + 1)
+row_after-near h y v Back there = (grind (arith, nat_tests), grind (arith, nat_tests))
+row_after-near h y v Stay there = (grind (arith, nat_tests), grind (arith, nat_tests))
+row_after-near h y v On there = (grind (arith, nat_tests), grind (arith, nat_tests))
+
+-- all cells of a row have their neighbours in one row
+pub neighbour-same_row : (gas : Rules) (w h x y d u v : ℕ) → neighbour_of gas w h 0 y d ≡ Some (u, v)
+    → neighbour_of gas w h x y d ≡ Some (column_after w x (gas.step d (is_odd y)).0, v)
+neighbour-same_row gas w h x y d u v there =
+    ap (option_map {U = ℕ × ℕ} (λ (y' : ℕ). (column_after w x (gas.step d (is_odd y)).0, y'))) (neighbour-parts gas w h 0 y d u v there).1
+
+pub neighbour-same_wall : (gas : Rules) (w h x y d : ℕ) → neighbour_of gas w h 0 y d ≡ None → neighbour_of gas w h x y d ≡ None
+neighbour-same_wall gas w h x y d there = by (row_after h y (gas.step d (is_odd y)).1) there
+  where
+    by : (o : Option ℕ) → option_map {U = ℕ × ℕ} (λ (y' : ℕ). (column_after w 0 (gas.step d (is_odd y)).0, y')) o ≡ None
+        → option_map {U = ℕ × ℕ} (λ (y' : ℕ). (column_after w x (gas.step d (is_odd y)).0, y')) o ≡ None
+    by None e = refl
+    by (Some y') e = cc
+
+pub rows_at : (gas : Rules) (c : ChannelModel) (at : ℕ → ℕ → ℕ) (y d u v : ℕ) (up mid down row : List ℕ) → y < c.height
+    → neighbour_of gas c.width c.height 0 y d ≡ Some (u, v) → AreRowsAbout c at y up mid down
+    → (v < y → row ≡ up) → (v ≡ y → row ≡ mid) → (y < v → v < c.height → row ≡ down) → IsRowAt c at v row
+rows_at gas c at y d u v up mid down row within there rows above here below =
+    let parts = neighbour-parts gas c.width c.height 0 y d u v there in
+    let near = row_after-near c.height y v (gas.step d (is_odd y)).1 parts.1 in
+    let lt = row_after-lt c.height y v (gas.step d (is_odd y)).1 within parts.1 in
+    let low = near.0 in
+    let high = near.1 in
+    elim (cases_order v y) [
+      | inl e ↦ subst (IsRowAt c at v) (sym (here e)) (subst (λ k. IsRowAt c at k mid) (sym e) rows.mid_is)
+      | inr (inl less) ↦ (let e : y - 1 ≡ v = omega arith in
+          subst (IsRowAt c at v) (sym (above less)) (subst (λ k. IsRowAt c at k up) e (rows.up_is (omega arith))))
+      | inr (inr more) ↦ (let e : y + 1 ≡ v = omega arith in
+          subst (IsRowAt c at v) (sym (below more lt)) (subst (λ k. IsRowAt c at k down) e (rows.down_is (omega arith))))
+    ]

@@ -1,5 +1,0 @@
-use Rattle.gas_stage.proofs.Number.{count-next}
-use Rattle.gas_stage.proofs.law.number_law.Goals as goal
-
-pub returns : goal.returns
-returns g c = count-next g.G.Gas.rules g.met.G.Gas.laws
