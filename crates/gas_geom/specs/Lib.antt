@@ -2,6 +2,7 @@ pub mod Gas
 pub mod Size
 pub mod Fhp1
 pub mod Hpp
+pub mod FhpRest
 pub mod Neighbour
 pub mod Channel
 pub mod Lattice

@@ -2,6 +2,7 @@
 #![tactic(auto)]
 
 pub mod fhp1;
+pub mod fhp_rest;
 pub mod gas;
 pub mod hpp;
 pub mod law;

@@ -1,8 +1,10 @@
-ghost use Rattle.std.specs.Prelude.{◌<◌};
+ghost use Rattle.std.specs.Prelude.{◌<◌, ◌≤◌};
 
+use crate::fhp_rest::FhpRest;
 use crate::fhp1::Fhp1;
 use crate::gas::Gas;
 use crate::hpp::Hpp;
+use std::process::Abort;
 
 // Cell b has the state b.
 const FHP1_STATES: [u64; 8] = [
@@ -63,6 +65,28 @@ fn all_states_of_hpp(rt: HostRuntime) {
             assert!(rt; state_at(&after, b) == wanted, "{b:02x} at {chi:x}");
         }
     }
+}
+
+// Cell b has the state b, with a particle at rest where `rest` is 0x40.
+fn all_states_beside(rt: &impl Abort, rest: u8)
+    requires { rest ≤ 0x40 }
+{
+    let mut planes = FHP1_STATES;
+    planes[6] = if rest == 0 { 0 } else { u64::MAX };
+    for chi in RANDOM_BITS {
+        let after = FhpRest::collide64(planes, chi);
+        for b in 0u32..64 {
+            let state = rest + b as u8;
+            let wanted = FhpRest::collide(state, (chi >> b) & 1 == 1);
+            assert!(rt; state_at(&after, b) == wanted, "{state:02x} at {chi:x}");
+        }
+    }
+}
+
+#[test]
+fn all_states_of_fhp_rest(rt: HostRuntime) {
+    all_states_beside(&rt, 0);
+    all_states_beside(&rt, 0x40);
 }
 
 // Cell 0 has the pair {0, 3} and turns to the left; cell 1 has {0, 1, 3}, and its spectator stops

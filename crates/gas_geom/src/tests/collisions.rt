@@ -1,3 +1,4 @@
+use crate::fhp_rest::FhpRest;
 use crate::fhp1::Fhp1;
 use crate::gas::Gas;
 use crate::hpp::Hpp;
@@ -32,6 +33,50 @@ fn collisions(rt: HostRuntime) {
         };
         assert!(rt;
             Hpp::collide(state, true) == wanted && Hpp::collide(state, false) == wanted,
+            "{state:02x}"
+        );
+    }
+}
+
+// (state, after chirality 1, after chirality 0); every other state stays.
+#[test]
+fn collisions_beside_rest(rt: HostRuntime) {
+    let table: [(u8, u8, u8); 22] = [
+        (0x09, 0x12, 0x24),
+        (0x12, 0x24, 0x09),
+        (0x24, 0x09, 0x12),
+        (0x49, 0x52, 0x64),
+        (0x52, 0x64, 0x49),
+        (0x64, 0x49, 0x52),
+        (0x15, 0x2a, 0x2a),
+        (0x2a, 0x15, 0x15),
+        (0x55, 0x6a, 0x6a),
+        (0x6a, 0x55, 0x55),
+        (0x41, 0x22, 0x22),
+        (0x42, 0x05, 0x05),
+        (0x44, 0x0a, 0x0a),
+        (0x48, 0x14, 0x14),
+        (0x50, 0x28, 0x28),
+        (0x60, 0x11, 0x11),
+        (0x22, 0x41, 0x41),
+        (0x05, 0x42, 0x42),
+        (0x0a, 0x44, 0x44),
+        (0x14, 0x48, 0x48),
+        (0x28, 0x50, 0x50),
+        (0x11, 0x60, 0x60),
+    ];
+    for state in 0u8..128 {
+        let mut wanted = (state, state);
+        for (before, left, right) in table {
+            if before == state {
+                wanted = (left, right);
+            }
+        }
+        assert!(rt;
+            (
+                FhpRest::collide(state, true),
+                FhpRest::collide(state, false)
+            ) == wanted,
             "{state:02x}"
         );
     }

@@ -1,3 +1,4 @@
+use crate::fhp_rest::FhpRest;
 use crate::fhp1::Fhp1;
 use crate::gas::Gas;
 use crate::hpp::Hpp;
@@ -41,8 +42,26 @@ fn table_of_hpp(rt: HostRuntime) {
     }
 }
 
+// Six directions are those of FHP-I, and the seventh leads nowhere.
+#[test]
+fn table_of_fhp_rest(rt: HostRuntime) {
+    for i in 0..6 {
+        for odd in [false, true] {
+            assert!(rt; FhpRest::step(i, odd) == Fhp1::step(i, odd), "step {i}");
+        }
+        assert!(rt; FhpRest::opposite(i) == Fhp1::opposite(i), "opposite {i}");
+        assert!(rt; FhpRest::momentum(i) == Fhp1::momentum(i), "momentum {i}");
+    }
+    assert_eq!(rt; FhpRest::DIRS, 7);
+    assert_eq!(rt; FhpRest::opposite(6), 6);
+    assert_eq!(rt; FhpRest::step(6, false), (0, 0));
+    assert_eq!(rt; FhpRest::step(6, true), (0, 0));
+    assert_eq!(rt; FhpRest::momentum(6), (0, 0));
+}
+
 #[test]
 fn names(rt: HostRuntime) {
     assert_eq!(rt; Fhp1::name(), "fhp1");
     assert_eq!(rt; Hpp::name(), "hpp");
+    assert_eq!(rt; FhpRest::name(), "fhp-rest");
 }

@@ -1,0 +1,30 @@
+-- A gas of this project's own: the six directions of FHP-I, and in each cell at most one particle at rest. It is not FHP-II.
+use Rattle.std.specs.Prelude.{ℕ, ◌+◌, ◌-◌, ◌%◌, ◌==◌, nat_lt, Bool, if◌then◌else◌, List, [], ◌∷◌, slice_index_or, codes, pos}
+use Rattle.gas_geom.specs.Gas.{Stay, Rules}
+use Rattle.gas_geom.specs.Fhp1.{fhp1, steps_from_even, steps_from_odd, momenta}
+
+-- a particle that moves beside one at rest, and the two that fly apart to its left and right in their place
+abbrev pub exchanges : List (ℕ × ℕ)
+exchanges = (0x41, 0x22) ∷ (0x42, 0x05) ∷ (0x44, 0x0a) ∷ (0x48, 0x14) ∷ (0x50, 0x28) ∷ (0x60, 0x11) ∷ []
+
+-- the other set of the pair that has `s`, or `none` where no pair has it
+abbrev pub exchanged : List (ℕ × ℕ) → ℕ → ℕ → ℕ
+exchanged [] s none = none
+exchanged (pair ∷ pairs) s none =
+    if s == pair.0 then pair.1 else if s == pair.1 then pair.0 else exchanged pairs s none
+
+-- All other sets collide as in FHP-I, whether or not a particle rests beside those that move.
+abbrev pub collision : ℕ → Bool → ℕ
+collision s chi =
+    exchanged exchanges s (if nat_lt s 0x40 then fhp1.collide s chi else 0x40 + fhp1.collide (s - 0x40) chi)
+
+-- direction 6 rests: it leads nowhere, and has no momentum
+abbrev pub fhp_rest : Rules
+fhp_rest = record {
+  name = codes "fhp-rest";
+  dirs = 7;
+  opposite = λ i. if i == 6 then 6 else (i + 3) % 6;
+  step = λ i odd. slice_index_or (if odd then steps_from_odd else steps_from_even) i (Stay, Stay);
+  collide = collision;
+  momentum = λ i. slice_index_or momenta i (pos 0, pos 0);
+}

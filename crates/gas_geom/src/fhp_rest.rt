@@ -1,0 +1,94 @@
+ghost use Rattle.std.specs.Prelude.{◌≡◌, ◌<◌, ◌≤◌, ◌^◌, ℕ, refl};
+ghost use Rattle.gas_geom.specs.FhpRest.{fhp_rest};
+ghost use Rattle.gas_geom.specs.Laws.FhpRest.{IsGas-fhp_rest};
+
+use crate::fhp1::Fhp1;
+use crate::gas::Gas;
+
+/// A gas of this project's own, which is not FHP-II: the directions of FHP-I, 0 to 5, and direction
+/// 6, in which a particle rests. Beside FHP-I's collisions, which a rest particle does not hinder,
+/// one that moves and one at rest fly apart to the left and the right of it, and two that meet so
+/// become one that moves and one at rest. Momentum is in FHP-I's units.
+#[derive(Clone, Copy)]
+pub struct FhpRest;
+
+impl Gas for FhpRest {
+    ghost rules = { fhp_rest };
+
+    ghost DIRS = { 7 };
+
+    const DIRS: u32 = 7;
+
+    ghost dirs_are = { refl };
+
+    ghost laws = { IsGas-fhp_rest };
+
+    fn name() -> &'static str {
+        "fhp-rest"
+    }
+
+    fn opposite(i: u32) -> u32 {
+        if i == 6 { 6 } else { (i + 3) % 6 }
+    }
+
+    fn step(i: u32, odd: bool) -> (i32, i32) {
+        if i == 6 { (0, 0) } else { Fhp1::step(i, odd) }
+    }
+
+    fn collide(state: u8, chi: bool) -> u8 {
+        match state {
+            0x41 => 0x22,
+            0x22 => 0x41,
+            0x42 => 0x05,
+            0x05 => 0x42,
+            0x44 => 0x0a,
+            0x0a => 0x44,
+            0x48 => 0x14,
+            0x14 => 0x48,
+            0x50 => 0x28,
+            0x28 => 0x50,
+            0x60 => 0x11,
+            0x11 => 0x60,
+            moving if moving < 0x40 => Fhp1::collide(moving, chi),
+            beside_rest => 0x40 + Fhp1::collide(beside_rest - 0x40, chi),
+        }
+    }
+
+    fn collide64(planes: [u64; 8], chi: u64) -> [u64; 8] {
+        let [e, ne, nw, w, sw, se, rest, _] = planes;
+        let (one_e, one_ne, one_nw) = (e ^ w, ne ^ sw, nw ^ se);
+        let each_one = one_e & one_ne & one_nw;
+        // E, NW and SW lie at equal angles, and so do NE, W and SE.
+        let (first, second) = (e | nw | sw, ne | w | se);
+        let one_side = first ^ second;
+        let unlike = e ^ ne;
+        let triple = each_one & one_side;
+        let pair = (unlike ^ nw) & !((e & ne) | one_e | one_ne | one_nw);
+        let right = !chi;
+        let pair_e = pair & (e | (nw ^ right));
+        let pair_ne = pair & (ne | (e ^ right));
+        let along_e = triple | pair_e;
+        let along_ne = triple | pair_ne;
+        let along_nw = triple | (pair_e ^ pair_ne);
+        // One beside a particle at rest, or two of one side beside none: each axis that has one
+        // loses it, and the others gain one of the other side.
+        let exchange = one_side & !(each_one | (one_e ^ one_ne ^ one_nw ^ rest));
+        let at_e = exchange & (one_e ^ second);
+        let at_ne = exchange & (one_ne ^ first);
+        let at_nw = exchange & (one_nw ^ second);
+        [
+            e ^ (along_e | at_e),
+            ne ^ (along_ne | at_ne),
+            nw ^ (along_nw | at_nw),
+            w ^ (along_e | (exchange ^ at_e)),
+            sw ^ (along_ne | (exchange ^ at_ne)),
+            se ^ (along_nw | (exchange ^ at_nw)),
+            rest ^ exchange,
+            0,
+        ]
+    }
+
+    fn momentum(i: u32) -> (i32, i32) {
+        if i == 6 { (0, 0) } else { Fhp1::momentum(i) }
+    }
+}
