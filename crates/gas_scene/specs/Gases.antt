@@ -6,12 +6,13 @@ use Rattle.std.specs.Str.{bytes_eq}
 use Rattle.gas_geom.specs.Gas.{Rules}
 use Rattle.gas_geom.specs.Fhp1.{fhp1}
 use Rattle.gas_geom.specs.Hpp.{hpp}
+use Rattle.gas_geom.specs.FhpRest.{fhp_rest}
 use Rattle.gas_geom.specs.Lattice.{LatticeModel}
 use Rattle.gas_scene.specs.declared.any_lattice.AnyLattice.{AnyLattice}
-use Rattle.gas_scene.specs.declared.any_lattice.AnyLattice.TheVariants.{Fhp1, Hpp}
+use Rattle.gas_scene.specs.declared.any_lattice.AnyLattice.TheVariants.{Fhp1, Hpp, FhpRest}
 
 abbrev pub gases : List Rules
-gases = fhp1 ∷ hpp ∷ []
+gases = fhp1 ∷ hpp ∷ fhp_rest ∷ []
 
 -- the gas of this name
 abbrev pub gas_named : List ℕ → Option Rules
@@ -33,3 +34,4 @@ pub record GasLattice : Type 0 where
 abbrev pub gas_lattice : AnyLattice → GasLattice
 gas_lattice (Fhp1 lattice) = record { gas = fhp1.name; lattice = lattice }
 gas_lattice (Hpp lattice) = record { gas = hpp.name; lattice = lattice }
+gas_lattice (FhpRest lattice) = record { gas = fhp_rest.name; lattice = lattice }

@@ -1,3 +1,4 @@
+use gas_geom::fhp_rest::FhpRest;
 use gas_geom::fhp1::Fhp1;
 use gas_geom::hpp::Hpp;
 use gas_rows::lattice::Lattice;
@@ -7,4 +8,5 @@ use gas_rows::lattice::Lattice;
 pub enum AnyLattice {
     Fhp1(Lattice<Fhp1>),
     Hpp(Lattice<Hpp>),
+    FhpRest(Lattice<FhpRest>),
 }

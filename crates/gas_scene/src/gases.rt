@@ -3,6 +3,7 @@
 ghost use Rattle.std.specs.Prelude.{◌≡◌, ◌^◌, option_map};
 ghost use Rattle.gas_scene.specs.Gases.{gas_named};
 
+use gas_geom::fhp_rest::FhpRest;
 use gas_geom::fhp1::Fhp1;
 use gas_geom::gas::Gas;
 use gas_geom::hpp::Hpp;
@@ -22,6 +23,8 @@ pub(crate) fn states_named(name: &str) -> Option<u16>
         Some(states::<Fhp1>())
     } else if name == Hpp::name() {
         Some(states::<Hpp>())
+    } else if name == FhpRest::name() {
+        Some(states::<FhpRest>())
     } else {
         None
     }

@@ -12,6 +12,7 @@ use crate::checks::check;
 use crate::error::SceneError;
 use crate::fields::{has, text_at};
 use crate::map_form::map_lattice;
+use gas_geom::fhp_rest::FhpRest;
 use gas_geom::fhp1::Fhp1;
 use gas_geom::gas::Gas;
 use gas_geom::hpp::Hpp;
@@ -90,6 +91,8 @@ fn any_lattice(alloc: Global, table: &Table) -> Result<AnyLattice, AllocError>
         Ok(AnyLattice::Fhp1(lattice_in(alloc, table)?))
     } else if gas == Hpp::name() {
         Ok(AnyLattice::Hpp(lattice_in(alloc, table)?))
+    } else if gas == FhpRest::name() {
+        Ok(AnyLattice::FhpRest(lattice_in(alloc, table)?))
     } else {
         unreachable!()
     }
@@ -119,7 +122,7 @@ fn read_table(alloc: Global, table: &Table) -> Result<Scene, SceneError>
 
 /// Reads a scene, a TOML document in UTF-8 whose keys stand at the top level.
 ///
-/// Both forms: `version` is 1, `gas` (required) is `"fhp1"` or `"hpp"`, `chirality` is `"seeded"`,
+/// Both forms: `version` is 1, `gas` (required) is `"fhp1"`, `"hpp"` or `"fhp-rest"`, `chirality` is `"seeded"`,
 /// `"left"` or `"right"`, and `seed` is 0 or more; left out, they are 1, `"seeded"` and 0.
 ///
 /// A map has `cells`, 1 to 4096 texts of one length, the rows from the top: two characters for each

@@ -1,6 +1,7 @@
 ghost use Rattle.std.specs.Prelude.{◌≡◌, ◌<◌, ◌^◌};
 
 use crate::plain::lattice_after;
+use gas_geom::fhp_rest::FhpRest;
 use gas_geom::fhp1::Fhp1;
 use gas_geom::gas::Gas;
 use gas_geom::hpp::Hpp;
@@ -108,6 +109,7 @@ fn a_stage_gives_the_next_lattices(rt: HostRuntime) -> Result<(), Fail> {
             let size = Size::new(width, height).ok_or("a size")?;
             compare_random::<Fhp1>(&rt, rt.alloc(), size, &mut random)?;
             compare_random::<Hpp>(&rt, rt.alloc(), size, &mut random)?;
+            compare_random::<FhpRest>(&rt, rt.alloc(), size, &mut random)?;
         }
     }
     Ok(())
@@ -119,6 +121,7 @@ fn a_stage_gives_the_next_wide_lattices(rt: HostRuntime) -> Result<(), Fail> {
     let size = Size::new(4095, 3).ok_or("a size")?;
     compare_random::<Fhp1>(&rt, rt.alloc(), size, &mut random)?;
     compare_random::<Hpp>(&rt, rt.alloc(), size, &mut random)?;
+    compare_random::<FhpRest>(&rt, rt.alloc(), size, &mut random)?;
     Ok(())
 }
 
@@ -131,5 +134,21 @@ fn the_fifth_generation(rt: HostRuntime) -> Result<(), Fail> {
     let by_stage = advance::lattice_after(alloc, &start, chirality, 5)?;
     assert_same(&rt, &by_stage, &lattice_after(alloc, &start, chirality, 5)?);
     assert_eq!(rt; by_stage.count(), start.count());
+    Ok(())
+}
+
+// Each of two thousand generations of a channel with obstacles has as many particles as the first,
+// at rest or moving.
+#[test]
+fn no_particle_is_lost_at_rest(rt: HostRuntime) -> Result<(), Fail> {
+    let alloc = rt.alloc();
+    let size = Size::new(24, 12).ok_or("a size")?;
+    let mut lattice = random_lattice::<FhpRest>(alloc, size, &mut Pcg32::new(42, 56))?;
+    let particles = lattice.count();
+    assert!(rt; particles > 500);
+    for seed in 0..2000 {
+        lattice = advance::lattice_after(alloc, &lattice, Chirality::Seeded(seed), 1)?;
+        assert_eq!(rt; lattice.count(), particles, "after {seed}");
+    }
     Ok(())
 }

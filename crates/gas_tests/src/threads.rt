@@ -1,5 +1,6 @@
 // Runs by threads beside the stage on one thread.
 use crate::tests::{assert_same, random_lattice};
+use gas_geom::fhp_rest::FhpRest;
 use gas_geom::fhp1::Fhp1;
 use gas_geom::gas::Gas;
 use gas_geom::hpp::Hpp;
@@ -49,11 +50,12 @@ fn compare<G: Gas + Send, R: Abort + Threads + Wait + Sync>(
 #[test]
 fn small_runs(rt: HostRuntime) -> Result<(), Fail> {
     let mut random = Pcg32::new(42, 54);
-    for _ in 0..15 {
+    for _ in 0..10 {
         for stages in [1, 2, 3, 4, 8] {
             for capacity in [1, 2, 7] {
                 compare::<Fhp1, _>(&rt, rt.alloc(), stages, capacity, &mut random)?;
                 compare::<Hpp, _>(&rt, rt.alloc(), stages, capacity, &mut random)?;
+                compare::<FhpRest, _>(&rt, rt.alloc(), stages, capacity, &mut random)?;
             }
         }
     }

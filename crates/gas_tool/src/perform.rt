@@ -66,6 +66,7 @@ pub fn perform<W: Write, H: Gate + Sync, R: Threads + Wait + Sync>(
     match scene.lattice() {
         AnyLattice::Fhp1(lattice) => perform_on(&means, lattice, chirality, request, out),
         AnyLattice::Hpp(lattice) => perform_on(&means, lattice, chirality, request, out),
+        AnyLattice::FhpRest(lattice) => perform_on(&means, lattice, chirality, request, out),
     }
 }
 

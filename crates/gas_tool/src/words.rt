@@ -52,7 +52,8 @@ of blocks by row of blocks, from the left in each. Its columns are:
   fluid      the number of its cells that are not solid
   particles  the number of its particles
   px, py     the sums of its particles' momenta, eastwards and northwards: in half steps and in
-             units of half the square root of 3 in FHP-I, in whole steps in HPP";
+             units of half the square root of 3 in FHP-I and fhp-rest, in whole steps
+             in HPP";
 
 const ABOUT_REPLAY: &str =
     "Let the members of a line make given turns, in one pass on one thread, and print where it stands";

@@ -37,6 +37,7 @@ fn answer(rt: &HostRuntime) -> Option<()> {
     match scene.lattice() {
         AnyLattice::Fhp1(lattice) => print(rt, lattice, scene.chirality(), generations),
         AnyLattice::Hpp(lattice) => print(rt, lattice, scene.chirality(), generations),
+        AnyLattice::FhpRest(lattice) => print(rt, lattice, scene.chirality(), generations),
     }
 }
 
