@@ -1,11 +1,14 @@
-/* Refuses one request for memory or for a thread: the REFUSE_AT-th call of malloc, realloc or pthread_create that the
-   program itself makes; what its libraries ask for is let through. At the end it writes to the file REFUSE_SEEN how many it
-   saw, how many threads were started, and how many of these were joined. Loaded with LD_PRELOAD. */
+/* Refuses requests for memory and for threads, which are the calls of malloc, realloc and pthread_create that the program
+   itself makes; what its libraries ask for is let through. REFUSE_AT=n refuses the n-th, REFUSE_FROM=n that and all after it,
+   and REFUSE_SEED=s each with probability 1/8. At the end it writes to the file REFUSE_SEEN how many it saw, how many it
+   refused, how many threads were started, how many of these were joined, and how many bytes the program has not given back.
+   Loaded with LD_PRELOAD. */
 #define _GNU_SOURCE
 #include <dlfcn.h>
 #include <errno.h>
 #include <fcntl.h>
 #include <link.h>
+#include <malloc.h>
 #include <pthread.h>
 #include <stdatomic.h>
 #include <stdio.h>
@@ -13,8 +16,8 @@
 #include <sys/syscall.h>
 #include <unistd.h>
 
-static atomic_long seen, started, joined;
-static long refuse_at = -1;
+static atomic_long seen, refused, started, joined, held;
+static long refuse_at = -1, refuse_from, refuse_seed;
 static char *low, *high; /* where the program's own code lies */
 
 static int find_program(struct dl_phdr_info *info, size_t size, void *unused) {
@@ -30,18 +33,25 @@ static int find_program(struct dl_phdr_info *info, size_t size, void *unused) {
     return 1; /* the first object is the program */
 }
 
+static long number(const char *name) {
+    const char *word = getenv(name);
+    return word ? atol(word) : 0;
+}
+
 __attribute__((constructor)) static void begin(void) {
-    const char *word = getenv("REFUSE_AT");
     dl_iterate_phdr(find_program, 0);
     atomic_store(&seen, 0);
-    refuse_at = word ? atol(word) : 0;
+    refuse_from = number("REFUSE_FROM");
+    refuse_seed = number("REFUSE_SEED");
+    refuse_at = number("REFUSE_AT");
 }
 
 __attribute__((destructor)) static void end(void) {
     const char *file = getenv("REFUSE_SEEN");
     if (!file) return;
-    char text[96];
-    int length = snprintf(text, sizeof text, "%ld %ld %ld\n", atomic_load(&seen), atomic_load(&started), atomic_load(&joined));
+    char text[160];
+    int length = snprintf(text, sizeof text, "%ld %ld %ld %ld %ld\n", atomic_load(&seen), atomic_load(&refused),
+                          atomic_load(&started), atomic_load(&joined), atomic_load(&held));
     int to = open(file, O_WRONLY | O_CREAT | O_TRUNC, 0644);
     if (to < 0) return;
     if (write(to, text, length) < 0) abort();
@@ -55,20 +65,50 @@ void _exit(int status) {
     __builtin_unreachable();
 }
 
+static int is_own(void *caller) {
+    return refuse_at >= 0 && (char *)caller >= low && (char *)caller < high;
+}
+
+/* one in eight, by the mixing function of splitmix64 */
+static int is_drawn(long request) {
+    unsigned long x = (unsigned long)refuse_seed * 0x9e3779b97f4a7c15ul + (unsigned long)request * 0xd1b54a32d192ed03ul;
+    x = (x ^ (x >> 30)) * 0xbf58476d1ce4e5b9ul;
+    x = (x ^ (x >> 27)) * 0x94d049bb133111ebul;
+    return ((x ^ (x >> 31)) & 7) == 0;
+}
+
 static int is_refused(void *caller) {
-    if (refuse_at < 0 || (char *)caller < low || (char *)caller >= high) return 0;
-    return atomic_fetch_add(&seen, 1) + 1 == refuse_at;
+    if (!is_own(caller)) return 0;
+    long request = atomic_fetch_add(&seen, 1) + 1;
+    int refuse = request == refuse_at || (refuse_from && request >= refuse_from) || (refuse_seed && is_drawn(request));
+    if (refuse) atomic_fetch_add(&refused, 1);
+    return refuse;
+}
+
+static void *kept(void *caller, void *block) {
+    if (block && is_own(caller)) atomic_fetch_add(&held, (long)malloc_usable_size(block));
+    return block;
+}
+
+static void given_back(void *caller, void *block) {
+    if (block && is_own(caller)) atomic_fetch_sub(&held, (long)malloc_usable_size(block));
 }
 
 extern void *__libc_malloc(size_t);
 extern void *__libc_realloc(void *, size_t);
+extern void __libc_free(void *);
 
 void *malloc(size_t size) {
     if (is_refused(__builtin_return_address(0))) {
         errno = ENOMEM;
         return 0;
     }
-    return __libc_malloc(size);
+    return kept(__builtin_return_address(0), __libc_malloc(size));
+}
+
+void free(void *block) {
+    given_back(__builtin_return_address(0), block);
+    __libc_free(block);
 }
 
 void *realloc(void *old, size_t size) {
@@ -76,7 +116,10 @@ void *realloc(void *old, size_t size) {
         errno = ENOMEM;
         return 0;
     }
-    return __libc_realloc(old, size);
+    size_t before = old ? malloc_usable_size(old) : 0;
+    void *block = __libc_realloc(old, size);
+    if (block && is_own(__builtin_return_address(0))) atomic_fetch_add(&held, (long)malloc_usable_size(block) - (long)before);
+    return block;
 }
 
 int pthread_create(pthread_t *thread, const pthread_attr_t *attributes, void *(*run)(void *), void *argument) {

@@ -1,0 +1,139 @@
+#!/usr/bin/env python3
+"""Refuses requests for memory, starts of threads among them, of the built program and of each call that takes memory, which
+the program `refusals` makes by itself: each request alone, all from each one on, and each with probability 1/8. A refused run
+must end with its status and line, with every thread joined and every byte given back, and print nothing; where nothing is
+refused it must end with 0. Then the program runs under limits of its address space. Ends with the counts."""
+
+import concurrent.futures
+import os
+import pathlib
+import resource
+import subprocess
+import sys
+import tempfile
+
+HERE = pathlib.Path(__file__).resolve().parent
+TOP = HERE.parent
+PROGRAM = TOP / "crates/fhpgas/out/fhpgas"
+CALLS = TOP / "crates/refusals/out/refusals"
+SECONDS = 60  # a hundred times what the slowest run takes
+SEEDS = 1000
+
+REQUESTS = [
+    ("drift", "run --generations 1"),
+    ("obstacle", "run --generations 2 --stages 1 --capacity 1"),
+    ("drift", "run --generations 3 --stages 2 --capacity 1"),
+    ("drift", "run --generations 5 --stages 4"),
+    ("channel", "run --generations 1"),
+    ("rest", "run --generations 4 --stages 2"),
+    ("wind", "coarse --generations 2 --block-width 8 --block-height 8"),
+    ("drift", "replay --generations 2 --stages 2 0 1 2 0 1 2"),
+    ("square", "check"),
+    ("drift", "run --help"),
+]
+DRAWN = [
+    ("drift", "run --generations 5 --stages 4"),
+    ("wind", "coarse --generations 2 --block-width 8 --block-height 8"),
+    ("rest", "replay --generations 1 --stages 1 0 1 0 1 0 1 0 1 0 1 0 1 0 1 0 1"),
+]
+
+passed = 0
+failed = 0
+
+
+def count(is_well, what):
+    global passed, failed
+    passed, failed = passed + is_well, failed + (not is_well)
+    if not is_well:
+        print(f"FAILED: {what}")
+
+
+class Ended:
+    """How a program ended under the library that refuses."""
+
+    def __init__(self, library, words, scene, refuse):
+        with tempfile.NamedTemporaryFile() as seen:
+            environment = {**os.environ, **refuse, "REFUSE_SEEN": seen.name, "LD_PRELOAD": library}
+            with open(scene, "rb") as text:
+                ran = subprocess.run(words, stdin=text, capture_output=True, env=environment, timeout=SECONDS)
+            numbers = seen.read().split()
+        self.status, self.out, self.err = ran.returncode, ran.stdout, ran.stderr
+        self.seen, self.refused, self.started, self.joined, self.held = map(int, numbers or [-1] * 5)
+
+    def is_tidy(self):
+        return self.started == self.joined and self.held == 0
+
+    def is_refused(self, line):
+        return self.status == 3 and self.is_tidy() and self.out == b"" and self.err == line
+
+    def __str__(self):
+        return (f"status {self.status}, {self.refused} of {self.seen} requests refused, {self.joined} of {self.started} threads"
+                f" joined, {self.held} bytes kept, {len(self.out)} bytes out: {self.err[:200]!r}")
+
+
+def sweep(pool, library, name, words, scene, line):
+    """Refuses each request alone, and all from each one on."""
+    usual = Ended(library, words, scene, {})
+    count(usual.status == 0 and usual.is_tidy() and usual.seen > 0, f"{name}: {usual}")
+    tries = [{way: str(request)} for way in ("REFUSE_AT", "REFUSE_FROM") for request in range(1, usual.seen + 1)]
+    for refuse, ended in zip(tries, pool.map(lambda it: Ended(library, words, scene, it), tries)):
+        count(ended.is_refused(line) and ended.refused > 0, f"{name} {refuse}: {ended}")
+    print(f"{name}: {usual.seen} requests, {usual.started} threads")
+
+
+def draw(pool, library, name, words, scene):
+    """Refuses each request with probability 1/8, for many seeds."""
+    usual = Ended(library, words, scene, {})
+    tries = [{"REFUSE_SEED": str(seed)} for seed in range(1, SEEDS + 1)]
+    for refuse, ended in zip(tries, pool.map(lambda it: Ended(library, words, scene, it), tries)):
+        is_whole = ended.refused == 0 and ended.status == 0 and ended.out == usual.out and ended.is_tidy()
+        count(is_whole or (ended.refused > 0 and ended.is_refused(b"memory refused\n")), f"{name} {refuse}: {ended}")
+    print(f"{name}: {SEEDS} seeds")
+
+
+def run_within(limit, words, text):
+    """Runs the program in an address space of so many bytes."""
+    return subprocess.run(
+        [PROGRAM, *words],
+        input=text,
+        capture_output=True,
+        timeout=SECONDS,
+        preexec_fn=lambda: resource.setrlimit(resource.RLIMIT_AS, (limit, limit)),
+    )
+
+
+def limits():
+    """Runs the program on a large area in address spaces from too small to large enough."""
+    text = b'gas = "fhp1"\nwidth = 4096\nheight = 4096\nrate = 300\n'
+    words = ["coarse", "--generations", "1", "--stages", "2", "--block-width", "4096", "--block-height", "4096"]
+    usual = run_within(resource.RLIM_INFINITY, words, text)
+    count(usual.returncode == 0, "a large area without a limit")
+    answered = 0
+    for mebibytes in (8, 12, 16, 20, 24, 28, 32, 40, 48, 56, 64, 80, 96, 128, 192, 256):
+        ended = run_within(mebibytes << 20, words, text)
+        is_whole = ended.returncode == 0 and ended.stdout == usual.stdout
+        is_refused = ended.returncode == 3 and ended.stdout == b"" and ended.stderr == b"memory refused\n"
+        answered += is_whole
+        count(is_whole or is_refused, f"a large area in {mebibytes} MiB: status {ended.returncode}: {ended.stderr[:200]!r}")
+    print(f"a large area: answered in {answered} of 16 address spaces")
+
+
+def main():
+    with tempfile.TemporaryDirectory() as room, concurrent.futures.ThreadPoolExecutor(os.cpu_count()) as pool:
+        library = f"{room}/refuse.so"
+        made = ["cc", "-shared", "-fPIC", "-O1", "-Wall", "-o", library, HERE / "refusal/refuse.c", "-ldl"]
+        subprocess.run(made, check=True)
+        calls = (TOP / "crates/refusals/stdout").read_text().split()[::2]
+        for call in calls:
+            sweep(pool, library, call, [CALLS, call], os.devnull, b"")
+        for scene, words in REQUESTS:
+            path = TOP / f"scenes/{scene}.toml"
+            sweep(pool, library, f"{scene} {words}", [PROGRAM, *words.split()], path, b"memory refused\n")
+        for scene, words in DRAWN:
+            draw(pool, library, f"{scene} {words}", [PROGRAM, *words.split()], TOP / f"scenes/{scene}.toml")
+    limits()
+    print(f"{passed} passed, {failed} failed")
+    return 1 if failed else 0
+
+
+sys.exit(main())
