@@ -11,6 +11,7 @@ mod mask_words;
 mod planes;
 pub mod row;
 mod shift;
+mod span;
 #[cfg(test)]
 mod tests;
 mod transpose;

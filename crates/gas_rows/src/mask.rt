@@ -1,10 +1,11 @@
-ghost use Rattle.std.specs.Prelude.{◌≡◌, ◌<◌, ◌≤◌, ◌+◌, ◌*◌, ◌/◌, ◌%◌, ℕ, Bool, false, List, length, map, replicate, slice_index, slice_index_or, slice_set, count_by, IfOk};
+ghost use Rattle.std.specs.Prelude.{◌≡◌, ◌<◌, ◌≤◌, ◌+◌, ◌-◌, ◌*◌, ◌/◌, ◌%◌, ℕ, Bool, false, List, length, map, replicate, slice_index, slice_index_or, slice_set, count_by, IfOk};
 ghost use Rattle.std.specs.List.{range_with_len};
 ghost use Rattle.gas_geom.specs.Gas.{holds};
 ghost use Rattle.gas_rows.specs.Words.{words_in, bit};
 ghost use Rattle.gas_geom.specs.declared.size.TheConstants.{MOST_SIDE};
 
 use crate::mask_words;
+use crate::span::count_in;
 use crate::word::{has_bit, with_bit, words_for};
 use std::alloc::{AllocError, Global};
 use std::marker::Model;
@@ -118,10 +119,15 @@ impl Mask {
     pub fn count(&self) -> u32
         ensures { result ≡ count_by (λ b. b) self.now }
     {
-        let mut total = 0;
-        for word in &self.words {
-            total += word.count_ones();
-        }
-        total
+        count_in(&self.words, 0, self.width)
+    }
+
+    /// The number of cells from column `from` up to column `to` that are true.
+    pub fn count_in(&self, from: u32, to: u32) -> u32
+        requires order { from ≤ to }
+        requires within { to ≤ length self.now }
+        ensures { result ≡ count_by (λ x. slice_index_or self.now x false) (range_with_len from (to - from)) }
+    {
+        count_in(&self.words, from, to)
     }
 }

@@ -1,4 +1,5 @@
-ghost use Rattle.std.specs.Prelude.{◌≡◌, ◌≢◌, ◌⊎◌, ◌+◌, ◌*◌, ◌/◌, ◌<◌, ◌≤◌, ◌^◌, ℕ, List, length, replicate, slice_index, slice_index_or, slice_set, false, sum_by, if◌then◌else◌, IfOk};
+ghost use Rattle.std.specs.Prelude.{◌≡◌, ◌≢◌, ◌⊎◌, ◌+◌, ◌-◌, ◌*◌, ◌/◌, ◌<◌, ◌≤◌, ◌^◌, ℕ, List, length, replicate, slice_index, slice_index_or, slice_set, false, count_by, sum_by, if◌then◌else◌, IfOk};
+ghost use Rattle.std.specs.List.{range_with_len};
 ghost use Rattle.gas_geom.specs.Gas.{Move, amount, holds, particles};
 ghost use Rattle.gas_geom.specs.Lattice.{row_of};
 ghost use Rattle.gas_geom.specs.Neighbour.{column_after};
@@ -10,6 +11,7 @@ ghost use Rattle.gas_geom.specs.declared.size.TheConstants.{MOST_SIDE};
 use crate::mask::Mask;
 use crate::planes::{collide, directions, empty, gather, load, load_states, read_cell, write_cell};
 use crate::shift::{reflect_part, stream_part};
+use crate::span::count_in;
 use crate::transpose::states_of;
 use crate::word::{cut, words_for};
 use gas_geom::gas::Gas;
@@ -108,6 +110,16 @@ impl<G: Gas> Row<G> {
             total += word.count_ones();
         }
         total
+    }
+
+    /// The number of cells from column `from` up to column `to` that hold direction `i`.
+    pub fn count_in(&self, i: u32, from: u32, to: u32) -> u32
+        requires direction { i < G.rules.dirs }
+        requires order { from ≤ to }
+        requires within { to ≤ length self.now }
+        ensures { result ≡ count_by (λ x. holds (slice_index self.now x) i) (range_with_len from (to - from)) }
+    {
+        count_in(self.plane(i), from, to)
     }
 
     /// All words: those of direction 0 from cell 0 on, then those of direction 1, and so on. A

@@ -1,3 +1,5 @@
+ghost use Rattle.std.specs.Prelude.{◌≤◌};
+
 use super::WIDTHS;
 use crate::channel::Channel;
 use crate::mask::Mask;
@@ -64,6 +66,38 @@ fn words_hold_64_cells_each(rt: HostRuntime) -> Result<(), Fail> {
                     ((word >> b) & 1 == 1) == wanted,
                     "bit {b} of word {j} of {width}"
                 );
+            }
+        }
+    }
+    Ok(())
+}
+
+// Where counts begin and end: in, at and about the ends of words.
+const BOUNDS: [u32; 16] = [
+    0, 1, 5, 62, 63, 64, 65, 66, 100, 127, 128, 129, 192, 4000, 4095, 4096,
+];
+
+// How many x from `from` up to `to` leave 1 when they are divided by 3.
+fn thirds(from: u32, to: u32) -> u32
+    requires order { from ≤ to }
+    requires few { to ≤ 4096 }
+{
+    (to + 1) / 3 - (from + 1) / 3
+}
+
+#[test]
+fn counts_between_columns(rt: HostRuntime) -> Result<(), Fail> {
+    for width in [1, 63, 64, 65, 128, 4096] {
+        let mask = every_third(&rt, rt.alloc(), width)?;
+        for from in BOUNDS {
+            for to in BOUNDS {
+                if from <= to && to <= mask.width() {
+                    assert_eq!(rt;
+                        mask.count_in(from, to),
+                        thirds(from, to),
+                        "{from} to {to} of {width}"
+                    );
+                }
             }
         }
     }

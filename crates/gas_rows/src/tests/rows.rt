@@ -73,3 +73,42 @@ fn cells_of_hpp_are_kept(rt: HostRuntime) -> Result<(), Fail> {
     assert_eq!(rt; (row.get(64), row.get(65), row.count()), (0x0a, 0x01, 6));
     Ok(())
 }
+
+// The cells of a row from one column up to another that hold a direction, cell by cell.
+fn holding(row: &Row<Fhp1>, i: u32, from: u32, to: u32) -> u32 {
+    let mut count = 0u32;
+    for x in from..to {
+        if x < row.width() && i < 8 && (row.get(x) >> i) & 1 == 1 {
+            count = count.wrapping_add(1);
+        }
+    }
+    count
+}
+
+// Where counts begin and end: in, at and about the ends of words.
+const BOUNDS: [u32; 13] = [0, 1, 17, 62, 63, 64, 65, 100, 127, 128, 129, 4095, 4096];
+
+#[test]
+fn directions_counted_between_columns(rt: HostRuntime) -> Result<(), Fail> {
+    for width in [1, 63, 64, 65, 128, 4096] {
+        let mut row = Row::<Fhp1>::blank(rt.alloc(), width)?;
+        for x in 0..width {
+            assert!(rt; x < row.width());
+            row.set(x, fhp1_state(x));
+        }
+        for from in BOUNDS {
+            for to in BOUNDS {
+                if from <= to && to <= row.width() {
+                    for i in 0..6 {
+                        assert_eq!(rt;
+                            row.count_in(i, from, to),
+                            holding(&row, i, from, to),
+                            "{i} in {from} to {to} of {width}"
+                        );
+                    }
+                }
+            }
+        }
+    }
+    Ok(())
+}
