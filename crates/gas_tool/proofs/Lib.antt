@@ -1,3 +1,4 @@
+pub mod Counts
 pub mod Lines
 pub mod Matches
 pub mod Pairs

@@ -1,5 +1,5 @@
 -- Lemmas on ranges of numbers, the parts that they fall into, and lists that grow.
-use Rattle.std.proofs.Common.{◌≡◌, ◌∙◌, ap, sym, cond, true, false, Bool, ℕ, zero, suc, ◌+◌, ◌-◌, ◌*◌, ◌/◌, ◌<◌, ◌≤◌, min, refl, add-zero, zero-add, suc-add, append_assoc, arith, List, [], ◌∷◌, ◌++◌, map, fold, length, take, drop, get_or, append-nil, ap₂, length-append}
+use Rattle.std.proofs.Common.{◌≡◌, ◌∙◌, ap, sym, cond, true, false, Bool, ℕ, zero, suc, ◌+◌, ◌-◌, ◌*◌, ◌/◌, ◌<◌, ◌≤◌, min, refl, add-zero, zero-add, suc-add, append_assoc, arith, List, [], ◌∷◌, ◌++◌, map, length, take, drop, get_or, append-nil, ap₂, length-append}
 use Rattle.std.specs.Prelude.{◌==◌, filter}
 use Rattle.std.specs.Int.{div_ceil}
 use Rattle.std.specs.List.{range_with_len, flat_map}
@@ -8,7 +8,6 @@ use Rattle.std.proofs.Math.Nat.{div-lt_iff_lt-mul, mul-le-mul_right}
 use Rattle.std.proofs.lemmas.List.Elements.{filter-append}
 use Rattle.std.proofs.lemmas.List.FromFn.{map-range_with_len_more}
 use Rattle.std.proofs.lemmas.Grind.{flat_map-append, div_ceil_times}
-use Rattle.std.proofs.lemmas.List.Sums.{fold-append}
 use Rattle.std.proofs.lemmas.List.{get_or-append_right, get_or-drop, length-map, length-take-le, get_or_default, take_all, drop_all}
 use Rattle.std.proofs.Math.Seq.{take-append_seam, drop-append_seam}
 use Rattle.std.proofs.lemmas.List.Edits.{map_over_more}
@@ -20,11 +19,6 @@ pub range-append : (a m n : ℕ) → range_with_len a (m + n) ≡ range_with_len
 range-append a zero n = ap (λ k. range_with_len a k) (zero-add n) ∙ ap (λ b. range_with_len b n) (sym (add-zero a))
 range-append a (suc m) n =
     ap (range_with_len a) (suc-add m n) ∙ ap (λ xs. a ∷ xs) (range-append (a + 1) m n ∙ ap (λ b. range_with_len (a + 1) m ++ range_with_len b n) (omega arith))
-
--- a fold over one number more
-pub fold_range_more : {B : Type 0} (f : B → ℕ → B) (b : B) (a n j : ℕ) → a + n ≡ j → fold f b (range_with_len a (n + 1)) ≡ f (fold f b (range_with_len a n)) j
-fold_range_more f b a n j e =
-    ap (fold f b) (range-append a n 1 ∙ ap (λ k. range_with_len a n ++ (k ∷ [])) e) ∙ fold-append f b (range_with_len a n) (j ∷ [])
 
 filter_none : (p : ℕ → Bool) (a n : ℕ) → ((i : ℕ) → a ≤ i → i < a + n → p i ≡ false) → filter p (range_with_len a n) ≡ []
 filter_none p a zero h = refl

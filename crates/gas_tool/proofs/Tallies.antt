@@ -1,5 +1,5 @@
 -- Lemmas on how a block's numbers come together.
-use Rattle.std.proofs.Common.{◌≡◌, ◌∙◌, ap, sym, subst, true, false, Bool, ℕ, zero, suc, ◌+◌, ◌-◌, ◌*◌, ◌/◌, ◌<◌, ◌≤◌, min, refl, pos, ◌+ℤ◌, ◌≤ℤ◌, neg_ℤ, ℤ, add-one, add-zero, zero-add, arith, List, [], ◌∷◌, ◌++◌, map, fold, length, slice_index, slice_index_or, append-nil, ap₂, length-append}
+use Rattle.std.proofs.Common.{◌≡◌, ◌∙◌, ap, sym, subst, true, false, Bool, ℕ, zero, suc, ◌+◌, ◌-◌, ◌*◌, ◌/◌, ◌<◌, ◌≤◌, min, refl, pos, ◌+ℤ◌, ◌≤ℤ◌, neg_ℤ, ℤ, add-zero, zero-add, arith, List, [], ◌∷◌, ◌++◌, map, fold, length, slice_index_or, append-nil, ap₂, length-append}
 use Rattle.std.specs.Prelude.{All, ◌==◌, if◌then◌else◌, not}
 use Rattle.std.specs.Int.{div_ceil}
 use Rattle.std.specs.List.{range_with_len, flat_map}
@@ -18,11 +18,7 @@ use Rattle.gas_tool.proofs.Particles.{held-le}
 use Rattle.gas_tool.specs.Blocks.{part, cells_of, block_of_cells, strip_of}
 use Rattle.gas_tool.specs.Tally.{HasRoom, empty_block, plus_cell, plus_cell_of, plus_row}
 use Rattle.gas_tool.specs.declared.blocks.Block.{Block}
-use Rattle.gas_tool.proofs.Ranges.{range-append, fold_range_more, part-range, part-short, begins-within}
-
--- the sum over one direction more
-pub sum_held_more : (n s : ℕ) (f : ℕ → ℤ) → sum_held (n + 1) s f ≡ sum_held n s f +ℤ (if holds s n then f n else pos 0)
-sum_held_more n s f = rw add-one refl
+use Rattle.gas_tool.proofs.Ranges.{range-append, part-range, part-short, begins-within}
 
 -- a number from -m to m
 pub record Within (m : ℕ) (z : ℤ) : Type 0 where
@@ -33,10 +29,10 @@ if_small : (b : Bool) (z : ℤ) → IsSmall z → Within 2 (if b then z else pos
 if_small true z h = record { low = omega (arith, ints, h.0); high = omega (arith, ints, h.1) }
 if_small false z h = record { low = omega (arith, ints); high = omega (arith, ints) }
 
-Within-add : (m n : ℕ) (y z : ℤ) → Within m y → Within n z → Within (m + n) (y +ℤ z)
+pub Within-add : (m n : ℕ) (y z : ℤ) → Within m y → Within n z → Within (m + n) (y +ℤ z)
 Within-add m n y z h k = record { low = omega (arith, ints, h.low, k.low); high = omega (arith, ints, h.high, k.high) }
 
-Within-le : (m n : ℕ) (z : ℤ) → m ≤ n → Within m z → Within n z
+pub Within-le : (m n : ℕ) (z : ℤ) → m ≤ n → Within m z → Within n z
 Within-le m n z le h = record { low = omega (arith, ints, h.low); high = omega (arith, ints, h.high) }
 
 sum_held_small : (n s : ℕ) (f : ℕ → ℤ) → ((i : ℕ) → i < n → IsSmall (f i)) → Within (2 * n) (sum_held n s f)
@@ -69,11 +65,6 @@ HasRoom-cell gas laws b solid s n h =
       north = omega (arith, ints, h.north, m.1.high);
     }
 
-pub cell_made : (gas : Rules) (b : Block) (solid : Bool) (s f n : ℕ) (x y : ℤ) → f ≡ (if not solid then 1 else 0) → n ≡ particles gas s
-    → x ≡ b.px +ℤ (momentum_of gas s).0 → y ≡ b.py +ℤ (momentum_of gas s).1
-    → let made : Block = record { col = b.col; row = b.row; fluid = b.fluid + f; particles = b.particles + n; px = x; py = y } in made ≡ plus_cell gas b solid s
-cell_made gas b solid s f n x y p q e h = rw (p, q, e, h) refl
-
 pub HasRoom-le : (b : Block) (m n : ℕ) → m ≤ n → HasRoom b m → HasRoom b n
 HasRoom-le b m n le h = record {
   fluid = omega (arith, h.fluid);
@@ -83,21 +74,6 @@ HasRoom-le b m n le h = record {
   south = omega (arith, ints, h.south);
   north = omega (arith, ints, h.north);
 }
-
--- the cells of a row up to one column more
-pub cells_more : (gas : Rules) (solid : List Bool) (row : List ℕ) (b now more : Block) (s : Bool) (state a x : ℕ) → a ≤ x
-    → now ≡ fold (plus_cell_of gas solid row) b (range_with_len a (x - a)) → s ≡ slice_index_or solid x false → state ≡ slice_index row x
-    → more ≡ plus_cell gas now s state → more ≡ fold (plus_cell_of gas solid row) b (range_with_len a (x + 1 - a))
-cells_more gas solid row b now more s state a x le so_far is_solid is_state is_more =
-    let one : x - a + 1 ≡ x + 1 - a = omega arith in
-    let step = fold_range_more (plus_cell_of gas solid row) b a (x - a) x (omega arith) in
-    is_more ∙ ap (λ t. plus_cell gas now t state) is_solid ∙ ap (plus_cell gas now (slice_index_or solid x false)) is_state
-    ∙ ap (λ c. plus_cell gas c (slice_index_or solid x false) (slice_index row x)) so_far
-    ∙ sym step ∙ ap (λ n. fold (plus_cell_of gas solid row) b (range_with_len a n)) one
-
-pub HasRoom-more : (gas : Rules) → IsGas gas → (b r : Block) (solid : Bool) (s m n : ℕ) → m + 1 ≤ n → HasRoom b m → r ≡ plus_cell gas b solid s → HasRoom r n
-HasRoom-more gas laws b r solid s m n le h e =
-    subst (λ (x : Block). HasRoom x n) (sym e) (HasRoom-le _ (m + 1) n le (HasRoom-cell gas laws b solid s m h))
 
 -- the cells of a row that stand in a block's column of blocks are those of a range
 pub row_is : (gas : Rules) (width : ℕ) (solid : List Bool) (row : List ℕ) (b r : Block) (m : ℕ) → 1 ≤ width → b.col * width < length row

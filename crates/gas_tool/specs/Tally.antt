@@ -1,6 +1,6 @@
 -- Inner words: what functions of this crate promise one another. No public contract cites them.
--- How a block's numbers come together, cell by cell and row by row.
-use Rattle.std.specs.Prelude.{ℕ, ◌+◌, ◌*◌, ◌≤◌, Bool, false, not, if◌then◌else◌, List, fold, length, slice_index, slice_index_or, pos, neg_ℤ, ◌+ℤ◌, ◌≤ℤ◌}
+-- How a block's numbers come together: cells, directions and rows.
+use Rattle.std.specs.Prelude.{ℕ, ◌+◌, ◌*◌, ◌≤◌, Bool, false, not, if◌then◌else◌, List, fold, length, slice_index, slice_index_or, pos, neg_ℤ, ◌+ℤ◌, ◌*ℤ◌, ◌≤ℤ◌}
 use Rattle.gas_geom.specs.Gas.{Rules, particles, momentum_of}
 use Rattle.gas_tool.specs.Blocks.{part}
 use Rattle.gas_tool.specs.declared.blocks.Block.{Block}
@@ -26,6 +26,17 @@ plus_cell_of gas solid row b x = plus_cell gas b (slice_index_or solid x false) 
 -- with the cells of a row that stand in the block's column of blocks
 abbrev pub plus_row : Rules → ℕ → List Bool → List ℕ → Block → Block
 plus_row gas width solid row b = fold (plus_cell_of gas solid row) b (part (length row) width b.col)
+
+-- a block with so many particles of direction i more
+abbrev pub plus_particles : Rules → Block → ℕ → ℕ → Block
+plus_particles gas b i count = record {
+  col = b.col;
+  row = b.row;
+  fluid = b.fluid;
+  particles = b.particles + count;
+  px = b.px +ℤ (gas.momentum i).0 *ℤ pos count;
+  py = b.py +ℤ (gas.momentum i).1 *ℤ pos count;
+}
 
 -- a block of at most n cells may have these numbers
 pub record HasRoom (b : Block) (n : ℕ) : Type 0 where

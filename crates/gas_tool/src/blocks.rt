@@ -3,9 +3,9 @@
 ghost use Rattle.std.specs.Prelude.{◌≡◌, ◌≤◌, ◌<◌, ◌-◌, ◌+◌, ◌++◌, ◌*◌, ◌^◌, All, IfOk, OnOk, fold, length, map, pos, ◌==◌, not, if◌then◌else◌};
 ghost use Rattle.std.specs.Int.{div_ceil};
 ghost use Rattle.std.specs.List.{range_with_len};
-ghost use Rattle.gas_geom.specs.Gas.{IsSmall, holds, momentum_of};
+ghost use Rattle.gas_geom.specs.Gas.{holds};
 ghost use Rattle.gas_tool.specs.Blocks.{blocks_of, part, strip_of};
-ghost use Rattle.gas_tool.specs.Tally.{HasRoom, empty_block, plus_cell, plus_cell_of, plus_row};
+ghost use Rattle.gas_tool.specs.Tally.{HasRoom, empty_block, plus_cell_of, plus_particles, plus_row};
 
 use gas_geom::gas::Gas;
 use gas_rows::lattice::Lattice;
@@ -41,18 +41,19 @@ impl Block {
         }
     }
 
-    // The block with one more cell.
-    fn plus_cell<G: Gas>(self, solid: bool, state: u8) -> Block
-        requires state { state < 2 ^ G.rules.dirs }
-        requires room { HasRoom self (2 ^ 24 - 1) }
-        ensures { result ≡ plus_cell G.rules self solid state }
+    // The block with `count` more particles of direction `i`.
+    fn plus_particles<G: Gas>(self, i: u32, count: u32) -> Block
+        requires direction { i < G.rules.dirs }
+        requires few { count ≤ 4096 }
+        requires room { HasRoom self (2 ^ 24) }
+        ensures { result ≡ plus_particles G.rules self i count }
     {
-        let (px, py) = momentum::<G>(state);
+        let (px, py) = G::momentum(i);
+        let times = count as i32;
         Block {
-            fluid: self.fluid + fluid_cells(solid),
-            particles: self.particles + state.count_ones(),
-            px: self.px + px,
-            py: self.py + py,
+            particles: self.particles + count,
+            px: self.px + px * times,
+            py: self.py + py * times,
             ..self
         }
     }
@@ -66,9 +67,12 @@ impl Block {
         requires room { HasRoom self (2 ^ 24 - 4096) }
         ensures { result ≡ fold (plus_cell_of G.rules solid.now row.now) self (range_with_len from (to - from)) }
     {
-        let mut block = self;
-        for x in from..to {
-            block = block.plus_cell::<G>(solid.get(x), row.get(x));
+        let mut block = Block {
+            fluid: self.fluid + (to - from - solid.count_in(from, to)),
+            ..self
+        };
+        for i in 0..G::DIRS {
+            block = block.plus_particles::<G>(i, row.count_in(i, from, to));
         }
         block
     }
@@ -86,50 +90,6 @@ impl Block {
         let to = from + width.min(cells - from);
         self.plus_cells(row, solid, from, to)
     }
-}
-
-// 1 for a fluid cell, 0 for a solid one.
-fn fluid_cells(solid: bool) -> u32
-    ensures { result ≡ (if not solid then 1 else 0) }
-{
-    u32::from(!solid)
-}
-
-// Whether a state holds a direction.
-fn holds(state: u8, i: u32) -> bool
-    requires { i < 8 }
-    ensures { result ≡ holds state i }
-{
-    (state >> i) & 1 == 1
-}
-
-// The momentum of a direction where a state holds it, and none else.
-fn momentum_in<G: Gas>(state: u8, i: u32) -> (i32, i32)
-    requires { i < G.rules.dirs }
-    ensures eastwards { result.0 ≡ (if holds state i then (G.rules.momentum i).0 else pos 0) }
-    ensures northwards { result.1 ≡ (if holds state i then (G.rules.momentum i).1 else pos 0) }
-    ensures small { IsSmall result.0 × IsSmall result.1 }
-{
-    if holds(state, i) {
-        G::momentum(i)
-    } else {
-        (0, 0)
-    }
-}
-
-// The sum of the momenta of a state's particles.
-fn momentum<G: Gas>(state: u8) -> (i32, i32)
-    ensures eastwards { result.0 ≡ (momentum_of G.rules state).0 }
-    ensures northwards { result.1 ≡ (momentum_of G.rules state).1 }
-{
-    let mut px = 0;
-    let mut py = 0;
-    for i in 0..G::DIRS {
-        let (x, y) = momentum_in::<G>(state, i);
-        px += x;
-        py += y;
-    }
-    (px, py)
 }
 
 // Adds a row of the lattice to the blocks of its strip, which are `width` columns wide.

@@ -1,11 +1,9 @@
-use Rattle.std.proofs.Common.{◌≡◌, ◌+◌, ◌-◌, fold}
+use Rattle.std.proofs.Common.{◌≡◌, ◌-◌, false, slice_index, slice_index_or}
 use Rattle.std.specs.List.{range_with_len}
-use Rattle.gas_tool.specs.Tally.{HasRoom, plus_cell_of}
+use Rattle.gas_tool.proofs.Counts.{counted}
 use Rattle.gas_tool.proofs.blocks.Block.plus_cells.Given as goal
 
--- the block with the cells so far
-abbrev pub invariant-loop-x : goal.invariant-loop-x
-invariant-loop-x g l = record {
-  so_far : l.block ≡ fold (plus_cell_of g.G.Gas.rules l.solid l.row) l.fn.self (range_with_len l.fn.from (l.x - l.fn.from));
-  room : HasRoom l.block (16773120 + (l.x - l.fn.from));
-}
+-- the block with the particles of the directions so far
+abbrev pub invariant-loop-i : goal.invariant-loop-i
+invariant-loop-i g l =
+    l.block ≡ counted g.G.Gas.rules (λ x. slice_index_or l.solid x false) (λ x. slice_index l.row x) l.fn.self (range_with_len l.fn.from (l.fn.to - l.fn.from)) l.i
