@@ -11,7 +11,7 @@ use Rattle.toml.specs.View.{view}
 use Rattle.toml.specs.declared.value.Value.{Value}
 use Rattle.gas_geom.specs.Gas.{Rules}
 use Rattle.gas_geom.specs.Size.{IsSize}
-use Rattle.gas_geom.specs.Lattice.{LatticeModel}
+use Rattle.gas_geom.specs.Lattice.{LatticeModel, empty_lattice}
 use Rattle.gas_geom.specs.declared.size.TheConstants.{MOST_SIDE}
 use Rattle.gas_scene.specs.declared.fields.Extent.{Extent}
 use Rattle.gas_scene.specs.declared.fields.Rectangle.{Rectangle}
@@ -21,7 +21,8 @@ use Rattle.gas_scene.specs.Fields.{text_at, integer_at, array_at, extent_of, rec
 use Rattle.gas_scene.specs.Ranges.{is_size, is_rate, is_below, is_span_of, is_extent, fits, is_free, is_inside, is_placed, is_version, is_gas, is_chirality, is_common_in_range, is_filling, is_area_in_range, is_covered}
 use Rattle.gas_scene.specs.Grid.{lattice_of}
 use Rattle.gas_scene.specs.Area.{filling, placed, area_width, area_height, seed_of, rate_of, is_solid_in, area_lattice}
-use Rattle.gas_scene.proofs.Grids.{value-rows_of}
+use Rattle.gas_scene.proofs.Grids.{value-rows_of, rows_of-replicate}
+use Rattle.gas_scene.specs.Strips.{channel_with}
 use Rattle.gas_scene.specs.Building.{CanPlace, IsInside}
 use Rattle.std.specs.Prelude.{nat_abs}
 
@@ -83,13 +84,13 @@ IsSize-extent e held =
     }
 
 -- what each value passes where all of those that they are seen as do
-all_seen : (test : Data → Bool) (vs : List Value) (ds : List Data) → map view vs ≡ ds → list_all test ds ≡ true
+pub all_seen : (test : Data → Bool) (vs : List Value) (ds : List Data) → map view vs ≡ ds → list_all test ds ≡ true
     → (k : ℕ) (d : Value) → k < length vs → test (view (get_or vs k d)) ≡ true
 all_seen test vs ds seen held k d within =
     let each = AllPass-from_list_all test (map view vs) (ap (list_all test) seen ∙ held) k (view d) (omega (arith, length-map vs view)) in
     ap test (sym (get_or-map view vs k d (view d) within)) ∙ each
 
-fits-inside : (e : Extent) (r : Rectangle) → is_extent e ≡ true → fits e r ≡ true → IsInside (nat_abs e.width) (nat_abs e.height) r
+pub fits-inside : (e : Extent) (r : Rectangle) → is_extent e ≡ true → fits e r ≡ true → IsInside (nat_abs e.width) (nat_abs e.height) r
 fits-inside e r sized held =
     let sizes = and_parts (is_size e.width) (is_size e.height) sized in
     let wide = size_range e.width sizes.0 in
@@ -109,13 +110,6 @@ fits-inside e r sized held =
       high = int_lt-true _ _ rows_end.0;
       bottom = omega (arith, ints);
     }
-
-pub All-inside : (ms : Members) (held : is_area_in_range ms ≡ true) (vs : List Value) (w h : ℕ) → map view vs ≡ array_at (codes "solid") ms
-    → w ≡ area_width ms → h ≡ area_height ms → All (λ v. IsInside w h (rectangle_of (view v))) vs
-All-inside ms held vs w h seen wide high k d within =
-    subst (λ n. IsInside n h (rectangle_of (view (get_or vs k d)))) (sym wide)
-    (subst (λ n. IsInside (area_width ms) n (rectangle_of (view (get_or vs k d)))) (sym high)
-    (fits-inside (extent_of ms) _ (extent-range ms held) (all_seen (λ d. fits (extent_of ms) (rectangle_of d)) vs _ seen (rectangles-range ms held) k d within)))
 
 not_true : (b : Bool) → not b ≡ true → b ≡ false
 not_true true e = sym e
@@ -161,12 +155,11 @@ All-can ms held states vs l at gas seen is k d within =
     (all_seen (λ d. is_placed (states_named (text_at (codes "gas") ms)) (extent_of ms) (array_at (codes "solid") ms) (placement_of d)) vs _ seen (placements-range ms held) k d within)))
 
 -- the steps to the lattice of an area
-pub lattice_of-solid_in : (ms : Members) (w h : ℕ) (vs : List Value) → w ≡ area_width ms → h ≡ area_height ms → map view vs ≡ array_at (codes "solid") ms
-    → lattice_of w h (λ u v. is_covered (map view vs) (pos u) (pos v)) (λ _ _. 0) ≡ lattice_of (area_width ms) (area_height ms) (is_solid_in ms) (λ _ _. 0)
-lattice_of-solid_in ms w h vs wide high seen =
-    ap (λ n. lattice_of n h (λ u v. is_covered (map view vs) (pos u) (pos v)) (λ _ _. 0)) wide
-    ∙ ap (λ n. lattice_of (area_width ms) n (λ u v. is_covered (map view vs) (pos u) (pos v)) (λ _ _. 0)) high
-    ∙ ap (λ ds. lattice_of (area_width ms) (area_height ms) (λ u v. is_covered ds (pos u) (pos v)) (λ _ _. 0)) seen
+pub lattice_of-solid_in : (ms : Members)
+    → empty_lattice (channel_with (extent_of ms) (array_at (codes "solid") ms)) ≡ lattice_of (area_width ms) (area_height ms) (is_solid_in ms) (λ _ _. 0)
+lattice_of-solid_in ms =
+    ap (λ rs. record { channel = channel_with (extent_of ms) (array_at (codes "solid") ms); rows = rs })
+    (rows_of-replicate (area_width ms) (area_height ms) (λ _ _. 0) 0 (λ u k. refl))
 
 abbrev whole : Members → Rules → ℕ → ℕ → List Data → LatticeModel
 whole ms gas seed rate ds =

@@ -5,7 +5,7 @@ use Rattle.std.proofs.lemmas.Bool.{cases_eq}
 use Rattle.std.proofs.lemmas.Bool.Decides.{nat_tests}
 use Rattle.std.proofs.lemmas.List.{get_or-replicate, length-replicate, get_or-set_same, get_or-set_other, length-set}
 use Rattle.std.proofs.lemmas.List.FromFn.{fill_by_all, length-map-range_with_len, get_or-map-range_with_len}
-use Rattle.gas_geom.specs.Channel.{with_solid, free_channel}
+use Rattle.gas_geom.specs.Channel.{free_channel}
 use Rattle.gas_geom.specs.Lattice.{with_cell, empty_lattice, rows_of}
 use Rattle.gas_scene.specs.Grid.{lattice_of}
 use Rattle.gas_scene.specs.Building.{is_before, lattice_before}
@@ -142,17 +142,6 @@ module _ (w h : ℕ) (solid : ℕ → ℕ → Bool) (at : ℕ → ℕ → ℕ) w
       (λ u k _ in_column. if_same (is_before 0 h u k) true (solid u k) false (before-all h u k in_column))
       (λ u k _ in_column. if_same (is_before 0 h u k) true (at u k) 0 (before-all h u k in_column))
 
--- a lattice without particles, with one more solid cell
-pub lattice_of-solid : (w h : ℕ) (solid solid' : ℕ → ℕ → Bool) (x y : ℕ) → x < w → y < h → solid' x y ≡ true
-    → ((u k : ℕ) → (u ≢ x) ⊎ (k ≢ y) → solid u k ≡ solid' u k)
-    → record { channel = with_solid (lattice_of w h solid (λ _ _. 0)).channel x y; rows = with_cell (lattice_of w h solid (λ _ _. 0)).rows x y 0 }
-    ≡ lattice_of w h solid' (λ _ _. 0)
-lattice_of-solid w h solid solid' x y in_columns in_rows here others =
-    ap (λ s. record { channel = record { width = w; height = h; solid = s }; rows = with_cell (rows_of w h (λ _ _. 0)) x y 0 })
-    (rows_of-set w h solid solid' x y true in_columns in_rows (sym here) others)
-    ∙ ap (λ rs. record { channel = record { width = w; height = h; solid = rows_of w h solid' }; rows = rs })
-    (rows_of-set w h (λ _ _. 0) (λ _ _. 0) x y 0 in_columns in_rows refl (λ u k other. refl))
-
 -- a lattice with another state at one cell
 pub lattice_of-state : (w h : ℕ) (solid : ℕ → ℕ → Bool) (at at' : ℕ → ℕ → ℕ) (x y : ℕ) → x < w → y < h
     → ((u k : ℕ) → (u ≢ x) ⊎ (k ≢ y) → at u k ≡ at' u k)
@@ -160,9 +149,3 @@ pub lattice_of-state : (w h : ℕ) (solid : ℕ → ℕ → Bool) (at at' : ℕ 
 lattice_of-state w h solid at at' x y in_columns in_rows others =
     ap (λ rs. record { channel = record { width = w; height = h; solid = rows_of w h solid }; rows = rs })
     (rows_of-set w h at at' x y (at' x y) in_columns in_rows refl others)
-
--- the empty lattice of a channel whose cells are all fluid
-pub lattice_of-empty : (w h : ℕ) → empty_lattice (free_channel w h) ≡ lattice_of w h (λ _ _. false) (λ _ _. 0)
-lattice_of-empty w h =
-    ap (λ g. record { channel = record { width = w; height = h; solid = g }; rows = replicate h (replicate w 0) }) (rows_of-replicate w h (λ _ _. false) false (λ u k. refl))
-    ∙ ap (λ rs. record { channel = record { width = w; height = h; solid = rows_of w h (λ _ _. false) }; rows = rs }) (rows_of-replicate w h (λ _ _. 0) 0 (λ u k. refl))

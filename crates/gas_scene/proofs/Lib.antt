@@ -3,7 +3,6 @@ pub mod Accepted
 pub mod Areas
 pub mod Filled
 pub mod Placing
-pub mod Painting
 pub mod Maps
 pub mod Grids
 pub mod Verdicts
@@ -12,3 +11,5 @@ pub mod Digits
 pub mod First
 pub mod Values
 pub mod Names
+pub mod Strips
+pub mod Reaches

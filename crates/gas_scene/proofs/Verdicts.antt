@@ -1,5 +1,5 @@
 -- Verdicts, one after another, and what they tell.
-use Rattle.std.proofs.Common.{◌≡◌, ℕ, ◌*◌, ◌≤◌, Bool, true, false, not, ◌&&◌, [], map, length, Option, Some, None, codes, nat_le, refl, ap, sym, ◌∙◌, arith, if◌then◌else◌}
+use Rattle.std.proofs.Common.{◌≡◌, inl, inr, ℕ, ◌*◌, ◌≤◌, Bool, true, false, not, ◌&&◌, [], map, length, Option, Some, None, codes, nat_le, refl, ap, sym, ◌∙◌, arith, if◌then◌else◌}
 use Rattle.std.specs.Prelude.{Result, Ok, Err, is_some}
 use Rattle.std.specs.Option.{option_or, option_map_or}
 use Rattle.std.proofs.lemmas.Bool.{and_parts, leb-true}
@@ -11,7 +11,7 @@ use Rattle.gas_scene.specs.Fields.{has, text_of, elements_of, rows_at, row_at}
 use Rattle.gas_scene.specs.Ranges.{is_common_in_range, is_map_in_range, is_area_in_range, is_in_range}
 use Rattle.gas_scene.specs.Refusals.{refused_if, out_of_range, row_length, is_row_length, is_misfit}
 use Rattle.gas_scene.proofs.First.{first_below-none}
-use Rattle.gas_scene.specs.Checking.{AreShort, verdict}
+use Rattle.gas_scene.specs.Checking.{AreShort, Finds, verdict}
 
 pub verdict-next : (here rest : Option SceneError) (r : Result (Unit {0}) SceneError) → verdict here ≡ Ok tt → r ≡ verdict rest → r ≡ verdict (option_or here rest)
 verdict-next None rest r ok is = is
@@ -25,7 +25,20 @@ pub verdict-last : (o : Option SceneError) (r : Result (Unit {0}) SceneError) �
 verdict-last None r is = is
 verdict-last (Some e) r is = is
 
-verdict_none : (o : Option SceneError) → verdict o ≡ Ok tt → o ≡ None
+-- checks that may have been refused memory, one after another
+pub finds-next : (here rest : Option SceneError) (r : Result (Unit {0}) SceneError) → verdict here ≡ Ok tt → Finds r rest → Finds r (option_or here rest)
+finds-next here rest r ok (inl is) = inl (verdict-next here rest r ok is)
+finds-next here rest r ok (inr is) = inr is
+
+pub finds-stop : (here rest : Option SceneError) (e : SceneError) (answer r : Result (Unit {0}) SceneError) → Finds answer here → answer ≡ Err e → r ≡ Err e → Finds r (option_or here rest)
+finds-stop here rest e answer r (inl is) refused same = inl (verdict-stop here rest e r (sym is ∙ refused) same)
+finds-stop here rest e answer r (inr is) refused same = inr (same ∙ sym refused ∙ is)
+
+pub finds-ok : (o : Option SceneError) (answer : Result (Unit {0}) SceneError) → Finds answer o → answer ≡ Ok tt → verdict o ≡ Ok tt
+finds-ok o answer (inl is) ok = sym is ∙ ok
+finds-ok o answer (inr is) ok = absurd (cc)
+
+pub verdict_none : (o : Option SceneError) → verdict o ≡ Ok tt → o ≡ None
 verdict_none None ok = refl
 verdict_none (Some e) ok = absurd (cc)
 

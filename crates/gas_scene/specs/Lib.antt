@@ -10,4 +10,5 @@ pub mod Grid
 pub mod Map
 pub mod Area
 pub mod Building
+pub mod Strips
 pub mod Scene

@@ -1,22 +1,20 @@
 //! The lattice of an area.
 
-ghost use Rattle.std.specs.Prelude.{◌≡◌, ℕ, ◌+◌, ◌*◌, ◌%◌, ◌<◌, ◌≤◌, ◌^◌, ◌==◌, ◌&&◌, ◌||◌, Bool, true, length, map, slice_index, IfOk, All, nat_le, nat_lt, nat_abs, codes, pos, ◌≤ℤ◌, if◌then◌else◌};
+ghost use Rattle.std.specs.Prelude.{◌≡◌, ℕ, ◌+◌, ◌*◌, ◌%◌, ◌<◌, ◌≤◌, ◌^◌, Bool, true, length, map, slice_index, IfOk, All, nat_lt, nat_abs, codes, if◌then◌else◌};
 ghost use Rattle.toml.specs.View.{view, table_view};
 ghost use Rattle.gas_geom.specs.Size.{IsSize};
-ghost use Rattle.gas_geom.specs.Channel.{free_channel};
-ghost use Rattle.gas_geom.specs.Lattice.{empty_lattice};
 ghost use Rattle.gas_geom.specs.declared.size.TheConstants.{MOST_SIDE};
 ghost use Rattle.gas_scene.specs.Gases.{states_named};
-ghost use Rattle.gas_scene.specs.Fields.{text_at, rectangle_of, placement_of};
-ghost use Rattle.gas_scene.specs.Ranges.{covers, is_covered, is_extent, is_common_in_range, is_area_in_range};
+ghost use Rattle.gas_scene.specs.Fields.{text_at, placement_of};
+ghost use Rattle.gas_scene.specs.Ranges.{is_common_in_range, is_area_in_range};
 ghost use Rattle.gas_scene.specs.Grid.{lattice_of};
 ghost use Rattle.gas_scene.specs.Area.{filled, filling, is_at, placed, seed_of, rate_of, area_lattice};
-ghost use Rattle.gas_scene.specs.Building.{filled_before, CanPlace, IsInside};
+ghost use Rattle.gas_scene.specs.Building.{filled_before, CanPlace};
 
-use crate::fields::{Extent, Placement, Rectangle, array_at, integer_at};
+use crate::fields::{Extent, Placement, array_at, integer_at};
+use crate::rectangles::channel_with;
 use gas_geom::gas::Gas;
-use gas_geom::size::{MOST_SIDE, Size};
-use gas_rows::channel::Channel;
+use gas_geom::size::MOST_SIDE;
 use gas_rows::key::key_words;
 use gas_rows::lattice::Lattice;
 use std::alloc::{AllocError, Global};
@@ -24,58 +22,6 @@ use toml::{Table, Value};
 
 // The number of the key stream that fills direction 0.
 const FIRST_STREAM: u64 = 1 << 63;
-
-// A place in a channel as a number.
-fn place(number: i128) -> u32
-    requires low { pos 0 ≤ℤ number }
-    requires high { number ≤ℤ pos MOST_SIDE }
-    ensures { pos result ≡ number }
-{
-    number as u32
-}
-
-// Makes the cells of row `y` from column `start` up to `end` solid.
-fn make_row_solid<G: Gas>(lattice: &mut Lattice<G>, y: u32, start: u32, end: u32)
-    requires ordered { start ≤ end }
-    requires columns { end ≤ lattice.old.channel.width }
-    requires row { y < lattice.old.channel.height }
-    ensures wide { lattice.new.channel.width ≡ lattice.old.channel.width }
-    ensures high { lattice.new.channel.height ≡ lattice.old.channel.height }
-    ensures cells { (w h : ℕ) (solid : ℕ → ℕ → Bool) → lattice.old ≡ lattice_of w h solid (λ _ _. 0)
-        → lattice.new ≡ lattice_of w h (λ u v. solid u v || ((nat_le start u && nat_lt u end) && (v == y))) (λ _ _. 0) }
-{
-    for x in start..end {
-        lattice.make_solid(x, y);
-    }
-}
-
-// Makes the cells of a rectangle solid.
-fn make_rectangle_solid<G: Gas>(lattice: &mut Lattice<G>, rectangle: Rectangle)
-    requires size { IsSize lattice.old.channel.width lattice.old.channel.height }
-    requires inside { IsInside lattice.old.channel.width lattice.old.channel.height rectangle }
-    ensures wide { lattice.new.channel.width ≡ lattice.old.channel.width }
-    ensures high { lattice.new.channel.height ≡ lattice.old.channel.height }
-    ensures cells { (w h : ℕ) (solid : ℕ → ℕ → Bool) → lattice.old ≡ lattice_of w h solid (λ _ _. 0)
-        → lattice.new ≡ lattice_of w h (λ u v. solid u v || covers rectangle (pos u) (pos v)) (λ _ _. 0) }
-{
-    let start = place(rectangle.columns.start);
-    let end = place(rectangle.columns.end);
-    for y in place(rectangle.rows.start)..place(rectangle.rows.end) {
-        make_row_solid(lattice, y, start, end);
-    }
-}
-
-// Makes the cells of the rectangles solid.
-fn make_solid<G: Gas>(lattice: &mut Lattice<G>, solid: &[Value])
-    requires size { IsSize lattice.old.channel.width lattice.old.channel.height }
-    requires empty { lattice.old ≡ empty_lattice (free_channel lattice.old.channel.width lattice.old.channel.height) }
-    requires inside { All (λ v. IsInside lattice.old.channel.width lattice.old.channel.height (rectangle_of (view v))) solid.now }
-    ensures { lattice.new ≡ lattice_of lattice.old.channel.width lattice.old.channel.height (λ u v. is_covered (map view solid.now) (pos u) (pos v)) (λ _ _. 0) }
-{
-    for value in solid {
-        make_rectangle_solid(lattice, Rectangle::read(value));
-    }
-}
 
 // The bit of direction `i` where a word is a particle at the rate, and else 0. There is no branch:
 // the processor would guess it wrong for random words.
@@ -176,15 +122,6 @@ fn put_all<G: Gas>(lattice: &mut Lattice<G>, particles: &[Value])
     }
 }
 
-// The lattice of an area whose cells are all fluid and empty.
-fn blank<G: Gas>(alloc: Global, extent: Extent) -> Result<Lattice<G>, AllocError>
-    requires { is_extent extent ≡ true }
-    ensures { IfOk result (λ l. l ≡ empty_lattice (free_channel (nat_abs extent.width) (nat_abs extent.height))) }
-{
-    let size = Size::new(extent.width as u32, extent.height as u32).unwrap();
-    Lattice::blank(alloc, Channel::free(alloc, size)?)
-}
-
 /// The seed, or 0 where it is absent.
 pub(crate) fn seed(table: &Table) -> u64
     requires { is_common_in_range (table_view table.now) ≡ true }
@@ -208,8 +145,9 @@ pub(crate) fn area_lattice<G: Gas>(alloc: Global, table: &Table) -> Result<Latti
     requires area { is_area_in_range (table_view table.now) ≡ true }
     ensures { IfOk result (λ l. l ≡ area_lattice G.rules (table_view table.now)) }
 {
-    let mut lattice = blank(alloc, Extent::read(table))?;
-    make_solid(&mut lattice, array_at(table, "solid"));
+    let extent = Extent::read(table);
+    let channel = channel_with(alloc, extent, array_at(table, "solid"))?;
+    let mut lattice = Lattice::blank(alloc, channel)?;
     fill(&mut lattice, seed(table), rate(table));
     put_all(&mut lattice, array_at(table, "particles"));
     Ok(lattice)

@@ -5,7 +5,7 @@ ghost use Rattle.toml.specs.View.{view, table_view};
 ghost use Rattle.gas_geom.specs.declared.size.TheConstants.{MOST_SIDE};
 ghost use Rattle.gas_scene.specs.Fields.{text_of, rows_at};
 ghost use Rattle.gas_scene.specs.Refusals.{refused_if, unknown_key, both_forms, missing, wrong_type, out_of_range, row_length, bad_cell, refusal_of, has_area, has_both_forms, has_form, is_complete, is_row_length, is_misfit};
-ghost use Rattle.gas_scene.specs.Checking.{verdict, AreShort};
+ghost use Rattle.gas_scene.specs.Checking.{verdict, Finds, AreShort};
 
 use crate::cells::bad_column;
 use crate::error::SceneError;
@@ -13,6 +13,7 @@ use crate::fields::{array_at, has, row};
 use crate::kind::{has_known_keys, has_typed_values};
 use crate::ranges::{is_in_range, states};
 use gas_geom::size::MOST_SIDE;
+use std::alloc::Global;
 use toml::{Table, Value};
 
 // The error, where it is refused.
@@ -86,10 +87,13 @@ fn check_types(table: &Table) -> Result<(), SceneError>
 
 // Refuses a value out of its range.
 #[tactic(auto, unfolding(crate::specs::Refusals::out_of_range))]
-fn check_ranges(table: &Table) -> Result<(), SceneError>
-    ensures { result ≡ verdict (out_of_range (table_view table.now)) }
+fn check_ranges(alloc: Global, table: &Table) -> Result<(), SceneError>
+    ensures { Finds result (out_of_range (table_view table.now)) }
 {
-    refuse_if(!is_in_range(table), SceneError::Range)
+    match is_in_range(alloc, table) {
+        Ok(held) => refuse_if(!held, SceneError::Range),
+        Err(_) => Err(SceneError::Memory),
+    }
 }
 
 // Two bytes for each cell.
@@ -138,15 +142,15 @@ fn check_cells(table: &Table) -> Result<(), SceneError>
     Ok(())
 }
 
-/// The first refusal of a table.
-pub(crate) fn check(table: &Table) -> Result<(), SceneError>
-    ensures { result ≡ verdict (refusal_of (table_view table.now)) }
+/// The first refusal of a table, or that memory was refused.
+pub(crate) fn check(alloc: Global, table: &Table) -> Result<(), SceneError>
+    ensures { Finds result (refusal_of (table_view table.now)) }
 {
     check_keys(table)?;
     check_form(table)?;
     check_missing(table)?;
     check_types(table)?;
-    check_ranges(table)?;
+    check_ranges(alloc, table)?;
     check_row_lengths(table)?;
     check_cells(table)
 }

@@ -11,6 +11,7 @@ mod gases;
 mod kind;
 mod map_form;
 mod ranges;
+mod rectangles;
 pub mod scene;
 #[cfg(test)]
 mod tests;

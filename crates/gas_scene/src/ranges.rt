@@ -1,15 +1,21 @@
 //! The ranges of the values of a scene.
 
-ghost use Rattle.std.specs.Prelude.{◌≡◌, map, codes, pos};
-ghost use Rattle.std.specs.List.{list_all, list_any};
+ghost use Rattle.std.specs.Prelude.{◌≡◌, true, not, codes, pos, nat_abs, IfOk};
+ghost use Rattle.std.specs.List.{list_all};
 ghost use Rattle.toml.specs.View.{view, table_view};
+ghost use Rattle.gas_geom.specs.Size.{IsSize};
+ghost use Rattle.gas_geom.specs.Channel.{is_solid};
 ghost use Rattle.gas_scene.specs.Fields.{text_at, rectangle_of, placement_of};
 ghost use Rattle.gas_scene.specs.Gases.{states_named};
-ghost use Rattle.gas_scene.specs.Ranges.{is_size, is_rate, is_below, is_span_of, fits, spans, covers, is_free, is_inside, is_placed, is_version, is_gas, is_chirality, is_common_in_range, is_map_in_range, is_filling, is_extent, is_area_in_range, is_in_range};
+ghost use Rattle.gas_scene.specs.Strips.{is_in, is_placed_in};
+ghost use Rattle.gas_scene.specs.Ranges.{is_size, is_rate, is_below, is_span_of, fits, is_version, is_gas, is_chirality, is_common_in_range, is_map_in_range, is_filling, is_extent, is_area_in_range, is_in_range};
 
 use crate::fields::{Extent, Placement, Rectangle, Span, array_at, has, integer_at, text_at};
 use crate::gases::states_named;
+use crate::rectangles::channel_with;
 use gas_geom::size::MOST_SIDE;
+use gas_rows::channel::Channel;
+use std::alloc::{AllocError, Global};
 use toml::{Table, Value};
 
 // Whether this is a width or a height.
@@ -47,21 +53,6 @@ fn fits(extent: Extent, rectangle: Rectangle) -> bool
     is_span_of(extent.width, rectangle.columns) && is_span_of(extent.height, rectangle.rows)
 }
 
-// Whether the place lies from the start up to the end.
-fn spans(place: i64, span: Span) -> bool
-    ensures { result ≡ spans place span }
-{
-    let place = i128::from(place);
-    span.start <= place && place < span.end
-}
-
-// Whether the rectangle covers the cell (x, y).
-fn covers(rectangle: Rectangle, x: i64, y: i64) -> bool
-    ensures { result ≡ covers rectangle x y }
-{
-    spans(x, rectangle.columns) && spans(y, rectangle.rows)
-}
-
 // Whether each rectangle has cells, all of them in the area.
 fn are_rectangles(values: &[Value], extent: Extent) -> bool
     ensures { result ≡ list_all (λ v. fits extent (rectangle_of (view v))) values.now }
@@ -71,20 +62,6 @@ fn are_rectangles(values: &[Value], extent: Extent) -> bool
         .all(|value| fits(extent, Rectangle::read(value)))
 }
 
-// Whether one of the rectangles covers the cell of the placement.
-fn is_covered(solid: &[Value], placement: Placement) -> bool
-    ensures { result ≡ list_any (λ v. covers (rectangle_of (view v)) placement.x placement.y) solid.now }
-{
-    solid.iter().any(|value| covers(Rectangle::read(value), placement.x, placement.y))
-}
-
-// Whether no rectangle covers the cell of the placement.
-fn is_free(solid: &[Value], placement: Placement) -> bool
-    ensures { result ≡ is_free (map view solid.now) placement }
-{
-    !is_covered(solid, placement)
-}
-
 // Whether the state is one of so many.
 fn is_state(states: u16, state: i64) -> bool
     ensures { result ≡ is_below (pos states) state }
@@ -92,26 +69,42 @@ fn is_state(states: u16, state: i64) -> bool
     is_below(i64::from(states), state)
 }
 
-// Whether the cell of the placement lies in the area.
-fn is_inside(extent: Extent, placement: Placement) -> bool
-    ensures { result ≡ is_inside extent placement }
+// Whether the cell of the placement lies in the channel.
+fn is_inside(channel: &Channel, placement: Placement) -> bool
+    ensures value { result ≡ is_in channel.now placement }
+    ensures size { IsSize channel.now.width channel.now.height }
 {
-    is_below(extent.width, placement.x) && is_below(extent.height, placement.y)
+    let size = channel.size();
+    is_below(i64::from(size.width()), placement.x)
+        && is_below(i64::from(size.height()), placement.y)
 }
 
-// Whether the cell of the placement lies in the area and in no rectangle, and its state is one
-// of so many.
-fn is_placed(states: u16, extent: Extent, solid: &[Value], placement: Placement) -> bool
-    ensures { result ≡ is_placed states extent (map view solid.now) placement }
+// Whether the cell of the placement is fluid.
+fn is_fluid(channel: &Channel, placement: Placement) -> bool
+    requires size { IsSize channel.now.width channel.now.height }
+    requires inside { is_in channel.now placement ≡ true }
+    ensures { result ≡ not (is_solid channel.now (nat_abs placement.x) (nat_abs placement.y)) }
 {
-    is_inside(extent, placement) && is_state(states, placement.state) && is_free(solid, placement)
+    !channel.is_solid(placement.x as u32, placement.y as u32)
+}
+
+// Whether the cell of the placement lies in the channel and is fluid, and its state is one of so
+// many.
+fn is_placed(states: u16, channel: &Channel, placement: Placement) -> bool
+    ensures { result ≡ is_placed_in states channel.now placement }
+{
+    is_inside(channel, placement)
+        && is_fluid(channel, placement)
+        && is_state(states, placement.state)
 }
 
 // Whether each placement is within its ranges.
-fn are_placed(values: &[Value], states: u16, extent: Extent, solid: &[Value]) -> bool
-    ensures { result ≡ list_all (λ v. is_placed states extent (map view solid.now) (placement_of (view v))) values.now }
+fn are_placed(values: &[Value], states: u16, channel: &Channel) -> bool
+    ensures { result ≡ list_all (λ v. is_placed_in states channel.now (placement_of (view v))) values.now }
 {
-    values.iter().all(|value| is_placed(states, extent, solid, Placement::read(value)))
+    values
+        .iter()
+        .all(|value| is_placed(states, channel, Placement::read(value)))
 }
 
 fn is_version(table: &Table) -> bool
@@ -155,37 +148,48 @@ pub(crate) fn states(table: &Table) -> u16
     states_named(text_at(table, "gas")).unwrap_or(0)
 }
 
-// Whether the rectangles and the placements of the area are in range.
-fn is_filling(table: &Table, extent: Extent) -> bool
-    ensures { result ≡ is_filling extent (table_view table.now) }
-{
-    let solid = array_at(table, "solid");
-    let particles = array_at(table, "particles");
-    are_rectangles(solid, extent) && are_placed(particles, states(table), extent, solid)
-}
-
 fn is_extent(extent: Extent) -> bool
     ensures { result ≡ is_extent extent }
 {
     is_size(extent.width) && is_size(extent.height)
 }
 
+// Whether the rectangles and the placements of the area are in range. Each placement is looked up
+// in the channel of the rectangles.
+fn is_filling(alloc: Global, table: &Table, extent: Extent) -> Result<bool, AllocError>
+    requires { is_extent extent ≡ true }
+    ensures { IfOk result (λ held. held ≡ is_filling extent (table_view table.now)) }
+{
+    let solid = array_at(table, "solid");
+    let particles = array_at(table, "particles");
+    if !are_rectangles(solid, extent) {
+        return Ok(false);
+    }
+    let channel = channel_with(alloc, extent, solid)?;
+    Ok(are_placed(particles, states(table), &channel))
+}
+
 // Whether the values of the area are in range.
-fn is_area_in_range(table: &Table) -> bool
-    ensures { result ≡ is_area_in_range (table_view table.now) }
+fn is_area_in_range(alloc: Global, table: &Table) -> Result<bool, AllocError>
+    ensures { IfOk result (λ held. held ≡ is_area_in_range (table_view table.now)) }
 {
     let extent = Extent::read(table);
-    is_extent(extent) && is_rate(integer_at(table, "rate")) && is_filling(table, extent)
+    if is_extent(extent) && is_rate(integer_at(table, "rate")) {
+        is_filling(alloc, table, extent)
+    } else {
+        Ok(false)
+    }
 }
 
 /// Whether the values are in their ranges.
-pub(crate) fn is_in_range(table: &Table) -> bool
-    ensures { result ≡ is_in_range (table_view table.now) }
+pub(crate) fn is_in_range(alloc: Global, table: &Table) -> Result<bool, AllocError>
+    ensures { IfOk result (λ held. held ≡ is_in_range (table_view table.now)) }
 {
-    is_common_in_range(table)
-        && if has(table, "cells") {
-            is_map_in_range(table)
-        } else {
-            is_area_in_range(table)
-        }
+    if !is_common_in_range(table) {
+        Ok(false)
+    } else if has(table, "cells") {
+        Ok(is_map_in_range(table))
+    } else {
+        is_area_in_range(alloc, table)
+    }
 }

@@ -113,7 +113,7 @@ fn build(alloc: Global, table: &Table) -> Result<Scene, AllocError>
 fn read_table(alloc: Global, table: &Table) -> Result<Scene, SceneError>
     ensures { Gives result (table_answer (table_view table.now)) }
 {
-    check(table)?;
+    check(alloc, table)?;
     match build(alloc, table) {
         Ok(scene) => Ok(scene),
         Err(_) => Err(SceneError::Memory),
@@ -136,7 +136,7 @@ fn read_table(alloc: Global, table: &Table) -> Result<Scene, SceneError>
 ///
 /// The first check that refuses the text gives the error: `Syntax`, `UnknownKey`, `BothForms`,
 /// `Missing`, `WrongType`, `Range`, `RowLength`, `BadCell`, in this order. `Memory` may come while
-/// the text is parsed and, after the last check, while the lattice is built.
+/// the text is parsed, from the check for `Range` on, and while the lattice is built.
 pub fn read(alloc: Global, text: &[u8]) -> Result<Scene, SceneError>
     ensures { Gives result (scene_of_text text.now) }
 {

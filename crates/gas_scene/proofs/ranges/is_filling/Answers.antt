@@ -1,12 +1,28 @@
-use Rattle.toml.specs.View.{table_view}
-use Rattle.gas_scene.proofs.Filling.{is_filling-then, is_filling-else}
+use Rattle.std.proofs.Common.{map, refl, ◌∙◌, sym, ap}
+use Rattle.std.specs.List.{list_all}
+use Rattle.toml.specs.View.{view, table_view}
+use Rattle.gas_geom.specs.Channel.{ChannelModel}
+use Rattle.gas_scene.specs.Fields.{rectangle_of, placement_of}
+use Rattle.gas_scene.specs.Ranges.{fits}
+use Rattle.gas_scene.specs.Strips.{is_placed_in}
+use Rattle.gas_scene.proofs.Filling.{is_filling-then, is_filling-else, placed-in-all}
+use Rattle.gas_scene.proofs.Values.{list_all-view}
 use Rattle.gas_scene.proofs.ranges.is_filling.Goals as goal
 
-pub returns-then-are_rectangles : goal.returns-then-are_rectangles
-returns-then-are_rectangles c =
-    is_filling-then c.args.extent (table_view c.args.table.now) _ c.array_at-solid.result.now c.array_at-particles.result.now _ _
-    c.array_at-solid.ensures c.array_at-particles.ensures c.states.ensures c.are_rectangles.ensures c.if-are_rectangles.true c.are_placed.ensures
+pub returns-then-not-are_rectangles : goal.returns-then-not-are_rectangles
+returns-then-not-are_rectangles c =
+    sym c.if-not-are_rectangles.true
+    ∙ is_filling-else c.args.extent (table_view c.args.table.now) c.array_at-solid.result.now _ c.array_at-solid.ensures c.are_rectangles.ensures c.if-not-are_rectangles.true
 
-pub returns-else-are_rectangles : goal.returns-else-are_rectangles
-returns-else-are_rectangles c =
-    is_filling-else c.args.extent (table_view c.args.table.now) c.array_at-solid.result.now _ c.array_at-solid.ensures c.are_rectangles.ensures c.if-are_rectangles.false
+pub channel_with-requires-clause-fitting : goal.channel_with-requires-clause-fitting
+channel_with-requires-clause-fitting c =
+    sym (list_all-view (λ d. fits c.args.extent (rectangle_of d)) c.array_at-solid.result.now _ (refl))
+    ∙ sym c.are_rectangles.ensures ∙ c.if-not-are_rectangles.false
+
+pub returns : goal.returns
+returns c =
+    is_filling-then c.args.extent (table_view c.args.table.now) _ c.array_at-solid.result.now c.array_at-particles.result.now _ _
+    c.array_at-solid.ensures c.array_at-particles.ensures c.states.ensures c.are_rectangles.ensures c.if-not-are_rectangles.false
+    (c.are_placed.ensures
+    ∙ ap (λ (ch : ChannelModel). list_all (λ v. is_placed_in c.states.result ch (placement_of (view v))) c.array_at-particles.result.now) c.in_ok-channel.ensures
+    ∙ placed-in-all c.states.result c.args.extent (map view c.array_at-solid.result.now) c.array_at-particles.result.now c.requires)

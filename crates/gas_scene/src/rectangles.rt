@@ -1,0 +1,174 @@
+//! The channel of an area, whose rectangles are solid. However much they overlap, each is gone
+//! through once, row by row of the channel, along its columns.
+
+ghost use Rattle.std.specs.Prelude.{◌≡◌, ℕ, ◌+◌, ◌<◌, ◌≤◌, ◌==◌, ◌&&◌, ◌||◌, [], ◌∷◌, ◌++◌, Bool, true, List, length, map, slice_index, slice_index_or, IfOk, OnOk, All, nat_le, nat_lt, nat_abs, pos, ◌≤ℤ◌, if◌then◌else◌};
+ghost use Rattle.std.specs.List.{list_all, list_any};
+ghost use Rattle.toml.specs.Data.{Data};
+ghost use Rattle.toml.specs.View.{view};
+ghost use Rattle.gas_geom.specs.Size.{IsSize};
+ghost use Rattle.gas_geom.specs.Channel.{free_channel};
+ghost use Rattle.gas_geom.specs.declared.size.TheConstants.{MOST_SIDE};
+ghost use Rattle.gas_scene.specs.Fields.{rectangle_of};
+ghost use Rattle.gas_scene.specs.Ranges.{fits, is_covered, is_extent};
+ghost use Rattle.gas_scene.specs.Building.{IsInside};
+ghost use Rattle.gas_scene.specs.Strips.{channel_before, channel_of, channel_with, strips_at, reaches, is_reached, strip_of, first_row, IsStrip, AreStrips};
+
+use crate::fields::{Extent, Rectangle};
+use gas_geom::size::{MOST_SIDE, Size};
+use gas_rows::channel::Channel;
+use std::alloc::{AllocError, Global};
+use toml::Value;
+
+/// Columns `start` up to `end` that are solid from some row up to row `bottom`.
+#[derive(Clone, Copy)]
+pub struct Strip {
+    pub start: u32,
+    pub end: u32,
+    pub bottom: u32,
+}
+
+// A place in a channel as a number.
+fn place(number: i128) -> u32
+    requires low { pos 0 ≤ℤ number }
+    requires high { number ≤ℤ pos MOST_SIDE }
+    ensures { result ≡ nat_abs number }
+{
+    number as u32
+}
+
+impl Strip {
+    ghost use Rattle.gas_scene.specs.Building.{IsInside};
+    ghost use Rattle.gas_scene.specs.Strips.{strip_of};
+    ghost use Rattle.gas_geom.specs.declared.size.TheConstants.{MOST_SIDE};
+
+    // The columns of a rectangle, and where it ends.
+    fn of(rectangle: Rectangle) -> Strip
+        requires { IsInside MOST_SIDE MOST_SIDE rectangle }
+        ensures { result ≡ strip_of rectangle }
+    {
+        Strip {
+            start: place(rectangle.columns.start),
+            end: place(rectangle.columns.end),
+            bottom: place(rectangle.rows.end),
+        }
+    }
+}
+
+// The row in which a rectangle starts.
+fn first_row(rectangle: Rectangle) -> u32
+    requires { IsInside MOST_SIDE MOST_SIDE rectangle }
+    ensures { result ≡ first_row rectangle }
+{
+    place(rectangle.rows.start)
+}
+
+// Lets the columns of a strip be solid at least up to its bottom.
+fn extend(until: &mut [u32], strip: Strip)
+    requires { IsStrip (length until.old) strip }
+    ensures { (x y : ℕ) → nat_lt y (slice_index until.new x) ≡ (nat_lt y (slice_index until.old x) || reaches strip x y) }
+{
+    for x in strip.start as usize..strip.end as usize {
+        until[x] = until[x].max(strip.bottom);
+    }
+}
+
+// Does so for each of the strips.
+fn extend_all(until: &mut [u32], strips: &[Strip])
+    requires { All (λ s. IsStrip (length until.old) s) strips.now }
+    ensures { (x y : ℕ) → nat_lt y (slice_index until.new x) ≡ (nat_lt y (slice_index until.old x) || list_any (λ s. reaches s x y) strips.now) }
+{
+    for strip in strips {
+        extend(until, *strip);
+    }
+}
+
+// Makes the cells of row `y` solid whose columns are solid up to a later row.
+fn make_row_solid(channel: &mut Channel, y: u32, until: &[u32])
+    requires row { y < channel.old.height }
+    requires wide { length until.now ≡ channel.old.width }
+    ensures wide { channel.new.width ≡ channel.old.width }
+    ensures high { channel.new.height ≡ channel.old.height }
+    ensures cells { (w h : ℕ) (solid : ℕ → ℕ → Bool) → channel.old ≡ channel_before w h solid 0 y
+        → ((x : ℕ) → x < w → nat_lt y (slice_index until.now x) ≡ solid x y)
+        → channel.new ≡ channel_before w h solid 0 (y + 1) }
+{
+    for x in 0..channel.size().width() {
+        if y < until[x as usize] {
+            channel.make_solid(x, y);
+        }
+    }
+}
+
+// Makes the cells of the channel solid that one of the rectangles covers, whose strips these are.
+fn make_solid(channel: &mut Channel, rows: &[Vec<Strip>], until: &mut [u32])
+    requires high { length rows.now ≡ channel.old.height }
+    requires wide { length until.old ≡ channel.old.width }
+    requires columns { (y : ℕ) → y < channel.old.height → All (λ s. IsStrip channel.old.width s) (strips_at rows.now y) }
+    ensures { (w h : ℕ) (ds : List Data) → channel.old ≡ free_channel w h
+        → ((y : ℕ) → y < h → AreStrips ds y (strips_at rows.now y))
+        → channel.new ≡ channel_of w h (is_reached ds) }
+{
+    until.fill(0);
+    for y in 0..channel.size().height() {
+        extend_all(until, rows[y as usize].as_slice());
+        make_row_solid(channel, y, until);
+    }
+}
+
+// The strips of no rectangles, for so many rows.
+fn no_strips(alloc: Global, height: u32) -> Result<Vec<Vec<Strip>>, AllocError>
+    ensures { IfOk result (λ rows. (length rows.items ≡ height) × ((y : ℕ) → y < height → strips_at rows.items y ≡ [])) }
+{
+    let mut rows = Vec::with_capacity(alloc, height as usize)?;
+    for _ in 0..height {
+        rows.push(Vec::new(alloc))?;
+    }
+    Ok(rows)
+}
+
+// The strips of the rectangles, by the rows in which they start.
+fn strips(alloc: Global, size: Size, solid: &[Value]) -> Result<Vec<Vec<Strip>>, AllocError>
+    requires size { IsSize size.width size.height }
+    requires inside { All (λ v. IsInside size.width size.height (rectangle_of (view v))) solid.now }
+    ensures high { IfOk result (λ rows. length rows.items ≡ size.height) }
+    ensures columns { IfOk result (λ rows. (y : ℕ) → y < size.height → All (λ s. IsStrip size.width s) (strips_at rows.items y)) }
+    ensures strips { IfOk result (λ rows. (y : ℕ) → y < size.height → AreStrips (map view solid.now) y (strips_at rows.items y)) }
+{
+    let mut rows = no_strips(alloc, size.height())?;
+    for value in solid {
+        let rectangle = Rectangle::read(value);
+        let row = &mut rows[first_row(rectangle) as usize];
+        row.push(Strip::of(rectangle))?;
+    }
+    Ok(rows)
+}
+
+// The size of an area.
+fn size(extent: Extent) -> Size
+    requires { is_extent extent ≡ true }
+    ensures { result ≡ record { width = nat_abs extent.width; height = nat_abs extent.height } }
+{
+    Size::new(extent.width as u32, extent.height as u32).unwrap()
+}
+
+/// The channel of an area in which the cells are solid that one of the rectangles covers.
+pub(crate) fn channel_with(
+    alloc: Global,
+    extent: Extent,
+    solid: &[Value],
+) -> Result<Channel, AllocError>
+    requires sized { is_extent extent ≡ true }
+    requires fitting { list_all (λ d. fits extent (rectangle_of d)) (map view solid.now) ≡ true }
+    ensures { IfOk result (λ c. c ≡ channel_with extent (map view solid.now)) }
+{
+    let size = size(extent);
+    let mut channel = Channel::free(alloc, size)?;
+    let rows = strips(alloc, size, solid)?;
+    let mut until = [0u32; MOST_SIDE as usize];
+    make_solid(
+        &mut channel,
+        rows.as_slice(),
+        &mut until[..size.width() as usize],
+    );
+    Ok(channel)
+}
