@@ -23,7 +23,7 @@ use Rattle.gas_scene.specs.Grid.{lattice_of}
 use Rattle.gas_scene.specs.Area.{filling, placed, area_width, area_height, seed_of, rate_of, is_solid_in, area_lattice}
 use Rattle.gas_scene.proofs.Grids.{value-rows_of, rows_of-replicate}
 use Rattle.gas_scene.specs.Strips.{channel_with}
-use Rattle.gas_scene.specs.Building.{CanPlace, IsInside}
+use Rattle.gas_scene.specs.Building.{CanPlace, IsRectangleIn}
 use Rattle.std.specs.Prelude.{nat_abs}
 
 int_le-true : (a b : ℤ) → int_le a b ≡ true → a ≤ℤ b
@@ -90,7 +90,7 @@ all_seen test vs ds seen held k d within =
     let each = AllPass-from_list_all test (map view vs) (ap (list_all test) seen ∙ held) k (view d) (omega (arith, length-map vs view)) in
     ap test (sym (get_or-map view vs k d (view d) within)) ∙ each
 
-pub fits-inside : (e : Extent) (r : Rectangle) → is_extent e ≡ true → fits e r ≡ true → IsInside (nat_abs e.width) (nat_abs e.height) r
+pub fits-inside : (e : Extent) (r : Rectangle) → is_extent e ≡ true → fits e r ≡ true → IsRectangleIn (nat_abs e.width) (nat_abs e.height) r
 fits-inside e r sized held =
     let sizes = and_parts (is_size e.width) (is_size e.height) sized in
     let wide = size_range e.width sizes.0 in

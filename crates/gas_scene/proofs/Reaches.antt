@@ -17,7 +17,7 @@ use Rattle.gas_scene.specs.declared.fields.Extent.{Extent}
 use Rattle.gas_scene.specs.declared.fields.Span.{Span}
 use Rattle.gas_scene.specs.declared.fields.Rectangle.{Rectangle}
 use Rattle.gas_scene.specs.declared.rectangles.Strip.{Strip}
-use Rattle.gas_scene.specs.Building.{IsInside}
+use Rattle.gas_scene.specs.Building.{IsRectangleIn}
 use Rattle.gas_scene.specs.Fields.{rectangle_of}
 use Rattle.gas_scene.specs.Ranges.{spans, covers, is_covered, fits, is_extent}
 use Rattle.gas_scene.specs.Strips.{strip_of, first_row, reaches, is_reached_at, is_reached_before, is_reached, IsStrip, strips_at}
@@ -122,7 +122,7 @@ turned false false last = refl
 upto : (first y : ℕ) → nat_lt first (y + 1) ≡ nat_le first y
 upto first y = grind (arith, nat_tests)
 
-covers-strip : (w h : ℕ) (r : Rectangle) (x y : ℕ) → IsInside w h r → (nat_lt (first_row r) (y + 1) && reaches (strip_of r) x y) ≡ covers r (pos x) (pos y)
+covers-strip : (w h : ℕ) (r : Rectangle) (x y : ℕ) → IsRectangleIn w h r → (nat_lt (first_row r) (y + 1) && reaches (strip_of r) x y) ≡ covers r (pos x) (pos y)
 covers-strip w h r x y inside =
     let left : pos (nat_abs r.columns.start) ≡ r.columns.start = omega (arith, ints, inside.left) in
     let right : pos (nat_abs r.columns.end) ≡ r.columns.end = omega (arith, ints, inside.left, inside.wide) in
@@ -138,14 +138,14 @@ is_reached-covered e (d ∷ ds) x y sized held =
     let parts = and_parts (fits e (rectangle_of d)) (list_all (λ d. fits e (rectangle_of d)) ds) held in
     ap₂ (λ (a : Bool) (b : Bool). a || b) (covers-strip _ _ (rectangle_of d) x y (fits-inside e (rectangle_of d) sized parts.0)) (is_reached-covered e ds x y sized parts.1)
 
-pub IsStrip-inside : (w h : ℕ) (r : Rectangle) → IsInside w h r → IsStrip w (strip_of r)
+pub IsStrip-inside : (w h : ℕ) (r : Rectangle) → IsRectangleIn w h r → IsStrip w (strip_of r)
 IsStrip-inside w h r inside = record {
   ordered = omega (arith, ints, inside.left, inside.wide);
   within = omega (arith, ints, inside.left, inside.wide, inside.right);
 }
 
-pub IsInside-most : (w h : ℕ) (r : Rectangle) → IsSize w h → IsInside w h r → IsInside MOST_SIDE MOST_SIDE r
-IsInside-most w h r size inside = record {
+pub IsRectangleIn-most : (w h : ℕ) (r : Rectangle) → IsSize w h → IsRectangleIn w h r → IsRectangleIn MOST_SIDE MOST_SIDE r
+IsRectangleIn-most w h r size inside = record {
   left = inside.left;
   wide = inside.wide;
   right = omega (arith, ints, inside.right, size.few_columns);
@@ -155,7 +155,7 @@ IsInside-most w h r size inside = record {
 }
 
 pub All-inside : (e : Extent) (vs : List Value) → is_extent e ≡ true → list_all (λ d. fits e (rectangle_of d)) (map view vs) ≡ true
-    → All (λ v. IsInside (nat_abs e.width) (nat_abs e.height) (rectangle_of (view v))) vs
+    → All (λ v. IsRectangleIn (nat_abs e.width) (nat_abs e.height) (rectangle_of (view v))) vs
 All-inside e vs sized held k d within = fits-inside e _ sized (all_seen (λ d. fits e (rectangle_of d)) vs _ refl held k d within)
 
 pub strips_at-none : (rows : List (Vec Strip Global)) (y : ℕ) → y < length rows → All (λ v. v.items ≡ []) rows → strips_at rows y ≡ []
@@ -164,7 +164,7 @@ strips_at-none (row ∷ rows) y within none =
     get_or-map (λ (v : Vec Strip Global). v.items) (row ∷ rows) y row [] within ∙ none y row within
 
 -- the rectangle of a value
-pub inside-item : (w h : ℕ) (vs : List Value) (k : ℕ) (v : Value) (r : Rectangle) → All (λ u. IsInside w h (rectangle_of (view u))) vs → k < length vs
-    → v ≡ get_or vs k v → r ≡ rectangle_of (view v) → IsInside w h r
+pub inside-item : (w h : ℕ) (vs : List Value) (k : ℕ) (v : Value) (r : Rectangle) → All (λ u. IsRectangleIn w h (rectangle_of (view u))) vs → k < length vs
+    → v ≡ get_or vs k v → r ≡ rectangle_of (view v) → IsRectangleIn w h r
 inside-item w h vs k v r all within is same =
-    subst (λ s. IsInside w h s) (sym same) (subst (λ u. IsInside w h (rectangle_of (view u))) (sym is) (all k v within))
+    subst (λ s. IsRectangleIn w h s) (sym same) (subst (λ u. IsRectangleIn w h (rectangle_of (view u))) (sym is) (all k v within))

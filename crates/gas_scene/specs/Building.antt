@@ -42,7 +42,7 @@ filled_before gas seed rate width height solid x y =
     (λ u v. if is_before x y u v then (if solid u v then 0 else filling gas seed rate width u v) else 0)
 
 -- a rectangle with cells, all of them in a channel of this size
-pub record IsInside (width height : ℕ) (r : Rectangle) : Type 0 where
+pub record IsRectangleIn (width height : ℕ) (r : Rectangle) : Type 0 where
   pub left : pos 0 ≤ℤ r.columns.start
   pub wide : r.columns.start <ℤ r.columns.end
   pub right : r.columns.end ≤ℤ pos width

@@ -27,13 +27,13 @@ abbrev pub channel_with : Extent → List Data → ChannelModel
 channel_with e ds = channel_of (nat_abs e.width) (nat_abs e.height) (λ x y. is_covered ds (pos x) (pos y))
 
 -- whether the cell of a placement lies in a channel
-abbrev pub is_in : ChannelModel → Placement → Bool
-is_in channel p = is_below (pos channel.width) p.x && is_below (pos channel.height) p.y
+abbrev pub is_cell_of : ChannelModel → Placement → Bool
+is_cell_of channel p = is_below (pos channel.width) p.x && is_below (pos channel.height) p.y
 
 -- whether it does and is fluid, and its state is one of so many
 abbrev pub is_placed_in : ℕ → ChannelModel → Placement → Bool
 is_placed_in states channel p =
-    (is_in channel p && not (is_solid channel (nat_abs p.x) (nat_abs p.y))) && is_below (pos states) p.state
+    (is_cell_of channel p && not (is_solid channel (nat_abs p.x) (nat_abs p.y))) && is_below (pos states) p.state
 
 -- the strip of a rectangle, and the row in which it starts
 abbrev pub strip_of : Rectangle → Strip

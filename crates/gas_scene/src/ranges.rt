@@ -7,7 +7,7 @@ ghost use Rattle.gas_geom.specs.Size.{IsSize};
 ghost use Rattle.gas_geom.specs.Channel.{is_solid};
 ghost use Rattle.gas_scene.specs.Fields.{text_at, rectangle_of, placement_of};
 ghost use Rattle.gas_scene.specs.Gases.{states_named};
-ghost use Rattle.gas_scene.specs.Strips.{is_in, is_placed_in};
+ghost use Rattle.gas_scene.specs.Strips.{is_cell_of, is_placed_in};
 ghost use Rattle.gas_scene.specs.Ranges.{is_size, is_rate, is_below, is_span_of, fits, is_version, is_gas, is_chirality, is_common_in_range, is_map_in_range, is_filling, is_extent, is_area_in_range, is_in_range};
 
 use crate::fields::{Extent, Placement, Rectangle, Span, array_at, has, integer_at, text_at};
@@ -70,8 +70,8 @@ fn is_state(states: u16, state: i64) -> bool
 }
 
 // Whether the cell of the placement lies in the channel.
-fn is_inside(channel: &Channel, placement: Placement) -> bool
-    ensures value { result ≡ is_in channel.now placement }
+fn is_cell_of(channel: &Channel, placement: Placement) -> bool
+    ensures value { result ≡ is_cell_of channel.now placement }
     ensures size { IsSize channel.now.width channel.now.height }
 {
     let size = channel.size();
@@ -82,7 +82,7 @@ fn is_inside(channel: &Channel, placement: Placement) -> bool
 // Whether the cell of the placement is fluid.
 fn is_fluid(channel: &Channel, placement: Placement) -> bool
     requires size { IsSize channel.now.width channel.now.height }
-    requires inside { is_in channel.now placement ≡ true }
+    requires inside { is_cell_of channel.now placement ≡ true }
     ensures { result ≡ not (is_solid channel.now (nat_abs placement.x) (nat_abs placement.y)) }
 {
     !channel.is_solid(placement.x as u32, placement.y as u32)
@@ -93,7 +93,7 @@ fn is_fluid(channel: &Channel, placement: Placement) -> bool
 fn is_placed(states: u16, channel: &Channel, placement: Placement) -> bool
     ensures { result ≡ is_placed_in states channel.now placement }
 {
-    is_inside(channel, placement)
+    is_cell_of(channel, placement)
         && is_fluid(channel, placement)
         && is_state(states, placement.state)
 }

@@ -10,7 +10,7 @@ ghost use Rattle.gas_geom.specs.Channel.{free_channel};
 ghost use Rattle.gas_geom.specs.declared.size.TheConstants.{MOST_SIDE};
 ghost use Rattle.gas_scene.specs.Fields.{rectangle_of};
 ghost use Rattle.gas_scene.specs.Ranges.{fits, is_covered, is_extent};
-ghost use Rattle.gas_scene.specs.Building.{IsInside};
+ghost use Rattle.gas_scene.specs.Building.{IsRectangleIn};
 ghost use Rattle.gas_scene.specs.Strips.{channel_before, channel_of, channel_with, strips_at, reaches, is_reached, strip_of, first_row, IsStrip, AreStrips};
 
 use crate::fields::{Extent, Rectangle};
@@ -37,13 +37,13 @@ fn place(number: i128) -> u32
 }
 
 impl Strip {
-    ghost use Rattle.gas_scene.specs.Building.{IsInside};
+    ghost use Rattle.gas_scene.specs.Building.{IsRectangleIn};
     ghost use Rattle.gas_scene.specs.Strips.{strip_of};
     ghost use Rattle.gas_geom.specs.declared.size.TheConstants.{MOST_SIDE};
 
     // The columns of a rectangle, and where it ends.
     fn of(rectangle: Rectangle) -> Strip
-        requires { IsInside MOST_SIDE MOST_SIDE rectangle }
+        requires { IsRectangleIn MOST_SIDE MOST_SIDE rectangle }
         ensures { result ≡ strip_of rectangle }
     {
         Strip {
@@ -56,7 +56,7 @@ impl Strip {
 
 // The row in which a rectangle starts.
 fn first_row(rectangle: Rectangle) -> u32
-    requires { IsInside MOST_SIDE MOST_SIDE rectangle }
+    requires { IsRectangleIn MOST_SIDE MOST_SIDE rectangle }
     ensures { result ≡ first_row rectangle }
 {
     place(rectangle.rows.start)
@@ -129,7 +129,7 @@ fn no_strips(alloc: Global, height: u32) -> Result<Vec<Vec<Strip>>, AllocError>
 // The strips of the rectangles, by the rows in which they start.
 fn strips(alloc: Global, size: Size, solid: &[Value]) -> Result<Vec<Vec<Strip>>, AllocError>
     requires size { IsSize size.width size.height }
-    requires inside { All (λ v. IsInside size.width size.height (rectangle_of (view v))) solid.now }
+    requires inside { All (λ v. IsRectangleIn size.width size.height (rectangle_of (view v))) solid.now }
     ensures high { IfOk result (λ rows. length rows.items ≡ size.height) }
     ensures columns { IfOk result (λ rows. (y : ℕ) → y < size.height → All (λ s. IsStrip size.width s) (strips_at rows.items y)) }
     ensures strips { IfOk result (λ rows. (y : ℕ) → y < size.height → AreStrips (map view solid.now) y (strips_at rows.items y)) }

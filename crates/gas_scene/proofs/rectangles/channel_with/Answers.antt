@@ -3,7 +3,7 @@ use Rattle.std.specs.Prelude.{nat_abs, All}
 use Rattle.toml.specs.View.{view}
 use Rattle.gas_geom.specs.Size.{SizeModel}
 use Rattle.gas_geom.specs.Channel.{free_channel}
-use Rattle.gas_scene.specs.Building.{IsInside}
+use Rattle.gas_scene.specs.Building.{IsRectangleIn}
 use Rattle.gas_scene.specs.Fields.{rectangle_of}
 use Rattle.gas_scene.specs.Ranges.{is_covered}
 use Rattle.gas_scene.specs.Strips.{is_reached, strips_at, AreStrips}
@@ -13,7 +13,7 @@ use Rattle.gas_scene.proofs.rectangles.channel_with.Goals as goal
 
 pub strips-requires-clause-inside : goal.strips-requires-clause-inside
 strips-requires-clause-inside c =
-    subst (λ (s : SizeModel). All (λ v. IsInside s.width s.height (rectangle_of (view v))) c.args.solid.now) (sym c.size-size.ensures)
+    subst (λ (s : SizeModel). All (λ v. IsRectangleIn s.width s.height (rectangle_of (view v))) c.args.solid.now) (sym c.size-size.ensures)
     (All-inside c.args.extent c.args.solid.now c.requires.sized c.requires.fitting)
 
 pub returns : goal.returns

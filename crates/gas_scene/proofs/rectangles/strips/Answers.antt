@@ -7,10 +7,10 @@ use Rattle.std.proofs.lemmas.List.Elements.{All-nil}
 use Rattle.toml.specs.View.{view}
 use Rattle.gas_scene.specs.declared.fields.Rectangle.{Rectangle}
 use Rattle.gas_scene.specs.declared.rectangles.Strip.{Strip}
-use Rattle.gas_scene.specs.Building.{IsInside}
+use Rattle.gas_scene.specs.Building.{IsRectangleIn}
 use Rattle.gas_scene.specs.Fields.{rectangle_of}
 use Rattle.gas_scene.specs.Strips.{IsStrip, strips_at, reaches, is_reached_at, strip_of, first_row}
-use Rattle.gas_scene.proofs.Reaches.{IsInside-most, IsStrip-inside, All-if, inside-item, strips_at-set, strips-more}
+use Rattle.gas_scene.proofs.Reaches.{IsRectangleIn-most, IsStrip-inside, All-if, inside-item, strips_at-set, strips-more}
 use Rattle.gas_scene.proofs.rectangles.strips.Goals as goal
 
 pub loop-value-init : goal.loop-value-init
@@ -24,7 +24,7 @@ loop-value-init c = record {
 
 pub first_row-requires : goal.first_row-requires
 first_row-requires c =
-    IsInside-most c.args.size.width c.args.size.height c.read-rectangle.result c.requires.size
+    IsRectangleIn-most c.args.size.width c.args.size.height c.read-rectangle.result c.requires.size
     (inside-item c.args.size.width c.args.size.height c.args.solid.now c.loop-value.value-index c.value-item.result c.read-rectangle.result
     c.requires.inside c.loop-value-test.true c.value-item.is c.read-rectangle.ensures)
 
@@ -36,7 +36,7 @@ index_mut-row-requires c =
 
 pub of-requires : goal.of-requires
 of-requires c =
-    IsInside-most c.args.size.width c.args.size.height c.read-rectangle.result c.requires.size
+    IsRectangleIn-most c.args.size.width c.args.size.height c.read-rectangle.result c.requires.size
     (inside-item c.args.size.width c.args.size.height c.args.solid.now c.loop-value.value-index c.value-item.result c.read-rectangle.result
     c.requires.inside c.loop-value-test.true c.value-item.is c.read-rectangle.ensures)
 
@@ -48,8 +48,8 @@ loop-value-preserved c =
     let k = c.loop-value.value-index in
     let r : Rectangle = rectangle_of (view c.value-item.result) in
     let rows = c.loop-value.rows.items in
-    let inside : IsInside w h c.read-rectangle.result = inside-item w h vs k c.value-item.result c.read-rectangle.result c.requires.inside c.loop-value-test.true c.value-item.is c.read-rectangle.ensures in
-    let here : IsInside w h r = subst (λ s. IsInside w h s) c.read-rectangle.ensures inside in
+    let inside : IsRectangleIn w h c.read-rectangle.result = inside-item w h vs k c.value-item.result c.read-rectangle.result c.requires.inside c.loop-value-test.true c.value-item.is c.read-rectangle.ensures in
+    let here : IsRectangleIn w h r = subst (λ s. IsRectangleIn w h s) c.read-rectangle.ensures inside in
     let top : c.first_row.result ≡ first_row r = c.first_row.ensures ∙ ap first_row c.read-rectangle.ensures in
     let strip : c.of.result ≡ strip_of r = c.of.ensures ∙ ap strip_of c.read-rectangle.ensures in
     let within : c.first_row.result < length rows = omega (arith, ints, c.first_row.ensures, c.loop-value.invariant.high, inside.top, inside.high, inside.bottom) in
