@@ -1,0 +1,114 @@
+#!/usr/bin/env python3
+"""Gives the built program large texts of one kind each, under a small stack, and prints its answer, seconds and peak memory.
+
+Fails where the answer is not the one that docs/FORMATS.md says; the times and sizes are only shown. Usage:
+tests/large_scenes.py [MEBIBYTES], 1 if it is left out; the program reads at most 64.
+"""
+import os
+import pathlib
+import random
+import subprocess
+import sys
+import tempfile
+import time
+
+PROGRAM = pathlib.Path(__file__).resolve().parent.parent / "crates/fhpgas/out/fhpgas"
+STACK = 256  # KiB
+BLOCK = 1 << 16
+SIDE = 4096
+AREA = f'gas = "fhp1"\nwidth = {SIDE}\nheight = {SIDE}\n'
+SHOWN = f"gas fhp1 width {SIDE} height {SIDE} solid %d particles %d"
+WRONG_TYPE, UNKNOWN, SYNTAX, RANGE, MISSING = (
+    f"scene: {reason}" for reason in ("wrong type", "unknown key", "not TOML", "out of range", "missing key")
+)
+
+
+def repeated(before, item, after, size):
+    """The text before, as many items as have room in the size, and the text after; and how many items these are."""
+    count = (size - len(before) - len(after)) // len(item)
+    return [before] + [item * (BLOCK // len(item))] * (count // (BLOCK // len(item))) + [item * (count % (BLOCK // len(item))), after], count
+
+
+def listed(rng, before, entry, after, size):
+    """Likewise for one block of random entries again and again."""
+    block = "".join(entry(rng) for _ in range(2000))
+    return repeated(before, block, after, size)[0]
+
+
+def rectangle(rng):
+    x, y = rng.randrange(SIDE), rng.randrange(SIDE)
+    return f"[{x},{y},{rng.randint(1, SIDE - x)},{rng.randint(1, SIDE - y)}],"
+
+
+def texts(size):
+    """Each text as a name, its pieces and the answer."""
+    rng = random.Random(1)
+    half = size // 2
+    yield "one particle, again and again", repeated(AREA + "particles = [", "[0,0,1],", "]\n", size)[0], SHOWN % (0, 1)
+    yield "particles in a column of solid cells", repeated(AREA + f"solid = [[0,0,1,{SIDE}]]\nparticles = [", "[0,0,1],", "]\n", size)[0], RANGE
+    column = "".join(f"[{SIDE // 2 + y % 2048},{y},1]," for y in range(SIDE))
+    yield "particles all over the area", repeated(AREA + "particles = [", column, "]\n", max(size, 2 * len(column)))[0], SHOWN % (0, SIDE)
+    yield "rectangles of one cell", repeated(AREA + "solid = [", "[0,0,1,1],", "]\n", size)[0], SHOWN % (1, 0)
+    yield "rectangles of a row", repeated(AREA + "solid = [", f"[0,0,{SIDE},1],", "]\n", size)[0], SHOWN % (SIDE, 0)
+    yield "rectangles of a column", repeated(AREA + "solid = [", f"[0,0,1,{SIDE}],", "]\n", size)[0], SHOWN % (SIDE, 0)
+    yield "rectangles of the area", repeated(AREA + "solid = [", f"[0,0,{SIDE},{SIDE}],", "]\n", size)[0], SHOWN % (SIDE * SIDE, 0)
+    yield "rectangles at random", listed(rng, AREA + "solid = [[0,0,4096,4096],", rectangle, "]\n", size), SHOWN % (SIDE * SIDE, 0)
+    left = repeated(AREA + "solid = [", f"[0,0,{SIDE // 2},{SIDE}],", "]\n", half)[0]
+    yield "half rectangles, half particles", left + repeated("particles = [", column, "]\n", max(half, 2 * len(column)))[0], SHOWN % (SIDE * SIDE // 2, SIDE)
+    yield "empty arrays", repeated(AREA + "solid = [", "[],", "]\n", size)[0], WRONG_TYPE
+    yield "empty rows", repeated('gas = "fhp1"\ncells = [', '"",', "]\n", size)[0], RANGE
+    rows = min(SIDE, size // (2 * SIDE + 4))
+    row = '"' + "3f" * SIDE + '",\n'
+    yield "a map", ['gas = "fhp1"\ncells = [\n'] + [row] * rows + ["]\n"], f"gas fhp1 width {SIDE} height {rows} solid 0 particles {6 * SIDE * rows}"
+    yield "nested arrays", repeated("cells = ", "[", "", half)[0] + repeated("", "]", "\n", half)[0], SYNTAX
+    yield "nested inline tables", repeated("cells = ", "{a=", "1", 3 * size // 4)[0] + repeated("", "}", "\n", size // 4)[0], SYNTAX
+    yield "nested arrays that never end", repeated("cells = ", "[", "", size)[0], SYNTAX
+    yield "one text", repeated('gas = "', "a", '"\ncells = []\n', size)[0], RANGE
+    yield "one text that never ends", repeated('gas = "', "a", "", size)[0], SYNTAX
+    yield "keys", ["".join(f"k{k} = 1\n" for k in range(first, first + 10000)) for first in range(0, max(size // 13, 1), 10000)], UNKNOWN
+    yield "one key", repeated("", "k", " = 1\n", size)[0], UNKNOWN
+    yield "one key twice", repeated("", "k", " = 1\n", half)[0] * 2, SYNTAX
+    yield "one dotted key", repeated("", "k.", "k = 1\n", size)[0], SYNTAX
+    yield "tables", ["".join(f"[t{t}]\n" for t in range(first, first + 10000)) for first in range(0, max(size // 11, 1), 10000)], UNKNOWN
+    yield "comments", repeated("", "#\n", "", size)[0], MISSING
+    yield "one comment", repeated("#", "a", "\n", size)[0], MISSING
+    yield "empty lines", repeated("", "\n", "", size)[0], MISSING
+    yield "bytes that are not UTF-8", [b"\xff" * min(size, BLOCK)] * (size // BLOCK), SYNTAX
+
+
+def answer(path):
+    """What the program says of the text in the file, the seconds that it takes and the KiB that it comes to hold."""
+    with open(path, "rb") as text, tempfile.TemporaryFile() as said:
+        started = time.monotonic()
+        child = subprocess.Popen(["sh", "-c", f'ulimit -s {STACK}; exec "$0" check', PROGRAM], stdin=text, stdout=said, stderr=said)
+        _, status, used = os.wait4(child.pid, 0)
+        seconds = time.monotonic() - started
+        child.returncode = os.waitstatus_to_exitcode(status)
+        said.seek(0)
+        line = said.read(1000).decode(errors="replace").strip()
+    return line if child.returncode in (0, 1) else f"status {child.returncode}: {line}", seconds, used.ru_maxrss
+
+
+def main():
+    size = int(float(sys.argv[1] if len(sys.argv) > 1 else 1) * (1 << 20))
+    passed = failed = 0
+    print(f"{'text':40} {'bytes':>9} {'seconds':>8} {'peak MB':>8}  answer")
+    with tempfile.NamedTemporaryFile() as file:
+        for name, pieces, expected in texts(size):
+            file.seek(0)
+            file.truncate()
+            for piece in pieces:
+                file.write(piece if isinstance(piece, bytes) else piece.encode())
+            file.flush()
+            line, seconds, peak = answer(file.name)
+            print(f"{name:40} {file.tell():9} {seconds:8.2f} {peak / 1000:8.0f}  {line}", flush=True)
+            if line == expected:
+                passed += 1
+            else:
+                failed += 1
+                print(f"FAILED: {name}: {expected} was expected")
+    print(f"{passed} passed, {failed} failed")
+    sys.exit(1 if failed else 0)
+
+
+main()
