@@ -1,6 +1,8 @@
 #!/usr/bin/env python3
-"""Throws random and mutated scenes at the built program: each must be read or refused by name, without a crash or a hang.
+"""Throws random, mutated and spliced scenes at the built program, and compares each answer with a second reading of the text
+(scene_reader.py): the line that refuses it, or the line of `check` and the printed cells.
 
+Where only one of the two readers takes a text for a TOML document, the text is counted and kept in a file beside the program.
 Ends with the counts. Usage: tests/mutated_scenes.py [HOW_MANY [SEED]]
 """
 import pathlib
@@ -9,16 +11,24 @@ import re
 import subprocess
 import sys
 
+import scene_reader
+
 ROOT = pathlib.Path(__file__).resolve().parent.parent
 PROGRAM = ROOT / "crates/fhpgas/out/fhpgas"
-REFUSAL = re.compile(
-    rb"scene: (not TOML|unknown key|missing key|wrong type|out of range|both forms"
-    rb"|row \d+ has a wrong length|row \d+ cell \d+ is not a cell)\n"
-)
-READ = re.compile(rb"gas (fhp1|hpp) width \d+ height \d+ solid \d+ particles \d+\n")
+KEPT = PROGRAM.parent / "disagreements.txt"
+MOST_CELLS = 1000
 NUMBERS = ["0", "1", "-1", "4", "63", "64", "1000", "1001", "4096", "4097", "9223372036854775807", "9223372036854775808",
            "1.0", "true", "\"1\"", "1979-05-27", "[]", "[1, 2]", "{ a = 1 }", "0x10", "1_000", "inf"]
 TEXTS = ["\"fhp1\"", "\"hpp\"", "\"fhp2\"", "\"left\"", "\"right\"", "\"seeded\"", "\"\"", "1", "'fhp1'", "[\"fhp1\"]"]
+EDGES = ["9223372036854775806", "-9223372036854775807", "-9223372036854775808", "-9223372036854775809", "18446744073709551615",
+         "18446744073709551616", "4294967296", "-4294967295", "0x7fffffffffffffff", "0x8000000000000000", "0o777777777777777777777",
+         "0o1000000000000000000000", "-0", "+1", "0b1", "1e0", "1.5", "-1.0", "nan", "-inf", "false", "07:32:00", "1979-05-27T07:32:00Z"]
+GRAMMAR = ["[", "]", "[[", "]]", "{", "}", "=", ",", ".", "#", "\n", "\r\n", "\r", "\t", " ", '"', "'", '"""', "'''", "\\", "\\n", "\\u00e9",
+           "\\U0001F600", "\\x41", "\\e", "\ufeff", "\0", "\x1f", "\x7f", "é", "Ж", "中", "０", "[a]", "[[a]]", "[gas]", "[[solid]]", "a.b", "gas.a",
+           '"gas"', "'gas'", '"\\u0067as"', "true", "false", "+1", "-0", "+0", "01", "1_0", "1__0", "_1", "0x3F", "0o17", "0b11", "-0x1", "1e3", "1.",
+           ".5", "1.5", "-1.5e-3", "nan", "-inf", "1979-05-27", "07:32:00", "07:32", "1979-05-27T07:32:00Z", "1979-05-27 07:32:00.5+01:00",
+           "1979-02-30", "9223372036854775807", "9223372036854775808", "-9223372036854775808", "-9223372036854775809",
+           "99999999999999999999999999", "[" * 70 + "]" * 70, "[" * 300 + "]" * 300, "{a=" * 60 + "1" + "}" * 60, "..", "##", "3f", "40", "3F"]
 KEYS = ["version", "gas", "chirality", "seed", "cells", "width", "height", "solid", "rate", "particles", "colour", "gas.a"]
 
 
@@ -66,41 +76,133 @@ def mutated(rng, text):
     text = bytearray(text)
     for _ in range(rng.choice([0, 0, 1, 2, 8])):
         at = rng.randrange(len(text) + 1)
-        kind = rng.randrange(4)
+        kind = rng.randrange(6)
         if kind == 0:
             text[at:at] = bytes([rng.randrange(256)])
         elif kind == 1:
             del text[at : at + rng.randint(1, 4)]
         elif kind == 2:
             text[at : at + 1] = bytes([rng.choice(b'"[]{}=,.#\n0123456789abcdef')])
-        else:
+        elif kind == 3:
             text = text[:at]
+        else:
+            text[at : at + rng.choice([0, 0, 1, 3])] = rng.choice(GRAMMAR).encode()
     return bytes(text)
+
+
+def spliced(rng, first, second):
+    """The head of one text and the tail of another, cut anywhere or between lines."""
+    if rng.random() < 0.5:
+        return first[: rng.randrange(len(first) + 1)] + second[rng.randrange(len(second) + 1) :]
+    lines, others = first.splitlines(True), second.splitlines(True)
+    return b"".join(lines[: rng.randrange(len(lines) + 1)]) + b"\n" + b"".join(others[rng.randrange(len(others) + 1) :])
+
+
+def fed_back(printed):
+    """A scene of what was printed: its rows as a map."""
+    rows = printed.decode().splitlines()[1:]
+    return ('gas = "fhp1"\ncells = [' + ", ".join(f'"{row}"' for row in rows) + "]\n").encode()
+
+
+def run(text, *words):
+    """The status and what was printed, on standard error where nothing was on standard output."""
+    done = subprocess.run([PROGRAM, *words], input=text, capture_output=True, timeout=60)
+    if bool(done.stdout) == bool(done.stderr):
+        return done.returncode, f"{done.stdout[:80]!r} and {done.stderr[:80]!r}"
+    return done.returncode, (done.stdout or done.stderr).decode(errors="replace")
+
+
+def expected(text):
+    """What `check` and `run --generations 0` must answer, by the second reading; None for a large area."""
+    try:
+        lattice = scene_reader.read(text, MOST_CELLS)
+    except scene_reader.Refused as refused:
+        return ((1, f"{refused}\n"),) * 2
+    return ((0, lattice.check_line()), (0, lattice.printed())) if lattice else None
+
+
+class Counts:
+    def __init__(self):
+        self.kinds = {}
+        self.failed = 0
+        self.large = 0
+        self.kept = []
+        self.printed = []
+
+    def compare(self, text):
+        wanted = expected(text)
+        answer = run(text, "check")
+        if wanted is None:
+            self.large += answer[0] == 0
+            self.failed += answer[0] != 0
+            return
+        checked, printed = wanted
+        if answer != checked and (1, f"{scene_reader.SYNTAX}\n") in (answer, checked):
+            self.kept.append((text, checked, answer))
+            return
+        answers = [(checked, answer)]
+        if answer[0] == 0:
+            answers.append((printed, run(text, "run", "--generations", "0")))
+            self.printed.append(answers[-1][1][1].encode())
+        for wanted, came in answers:
+            if wanted != came:
+                self.failed += 1
+                print(f"FAILED: {came} came and {wanted} was expected for {text!r}")
+                return
+        kind = "read" if answer[0] == 0 else re.sub(r"\d+", "N", answer[1].strip())
+        self.kinds[kind] = self.kinds.get(kind, 0) + 1
+
+
+def given_texts():
+    """Every prefix of three scenes; each integer at the edges of 64 bits, past them and as another value; letters in a map."""
+    for name in ("drift", "obstacle", "square"):
+        text = (ROOT / f"scenes/{name}.toml").read_bytes()
+        yield from (text[:length] for length in range(len(text) + 1))
+    keys = {"version": "%s", "seed": "%s", "width": "%s", "height": "%s", "rate": "%s"}
+    keys |= {f"solid {k}": "[[" + ", ".join("%s" if i == k else "1" for i in range(4)) + "]]" for k in range(4)}
+    keys |= {f"particles {k}": "[[" + ", ".join("%s" if i == k else "1" for i in range(3)) + "]]" for k in range(3)}
+    for place, form in keys.items():
+        for number in NUMBERS + EDGES:
+            area = {"gas": '"fhp1"', "width": "4", "height": "3"} | {place.split()[0]: form % number}
+            yield "\n".join(f"{key} = {value}" for key, value in area.items()).encode()
+    for letters in ("é", "éé", "Ж", "ЖЖ", "中", "中.", "中中", "０１", "٠١", "🙂", "🙂🙂", "e\u0301", "..é", "01Ж", "0\u00a0", "ｆｆ", "\u2028\u2028"):
+        yield f'gas = "fhp1"\ncells = ["{letters}"]'.encode()
+        yield f'gas = "{letters}"\ncells = [".."]'.encode()
+        yield f'"{letters}" = 1'.encode()
+    for row, rows in ((8192, 1), (8194, 1), (2, 4096), (2, 4097), (8191, 1), (0, 1)):
+        yield ('gas = "fhp1"\ncells = [' + f'"{"." * row}",' * rows + "]").encode()
+
+
+def text_of(rng, counts):
+    kind = rng.random()
+    if kind < 0.05:
+        return rng.randbytes(rng.randrange(64))
+    if kind < 0.25:
+        return mutated(rng, spliced(rng, scene(rng), scene(rng)))
+    if kind < 0.35 and counts.printed:
+        return mutated(rng, fed_back(rng.choice(counts.printed)))
+    return mutated(rng, scene(rng))
 
 
 def main():
     how_many = int(sys.argv[1]) if len(sys.argv) > 1 else 3000
     rng = random.Random(int(sys.argv[2]) if len(sys.argv) > 2 else 1)
-    kinds = {}
-    failed = 0
+    counts = Counts()
+    given = list(given_texts())
+    for text in given:
+        counts.compare(text)
     for _ in range(how_many):
-        text = mutated(rng, scene(rng)) if rng.random() < 0.9 else rng.randbytes(rng.randrange(64))
-        run = subprocess.run([PROGRAM, "check"], input=text, capture_output=True, timeout=10)
-        read = run.returncode == 0 and READ.fullmatch(run.stdout) and not run.stderr
-        refused = run.returncode == 1 and not run.stdout and REFUSAL.fullmatch(run.stderr)
-        if read or refused:
-            kind = "read" if read else re.sub(r"\d+", "N", run.stderr.decode().strip())
-            kinds[kind] = kinds.get(kind, 0) + 1
-        else:
-            failed += 1
-            print(f"FAILED: status {run.returncode}, {run.stdout[:80]!r}, {run.stderr[:80]!r} for {text!r}")
-    for kind in sorted(kinds):
-        print(f"{kinds[kind]:6} {kind}")
-    missing = 9 - len(kinds)
+        counts.compare(text_of(rng, counts))
+    for kind in sorted(counts.kinds):
+        print(f"{counts.kinds[kind]:6} {kind}")
+    KEPT.write_text("".join(f"{text!r}: {came} came and {wanted} was expected\n" for text, wanted, came in counts.kept))
+    print(f"{len(counts.kept):6} taken for a document by one reader alone, kept in {KEPT.relative_to(ROOT)}")
+    print(f"{counts.large:6} read, of more cells than the second reading takes")
+    missing = 9 - len(counts.kinds)
     if missing:
         print(f"FAILED: {missing} kinds of answers did not come")
-    print(f"{how_many - failed} passed, {failed + missing} failed")
-    sys.exit(1 if failed or missing else 0)
+    print(f"{len(given) + how_many - counts.failed - counts.large - len(counts.kept)} passed, {counts.failed + missing} failed")
+    sys.exit(1 if counts.failed or missing else 0)
 
 
 main()
