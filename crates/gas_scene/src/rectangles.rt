@@ -1,7 +1,7 @@
 //! The channel of an area, whose rectangles are solid. However much they overlap, each is gone
-//! through once, row by row of the channel, along its columns.
+//! through once, in the row where it starts, along its columns.
 
-ghost use Rattle.std.specs.Prelude.{◌≡◌, ℕ, ◌+◌, ◌<◌, ◌≤◌, ◌==◌, ◌&&◌, ◌||◌, [], ◌∷◌, ◌++◌, Bool, true, List, length, map, slice_index, slice_index_or, IfOk, OnOk, All, nat_le, nat_lt, nat_abs, pos, ◌≤ℤ◌, if◌then◌else◌};
+ghost use Rattle.std.specs.Prelude.{◌≡◌, ℕ, ◌+◌, ◌*◌, ◌/◌, ◌<◌, ◌≤◌, ◌==◌, ◌&&◌, ◌||◌, [], ◌∷◌, ◌++◌, Bool, true, List, length, map, slice_index, slice_index_or, IfOk, OnOk, All, nat_le, nat_lt, nat_abs, pos, ◌≤ℤ◌, if◌then◌else◌};
 ghost use Rattle.std.specs.List.{list_all, list_any};
 ghost use Rattle.toml.specs.Data.{Data};
 ghost use Rattle.toml.specs.View.{view};
@@ -72,46 +72,96 @@ fn extend(until: &mut [u32], strip: Strip)
     }
 }
 
-// Does so for each of the strips.
-fn extend_all(until: &mut [u32], strips: &[Strip])
-    requires { All (λ s. IsStrip (length until.old) s) strips.now }
-    ensures { (x y : ℕ) → nat_lt y (slice_index until.new x) ≡ (nat_lt y (slice_index until.old x) || list_any (λ s. reaches s x y) strips.now) }
+// Does so with one number for each whole block of 64 columns, and one for each column of the rest.
+fn extend_blocks(until: &mut [u32], blocks: &mut [u32], strip: Strip)
+    requires columns { IsStrip (length until.old) strip }
+    requires blocks { length until.old ≤ 64 * length blocks.old }
+    ensures { (x y : ℕ) → (nat_lt y (slice_index until.new x) || nat_lt y (slice_index blocks.new (x / 64)))
+        ≡ ((nat_lt y (slice_index until.old x) || nat_lt y (slice_index blocks.old (x / 64))) || reaches strip x y) }
 {
-    for strip in strips {
-        extend(until, *strip);
+    let first = strip.start / 64 + 1;
+    let last = strip.end / 64;
+    if last <= first {
+        extend(until, strip);
+    } else {
+        extend(
+            until,
+            Strip {
+                end: 64 * first,
+                ..strip
+            },
+        );
+        extend(
+            blocks,
+            Strip {
+                start: first,
+                end: last,
+                ..strip
+            },
+        );
+        extend(
+            until,
+            Strip {
+                start: 64 * last,
+                ..strip
+            },
+        );
     }
 }
 
+// Does so for each of the strips.
+fn extend_all(until: &mut [u32], blocks: &mut [u32], strips: &[Strip])
+    requires columns { All (λ s. IsStrip (length until.old) s) strips.now }
+    requires blocks { length until.old ≤ 64 * length blocks.old }
+    ensures { (x y : ℕ) → (nat_lt y (slice_index until.new x) || nat_lt y (slice_index blocks.new (x / 64)))
+        ≡ ((nat_lt y (slice_index until.old x) || nat_lt y (slice_index blocks.old (x / 64))) || list_any (λ s. reaches s x y) strips.now) }
+{
+    for strip in strips {
+        extend_blocks(until, blocks, *strip);
+    }
+}
+
+// Whether a column is solid up to a later row, by its own number or by that of its block.
+fn is_later(y: u32, column: u32, block: u32) -> bool
+    ensures { result ≡ (nat_lt y column || nat_lt y block) }
+{
+    y < column || y < block
+}
+
 // Makes the cells of row `y` solid whose columns are solid up to a later row.
-fn make_row_solid(channel: &mut Channel, y: u32, until: &[u32])
+fn make_row_solid(channel: &mut Channel, y: u32, until: &[u32], blocks: &[u32])
     requires row { y < channel.old.height }
     requires wide { length until.now ≡ channel.old.width }
+    requires blocks { length until.now ≤ 64 * length blocks.now }
     ensures wide { channel.new.width ≡ channel.old.width }
     ensures high { channel.new.height ≡ channel.old.height }
     ensures cells { (w h : ℕ) (solid : ℕ → ℕ → Bool) → channel.old ≡ channel_before w h solid 0 y
-        → ((x : ℕ) → x < w → nat_lt y (slice_index until.now x) ≡ solid x y)
+        → ((x : ℕ) → x < w → (nat_lt y (slice_index until.now x) || nat_lt y (slice_index blocks.now (x / 64))) ≡ solid x y)
         → channel.new ≡ channel_before w h solid 0 (y + 1) }
 {
     for x in 0..channel.size().width() {
-        if y < until[x as usize] {
+        let column = x as usize;
+        if is_later(y, until[column], blocks[column / 64]) {
             channel.make_solid(x, y);
         }
     }
 }
 
 // Makes the cells of the channel solid that one of the rectangles covers, whose strips these are.
-fn make_solid(channel: &mut Channel, rows: &[Vec<Strip>], until: &mut [u32])
+fn make_solid(channel: &mut Channel, rows: &[Vec<Strip>], until: &mut [u32], blocks: &mut [u32])
     requires high { length rows.now ≡ channel.old.height }
     requires wide { length until.old ≡ channel.old.width }
+    requires blocks { length until.old ≤ 64 * length blocks.old }
     requires columns { (y : ℕ) → y < channel.old.height → All (λ s. IsStrip channel.old.width s) (strips_at rows.now y) }
     ensures { (w h : ℕ) (ds : List Data) → channel.old ≡ free_channel w h
         → ((y : ℕ) → y < h → AreStrips ds y (strips_at rows.now y))
         → channel.new ≡ channel_of w h (is_reached ds) }
 {
     until.fill(0);
+    blocks.fill(0);
     for y in 0..channel.size().height() {
-        extend_all(until, rows[y as usize].as_slice());
-        make_row_solid(channel, y, until);
+        extend_all(until, blocks, rows[y as usize].as_slice());
+        make_row_solid(channel, y, until, blocks);
     }
 }
 
@@ -165,10 +215,8 @@ pub(crate) fn channel_with(
     let mut channel = Channel::free(alloc, size)?;
     let rows = strips(alloc, size, solid)?;
     let mut until = [0u32; MOST_SIDE as usize];
-    make_solid(
-        &mut channel,
-        rows.as_slice(),
-        &mut until[..size.width() as usize],
-    );
+    let mut blocks = [0u32; MOST_SIDE as usize / 64];
+    let until = &mut until[..size.width() as usize];
+    make_solid(&mut channel, rows.as_slice(), until, &mut blocks);
     Ok(channel)
 }

@@ -1,9 +1,8 @@
-use Rattle.std.proofs.Common.{◌≡◌, ◌<◌, true, false, nat_lt, get_or, sym, ◌∙◌, ap, arith}
-use Rattle.std.proofs.lemmas.Bool.Decides.{nat_tests}
+use Rattle.std.proofs.Common.{◌≡◌, ◌/◌, ◌||◌, ◌<◌, true, false, nat_lt, get_or, sym, ◌∙◌, ap, arith}
 use Rattle.gas_geom.specs.Channel.{ChannelModel, with_solid}
 use Rattle.gas_scene.proofs.Strips.{channel_before-solid, channel_before-fluid, channel_before-row}
 use Rattle.gas_scene.proofs.rectangles.make_row_solid.Goals as goal
-use Rattle.gas_scene.proofs.rectangles.make_row_solid.Goals.{then-y-until, else-y-until}
+use Rattle.gas_scene.proofs.rectangles.make_row_solid.Goals.{then-is_later, else-is_later}
 
 pub loop-x-preserved : goal.loop-x-preserved
 loop-x-preserved c =
@@ -11,23 +10,23 @@ loop-x-preserved c =
     let y = c.args.y in
     let old = c.args.channel.now in
     let is_old = c.loop-x.invariant in
-    elim c.if-y-until.branch [
-      | then-y-until t ↦ record {
+    elim c.if-is_later.branch [
+      | then-is_later t ↦ record {
         wide = ap (λ (ch : ChannelModel). ch.width) (t.channel-is ∙ t.make_solid.ensures) ∙ is_old.wide;
         high = ap (λ (ch : ChannelModel). ch.height) (t.channel-is ∙ t.make_solid.ensures) ∙ is_old.high;
         cells = λ w h solid e same.
             let in_columns : x < w = omega (arith, c.loop-x-test.true, c.width-x-end.ensures.value, c.size.ensures.width, ap (λ (ch : ChannelModel). ch.width) e) in
             let in_rows : y < h = omega (arith, c.requires.row, ap (λ (ch : ChannelModel). ch.height) e) in
-            let later : nat_lt y (get_or c.args.until.now x 0) ≡ true = grind (arith, nat_tests, t.if-y-until.true) in
+            let later : (nat_lt y (get_or c.args.until.now x 0) || nat_lt y (get_or c.args.blocks.now (x / 64) 0)) ≡ true = sym c.is_later.ensures ∙ t.if-is_later.true in
             t.channel-is ∙ t.make_solid.ensures ∙ ap (λ ch. with_solid ch x y) (is_old.cells w h solid e same)
             ∙ channel_before-solid w h solid x y in_columns in_rows (sym (same x in_columns) ∙ later);
       }
-      | else-y-until t ↦ record {
+      | else-is_later t ↦ record {
         wide = ap (λ (ch : ChannelModel). ch.width) t.channel-is ∙ is_old.wide;
         high = ap (λ (ch : ChannelModel). ch.height) t.channel-is ∙ is_old.high;
         cells = λ w h solid e same.
             let in_columns : x < w = omega (arith, c.loop-x-test.true, c.width-x-end.ensures.value, c.size.ensures.width, ap (λ (ch : ChannelModel). ch.width) e) in
-            let not_later : nat_lt y (get_or c.args.until.now x 0) ≡ false = grind (arith, nat_tests, t.if-y-until.false) in
+            let not_later : (nat_lt y (get_or c.args.until.now x 0) || nat_lt y (get_or c.args.blocks.now (x / 64) 0)) ≡ false = sym c.is_later.ensures ∙ t.if-is_later.false in
             t.channel-is ∙ is_old.cells w h solid e same ∙ channel_before-fluid w h solid x y (sym (same x in_columns) ∙ not_later);
       }
     ]

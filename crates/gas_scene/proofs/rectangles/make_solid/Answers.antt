@@ -1,4 +1,4 @@
-use Rattle.std.proofs.Common.{◌≡◌, ℕ, ◌+◌, ◌<◌, ◌||◌, Bool, List, length, nat_lt, get_or, subst, sym, ◌∙◌, ap, arith, rules, refl}
+use Rattle.std.proofs.Common.{◌≡◌, ℕ, ◌+◌, ◌/◌, ◌<◌, ◌||◌, Bool, List, length, nat_lt, get_or, subst, sym, ◌∙◌, ap, ap₂, arith, rules, refl}
 use Rattle.std.specs.Prelude.{All}
 use Rattle.std.specs.List.{list_any}
 use Rattle.std.proofs.lemmas.Bool.Decides.{nat_tests}
@@ -17,12 +17,13 @@ loop-y-init c = record {
   until = λ ds strips x v within.
       let none : get_or c.fill.new.self x 0 ≡ 0 = search rules in
       let below : nat_lt v 0 ≡ Bool.false = grind (arith, nat_tests) in
-      ap (nat_lt v) none ∙ below ∙ sym (is_reached_before-none ds x v);
+      let none_in : get_or c.fill-2.new.self (x / 64) 0 ≡ 0 = search rules in
+      ap₂ (λ (a : Bool) (b : Bool). a || b) (ap (nat_lt v) none ∙ below) (ap (nat_lt v) none_in ∙ below) ∙ sym (is_reached_before-none ds x v);
   cells = λ w h ds e strips. e ∙ channel_before-none w h (is_reached ds);
 }
 
-pub extend_all-requires : goal.extend_all-requires
-extend_all-requires c =
+pub extend_all-requires-clause-columns : goal.extend_all-requires-clause-columns
+extend_all-requires-clause-columns c =
     let y = c.loop-y.y in
     let in_rows : y < c.args.channel.now.height = omega (arith, c.loop-y-test.true, c.height-y-end.ensures.value, c.size.ensures.height) in
     let wide : length c.loop-y.until ≡ c.args.channel.now.width = search rules in
@@ -38,7 +39,7 @@ loop-y-preserved c =
     let row : c.as_slice.result.now ≡ strips_at c.args.rows.now y =
     c.as_slice.ensures.value ∙ strips_at-row c.args.rows.now y c.index-rows-y.result (omega (arith, in_rows, c.requires.high)) c.index-rows-y.is in
     let reached : (ds : List Data) → ((k : ℕ) → k < c.args.channel.now.height → AreStrips ds k (strips_at c.args.rows.now k))
-    → (x v : ℕ) → x < c.args.channel.now.width → nat_lt v (get_or c.extend_all.new.until x 0) ≡ is_reached_before ds (y + 1) x v =
+    → (x v : ℕ) → x < c.args.channel.now.width → (nat_lt v (get_or c.extend_all.new.until x 0) || nat_lt v (get_or c.extend_all.new.blocks (x / 64) 0)) ≡ is_reached_before ds (y + 1) x v =
     λ ds strips x v within.
     c.extend_all.ensures x v
     ∙ ap (λ (b : Bool). b || list_any (λ s. reaches s x v) c.as_slice.result.now) (c.loop-y.invariant.until ds strips x v within)
