@@ -19,7 +19,7 @@ KEPT = PROGRAM.parent / "disagreements.txt"
 MOST_CELLS = 1000
 NUMBERS = ["0", "1", "-1", "4", "63", "64", "1000", "1001", "4096", "4097", "9223372036854775807", "9223372036854775808",
            "1.0", "true", "\"1\"", "1979-05-27", "[]", "[1, 2]", "{ a = 1 }", "0x10", "1_000", "inf"]
-TEXTS = ["\"fhp1\"", "\"hpp\"", "\"fhp2\"", "\"left\"", "\"right\"", "\"seeded\"", "\"\"", "1", "'fhp1'", "[\"fhp1\"]"]
+TEXTS = ["\"fhp1\"", "\"hpp\"", "\"fhp-rest\"", "\"fhp2\"", "\"left\"", "\"right\"", "\"seeded\"", "\"\"", "1", "'fhp1'", "[\"fhp1\"]"]
 EDGES = ["9223372036854775806", "-9223372036854775807", "-9223372036854775808", "-9223372036854775809", "18446744073709551615",
          "18446744073709551616", "4294967296", "-4294967295", "0x7fffffffffffffff", "0x8000000000000000", "0o777777777777777777777",
          "0o1000000000000000000000", "-0", "+1", "0b1", "1e0", "1.5", "-1.0", "nan", "-inf", "false", "07:32:00", "1979-05-27T07:32:00Z"]
@@ -52,7 +52,7 @@ def value(rng, key):
     if rng.random() < 0.05:
         return rng.choice(NUMBERS + TEXTS)
     if key in ("gas", "chirality"):
-        return rng.choice(TEXTS[:2] if key == "gas" else TEXTS[3:6]) if rng.random() < 0.9 else rng.choice(TEXTS)
+        return rng.choice(TEXTS[:3] if key == "gas" else TEXTS[4:7]) if rng.random() < 0.9 else rng.choice(TEXTS)
     if key == "cells":
         return cells(rng)
     if key in ("solid", "particles"):

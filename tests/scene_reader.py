@@ -6,7 +6,7 @@ program, and takes no care of speed.
 import struct
 import tomllib
 
-STATES = {"fhp1": 64, "hpp": 16}
+STATES = {"fhp1": 64, "hpp": 16, "fhp-rest": 128}
 MOST_SIDE = 4096
 SYNTAX = "scene: not TOML"
 INTEGERS = ("version", "seed", "width", "height", "rate")
