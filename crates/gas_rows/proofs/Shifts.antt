@@ -67,11 +67,16 @@ module _ (plane : List ℕ) (width : ℕ) (least : 1 ≤ width) where
       let none : 64 * 0 + width - 1 ≡ width - 1 = omega arith in
       top ∙ sym (bit_at_place plane last ((width - 1) % 64) (omega arith)) ∙ ap (bit plane) (whole ∙ sym (ap (λ k. k % width) none ∙ mod-eq_of_lt (omega arith)))
 
-  pub before_next : (j : ℕ) → 64 * (j + 1) < width → holds (get_or plane j 0) 63 ≡ bit plane ((64 * (j + 1) + width - 1) % width)
+  before_next : (j : ℕ) → 64 * (j + 1) < width → holds (get_or plane j 0) 63 ≡ bit plane ((64 * (j + 1) + width - 1) % width)
   before_next j h =
       let back : 64 * (j + 1) + width - 1 ≡ 64 * j + 63 + width = omega arith in
       sym (bit_at_place plane j 63 (omega arith))
       ∙ ap (bit plane) (sym (ap (λ k. k % width) back ∙ add-mod_right (64 * j + 63) width ∙ mod-eq_of_lt (omega arith)))
+
+  pub before_here : (j : ℕ) → 1 ≤ j → 64 * j < width → holds (get_or plane (j - 1) 0) 63 ≡ bit plane ((64 * j + width - 1) % width)
+  before_here j some h =
+      let e : j - 1 + 1 ≡ j = omega arith in
+      before_next (j - 1) (omega arith) ∙ ap (λ k. bit plane ((64 * k + width - 1) % width)) e
 
   within : (j b : ℕ) → b < 64 → 64 * j + b < width → holds (get_or plane j 0) b ≡ bit plane ((64 * j + b) % width)
   within j b h lt = sym (bit_at_place plane j b h) ∙ ap (bit plane) (sym (mod-eq_of_lt lt))

@@ -1,4 +1,4 @@
-use Rattle.std.proofs.Common.{◌*◌, ◌+◌, ◌-◌, min, ap, ◌∙◌, arith}
+use Rattle.std.proofs.Common.{◌*◌, ◌+◌, ◌-◌, min, arith}
 use Rattle.gas_rows.specs.Words.{bit}
 use Rattle.gas_rows.proofs.Ones.{count-le, count-more}
 use Rattle.gas_rows.proofs.span.count_in.Goals as goal
