@@ -10,138 +10,232 @@ use gas_rows::channel::Channel;
 use gas_rows::chirality::Chirality;
 use gas_rows::lattice::Lattice;
 use gas_rows::row::Row;
+use std::alloc::{AllocError, Global};
 use std::process::Abort;
 use std::test::Fail;
+
+// The helpers promise nothing, so that no test carries the promises of all its turns.
+
+// A channel of four columns.
+fn channel(alloc: Global, height: u32) -> Result<Channel, Fail> {
+    let size = Size::new(4, height).ok_or("a size")?;
+    Ok(Channel::free(alloc, size)?)
+}
+
+// A row with this state in its first cell, and none in the others.
+fn row(alloc: Global, width: u32, first: u8) -> Result<Row<Fhp1>, Fail> {
+    if width < 1 || width > 5 || first >= 64 {
+        return Err("a row")?;
+    }
+    let mut row = Row::blank(alloc, width)?;
+    row.set(0, first);
+    Ok(row)
+}
+
+// The row has one particle, which goes east in this column, or, where it has no such column, none.
+fn row_is(rt: &impl Abort, row: &Row<Fhp1>, column: u32) {
+    for x in 0..row.width() {
+        assert!(rt;
+            row.get(x) == if x == column { 0x01 } else { 0x00 },
+            "column {x}"
+        );
+    }
+}
+
+// The belts before and behind a worker.
+#[derive(Drop)]
+struct Belts {
+    first: PlainBelt<Fhp1>,
+    last: PlainBelt<Fhp1>,
+}
+
+impl Belts {
+    // Two belts that hold one row, or three.
+    fn new(alloc: Global, three: bool) -> Result<Belts, AllocError> {
+        let capacity = if three { 3 } else { 1 };
+        Ok(Belts {
+            first: PlainBelt::new(alloc, capacity)?,
+            last: PlainBelt::new(alloc, capacity)?,
+        })
+    }
+}
+
+// A worker that has begun a pass.
+fn worker(
+    alloc: Global,
+    channel: &Channel,
+    generation: Option<u64>,
+) -> Result<Worker<'_, Fhp1>, AllocError> {
+    let mut worker = Worker::new(alloc, channel, Chirality::Left)?;
+    worker.begin(generation);
+    Ok(worker)
+}
+
+// A feeder that has begun a pass over a lattice with one particle, which goes east from (0, 0).
+fn feeder(alloc: Global, channel: Channel) -> Result<Feeder<Fhp1>, AllocError> {
+    let mut lattice = Lattice::blank(alloc, channel)?;
+    let size = lattice.channel().size();
+    if size.width() > 0 && size.height() > 0 && !lattice.channel().is_solid(0, 0) {
+        lattice.set_cell(0, 0, 0x01);
+    }
+    let mut feeder = Feeder::new(alloc, &lattice)?;
+    feeder.begin();
+    Ok(feeder)
+}
+
+fn turn_worker(rt: &impl Abort, worker: &mut Worker<'_, Fhp1>, belts: &mut Belts, answer: Turned) {
+    assert!(rt; worker.turn(&mut belts.first, &mut belts.last) == answer);
+}
+
+fn turn_feeder(rt: &impl Abort, feeder: &mut Feeder<Fhp1>, belts: &mut Belts, answer: Turned) {
+    assert!(rt; feeder.turn(&mut belts.first, &mut belts.last) == answer);
+}
+
+fn put(rt: &impl Abort, belt: &mut PlainBelt<Fhp1>, row: Row<Fhp1>) {
+    assert!(rt; belt.try_put(row).is_ok());
+}
+
+fn take(belt: &mut PlainBelt<Fhp1>) -> Option<Row<Fhp1>> {
+    belt.try_take()
+}
+
+// Three rows come, and in the middle one a particle goes east from its first cell.
+fn three_rows_come(rt: &impl Abort, alloc: Global, belts: &mut Belts) -> Result<(), Fail> {
+    for state in [0x00, 0x01, 0x00] {
+        put(rt, &mut belts.first, row(alloc, 4, state)?);
+    }
+    Ok(())
+}
+
+// Three rows went, and no more, and in the middle one the particle is in this column.
+fn three_rows_went(rt: &impl Abort, belts: &mut Belts, column: u32) -> Result<(), Fail> {
+    for particle in [4, column, 4] {
+        let row = take(&mut belts.last).ok_or("a row")?;
+        row_is(rt, &row, particle);
+    }
+    assert!(rt; take(&mut belts.last).is_none());
+    Ok(())
+}
 
 // One pass over a lattice of four columns and three rows, in which one particle goes east from
 // (0, 1): the answers to the turns of one worker, and the column to which the particle came.
 fn pass(
     rt: &impl Abort,
-    alloc: std::alloc::Global,
+    alloc: Global,
     generation: Option<u64>,
-    answers: [Turned; 8],
+    answers: &[Turned],
     column: u32,
 ) -> Result<(), Fail> {
-    let size = Size::new(4, 3).ok_or("a size")?;
-    let channel = Channel::free(alloc, size)?;
-    let mut worker = Worker::<Fhp1>::new(alloc, &channel, Chirality::Left)?;
-    let mut first = PlainBelt::new(alloc, 3)?;
-    let mut last = PlainBelt::new(alloc, 3)?;
-    worker.begin(generation);
-    assert!(rt; worker.turn(&mut first, &mut last) == Idle);
-    for y in 0..3 {
-        let mut row = Row::blank(alloc, 4)?;
-        row.set(0, if y == 1 { 0x01 } else { 0x00 });
-        assert!(rt; first.try_put(row).is_ok());
-    }
+    let channel = channel(alloc, 3)?;
+    let mut belts = Belts::new(alloc, true)?;
+    let mut worker = worker(alloc, &channel, generation)?;
+    turn_worker(rt, &mut worker, &mut belts, Idle);
+    three_rows_come(rt, alloc, &mut belts)?;
     for answer in answers {
-        assert!(rt; worker.turn(&mut first, &mut last) == answer);
+        turn_worker(rt, &mut worker, &mut belts, *answer);
     }
-    for y in 0..3 {
-        let row = last.try_take().ok_or("a row")?;
-        for x in 0..row.width() {
-            let here = y == 1 && x == column;
-            assert!(rt; row.get(x) == if here { 0x01 } else { 0x00 }, "({x}, {y})");
-        }
-    }
-    assert!(rt; last.try_take().is_none());
-    Ok(())
+    three_rows_went(rt, &mut belts, column)
 }
 
 #[test]
-fn a_worker_computes_or_passes_on(rt: HostRuntime) -> Result<(), Fail> {
-    let computes = [Took, Took, Put, Took, Put, Put, Done, Done];
-    pass(&rt, rt.alloc(), Some(0), computes, 1)?;
-    let passes_on = [Took, Put, Took, Put, Took, Put, Done, Done];
-    pass(&rt, rt.alloc(), None, passes_on, 0)
+fn a_worker_computes(rt: HostRuntime) -> Result<(), Fail> {
+    let answers = [Took, Took, Put, Took, Put, Put, Done, Done];
+    pass(&rt, rt.alloc(), Some(0), &answers, 1)
+}
+
+#[test]
+fn a_worker_passes_on(rt: HostRuntime) -> Result<(), Fail> {
+    let answers = [Took, Put, Took, Put, Took, Put, Done, Done];
+    pass(&rt, rt.alloc(), None, &answers, 0)
 }
 
 #[test]
 fn a_row_of_another_width_is_a_stray(rt: HostRuntime) -> Result<(), Fail> {
-    let size = Size::new(4, 3).ok_or("a size")?;
-    let channel = Channel::free(rt.alloc(), size)?;
-    let mut worker = Worker::<Fhp1>::new(rt.alloc(), &channel, Chirality::Left)?;
-    let mut first = PlainBelt::new(rt.alloc(), 1)?;
-    let mut last = PlainBelt::new(rt.alloc(), 1)?;
-    worker.begin(Some(0));
-    assert!(rt; first.try_put(Row::blank(rt.alloc(), 5)?).is_ok());
-    for _ in 0..2 {
-        assert!(rt; worker.turn(&mut first, &mut last) == Stray);
-    }
+    let channel = channel(rt.alloc(), 3)?;
+    let mut belts = Belts::new(rt.alloc(), false)?;
+    let mut worker = worker(rt.alloc(), &channel, Some(0))?;
+    put(&rt, &mut belts.first, row(rt.alloc(), 5, 0x00)?);
+    turn_worker(&rt, &mut worker, &mut belts, Stray);
+    turn_worker(&rt, &mut worker, &mut belts, Stray);
     Ok(())
 }
 
 // Over belts of one place each row is put, passed on by hand, and taken.
 #[test]
 fn a_feeder_over_two_belts(rt: HostRuntime) -> Result<(), Fail> {
-    let size = Size::new(4, 3).ok_or("a size")?;
-    let channel = Channel::free(rt.alloc(), size)?;
-    let lattice = Lattice::<Fhp1>::blank(rt.alloc(), channel)?;
-    let mut feeder = Feeder::new(rt.alloc(), &lattice)?;
-    let mut first = PlainBelt::new(rt.alloc(), 1)?;
-    let mut last = PlainBelt::new(rt.alloc(), 1)?;
-    feeder.begin();
+    let mut feeder = feeder(rt.alloc(), channel(rt.alloc(), 3)?)?;
+    let mut belts = Belts::new(rt.alloc(), false)?;
     for answer in [Idle, Took, Took] {
-        assert!(rt; feeder.turn(&mut first, &mut last) == Put);
-        assert!(rt; feeder.turn(&mut first, &mut last) == answer);
-        let row = first.try_take().ok_or("a row")?;
-        assert!(rt; last.try_put(row).is_ok());
+        turn_feeder(&rt, &mut feeder, &mut belts, Put);
+        turn_feeder(&rt, &mut feeder, &mut belts, answer);
+        let row = take(&mut belts.first).ok_or("a row")?;
+        put(&rt, &mut belts.last, row);
     }
-    assert!(rt; feeder.turn(&mut first, &mut last) == Took);
-    assert!(rt; feeder.turn(&mut first, &mut last) == Done);
+    turn_feeder(&rt, &mut feeder, &mut belts, Took);
+    turn_feeder(&rt, &mut feeder, &mut belts, Done);
     Ok(())
+}
+
+// The row of a feeder's lattice of one row, where its pass is over.
+fn only_row_is(rt: &impl Abort, feeder: Feeder<Fhp1>, column: u32) {
+    assert!(rt; feeder.is_closed());
+    let lattice = feeder.finish();
+    assert!(rt; lattice.channel().size().height() == 1);
+    row_is(rt, lattice.row(0), column);
 }
 
 // One particle goes east through a line of one worker, of which each turn is made by hand.
 #[test]
 fn a_pass_by_hand(rt: HostRuntime) -> Result<(), Fail> {
-    let size = Size::new(4, 1).ok_or("a size")?;
-    let channel = Channel::free(rt.alloc(), size)?;
-    let mut lattice = Lattice::<Fhp1>::blank(rt.alloc(), channel.copy(rt.alloc())?)?;
-    lattice.set_cell(0, 0, 0x01);
-    let mut feeder = Feeder::new(rt.alloc(), &lattice)?;
-    let mut worker = Worker::<Fhp1>::new(rt.alloc(), &channel, Chirality::Left)?;
-    let mut first = PlainBelt::new(rt.alloc(), 1)?;
-    let mut last = PlainBelt::new(rt.alloc(), 1)?;
-    feeder.begin();
-    worker.begin(Some(0));
-    assert!(rt; feeder.turn(&mut first, &mut last) == Put);
-    assert!(rt; worker.turn(&mut first, &mut last) == Took);
-    assert!(rt; worker.turn(&mut first, &mut last) == Put);
-    assert!(rt; feeder.turn(&mut first, &mut last) == Took);
-    assert!(rt; worker.turn(&mut first, &mut last) == Done);
-    assert!(rt; feeder.turn(&mut first, &mut last) == Done);
-    let result = feeder.finish();
-    for x in 0..4 {
-        assert!(rt;
-            result.cell(x, 0) == if x == 1 { 0x01 } else { 0x00 },
-            "({x}, 0)"
-        );
+    let channel = channel(rt.alloc(), 1)?;
+    let mut feeder = feeder(rt.alloc(), channel.copy(rt.alloc())?)?;
+    let mut worker = worker(rt.alloc(), &channel, Some(0))?;
+    let mut belts = Belts::new(rt.alloc(), false)?;
+    turn_feeder(&rt, &mut feeder, &mut belts, Put);
+    turn_worker(&rt, &mut worker, &mut belts, Took);
+    turn_worker(&rt, &mut worker, &mut belts, Put);
+    turn_feeder(&rt, &mut feeder, &mut belts, Took);
+    turn_worker(&rt, &mut worker, &mut belts, Done);
+    turn_feeder(&rt, &mut feeder, &mut belts, Done);
+    only_row_is(&rt, feeder, 1);
+    Ok(())
+}
+
+fn is_refused(rt: &impl Abort, stages: u32, capacity: u32, generations: u64, want: PlanError) {
+    match Plan::new(stages, capacity, generations) {
+        Ok(_) => assert!(rt; false),
+        Err(error) => assert!(rt; error == want),
     }
+}
+
+#[test]
+fn refused_plans(rt: HostRuntime) {
+    is_refused(&rt, 0, 0, 0, PlanError::Stages);
+    is_refused(&rt, 65, 1, 0, PlanError::Stages);
+    is_refused(&rt, 1, 0, 1_000_001, PlanError::Capacity);
+    is_refused(&rt, 1, 1025, 0, PlanError::Capacity);
+    is_refused(&rt, 1, 1, 1_000_001, PlanError::Generations);
+}
+
+// A plan is what was asked for, and has so many passes.
+fn has_passes(
+    rt: &impl Abort,
+    stages: u32,
+    capacity: u32,
+    generations: u64,
+    passes: u64,
+) -> Result<(), Fail> {
+    let plan = Plan::new(stages, capacity, generations)?;
+    assert!(rt; plan.stages() == stages);
+    assert!(rt; plan.capacity() == capacity);
+    assert!(rt; plan.generations() == generations);
+    assert!(rt; plan.passes() == passes);
     Ok(())
 }
 
 #[test]
 fn plans(rt: HostRuntime) -> Result<(), Fail> {
-    let refused = [
-        (0, 0, 0, PlanError::Stages),
-        (65, 1, 0, PlanError::Stages),
-        (1, 0, 1_000_001, PlanError::Capacity),
-        (1, 1025, 0, PlanError::Capacity),
-        (1, 1, 1_000_001, PlanError::Generations),
-    ];
-    for (stages, capacity, generations, want) in refused {
-        assert!(rt;
-            Plan::new(stages, capacity, generations).is_err_and(|e| e == want),
-            "{stages} {capacity} {generations}"
-        );
-    }
-    let plan = Plan::new(64, 1024, 1_000_000)?;
-    assert_eq!(rt; plan.stages(), 64);
-    assert_eq!(rt; plan.capacity(), 1024);
-    assert_eq!(rt; plan.generations(), 1_000_000);
-    assert_eq!(rt; plan.passes(), 15_625);
-    assert_eq!(rt; Plan::new(2, 1, 5)?.passes(), 3);
-    assert_eq!(rt; Plan::new(2, 1, 0)?.passes(), 0);
-    Ok(())
+    has_passes(&rt, 64, 1024, 1_000_000, 15_625)?;
+    has_passes(&rt, 2, 1, 5, 3)?;
+    has_passes(&rt, 2, 1, 0, 0)
 }

@@ -1,6 +1,4 @@
 // Runs by threads on worked examples.
-ghost use Rattle.std.specs.Prelude.{◌≡◌, ◌<◌};
-
 use crate::plan::Plan;
 use crate::threads::answer::Run;
 use crate::threads::gate::NoGate;
@@ -12,283 +10,299 @@ use gas_geom::size::Size;
 use gas_rows::channel::Channel;
 use gas_rows::chirality::Chirality;
 use gas_rows::lattice::Lattice;
-use std::alloc::Global;
+use std::alloc::{AllocError, Global};
 use std::process::Abort;
 use std::sync::Wait;
 use std::test::Fail;
 use std::thread::Threads;
 
-// The column and the row of a cell, and its state.
-type Cell = (u32, u32, u8);
+// How a solid cell stands in a list of cells; a gas has no such state.
+const SOLID: u8 = 0xff;
 
-// A lattice with these solid cells and these particles.
-fn lattice<G: Gas>(
-    alloc: Global,
-    (width, height): (u32, u32),
-    solid: &[(u32, u32)],
-    cells: &[Cell],
-) -> Result<Lattice<G>, Fail> {
-    let size = Size::new(width, height).ok_or("a size")?;
-    let mut lattice = Lattice::blank(alloc, Channel::free(alloc, size)?)?;
-    for (x, y) in solid {
-        make_solid(&mut lattice, *x, *y);
+// The cells of a picture, row by row: each in two hexadecimal digits, or `##` where it is solid.
+fn drawn(alloc: Global, picture: &str) -> Result<Vec<u8>, Fail> {
+    let mut cells = Vec::new(alloc);
+    for word in picture.split_whitespace() {
+        let cell = match word {
+            "##" => SOLID,
+            _ => u8::from_str_radix(word, 16)?,
+        };
+        cells.push(cell)?;
     }
-    for (x, y, state) in cells {
-        set(&mut lattice, *x, *y, *state);
+    Ok(cells)
+}
+
+// One row that is empty but for this cell.
+fn one_in_a_row(alloc: Global, width: u32, column: u32, state: u8) -> Result<Vec<u8>, AllocError> {
+    let mut cells = Vec::new(alloc);
+    for x in 0..width {
+        cells.push(if x == column { state } else { 0x00 })?;
+    }
+    Ok(cells)
+}
+
+// Sets a cell or makes it solid, if the lattice has it and it is not solid.
+fn set<G: Gas>(lattice: &mut Lattice<G>, x: u32, y: u32, cell: u8) {
+    let size = lattice.channel().size();
+    if x >= size.width() || y >= size.height() || lattice.channel().is_solid(x, y) {
+        return;
+    }
+    if cell == SOLID {
+        lattice.make_solid(x, y);
+    } else if u32::from(cell) < 2u32.pow(G::DIRS) {
+        lattice.set_cell(x, y, cell);
+    }
+}
+
+// The lattice of these cells.
+fn lattice<G: Gas>(alloc: Global, size: Size, cells: &[u8]) -> Result<Lattice<G>, AllocError> {
+    let mut lattice = Lattice::blank(alloc, Channel::free(alloc, size)?)?;
+    let mut cells = cells.iter();
+    for y in 0..size.height() {
+        for x in 0..size.width() {
+            if let Some(cell) = cells.next() {
+                set(&mut lattice, x, y, *cell);
+            }
+        }
     }
     Ok(lattice)
 }
 
-// Makes a cell solid, if the lattice has it.
-fn make_solid<G: Gas>(lattice: &mut Lattice<G>, x: u32, y: u32) {
+// The cells of a lattice. A solid cell that holds particles stands as they do.
+fn seen<G: Gas>(alloc: Global, lattice: &Lattice<G>) -> Result<Vec<u8>, AllocError> {
     let size = lattice.channel().size();
-    if x < size.width() && y < size.height() {
-        lattice.make_solid(x, y);
-    }
-}
-
-// Sets a cell, if it is a fluid cell of the lattice.
-fn set<G: Gas>(lattice: &mut Lattice<G>, x: u32, y: u32, state: u8) {
-    let size = lattice.channel().size();
-    let inside = x < size.width() && y < size.height();
-    if inside && !lattice.channel().is_solid(x, y) && u32::from(state) < 2u32.pow(G::DIRS) {
-        lattice.set_cell(x, y, state);
-    }
-}
-
-// The state of a cell in this list, or 0.
-fn listed(cells: &[Cell], x: u32, y: u32) -> u8 {
-    let mut state = 0;
-    for (u, v, listed) in cells {
-        if *u == x && *v == y {
-            state = *listed;
-        }
-    }
-    state
-}
-
-// The lattice has these particles and no other.
-fn holds<G: Gas>(rt: &impl Abort, lattice: &Lattice<G>, cells: &[Cell]) {
-    let size = lattice.channel().size();
+    let mut cells = Vec::new(alloc);
     for y in 0..size.height() {
         for x in 0..size.width() {
-            assert_eq!(rt; lattice.cell(x, y), listed(cells, x, y), "({x}, {y})");
+            let state = lattice.cell(x, y);
+            let solid = lattice.channel().is_solid(x, y) && state == 0x00;
+            cells.push(if solid { SOLID } else { state })?;
         }
+    }
+    Ok(cells)
+}
+
+// A run over belts of one place. It promises nothing, so that no test carries the promises of `run`.
+fn ran<G: Gas + Send, R: Threads + Wait + Sync>(
+    rt: &R,
+    alloc: Global,
+    lattice: &Lattice<G>,
+    chirality: Chirality,
+    stages: u32,
+    generations: u64,
+) -> Result<Run<G>, Fail> {
+    let plan = Plan::new(stages, 1, generations)?;
+    Ok(run(rt, alloc, lattice, chirality, plan, &NoGate)?)
+}
+
+// Each belt of a pass was gone through by this number of rows, and there is no further belt.
+fn pass_went_through<G: Gas>(rt: &impl Abort, run: &Run<G>, pass: u64, belts: u32, rows: u32) {
+    for belt in 0..belts {
+        assert!(rt;
+            run.rows_through(pass, belt) == Some(rows),
+            "belt {belt} of pass {pass}"
+        );
+    }
+    assert!(rt; run.rows_through(pass, belts).is_none(), "pass {pass}");
+}
+
+// Each belt carried this number of rows.
+fn carried<G: Gas>(rt: &impl Abort, run: &Run<G>, rows: u32) {
+    for carried in run.belts() {
+        assert!(rt; carried.len() == u64::from(rows));
     }
 }
 
 // So many passes went through so many belts each, all with this number of rows.
 fn went_through<G: Gas>(rt: &impl Abort, run: &Run<G>, passes: u64, belts: u32, rows: u32) {
-    assert_eq!(rt; run.passes(), passes);
-    assert_eq!(rt; run.belts_made(), passes.wrapping_mul(u64::from(belts)));
-    assert_eq!(rt; run.belts().len() as u64, run.belts_made());
-    for carried in run.belts() {
-        assert_eq!(rt; carried.len(), u64::from(rows));
-    }
+    assert!(rt; run.passes() == passes);
+    assert!(rt; run.belts_made() == passes.wrapping_mul(u64::from(belts)));
+    assert!(rt; run.belts().len() as u64 == run.belts_made());
+    carried(rt, run, rows);
     for pass in 0..passes {
-        for belt in 0..belts {
-            assert!(rt;
-                run.rows_through(pass, belt) == Some(rows),
-                "belt {belt} of pass {pass}"
-            );
-        }
-        assert!(rt; run.rows_through(pass, belts).is_none(), "pass {pass}");
+        pass_went_through(rt, run, pass, belts, rows);
     }
     assert!(rt; run.rows_through(passes, 0).is_none());
 }
 
-// A lattice by its size, its solid cells and its particles, and the particles that it has some
-// generations later.
-#[derive(Drop)]
-struct Worked<'a> {
-    size: (u32, u32),
-    solid: &'a [(u32, u32)],
-    before: &'a [Cell],
-    chirality: Chirality,
-    generations: u64,
-    after: &'a [Cell],
-}
-
-// A run of two stages over belts of one place gives what was worked out.
+// A run of two stages over these cells gives those.
 fn run_gives<G: Gas + Send, R: Abort + Threads + Wait + Sync>(
     rt: &R,
     alloc: Global,
-    worked: &Worked<'_>,
+    (width, height): (u32, u32),
+    before: &[u8],
+    chirality: Chirality,
+    generations: u64,
+    after: &[u8],
 ) -> Result<(), Fail> {
-    let lattice = lattice::<G>(alloc, worked.size, worked.solid, worked.before)?;
-    let plan = Plan::new(2, 1, worked.generations)?;
-    let run = run(rt, alloc, &lattice, worked.chirality, plan, &NoGate)?;
-    holds(rt, run.lattice(), worked.after);
-    assert_eq!(rt; run.lattice().count(), lattice.count());
-    went_through(rt, &run, plan.passes(), 3, worked.size.1);
+    let size = Size::new(width, height).ok_or("a size")?;
+    let lattice = lattice::<G>(alloc, size, before)?;
+    let run = ran(rt, alloc, &lattice, chirality, 2, generations)?;
+    assert!(rt;
+        seen(alloc, run.lattice())?.as_slice() == after,
+        "{generations} generations"
+    );
+    assert!(rt; run.lattice().count() == lattice.count());
+    went_through(rt, &run, generations.div_ceil(2), 3, height);
     Ok(())
 }
 
-// A particle in the last column of a row comes to the first.
+// The same of pictures.
+fn run_draws<G: Gas + Send, R: Abort + Threads + Wait + Sync>(
+    rt: &R,
+    alloc: Global,
+    size: (u32, u32),
+    before: &str,
+    chirality: Chirality,
+    generations: u64,
+    after: &str,
+) -> Result<(), Fail> {
+    let before = drawn(alloc, before)?;
+    let after = drawn(alloc, after)?;
+    run_gives::<G, R>(rt, alloc, size, &before, chirality, generations, &after)
+}
+
+// A particle in the last column of a row of this width comes to the first.
+fn goes_round<R: Abort + Threads + Wait + Sync>(
+    rt: &R,
+    alloc: Global,
+    width: u32,
+) -> Result<(), Fail> {
+    let before = one_in_a_row(alloc, width, width.saturating_sub(1), 0x01)?;
+    let after = one_in_a_row(alloc, width, 0, 0x01)?;
+    run_gives::<Fhp1, R>(rt, alloc, (width, 1), &before, Chirality::Left, 1, &after)
+}
+
 #[test]
 fn round_the_columns(rt: HostRuntime) -> Result<(), Fail> {
-    for (width, height, y) in [(4, 3, 1), (63, 1, 0), (64, 1, 0), (65, 1, 0)] {
-        let worked = Worked {
-            size: (width, height),
-            solid: &[],
-            before: &[(width - 1, y, 0x01)],
-            chirality: Chirality::Left,
-            generations: 1,
-            after: &[(0, y, 0x01)],
-        };
-        run_gives::<Fhp1, _>(&rt, rt.alloc(), &worked)?;
-    }
-    Ok(())
+    let before = "00 00 00 00  00 00 00 01  00 00 00 00";
+    let after = "00 00 00 00  01 00 00 00  00 00 00 00";
+    run_draws::<Fhp1, _>(&rt, rt.alloc(), (4, 3), before, Chirality::Left, 1, after)?;
+    goes_round(&rt, rt.alloc(), 63)?;
+    goes_round(&rt, rt.alloc(), 64)?;
+    goes_round(&rt, rt.alloc(), 65)
 }
 
 // Up to the wall, and back: the particle's cell after each number of generations.
 #[test]
 fn up_to_the_wall(rt: HostRuntime) -> Result<(), Fail> {
-    let table = [
-        (0, (0, 2, 0x02)),
-        (1, (0, 1, 0x02)),
-        (2, (1, 0, 0x02)),
-        (3, (1, 0, 0x10)),
-        (4, (0, 1, 0x10)),
-        (5, (0, 2, 0x10)),
+    let pictures = [
+        "00 00 00 00  00 00 00 00  02 00 00 00",
+        "00 00 00 00  02 00 00 00  00 00 00 00",
+        "00 02 00 00  00 00 00 00  00 00 00 00",
+        "00 10 00 00  00 00 00 00  00 00 00 00",
+        "00 00 00 00  10 00 00 00  00 00 00 00",
+        "00 00 00 00  00 00 00 00  10 00 00 00",
     ];
-    for (generations, cell) in table {
-        let worked = Worked {
-            size: (4, 3),
-            solid: &[],
-            before: &[(0, 2, 0x02)],
-            chirality: Chirality::Left,
+    let mut generations = 0;
+    for after in pictures {
+        let before = "00 00 00 00  00 00 00 00  02 00 00 00";
+        run_draws::<Fhp1, _>(
+            &rt,
+            rt.alloc(),
+            (4, 3),
+            before,
+            Chirality::Left,
             generations,
-            after: &[cell],
-        };
-        run_gives::<Fhp1, _>(&rt, rt.alloc(), &worked)?;
+            after,
+        )?;
+        generations = generations.wrapping_add(1);
     }
     Ok(())
 }
 
-// Collisions of two, turned by either bit or by those of a seed, of three, and none beside a
-// spectator.
+// Collisions of two, turned by either bit or by those of a seed.
 #[test]
-fn collisions(rt: HostRuntime) -> Result<(), Fail> {
-    let table: [((u32, u32), &[Cell], Chirality, &[Cell]); 5] = [
-        (
-            (4, 3),
-            &[(1, 1, 0x09)],
-            Chirality::Left,
-            &[(2, 0, 0x02), (1, 2, 0x10)],
-        ),
-        (
-            (4, 3),
-            &[(1, 1, 0x09)],
-            Chirality::Right,
-            &[(1, 0, 0x04), (2, 2, 0x20)],
-        ),
-        (
-            (8, 3),
-            &[(1, 1, 0x09), (5, 1, 0x09)],
-            Chirality::Seeded(0),
-            &[(1, 0, 0x04), (2, 2, 0x20), (6, 0, 0x02), (5, 2, 0x10)],
-        ),
-        (
-            (4, 3),
-            &[(1, 1, 0x15)],
-            Chirality::Left,
-            &[(2, 0, 0x02), (0, 1, 0x08), (2, 2, 0x20)],
-        ),
-        (
-            (4, 3),
-            &[(1, 1, 0x0b)],
-            Chirality::Left,
-            &[(2, 1, 0x01), (2, 0, 0x02), (0, 1, 0x08)],
-        ),
-    ];
-    for (size, before, chirality, after) in table {
-        let worked = Worked {
-            size,
-            solid: &[],
-            before,
-            chirality,
-            generations: 1,
-            after,
-        };
-        run_gives::<Fhp1, _>(&rt, rt.alloc(), &worked)?;
-    }
-    let crossing = Worked {
-        size: (4, 3),
-        solid: &[],
-        before: &[(1, 1, 0x05)],
-        chirality: Chirality::Left,
-        generations: 1,
-        after: &[(1, 0, 0x02), (1, 2, 0x08)],
-    };
-    run_gives::<Hpp, _>(&rt, rt.alloc(), &crossing)
+fn collisions_of_two(rt: HostRuntime) -> Result<(), Fail> {
+    let before = "00 00 00 00  00 09 00 00  00 00 00 00";
+    let after = "00 00 02 00  00 00 00 00  00 10 00 00";
+    run_draws::<Fhp1, _>(&rt, rt.alloc(), (4, 3), before, Chirality::Left, 1, after)?;
+    let after = "00 04 00 00  00 00 00 00  00 00 20 00";
+    run_draws::<Fhp1, _>(&rt, rt.alloc(), (4, 3), before, Chirality::Right, 1, after)?;
+    let before = "00 00 00 00 00 00 00 00  00 09 00 00 00 09 00 00  00 00 00 00 00 00 00 00";
+    let after = "00 04 00 00 00 00 02 00  00 00 00 00 00 00 00 00  00 00 20 00 00 10 00 00";
+    run_draws::<Fhp1, _>(
+        &rt,
+        rt.alloc(),
+        (8, 3),
+        before,
+        Chirality::Seeded(0),
+        1,
+        after,
+    )
 }
 
-// One cell, in which a pair meets the walls and itself, and a row with an obstacle.
+// A collision of three, none beside a spectator, and one of the square gas.
+#[test]
+fn other_collisions(rt: HostRuntime) -> Result<(), Fail> {
+    let before = "00 00 00 00  00 15 00 00  00 00 00 00";
+    let after = "00 00 02 00  08 00 00 00  00 00 20 00";
+    run_draws::<Fhp1, _>(&rt, rt.alloc(), (4, 3), before, Chirality::Left, 1, after)?;
+    let before = "00 00 00 00  00 0b 00 00  00 00 00 00";
+    let after = "00 00 02 00  08 00 01 00  00 00 00 00";
+    run_draws::<Fhp1, _>(&rt, rt.alloc(), (4, 3), before, Chirality::Left, 1, after)?;
+    let before = "00 00 00 00  00 05 00 00  00 00 00 00";
+    let after = "00 02 00 00  00 00 00 00  00 08 00 00";
+    run_draws::<Hpp, _>(&rt, rt.alloc(), (4, 3), before, Chirality::Left, 1, after)
+}
+
+// One cell, in which a pair meets the walls and itself.
+#[test]
+fn one_cell(rt: HostRuntime) -> Result<(), Fail> {
+    let mut generations = 0;
+    for after in ["12", "24", "09", "12"] {
+        run_draws::<Fhp1, _>(
+            &rt,
+            rt.alloc(),
+            (1, 1),
+            "12",
+            Chirality::Left,
+            generations,
+            after,
+        )?;
+        generations = generations.wrapping_add(1);
+    }
+    Ok(())
+}
+
+// A row with an obstacle, from which a particle comes back.
 #[test]
 fn one_row(rt: HostRuntime) -> Result<(), Fail> {
-    let table: [((u32, u32), &[(u32, u32)], Cell, u64, Cell); 6] = [
-        ((1, 1), &[], (0, 0, 0x12), 0, (0, 0, 0x12)),
-        ((1, 1), &[], (0, 0, 0x12), 1, (0, 0, 0x24)),
-        ((1, 1), &[], (0, 0, 0x12), 2, (0, 0, 0x09)),
-        ((1, 1), &[], (0, 0, 0x12), 3, (0, 0, 0x12)),
-        ((4, 1), &[(1, 0)], (0, 0, 0x01), 1, (0, 0, 0x08)),
-        ((4, 1), &[(1, 0)], (0, 0, 0x01), 2, (3, 0, 0x08)),
-    ];
-    for (size, solid, before, generations, after) in table {
-        let worked = Worked {
-            size,
-            solid,
-            before: &[before],
-            chirality: Chirality::Left,
-            generations,
-            after: &[after],
-        };
-        run_gives::<Fhp1, _>(&rt, rt.alloc(), &worked)?;
-    }
-    Ok(())
+    let before = "01 ## 00 00";
+    let after = "08 ## 00 00";
+    run_draws::<Fhp1, _>(&rt, rt.alloc(), (4, 1), before, Chirality::Left, 1, after)?;
+    let after = "00 ## 00 08";
+    run_draws::<Fhp1, _>(&rt, rt.alloc(), (4, 1), before, Chirality::Left, 2, after)
 }
 
 // Five columns east in five generations, and no step in none.
 #[test]
 fn east(rt: HostRuntime) -> Result<(), Fail> {
-    for generations in [0, 5] {
-        let worked = Worked {
-            size: (7, 3),
-            solid: &[],
-            before: &[(0, 1, 0x01)],
-            chirality: Chirality::Left,
-            generations,
-            after: &[(generations as u32, 1, 0x01)],
-        };
-        run_gives::<Fhp1, _>(&rt, rt.alloc(), &worked)?;
-    }
-    Ok(())
+    let before = "00 00 00 00 00 00 00  01 00 00 00 00 00 00  00 00 00 00 00 00 00";
+    let after = "00 00 00 00 00 00 00  00 00 00 00 00 01 00  00 00 00 00 00 00 00";
+    run_draws::<Fhp1, _>(&rt, rt.alloc(), (7, 3), before, Chirality::Left, 0, before)?;
+    run_draws::<Fhp1, _>(&rt, rt.alloc(), (7, 3), before, Chirality::Left, 5, after)
+}
+
+// The belts of three passes of three stages over four rows.
+fn twelve_belts(rt: &impl Abort, run: &Run<Fhp1>) {
+    assert!(rt; run.belts_made() == 12);
+    assert!(rt; run.rows_through(2, 3) == Some(4));
+    assert!(rt; run.rows_through(3, 0).is_none());
+    assert!(rt; run.rows_through(0, 4).is_none());
+    went_through(rt, run, 3, 4, 4);
 }
 
 // Full but for an obstacle, it stays as it is.
 #[test]
 fn a_full_lattice_in_three_passes(rt: HostRuntime) -> Result<(), Fail> {
-    let mut full = lattice::<Fhp1>(rt.alloc(), (5, 4), &[(2, 1)], &[])?;
-    for y in 0..4 {
-        for x in 0..5 {
-            set(&mut full, x, y, 0x3f);
-        }
-    }
-    let plan = Plan::new(3, 1, 7)?;
-    let run = run(&rt, rt.alloc(), &full, Chirality::Left, plan, &NoGate)?;
-    let size = full.channel().size();
-    for y in 0..size.height() {
-        for x in 0..size.width() {
-            let state = if x == 2 && y == 1 { 0x00 } else { 0x3f };
-            assert!(rt; run.lattice().cell(x, y) == state, "({x}, {y})");
-        }
-    }
-    assert_eq!(rt; run.lattice().count(), 114);
-    assert_eq!(rt; run.belts_made(), 12);
-    assert!(rt; run.rows_through(2, 3) == Some(4));
-    assert!(rt; run.rows_through(3, 0).is_none());
-    assert!(rt; run.rows_through(0, 4).is_none());
-    went_through(&rt, &run, 3, 4, 4);
+    let picture = "3f 3f 3f 3f 3f  3f 3f ## 3f 3f  3f 3f 3f 3f 3f  3f 3f 3f 3f 3f";
+    let cells = drawn(rt.alloc(), picture)?;
+    let size = Size::new(5, 4).ok_or("a size")?;
+    let full = lattice::<Fhp1>(rt.alloc(), size, &cells)?;
+    let run = ran(&rt, rt.alloc(), &full, Chirality::Left, 3, 7)?;
+    assert!(rt; seen(rt.alloc(), run.lattice())? == cells);
+    assert!(rt; run.lattice().count() == 114);
+    twelve_belts(&rt, &run);
     Ok(())
 }
