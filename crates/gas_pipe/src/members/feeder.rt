@@ -1,6 +1,7 @@
 //! The feeder of the line, over any two ends.
 ghost use Rattle.std.specs.Prelude.{◌≡◌, ◌≢◌, ◌<◌, ◌≤◌, ◌↔◌, ◌+◌, ◌*◌, ◌%◌, ◌++◌, ◌∷◌, ◌^◌, ℕ, [], List, IfOk, IsTrue, IsFalse, true, false, length, slice_index};
 ghost use Rattle.gas_geom.specs.Lattice.{IsLattice};
+ghost use Rattle.gas_geom.specs.declared.size.TheConstants.{MOST_SIDE};
 ghost use Rattle.gas_rows.specs.Row.{RowModel};
 ghost use mathlib.Core.List.{IsPrefix};
 ghost use Rattle.gas_pipe.specs.Feeder.{FeederModel, HasFed, AfterTake, AfterPut, emptied_row, emptied};
@@ -21,12 +22,7 @@ fn empty_solid<G: Gas>(channel: &Channel, y: u32, row: &mut Row<G>)
     requires wide { length row.old ≡ channel.now.width }
     ensures { row.new ≡ emptied_row channel.now y row.old }
 {
-    let solid = channel.mask(y);
-    for x in 0..row.width() {
-        if solid.get(x) {
-            row.set(x, 0);
-        }
-    }
+    row.empty_solid(channel.mask(y));
 }
 
 /// The feeder of the line. It holds the rows to be put in order, and those that came back behind
@@ -45,6 +41,7 @@ pub struct Feeder<G: Gas> {
 impl<G: Gas> Model for Feeder<G> {
     ghost use Rattle.std.specs.Prelude.{◌≡◌, ◌+◌, ◌≤◌, ◌<◌, true};
     ghost use Rattle.std.specs.VecDeque.{deque_capacity, deque_len};
+    ghost use Rattle.gas_geom.specs.declared.size.TheConstants.{MOST_SIDE};
     ghost use Rattle.gas_pipe.specs.Feeder.{FeederModel};
     ghost use Rattle.gas_pipe.specs.Inner.Queue.{IsQueue};
 
@@ -65,7 +62,7 @@ impl<G: Gas> Model for Feeder<G> {
       next_within : f.next < f.channel.height;
       width : f.size.width ≡ f.channel.width;
       height : f.size.height ≡ f.channel.height;
-      few_rows : f.channel.height ≤ 4096;
+      few_rows : f.channel.height ≤ MOST_SIDE;
       stray_in_pass : f.stray ≡ true → 0 < f.to_take;
       queue : IsQueue G.rules f.channel f.rows.items f.to_put f.to_take f.next;
     } };
@@ -112,7 +109,7 @@ impl<G: Gas> Feeder<G> {
     /// last one.
     pub(crate) fn taken(&self) -> u32
         ensures value { (rows gave took : List RowModel) → HasFed self.now 1 rows gave took → result ≡ length took }
-        ensures few { result ≤ 4096 }
+        ensures few { result ≤ MOST_SIDE }
     {
         if self.to_take == 0 {
             self.size.height()

@@ -1,6 +1,7 @@
 //! The members and belts of a line on one thread.
 ghost use Rattle.std.specs.Prelude.{◌≡◌, ℕ, ◌+◌, ◌*◌, ◌<◌, ◌≤◌, ◌++◌, ◌∷◌, [], List, length, map, IfOk, IfSome, Option, Some, None, if◌then◌else◌, true};
 ghost use Rattle.std.specs.List.{range_with_len};
+ghost use Rattle.gas_geom.specs.declared.size.TheConstants.{MOST_SIDE};
 ghost use Rattle.gas_line.specs.Line.{State, is_done};
 ghost use Rattle.gas_line.specs.Pass.{PassModel, IsPass, line_of, rows_on};
 ghost use Rattle.gas_pipe.specs.Feeder.{FeederModel};
@@ -140,7 +141,7 @@ impl<'a, G: Gas> LocalLine<'a, G> {
     fn taken_by(&self, k: usize) -> u32
         requires { k ≤ length self.now.workers.items }
         ensures value { (p : PassModel) (s : State) → Shows G.rules p self.now.feeder self.now.workers.items self.now.belts.items s → result ≡ length (s.taken k) }
-        ensures few { result ≤ 4096 }
+        ensures few { result ≤ MOST_SIDE }
     {
         match self.workers.get(k) {
             Some(worker) => worker.taken(),
