@@ -9,7 +9,7 @@ use Rattle.gas_rows.specs.Row.{RowModel}
 use Rattle.gas_rows.specs.declared.chirality.Chirality.{Chirality}
 use Rattle.gas_stage.specs.Evolution.{lattice_after}
 use Rattle.gas_belt.specs.Belt.{CarriedModel}
-use Rattle.gas_line.specs.Pass.{PassModel, rows_on, belts_of, nth_pass, belts_until}
+use Rattle.gas_line.specs.Pass.{rows_on, belts_of, nth_pass, belts_until}
 use Rattle.gas_line.specs.Plan.{PlanModel, passes_of}
 use Rattle.gas_pipe.specs.Feeder.{FeederModel}
 use Rattle.gas_pipe.specs.Inner.Links.{whole, belts_before, HasPassed}

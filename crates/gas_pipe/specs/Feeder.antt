@@ -1,8 +1,7 @@
 -- A feeder: what it holds and what it has done since it began.
-use Rattle.std.specs.Prelude.{◌≡◌, ℕ, ◌+◌, ◌*◌, ◌%◌, ◌^◌, ◌<◌, ◌≤◌, ◌++◌, Bool, true, false, if◌then◌else◌, List, [], ◌∷◌, length, slice_index, slice_index_or}
-use Rattle.gas_geom.specs.Gas.{Rules}
+use Rattle.std.specs.Prelude.{◌≡◌, ℕ, ◌+◌, ◌*◌, ◌%◌, ◌≤◌, ◌++◌, Bool, false, if◌then◌else◌, List, [], ◌∷◌, length, slice_index}
 use Rattle.gas_geom.specs.Channel.{ChannelModel, is_solid}
-use Rattle.gas_geom.specs.Lattice.{cell, row_of}
+use Rattle.gas_geom.specs.Lattice.{row_of}
 use Rattle.gas_rows.specs.Row.{RowModel}
 
 -- A feeder as its callers see it: the rows that it holds, the next to be put first; how many it is still to put and to take;

@@ -5,8 +5,7 @@ use Rattle.gas_rows.specs.Chirality.{chirality_bit}
 use Rattle.gas_rows.specs.Row.{RowModel}
 use Rattle.gas_belt.specs.Belt.{CarriedModel}
 use Rattle.gas_geom.proofs.Runs.{count-generation}
-use Rattle.gas_line.proofs.Boundaries.{open_pass}
-use Rattle.gas_pipe.proofs.PassByPass.{nothing_yet, goes_on, belts_all, belts_made, over, all_put, all_taken}
+use Rattle.gas_pipe.proofs.PassByPass.{goes_on, belts_all, belts_made, over, all_put, all_taken}
 use Rattle.gas_pipe.proofs.threads.run.Goals as goal
 
 pub loop-number-preserved : goal.loop-number-preserved

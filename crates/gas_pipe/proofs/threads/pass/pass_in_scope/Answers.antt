@@ -1,4 +1,4 @@
-use Rattle.std.proofs.Common.{rules, ◌≡◌, ◌+◌, ◌++◌, ℕ, [], List, refl, ap, ◌∙◌}
+use Rattle.std.proofs.Common.{rules, ◌≡◌, ◌+◌, ◌++◌, [], List, refl, ap, ◌∙◌}
 use Rattle.gas_belt.specs.Belt.{CarriedModel}
 use Rattle.gas_pipe.specs.Feeder.{HasFed}
 use Rattle.gas_pipe.specs.Inner.Links.{Linked, belts_before}

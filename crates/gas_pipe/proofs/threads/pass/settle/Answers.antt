@@ -2,7 +2,6 @@ use Rattle.std.proofs.Common.{rules, ◌≡◌, ◌++◌, ◌∷◌, [], List, l
 use Rattle.gas_geom.specs.Lattice.{IsLattice}
 use Rattle.gas_rows.specs.Row.{RowModel}
 use Rattle.gas_belt.specs.Belt.{Sender, CarriedModel}
-use Rattle.gas_pipe.specs.Inner.Links.{whole}
 use Rattle.gas_pipe.proofs.Settled.{last_whole, last_lattice, last_rows, all_belts}
 use Rattle.gas_pipe.proofs.threads.pass.settle.Goals as goal
 

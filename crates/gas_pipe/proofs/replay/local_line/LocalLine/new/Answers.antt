@@ -1,8 +1,8 @@
-use Rattle.std.proofs.Common.{◌≡◌, ◌+◌, ◌*◌, ◌<◌, ℕ, List, [], ◌∙◌, ap, refl, sym, subst, arith}
+use Rattle.std.proofs.Common.{◌+◌, ◌*◌, ◌<◌, ℕ, List, [], ◌∙◌, ap, sym, subst, arith}
 use Rattle.gas_geom.specs.Channel.{ChannelModel}
 use Rattle.gas_geom.specs.Lattice.{IsLattice}
 use Rattle.gas_rows.specs.Row.{RowModel}
-use Rattle.gas_line.specs.Pass.{PassModel, IsPass, rows_on}
+use Rattle.gas_line.specs.Pass.{PassModel, IsPass}
 use Rattle.gas_line.proofs.Generations.{begins_first}
 use Rattle.gas_pipe.specs.Feeder.{HasFed}
 use Rattle.gas_pipe.specs.Inner.LocalLine.{AreUnused}
