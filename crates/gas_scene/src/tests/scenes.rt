@@ -91,3 +91,37 @@ fn filling(rt: HostRuntime) -> Result<(), Fail> {
     assert_eq!(rt; cells.as_str(), wanted.as_str());
     Ok(())
 }
+
+// Rectangles that overlap, over whole blocks of 64 columns and parts of them: a cell is solid where one of them covers it.
+#[test]
+fn rectangles(rt: HostRuntime) -> Result<(), Fail> {
+    let scene = read(
+        rt.alloc(),
+        b"gas = \"hpp\"\nwidth = 200\nheight = 6\nsolid = [[3, 1, 190, 2], [64, 0, 64, 4], [100, 2, 100, 3], [0, 4, 63, 1], [127, 0, 2, 1], [199, 0, 1, 6], [3, 1, 190, 1], [10, 3, 20, 1]]",
+    )?;
+    let mut wanted = String::new(rt.alloc());
+    for y in 0..6u32 {
+        for x in 0..200u32 {
+            let mut cell = "..";
+            for (left, top, right, bottom) in [
+                (3u32, 1u32, 193u32, 3u32),
+                (64, 0, 128, 4),
+                (100, 2, 200, 5),
+                (0, 4, 63, 5),
+                (127, 0, 129, 1),
+                (199, 0, 200, 6),
+                (3, 1, 193, 2),
+                (10, 3, 30, 4),
+            ] {
+                if left <= x && x < right && top <= y && y < bottom {
+                    cell = "##";
+                }
+            }
+            wanted.push_str(cell)?;
+        }
+        wanted.push_str("\n")?;
+    }
+    let cells = cells_of(rt.alloc(), &scene)?;
+    assert_eq!(rt; cells.as_str(), wanted.as_str());
+    Ok(())
+}
