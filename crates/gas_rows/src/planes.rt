@@ -161,8 +161,8 @@ pub(crate) fn load(words: &mut [u64], given: &[u64], dirs: usize, width: u32)
     clear_past(words, dirs, width);
 }
 
-// Clears the bits past the width.
-fn clear_past(words: &mut [u64], dirs: usize, width: u32)
+/// Clears the bits past the width.
+pub(crate) fn clear_past(words: &mut [u64], dirs: usize, width: u32)
     requires some_cells { 1 ≤ width }
     requires few_cells { width ≤ 4096 }
     requires few_dirs { dirs ≤ 8 }

@@ -1,4 +1,4 @@
-ghost use Rattle.std.specs.Prelude.{◌≡◌, ◌≢◌, ◌⊎◌, ◌+◌, ◌-◌, ◌*◌, ◌/◌, ◌<◌, ◌≤◌, ◌^◌, ℕ, List, length, replicate, slice_index, slice_index_or, slice_set, false, count_by, sum_by, if◌then◌else◌, IfOk};
+ghost use Rattle.std.specs.Prelude.{◌≡◌, ◌≢◌, ◌⊎◌, ◌+◌, ◌-◌, ◌*◌, ◌/◌, ◌<◌, ◌≤◌, ◌^◌, ℕ, List, length, replicate, slice_index, slice_index_or, slice_set, false, count_by, sum_by, if◌then◌else◌, vec_len, IfOk};
 ghost use Rattle.std.specs.List.{range_with_len};
 ghost use Rattle.gas_geom.specs.Gas.{Move, amount, holds, particles};
 ghost use Rattle.gas_geom.specs.Lattice.{row_of};
@@ -9,7 +9,9 @@ ghost use Rattle.gas_rows.specs.Planes.{AreWordsOf, cells_of};
 ghost use Rattle.gas_geom.specs.declared.size.TheConstants.{MOST_SIDE};
 
 use crate::mask::Mask;
-use crate::planes::{collide, directions, empty, gather, load, load_states, read_cell, write_cell};
+use crate::planes::{
+    clear_past, collide, directions, empty, gather, load, load_states, read_cell, write_cell,
+};
 use crate::shift::{reflect_part, stream_part};
 use crate::span::count_in;
 use crate::transpose::states_of;
@@ -17,6 +19,7 @@ use crate::word::{cut, words_for};
 use gas_geom::gas::Gas;
 use std::alloc::{AllocError, Global};
 use std::marker::{Model, PhantomData};
+use std::mem;
 
 /// The states of a row's cells, held as words of 64 cells for each direction.
 #[derive(Drop)]
@@ -147,6 +150,19 @@ impl<G: Gas> Row<G> {
         ensures cells { self.new ≡ cells_of G.rules.dirs (length self.old) words.now }
     {
         load(&mut self.words, words, directions::<G>(), self.width);
+    }
+
+    /// Takes over the cells that these words hold, and drops bits past the width. The row's own
+    /// words come back in their place, so that no word is copied.
+    pub fn exchange_words(&mut self, words: &mut Vec<u64>)
+        requires { vec_len words.old ≡ G.rules.dirs * words_in (length self.old) }
+        ensures wide { length self.new ≡ length self.old }
+        ensures cells { self.new ≡ cells_of G.rules.dirs (length self.old) words.old.items }
+        ensures long { vec_len words.new ≡ vec_len words.old }
+        ensures words { AreWordsOf G.rules.dirs self.old words.new.items }
+    {
+        mem::swap(&mut self.words, words);
+        clear_past(&mut self.words, directions::<G>(), self.width);
     }
 
     /// The words of one direction: bit `b` of word `j` says whether cell `64 * j + b` holds it, and

@@ -36,6 +36,27 @@ fn bits_past_the_width_are_dropped(rt: HostRuntime) -> Result<(), Fail> {
     Ok(())
 }
 
+// A row and a vector change their words: the row loses the bits past its width, and the vector has
+// what the row had.
+#[test]
+fn words_are_exchanged(rt: HostRuntime) -> Result<(), Fail> {
+    let mut row = Row::<Hpp>::blank(rt.alloc(), 65)?;
+    row.set(0, 0x01);
+    row.set(64, 0x0a);
+    let mut words = vec![in rt.alloc(); u64::MAX; 8]?;
+    row.exchange_words(&mut words);
+    assert!(rt; words.as_slice() == [1, 0, 0, 1, 0, 0, 0, 1].as_slice());
+    let all = u64::MAX;
+    assert!(rt; row.as_words() == [all, 1, all, 1, all, 1, all, 1].as_slice());
+    assert_eq!(rt; (row.width(), row.count()), (65, 260));
+    row.exchange_words(&mut words);
+    assert_eq!(rt;
+        (row.get(0), row.get(63), row.get(64), row.count()),
+        (0x01, 0, 0x0a, 3)
+    );
+    Ok(())
+}
+
 // Each direction has its own words, the directions one after another.
 #[test]
 fn the_order_of_words(rt: HostRuntime) -> Result<(), Fail> {
