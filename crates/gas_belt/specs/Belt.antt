@@ -1,26 +1,30 @@
 -- The ends of a belt, as their callers see them.
-use Rattle.std.specs.Prelude.{ℕ, List}
+use Rattle.std.specs.Prelude.{ℕ, List, Option}
 use Rattle.std.specs.Global.{Global}
 use denote.RawPtr.{Ptr}
 use Rattle.rtrb.specs.Shared.{Names}
 use Rattle.gas_rows.specs.Row.{RowModel}
 
--- which belt it is, by the ring that it has: where that lies in memory, and its names in proofs
+-- which belt it is: the width of its rows, and the ring that it has: where that lies in memory, and its names in proofs
 pub record Belt : Type 0 where
+  pub width : ℕ
   pub words : Ptr
   pub slots : Ptr
   pub names : Names
   pub heap : Global
 
--- the end of a belt that rows are put on, open or closed: the belt that it is of, and all rows put so far, in order
+-- the end of a belt that rows are put on, open or closed: the belt that it is of, all rows put so far, in order, and the row of
+-- the newest put, where it was not handed out since
 pub record Sender : Type 0 where
   pub belt : Belt
   pub put : List RowModel
+  pub spare : Option RowModel
 
--- the end that rows are taken from: the belt that it is of, and all rows taken so far, in order
+-- the end that rows are taken from: the belt that it is of, all rows taken so far, in order, and how many buffers it holds
 pub record Receiver : Type 0 where
   pub belt : Belt
   pub taken : List RowModel
+  pub held : ℕ
 
 -- what a belt carried: all rows put on it, and all rows taken from it, in order
 pub record CarriedModel : Type 0 where

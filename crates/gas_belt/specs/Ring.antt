@@ -1,11 +1,32 @@
 -- Inner words: what functions of this crate promise one another. No public contract cites them.
--- Which belt an end of a ring is of.
+-- The ring of a belt, and the rows in its words.
+use Rattle.std.specs.Prelude.{ℕ, zero, suc, ◌*◌, List, [], ◌∷◌, ◌++◌, take, drop}
 use Rattle.std.specs.Global.{Global}
 use Rattle.rtrb.specs.declared.AnyItems.{AnyItems}
 use Rattle.rtrb.specs.declared.end.End.{End}
+use Rattle.gas_rows.specs.Planes.{cells_of}
 use Rattle.gas_rows.specs.Row.{RowModel}
+use Rattle.gas_rows.specs.Words.{words_in}
 use Rattle.gas_belt.specs.Belt.{Belt}
 
--- the belt that an end of a ring is of
-abbrev pub belt_of : End RowModel Global AnyItems → Belt
-belt_of e = record { words = e.words; slots = e.slots; names = e.names; heap = e.heap }
+-- the belt that an end of a ring is of, where rows have that width
+abbrev pub belt_of : ℕ → End ℕ Global AnyItems → Belt
+belt_of width e = record { width = width; words = e.words; slots = e.slots; names = e.names; heap = e.heap }
+
+-- how many words a row of that width takes
+abbrev pub row_words : ℕ → ℕ → ℕ
+row_words dirs width = dirs * words_in width
+
+-- the first n parts of `size` words each, as `read` reads them
+unfoldable pub parts : (List ℕ → RowModel) → ℕ → ℕ → List ℕ → List RowModel
+parts read size zero words = []
+parts read size (suc n) words = parts read size n words ++ read (take size (drop (size * n) words)) ∷ []
+
+-- the first n rows of that width in these words
+abbrev pub rows_in : ℕ → ℕ → ℕ → List ℕ → List RowModel
+rows_in dirs width n words = parts (cells_of dirs width) (row_words dirs width) n words
+
+-- up to two rows of that width
+pub record SparesModel : Type 0 where
+  pub width : ℕ
+  pub count : ℕ

@@ -1,25 +1,36 @@
 //! Making a belt.
-ghost use Rattle.std.specs.Prelude.{◌≡◌, ◌≤◌, [], IfOk};
+ghost use Rattle.std.specs.Prelude.{◌≡◌, ◌≤◌, [], IfOk, None};
+ghost use Rattle.gas_geom.specs.declared.size.TheConstants.{MOST_SIDE};
 
 use crate::rx::Rx;
+use crate::spares::Spares;
 use crate::tx::Tx;
 use gas_geom::gas::Gas;
+use gas_rows::row::Row;
 use rtrb::RingBuffer;
 use std::alloc::{AllocError, Global};
 
-/// A belt for rows of `width` cells, 1 to 4096, with places for `capacity` rows, 1 to 1024. Both
-/// ends are unused, and each may go to a thread of its own. All memory of the belt is taken here
-/// and is freed with its second end. The places are for whole rows, which bring their cells with
-/// them, so the width is not used yet, and rows of any width can be put.
+/// A belt for rows of `width` cells, 1 to `MOST_SIDE`, with places for the words of `capacity` rows,
+/// 1 to 1024. Both ends are unused, and each may go to a thread of its own. The end that rows are
+/// taken from holds two buffers. All memory of the belt is taken here; each end frees its own rows,
+/// and the ring is freed with the second end.
 pub fn belt<G: Gas>(alloc: Global, capacity: u32, width: u32) -> Result<(Tx<G>, Rx<G>), AllocError>
     requires some_places { 1 ≤ capacity }
     requires few_places { capacity ≤ 1024 }
     requires some_cells { 1 ≤ width }
-    requires few_cells { width ≤ 4096 }
+    requires few_cells { width ≤ MOST_SIDE }
     ensures one_belt { IfOk result (λ r. r.0.belt ≡ r.1.belt) }
+    ensures width { IfOk result (λ r. r.0.belt.width ≡ width) }
     ensures nothing_put { IfOk result (λ r. r.0.put ≡ []) }
+    ensures no_spare { IfOk result (λ r. r.0.spare ≡ None) }
     ensures nothing_taken { IfOk result (λ r. r.1.taken ≡ []) }
+    ensures two_buffers { IfOk result (λ r. r.1.held ≡ 2) }
 {
-    let (producer, consumer) = RingBuffer::new(alloc, capacity as usize)?;
-    Ok((Tx::new(producer), Rx::new(consumer)))
+    let row = Row::<G>::blank(alloc, width)?;
+    let words = vec![in alloc; 0; row.as_words().len()]?;
+    let (producer, consumer) = RingBuffer::new(alloc, capacity as usize * words.len())?;
+    let mut spares = Spares::new(alloc, width)?;
+    spares.keep(row);
+    spares.keep(Row::blank(alloc, width)?);
+    Ok((Tx::new(producer, width), Rx::new(consumer, words, spares)))
 }

@@ -44,6 +44,7 @@ impl<G: Gas> Carried<G> {
 
 /// Compares the two ends of a belt after the close. Where as many rows were taken as were put, they
 /// are the same rows in the same order. Where a row is left, both ends come back as they were.
+#[tactic(auto, using(crate::proofs::Parts::parts_length))]
 pub fn meet<G: Gas>(spent: Spent<G>, rx: Rx<G>) -> Result<Carried<G>, (Spent<G>, Rx<G>)>
     requires { spent.belt ≡ rx.belt }
     ensures exactly { IsOk result ↔ (length spent.put ≡ length rx.taken) }

@@ -4,6 +4,7 @@
 pub mod belt;
 pub mod carried;
 pub mod rx;
+mod spares;
 #[cfg(test)]
 mod tests;
 pub mod tx;

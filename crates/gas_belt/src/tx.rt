@@ -1,88 +1,128 @@
 //! The end of a belt that rows are put on.
-ghost use Rattle.std.specs.Prelude.{◌≡◌, ◌++◌, ◌∷◌, [], length, OnOk, IfErr, OnErr, IsErr};
+ghost use Rattle.std.specs.Prelude.{◌≡◌, ◌++◌, ◌∷◌, [], length, OnOk, IfErr, OnErr, IsErr, IsTrue, IsFalse, Some, None};
 ghost use Rattle.rtrb.specs.Ring.{sent};
 ghost use Rattle.gas_belt.specs.Ring.{belt_of};
 
 use gas_geom::gas::Gas;
 use gas_rows::row::Row;
-use rtrb::{Producer, PushError};
-use std::marker::Model;
-
-/// The end of a belt that rows are put on. It counts them.
-#[derive(Drop)]
-pub struct Tx<G: Gas> {
-    ring: Producer<Row<G>>,
-    count: u64,
-}
-
-impl<G: Gas> Model for Tx<G> {
-    ghost use Rattle.std.specs.Prelude.{◌≡◌, length};
-    ghost use Rattle.rtrb.specs.Ring.{sent};
-    ghost use Rattle.gas_belt.specs.Belt.{Sender};
-    ghost use Rattle.gas_belt.specs.Ring.{belt_of};
-
-    ghost Value = { Sender };
-
-    ghost view = { λ t. record { belt = belt_of t.ring.end; put = sent t.ring } };
-
-    ghost invariant = { λ t. t.count ≡ length (sent t.ring) };
-}
-
-impl<G: Gas> Tx<G> {
-    pub(crate) fn new(ring: Producer<Row<G>>) -> Self
-        requires { sent ring ≡ [] }
-        ensures { result ≡ record { belt = belt_of ring.end; put = [] } }
-    {
-        Tx { ring, count: 0 }
-    }
-
-    /// Puts a row, or hands it back where no place is free, or 2^64 - 1 rows were put. It takes no
-    /// memory and waits for nobody.
-    pub fn try_put(&mut self, row: Row<G>) -> Result<(), Row<G>>
-        ensures put { OnOk result (self.new ≡ record self.old { put = self.old.put ++ row ∷ [] }) }
-        ensures back { IfErr result (λ r. r ≡ row) }
-        ensures unchanged { OnErr result (self.new ≡ self.old) }
-        ensures no_more { length self.old.put ≡ u64.MAX → IsErr result }
-    {
-        if self.count == u64::MAX {
-            return Err(row);
-        }
-        match self.ring.push(row) {
-            Ok(()) => {
-                self.count += 1;
-                Ok(())
-            }
-            Err(PushError::Full(row)) => Err(row),
-        }
-    }
-
-    /// Ends the list of the rows put: what is left of the end has no put.
-    pub fn close(self) -> Spent<G>
-        ensures { result ≡ self }
-    {
-        Spent {
-            ring: self.ring,
-            count: self.count,
-        }
-    }
-}
+use rtrb::Producer;
+use std::marker::{Model, PhantomData};
 
 /// What is left of an end that rows were put on, once it was closed.
 #[derive(Drop)]
 pub struct Spent<G: Gas> {
-    pub(crate) ring: Producer<Row<G>>,
+    pub(crate) ring: Producer<u64>,
     pub(crate) count: u64,
+    width: u32,
+    gas: PhantomData<G>,
 }
 
 impl<G: Gas> Model for Spent<G> {
-    ghost use Rattle.std.specs.Prelude.{◌≡◌, length};
+    ghost use Rattle.std.specs.Prelude.{◌≡◌, ◌*◌, length, None};
     ghost use Rattle.rtrb.specs.Ring.{sent};
     ghost use Rattle.gas_belt.specs.Belt.{Sender};
-    ghost use Rattle.gas_belt.specs.Ring.{belt_of};
+    ghost use Rattle.gas_belt.specs.Ring.{belt_of, row_words, rows_in};
 
     ghost Value = { Sender };
 
-    ghost view = { λ s. record { belt = belt_of s.ring.end; put = sent s.ring } };
+    ghost view = { λ s. record {
+      belt = belt_of s.width s.ring.end;
+      put = rows_in G.rules.dirs s.width s.count (sent s.ring);
+      spare = None;
+    } };
 
-    ghost invariant = { λ s. s.count ≡ length (sent s.ring) };
+    ghost invariant = { λ s. length (sent s.ring) ≡ row_words G.rules.dirs s.width * s.count };
+}
+
+impl<G: Gas> Spent<G> {
+    // Sends the words of a row, if all find a place. It says whether they did.
+    #[tactic(auto, using(crate::proofs::Parts::parts_length, crate::proofs::Parts::parts_row))]
+    fn send(&mut self, row: &Row<G>) -> bool
+        ensures sent { IsTrue result → self.new ≡ record self.old { put = self.old.put ++ row.now ∷ [] } }
+        ensures wide { IsTrue result → length row.now ≡ self.old.belt.width }
+        ensures unchanged { IsFalse result → self.new ≡ self.old }
+        ensures no_more { length self.old.put ≡ u64.MAX → IsFalse result }
+    {
+        if self.count == u64::MAX || row.width() != self.width {
+            return false;
+        }
+        if self.ring.push_entire_slice(row.as_words()).is_err() {
+            return false;
+        }
+        self.count += 1;
+        true
+    }
+}
+
+/// The end of a belt that rows are put on. It counts them.
+#[derive(Drop)]
+pub struct Tx<G: Gas> {
+    rows: Spent<G>,
+    spare: Option<Row<G>>,
+}
+
+impl<G: Gas> Model for Tx<G> {
+    ghost use Rattle.std.specs.Prelude.{◌≡◌, None};
+    ghost use Rattle.gas_belt.specs.Belt.{Sender};
+
+    ghost Value = { Sender };
+
+    ghost view = { λ t. record {
+      belt = t.rows.belt;
+      put = t.rows.put;
+      spare = t.spare;
+    } };
+
+    ghost invariant = { λ t. t.rows.spare ≡ None };
+}
+
+impl<G: Gas> Tx<G> {
+    #[tactic(auto, using(crate::proofs::Parts::parts_none))]
+    pub(crate) fn new(ring: Producer<u64>, width: u32) -> Self
+        requires { sent ring ≡ [] }
+        ensures { result ≡ record { belt = belt_of width ring.end; put = []; spare = None } }
+    {
+        Tx {
+            rows: Spent {
+                ring,
+                count: 0,
+                width,
+                gas: PhantomData,
+            },
+            spare: None,
+        }
+    }
+
+    /// Puts a row, or hands it back where its words find no place, its width is not the belt's, or
+    /// 2^64 - 1 rows were put. A row that was put becomes the spare row. It takes no memory and
+    /// waits for nobody.
+    pub fn try_put(&mut self, row: Row<G>) -> Result<(), Row<G>>
+        ensures put { OnOk result (self.new ≡ record self.old { put = self.old.put ++ row ∷ []; spare = Some row }) }
+        ensures width { OnOk result (length row ≡ self.old.belt.width) }
+        ensures back { IfErr result (λ r. r ≡ row) }
+        ensures unchanged { OnErr result (self.new ≡ self.old) }
+        ensures no_more { length self.old.put ≡ u64.MAX → IsErr result }
+    {
+        if self.rows.send(&row) {
+            self.spare = Some(row);
+            Ok(())
+        } else {
+            Err(row)
+        }
+    }
+
+    /// Hands out the row of the newest put, where it was not handed out since.
+    pub fn spare(&mut self) -> Option<Row<G>>
+        ensures newest { result ≡ self.old.spare }
+        ensures handed_out { self.new ≡ record self.old { spare = None } }
+    {
+        self.spare.take()
+    }
+
+    /// Ends the list of the rows put: what is left of the end has no put, and no spare row.
+    pub fn close(self) -> Spent<G>
+        ensures { result ≡ record self { spare = None } }
+    {
+        self.rows
+    }
 }

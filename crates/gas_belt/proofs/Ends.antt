@@ -1,0 +1,18 @@
+-- The ends of a ring as those of a belt.
+use Rattle.std.proofs.Common.{rules, ◌≡◌, ℕ, List}
+use Rattle.std.specs.Global.{Global}
+use Rattle.rtrb.specs.declared.AnyItems.{AnyItems}
+use Rattle.rtrb.specs.declared.end.End.{End}
+use Rattle.rtrb.specs.Ends.{SameRing}
+use Rattle.gas_rows.specs.Row.{RowModel}
+use Rattle.gas_belt.specs.Belt.{Belt, Receiver}
+use Rattle.gas_belt.specs.Ring.{belt_of}
+
+pub same_belt : (width now : ℕ) (a b : End ℕ Global AnyItems) → now ≡ width → SameRing a b → belt_of now b ≡ belt_of width a
+same_belt width now a b e same = search rules
+
+abbrev pub receiver : Belt → List RowModel → ℕ → Receiver
+receiver b t h = record { belt = b; taken = t; held = h }
+
+pub receiver_is : {b c : Belt} {t u : List RowModel} {h k : ℕ} → b ≡ c → t ≡ u → h ≡ k → receiver b t h ≡ receiver c u k
+receiver_is eb et eh = search rules

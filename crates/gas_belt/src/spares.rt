@@ -1,0 +1,74 @@
+//! Rows that wait to be written to.
+ghost use Rattle.std.specs.Prelude.{◌≡◌, ◌≢◌, ◌-◌, ◌+◌, ◌<◌, ◌≤◌, length, min, IfOk, IfSome, IfNone};
+ghost use Rattle.gas_belt.specs.Ring.{SparesModel};
+
+use gas_geom::gas::Gas;
+use gas_rows::row::Row;
+use std::alloc::{AllocError, Global};
+use std::collections::VecDeque;
+use std::marker::Model;
+
+/// The most rows that are kept.
+const MOST: usize = 2;
+
+/// Up to two rows of one width.
+#[derive(Drop)]
+pub(crate) struct Spares<G: Gas> {
+    rows: VecDeque<Row<G>>,
+    width: u32,
+}
+
+impl<G: Gas> Model for Spares<G> {
+    ghost use Rattle.std.specs.Prelude.{◌≡◌, ◌≤◌, length, All};
+    ghost use Rattle.std.specs.VecDeque.{deque_capacity, deque_len};
+    ghost use Rattle.gas_belt.specs.Ring.{SparesModel};
+
+    ghost Value = { SparesModel };
+
+    ghost view = { λ s. record { width = s.width; count = deque_len s.rows } };
+
+    ghost invariant = { λ s. record {
+      places : deque_capacity s.rows ≡ 2;
+      few : deque_len s.rows ≤ 2;
+      wide : All (λ r. length r ≡ s.width) s.rows.items;
+    } };
+}
+
+impl<G: Gas> Spares<G> {
+    /// No rows, with places for two.
+    pub(crate) fn new(alloc: Global, width: u32) -> Result<Self, AllocError>
+        ensures { IfOk result (λ s. s ≡ record { width = width; count = 0 }) }
+    {
+        Ok(Spares {
+            rows: VecDeque::with_capacity(alloc, MOST)?,
+            width,
+        })
+    }
+
+    /// The number of rows.
+    pub(crate) fn count(&self) -> u32
+        ensures value { result ≡ self.now.count }
+        ensures few { result ≤ 2 }
+    {
+        self.rows.len() as u32
+    }
+
+    /// Keeps the row. It is dropped where two are kept, or its width is another.
+    pub(crate) fn keep(&mut self, row: Row<G>)
+        ensures kept { length row ≡ self.old.width → self.new ≡ record self.old { count = min 2 (self.old.count + 1) } }
+        ensures dropped { length row ≢ self.old.width → self.new ≡ self.old }
+    {
+        if row.width() == self.width && self.rows.len() < MOST {
+            self.rows.push_back_reserved(row);
+        }
+    }
+
+    /// Hands out the row that was kept last.
+    pub(crate) fn take(&mut self) -> Option<Row<G>>
+        ensures row { IfSome result (λ row. length row ≡ self.old.width) }
+        ensures one_less { IfSome result (λ _. self.old ≡ record self.new { count = self.new.count + 1 }) }
+        ensures none { IfNone result (self.old.count ≡ 0) }
+    {
+        self.rows.pop_back()
+    }
+}
