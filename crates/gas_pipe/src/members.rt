@@ -3,4 +3,5 @@
 pub mod ends;
 pub mod feeder;
 pub mod plain_belt;
+mod reserve;
 pub mod worker;

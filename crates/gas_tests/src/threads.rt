@@ -19,16 +19,17 @@ use std::sync::Wait;
 use std::test::Fail;
 use std::thread::Threads;
 
-// A run of a random lattice for a random number of generations.
+// A run of a random lattice, of up to so many rows, for a random number of generations.
 fn compare<G: Gas + Send, R: Abort + Threads + Wait + Sync>(
     rt: &R,
     alloc: Global,
     stages: u32,
     capacity: u32,
+    most_rows: u32,
     random: &mut Pcg32,
 ) -> Result<(), Fail> {
     let width = random.next_word() % 70 + 1;
-    let height = random.next_word() % 6 + 1;
+    let height = random.next_word() % most_rows.max(1) + 1;
     let generations = u64::from(random.next_word() % 20);
     let chirality = Chirality::Seeded(random.next_u64());
     let size = Size::new(width, height).ok_or("a size")?;
@@ -53,11 +54,37 @@ fn small_runs(rt: HostRuntime) -> Result<(), Fail> {
     for _ in 0..10 {
         for stages in [1, 2, 3, 4, 8] {
             for capacity in [1, 2, 7] {
-                compare::<Fhp1, _>(&rt, rt.alloc(), stages, capacity, &mut random)?;
-                compare::<Hpp, _>(&rt, rt.alloc(), stages, capacity, &mut random)?;
-                compare::<FhpRest, _>(&rt, rt.alloc(), stages, capacity, &mut random)?;
+                compare::<Fhp1, _>(&rt, rt.alloc(), stages, capacity, 6, &mut random)?;
+                compare::<Hpp, _>(&rt, rt.alloc(), stages, capacity, 6, &mut random)?;
+                compare::<FhpRest, _>(&rt, rt.alloc(), stages, capacity, 6, &mut random)?;
             }
         }
     }
     Ok(())
+}
+
+// Lines of all lengths up to 8, with one place in each belt, come to their end: a row that was put
+// is a buffer again for its member.
+fn soak<G: Gas + Send, R: Abort + Threads + Wait + Sync>(
+    rt: &R,
+    alloc: Global,
+    highest: u32,
+) -> Result<(), Fail> {
+    let mut random = Pcg32::new(1, 2);
+    for _ in 0..60 {
+        for stages in 1..=8 {
+            compare::<G, _>(rt, alloc, stages, 1, highest, &mut random)?;
+        }
+    }
+    Ok(())
+}
+
+#[test]
+fn no_line_of_high_lattices_stalls(rt: HostRuntime) -> Result<(), Fail> {
+    soak::<Fhp1, _>(&rt, rt.alloc(), 20)
+}
+
+#[test]
+fn no_line_of_low_lattices_stalls(rt: HostRuntime) -> Result<(), Fail> {
+    soak::<Hpp, _>(&rt, rt.alloc(), 3)
 }

@@ -19,7 +19,13 @@ pub trait PutEnd<T> {
         ensures rests { OnErr result (rests self.old self.new) }
         ensures ready { ready self.old → IsOk result };
 
+    /// Hands out the row of the newest put as a spare one, where the end has it. It is no step.
+    fn spare(&mut self) -> Option<T>
+        ensures rests { rests self.old self.new };
+
     ghost rests_alone: { (end : Self) → rests end end };
+
+    ghost puts_and_rests: { (a : Self) (row : T) (b c : Self) → puts a row b → rests b c → puts a row c };
 }
 
 /// An end that rows are taken from.
@@ -39,7 +45,23 @@ pub trait TakeEnd<T> {
         ensures rests { IfNone result (rests self.old self.new) }
         ensures ready { ready self.old → IsSome result };
 
+    /// Gives the end a row, in which it may hand out another. It is no step.
+    fn give(&mut self, row: T)
+        ensures rests { rests self.old self.new };
+
     ghost rests_alone: { (end : Self) → rests end end };
+
+    ghost takes_and_rests: { (a : Self) (row : T) (b c : Self) → takes a row b → rests b c → takes a row c };
+}
+
+/// Moves a spare row from the end that it was put on to the end that it was taken from.
+pub(crate) fn return_spare<R: Drop, P: PutEnd<R>, T: TakeEnd<R>>(put: &mut P, take: &mut T)
+    ensures put { P.rests put.old put.new }
+    ensures take { T.rests take.old take.new }
+{
+    if let Some(row) = put.spare() {
+        take.give(row);
+    }
 }
 
 /// What a turn of a member of the line did.

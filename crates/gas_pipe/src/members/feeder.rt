@@ -7,6 +7,7 @@ ghost use mathlib.Core.List.{IsPrefix};
 ghost use Rattle.gas_pipe.specs.Feeder.{FeederModel, HasFed, AfterTake, AfterPut, emptied_row, emptied};
 
 use crate::members::ends::{PutEnd, TakeEnd, Turned};
+use crate::members::reserve::Reserve;
 use gas_geom::gas::Gas;
 use gas_geom::size::Size;
 use gas_rows::channel::Channel;
@@ -26,12 +27,13 @@ fn empty_solid<G: Gas>(channel: &Channel, y: u32, row: &mut Row<G>)
 }
 
 /// The feeder of the line. It holds the rows to be put in order, and those that came back behind
-/// them.
+/// them. The spare rows of its puts wait in a reserve, until the end that it takes from gets them.
 #[derive(Drop)]
 pub struct Feeder<G: Gas> {
     channel: Channel,
     size: Size,
     rows: VecDeque<Row<G>>,
+    reserve: Reserve<G>,
     to_put: u64,
     to_take: u64,
     next: u32,
@@ -78,10 +80,12 @@ impl<G: Gas> Feeder<G> {
         ensures no_stray { IfOk result (λ f. f.stray ≡ false) }
     {
         let (channel, rows) = lattice.copy(alloc)?.into_rows();
+        let size = channel.size();
         Ok(Feeder {
-            size: channel.size(),
             channel,
+            size,
             rows: VecDeque::from(rows),
+            reserve: Reserve::new(alloc, size.height())?,
             to_put: 0,
             to_take: 0,
             next: 0,
@@ -147,6 +151,7 @@ impl<G: Gas> Feeder<G> {
         match put.try_put(row) {
             Ok(()) => {
                 self.to_put -= 1;
+                self.reserve.keep_spare(put);
                 true
             }
             Err(row) => {
@@ -226,6 +231,7 @@ impl<G: Gas> Feeder<G> {
             return Turned::Stray;
         }
         self.accept(row);
+        self.reserve.give_spare(take);
         Turned::Took
     }
 

@@ -1,5 +1,6 @@
 //! A belt with both its ends on one thread.
 ghost use Rattle.std.specs.Prelude.{◌≡◌, ◌<◌, ◌≤◌, ◌++◌, ◌∷◌, [], length, refl, IfOk};
+ghost use Rattle.std.proofs.Common.{◌∙◌, ap, sym};
 
 use crate::members::ends::{PutEnd, TakeEnd};
 use gas_geom::gas::Gas;
@@ -71,9 +72,17 @@ impl<G: Gas> PutEnd<Row<G>> for PlainBelt<G> {
             Err(row)
         }
     }
+
+    ghost puts_and_rests = { λ a row b c step rests. (step.0, rests ∙ step.1) };
+
+    fn spare(&mut self) -> Option<Row<G>> {
+        None
+    }
 }
 
 impl<G: Gas> TakeEnd<Row<G>> for PlainBelt<G> {
+    ghost use Rattle.gas_pipe.specs.Belt.{BeltModel};
+
     ghost takes = { λ old row new. old ≡ record new { rows = row ∷ new.rows } };
 
     ghost rests = { λ old new. new ≡ old };
@@ -84,5 +93,11 @@ impl<G: Gas> TakeEnd<Row<G>> for PlainBelt<G> {
 
     fn try_take(&mut self) -> Option<Row<G>> {
         self.rows.pop_front()
+    }
+
+    ghost takes_and_rests = { λ a row b c step rests. step ∙ ap (λ (end : BeltModel). record end { rows = row ∷ end.rows }) (sym rests) };
+
+    fn give(&mut self, row: Row<G>) {
+        drop(row);
     }
 }

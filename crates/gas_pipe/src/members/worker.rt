@@ -6,7 +6,7 @@ ghost use Rattle.gas_rows.specs.Row.{RowModel};
 ghost use mathlib.Core.List.{IsPrefix};
 ghost use Rattle.gas_pipe.specs.Worker.{WorkerModel, IsClosed, HasDone, owes, AfterTake, AfterPut, AfterNone, HasPutAll, HasTakenAll, HasMoreToTake};
 
-use crate::members::ends::{PutEnd, TakeEnd, Turned};
+use crate::members::ends::{PutEnd, TakeEnd, Turned, return_spare};
 use gas_geom::gas::Gas;
 use gas_geom::size::Size;
 use gas_rows::channel::Channel;
@@ -84,15 +84,25 @@ impl<'a, G: Gas> Worker<'a, G> {
         }
     }
 
-    // Tries to put a row, which waits where it is handed back.
-    fn give<P: PutEnd<Row<G>>>(&mut self, row: Row<G>, put: &mut P) -> Turned
+    // Tries to put a row, which waits where it is handed back. The row of a put goes to the other
+    // end as a spare one.
+    fn offer<T: TakeEnd<Row<G>>, P: PutEnd<Row<G>>>(
+        &mut self,
+        row: Row<G>,
+        take: &mut T,
+        put: &mut P,
+    ) -> Turned
         requires none { self.old.waiting ≡ None }
+        ensures take { T.rests take.old take.new }
         ensures put_or_idle { result ≢ Turned.Put → result ≡ Turned.Idle }
         ensures put { result ≡ Turned.Put → P.puts put.old row put.new × (self.new ≡ self.old) }
         ensures idle { result ≡ Turned.Idle → P.rests put.old put.new × (P.ready put.old → ⊥) × (self.new ≡ record self.old { waiting = Some row }) }
     {
         match put.try_put(row) {
-            Ok(()) => Turned::Put,
+            Ok(()) => {
+                return_spare(put, take);
+                Turned::Put
+            }
             Err(row) => {
                 self.waiting = Some(row);
                 Turned::Idle
@@ -139,14 +149,14 @@ impl<'a, G: Gas> Worker<'a, G> {
             return Turned::Stray;
         }
         if let Some(row) = self.waiting.take() {
-            return self.give(row, put);
+            return self.offer(row, take, put);
         }
         if !self.stage.is_open() {
             return Turned::Done;
         }
         if self.stage.fed() == self.size.height() {
             return match self.stage.flush() {
-                Some(row) => self.give(row, put),
+                Some(row) => self.offer(row, take, put),
                 None => Turned::Done,
             };
         }

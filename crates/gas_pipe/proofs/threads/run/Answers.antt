@@ -1,10 +1,14 @@
-use Rattle.std.proofs.Common.{ap, subst, ◌<◌, ◌∙◌, ℕ, List, length, map}
+use Rattle.std.proofs.Common.{ap, subst, ◌≡◌, ◌<◌, ◌∙◌, ℕ, List, length, map, arith}
 use Rattle.gas_geom.specs.Channel.{ChannelModel}
 use Rattle.gas_geom.specs.Lattice.{IsLattice}
 use Rattle.gas_rows.specs.Chirality.{chirality_bit}
 use Rattle.gas_rows.specs.Row.{RowModel}
 use Rattle.gas_belt.specs.Belt.{CarriedModel}
 use Rattle.gas_geom.proofs.Runs.{count-generation}
+use Rattle.gas_stage.specs.Evolution.{lattice_after}
+use Rattle.gas_line.specs.Pass.{belts_until}
+use Rattle.gas_line.specs.Plan.{passes_of}
+use Rattle.gas_pipe.specs.Inner.Links.{whole}
 use Rattle.gas_pipe.proofs.PassByPass.{goes_on, belts_all, belts_made, over, all_put, all_taken}
 use Rattle.gas_pipe.proofs.threads.run.Goals as goal
 
@@ -51,3 +55,13 @@ returns-clause-number g c n few =
     (subst (λ (x : ChannelModel). IsLattice g.G.Gas.rules x c.in_ok-feeder.feeder.rows) from.channel from.whole) in
     count-generation g.G.Gas.rules bound.laws c.args.lattice.now.channel
     (chirality_bit c.args.chirality c.args.lattice.now.channel.width) 0 c.args.lattice.now.rows is n
+
+pub returns-clause-no_generation : goal.returns-clause-no_generation
+returns-clause-no_generation g c none =
+    let no_pass : passes_of c.args.plan.generations c.args.plan.stages ≡ 0 =
+    omega (arith, none, c.passes-number-end.ensures.few, c.passes-number-end.ensures.value) in (
+      returns-clause-lattice g c ∙ ap (λ (n : ℕ). lattice_after g.G.Gas.rules c.args.chirality c.args.lattice.now n) none,
+      c.new-2.ensures.belts ∙ belts_all g.G.Gas.rules c.args.chirality c.args.lattice.now c.args.plan c.loop-number.number c.passes-number-end.result
+          c.loop-number.progress.feeder c.loop-number.progress.belts.items c.passes-number-end.ensures.value c.loop-number.auto.number-end c.loop-number-test.false c.loop-number.invariant
+          ∙ ap (λ (n : ℕ). map whole (belts_until g.G.Gas.rules c.args.chirality c.args.lattice.now c.args.plan n)) no_pass,
+    )

@@ -1,4 +1,4 @@
-use Rattle.std.proofs.Common.{ℕ, List, ◌<◌, ◌≤◌, ◌^◌, ◌∙◌, ap, get_or, sym, subst, refl, arith, ⊎_elim}
+use Rattle.std.proofs.Common.{rules, ◌++◌, ◌∷◌, [], ℕ, List, ◌<◌, ◌≤◌, ◌^◌, ◌∙◌, ap, get_or, sym, subst, refl, arith, ⊎_elim}
 use Rattle.std.proofs.lemmas.Bool.{cases_lt}
 use Rattle.std.proofs.lemmas.List.{get_or_past}
 use Rattle.std.proofs.lemmas.Nat.{pow_pos}
@@ -26,14 +26,16 @@ pub returns-clause-took : goal.returns-clause-took
 returns-clause-took g c = λ _.
     let rests = c.if-put_next.ensures.rests refl in
     let inside : c.self-2.inside.to_put < c.self-2.inside.to_take = omega (arith, c.self-2.invariant.put_first, c.if-self-2.false) in
+    let step : g.T.TakeEnd.takes c.args.take.now c.in-Some.row c.give_spare.new.take = search rules in
     let some = subst (λ (f : FeederModel). f.to_put < f.to_take) c.self-2.view_is inside in (
       c.in-Some.row,
-      c.in-Some.ensures.take,
+      step,
       rests.0,
       λ passes rows gave took fed.
-          fed_take c.put_next.new.self c.accept.new.self c.in-Some.row c.accept.ensures.channel c.accept.ensures.rows c.accept.ensures.to_put
+          subst (λ (f : FeederModel). HasFed f passes rows gave (took ++ c.in-Some.row ∷ [])) (sym c.self-3.view_is)
+          (fed_take c.put_next.new.self c.accept.new.self c.in-Some.row c.accept.ensures.channel c.accept.ensures.rows c.accept.ensures.to_put
           c.accept.ensures.to_take c.accept.ensures.next c.accept.ensures.stray some passes rows gave took
-          (subst (λ (f : FeederModel). HasFed f passes rows gave took) (sym rests.1) fed),
+          (subst (λ (f : FeederModel). HasFed f passes rows gave took) (sym rests.1) fed)),
     )
 
 pub accept-requires-clause-sets : goal.accept-requires-clause-sets
@@ -46,4 +48,6 @@ returns-then-self-eq0-clause-whole g c = λ closed.
     c.self.invariant.queue c.self.invariant.put_first (ap (λ (f : FeederModel). f.to_take) c.self.view_is ∙ closed))
 
 pub returns-clause-whole : goal.returns-clause-whole
-returns-clause-whole g c = c.accept.ensures.whole
+returns-clause-whole g c = λ closed.
+    subst (λ (f : FeederModel). IsLattice g.G.Gas.rules f.channel f.rows) (sym c.self-3.view_is)
+    (c.accept.ensures.whole (ap (λ (f : FeederModel). f.to_take) (sym c.self-3.view_is) ∙ closed))
