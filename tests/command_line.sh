@@ -112,6 +112,39 @@ usage replay --generations 1 0 feeder
 usage replay --generations 1 -- -1
 usage replay 0 1
 
+for option in --generations --stages --capacity --block-width --block-height; do
+    for value in '' ' 1' -1 1e3 0x10 1.0 one 99999999999999999999; do
+        others=(--generations 1 --stages 1 --capacity 1 --block-width 1 --block-height 1)
+        for ((i = 0; i < 10; i += 2)); do
+            if [ "${others[i]}" = $option ]; then others[i + 1]=$value; fi
+        done
+        usage coarse "${others[@]}"
+    done
+    usage coarse --generations 1 --block-width 1 --block-height 1 --stages 1 --capacity 1 $option 1
+    usage coarse --generations 1 --block-width 1 --block-height 1 $option
+    usage coarse --generations 1 --block-width 1 --block-height 1 $option=
+done
+usage run extra --generations 1
+usage run -- --generations 1
+usage replay --generations 1 --stages 1 4294967296
+
+# same WORDS..: as with --generations 1
+same() {
+    ends 0 "$drift" "$@" && [ "$(cat "$room/out"; echo .)" = "$drifted." ] && [ ! -s "$room/err" ]
+    count "$*"
+}
+same run --generations=1
+same run --generations 0001
+same run --generations +1
+same run --capacity 1 --stages=64 --generations 1
+
+# turns of nobody, and ten thousand turns
+ends 0 "$drift" replay --generations 1 --stages 1 4294967295 && head -n 1 "$room/out" | grep -q '^not done$'
+count "the turn of nobody"
+# shellcheck disable=SC2046
+ends 0 "$drift" replay --generations 1 --stages 1 $(yes '0 1' | head -n 5000) && head -n 1 "$room/out" | grep -q '^done$'
+count "ten thousand turns"
+
 for words in --help "run --help" "check --help" "coarse --help" "replay --help"; do
     # shellcheck disable=SC2086
     ends 0 '' $words && [ -s "$room/out" ] && [ ! -s "$room/err" ]
@@ -121,6 +154,34 @@ done
 "$program" run --generations 1 < scenes/drift.toml > /dev/full 2> "$room/err"
 [ $? = 4 ] && [ "$(cat "$room/err")" = "write: failed after 0 bytes" ]
 count "a full disk is a failed write"
+"$program" run --generations 1 --stages 0 < scenes/drift.toml > /dev/full 2> "$room/err"
+[ $? = 1 ] && [ "$(cat "$room/err")" = "plan: stages must be 1 to 64" ]
+count "a plan is refused before anything is written"
+"$program" replay --generations 2 --stages 1 < scenes/drift.toml > /dev/full 2> "$room/err"
+[ $? = 1 ] && [ "$(cat "$room/err")" = "replay: the plan needs more than one pass" ]
+count "passes are refused before anything is written"
+"$program" run --generations 1 < scenes/drift.toml >&- 2> "$room/err"
+[ $? = 4 ] && [ "$(cat "$room/err")" = "write: failed after 0 bytes" ]
+count "a closed output is a failed write"
+"$program" run --generations 1 <&- > "$room/out" 2> "$room/err"
+[ $? = 1 ] && [ ! -s "$room/out" ] && [ "$(cat "$room/err")" = "input: read failed" ]
+count "a closed input is a failed read"
+"$program" run --generations 1 --stages 0 < scenes/drift.toml > "$room/out" 2>&-
+[ $? = 1 ] && [ ! -s "$room/out" ]
+count "a line that cannot be printed leaves the status"
+"$program" run --generations 1 < scenes/drift.toml 2>&- > "$room/out"
+[ $? = 0 ] && [ "$(cat "$room/out"; echo .)" = "$drifted." ]
+count "an answer needs no standard error"
+printf 'gas = "fhp1"\nwidth = 4096\nheight = 512\n' > "$room/wide"
+{
+    "$program" run --generations 0 < "$room/wide" 2> "$room/err"
+    echo $? > "$room/status"
+} | head -c 10 > /dev/null
+[ "$(cat "$room/status")" = 4 ] && grep -qx 'write: failed after [0-9]* bytes' "$room/err"
+count "a reader that leaves is a failed write, and no signal"
+"$program" run --generations x < . > "$room/out" 2> "$room/err"
+[ $? = 2 ] && [ ! -s "$room/out" ]
+count "the words are refused before the input is read"
 "$program" run --generations 1 < . > "$room/out" 2> "$room/err"
 [ $? = 1 ] && [ ! -s "$room/out" ] && [ "$(cat "$room/err")" = "input: read failed" ]
 count "a directory is no input"
