@@ -1,7 +1,9 @@
 #!/bin/bash
 # Builds the program: proves each crate that it stands on as soon as those below it are proved, side by side where it can,
-# and links. Says on standard error how far it is; where a crate fails it shows the end of that crate's log and fails.
+# and links. Says on standard error how far it is, at least every half minute; where a crate fails it shows the end of that
+# crate's log and fails.
 cd "$(dirname "$0")" || exit 1
+if [ ! -w crates ]; then echo "fhpgas: $PWD/crates cannot be written, where the program has to be built" >&2; exit 1; fi
 command -v rt > /dev/null || { echo "fhpgas: the Rattle kit's command rt is not on the PATH (see README.md)" >&2; exit 1; }
 
 # below NAME: the crates of this repository that it names in crates.txt
@@ -20,6 +22,11 @@ prove() {
 
 declare -A left started by_job
 
+# tell: says every half minute that the build goes on
+tell() {
+    while sleep 30 > /dev/null 2>&1; do echo "fhpgas: still proving, $SECONDS seconds so far" >&2; done
+}
+
 # add NAME: the crate is to be built, and those below it
 add() {
     local crate
@@ -29,6 +36,8 @@ add() {
 
 add fhpgas
 echo "fhpgas: building ${#left[@]} crates; the first time each is proved, which takes some minutes" >&2
+tell &
+teller=$!
 while [ ${#left[@]} -gt 0 ]; do
     for crate in "${!left[@]}"; do
         ready=yes
@@ -36,9 +45,9 @@ while [ ${#left[@]} -gt 0 ]; do
             if [ -n "${left[$other]}" ]; then ready=; fi
         done
         if [ -n "$ready" ] && [ -z "${started[$crate]}" ]; then
-            echo "fhpgas: proving $crate (${#left[@]} left)" >&2
+            echo "fhpgas: proving $crate" >&2
             prove "$crate" &
-            started[$crate]=1
+            started[$crate]=$SECONDS
             by_job[$!]=$crate
         fi
     done
@@ -52,5 +61,7 @@ while [ ${#left[@]} -gt 0 ]; do
         exit 1
     fi
     unset "left[$crate]"
+    echo "fhpgas: $crate took $((SECONDS - started[$crate])) seconds (${#left[@]} left)" >&2
 done
+kill $teller
 touch crates/fhpgas/out/built
