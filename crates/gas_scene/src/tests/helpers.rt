@@ -39,5 +39,6 @@ pub(super) fn cells_of(alloc: Global, scene: &Scene) -> Result<String, Fail> {
     match scene.lattice() {
         AnyLattice::Fhp1(lattice) => shown(alloc, lattice),
         AnyLattice::Hpp(lattice) => shown(alloc, lattice),
+        AnyLattice::FhpRest(lattice) => shown(alloc, lattice),
     }
 }
