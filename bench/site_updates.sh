@@ -1,12 +1,13 @@
 #!/bin/bash
 # Site updates per second (cells times generations by seconds) of `fhpgas run` with 1, 2 and 4 stages and, beside it, of one
-# stage on one thread and of a plain C program, all on the same lattice of FHP-I, filled at rate 300. The time that reading
-# and printing take is measured by a run of 0 generations and taken off; of several tries the best counts. All must print the
-# same lattice. Last, what starting the line costs: a run of one generation on a tiny lattice, less one of none.
+# stage on one thread and of a plain C program on bit planes, all on the same lattice of FHP-I, filled at rate 300. The time that
+# reading and printing take is measured by a run of 0 generations and taken off; of several tries the best counts. All must
+# print the same lattice; the C program knows chirality "left" alone. Then one stage on the other gases, and last what
+# starting the line costs: a run of one generation on a tiny lattice, less one of none.
 # Usage: bench/site_updates.sh [SIDE [GENERATIONS [CHIRALITY [CAPACITY]]]]
 cd "$(dirname "$0")/.." || exit 1
 side=${1:-1024}
-generations=${2:-100}
+generations=${2:-2000}
 chirality=${3:-left}
 capacity=${4:-2}
 program=crates/fhpgas/out/fhpgas
@@ -15,8 +16,12 @@ single=crates/single_stage/out/single_stage
 (cd crates/single_stage && rt run -- 0 < stdin) > /dev/null 2>&1 || { echo "single_stage was not built" >&2; exit 1; }
 room=$(mktemp -d) || exit 1
 trap 'rm -rf "$room"' EXIT
-cc -O2 -o "$room/plain" bench/plain.c || exit 1
-printf 'gas = "fhp1"\nchirality = "%s"\nseed = 1\nwidth = %s\nheight = %s\nrate = 300\n' "$chirality" "$side" "$side" > "$room/scene"
+cc -O3 -o "$room/planes" bench/planes.c || exit 1
+
+# fill GAS: the scene of a lattice of that gas
+fill() {
+    printf 'gas = "%s"\nchirality = "%s"\nseed = 1\nwidth = %s\nheight = %s\nrate = 300\n' "$1" "$chirality" "$side" "$side" > "$room/scene"
+}
 
 # seconds COMMAND..: the best of three runs of the command on the scene, its output in the room's file out
 seconds() {
@@ -39,9 +44,10 @@ less() {
     awk -v a="$1" -v b="$2" 'BEGIN { printf "%.4f", a - b }'
 }
 
+fill fhp1
 around=$(seconds "$single" 0) || exit 1
 cp "$room/out" "$room/start"
-"$room/plain" "$generations" < "$room/start" > "$room/plain_out" 2> "$room/plain_seconds" || exit 1
+"$room/planes" "$generations" < "$room/start" > "$room/plain_out" 2> "$room/plain_seconds" || exit 1
 plain=$(cat "$room/plain_seconds")
 tell "plain C" "$plain"
 whole=$(seconds "$single" "$generations") || exit 1
@@ -54,6 +60,13 @@ for stages in 1 2 4; do
     whole=$(seconds "$program" run --generations "$generations" --stages $stages --capacity "$capacity") || exit 1
     cmp "$room/out" "$room/wanted" || exit 1
     tell "stages $stages, by threads" "$(less "$whole" "$around")"
+done
+
+for gas in hpp fhp-rest; do
+    fill $gas
+    around=$(seconds "$single" 0) || exit 1
+    whole=$(seconds "$single" "$generations") || exit 1
+    tell "one stage, $gas" "$(less "$whole" "$around")"
 done
 
 cp scenes/drift.toml "$room/scene"
