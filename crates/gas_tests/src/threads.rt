@@ -68,10 +68,11 @@ fn small_runs(rt: HostRuntime) -> Result<(), Fail> {
 fn soak<G: Gas + Send, R: Abort + Threads + Wait + Sync>(
     rt: &R,
     alloc: Global,
+    rounds: u32,
     highest: u32,
 ) -> Result<(), Fail> {
     let mut random = Pcg32::new(1, 2);
-    for _ in 0..60 {
+    for _ in 0..rounds {
         for stages in 1..=8 {
             compare::<G, _>(rt, alloc, stages, 1, highest, &mut random)?;
         }
@@ -81,10 +82,10 @@ fn soak<G: Gas + Send, R: Abort + Threads + Wait + Sync>(
 
 #[test]
 fn no_line_of_high_lattices_stalls(rt: HostRuntime) -> Result<(), Fail> {
-    soak::<Fhp1, _>(&rt, rt.alloc(), 20)
+    soak::<Fhp1, _>(&rt, rt.alloc(), 25, 20)
 }
 
 #[test]
 fn no_line_of_low_lattices_stalls(rt: HostRuntime) -> Result<(), Fail> {
-    soak::<Hpp, _>(&rt, rt.alloc(), 3)
+    soak::<Hpp, _>(&rt, rt.alloc(), 40, 3)
 }
