@@ -31,20 +31,20 @@ module _ (gas : Rules) (p : PassModel) (is : IsPass gas p) where
 
   pub pass_is_line : IsLine (line_of gas p)
   pass_is_line = record {
-    grows = λ k xs ys h. owed-grows gas p.lattice.channel p.chirality (computes_from p k) xs ys (omega (arith, rows_high 0, h));
-    all = λ k xs h. owed-all gas p.lattice.channel p.chirality (computes_from p k) xs (h ∙ rows_high 0) ∙ sym (rows_high 0);
-    no_more = λ k xs. owed-no_more gas p.lattice.channel p.chirality (computes_from p k) xs;
+    grows = λ k xs ys h. owed-grows gas p.lattice.channel p.chirality (computes_from p.plan p.number k) xs ys (omega (arith, rows_high 0, h));
+    all = λ k xs h. owed-all gas p.lattice.channel p.chirality (computes_from p.plan p.number k) xs (h ∙ rows_high 0) ∙ sym (rows_high 0);
+    no_more = λ k xs. owed-no_more gas p.lattice.channel p.chirality (computes_from p.plan p.number k) xs;
     room = is.room;
   }
 
   -- the generation on belt k is below the last one
-  computing : (k : ℕ) → p.number * p.plan.stages + k < p.plan.generations → computes_from p (suc k) ≡ Some (p.number * p.plan.stages + k)
+  computing : (k : ℕ) → p.number * p.plan.stages + k < p.plan.generations → computes_from p.plan p.number (suc k) ≡ Some (p.number * p.plan.stages + k)
   computing k on =
       let e : p.number * p.plan.stages + suc k - 1 ≡ p.number * p.plan.stages + k = omega arith in
       ap (λ (g : ℕ). if ltb g p.plan.generations then Some g else None) e
       ∙ ap (λ (b : Bool). if b then Some (p.number * p.plan.stages + k) else None) (lt-ltb (p.number * p.plan.stages + k) p.plan.generations on)
 
-  passing : (k : ℕ) → p.plan.generations ≤ p.number * p.plan.stages + k → computes_from p (suc k) ≡ None
+  passing : (k : ℕ) → p.plan.generations ≤ p.number * p.plan.stages + k → computes_from p.plan p.number (suc k) ≡ None
   passing k past =
       let e : p.number * p.plan.stages + suc k - 1 ≡ p.number * p.plan.stages + k = omega arith in
       ap (λ (g : ℕ). if ltb g p.plan.generations then Some g else None) e
@@ -56,7 +56,7 @@ module _ (gas : Rules) (p : PassModel) (is : IsPass gas p) where
       ap (λ (b : Bool). if b then step gas p g q else take (length q - 1) (step gas p g q)) (eq-eqb (length q) p.lattice.channel.height e)
 
   -- for all rows of one belt a worker owes those of the next
-  pub owes_next : (k : ℕ) → owed gas p.lattice.channel p.chirality (computes_from p (suc k)) (rows_on gas p k) ≡ rows_on gas p (suc k)
+  pub owes_next : (k : ℕ) → owed gas p.lattice.channel p.chirality (computes_from p.plan p.number (suc k)) (rows_on gas p k) ≡ rows_on gas p (suc k)
   owes_next k =
       let e : p.number * p.plan.stages + suc k ≡ suc (p.number * p.plan.stages + k) = omega arith in
       ⊎_elim
@@ -74,7 +74,7 @@ module _ (gas : Rules) (p : PassModel) (is : IsPass gas p) where
 
   pub carries : (k : ℕ) → carried (line_of gas p) k ≡ rows_on gas p k
   carries zero = refl
-  carries (suc k) = ap (owed gas p.lattice.channel p.chirality (computes_from p (suc k))) (carries k) ∙ owes_next k
+  carries (suc k) = ap (owed gas p.lattice.channel p.chirality (computes_from p.plan p.number (suc k))) (carries k) ∙ owes_next k
 
 -- the first pass begins with the lattice, and each further one where the one before it ended
 pub begins_first : (gas : Rules) (p : PassModel) → p.number ≡ 0 → rows_on gas p 0 ≡ p.lattice.rows

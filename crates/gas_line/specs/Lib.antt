@@ -1,3 +1,4 @@
 pub mod Line
 pub mod Plan
 pub mod Pass
+pub mod Inner

@@ -1,5 +1,5 @@
--- The passes of a plan over a lattice of generation 0: the line of each, and what its belts carry.
-use Rattle.std.specs.Prelude.{ℕ, zero, suc, ◌+◌, ◌-◌, ◌*◌, ◌<◌, ltb, min, if◌then◌else◌, Option, Some, None, List, [], ◌++◌, map}
+-- The passes of a plan over a lattice of generation 0: the line of each, and what the belts carry in it and in all of them.
+use Rattle.std.specs.Prelude.{ℕ, ◌+◌, ◌-◌, ◌*◌, ◌<◌, eqb, ltb, min, if◌then◌else◌, Option, Some, None, List, [], map, flat_map}
 use Rattle.std.specs.List.{range_with_len}
 use Rattle.gas_geom.specs.Gas.{Rules}
 use Rattle.gas_geom.specs.Lattice.{LatticeModel, IsLattice}
@@ -8,7 +8,7 @@ use Rattle.gas_rows.specs.declared.chirality.Chirality.{Chirality}
 use Rattle.gas_stage.specs.Evolution.{lattice_after}
 use Rattle.gas_stage.specs.Stage.{owed}
 use Rattle.gas_line.specs.Line.{Line}
-use Rattle.gas_line.specs.Plan.{PlanModel}
+use Rattle.gas_line.specs.Plan.{PlanModel, passes_of}
 
 -- a pass of a plan, counted from 0
 pub record PassModel : Type 0 where
@@ -17,12 +17,16 @@ pub record PassModel : Type 0 where
   pub plan : PlanModel
   pub number : ℕ
 
--- The generation that worker k of the pass, counted from 1, computes the step from. As many workers compute as generations are
+-- the first pass of a plan; the others differ from it by their number alone
+abbrev pub first_pass : Chirality → LatticeModel → PlanModel → PassModel
+first_pass chirality lattice plan = record { chirality = chirality; lattice = lattice; plan = plan; number = 0 }
+
+-- The generation that worker k, counted from 1, computes the step from in pass n. As many workers compute as generations are
 -- left; those behind them pass rows on.
-abbrev pub computes_from : PassModel → ℕ → Option ℕ
-computes_from p k =
-    let from : ℕ = p.number * p.plan.stages + k - 1 in
-    if ltb from p.plan.generations then Some from else None
+abbrev pub computes_from : PlanModel → ℕ → ℕ → Option ℕ
+computes_from plan n k =
+    let from : ℕ = n * plan.stages + k - 1 in
+    if ltb from plan.generations then Some from else None
 
 -- what belt k of the pass, counted from 0, carries: the rows of the lattice that many generations on, and of the last
 -- generation at most
@@ -33,7 +37,7 @@ rows_on gas p k = (lattice_after gas p.chirality p.lattice (min (p.number * p.pl
 abbrev pub line_of : Rules → PassModel → Line
 line_of gas p = record {
   rows = rows_on gas p 0;
-  owe = λ k. owed gas p.lattice.channel p.chirality (computes_from p k);
+  owe = λ k. owed gas p.lattice.channel p.chirality (computes_from p.plan p.number k);
   workers = p.plan.stages;
   capacity = p.plan.capacity;
 }
@@ -43,16 +47,12 @@ pub record IsPass (gas : Rules) (p : PassModel) : Type 0 where
   pub lattice : IsLattice gas p.lattice.channel p.lattice.rows
   pub room : 0 < p.plan.capacity
 
--- what the belts of the pass carry, from belt 0
-abbrev pub belts_of : Rules → PassModel → List (List RowModel)
-belts_of gas p = map (rows_on gas p) (range_with_len 0 (p.plan.stages + 1))
+-- what belt k carries in the first n passes of p's plan: the rows of each pass, one pass after another
+abbrev pub ring : Rules → PassModel → ℕ → ℕ → List RowModel
+ring gas p n k = flat_map (λ i. rows_on gas (record p { number = i }) k) (range_with_len 0 n)
 
--- pass n of a plan
-abbrev pub nth_pass : Chirality → LatticeModel → PlanModel → ℕ → PassModel
-nth_pass chirality lattice plan n = record { chirality = chirality; lattice = lattice; plan = plan; number = n }
-
--- what the belts of the first n passes of a plan carry, pass by pass
-abbrev pub belts_until : Rules → Chirality → LatticeModel → PlanModel → ℕ → List (List RowModel)
-belts_until gas chirality lattice plan zero = []
-belts_until gas chirality lattice plan (suc n) =
-    belts_until gas chirality lattice plan n ++ belts_of gas (nth_pass chirality lattice plan n)
+-- what the belts of a run of p's plan carry, from belt 0; where no generation is to be computed there is no belt
+abbrev pub rings : Rules → PassModel → List (List RowModel)
+rings gas p =
+    if eqb p.plan.generations 0 then []
+    else map (ring gas p (passes_of p.plan.generations p.plan.stages)) (range_with_len 0 (p.plan.stages + 1))

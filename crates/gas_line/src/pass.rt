@@ -1,9 +1,9 @@
 //! The laws of the line of a pass over a lattice, for every list of turns.
-ghost use Rattle.std.specs.Prelude.{◌≡◌, ℕ, true, false, ◌+◌, ◌*◌, ◌≤◌, List, length};
+ghost use Rattle.std.specs.Prelude.{◌≡◌, ℕ, true, false, ◌+◌, ◌*◌, ◌≤◌, List, length, take, drop};
 ghost use mathlib.Core.List.{IsPrefix};
 ghost use Rattle.gas_line.specs.Line.{IsLine, start, after_turns, moves, events, is_done, carried, HasRounds};
 ghost use Rattle.gas_geom.specs.Gas.{Rules};
-ghost use Rattle.gas_line.specs.Pass.{PassModel, IsPass, line_of, rows_on};
+ghost use Rattle.gas_line.specs.Pass.{PassModel, IsPass, line_of, rows_on, ring};
 ghost use Rattle.gas_stage.specs.Evolution.{lattice_after};
 
 /// The line of a pass over a lattice is a line, and belt k carries in the end the rows of the
@@ -62,4 +62,11 @@ pub fn pass_done_in_rounds()
 pub fn passes_in_order()
     ensures first { (gas : Rules) (p : PassModel) → p.number ≡ 0 → rows_on gas p 0 ≡ p.lattice.rows }
     ensures next { (gas : Rules) (p : PassModel) → rows_on gas p p.plan.stages ≡ rows_on gas (record p { number = p.number + 1 }) 0 }
+{}
+
+/// In all passes of a plan but the last, the rows that come back on the last belt are those that
+/// follow the lattice's own on the first.
+pub fn rows_go_round()
+    ensures { (gas : Rules) (p : PassModel) (n : ℕ) → IsPass gas p →
+        take (n * p.lattice.channel.height) (ring gas p (n + 1) p.plan.stages) ≡ drop p.lattice.channel.height (ring gas p (n + 1) 0) }
 {}
