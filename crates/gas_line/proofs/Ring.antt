@@ -2,7 +2,7 @@
 use Rattle.std.proofs.Common.{◌≡◌, ℕ, zero, suc, ◌+◌, ◌*◌, ◌-◌, ◌≤◌, List, [], ◌++◌, length, take, drop, refl, sym, ap, subst, ◌∙◌, arith, append_assoc, append-nil, length-append}
 use Rattle.std.proofs.Math.Nat.{suc-mul, mul-le-mul_right}
 use Rattle.std.proofs.Math.Seq.{take-append-add}
-use Rattle.std.proofs.lemmas.List.{take_at, drop_at, take-take, take-append-le, take_all, drop-append-le, length-take-le, length-drop, take-append-drop, drop-take}
+use Rattle.std.proofs.lemmas.List.{take_at, drop_at, take-take, take-append-le, take_all, drop-append-le, length-take-le, length-drop, take-append-drop}
 use Rattle.gas_line.specs.Inner.Ring.{block, owed_in, on_belt, joined, IsRing}
 
 pub joined_next : {A : Type 0} (rows : ℕ → List A) (n : ℕ) → joined rows (suc n) ≡ joined rows n ++ rows n

@@ -1,7 +1,7 @@
 -- A chain of jobs grows at its end.
-use Rattle.std.proofs.Common.{◌≡◌, ℕ, suc, ◌+◌, List, [], ◌∷◌, ◌++◌, length, refl, subst, ap, ◌∙◌, arith}
+use Rattle.std.proofs.Common.{◌≡◌, ℕ, suc, ◌+◌, List, [], ◌∷◌, ◌++◌, length, refl, subst, ◌∙◌, arith}
 use Rattle.gas_belt.specs.Belt.{Belt}
-use Rattle.gas_line.specs.Pass.{PassModel, computes_from}
+use Rattle.gas_line.specs.Pass.{PassModel}
 use Rattle.gas_pipe.specs.Inner.Job.{JobModel, IsReady}
 use Rattle.gas_pipe.specs.Inner.Links.{Takes, Linked, last_belt, AllReady}
 
@@ -24,14 +24,14 @@ all_ready p k from (j ∷ js) l = (l.0.ready, all_ready p (suc k) j.tx.belt js l
 
 -- the job of the worker behind belt k
 pub takes_next : (p : PassModel) (k : ℕ) (from : Belt) (j : JobModel) → from ≡ j.rx.belt → IsReady j → j.who ≡ k + 1 →
-    j.generation ≡ computes_from p (k + 1) → j.worker.stage.channel ≡ p.lattice.channel → j.worker.stage.chirality ≡ p.chirality → Takes p k from j
-takes_next p k from j link ready who generation channel chirality =
+    j.plan ≡ p.plan → j.worker.stage.channel ≡ p.lattice.channel → j.worker.stage.chirality ≡ p.chirality → Takes p k from j
+takes_next p k from j link ready who plan channel chirality =
     let more : k + 1 ≡ suc k = omega arith in
     record {
       link = link;
       ready = ready;
       who = who ∙ more;
-      generation = generation ∙ ap (computes_from p) more;
+      plan = plan;
       channel = channel;
       chirality = chirality;
     }

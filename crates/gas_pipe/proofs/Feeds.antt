@@ -1,23 +1,16 @@
 -- The steps of a feeder.
-use Rattle.std.proofs.Common.{◌≡◌, ℕ, ◌+◌, ◌*◌, ◌%◌, ◌≤◌, ◌<◌, List, [], ◌∷◌, ◌++◌, length, ap, ◌∙◌, sym, subst, refl, take, drop, arith, append_assoc}
-use Rattle.std.proofs.lemmas.List.{length-append, take_at, drop_at, take-append-le, take-append-drop}
-use Rattle.std.proofs.Math.Nat.{mod-add-mod}
+use Rattle.std.proofs.Common.{◌≡◌, ℕ, ◌+◌, ◌*◌, ◌%◌, ◌≤◌, ◌<◌, List, [], ◌∷◌, ◌++◌, length, ap, ◌∙◌, sym, subst, refl, take, drop, arith, add-one, append_assoc}
+use Rattle.std.proofs.lemmas.List.{length-append, take_at, drop_at, take-append-le, take-append-drop, drop-drop}
+use Rattle.std.proofs.Math.Nat.{mod-add-mod, suc-mul}
 use Rattle.gas_geom.specs.Channel.{ChannelModel}
 use Rattle.gas_rows.specs.Row.{RowModel}
 use mathlib.Core.List.{IsPrefix}
-use Rattle.gas_pipe.specs.Feeder.{FeederModel, HasFed, emptied_row, emptied_from, emptied}
-
-emptied_from-snoc : (c : ChannelModel) (n : ℕ) (xs : List RowModel) (row : RowModel) →
-    emptied_from c n (xs ++ row ∷ []) ≡ emptied_from c n xs ++ emptied_row c ((n + length xs) % c.height) row ∷ []
-emptied_from-snoc c n [] row = ap (λ (k : ℕ). emptied_row c (k % c.height) row ∷ []) (let e : n ≡ n + 0 = omega arith in e)
-emptied_from-snoc c n (x ∷ xs) row =
-    ap (λ (l : List RowModel). emptied_row c (n % c.height) x ∷ l) (emptied_from-snoc c (n + 1) xs row)
-    ∙ ap (λ (k : ℕ). emptied_row c (n % c.height) x ∷ (emptied_from c (n + 1) xs ++ emptied_row c (k % c.height) row ∷ []))
-    (let e : n + 1 + length xs ≡ n + length (x ∷ xs) = omega arith in e)
+use Rattle.gas_pipe.specs.Feeder.{FeederModel, HasFed, emptied_row, emptied}
+use Rattle.gas_pipe.proofs.Emptied.{emptied_from-append, drop-emptied}
 
 emptied-snoc : (c : ChannelModel) (xs : List RowModel) (row : RowModel) → emptied c (xs ++ row ∷ []) ≡ emptied c xs ++ emptied_row c (length xs % c.height) row ∷ []
 emptied-snoc c xs row =
-    emptied_from-snoc c 0 xs row
+    emptied_from-append c 0 xs (row ∷ [])
     ∙ ap (λ (k : ℕ). emptied c xs ++ emptied_row c (k % c.height) row ∷ []) (let e : 0 + length xs ≡ length xs = omega arith in e)
 
 -- the next row came back
@@ -75,20 +68,33 @@ pub one_pass_prefix : (f : FeederModel) (rows gave took : List RowModel) → Has
 one_pass_prefix f rows gave took h high =
     shorter_prefix gave f.rows rows (emptied f.channel took) h.queue (omega (arith, h.puts, high))
 
-pub one_pass_taken : (f : FeederModel) (rows gave took : List RowModel) → HasFed f 1 rows gave took → f.to_take ≡ 0 → length took ≡ f.channel.height
-one_pass_taken f rows gave took h over = omega (arith, h.takes, over)
+-- the passes are closed
+module _ (f : FeederModel) (passes : ℕ) (rows gave took : List RowModel) (h : HasFed f passes rows gave took) (over : f.to_take ≡ 0) where
+  pub fed_taken : length took ≡ passes * f.channel.height
+  fed_taken = omega (arith, h.takes, over)
 
-one_pass_long : (f : FeederModel) (rows gave took : List RowModel) → HasFed f 1 rows gave took → length rows ≡ f.channel.height → f.to_take ≡ 0 → length gave ≡ length rows
-one_pass_long f rows gave took h high over = omega (arith, h.puts, h.takes, h.behind, high, over)
+  pub fed_given : length gave ≡ passes * f.channel.height
+  fed_given = omega (arith, h.puts, h.takes, h.behind, over)
 
-pub one_pass_put : (f : FeederModel) (rows gave took : List RowModel) → HasFed f 1 rows gave took → length rows ≡ f.channel.height → f.to_take ≡ 0 → gave ≡ rows
-one_pass_put f rows gave took h high over =
-    sym (take_at gave f.rows (length rows) (one_pass_long f rows gave took h high over))
-    ∙ ap (take (length rows)) h.queue ∙ take_at rows (emptied f.channel took) (length rows) refl
+  pub fed_gave : gave ≡ take (passes * f.channel.height) (rows ++ emptied f.channel took)
+  fed_gave = sym (take_at gave f.rows (passes * f.channel.height) fed_given) ∙ ap (take (passes * f.channel.height)) h.queue
+
+  pub fed_holds : f.rows ≡ drop (passes * f.channel.height) (rows ++ emptied f.channel took)
+  fed_holds = sym (drop_at gave f.rows (passes * f.channel.height) fed_given) ∙ ap (drop (passes * f.channel.height)) h.queue
+
+-- the rows that it holds in the end are the last that came back
+pub fed_last : (f : FeederModel) (n : ℕ) (rows gave took : List RowModel) → HasFed f (n + 1) rows gave took → length rows ≡ f.channel.height → f.to_take ≡ 0 →
+    f.rows ≡ emptied f.channel (drop (n * f.channel.height) took)
+fed_last f n rows gave took h high over =
+    let e : (n + 1) * f.channel.height ≡ length rows + n * f.channel.height = omega (arith, high, suc-mul n f.channel.height, add-one n) in
+    fed_holds f (n + 1) rows gave took h over
+    ∙ ap (λ (m : ℕ). drop m (rows ++ emptied f.channel took)) e
+    ∙ sym (drop-drop (n * f.channel.height) (length rows) (rows ++ emptied f.channel took))
+    ∙ ap (drop (n * f.channel.height)) (drop_at rows (emptied f.channel took) (length rows) refl)
+    ∙ drop-emptied f.channel n took
 
 pub one_pass_holds : (f : FeederModel) (rows gave took : List RowModel) → HasFed f 1 rows gave took → length rows ≡ f.channel.height → f.to_take ≡ 0 → f.rows ≡ emptied f.channel took
 one_pass_holds f rows gave took h high over =
-    sym (drop_at gave f.rows (length rows) (one_pass_long f rows gave took h high over))
-    ∙ ap (drop (length rows)) h.queue ∙ drop_at rows (emptied f.channel took) (length rows) refl
+    fed_last f 0 rows gave took h high over ∙ ap (λ (m : ℕ). emptied f.channel (drop m took)) (let e : 0 * f.channel.height ≡ 0 = omega arith in e)
 
 pub ruleset feeds = (fed_take, fed_put)

@@ -1,22 +1,20 @@
 -- Where the feeder's pass is closed the line is done, and the feeder holds the rows of the last generation.
-use Rattle.std.proofs.Common.{rules, ◌≡◌, ℕ, suc, ◌+◌, ◌*◌, ◌%◌, ◌≤◌, ◌<◌, Bool, true, false, eqb, if◌then◌else◌, Option, Some, None, List, [], ◌∷◌, length, map, get_or, refl, ap, sym, ◌∙◌, subst, arith, ⊎_elim}
+use Rattle.std.proofs.Common.{rules, ◌≡◌, ℕ, ◌+◌, ◌*◌, ◌≤◌, ◌<◌, Bool, true, false, eqb, if◌then◌else◌, Option, Some, None, List, length, map, ap, sym, ◌∙◌, subst, arith}
 use Rattle.std.specs.Prelude.{IsSome}
 use Rattle.std.specs.List.{range_with_len}
-use Rattle.std.proofs.lemmas.Bool.{cases_Bool, eq-eqb, ne_eqb, and_from, and_right}
-use Rattle.std.proofs.lemmas.List.FromFn.{fill_by_all}
-use Rattle.std.proofs.Math.Nat.{mod-eq_of_lt, mul-le-mul_right}
+use Rattle.std.proofs.lemmas.Bool.{eq-eqb, ne_eqb, and_from, and_right}
+use Rattle.std.proofs.Math.Nat.{mul-le-mul_right}
 use Rattle.std.proofs.lemmas.Grind.{div_ceil_times}
 use Rattle.gas_geom.specs.Gas.{Rules, IsGas}
-use Rattle.gas_geom.specs.Channel.{ChannelModel, is_solid}
-use Rattle.gas_geom.specs.Lattice.{LatticeModel, IsLattice, cell, row_of}
+use Rattle.gas_geom.specs.Channel.{ChannelModel}
+use Rattle.gas_geom.specs.Lattice.{LatticeModel}
 use Rattle.gas_stage.specs.Evolution.{lattice_after}
-use Rattle.gas_stage.proofs.Local.{range-cong}
 use Rattle.gas_rows.specs.Row.{RowModel}
 use Rattle.gas_line.specs.Line.{State, is_done}
-use Rattle.gas_line.specs.Pass.{PassModel, line_of, rows_on, nth_pass}
+use Rattle.gas_line.specs.Pass.{PassModel, line_of, rows_on, first_pass}
 use Rattle.gas_pipe.specs.Belt.{BeltModel}
 use Rattle.gas_pipe.specs.Worker.{WorkerModel}
-use Rattle.gas_pipe.specs.Feeder.{FeederModel, emptied_row, emptied_from, emptied}
+use Rattle.gas_pipe.specs.Feeder.{FeederModel, emptied}
 use Rattle.gas_line.specs.Plan.{passes_of}
 use Rattle.gas_pipe.specs.Replay.{ReplayModel, after, counts_of, replay_of}
 use Rattle.gas_pipe.specs.declared.replay.answer.Counts.{Counts}
@@ -24,41 +22,9 @@ use Rattle.gas_pipe.specs.Inner.LocalLine.{Shows}
 use Rattle.gas_line.proofs.Kept.{fits}
 use Rattle.gas_line.proofs.Totals.{carried_all}
 use Rattle.gas_line.proofs.Generations.{pass_is_line, carries, rows_high, ends_last}
+use Rattle.gas_pipe.proofs.Emptied.{emptied_lattice}
 use Rattle.gas_pipe.proofs.Feeds.{one_pass_holds}
 use Rattle.gas_line.proofs.Wide.{after_is_lattice}
-
-row_same : (row : RowModel) → row_of (length row) (λ x. get_or row x 0) ≡ row
-row_same row = sym (fill_by_all (λ x. get_or row x 0) row (length row) 0 refl (λ _ _. refl))
-
--- a row that is empty at its solid cells stays as it is
-emptied_row_same : (c : ChannelModel) (y : ℕ) (row : RowModel) → ((x : ℕ) → is_solid c x y ≡ true → get_or row x 0 ≡ 0) → emptied_row c y row ≡ row
-emptied_row_same c y row empty =
-    range-cong (λ x. if is_solid c x y then 0 else get_or row x 0) (λ x. get_or row x 0) (length row) 0 same ∙ row_same row
-  where
-    same : (x : ℕ) → x < length row → (if is_solid c x y then 0 else get_or row x 0) ≡ get_or row x 0
-    same x _ =
-        ⊎_elim
-        (λ (solid : is_solid c x y ≡ true). ap (λ (b : Bool). if b then 0 else get_or row x 0) solid ∙ sym (empty x solid))
-        (λ (free : is_solid c x y ≡ false). ap (λ (b : Bool). if b then 0 else get_or row x 0) free)
-        (cases_Bool (is_solid c x y))
-
-emptied_same : (c : ChannelModel) (n : ℕ) (rows : List RowModel) → n + length rows ≤ c.height →
-    ((x y : ℕ) → y < length rows → is_solid c x (n + y) ≡ true → cell rows x y ≡ 0) → emptied_from c n rows ≡ rows
-emptied_same c n [] fit empty = refl
-emptied_same c n (row ∷ rows) fit empty =
-    let here : n % c.height ≡ n = mod-eq_of_lt (omega arith) in
-    ap (λ k. emptied_row c k row ∷ emptied_from c (n + 1) rows) here
-    ∙ ap (λ r. r ∷ emptied_from c (n + 1) rows)
-    (emptied_row_same c n row (λ x solid. empty x 0 (omega arith) (subst (λ k. is_solid c x k ≡ true) (let e : n ≡ n + 0 = omega arith in e) solid)))
-    ∙ ap (λ (rest : List RowModel). row ∷ rest)
-    (emptied_same c (n + 1) rows (omega arith)
-    (λ x y h solid. empty x (suc y) (omega arith) (subst (λ k. is_solid c x k ≡ true) (let e : n + 1 + y ≡ n + suc y = omega arith in e) solid)))
-
--- a lattice's rows are empty at its solid cells already
-pub emptied_lattice : (gas : Rules) (c : ChannelModel) (rows : List RowModel) → IsLattice gas c rows → emptied c rows ≡ rows
-emptied_lattice gas c rows is =
-    emptied_same c 0 rows (let high = is.high in omega arith)
-    (λ x y _ solid. is.empty x y (subst (λ k. is_solid c x k ≡ true) (let e : 0 + y ≡ y = omega arith in e) solid))
 
 module _ (gas : Rules) (p : PassModel) (f : FeederModel) (ws : List WorkerModel) (bs : List BeltModel) (turns : List ℕ)
     (laws : IsGas gas) (sh : Shows gas p f ws bs (after gas p turns)) where
@@ -113,7 +79,7 @@ one_pass generations stages some few =
     omega arith
 
 -- how the only pass of a plan stands, where it has generations to compute
-pub stands : (gas : Rules) (p : PassModel) (turns : List ℕ) (r : ReplayModel) → p ≡ nth_pass p.chirality p.lattice p.plan 0 →
+pub stands : (gas : Rules) (p : PassModel) (turns : List ℕ) (r : ReplayModel) → p ≡ first_pass p.chirality p.lattice p.plan →
     (p.plan.generations ≡ 0 → ⊥) → p.plan.generations ≤ p.plan.stages →
     r.lattice ≡ (if is_done (line_of gas p) (after gas p turns) then Some (record p.lattice { rows = rows_on gas p p.plan.stages }) else None) →
     r.belts ≡ map (counts_of (after gas p turns)) (range_with_len 0 (p.plan.stages + 1)) →

@@ -1,4 +1,5 @@
 pub mod Workers
+pub mod Emptied
 pub mod Feeds
 pub mod Slots
 pub mod WorkerSteps
@@ -11,4 +12,3 @@ pub mod Passes
 pub mod Chains
 pub mod Meetings
 pub mod Settled
-pub mod PassByPass

@@ -1,5 +1,6 @@
 -- A worker's pass between two belts, from its first turn to its last.
-use Rattle.std.proofs.Common.{◌≡◌, ℕ, Option, List, [], ◌∷◌, ◌++◌, refl, ap, sym, ◌∙◌, append_assoc, append-nil}
+use Rattle.std.proofs.Common.{◌≡◌, ℕ, suc, ◌+◌, ◌*◌, Option, List, [], ◌∷◌, ◌++◌, refl, ap, sym, ◌∙◌, length, length-append, append_assoc, append-nil, arith}
+use Rattle.std.proofs.Math.Nat.{suc-mul}
 use Rattle.gas_geom.specs.Gas.{Rules}
 use Rattle.gas_geom.specs.Channel.{ChannelModel}
 use Rattle.gas_rows.specs.declared.chirality.Chirality.{Chirality}
@@ -7,7 +8,10 @@ use Rattle.gas_stage.specs.Stage.{owed}
 use Rattle.gas_belt.specs.Belt.{Sender, Receiver}
 use Rattle.gas_rows.specs.Row.{RowModel}
 use Rattle.gas_pipe.specs.Worker.{WorkerModel, HasDone, HasTakenAll, HasPutAll, AfterTake, AfterPut, AfterNone}
-use Rattle.gas_pipe.specs.Inner.Job.{OnePass}
+use Rattle.gas_line.specs.Plan.{PlanModel}
+use Rattle.gas_line.specs.Pass.{computes_from}
+use Rattle.gas_line.proofs.Ring.{owed_pass}
+use Rattle.gas_pipe.specs.Inner.Job.{OnePass, owes_until}
 
 -- what a step does to an end of a belt, whatever its buffers
 abbrev pub PutOn : Sender → RowModel → Sender → Type 0
@@ -104,3 +108,22 @@ module _ (gas : Rules) (e : Option ℕ) (w0 : WorkerModel) (rx0 : Receiver) (tx0
         ∙ ap (λ (c : ChannelModel). owed gas c w.stage.chirality e was.took) was.channel
         ∙ ap (λ (h : Chirality). owed gas w0.stage.channel h e was.took) was.chirality);
   }
+
+-- one pass more, of a worker that has made some
+pub one_pass_more : (gas : Rules) (w0 w : WorkerModel) (plan : PlanModel) (who pass : ℕ) (t p t2 p2 : List RowModel) →
+    w.stage.channel ≡ w0.stage.channel → w.stage.chirality ≡ w0.stage.chirality → length t ≡ pass * w0.stage.channel.height → p ≡ owes_until gas w0 plan who pass t →
+    OnePass gas w (computes_from plan pass who) t p t2 p2 →
+    (length t2 ≡ (pass + 1) * w0.stage.channel.height) × (p2 ≡ owes_until gas w0 plan who (pass + 1) t2)
+one_pass_more gas w0 w plan who pass t p t2 p2 channel chirality whole owes one =
+    let high : length one.took ≡ w0.stage.channel.height = one.whole ∙ ap (λ (c : ChannelModel). c.height) channel in
+    let owe : ℕ → List RowModel → List RowModel = λ i q. owed gas w0.stage.channel w0.stage.chirality (computes_from plan i who) q in
+    let on : suc pass ≡ pass + 1 = omega arith in (
+      ap length one.came ∙ length-append t one.took ∙ omega (arith, whole, high, suc-mul pass w0.stage.channel.height, on),
+      one.went
+          ∙ ap (λ (c : ChannelModel). p ++ owed gas c w.stage.chirality (computes_from plan pass who) one.took) channel
+          ∙ ap (λ (h : Chirality). p ++ owed gas w0.stage.channel h (computes_from plan pass who) one.took) chirality
+          ∙ ap (λ (l : List RowModel). l ++ owe pass one.took) owes
+          ∙ sym (owed_pass w0.stage.channel.height owe pass t one.took whole high)
+          ∙ ap (λ (l : List RowModel). owes_until gas w0 plan who (suc pass) l) (sym one.came)
+          ∙ ap (λ (n : ℕ). owes_until gas w0 plan who n t2) on,
+    )

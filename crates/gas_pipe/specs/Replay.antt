@@ -6,7 +6,7 @@ use Rattle.gas_geom.specs.Lattice.{LatticeModel}
 use Rattle.gas_rows.specs.declared.chirality.Chirality.{Chirality}
 use Rattle.gas_stage.specs.Evolution.{lattice_after}
 use Rattle.gas_line.specs.Line.{State, start, after_turns, is_done}
-use Rattle.gas_line.specs.Pass.{PassModel, line_of, nth_pass}
+use Rattle.gas_line.specs.Pass.{PassModel, line_of, first_pass}
 use Rattle.gas_line.specs.Plan.{PlanModel}
 use Rattle.gas_pipe.specs.declared.replay.answer.Counts.{Counts}
 
@@ -27,7 +27,7 @@ after gas p turns = after_turns (line_of gas p) turns start
 -- Without a generation to compute there is no belt, and it is done at once.
 abbrev pub replay_of : Rules → Chirality → LatticeModel → PlanModel → List ℕ → ReplayModel
 replay_of gas chirality lattice plan turns =
-    let p : PassModel = nth_pass chirality lattice plan 0 in
+    let p : PassModel = first_pass chirality lattice plan in
     if eqb plan.generations 0 then record { lattice = Some lattice; belts = [] }
     else record {
       lattice = if is_done (line_of gas p) (after gas p turns) then Some (lattice_after gas chirality lattice plan.generations) else None;

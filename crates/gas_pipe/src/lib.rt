@@ -7,6 +7,4 @@ pub mod members;
 mod pass;
 pub mod plan;
 pub mod replay;
-#[cfg(test)]
-mod tests;
 pub mod threads;

@@ -11,7 +11,7 @@ ghost use Rattle.gas_line.specs.Plan.{passes_of};
 ghost use Rattle.gas_pipe.specs.Replay.{replay_of};
 
 use crate::error::RunError;
-use crate::pass::NthPass;
+use crate::pass::FirstPass;
 use crate::plan::Plan;
 use crate::replay::answer::Replay;
 use crate::replay::local_line::LocalLine;
@@ -42,11 +42,10 @@ pub fn replay<G: Gas>(
     if plan.generations() == 0 {
         return Ok(Replay::new(Some(lattice.copy(alloc)?), Vec::new(alloc)));
     }
-    let pass = NthPass {
+    let pass = FirstPass {
         lattice,
         chirality,
         plan,
-        number: 0,
     };
     let mut line = LocalLine::new(alloc, &pass)?;
     line.run(turns);

@@ -1,4 +1,4 @@
-//! Runs by threads: all passes of a plan, one after another.
+//! Runs by threads: one for each stage, which live through all passes of a plan.
 
 pub mod answer;
 mod belt_ends;
@@ -7,25 +7,25 @@ mod feeder_loop;
 pub mod gate;
 mod gather;
 mod job;
-pub(crate) mod pass;
 mod pause;
+mod ring;
 mod start;
 mod work;
 mod worker_loop;
 
-ghost use Rattle.std.specs.Prelude.{◌≡◌, ◌+◌, ◌*◌, ◌≤◌, ℕ, [], length, map, IfOk, IfErr};
+ghost use Rattle.std.specs.Prelude.{◌≡◌, ◌+◌, ◌≤◌, ◌<◌, ℕ, [], length, map, IfOk, IfErr};
 ghost use Rattle.gas_geom.specs.Lattice.{count};
 ghost use Rattle.gas_stage.specs.Evolution.{lattice_after};
 ghost use Rattle.gas_line.specs.Plan.{passes_of};
-ghost use Rattle.gas_line.specs.Pass.{belts_until};
+ghost use Rattle.gas_line.specs.Pass.{first_pass, rings};
 
 use crate::error::RunError;
 use crate::members::feeder::Feeder;
-use crate::pass::NthPass;
+use crate::pass::FirstPass;
 use crate::plan::Plan;
 use crate::threads::answer::Run;
 use crate::threads::gate::Gate;
-use crate::threads::pass::{Progress, run_pass};
+use crate::threads::ring::run_ring;
 use gas_geom::gas::Gas;
 use gas_rows::chirality::Chirality;
 use gas_rows::lattice::Lattice;
@@ -33,11 +33,13 @@ use std::alloc::Global;
 use std::sync::Wait;
 use std::thread::Threads;
 
-/// Advances a lattice of generation 0 by the generations of a plan, in passes of threads. It blocks
-/// until the last pass is over: each pass starts a thread for every worker, which calls the gate,
-/// makes the feeder's turns on the caller's thread, and joins all threads. Each belt carries one
-/// list of rows, which is both all that was put on it and all that was taken from it. It is refused
-/// only where a request for memory, or the start of a thread, was refused.
+/// Advances a lattice of generation 0 by the generations of a plan. It blocks until all passes are
+/// over: it makes the belts, starts a thread for each worker, which calls the gate round each of
+/// its passes, makes the feeder's turns on the caller's thread, and joins all threads. The rows of
+/// a pass follow those of the pass before on the same belts. Each belt carries one list of rows,
+/// which is both all that was put on it and all that was taken from it. No memory is taken while
+/// the threads run. It is refused only where a request for memory, or the start of a thread, was
+/// refused.
 pub fn run<G: Gas + Send, H: Gate + Sync, R: Threads + Wait + Sync>(
     rt: &R,
     alloc: Global,
@@ -46,11 +48,9 @@ pub fn run<G: Gas + Send, H: Gate + Sync, R: Threads + Wait + Sync>(
     plan: Plan,
     gate: &H,
 ) -> Result<Run<G>, RunError>
-    ensures put { IfOk result (λ r. map (λ b. b.put) r.belts
-        ≡ belts_until G.rules chirality lattice.now plan (passes_of plan.generations plan.stages)) }
-    ensures taken { IfOk result (λ r. map (λ b. b.taken) r.belts
-        ≡ belts_until G.rules chirality lattice.now plan (passes_of plan.generations plan.stages)) }
-    ensures belts_made { IfOk result (λ r. length r.belts ≡ r.passes * (r.stages + 1)) }
+    ensures put { IfOk result (λ r. map (λ b. b.put) r.belts ≡ rings G.rules (first_pass chirality lattice.now plan)) }
+    ensures taken { IfOk result (λ r. map (λ b. b.taken) r.belts ≡ rings G.rules (first_pass chirality lattice.now plan)) }
+    ensures belts_made { 0 < plan.generations → IfOk result (λ r. length r.belts ≡ r.stages + 1) }
     ensures lattice { IfOk result (λ r. r.lattice ≡ lattice_after G.rules chirality lattice.now plan.generations) }
     ensures number { IfOk result (λ _. (n : ℕ) → n ≤ plan.generations →
         count G.rules (lattice_after G.rules chirality lattice.now n).rows ≡ count G.rules lattice.now.rows) }
@@ -60,18 +60,13 @@ pub fn run<G: Gas + Send, H: Gate + Sync, R: Threads + Wait + Sync>(
     ensures refused { IfErr result (λ e. e ≡ RunError.Memory) }
 {
     let feeder = Feeder::new(alloc, lattice)?;
-    let belts = Vec::with_capacity(alloc, plan.passes() as usize * (plan.stages() as usize + 1))?;
-    let mut progress = Progress { feeder, belts };
-    for number in 0..plan.passes() {
-        let pass = NthPass {
-            lattice,
-            chirality,
-            plan,
-            number,
-        };
-        progress = run_pass(rt, alloc, gate, &pass, progress)?;
+    if plan.generations() == 0 {
+        return Ok(Run::new(feeder.finish(), plan, Vec::new(alloc)));
     }
-    let Progress { feeder, belts } = progress;
-    let last = feeder.finish();
-    Ok(Run::new(last, plan, belts))
+    let pass = FirstPass {
+        lattice,
+        chirality,
+        plan,
+    };
+    Ok(run_ring(rt, alloc, gate, &pass, feeder)?)
 }

@@ -111,7 +111,7 @@ fn all_workers_of_a_run_meet(rt: HostRuntime) -> Result<(), Fail> {
     let plan = Plan::new(4, 1, 5)?;
     let run = run(&rt, rt.alloc(), &lattice, Chirality::Left, plan, &gate)?;
     gate.was_kept(&rt, 8);
-    assert_eq!(rt; run.belts_made(), 10);
+    assert_eq!(rt; run.belts_made(), 5);
     let wanted = lattice_after(rt.alloc(), &lattice, Chirality::Left, 5)?;
     assert_same(&rt, run.lattice(), &wanted);
     Ok(())

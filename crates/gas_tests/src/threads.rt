@@ -42,8 +42,11 @@ fn compare<G: Gas + Send, R: Abort + Threads + Wait + Sync>(
         &lattice_after(alloc, &lattice, chirality, generations)?,
     );
     assert_eq!(rt; run.lattice().count(), lattice.count());
+    let rows = generations
+        .div_ceil(u64::from(stages.max(1)))
+        .wrapping_mul(u64::from(height));
     for carried in run.belts() {
-        assert_eq!(rt; carried.len(), u64::from(height));
+        assert_eq!(rt; carried.len(), rows);
     }
     Ok(())
 }

@@ -1,22 +1,25 @@
 -- Inner words: what functions of this crate promise one another. No public contract cites them.
--- How the belts of a pass are linked, and what they have carried when it is over.
-use Rattle.std.specs.Prelude.{◌≡◌, ℕ, suc, ◌+◌, ◌++◌, List, [], ◌∷◌, map, Option, Some}
+-- How the belts of a run are linked, and what they have carried when it is over.
+use Rattle.std.specs.Prelude.{◌≡◌, ℕ, suc, ◌++◌, List, [], ◌∷◌, map, Option, Some}
 use Rattle.std.specs.List.{range_with_len}
 use Rattle.std.specs.declared.thread.PromisedHandle.{PromisedHandle}
 use Rattle.gas_geom.specs.Gas.{Rules}
 use Rattle.gas_belt.specs.Belt.{Belt, Sender, CarriedModel}
 use Rattle.gas_pipe.specs.declared.threads.work.WorkPromise.{WorkPromise}
 use Rattle.gas_rows.specs.Row.{RowModel}
-use Rattle.gas_line.specs.Pass.{PassModel, computes_from, rows_on}
-use Rattle.gas_pipe.specs.Feeder.{FeederModel}
+use Rattle.gas_stage.specs.Evolution.{lattice_after}
+use Rattle.gas_line.specs.Plan.{passes_of}
+use Rattle.gas_line.specs.Pass.{PassModel, rings}
+use Rattle.gas_line.specs.Inner.Ring.{on_belt, owes_in}
+use Rattle.gas_pipe.specs.Run.{RunModel}
 use Rattle.gas_pipe.specs.Inner.Job.{JobModel, EndedModel, IsReady}
 
--- a job that is ready, of the worker that takes from belt k of a pass, which is `from`
+-- a job that is ready, of the worker that takes from belt k, which is `from`, in the passes of p's plan
 pub record Takes (p : PassModel) (k : ℕ) (from : Belt) (j : JobModel) : Type 0 where
   pub link : from ≡ j.rx.belt
   pub ready : IsReady j
   pub who : j.who ≡ suc k
-  pub generation : j.generation ≡ computes_from p (suc k)
+  pub plan : j.plan ≡ p.plan
   pub channel : j.worker.stage.channel ≡ p.lattice.channel
   pub chirality : j.worker.stage.chirality ≡ p.chirality
 
@@ -43,17 +46,20 @@ job_of h = h.promise.0.value
 abbrev pub whole : List RowModel → CarriedModel
 whole rows = record { put = rows; taken = rows }
 
--- what the first n belts of a pass carry
-abbrev pub belts_before : Rules → PassModel → ℕ → List CarriedModel
-belts_before gas p n = map (λ k. whole (rows_on gas p k)) (range_with_len 0 n)
+-- what is on belt k after all passes of p's plan, where the rows b are on belt 0 and each worker puts what it owes
+abbrev pub on : Rules → PassModel → List RowModel → ℕ → List RowModel
+on gas p b k = on_belt p.lattice.channel.height (owes_in gas p) (passes_of p.plan.generations p.plan.stages) b k
 
--- A pass went on from a feeder to another: this one holds the rows of the pass's last belt, and what the belts of the pass
--- carried stands behind what those before it did.
-pub record HasPassed (gas : Rules) (p : PassModel) (old new : FeederModel) (before now : List CarriedModel) : Type 0 where
-  pub closed : new.to_take ≡ 0
-  pub channel : new.channel ≡ old.channel
-  pub rows : new.rows ≡ rows_on gas p p.plan.stages
-  pub belts : now ≡ before ++ belts_before gas p (p.plan.stages + 1)
+-- what is on the first n belts
+abbrev pub on_first : Rules → PassModel → List RowModel → ℕ → List CarriedModel
+on_first gas p b n = map (λ k. whole (on gas p b k)) (range_with_len 0 n)
+
+-- a run of p's plan: its lattice, and what its belts carried
+pub record HasRun (gas : Rules) (p : PassModel) (r : RunModel) : Type 0 where
+  pub lattice : r.lattice ≡ lattice_after gas p.chirality p.lattice p.plan.generations
+  pub stages : r.stages ≡ p.plan.stages
+  pub passes : r.passes ≡ passes_of p.plan.generations p.plan.stages
+  pub belts : r.belts ≡ map whole (rings gas p)
 
 -- the ends of a belt have met, and the rest of the line goes on with `next`
 pub record Advanced (current : Option Sender) (ended : Option EndedModel) (before now : List CarriedModel) (next : Sender) : Type 0 where
@@ -66,6 +72,6 @@ pub record Advanced (current : Option Sender) (ended : Option EndedModel) (befor
   pub belts : now ≡ before ++ whole spent.put ∷ []
 
 -- the belts before the k-th have met, and these rows were put on it
-pub record Reached (gas : Rules) (p : PassModel) (k : ℕ) (put : List RowModel) (before now : List CarriedModel) : Type 0 where
-  pub put_is : put ≡ rows_on gas p k
-  pub belts : now ≡ before ++ belts_before gas p k
+pub record Reached (gas : Rules) (p : PassModel) (b : List RowModel) (k : ℕ) (put : List RowModel) (now : List CarriedModel) : Type 0 where
+  pub put_is : put ≡ on gas p b k
+  pub belts : now ≡ on_first gas p b k

@@ -1,5 +1,5 @@
 //! The feeder of the line, over any two ends.
-ghost use Rattle.std.specs.Prelude.{◌≡◌, ◌≢◌, ◌<◌, ◌≤◌, ◌↔◌, ◌+◌, ◌*◌, ◌%◌, ◌++◌, ◌∷◌, ◌^◌, ℕ, [], List, IfOk, IsTrue, IsFalse, true, false, length, slice_index};
+ghost use Rattle.std.specs.Prelude.{◌≡◌, ◌≢◌, ◌<◌, ◌≤◌, ◌↔◌, ◌+◌, ◌*◌, ◌%◌, ◌++◌, ◌∷◌, ◌^◌, ℕ, [], List, IfOk, IsTrue, IsFalse, true, false, length, slice_index, drop};
 ghost use Rattle.gas_geom.specs.Lattice.{IsLattice};
 ghost use Rattle.gas_geom.specs.declared.size.TheConstants.{MOST_SIDE};
 ghost use Rattle.gas_rows.specs.Row.{RowModel};
@@ -99,7 +99,22 @@ impl<G: Gas> Feeder<G> {
         ensures channel { self.new.channel ≡ self.old.channel }
         ensures nothing_done { HasFed self.new 1 self.old.rows [] [] }
     {
-        self.begin_passes(1);
+        self.begin_ring(1);
+    }
+
+    /// Opens as many passes, 1 to 1,000,000, one after another: each row that comes back is left to
+    /// put again as soon as it has come, until all rows of all passes were put.
+    pub fn begin_ring(&mut self, passes: u64)
+        requires closed { self.old.to_take ≡ 0 }
+        requires some { 1 ≤ passes }
+        requires few { passes ≤ 1000000 }
+        ensures channel { self.new.channel ≡ self.old.channel }
+        ensures nothing_done { HasFed self.new passes self.old.rows [] [] }
+    {
+        let total = passes * u64::from(self.size.height());
+        self.to_put = total;
+        self.to_take = total;
+        self.next = 0;
     }
 
     /// Whether no pass is open.
@@ -120,19 +135,6 @@ impl<G: Gas> Feeder<G> {
         } else {
             self.next
         }
-    }
-
-    // Opens up to a million passes, one after another: rows that came back are put again.
-    fn begin_passes(&mut self, passes: u64)
-        requires closed { self.old.to_take ≡ 0 }
-        requires few_passes { passes ≤ 1000000 }
-        ensures channel { self.new.channel ≡ self.old.channel }
-        ensures nothing_done { HasFed self.new passes self.old.rows [] [] }
-    {
-        let total = passes * u64::from(self.size.height());
-        self.to_put = total;
-        self.to_take = total;
-        self.next = 0;
     }
 
     // Puts the next row, if one is left to put and the end takes it.
@@ -245,18 +247,19 @@ impl<G: Gas> Feeder<G> {
     }
 }
 
-/// What a feeder put is the beginning of the rows that it began with, and behind them those that
-/// came back; in one pass over a lattice, of the rows that it began with. Where that pass is closed
-/// it has put them all, taken as many, and holds those, with their solid cells empty.
+/// What a feeder put is the beginning of the rows that it began with and, behind them, those that it
+/// took, solid cells emptied: in so many passes over a lattice at most as many times the height.
+/// Where the passes are closed it has put and taken just as many, and holds the last rows that it
+/// took, as many as a lattice has, solid cells emptied.
 pub fn a_feeder_in_order()
     ensures prefix { (f : FeederModel) (passes : ℕ) (rows gave took : List RowModel) → HasFed f passes rows gave took →
         IsPrefix gave (rows ++ emptied f.channel took) }
-    ensures one_pass { (f : FeederModel) (rows gave took : List RowModel) → HasFed f 1 rows gave took →
-        length rows ≡ f.channel.height → IsPrefix gave rows }
-    ensures put_all { (f : FeederModel) (rows gave took : List RowModel) → HasFed f 1 rows gave took →
-        length rows ≡ f.channel.height → f.to_take ≡ 0 → gave ≡ rows }
-    ensures taken_all { (f : FeederModel) (rows gave took : List RowModel) → HasFed f 1 rows gave took →
-        f.to_take ≡ 0 → length took ≡ f.channel.height }
-    ensures holds { (f : FeederModel) (rows gave took : List RowModel) → HasFed f 1 rows gave took →
-        length rows ≡ f.channel.height → f.to_take ≡ 0 → f.rows ≡ emptied f.channel took }
+    ensures few { (f : FeederModel) (passes : ℕ) (rows gave took : List RowModel) → HasFed f passes rows gave took →
+        length gave ≤ passes * f.channel.height }
+    ensures put_all { (f : FeederModel) (passes : ℕ) (rows gave took : List RowModel) → HasFed f passes rows gave took →
+        f.to_take ≡ 0 → length gave ≡ passes * f.channel.height }
+    ensures taken_all { (f : FeederModel) (passes : ℕ) (rows gave took : List RowModel) → HasFed f passes rows gave took →
+        f.to_take ≡ 0 → length took ≡ passes * f.channel.height }
+    ensures holds { (f : FeederModel) (n : ℕ) (rows gave took : List RowModel) → HasFed f (n + 1) rows gave took →
+        length rows ≡ f.channel.height → f.to_take ≡ 0 → f.rows ≡ emptied f.channel (drop (n * f.channel.height) took) }
 {}

@@ -13,7 +13,7 @@ use crate::members::ends::Turned;
 use crate::members::feeder::Feeder;
 use crate::members::plain_belt::PlainBelt;
 use crate::members::worker::Worker;
-use crate::pass::NthPass;
+use crate::pass::FirstPass;
 use crate::plan::Plan;
 use crate::replay::answer::Counts;
 use gas_geom::gas::Gas;
@@ -55,9 +55,9 @@ fn turn_feeder<G: Gas>(feeder: &mut Feeder<G>, belts: &mut [PlainBelt<G>]) -> Tu
 // The workers of a pass, which have begun it.
 fn begun_workers<'a, G: Gas>(
     alloc: Global,
-    pass: &NthPass<'a, G>,
+    pass: &FirstPass<'a, G>,
 ) -> Result<Vec<Worker<'a, G>>, AllocError>
-    requires pass { pass.now.number * pass.now.plan.stages < pass.now.plan.generations }
+    requires some { 0 < pass.now.plan.generations }
     ensures begun { IfOk result (λ workers. HaveBegun G.rules pass.now workers.items pass.now.plan.stages) }
     ensures some { 0 < pass.now.plan.stages }
     ensures few { pass.now.plan.stages ≤ 64 }
@@ -66,7 +66,7 @@ fn begun_workers<'a, G: Gas>(
     let mut workers = Vec::with_capacity(alloc, stages as usize)?;
     for k in 0..stages {
         let mut worker = Worker::new(alloc, pass.lattice.channel(), pass.chirality)?;
-        worker.begin(pass.generation(k + 1));
+        worker.begin(pass.plan.generation(0, k + 1));
         workers.push(worker)?;
     }
     Ok(workers)
@@ -96,8 +96,7 @@ pub struct LocalLine<'a, G: Gas> {
 
 impl<'a, G: Gas> LocalLine<'a, G> {
     /// The line of a plan's first pass before its first turn.
-    pub(crate) fn new(alloc: Global, pass: &NthPass<'a, G>) -> Result<Self, AllocError>
-        requires first { pass.now.number ≡ 0 }
+    pub(crate) fn new(alloc: Global, pass: &FirstPass<'a, G>) -> Result<Self, AllocError>
         requires some { 0 < pass.now.plan.generations }
         ensures pass { IfOk result (λ _. IsPass G.rules pass.now) }
         ensures shows { IfOk result (λ c. Shows G.rules pass.now c.feeder c.workers.items c.belts.items (after G.rules pass.now [])) }

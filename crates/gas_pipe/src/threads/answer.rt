@@ -1,4 +1,4 @@
-//! What a run gives: the lattice, and what the belts of its passes carried.
+//! What a run gives: the lattice, and what the belts carried.
 ghost use Rattle.std.specs.Prelude.{◌≡◌, ◌≤◌, ◌<◌, IfSome, IfNone, length};
 ghost use Rattle.gas_line.specs.Plan.{passes_of};
 
@@ -8,7 +8,7 @@ use gas_geom::gas::Gas;
 use gas_rows::lattice::Lattice;
 use std::marker::Model;
 
-/// The lattice that a run gives, and what each belt carried in each pass.
+/// The lattice that a run gives, and what each belt carried in all passes.
 #[derive(Drop)]
 pub struct Run<G: Gas> {
     lattice: Lattice<G>,
@@ -58,7 +58,8 @@ impl<G: Gas> Run<G> {
         self.plan.passes()
     }
 
-    /// What each belt carried: pass by pass, and in each from the belt that the feeder puts on.
+    /// What each belt carried in all passes, one after another: from the belt that the feeder puts on
+    /// to the one that it takes from. There is none where no generation was to be computed.
     pub fn belts(&self) -> &[Carried<G>]
         ensures { result.now ≡ self.now.belts }
     {

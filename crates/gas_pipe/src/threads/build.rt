@@ -1,11 +1,10 @@
-//! Making the belts and the workers of a pass.
-ghost use Rattle.std.specs.Prelude.{◌≡◌, ◌<◌, ◌+◌, ◌*◌, [], List, IfOk, vec_len};
-ghost use Rattle.gas_line.specs.Pass.{computes_from};
+//! Making the belts and the workers of a plan.
+ghost use Rattle.std.specs.Prelude.{◌≡◌, ◌<◌, ◌+◌, [], List, IfOk, vec_len};
 ghost use Rattle.gas_pipe.specs.Inner.Job.{IsReady};
 ghost use Rattle.gas_pipe.specs.Inner.Links.{Linked, last_belt};
 
 use crate::members::worker::Worker;
-use crate::pass::NthPass;
+use crate::pass::FirstPass;
 use crate::threads::job::Job;
 use gas_belt::belt::belt;
 use gas_belt::rx::Rx;
@@ -16,17 +15,16 @@ use std::alloc::{AllocError, Global};
 // The job of the worker that takes from belt k, and the end behind it, of the next belt.
 fn job_behind<'a, G: Gas>(
     alloc: Global,
-    pass: &NthPass<'a, G>,
+    pass: &FirstPass<'a, G>,
     k: u32,
     rx: Rx<G>,
 ) -> Result<(Job<'a, G>, Rx<G>), AllocError>
-    requires pass { pass.now.number * pass.now.plan.stages < pass.now.plan.generations }
     requires one_of { k < pass.now.plan.stages }
     requires nothing_taken { rx.taken ≡ [] }
     ensures ready { IfOk result (λ r. IsReady r.0) }
     ensures link { IfOk result (λ r. rx.belt ≡ r.0.rx.belt) }
     ensures who { IfOk result (λ r. r.0.who ≡ k + 1) }
-    ensures generation { IfOk result (λ r. r.0.generation ≡ computes_from pass.now (k + 1)) }
+    ensures plan { IfOk result (λ r. r.0.plan ≡ pass.now.plan) }
     ensures channel { IfOk result (λ r. r.0.worker.stage.channel ≡ pass.now.lattice.channel) }
     ensures chirality { IfOk result (λ r. r.0.worker.stage.chirality ≡ pass.now.chirality) }
     ensures next { IfOk result (λ r. r.0.tx.belt ≡ r.1.belt) }
@@ -36,7 +34,7 @@ fn job_behind<'a, G: Gas>(
     let (tx, next) = belt(alloc, pass.plan.capacity(), channel.size().width())?;
     let job = Job {
         who: k + 1,
-        generation: pass.generation(k + 1),
+        plan: pass.plan,
         worker: Worker::new(alloc, channel, pass.chirality)?,
         rx,
         tx,
@@ -44,7 +42,7 @@ fn job_behind<'a, G: Gas>(
     Ok((job, next))
 }
 
-/// The ends of all belts of a pass: the feeder's, and those of the workers in order.
+/// The ends of all belts of a line: the feeder's, and those of the workers in order.
 #[derive(Drop)]
 pub struct Ends<'a, G: Gas> {
     pub first: Tx<G>,
@@ -55,9 +53,8 @@ pub struct Ends<'a, G: Gas> {
 /// Makes the belts, and a worker for each stage.
 pub(crate) fn build<'a, G: Gas>(
     alloc: Global,
-    pass: &NthPass<'a, G>,
+    pass: &FirstPass<'a, G>,
 ) -> Result<Ends<'a, G>, AllocError>
-    requires pass { pass.now.number * pass.now.plan.stages < pass.now.plan.generations }
     ensures nothing_put { IfOk result (λ ends. ends.first.put ≡ []) }
     ensures nothing_taken { IfOk result (λ ends. ends.last.taken ≡ []) }
     ensures count { IfOk result (λ ends. vec_len ends.jobs ≡ pass.now.plan.stages) }

@@ -1,6 +1,5 @@
 //! What the caller's thread does while the workers run.
 ghost use Rattle.std.specs.Prelude.{◌≡◌, ℕ, List, IsTrue};
-ghost use Rattle.gas_geom.specs.Lattice.{IsLattice};
 ghost use Rattle.gas_rows.specs.Row.{RowModel};
 ghost use Rattle.gas_pipe.specs.Feeder.{HasFed};
 
@@ -13,9 +12,9 @@ use gas_geom::gas::Gas;
 use std::sync::Wait;
 use std::sync::atomic::{AtomicBool, Ordering};
 
-/// Makes the feeder's turns, and says whether its pass is over. It is not where the flag is raised,
+/// Makes the feeder's turns, and says whether its passes are over. It is not where the flag is raised,
 /// or a row of another width came.
-pub(crate) fn feed_pass<G: Gas, R: Wait>(
+pub(crate) fn feed<G: Gas, R: Wait>(
     rt: &R,
     stop: &AtomicBool,
     feeder: &mut Feeder<G>,
@@ -26,7 +25,6 @@ pub(crate) fn feed_pass<G: Gas, R: Wait>(
     ensures tx { tx.new.belt ≡ tx.old.belt }
     ensures channel { feeder.new.channel ≡ feeder.old.channel }
     ensures closed { IsTrue result → feeder.new.to_take ≡ 0 }
-    ensures whole { IsTrue result → IsLattice G.rules feeder.new.channel feeder.new.rows }
     ensures fed { IsTrue result → (passes : ℕ) (rows : List RowModel) →
         HasFed feeder.old passes rows tx.old.put rx.old.taken → HasFed feeder.new passes rows tx.new.put rx.new.taken }
 {

@@ -1,9 +1,10 @@
 //! Joining the workers' threads, and bringing the two ends of each belt together.
-ghost use Rattle.std.specs.Prelude.{◌≡◌, ◌++◌, length, map, IfSome, vec_len};
-ghost use Rattle.gas_line.specs.Pass.{IsPass, rows_on};
+ghost use Rattle.std.specs.Prelude.{◌≡◌, ◌*◌, [], length, map, IfSome, vec_len};
+ghost use Rattle.gas_line.specs.Pass.{IsPass};
+ghost use Rattle.gas_line.specs.Plan.{passes_of};
 ghost use Rattle.gas_pipe.specs.Inner.Links.{Linked, Advanced, Reached, job_of, last_belt};
 
-use crate::pass::NthPass;
+use crate::pass::FirstPass;
 use crate::threads::job::Ended;
 use crate::threads::start::Started;
 use gas_belt::carried::{Carried, meet};
@@ -32,20 +33,21 @@ fn advance<G: Gas>(
     Some(next)
 }
 
-/// Joins all threads of a pass, and lets the ends of the belts meet, from the feeder's on, as far
+/// Joins all threads, and lets the ends of the belts meet, from the feeder's on, as far
 /// as no worker stopped early. It gives what is left of the end that the last worker put on.
 pub(crate) fn gather<G: Gas, R: Threads>(
     rt: &R,
-    pass: &NthPass<'_, G>,
+    pass: &FirstPass<'_, G>,
     spent: Spent<G>,
     handles: Vec<Started<'_, G>>,
     belts: &mut Vec<Carried<G>>,
 ) -> Option<Spent<G>>
     requires pass { IsPass G.rules pass.now }
-    requires first { spent.put ≡ rows_on G.rules pass.now 0 }
+    requires whole { length spent.put ≡ passes_of pass.now.plan.generations pass.now.plan.stages * pass.now.lattice.channel.height }
     requires linked { Linked pass.now 0 spent.belt (map job_of handles.items) }
+    requires none { belts.old.items ≡ [] }
     ensures next { IfSome result (λ s. s.belt ≡ last_belt spent.belt (map job_of handles.entry.items)) }
-    ensures reached { IfSome result (λ s. Reached G.rules pass.now (vec_len handles.entry) s.put belts.old.items belts.new.items) }
+    ensures reached { IfSome result (λ s. Reached G.rules pass.now spent.put (vec_len handles.entry) s.put belts.new.items) }
 {
     let mut current = Some(spent);
     for handle in handles {

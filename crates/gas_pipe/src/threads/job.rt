@@ -1,11 +1,12 @@
-//! A worker with its ends, for one pass.
+//! A worker with its ends, for all passes.
 ghost use Rattle.std.specs.Prelude.{◌≡◌, IfSome};
 ghost use Rattle.gas_pipe.specs.Inner.Job.{JobModel, EndedModel, IsReady, Ran};
 
 use crate::members::worker::Worker;
+use crate::plan::Plan;
 use crate::threads::gate::Gate;
 use crate::threads::work::Work;
-use crate::threads::worker_loop::make_pass;
+use crate::threads::worker_loop::make_passes;
 use gas_belt::rx::Rx;
 use gas_belt::tx::{Spent, Tx};
 use gas_geom::gas::Gas;
@@ -13,7 +14,7 @@ use std::marker::Model;
 use std::sync::Wait;
 use std::sync::atomic::AtomicBool;
 
-/// The ends of a worker whose pass is over.
+/// The ends of a worker whose passes are over.
 #[derive(Drop)]
 pub struct Ended<G: Gas> {
     pub rx: Rx<G>,
@@ -28,11 +29,11 @@ impl<G: Gas> Model for Ended<G> {
     ghost view = { λ e. record { rx = e.rx; spent = e.spent } };
 }
 
-/// A worker with the ends that it takes from and puts on, for one pass. Its number is counted from 1.
+/// A worker of a plan with the ends that it takes from and puts on. Its number is counted from 1.
 #[derive(Drop)]
 pub struct Job<'a, G: Gas> {
     pub who: u32,
-    pub generation: Option<u64>,
+    pub plan: Plan,
     pub worker: Worker<'a, G>,
     pub rx: Rx<G>,
     pub tx: Tx<G>,
@@ -45,7 +46,7 @@ impl<'a, G: Gas> Model for Job<'a, G> {
 
     ghost view = { λ j. record {
       who = j.who;
-      generation = j.generation;
+      plan = j.plan;
       worker = j.worker;
       rx = j.rx;
       tx = j.tx;
@@ -60,15 +61,12 @@ impl<'a, G: Gas> Work<Ended<G>> for Job<'a, G> {
     fn do_work<H: Gate, R: Wait>(self, rt: &R, stop: &AtomicBool, gate: &H) -> Option<Ended<G>> {
         let Job {
             who,
-            generation,
+            plan,
             mut worker,
             mut rx,
             mut tx,
         } = self;
-        gate.enter(who);
-        let over = make_pass(rt, stop, generation, &mut worker, &mut rx, &mut tx);
-        gate.leave(who);
-        if over {
+        if make_passes(rt, stop, gate, who, plan, &mut worker, &mut rx, &mut tx) {
             Some(Ended {
                 rx,
                 spent: tx.close(),

@@ -1,10 +1,13 @@
 //! What a worker's thread does.
-ghost use Rattle.std.specs.Prelude.{◌≡◌, IsTrue};
+ghost use Rattle.std.specs.Prelude.{◌≡◌, ◌≤◌, ◌*◌, [], length, IsTrue};
+ghost use Rattle.gas_line.specs.Plan.{passes_of};
 ghost use Rattle.gas_pipe.specs.Worker.{IsClosed};
-ghost use Rattle.gas_pipe.specs.Inner.Job.{OnePass};
+ghost use Rattle.gas_pipe.specs.Inner.Job.{OnePass, owes_until};
 
 use crate::members::ends::Turned;
 use crate::members::worker::Worker;
+use crate::plan::Plan;
+use crate::threads::gate::Gate;
 use crate::threads::pause::Pause;
 use gas_belt::rx::Rx;
 use gas_belt::tx::Tx;
@@ -12,10 +15,10 @@ use gas_geom::gas::Gas;
 use std::sync::Wait;
 use std::sync::atomic::{AtomicBool, Ordering};
 
-/// Makes one pass of a worker, and says whether it is over. It is not where the worker stopped
-/// early: because the flag is raised, or because a row of another width came, and then the worker
-/// raises the flag.
-pub(crate) fn make_pass<G: Gas, R: Wait>(
+// Makes one pass of a worker, and says whether it is over. It is not where the worker stopped
+// early: because the flag is raised, or because a row of another width came, and then the worker
+// raises the flag.
+fn make_pass<G: Gas, R: Wait>(
     rt: &R,
     stop: &AtomicBool,
     generation: Option<u64>,
@@ -51,4 +54,38 @@ pub(crate) fn make_pass<G: Gas, R: Wait>(
         }
     }
     unreachable!()
+}
+
+/// Makes all passes of a plan's worker, counted from 1, between fresh ends, and says whether all
+/// are over. It calls the gate before and after each, also where it stops early.
+pub(crate) fn make_passes<G: Gas, H: Gate, R: Wait>(
+    rt: &R,
+    stop: &AtomicBool,
+    gate: &H,
+    who: u32,
+    plan: Plan,
+    worker: &mut Worker<'_, G>,
+    rx: &mut Rx<G>,
+    tx: &mut Tx<G>,
+) -> bool
+    requires some { 1 ≤ who }
+    requires one_of { who ≤ plan.stages }
+    requires closed { IsClosed worker.old }
+    requires nothing_taken { rx.old.taken ≡ [] }
+    requires nothing_put { tx.old.put ≡ [] }
+    ensures rx { rx.new.belt ≡ rx.old.belt }
+    ensures tx { tx.new.belt ≡ tx.old.belt }
+    ensures whole { IsTrue result → length rx.new.taken ≡ passes_of plan.generations plan.stages * worker.old.stage.channel.height }
+    ensures owes { IsTrue result → tx.new.put
+        ≡ owes_until G.rules worker.old plan who (passes_of plan.generations plan.stages) rx.new.taken }
+{
+    for pass in 0..plan.passes() {
+        gate.enter(who);
+        let over = make_pass(rt, stop, plan.generation(pass, who), worker, rx, tx);
+        gate.leave(who);
+        if !over {
+            return false;
+        }
+    }
+    true
 }

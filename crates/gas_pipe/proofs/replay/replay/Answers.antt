@@ -3,7 +3,7 @@ use Rattle.gas_rows.specs.Chirality.{chirality_bit}
 use Rattle.gas_geom.proofs.Runs.{count-generation}
 use Rattle.gas_geom.specs.Lattice.{LatticeModel}
 use Rattle.gas_line.specs.Line.{HasRounds, is_done}
-use Rattle.gas_line.specs.Pass.{line_of, rows_on, nth_pass}
+use Rattle.gas_line.specs.Pass.{line_of, rows_on, first_pass}
 use Rattle.gas_pipe.specs.Replay.{ReplayModel, after}
 use Rattle.gas_pipe.proofs.Finished.{one_pass, stands, done_is_some}
 use Rattle.gas_line.proofs.Generations.{pass_is_line, rows_high}
@@ -12,7 +12,7 @@ use Rattle.gas_pipe.proofs.replay.replay.Goals as goal
 
 pub returns-clause-state : goal.returns-clause-state
 returns-clause-state g c =
-    let p = nth_pass c.args.chirality c.args.lattice.now c.args.plan 0 in
+    let p = first_pass c.args.chirality c.args.lattice.now c.args.plan in
     let turns = c.args.turns.now in
     let shows = c.run.ensures p c.in_ok-line.ensures.shows in
     let enough = one_pass c.args.plan.generations c.args.plan.stages shows.some (omega (arith, c.passes.ensures.value, c.if-passes-gt1.false)) in
@@ -23,7 +23,7 @@ returns-clause-state g c =
 
 pub returns-clause-done : goal.returns-clause-done
 returns-clause-done g c rounds =
-    let p = nth_pass c.args.chirality c.args.lattice.now c.args.plan 0 in
+    let p = first_pass c.args.chirality c.args.lattice.now c.args.plan in
     let turns = c.args.turns.now in
     let shows = c.run.ensures p c.in_ok-line.ensures.shows in
     let high : c.args.lattice.now.channel.height ≡ length (rows_on g.G.Gas.rules p 0) = sym (rows_high g.G.Gas.rules p shows.pass 0) in

@@ -1,11 +1,12 @@
-use Rattle.gas_pipe.proofs.Feeds.{one_pass_prefix, one_pass_put, one_pass_taken, one_pass_holds}
+use Rattle.std.proofs.Common.{arith}
+use Rattle.gas_pipe.proofs.Feeds.{fed_taken, fed_given, fed_last}
 use Rattle.gas_pipe.proofs.members.feeder.a_feeder_in_order.Goals as goal
 
 pub returns : goal.returns
 returns c = record {
   prefix = λ f passes rows gave took h. (f.rows, h.queue);
-  one_pass = λ f rows gave took h high. one_pass_prefix f rows gave took h high;
-  put_all = λ f rows gave took h high over. one_pass_put f rows gave took h high over;
-  taken_all = λ f rows gave took h over. one_pass_taken f rows gave took h over;
-  holds = λ f rows gave took h high over. one_pass_holds f rows gave took h high over;
+  few = λ f passes rows gave took h. omega (arith, h.puts);
+  put_all = λ f passes rows gave took h over. fed_given f passes rows gave took h over;
+  taken_all = λ f passes rows gave took h over. fed_taken f passes rows gave took h over;
+  holds = λ f n rows gave took h high over. fed_last f n rows gave took h high over;
 }

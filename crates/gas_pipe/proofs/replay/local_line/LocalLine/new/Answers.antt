@@ -1,4 +1,4 @@
-use Rattle.std.proofs.Common.{◌+◌, ◌*◌, ◌<◌, ℕ, List, [], ◌∙◌, ap, sym, subst, arith}
+use Rattle.std.proofs.Common.{◌+◌, ◌<◌, List, [], ◌∙◌, ap, sym, subst}
 use Rattle.gas_geom.specs.Channel.{ChannelModel}
 use Rattle.gas_geom.specs.Lattice.{IsLattice}
 use Rattle.gas_rows.specs.Row.{RowModel}
@@ -8,15 +8,6 @@ use Rattle.gas_pipe.specs.Feeder.{HasFed}
 use Rattle.gas_pipe.specs.Inner.LocalLine.{AreUnused}
 use Rattle.gas_pipe.proofs.Begun.{begun_shows}
 use Rattle.gas_pipe.proofs.replay.local_line.LocalLine.new.Goals as goal
-
-pub begun_workers-requires : goal.begun_workers-requires
-begun_workers-requires g c =
-    let some = c.requires.some in
-    record {
-      pass =
-          let here : 0 * c.args.pass.now.plan.stages < c.args.pass.now.plan.generations = omega arith in
-          subst (λ (n : ℕ). n * c.args.pass.now.plan.stages < c.args.pass.now.plan.generations) (sym c.requires.first) here;
-    }
 
 pub returns : goal.returns
 returns g c =
@@ -37,5 +28,5 @@ returns g c =
           c.begun_workers.ensures.some c.in_ok-begun_workers.ensures.begun
           (subst (λ (q : PassModel). AreUnused q.plan.capacity c.in_ok-unused_belts.field-0.items (q.plan.stages + 1)) c.pass.view_is c.in_ok-unused_belts.ensures.unused)
           (c.begin.ensures.channel ∙ channel)
-          (subst (λ (r : List RowModel). HasFed c.begin.new.self 1 r [] []) (rows ∙ sym (begins_first g.G.Gas.rules p c.requires.first)) c.begin.ensures.nothing_done);
+          (subst (λ (r : List RowModel). HasFed c.begin.new.self 1 r [] []) (rows ∙ sym (begins_first g.G.Gas.rules p (sym (ap (λ (q : PassModel). q.number) c.pass.view_is)))) c.begin.ensures.nothing_done);
     }

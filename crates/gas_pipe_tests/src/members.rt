@@ -1,11 +1,12 @@
-use crate::members::ends::Turned::{Done, Idle, Put, Stray, Took};
-use crate::members::ends::{PutEnd, TakeEnd, Turned};
-use crate::members::feeder::Feeder;
-use crate::members::plain_belt::PlainBelt;
-use crate::members::worker::Worker;
-use crate::plan::{Plan, PlanError};
+// The members of the line between belts of one thread, turn by turn.
 use gas_geom::fhp1::Fhp1;
 use gas_geom::size::Size;
+use gas_pipe::members::ends::Turned::{Done, Idle, Put, Stray, Took};
+use gas_pipe::members::ends::{PutEnd, TakeEnd, Turned};
+use gas_pipe::members::feeder::Feeder;
+use gas_pipe::members::plain_belt::PlainBelt;
+use gas_pipe::members::worker::Worker;
+use gas_pipe::plan::{Plan, PlanError};
 use gas_rows::channel::Channel;
 use gas_rows::chirality::Chirality;
 use gas_rows::lattice::Lattice;
@@ -50,9 +51,9 @@ struct Belts {
 }
 
 impl Belts {
-    // Two belts that hold one row, or three.
-    fn new(alloc: Global, three: bool) -> Result<Belts, AllocError> {
-        let capacity = if three { 3 } else { 1 };
+    // Two belts that hold so many rows, one at least.
+    fn new(alloc: Global, capacity: u32) -> Result<Belts, AllocError> {
+        let capacity = capacity.clamp(1, 1024);
         Ok(Belts {
             first: PlainBelt::new(alloc, capacity)?,
             last: PlainBelt::new(alloc, capacity)?,
@@ -71,16 +72,25 @@ fn worker(
     Ok(worker)
 }
 
-// A feeder that has begun a pass over a lattice with one particle, which goes east from (0, 0).
-fn feeder(alloc: Global, channel: Channel) -> Result<Feeder<Fhp1>, AllocError> {
+// A feeder that has begun so many passes over a lattice with one particle, which goes east from
+// (0, 0).
+fn ring_feeder(alloc: Global, channel: Channel, passes: u64) -> Result<Feeder<Fhp1>, AllocError> {
     let mut lattice = Lattice::blank(alloc, channel)?;
     let size = lattice.channel().size();
     if size.width() > 0 && size.height() > 0 && !lattice.channel().is_solid(0, 0) {
         lattice.set_cell(0, 0, 0x01);
     }
     let mut feeder = Feeder::new(alloc, &lattice)?;
-    feeder.begin();
+    match passes {
+        2 => feeder.begin_ring(2),
+        _ => feeder.begin(),
+    }
     Ok(feeder)
+}
+
+// The same for one pass.
+fn feeder(alloc: Global, channel: Channel) -> Result<Feeder<Fhp1>, AllocError> {
+    ring_feeder(alloc, channel, 1)
 }
 
 fn turn_worker(rt: &impl Abort, worker: &mut Worker<'_, Fhp1>, belts: &mut Belts, answer: Turned) {
@@ -127,7 +137,7 @@ fn pass(
     column: u32,
 ) -> Result<(), Fail> {
     let channel = channel(alloc, 3)?;
-    let mut belts = Belts::new(alloc, true)?;
+    let mut belts = Belts::new(alloc, 3)?;
     let mut worker = worker(alloc, &channel, generation)?;
     turn_worker(rt, &mut worker, &mut belts, Idle);
     three_rows_come(rt, alloc, &mut belts)?;
@@ -152,7 +162,7 @@ fn a_worker_passes_on(rt: HostRuntime) -> Result<(), Fail> {
 #[test]
 fn a_row_of_another_width_is_a_stray(rt: HostRuntime) -> Result<(), Fail> {
     let channel = channel(rt.alloc(), 3)?;
-    let mut belts = Belts::new(rt.alloc(), false)?;
+    let mut belts = Belts::new(rt.alloc(), 1)?;
     let mut worker = worker(rt.alloc(), &channel, Some(0))?;
     put(&rt, &mut belts.first, row(rt.alloc(), 5, 0x00)?);
     turn_worker(&rt, &mut worker, &mut belts, Stray);
@@ -164,7 +174,7 @@ fn a_row_of_another_width_is_a_stray(rt: HostRuntime) -> Result<(), Fail> {
 #[test]
 fn a_feeder_over_two_belts(rt: HostRuntime) -> Result<(), Fail> {
     let mut feeder = feeder(rt.alloc(), channel(rt.alloc(), 3)?)?;
-    let mut belts = Belts::new(rt.alloc(), false)?;
+    let mut belts = Belts::new(rt.alloc(), 1)?;
     for answer in [Idle, Took, Took] {
         turn_feeder(&rt, &mut feeder, &mut belts, Put);
         turn_feeder(&rt, &mut feeder, &mut belts, answer);
@@ -176,12 +186,13 @@ fn a_feeder_over_two_belts(rt: HostRuntime) -> Result<(), Fail> {
     Ok(())
 }
 
-// The row of a feeder's lattice of one row, where its pass is over.
-fn only_row_is(rt: &impl Abort, feeder: Feeder<Fhp1>, column: u32) {
-    assert!(rt; feeder.is_closed());
-    let lattice = feeder.finish();
-    assert!(rt; lattice.channel().size().height() == 1);
-    row_is(rt, lattice.row(0), column);
+// The passes of a feeder are over, and the particle is in the first row of its lattice, in this
+// column.
+fn gives(rt: &impl Abort, mut feeder: Feeder<Fhp1>, belts: &mut Belts, column: u32) {
+    match feeder.turn(&mut belts.first, &mut belts.last) {
+        Done => row_is(rt, feeder.finish().row(0), column),
+        _ => assert!(rt; false),
+    }
 }
 
 // One particle goes east through a line of one worker, of which each turn is made by hand.
@@ -190,14 +201,53 @@ fn a_pass_by_hand(rt: HostRuntime) -> Result<(), Fail> {
     let channel = channel(rt.alloc(), 1)?;
     let mut feeder = feeder(rt.alloc(), channel.copy(rt.alloc())?)?;
     let mut worker = worker(rt.alloc(), &channel, Some(0))?;
-    let mut belts = Belts::new(rt.alloc(), false)?;
+    let mut belts = Belts::new(rt.alloc(), 1)?;
     turn_feeder(&rt, &mut feeder, &mut belts, Put);
     turn_worker(&rt, &mut worker, &mut belts, Took);
     turn_worker(&rt, &mut worker, &mut belts, Put);
     turn_feeder(&rt, &mut feeder, &mut belts, Took);
     turn_worker(&rt, &mut worker, &mut belts, Done);
-    turn_feeder(&rt, &mut feeder, &mut belts, Done);
-    only_row_is(&rt, feeder, 1);
+    gives(&rt, feeder, &mut belts, 1);
+    Ok(())
+}
+
+// These turns of the feeder.
+fn turns_feeder(rt: &impl Abort, feeder: &mut Feeder<Fhp1>, belts: &mut Belts, answers: &[Turned]) {
+    for answer in answers {
+        turn_feeder(rt, feeder, belts, *answer);
+    }
+}
+
+// A pass of a worker over two rows, from the generation on.
+fn pass_of_two_rows(
+    rt: &impl Abort,
+    worker: &mut Worker<'_, Fhp1>,
+    belts: &mut Belts,
+    generation: u64,
+) {
+    match worker.turn(&mut belts.first, &mut belts.last) {
+        Done => worker.begin(Some(generation)),
+        _ => assert!(rt; false),
+    }
+    for answer in [Took, Took, Put, Put] {
+        turn_worker(rt, worker, belts, answer);
+    }
+}
+
+// Two passes as a ring: a row of the second is put as soon as it has come, while the first is still
+// under way.
+#[test]
+fn a_ring_by_hand(rt: HostRuntime) -> Result<(), Fail> {
+    let channel = channel(rt.alloc(), 2)?;
+    let mut feeder = ring_feeder(rt.alloc(), channel.copy(rt.alloc())?, 2)?;
+    let mut worker = Worker::new(rt.alloc(), &channel, Chirality::Left)?;
+    let mut belts = Belts::new(rt.alloc(), 4)?;
+    turns_feeder(&rt, &mut feeder, &mut belts, &[Put, Put, Idle]);
+    pass_of_two_rows(&rt, &mut worker, &mut belts, 0);
+    turns_feeder(&rt, &mut feeder, &mut belts, &[Took, Put, Took, Put, Idle]);
+    pass_of_two_rows(&rt, &mut worker, &mut belts, 1);
+    turns_feeder(&rt, &mut feeder, &mut belts, &[Took, Took]);
+    gives(&rt, feeder, &mut belts, 2);
     Ok(())
 }
 

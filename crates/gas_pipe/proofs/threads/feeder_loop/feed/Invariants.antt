@@ -1,7 +1,7 @@
 use Rattle.std.proofs.Common.{◌≡◌, ℕ, List}
 use Rattle.gas_rows.specs.Row.{RowModel}
 use Rattle.gas_pipe.specs.Feeder.{HasFed}
-use Rattle.gas_pipe.proofs.threads.feeder_loop.feed_pass.Given as goal
+use Rattle.gas_pipe.proofs.threads.feeder_loop.feed.Given as goal
 
 abbrev pub invariant-loop : goal.invariant-loop
 invariant-loop g l = record {

@@ -1,5 +1,5 @@
 use Rattle.std.proofs.Common.{◌∙◌}
-use Rattle.gas_pipe.proofs.threads.feeder_loop.feed_pass.Goals as goal
+use Rattle.gas_pipe.proofs.threads.feeder_loop.feed.Goals as goal
 
 pub loop-preserved-in-Took : goal.loop-preserved-in-Took
 loop-preserved-in-Took g c =

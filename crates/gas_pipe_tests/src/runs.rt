@@ -1,18 +1,19 @@
 // Runs by threads on worked examples.
-use crate::plan::Plan;
-use crate::threads::answer::Run;
-use crate::threads::gate::NoGate;
-use crate::threads::run;
 use gas_geom::fhp1::Fhp1;
 use gas_geom::gas::Gas;
 use gas_geom::hpp::Hpp;
 use gas_geom::size::Size;
+use gas_pipe::plan::Plan;
+use gas_pipe::threads::answer::Run;
+use gas_pipe::threads::gate::{Gate, NoGate};
+use gas_pipe::threads::run;
 use gas_rows::channel::Channel;
 use gas_rows::chirality::Chirality;
 use gas_rows::lattice::Lattice;
 use std::alloc::{AllocError, Global};
 use std::process::Abort;
 use std::sync::Wait;
+use std::sync::atomic::{AtomicU64, Ordering};
 use std::test::Fail;
 use std::thread::Threads;
 
@@ -107,18 +108,19 @@ fn pass_went_through<G: Gas>(rt: &impl Abort, run: &Run<G>, pass: u64, belts: u3
 }
 
 // Each belt carried this number of rows.
-fn carried<G: Gas>(rt: &impl Abort, run: &Run<G>, rows: u32) {
+fn carried<G: Gas>(rt: &impl Abort, run: &Run<G>, rows: u64) {
     for carried in run.belts() {
-        assert!(rt; carried.len() == u64::from(rows));
+        assert!(rt; carried.len() == rows);
     }
 }
 
-// So many passes went through so many belts each, all with this number of rows.
+// So many passes went through so many belts, each with this number of rows. Without a pass no belt
+// was made.
 fn went_through<G: Gas>(rt: &impl Abort, run: &Run<G>, passes: u64, belts: u32, rows: u32) {
     assert!(rt; run.passes() == passes);
-    assert!(rt; run.belts_made() == passes.wrapping_mul(u64::from(belts)));
+    assert!(rt; run.belts_made() == if passes == 0 { 0 } else { u64::from(belts) });
     assert!(rt; run.belts().len() as u64 == run.belts_made());
-    carried(rt, run, rows);
+    carried(rt, run, passes.wrapping_mul(u64::from(rows)));
     for pass in 0..passes {
         pass_went_through(rt, run, pass, belts, rows);
     }
@@ -285,8 +287,8 @@ fn east(rt: HostRuntime) -> Result<(), Fail> {
 }
 
 // The belts of three passes of three stages over four rows.
-fn twelve_belts(rt: &impl Abort, run: &Run<Fhp1>) {
-    assert!(rt; run.belts_made() == 12);
+fn four_belts(rt: &impl Abort, run: &Run<Fhp1>) {
+    assert!(rt; run.belts_made() == 4);
     assert!(rt; run.rows_through(2, 3) == Some(4));
     assert!(rt; run.rows_through(3, 0).is_none());
     assert!(rt; run.rows_through(0, 4).is_none());
@@ -303,6 +305,64 @@ fn a_full_lattice_in_three_passes(rt: HostRuntime) -> Result<(), Fail> {
     let run = ran(&rt, rt.alloc(), &full, Chirality::Left, 3, 7)?;
     assert!(rt; seen(rt.alloc(), run.lattice())? == cells);
     assert!(rt; run.lattice().count() == 114);
-    twelve_belts(&rt, &run);
+    four_belts(&rt, &run);
     Ok(())
+}
+
+// Adds up who entered and who left: worker k counts 256^(k - 1), for up to 4 workers.
+#[derive(Drop)]
+struct Counts {
+    entered: AtomicU64,
+    left: AtomicU64,
+}
+
+fn place(who: u32) -> u64 {
+    match who {
+        1 => 1,
+        2 => 0x100,
+        3 => 0x1_0000,
+        4 => 0x100_0000,
+        _ => 0x1_0000_0000,
+    }
+}
+
+impl Gate for Counts {
+    fn enter(&self, who: u32) {
+        self.entered.fetch_add(place(who), Ordering::SeqCst);
+    }
+
+    fn leave(&self, who: u32) {
+        self.left.fetch_add(place(who), Ordering::SeqCst);
+    }
+}
+
+// In a run of so many workers and five generations they enter and leave so often.
+fn counts_are<R: Abort + Threads + Wait + Sync>(
+    rt: &R,
+    alloc: Global,
+    stages: u32,
+    times: u64,
+) -> Result<(), Fail> {
+    let gate = Counts {
+        entered: AtomicU64::new(0),
+        left: AtomicU64::new(0),
+    };
+    let size = Size::new(5, 4).ok_or("a size")?;
+    let cells = drawn(
+        alloc,
+        "09 3f 00 00 00  00 00 12 00 00  ## 00 00 2a 00  24 00 00 00 01",
+    )?;
+    let lattice = lattice::<Fhp1>(alloc, size, &cells)?;
+    let plan = Plan::new(stages, 2, 5)?;
+    run(rt, alloc, &lattice, Chirality::Seeded(7), plan, &gate)?;
+    assert!(rt; gate.entered.load(Ordering::SeqCst) == times);
+    assert!(rt; gate.left.load(Ordering::SeqCst) == times);
+    Ok(())
+}
+
+#[test]
+fn each_worker_enters_and_leaves_each_pass(rt: HostRuntime) -> Result<(), Fail> {
+    counts_are(&rt, rt.alloc(), 1, 0x5)?;
+    counts_are(&rt, rt.alloc(), 2, 0x303)?;
+    counts_are(&rt, rt.alloc(), 4, 0x202_0202)
 }

@@ -1,4 +1,0 @@
-mod members;
-mod passes;
-mod replays;
-mod runs;
