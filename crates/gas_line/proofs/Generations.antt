@@ -3,7 +3,8 @@ use Rattle.std.proofs.Common.{◌≡◌, ℕ, zero, suc, ◌+◌, ◌-◌, ◌*�
 use Rattle.std.proofs.lemmas.Bool.{cases_lt, lt-ltb, le-ltb}
 use Rattle.std.proofs.Math.Nat.{min-eq_left, min-eq_right}
 use Rattle.gas_geom.specs.Gas.{Rules}
-use Rattle.gas_geom.specs.Lattice.{next, generation}
+use Rattle.gas_geom.specs.Channel.{ChannelModel}
+use Rattle.gas_geom.specs.Lattice.{LatticeModel, next, generation}
 use Rattle.gas_rows.specs.Chirality.{chirality_bit}
 use Rattle.gas_stage.specs.Stage.{owed}
 use Rattle.gas_stage.proofs.Local.{length-next}
@@ -96,3 +97,8 @@ ends_last gas p enough =
 -- belt 0 of a pass before which all generations were computed
 pub ends_at : (gas : Rules) (p : PassModel) → p.plan.generations ≤ p.number * p.plan.stages → rows_on gas p 0 ≡ at gas p p.plan.generations
 ends_at gas p enough = ap (at gas p) (min-eq_right (omega (arith, enough)))
+
+-- a lattice is its channel and its rows
+pub same_lattice : (l : LatticeModel) (c : ChannelModel) (rows : List RowModel) → l.channel ≡ c → l.rows ≡ rows → l ≡ record { channel = c; rows = rows }
+same_lattice l c rows channel is =
+    ap (λ (d : ChannelModel). record { channel = d; rows = l.rows }) channel ∙ ap (λ (r : List RowModel). record { channel = c; rows = r }) is

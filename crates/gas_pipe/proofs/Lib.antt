@@ -1,13 +1,3 @@
-pub mod Workers
-pub mod Emptied
-pub mod Feeds
-pub mod Slots
-pub mod WorkerSteps
-pub mod FeederSteps
-pub mod Begun
-pub mod Counted
-pub mod Queues
-pub mod Finished
 pub mod Passes
 pub mod Chains
 pub mod Meetings

@@ -7,7 +7,7 @@ use Rattle.gas_rows.specs.declared.chirality.Chirality.{Chirality}
 use Rattle.gas_stage.specs.Stage.{owed}
 use Rattle.gas_belt.specs.Belt.{Sender, Receiver}
 use Rattle.gas_rows.specs.Row.{RowModel}
-use Rattle.gas_pipe.specs.Worker.{WorkerModel, HasDone, HasTakenAll, HasPutAll, AfterTake, AfterPut, AfterNone}
+use Rattle.gas_members.specs.Worker.{WorkerModel, HasDone, HasTakenAll, HasPutAll, AfterTake, AfterPut, AfterNone}
 use Rattle.gas_line.specs.Plan.{PlanModel}
 use Rattle.gas_line.specs.Pass.{computes_from}
 use Rattle.gas_line.proofs.Ring.{owed_pass}

@@ -14,15 +14,14 @@ use Rattle.gas_line.specs.Plan.{passes_of}
 use Rattle.gas_line.specs.Pass.{PassModel, IsPass, ring, rings}
 use Rattle.gas_line.specs.Inner.Ring.{joined, IsRing, owes_in, rows_in}
 use Rattle.gas_line.proofs.Boundaries.{enough_passes, some_passes}
-use Rattle.gas_line.proofs.Generations.{begins_first, ends_last}
+use Rattle.gas_line.proofs.Generations.{begins_first, ends_last, same_lattice}
 use Rattle.gas_line.proofs.Ring.{joined_high, ring_law, left_over}
 use Rattle.gas_line.proofs.Rings.{is_ring, joined_is}
 use Rattle.gas_line.proofs.Wide.{after_is_lattice}
-use Rattle.gas_pipe.specs.Feeder.{FeederModel, HasFed, emptied}
+use Rattle.gas_members.specs.Feeder.{FeederModel, HasFed, emptied}
 use Rattle.gas_pipe.specs.Inner.Links.{whole, on, on_first, Reached}
-use Rattle.gas_pipe.proofs.Emptied.{take-emptied, emptied_joined}
-use Rattle.gas_pipe.proofs.Feeds.{fed_gave, fed_given, fed_taken, fed_holds}
-use Rattle.gas_pipe.proofs.Finished.{same_lattice}
+use Rattle.gas_members.proofs.Emptied.{take-emptied, emptied_joined}
+use Rattle.gas_members.proofs.Feeds.{fed_gave, fed_given, fed_taken, fed_holds}
 use Rattle.gas_pipe.proofs.Meetings.{on_more, on_long}
 
 map_same : {A B : Type 0} (f g : A → B) → ((x : A) → f x ≡ g x) → (xs : List A) → map f xs ≡ map g xs

@@ -1,5 +1,3 @@
 -- Inner words: what functions of this crate promise one another. No public contract cites them.
-pub mod Queue
-pub mod LocalLine
 pub mod Job
 pub mod Links

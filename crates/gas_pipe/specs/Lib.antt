@@ -1,7 +1,2 @@
-pub mod Belt
-pub mod Worker
-pub mod Feeder
-pub mod Plan
-pub mod Replay
 pub mod Run
 pub mod Inner

@@ -1,7 +1,6 @@
 //! Runs by threads: one for each stage, which live through all passes of a plan.
 
 pub mod answer;
-mod belt_ends;
 mod build;
 mod feeder_loop;
 pub mod gate;
@@ -19,14 +18,14 @@ ghost use Rattle.gas_stage.specs.Evolution.{lattice_after};
 ghost use Rattle.gas_line.specs.Plan.{passes_of};
 ghost use Rattle.gas_line.specs.Pass.{first_pass, rings};
 
-use crate::error::RunError;
-use crate::members::feeder::Feeder;
-use crate::pass::FirstPass;
-use crate::plan::Plan;
 use crate::threads::answer::Run;
 use crate::threads::gate::Gate;
 use crate::threads::ring::run_ring;
 use gas_geom::gas::Gas;
+use gas_members::error::RunError;
+use gas_members::feeder::Feeder;
+use gas_members::pass::FirstPass;
+use gas_members::plan::Plan;
 use gas_rows::chirality::Chirality;
 use gas_rows::lattice::Lattice;
 use std::alloc::Global;

@@ -10,11 +10,11 @@ use Rattle.gas_scene.specs.declared.error.SceneError.TheVariants as scene
 use Rattle.gas_scene.specs.Gases.{rules_named}
 use Rattle.gas_scene.specs.Scene.{SceneModel, scene_of_text}
 use Rattle.gas_line.specs.Plan.{PlanModel, passes_of}
-use Rattle.gas_pipe.specs.Plan.{plan_refusal}
-use Rattle.gas_pipe.specs.Replay.{replay_of}
-use Rattle.gas_pipe.specs.declared.error.RunError.{RunError}
-use Rattle.gas_pipe.specs.declared.error.RunError.TheVariants as run
-use Rattle.gas_pipe.specs.declared.plan.PlanError.{PlanError}
+use Rattle.gas_members.specs.Plan.{plan_refusal}
+use Rattle.gas_replay.specs.Replay.{replay_of}
+use Rattle.gas_members.specs.declared.error.RunError.{RunError}
+use Rattle.gas_members.specs.declared.error.RunError.TheVariants as run
+use Rattle.gas_members.specs.declared.plan.PlanError.{PlanError}
 use Rattle.gas_tool.specs.Text.{cells_text, check_text}
 use Rattle.gas_tool.specs.Blocks.{blocks_of}
 use Rattle.gas_tool.specs.Table.{table_text}

@@ -3,8 +3,8 @@ use Rattle.std.specs.Prelude.{ℕ, List, [], ◌++◌, codes, length, slice_inde
 use Rattle.std.specs.Fmt.{decimal}
 use Rattle.gas_geom.specs.Gas.{Rules}
 use Rattle.gas_geom.specs.Lattice.{LatticeModel, count}
-use Rattle.gas_pipe.specs.Replay.{ReplayModel}
-use Rattle.gas_pipe.specs.declared.replay.answer.Counts.{Counts}
+use Rattle.gas_replay.specs.Replay.{ReplayModel}
+use Rattle.gas_replay.specs.declared.replay.answer.Counts.{Counts}
 use Rattle.gas_tool.specs.Text.{line_feed, texts_below, cells_text}
 
 abbrev pub done_line : Option LatticeModel → List ℕ

@@ -7,7 +7,7 @@ use Rattle.gas_rows.specs.Row.{RowModel}
 use Rattle.gas_line.specs.Plan.{PlanModel, passes_of}
 use Rattle.gas_line.specs.Pass.{computes_from}
 use Rattle.gas_line.specs.Inner.Ring.{owed_in}
-use Rattle.gas_pipe.specs.Worker.{WorkerModel, IsClosed, owes}
+use Rattle.gas_members.specs.Worker.{WorkerModel, IsClosed, owes}
 
 -- a worker's number, counted from 1, the plan, and the ends that it takes from and puts on
 pub record JobModel : Type 0 where

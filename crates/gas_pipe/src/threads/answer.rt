@@ -2,9 +2,9 @@
 ghost use Rattle.std.specs.Prelude.{◌≡◌, ◌≤◌, ◌<◌, IfSome, IfNone, length};
 ghost use Rattle.gas_line.specs.Plan.{passes_of};
 
-use crate::plan::Plan;
 use gas_belt::carried::Carried;
 use gas_geom::gas::Gas;
+use gas_members::plan::Plan;
 use gas_rows::lattice::Lattice;
 use std::marker::Model;
 

@@ -3,13 +3,13 @@ ghost use Rattle.std.specs.Prelude.{◌≡◌, ◌<◌, ◌+◌, [], List, IfOk,
 ghost use Rattle.gas_pipe.specs.Inner.Job.{IsReady};
 ghost use Rattle.gas_pipe.specs.Inner.Links.{Linked, last_belt};
 
-use crate::members::worker::Worker;
-use crate::pass::FirstPass;
 use crate::threads::job::Job;
 use gas_belt::belt::belt;
 use gas_belt::rx::Rx;
 use gas_belt::tx::Tx;
 use gas_geom::gas::Gas;
+use gas_members::pass::FirstPass;
+use gas_members::worker::Worker;
 use std::alloc::{AllocError, Global};
 
 // The job of the worker that takes from belt k, and the end behind it, of the next belt.

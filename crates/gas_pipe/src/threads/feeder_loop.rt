@@ -1,14 +1,14 @@
 //! What the caller's thread does while the workers run.
 ghost use Rattle.std.specs.Prelude.{◌≡◌, ℕ, List, IsTrue};
 ghost use Rattle.gas_rows.specs.Row.{RowModel};
-ghost use Rattle.gas_pipe.specs.Feeder.{HasFed};
+ghost use Rattle.gas_members.specs.Feeder.{HasFed};
 
-use crate::members::ends::Turned;
-use crate::members::feeder::Feeder;
 use crate::threads::pause::Pause;
 use gas_belt::rx::Rx;
 use gas_belt::tx::Tx;
 use gas_geom::gas::Gas;
+use gas_members::ends::Turned;
+use gas_members::feeder::Feeder;
 use std::sync::Wait;
 use std::sync::atomic::{AtomicBool, Ordering};
 

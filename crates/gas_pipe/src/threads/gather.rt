@@ -4,12 +4,12 @@ ghost use Rattle.gas_line.specs.Pass.{IsPass};
 ghost use Rattle.gas_line.specs.Plan.{passes_of};
 ghost use Rattle.gas_pipe.specs.Inner.Links.{Linked, Advanced, Reached, job_of, last_belt};
 
-use crate::pass::FirstPass;
 use crate::threads::job::Ended;
 use crate::threads::start::Started;
 use gas_belt::carried::{Carried, meet};
 use gas_belt::tx::Spent;
 use gas_geom::gas::Gas;
+use gas_members::pass::FirstPass;
 use std::thread::Threads;
 
 // Lets the two ends of a belt meet, and goes on to the next belt.

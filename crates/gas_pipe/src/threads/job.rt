@@ -2,14 +2,14 @@
 ghost use Rattle.std.specs.Prelude.{◌≡◌, IfSome};
 ghost use Rattle.gas_pipe.specs.Inner.Job.{JobModel, EndedModel, IsReady, Ran};
 
-use crate::members::worker::Worker;
-use crate::plan::Plan;
 use crate::threads::gate::Gate;
 use crate::threads::work::Work;
 use crate::threads::worker_loop::make_passes;
 use gas_belt::rx::Rx;
 use gas_belt::tx::{Spent, Tx};
 use gas_geom::gas::Gas;
+use gas_members::plan::Plan;
+use gas_members::worker::Worker;
 use std::marker::Model;
 use std::sync::Wait;
 use std::sync::atomic::AtomicBool;

@@ -2,11 +2,9 @@
 ghost use Rattle.std.specs.Prelude.{◌≡◌, ◌<◌, ◌*◌, [], length, map, IfOk, IfSome, vec_len};
 ghost use Rattle.gas_line.specs.Pass.{IsPass};
 ghost use Rattle.gas_line.specs.Plan.{passes_of};
-ghost use Rattle.gas_pipe.specs.Feeder.{HasFed};
+ghost use Rattle.gas_members.specs.Feeder.{HasFed};
 ghost use Rattle.gas_pipe.specs.Inner.Links.{HasRun, Linked, job_of, last_belt};
 
-use crate::members::feeder::Feeder;
-use crate::pass::FirstPass;
 use crate::threads::answer::Run;
 use crate::threads::build::{Ends, build};
 use crate::threads::feeder_loop::feed;
@@ -17,6 +15,8 @@ use gas_belt::carried::{Carried, meet};
 use gas_belt::rx::Rx;
 use gas_belt::tx::Tx;
 use gas_geom::gas::Gas;
+use gas_members::feeder::Feeder;
+use gas_members::pass::FirstPass;
 use std::alloc::{AllocError, Global};
 use std::sync::Wait;
 use std::sync::atomic::{AtomicBool, Ordering};

@@ -1,17 +1,17 @@
 //! What a worker's thread does.
 ghost use Rattle.std.specs.Prelude.{◌≡◌, ◌≤◌, ◌*◌, [], length, IsTrue};
 ghost use Rattle.gas_line.specs.Plan.{passes_of};
-ghost use Rattle.gas_pipe.specs.Worker.{IsClosed};
+ghost use Rattle.gas_members.specs.Worker.{IsClosed};
 ghost use Rattle.gas_pipe.specs.Inner.Job.{OnePass, owes_until};
 
-use crate::members::ends::Turned;
-use crate::members::worker::Worker;
-use crate::plan::Plan;
 use crate::threads::gate::Gate;
 use crate::threads::pause::Pause;
 use gas_belt::rx::Rx;
 use gas_belt::tx::Tx;
 use gas_geom::gas::Gas;
+use gas_members::ends::Turned;
+use gas_members::plan::Plan;
+use gas_members::worker::Worker;
 use std::sync::Wait;
 use std::sync::atomic::{AtomicBool, Ordering};
 

@@ -1,6 +1,6 @@
 use Rattle.std.proofs.Common.{◌≡◌, ℕ, List}
 use Rattle.gas_rows.specs.Row.{RowModel}
-use Rattle.gas_pipe.specs.Feeder.{HasFed}
+use Rattle.gas_members.specs.Feeder.{HasFed}
 use Rattle.gas_pipe.proofs.threads.feeder_loop.feed.Given as goal
 
 abbrev pub invariant-loop : goal.invariant-loop

@@ -2,7 +2,7 @@ use Rattle.std.proofs.Common.{rules, ◌≡◌, [], List, ℕ, refl, ap, subst, 
 use Rattle.gas_rows.specs.Row.{RowModel}
 use Rattle.gas_line.specs.Plan.{passes_of}
 use Rattle.gas_line.specs.Pass.{PassModel}
-use Rattle.gas_pipe.specs.Feeder.{HasFed}
+use Rattle.gas_members.specs.Feeder.{HasFed}
 use Rattle.gas_pipe.specs.Inner.Links.{Linked}
 use Rattle.gas_pipe.proofs.Chains.{all_ready}
 use Rattle.gas_pipe.proofs.threads.ring.run_in_scope.Goals as goal

@@ -3,7 +3,7 @@ use Rattle.gas_rows.specs.Row.{RowModel}
 use Rattle.gas_belt.specs.Belt.{Sender, CarriedModel}
 use Rattle.gas_line.specs.Plan.{passes_of}
 use Rattle.gas_line.specs.Pass.{PassModel}
-use Rattle.gas_pipe.specs.Feeder.{HasFed}
+use Rattle.gas_members.specs.Feeder.{HasFed}
 use Rattle.gas_pipe.proofs.Settled.{last_on, last_whole, all_belts, long, taken_long, belts_are, lattice_is}
 use Rattle.gas_pipe.proofs.threads.ring.settle.Goals as goal
 

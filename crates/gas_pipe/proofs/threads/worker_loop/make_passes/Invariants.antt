@@ -1,5 +1,5 @@
 use Rattle.std.proofs.Common.{◌≡◌, ◌*◌, length}
-use Rattle.gas_pipe.specs.Worker.{IsClosed}
+use Rattle.gas_members.specs.Worker.{IsClosed}
 use Rattle.gas_pipe.specs.Inner.Job.{owes_until}
 use Rattle.gas_pipe.proofs.threads.worker_loop.make_passes.Given as goal
 

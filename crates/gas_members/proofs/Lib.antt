@@ -1,0 +1,4 @@
+pub mod Workers
+pub mod Emptied
+pub mod Feeds
+pub mod Queues

@@ -1,0 +1,5 @@
+pub mod Belt
+pub mod Worker
+pub mod Feeder
+pub mod Plan
+pub mod Inner

@@ -1,9 +1,0 @@
-use Rattle.gas_pipe.proofs.Workers.{done_prefix, closed_all}
-use Rattle.gas_pipe.proofs.members.worker.a_pass_in_order.Goals as goal
-
-pub returns : goal.returns
-returns c = record {
-  prefix = λ gas w e took gave done. done_prefix gas w e took gave done;
-  few = λ gas w e took gave done. done.few;
-  closed = λ gas w closed. (λ e took gave done. done.all closed.stage, λ e took gave done. closed_all gas w closed e took gave done);
-}

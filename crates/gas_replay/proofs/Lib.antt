@@ -1,0 +1,6 @@
+pub mod Slots
+pub mod WorkerSteps
+pub mod FeederSteps
+pub mod Begun
+pub mod Counted
+pub mod Finished
