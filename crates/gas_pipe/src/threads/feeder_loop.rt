@@ -3,20 +3,19 @@ ghost use Rattle.std.specs.Prelude.{◌≡◌, ℕ, List, IsTrue};
 ghost use Rattle.gas_rows.specs.Row.{RowModel};
 ghost use Rattle.gas_members.specs.Feeder.{HasFed};
 
-use crate::threads::pause::Pause;
+use crate::threads::signals::{Signals, Watch};
 use gas_belt::rx::Rx;
 use gas_belt::tx::Tx;
 use gas_geom::gas::Gas;
 use gas_members::ends::Turned;
 use gas_members::feeder::Feeder;
 use std::sync::Wait;
-use std::sync::atomic::{AtomicBool, Ordering};
 
 /// Makes the feeder's turns, and says whether its passes are over. It is not where the flag is raised,
 /// or a row of another width came.
 pub(crate) fn feed<G: Gas, R: Wait>(
     rt: &R,
-    stop: &AtomicBool,
+    signals: &Signals,
     feeder: &mut Feeder<G>,
     rx: &mut Rx<G>,
     tx: &mut Tx<G>,
@@ -28,18 +27,17 @@ pub(crate) fn feed<G: Gas, R: Wait>(
     ensures fed { IsTrue result → (passes : ℕ) (rows : List RowModel) →
         HasFed feeder.old passes rows tx.old.put rx.old.taken → HasFed feeder.new passes rows tx.new.put rx.new.taken }
 {
-    let mut pause = Pause::new();
+    let mut watch = Watch::new(signals, 0);
     for _ in rt.forever() {
         match feeder.turn(tx, rx) {
             Turned::Done => return true,
             Turned::Idle => {
-                if stop.load(Ordering::SeqCst) {
+                if !watch.wait(rt) {
                     return false;
                 }
-                pause.wait();
             }
-            Turned::Took => pause = Pause::new(),
-            Turned::Put => pause = Pause::new(),
+            Turned::Took => watch.took(),
+            Turned::Put => watch.put(),
             Turned::Stray => return false,
         }
     }

@@ -3,6 +3,7 @@ ghost use Rattle.std.specs.Prelude.{◌≡◌, IfSome};
 ghost use Rattle.gas_pipe.specs.Inner.Job.{JobModel, EndedModel, IsReady, Ran};
 
 use crate::threads::gate::Gate;
+use crate::threads::signals::Signals;
 use crate::threads::work::Work;
 use crate::threads::worker_loop::make_passes;
 use gas_belt::rx::Rx;
@@ -12,7 +13,6 @@ use gas_members::plan::Plan;
 use gas_members::worker::Worker;
 use std::marker::Model;
 use std::sync::Wait;
-use std::sync::atomic::AtomicBool;
 
 /// The ends of a worker whose passes are over.
 #[derive(Drop)]
@@ -58,7 +58,7 @@ impl<'a, G: Gas> Work<Ended<G>> for Job<'a, G> {
 
     ghost kept = { λ j e. Ran G.rules j e };
 
-    fn do_work<H: Gate, R: Wait>(self, rt: &R, stop: &AtomicBool, gate: &H) -> Option<Ended<G>> {
+    fn do_work<H: Gate, R: Wait>(self, rt: &R, signals: &Signals, gate: &H) -> Option<Ended<G>> {
         let Job {
             who,
             plan,
@@ -66,7 +66,7 @@ impl<'a, G: Gas> Work<Ended<G>> for Job<'a, G> {
             mut rx,
             mut tx,
         } = self;
-        if make_passes(rt, stop, gate, who, plan, &mut worker, &mut rx, &mut tx) {
+        if make_passes(rt, signals, gate, who, plan, &mut worker, &mut rx, &mut tx) {
             Some(Ended {
                 rx,
                 spent: tx.close(),

@@ -10,6 +10,7 @@ use crate::threads::build::{Ends, build};
 use crate::threads::feeder_loop::feed;
 use crate::threads::gate::Gate;
 use crate::threads::gather::gather;
+use crate::threads::signals::Signals;
 use crate::threads::start::{Started, start};
 use gas_belt::carried::{Carried, meet};
 use gas_belt::rx::Rx;
@@ -19,7 +20,6 @@ use gas_members::feeder::Feeder;
 use gas_members::pass::FirstPass;
 use std::alloc::{AllocError, Global};
 use std::sync::Wait;
-use std::sync::atomic::{AtomicBool, Ordering};
 use std::thread;
 use std::thread::{Scope, Threads};
 
@@ -61,7 +61,7 @@ fn run_in_scope<'s, 'e: 's, G: Gas + Send + 'e, H: Gate + Sync, R: Threads + Wai
     scope: &'s Scope<'s, &'e ()>,
     rt: &'e R,
     alloc: Global,
-    stop: &'e AtomicBool,
+    signals: &'e Signals,
     gate: &'e H,
     pass: &'e FirstPass<'e, G>,
     mut feeder: Feeder<G>,
@@ -82,11 +82,11 @@ fn run_in_scope<'s, 'e: 's, G: Gas + Send + 'e, H: Gate + Sync, R: Threads + Wai
     let belts = Vec::with_capacity(alloc, stages + 1).ok()?;
     let handles = Vec::with_capacity(alloc, stages).ok()?;
     feeder.begin_ring(pass.plan.passes());
-    let (handles, all) = start(scope, rt, stop, gate, jobs, handles);
-    if all && feed(rt, stop, &mut feeder, &mut last, &mut first) {
+    let (handles, all) = start(scope, rt, signals, gate, jobs, handles);
+    if all && feed(rt, signals, &mut feeder, &mut last, &mut first) {
         return settle(rt, pass, first, last, feeder, handles, belts);
     }
-    stop.store(true, Ordering::SeqCst);
+    signals.stop();
     for handle in handles {
         drop(handle.join(rt));
     }
@@ -110,8 +110,8 @@ pub(crate) fn run_ring<G: Gas + Send, H: Gate + Sync, R: Threads + Wait + Sync>(
     requires rows { feeder.rows ≡ pass.now.lattice.rows }
     ensures { IfOk result (λ run. HasRun G.rules pass.now run) }
 {
-    let stop = AtomicBool::new(false);
-    let flag = &stop;
+    let signals = Signals::new(alloc, pass.plan.stages())?;
+    let signals = &signals;
     let run = thread::scope(
         thread::scope_env(),
         rt,
@@ -122,7 +122,7 @@ pub(crate) fn run_ring<G: Gas + Send, H: Gate + Sync, R: Threads + Wait + Sync>(
             requires channel { feeder.channel ≡ pass.now.lattice.channel }
             requires rows { feeder.rows ≡ pass.now.lattice.rows }
             ensures { IfSome result (λ run. HasRun G.rules pass.entry.now run) }
-        { run_in_scope(scope, rt, alloc, flag, gate, pass, feeder) },
+        { run_in_scope(scope, rt, alloc, signals, gate, pass, feeder) },
     );
     run.ok_or(AllocError)
 }

@@ -4,10 +4,10 @@ ghost use Rattle.gas_pipe.specs.Inner.Links.{AllReady, job_of};
 
 use crate::threads::gate::Gate;
 use crate::threads::job::{Ended, Job};
+use crate::threads::signals::Signals;
 use crate::threads::work::{WorkPromise, start_work};
 use gas_geom::gas::Gas;
 use std::sync::Wait;
-use std::sync::atomic::{AtomicBool, Ordering};
 use std::thread::{PromisedHandle, Scope};
 
 /// A worker's thread.
@@ -18,7 +18,7 @@ pub type Started<'e, G> = PromisedHandle<Option<Ended<G>>, WorkPromise<Job<'e, G
 pub(crate) fn start<'s, 'e: 's, G: Gas + Send + 'e, H: Gate + Sync, R: Wait + Sync>(
     scope: &'s Scope<'s, &'e ()>,
     rt: &'e R,
-    stop: &'e AtomicBool,
+    signals: &'e Signals,
     gate: &'e H,
     jobs: Vec<Job<'e, G>>,
     handles: Vec<Started<'e, G>>,
@@ -31,12 +31,12 @@ pub(crate) fn start<'s, 'e: 's, G: Gas + Send + 'e, H: Gate + Sync, R: Wait + Sy
 {
     let mut handles = handles;
     for job in jobs {
-        let Some(handle) = start_work(scope, rt, stop, gate, job) else {
-            stop.store(true, Ordering::SeqCst);
+        let Some(handle) = start_work(scope, rt, signals, gate, job) else {
+            signals.stop();
             return (handles, false);
         };
         let Ok(()) = handles.push(handle) else {
-            stop.store(true, Ordering::SeqCst);
+            signals.stop();
             return (handles, false);
         };
     }

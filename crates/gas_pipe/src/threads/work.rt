@@ -2,9 +2,9 @@
 ghost use Rattle.std.specs.Prelude.{◌≡◌, IfSome};
 
 use crate::threads::gate::Gate;
+use crate::threads::signals::Signals;
 use std::snapshot::Snapshot;
 use std::sync::Wait;
-use std::sync::atomic::AtomicBool;
 use std::thread::{Promise, PromisedHandle, Scope};
 
 /// Work for a thread that gives an `E`, or None where it stops early.
@@ -15,7 +15,7 @@ pub trait Work<E> {
     /// What it gives, if it does not stop early.
     ghost kept: { Self → E → Type 0 };
 
-    fn do_work<H: Gate, R: Wait>(self, rt: &R, stop: &AtomicBool, gate: &H) -> Option<E>
+    fn do_work<H: Gate, R: Wait>(self, rt: &R, signals: &Signals, gate: &H) -> Option<E>
         requires { fresh self }
         ensures { IfSome result (λ e. kept self e) };
 }
@@ -39,7 +39,7 @@ pub(crate) fn start_work<
 >(
     scope: &'s Scope<'s, &'e ()>,
     rt: &'e R,
-    stop: &'e AtomicBool,
+    signals: &'e Signals,
     gate: &'e H,
     work: W,
 ) -> Option<PromisedHandle<Option<E>, WorkPromise<W>>>
@@ -52,7 +52,7 @@ pub(crate) fn start_work<
         move || -> Option<E>
             requires { W.fresh work }
             ensures { IfSome result (λ e. W.kept work e) }
-        { work.do_work(rt, stop, gate) },
+        { work.do_work(rt, signals, gate) },
     );
     started.ok()
 }

@@ -5,7 +5,7 @@ ghost use Rattle.gas_members.specs.Worker.{IsClosed};
 ghost use Rattle.gas_pipe.specs.Inner.Job.{OnePass, owes_until};
 
 use crate::threads::gate::Gate;
-use crate::threads::pause::Pause;
+use crate::threads::signals::{Signals, Watch};
 use gas_belt::rx::Rx;
 use gas_belt::tx::Tx;
 use gas_geom::gas::Gas;
@@ -13,14 +13,14 @@ use gas_members::ends::Turned;
 use gas_members::plan::Plan;
 use gas_members::worker::Worker;
 use std::sync::Wait;
-use std::sync::atomic::{AtomicBool, Ordering};
 
 // Makes one pass of a worker, and says whether it is over. It is not where the worker stopped
 // early: because the flag is raised, or because a row of another width came, and then the worker
 // raises the flag.
 fn make_pass<G: Gas, R: Wait>(
     rt: &R,
-    stop: &AtomicBool,
+    signals: &Signals,
+    who: u32,
     generation: Option<u64>,
     worker: &mut Worker<'_, G>,
     rx: &mut Rx<G>,
@@ -35,20 +35,19 @@ fn make_pass<G: Gas, R: Wait>(
     ensures whole { IsTrue result → OnePass G.rules worker.old generation rx.old.taken tx.old.put rx.new.taken tx.new.put }
 {
     worker.begin(generation);
-    let mut pause = Pause::new();
+    let mut watch = Watch::new(signals, who);
     for _ in rt.forever() {
         match worker.turn(rx, tx) {
             Turned::Done => return true,
             Turned::Idle => {
-                if stop.load(Ordering::SeqCst) {
+                if !watch.wait(rt) {
                     return false;
                 }
-                pause.wait();
             }
-            Turned::Took => pause = Pause::new(),
-            Turned::Put => pause = Pause::new(),
+            Turned::Took => watch.took(),
+            Turned::Put => watch.put(),
             Turned::Stray => {
-                stop.store(true, Ordering::SeqCst);
+                signals.stop();
                 return false;
             }
         }
@@ -60,7 +59,7 @@ fn make_pass<G: Gas, R: Wait>(
 /// are over. It calls the gate before and after each, also where it stops early.
 pub(crate) fn make_passes<G: Gas, H: Gate, R: Wait>(
     rt: &R,
-    stop: &AtomicBool,
+    signals: &Signals,
     gate: &H,
     who: u32,
     plan: Plan,
@@ -81,7 +80,7 @@ pub(crate) fn make_passes<G: Gas, H: Gate, R: Wait>(
 {
     for pass in 0..plan.passes() {
         gate.enter(who);
-        let over = make_pass(rt, stop, plan.generation(pass, who), worker, rx, tx);
+        let over = make_pass(rt, signals, who, plan.generation(pass, who), worker, rx, tx);
         gate.leave(who);
         if !over {
             return false;

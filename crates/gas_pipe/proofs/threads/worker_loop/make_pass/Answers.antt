@@ -1,8 +1,8 @@
 use Rattle.gas_pipe.proofs.Passes.{run_took, run_put, run_rests}
 use Rattle.gas_pipe.proofs.threads.worker_loop.make_pass.Goals as goal
 
-pub loop-preserved-in-Idle : goal.loop-preserved-in-Idle
-loop-preserved-in-Idle g c =
+pub loop-preserved-else-not-wait : goal.loop-preserved-else-not-wait
+loop-preserved-else-not-wait g c =
     let h = c.turn.ensures.idle c.in-Idle.is in
     run_rests g.G.Gas.rules c.args.generation c.args.worker.now c.args.rx.now c.args.tx.now c.loop.worker c.turn.new.self c.loop.rx c.turn.new.take c.loop.tx c.turn.new.put
     c.loop.invariant c.turn.ensures.channel c.turn.ensures.chirality h.0 h.1 h.2
