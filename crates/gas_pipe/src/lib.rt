@@ -1,4 +1,7 @@
-//! Runs of a line by threads.
+//! The line of workers: plans, the members of the line, a pass turn by turn, and runs by threads.
+//! Each has a crate of its own, whose modules are named here.
 #![tactic(auto)]
 
-pub mod threads;
+pub use gas_members::{ends, error, feeder, plain_belt, plan, worker};
+pub use gas_replay::replay;
+pub use gas_threads::threads;

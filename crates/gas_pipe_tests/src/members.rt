@@ -1,12 +1,12 @@
 // The members of the line between belts of one thread, turn by turn.
 use gas_geom::fhp1::Fhp1;
 use gas_geom::size::Size;
-use gas_members::ends::Turned::{Done, Idle, Put, Stray, Took};
-use gas_members::ends::{PutEnd, TakeEnd, Turned};
-use gas_members::feeder::Feeder;
-use gas_members::plain_belt::PlainBelt;
-use gas_members::worker::Worker;
-use gas_members::plan::{Plan, PlanError};
+use gas_pipe::ends::Turned::{Done, Idle, Put, Stray, Took};
+use gas_pipe::ends::{PutEnd, TakeEnd, Turned};
+use gas_pipe::feeder::Feeder;
+use gas_pipe::plain_belt::PlainBelt;
+use gas_pipe::worker::Worker;
+use gas_pipe::plan::{Plan, PlanError};
 use gas_rows::channel::Channel;
 use gas_rows::chirality::Chirality;
 use gas_rows::lattice::Lattice;

@@ -1,10 +1,10 @@
 // Replayed turns of lines over a lattice in which one particle, if any, goes east from column 0.
 use gas_geom::fhp1::Fhp1;
 use gas_geom::size::Size;
-use gas_members::error::RunError;
-use gas_members::plan::Plan;
-use gas_replay::replay::answer::Replay;
-use gas_replay::replay::replay;
+use gas_pipe::error::RunError;
+use gas_pipe::plan::Plan;
+use gas_pipe::replay::answer::Replay;
+use gas_pipe::replay::replay;
 use gas_rows::channel::Channel;
 use gas_rows::chirality::Chirality;
 use gas_rows::lattice::Lattice;

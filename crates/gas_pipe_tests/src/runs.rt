@@ -3,7 +3,7 @@ use gas_geom::fhp1::Fhp1;
 use gas_geom::gas::Gas;
 use gas_geom::hpp::Hpp;
 use gas_geom::size::Size;
-use gas_members::plan::Plan;
+use gas_pipe::plan::Plan;
 use gas_pipe::threads::answer::Run;
 use gas_pipe::threads::gate::{Gate, NoGate};
 use gas_pipe::threads::run;

@@ -5,7 +5,7 @@ use crate::plain::lattice_after;
 use crate::tests::assert_same;
 use gas_geom::fhp1::Fhp1;
 use gas_geom::size::Size;
-use gas_members::plan::Plan;
+use gas_pipe::plan::Plan;
 use gas_pipe::threads::gate::Gate;
 use gas_pipe::threads::run;
 use gas_rows::channel::Channel;

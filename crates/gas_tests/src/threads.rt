@@ -5,7 +5,7 @@ use gas_geom::fhp1::Fhp1;
 use gas_geom::gas::Gas;
 use gas_geom::hpp::Hpp;
 use gas_geom::size::Size;
-use gas_members::plan::Plan;
+use gas_pipe::plan::Plan;
 use gas_pipe::threads::gate::NoGate;
 use gas_pipe::threads::run;
 use gas_rows::chirality::Chirality;

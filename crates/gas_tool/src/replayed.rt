@@ -11,7 +11,7 @@ use crate::faults::WriteFault;
 use crate::output::{Sink, put_line};
 use crate::text::put_cells;
 use gas_geom::gas::Gas;
-use gas_replay::replay::answer::Replay;
+use gas_pipe::replay::answer::Replay;
 use std::io::Write;
 
 // Adds the line that says whether the pass is done.

@@ -1,0 +1,4 @@
+//! Runs of the line by threads.
+#![tactic(auto)]
+
+pub mod threads;

@@ -1,0 +1,78 @@
+//! A worker with its ends, for all passes.
+ghost use Rattle.std.specs.Prelude.{◌≡◌, IfSome};
+ghost use Rattle.gas_threads.specs.Inner.Job.{JobModel, EndedModel, IsReady, Ran};
+
+use crate::threads::gate::Gate;
+use crate::threads::signals::Signals;
+use crate::threads::work::Work;
+use crate::threads::worker_loop::make_passes;
+use gas_belt::rx::Rx;
+use gas_belt::tx::{Spent, Tx};
+use gas_geom::gas::Gas;
+use gas_members::plan::Plan;
+use gas_members::worker::Worker;
+use std::marker::Model;
+use std::sync::Wait;
+
+/// The ends of a worker whose passes are over.
+#[derive(Drop)]
+pub struct Ended<G: Gas> {
+    pub rx: Rx<G>,
+    pub spent: Spent<G>,
+}
+
+impl<G: Gas> Model for Ended<G> {
+    ghost use Rattle.gas_threads.specs.Inner.Job.{EndedModel};
+
+    ghost Value = { EndedModel };
+
+    ghost view = { λ e. record { rx = e.rx; spent = e.spent } };
+}
+
+/// A worker of a plan with the ends that it takes from and puts on. Its number is counted from 1.
+#[derive(Drop)]
+pub struct Job<'a, G: Gas> {
+    pub who: u32,
+    pub plan: Plan,
+    pub worker: Worker<'a, G>,
+    pub rx: Rx<G>,
+    pub tx: Tx<G>,
+}
+
+impl<'a, G: Gas> Model for Job<'a, G> {
+    ghost use Rattle.gas_threads.specs.Inner.Job.{JobModel};
+
+    ghost Value = { JobModel };
+
+    ghost view = { λ j. record {
+      who = j.who;
+      plan = j.plan;
+      worker = j.worker;
+      rx = j.rx;
+      tx = j.tx;
+    } };
+}
+
+impl<'a, G: Gas> Work<Ended<G>> for Job<'a, G> {
+    ghost fresh = { λ j. IsReady j };
+
+    ghost kept = { λ j e. Ran G.rules j e };
+
+    fn do_work<H: Gate, R: Wait>(self, rt: &R, signals: &Signals, gate: &H) -> Option<Ended<G>> {
+        let Job {
+            who,
+            plan,
+            mut worker,
+            mut rx,
+            mut tx,
+        } = self;
+        if make_passes(rt, signals, gate, who, plan, &mut worker, &mut rx, &mut tx) {
+            Some(Ended {
+                rx,
+                spent: tx.close(),
+            })
+        } else {
+            None
+        }
+    }
+}

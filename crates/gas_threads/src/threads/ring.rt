@@ -1,0 +1,128 @@
+//! The line as a ring: a thread for each worker and the caller's for the feeder, through all passes.
+ghost use Rattle.std.specs.Prelude.{◌≡◌, ◌<◌, ◌*◌, [], length, map, IfOk, IfSome, vec_len};
+ghost use Rattle.gas_line.specs.Pass.{IsPass};
+ghost use Rattle.gas_line.specs.Plan.{passes_of};
+ghost use Rattle.gas_members.specs.Feeder.{HasFed};
+ghost use Rattle.gas_threads.specs.Inner.Links.{HasRun, Linked, job_of, last_belt};
+
+use crate::threads::answer::Run;
+use crate::threads::build::{Ends, build};
+use crate::threads::feeder_loop::feed;
+use crate::threads::gate::Gate;
+use crate::threads::gather::gather;
+use crate::threads::signals::Signals;
+use crate::threads::start::{Started, start};
+use gas_belt::carried::{Carried, meet};
+use gas_belt::rx::Rx;
+use gas_belt::tx::Tx;
+use gas_geom::gas::Gas;
+use gas_members::feeder::Feeder;
+use gas_members::pass::FirstPass;
+use std::alloc::{AllocError, Global};
+use std::sync::Wait;
+use std::thread;
+use std::thread::{Scope, Threads};
+
+// Joins the workers' threads, and lets the two ends of each belt meet. None where a worker stopped
+// early.
+fn settle<G: Gas, R: Threads>(
+    rt: &R,
+    pass: &FirstPass<'_, G>,
+    first: Tx<G>,
+    last: Rx<G>,
+    feeder: Feeder<G>,
+    handles: Vec<Started<'_, G>>,
+    mut belts: Vec<Carried<G>>,
+) -> Option<Run<G>>
+    requires pass { IsPass G.rules pass.now }
+    requires some { 0 < pass.now.plan.generations }
+    requires stages { 0 < pass.now.plan.stages }
+    requires linked { Linked pass.now 0 first.belt (map job_of handles.items) }
+    requires count { vec_len handles ≡ pass.now.plan.stages }
+    requires end { last_belt first.belt (map job_of handles.items) ≡ last.belt }
+    requires none { belts.items ≡ [] }
+    requires closed { feeder.to_take ≡ 0 }
+    requires channel { feeder.channel ≡ pass.now.lattice.channel }
+    requires fed { HasFed feeder (passes_of pass.now.plan.generations pass.now.plan.stages) pass.now.lattice.rows first.put last.taken }
+    ensures { IfSome result (λ run. HasRun G.rules pass.now run) }
+{
+    let spent = gather(rt, pass, first.close(), handles, &mut belts)?;
+    let Ok(carried) = meet(spent, last) else {
+        unreachable!()
+    };
+    let Ok(()) = belts.push(carried) else {
+        return None;
+    };
+    Some(Run::new(feeder.finish(), pass.plan, belts))
+}
+
+// Makes all passes in a scope. None where memory or a start was refused.
+fn run_in_scope<'s, 'e: 's, G: Gas + Send + 'e, H: Gate + Sync, R: Threads + Wait + Sync>(
+    scope: &'s Scope<'s, &'e ()>,
+    rt: &'e R,
+    alloc: Global,
+    signals: &'e Signals,
+    gate: &'e H,
+    pass: &'e FirstPass<'e, G>,
+    mut feeder: Feeder<G>,
+) -> Option<Run<G>>
+    requires pass { IsPass G.rules pass.now }
+    requires some { 0 < pass.now.plan.generations }
+    requires closed { feeder.to_take ≡ 0 }
+    requires channel { feeder.channel ≡ pass.now.lattice.channel }
+    requires rows { feeder.rows ≡ pass.now.lattice.rows }
+    ensures { IfSome result (λ run. HasRun G.rules pass.now run) }
+{
+    let Ends {
+        mut first,
+        jobs,
+        mut last,
+    } = build(alloc, pass).ok()?;
+    let stages = pass.plan.stages() as usize;
+    let belts = Vec::with_capacity(alloc, stages + 1).ok()?;
+    let handles = Vec::with_capacity(alloc, stages).ok()?;
+    feeder.begin_ring(pass.plan.passes());
+    let (handles, all) = start(scope, rt, signals, gate, jobs, handles);
+    if all && feed(rt, signals, &mut feeder, &mut last, &mut first) {
+        return settle(rt, pass, first, last, feeder, handles, belts);
+    }
+    signals.stop();
+    for handle in handles {
+        drop(handle.join(rt));
+    }
+    None
+}
+
+/// Makes all passes of a plan over the rows that the feeder holds: a thread for each worker, and
+/// the feeder on the caller's. Every thread that was started is joined before it answers. The error
+/// is that memory, or the start of a thread, was refused.
+pub(crate) fn run_ring<G: Gas + Send, H: Gate + Sync, R: Threads + Wait + Sync>(
+    rt: &R,
+    alloc: Global,
+    gate: &H,
+    pass: &FirstPass<'_, G>,
+    feeder: Feeder<G>,
+) -> Result<Run<G>, AllocError>
+    requires pass { IsPass G.rules pass.now }
+    requires some { 0 < pass.now.plan.generations }
+    requires closed { feeder.to_take ≡ 0 }
+    requires channel { feeder.channel ≡ pass.now.lattice.channel }
+    requires rows { feeder.rows ≡ pass.now.lattice.rows }
+    ensures { IfOk result (λ run. HasRun G.rules pass.now run) }
+{
+    let signals = Signals::new(alloc, pass.plan.stages())?;
+    let signals = &signals;
+    let run = thread::scope(
+        thread::scope_env(),
+        rt,
+        move |scope| -> Option<Run<G>>
+            requires pass { IsPass G.rules pass.now }
+            requires some { 0 < pass.now.plan.generations }
+            requires closed { feeder.to_take ≡ 0 }
+            requires channel { feeder.channel ≡ pass.now.lattice.channel }
+            requires rows { feeder.rows ≡ pass.now.lattice.rows }
+            ensures { IfSome result (λ run. HasRun G.rules pass.entry.now run) }
+        { run_in_scope(scope, rt, alloc, signals, gate, pass, feeder) },
+    );
+    run.ok_or(AllocError)
+}

@@ -1,0 +1,90 @@
+//! What a worker's thread does.
+ghost use Rattle.std.specs.Prelude.{◌≡◌, ◌≤◌, ◌*◌, [], length, IsTrue};
+ghost use Rattle.gas_line.specs.Plan.{passes_of};
+ghost use Rattle.gas_members.specs.Worker.{IsClosed};
+ghost use Rattle.gas_threads.specs.Inner.Job.{OnePass, owes_until};
+
+use crate::threads::gate::Gate;
+use crate::threads::signals::{Signals, Watch};
+use gas_belt::rx::Rx;
+use gas_belt::tx::Tx;
+use gas_geom::gas::Gas;
+use gas_members::ends::Turned;
+use gas_members::plan::Plan;
+use gas_members::worker::Worker;
+use std::sync::Wait;
+
+// Makes one pass of a worker, and says whether it is over. It is not where the worker stopped
+// early: because the flag is raised, or because a row of another width came, and then the worker
+// raises the flag.
+fn make_pass<G: Gas, R: Wait>(
+    rt: &R,
+    signals: &Signals,
+    who: u32,
+    generation: Option<u64>,
+    worker: &mut Worker<'_, G>,
+    rx: &mut Rx<G>,
+    tx: &mut Tx<G>,
+) -> bool
+    requires closed { IsClosed worker.old }
+    ensures rx { rx.new.belt ≡ rx.old.belt }
+    ensures tx { tx.new.belt ≡ tx.old.belt }
+    ensures channel { worker.new.stage.channel ≡ worker.old.stage.channel }
+    ensures chirality { worker.new.stage.chirality ≡ worker.old.stage.chirality }
+    ensures closed { IsTrue result → IsClosed worker.new }
+    ensures whole { IsTrue result → OnePass G.rules worker.old generation rx.old.taken tx.old.put rx.new.taken tx.new.put }
+{
+    worker.begin(generation);
+    let mut watch = Watch::new(signals, who);
+    for _ in rt.forever() {
+        match worker.turn(rx, tx) {
+            Turned::Done => return true,
+            Turned::Idle => {
+                if !watch.wait(rt) {
+                    return false;
+                }
+            }
+            Turned::Took => watch.took(),
+            Turned::Put => watch.put(),
+            Turned::Stray => {
+                signals.stop();
+                return false;
+            }
+        }
+    }
+    unreachable!()
+}
+
+/// Makes all passes of a plan's worker, counted from 1, between fresh ends, and says whether all
+/// are over. It calls the gate before and after each, also where it stops early.
+pub(crate) fn make_passes<G: Gas, H: Gate, R: Wait>(
+    rt: &R,
+    signals: &Signals,
+    gate: &H,
+    who: u32,
+    plan: Plan,
+    worker: &mut Worker<'_, G>,
+    rx: &mut Rx<G>,
+    tx: &mut Tx<G>,
+) -> bool
+    requires some { 1 ≤ who }
+    requires one_of { who ≤ plan.stages }
+    requires closed { IsClosed worker.old }
+    requires nothing_taken { rx.old.taken ≡ [] }
+    requires nothing_put { tx.old.put ≡ [] }
+    ensures rx { rx.new.belt ≡ rx.old.belt }
+    ensures tx { tx.new.belt ≡ tx.old.belt }
+    ensures whole { IsTrue result → length rx.new.taken ≡ passes_of plan.generations plan.stages * worker.old.stage.channel.height }
+    ensures owes { IsTrue result → tx.new.put
+        ≡ owes_until G.rules worker.old plan who (passes_of plan.generations plan.stages) rx.new.taken }
+{
+    for pass in 0..plan.passes() {
+        gate.enter(who);
+        let over = make_pass(rt, signals, who, plan.generation(pass, who), worker, rx, tx);
+        gate.leave(who);
+        if !over {
+            return false;
+        }
+    }
+    true
+}
