@@ -2,7 +2,7 @@
 #![tactic(auto)]
 
 ghost use Rattle.std.specs.Prelude.{IfOk};
-ghost use Rattle.gas_tool.specs.Requests.{IsAllowed};
+ghost use Rattle.gas_words.specs.Requests.{IsAllowed};
 
 use gas_pipe::threads::gate::NoGate;
 use gas_tool::faults::{InputFault, ToolError, UsageFault};

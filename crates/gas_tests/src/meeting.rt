@@ -1,5 +1,5 @@
 // A gate in which the workers of a run wait for one another: that they run at the same time.
-ghost use Rattle.gas_tool.specs.Requests.{IsAllowed};
+ghost use Rattle.gas_words.specs.Requests.{IsAllowed};
 
 use crate::plain::lattice_after;
 use crate::tests::assert_same;

@@ -1,14 +1,4 @@
 pub mod Status
-pub mod Input
-pub mod Output
-pub mod Sink
-pub mod Text
-pub mod Blocks
-pub mod Tally
-pub mod Table
 pub mod Replayed
-pub mod Words
-pub mod Requests
-pub mod Kinds
 pub mod Outcome
 pub mod View

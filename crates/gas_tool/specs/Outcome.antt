@@ -15,14 +15,14 @@ use Rattle.gas_replay.specs.Replay.{replay_of}
 use Rattle.gas_members.specs.declared.error.RunError.{RunError}
 use Rattle.gas_members.specs.declared.error.RunError.TheVariants as run
 use Rattle.gas_members.specs.declared.plan.PlanError.{PlanError}
-use Rattle.gas_tool.specs.Text.{cells_text, check_text}
-use Rattle.gas_tool.specs.Blocks.{blocks_of}
-use Rattle.gas_tool.specs.Table.{table_text}
+use Rattle.gas_text.specs.Text.{cells_text, check_text}
+use Rattle.gas_blocks.specs.Blocks.{blocks_of}
+use Rattle.gas_text.specs.Table.{table_text}
 use Rattle.gas_tool.specs.Replayed.{replay_text}
 use Rattle.gas_tool.specs.declared.faults.ToolError.{ToolError}
 use Rattle.gas_tool.specs.declared.faults.ToolError.TheVariants.{Memory, Scene, Plan, Write, MorePasses}
-use Rattle.gas_tool.specs.declared.request.Request.{Request}
-use Rattle.gas_tool.specs.declared.request.Request.TheVariants.{Check, Run, Coarse, Replay}
+use Rattle.gas_words.specs.declared.request.Request.{Request}
+use Rattle.gas_words.specs.declared.request.Request.TheVariants.{Check, Run, Coarse, Replay}
 
 -- the text of a lattice's cells at a generation
 abbrev pub lattice_text : Rules → LatticeModel → ℕ → List ℕ

@@ -3,9 +3,9 @@
 use Rattle.std.specs.Prelude.{ℕ, ◌≤◌, List, ⊤}
 use Rattle.gas_geom.specs.Gas.{Rules}
 use Rattle.gas_geom.specs.Lattice.{LatticeModel}
-use Rattle.gas_tool.specs.Blocks.{blocks_of}
+use Rattle.gas_blocks.specs.Blocks.{blocks_of}
 use Rattle.gas_tool.specs.Outcome.{lattice_text}
-use Rattle.gas_tool.specs.Table.{table_text}
+use Rattle.gas_text.specs.Table.{table_text}
 use Rattle.gas_tool.specs.declared.perform.View.{View}
 use Rattle.gas_tool.specs.declared.perform.View.TheVariants.{Cells, Blocks}
 

@@ -3,75 +3,21 @@
 ghost use Rattle.std.specs.Prelude.{◌≡◌};
 ghost use Rattle.gas_tool.specs.declared.faults.ToolError.TheVariants.{Memory, Plan, Write};
 ghost use Rattle.gas_tool.specs.Outcome.{run_fault, scene_fault};
-ghost use Rattle.gas_tool.specs.Status.{input_status, tool_status, usage_status};
+ghost use Rattle.gas_tool.specs.Status.{tool_status};
 
 use gas_pipe::error::RunError;
 use gas_pipe::plan::PlanError;
 use gas_scene::error::SceneError;
+pub use gas_text::faults::{InputFault, WriteFault};
+pub use gas_words::faults::UsageFault;
 use std::alloc::AllocError;
 use thiserror::Error;
-
-const MEMORY_REFUSED: &str = "memory refused";
-
-/// Why an input was not read. Its `Display` text is the line that the program prints.
-#[derive(Debug, Drop, Error)]
-pub enum InputFault {
-    #[error("{line}", line = MEMORY_REFUSED)]
-    Memory,
-    #[error("input: read failed")]
-    Read,
-    #[error("input: too long")]
-    TooLong,
-}
-
-impl InputFault {
-    /// The program's exit status.
-    pub fn status(&self) -> u8
-        ensures { result ≡ input_status self.now }
-    {
-        match self {
-            InputFault::Memory => 3,
-            InputFault::Read | InputFault::TooLong => 1,
-        }
-    }
-}
-
-/// A writer failed, or took nothing, after the first `written` bytes of a text.
-#[derive(Debug, Drop, Error)]
-#[error("write: failed after {written} bytes")]
-pub struct WriteFault {
-    pub written: u64,
-}
-
-/// Why the words gave no request. `Usage` and `Help` hold the text to print, with its last line feed.
-#[derive(Debug, Drop, Error)]
-pub enum UsageFault {
-    #[error("{line}", line = MEMORY_REFUSED)]
-    Memory,
-    #[error("{0}")]
-    Usage(String),
-    #[error("{0}")]
-    Help(String),
-}
-
-impl UsageFault {
-    /// The program's exit status.
-    pub fn status(&self) -> u8
-        ensures { result ≡ usage_status self.now }
-    {
-        match self {
-            UsageFault::Memory => 3,
-            UsageFault::Usage(_) => 2,
-            UsageFault::Help(_) => 0,
-        }
-    }
-}
 
 /// Why a request was not answered whole. Its `Display` text is the line that the program prints.
 /// `Write` holds the number of bytes that went out before the writer failed.
 #[derive(Debug, Drop, Error)]
 pub enum ToolError {
-    #[error("{line}", line = MEMORY_REFUSED)]
+    #[error("memory refused")]
     Memory,
     #[error("{0}")]
     Scene(SceneError),

@@ -1,15 +1,13 @@
-//! The tool's parts: its command line, its input, its printed texts, and their faults.
+//! The tool: performs a request on the text of a scene. The command line, the input, the blocks and
+//! the printed texts have crates of their own, whose modules are named here too.
 #![tactic(auto)]
 
-pub mod blocks;
 pub mod faults;
-pub mod input;
-mod output;
 pub mod perform;
 mod replayed;
-pub mod request;
-pub mod table;
 #[cfg(test)]
 mod tests;
-pub mod text;
-pub mod words;
+
+pub use gas_blocks::blocks;
+pub use gas_text::{input, table, text};
+pub use gas_words::{request, words};

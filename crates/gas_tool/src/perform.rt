@@ -4,7 +4,7 @@ ghost use Rattle.std.specs.Prelude.{◌≡◌, Ok};
 ghost use Rattle.gas_geom.specs.Lattice.{count};
 ghost use Rattle.gas_stage.specs.Evolution.{lattice_after};
 ghost use Rattle.gas_tool.specs.Outcome.{Performs, gas_outcome, outcome, replay_outcome};
-ghost use Rattle.gas_tool.specs.Requests.{IsAllowed};
+ghost use Rattle.gas_words.specs.Requests.{IsAllowed};
 ghost use Rattle.gas_tool.specs.View.{HasSomeCells, view_text};
 
 use crate::blocks::coarse;

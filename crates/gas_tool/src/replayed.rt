@@ -2,16 +2,16 @@
 
 ghost use Rattle.std.specs.Prelude.{◌≡◌, ◌<◌, length, IsTrue, ◌↔◌, IsSome, Option};
 ghost use Rattle.gas_geom.specs.Lattice.{LatticeModel};
-ghost use Rattle.gas_tool.specs.Output.{Writes};
-ghost use Rattle.gas_tool.specs.Sink.{Adds};
-ghost use Rattle.gas_tool.specs.Text.{texts_below};
+ghost use Rattle.gas_text.specs.Output.{Writes};
+ghost use Rattle.gas_text.specs.Sink.{Adds};
+ghost use Rattle.gas_text.specs.Text.{texts_below};
 ghost use Rattle.gas_tool.specs.Replayed.{belt_line, done_line, end_text, line_of_belt, replay_text};
 
-use crate::faults::WriteFault;
-use crate::output::{Sink, put_line};
-use crate::text::put_cells;
 use gas_geom::gas::Gas;
 use gas_pipe::replay::answer::Replay;
+use gas_text::faults::WriteFault;
+use gas_text::output::{Sink, put_line};
+use gas_text::text::put_cells;
 use std::io::Write;
 
 // Adds the line that says whether the pass is done.

@@ -1,6 +1,6 @@
 //! Scenes, words, input and whole requests.
 
-ghost use Rattle.gas_tool.specs.Requests.{IsAllowed};
+ghost use Rattle.gas_words.specs.Requests.{IsAllowed};
 
 use crate::line::Register;
 use crate::outcome::Outcome;

@@ -9,8 +9,8 @@ use gas_rows::lattice::Lattice;
 use gas_scene::any_lattice::AnyLattice;
 use gas_scene::scene::read;
 use gas_stage::advance::lattice_after;
-use gas_tool::input::slurp;
-use gas_tool::text::write_cells;
+use gas_text::input::slurp;
+use gas_text::text::write_cells;
 use std::env;
 use std::process::ExitCode;
 

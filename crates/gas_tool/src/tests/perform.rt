@@ -1,8 +1,8 @@
 //! Whole requests, from the text of a scene to what is written.
 
-ghost use Rattle.gas_tool.specs.Requests.{IsAllowed};
+ghost use Rattle.gas_words.specs.Requests.{IsAllowed};
 
-use super::helpers::{ALONG_A_ROW, CELLS, End, Narrow, SCENE, assert_answer};
+use super::helpers::{ALONG_A_ROW, CELLS, Page, SCENE, assert_answer};
 use crate::faults::ToolError;
 use crate::perform::perform;
 use crate::request::{Request, Turns};
@@ -62,12 +62,8 @@ fn assert_cut_short<R: Abort + Threads + Wait + Sync>(
 ) -> Result<(), Fail>
     requires { IsAllowed request.now }
 {
-    for (room, end, flushes) in [
-        (0, End::Error, 0),
-        (10, End::Zero, 0),
-        (answer.len(), End::Flush, 1),
-    ] {
-        let mut out = Narrow::new(alloc, 7, room, end);
+    for (room, flushes) in [(0, 0), (10, 0), (answer.len(), 1)] {
+        let mut out = Page::new(alloc, room);
         let fault = perform(rt, alloc, scene, request, &NoGate, &mut out);
         assert!(rt;
             matches!(fault, Err(ToolError::Write(written)) if written == room as u64),
@@ -89,7 +85,7 @@ fn assert_refused<R: Abort + Threads + Wait + Sync>(
 ) -> Result<(), Fail>
     requires { IsAllowed request.now }
 {
-    let mut out = Narrow::wide(alloc);
+    let mut out = Page::wide(alloc);
     let Err(fault) = perform(rt, alloc, scene, request, &NoGate, &mut out) else {
         panic!(rt; "{line}")
     };

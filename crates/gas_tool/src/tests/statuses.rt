@@ -1,59 +1,9 @@
 //! The line that each fault prints, and the program's exit status at it.
 
-use crate::faults::{InputFault, ToolError, UsageFault, WriteFault};
+use crate::faults::ToolError;
 use gas_pipe::plan::PlanError;
 use gas_scene::error::SceneError;
-use std::alloc::Global;
-use std::error::Error;
-use std::process::Abort;
 use std::test::Fail;
-
-fn assert_line<E: Error>(
-    rt: &impl Abort,
-    alloc: Global,
-    fault: &E,
-    line: &str,
-) -> Result<(), Fail> {
-    assert_eq!(rt; format!(in alloc; "{fault}")?.as_str(), line);
-    Ok(())
-}
-
-#[test]
-fn of_input(rt: HostRuntime) -> Result<(), Fail> {
-    let table = [
-        (InputFault::Memory, "memory refused", 3),
-        (InputFault::Read, "input: read failed", 1),
-        (InputFault::TooLong, "input: too long", 1),
-    ];
-    for (fault, line, status) in &table {
-        assert_line(&rt, rt.alloc(), fault, line)?;
-        assert_eq!(rt; fault.status(), *status, "{line}");
-    }
-    Ok(())
-}
-
-#[test]
-fn of_words(rt: HostRuntime) -> Result<(), Fail> {
-    let alloc = rt.alloc();
-    let table = [
-        (UsageFault::Memory, "memory refused", 3),
-        (
-            UsageFault::Usage(String::from_str(alloc, "usage\n")?),
-            "usage\n",
-            2,
-        ),
-        (
-            UsageFault::Help(String::from_str(alloc, "help\n")?),
-            "help\n",
-            0,
-        ),
-    ];
-    for (fault, line, status) in &table {
-        assert_line(&rt, alloc, fault, line)?;
-        assert_eq!(rt; fault.status(), *status, "{line}");
-    }
-    Ok(())
-}
 
 #[test]
 fn of_requests(rt: HostRuntime) -> Result<(), Fail> {
@@ -119,18 +69,8 @@ fn of_requests(rt: HostRuntime) -> Result<(), Fail> {
         (ToolError::Write(10), "write: failed after 10 bytes", 4),
     ];
     for (fault, line, status) in &table {
-        assert_line(&rt, rt.alloc(), fault, line)?;
+        assert_eq!(rt; format!(in rt.alloc(); "{fault}")?.as_str(), *line);
         assert_eq!(rt; fault.status(), *status, "{line}");
     }
     Ok(())
-}
-
-#[test]
-fn of_a_writer(rt: HostRuntime) -> Result<(), Fail> {
-    assert_line(
-        &rt,
-        rt.alloc(),
-        &WriteFault { written: 10 },
-        "write: failed after 10 bytes",
-    )
 }

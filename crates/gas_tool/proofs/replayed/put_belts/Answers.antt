@@ -1,5 +1,5 @@
 use Rattle.gas_tool.specs.Replayed.{line_of_belt}
-use Rattle.gas_tool.proofs.Sinks.{Adds-next}
+use Rattle.gas_text.proofs.Sinks.{Adds-next}
 use Rattle.gas_tool.proofs.replayed.put_belts.Goals as goal
 
 pub loop-belt-preserved : goal.loop-belt-preserved

@@ -1,4 +1,4 @@
-use Rattle.gas_tool.proofs.Sinks.{Adds-then}
+use Rattle.gas_text.proofs.Sinks.{Adds-then}
 use Rattle.gas_tool.proofs.replayed.write_replay.Goals as goal
 
 pub returns : goal.returns

@@ -1,0 +1,4 @@
+pub mod Counts
+pub mod Particles
+pub mod Ranges
+pub mod Tallies

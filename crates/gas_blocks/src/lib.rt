@@ -1,0 +1,6 @@
+//! A lattice seen coarsely: density and momentum by blocks of cells.
+#![tactic(auto)]
+
+pub mod blocks;
+#[cfg(test)]
+mod tests;

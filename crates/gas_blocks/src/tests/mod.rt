@@ -1,0 +1,3 @@
+//! Tests of what no clause says.
+
+mod blocks;

@@ -1,0 +1,10 @@
+//! The bytes that come in and the texts that go out.
+#![tactic(auto)]
+
+pub mod faults;
+pub mod input;
+pub mod output;
+pub mod table;
+#[cfg(test)]
+mod tests;
+pub mod text;

@@ -1,0 +1,4 @@
+pub mod Status
+pub mod Words
+pub mod Requests
+pub mod Kinds

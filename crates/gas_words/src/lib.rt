@@ -1,0 +1,8 @@
+//! The command line: its words, and the request that they make.
+#![tactic(auto)]
+
+pub mod faults;
+pub mod request;
+#[cfg(test)]
+mod tests;
+pub mod words;

@@ -1,0 +1,4 @@
+//! Tests of what no clause says.
+
+mod statuses;
+mod words;
