@@ -167,34 +167,34 @@ part-of cells from end b le within (inr lt) = get_or-take (end - from) (drop fro
 part-of cells from end b le within (inl e) =
     ap (λ xs. get_or xs b false) (take_all (end - from) (drop from cells) (omega (arith, length-drop from cells))) ∙ get_or-drop from cells b false
 
--- a word more whose halves are two words of 32 cells
-pub join-more : (words halves : List ℕ) (j v : ℕ) → j < length words →
-    ((b : ℕ) → b < 64 → holds v b ≡ (if nat_lt b 32 then holds (get_or halves (2 * j) 0) b else holds (get_or halves (2 * j + 1) 0) (b - 32))) →
-    ((x : ℕ) → x / 64 < j → bit words x ≡ holds (get_or halves (x / 32) 0) (x % 32)) →
-    (x : ℕ) → x / 64 < j + 1 → bit (set words j v) x ≡ holds (get_or halves (x / 32) 0) (x % 32)
-join-more words halves j v within put before x h =
+-- a word more whose halves are two words of 32 cells, of which the second may lie past the width
+pub join-more : (words : List ℕ) (half : ℕ → ℕ) (width j low high v : ℕ) → j < length words →
+    low ≡ half (2 * j) → (64 * j + 32 < width → high ≡ half (2 * j + 1)) →
+    ((b : ℕ) → b < 64 → holds v b ≡ (if nat_lt b 32 then holds low b else holds high (b - 32))) →
+    ((x : ℕ) → x / 64 < j → x < width → bit words x ≡ holds (half (x / 32)) (x % 32)) →
+    (x : ℕ) → x / 64 < j + 1 → x < width → bit (set words j v) x ≡ holds (half (x / 32)) (x % 32)
+join-more words half width j low high v within first second put before x h lt =
     ⊎_elim
-    (λ (e : x / 64 ≡ j). bit-set_here words j v x within e ∙ put (x % 64) (omega arith) ∙ half e)
-    (λ (ne : x / 64 ≢ j). bit-set_there words j v x within ne ∙ before x (omega arith))
+    (λ (e : x / 64 ≡ j). bit-set_here words j v x within e ∙ put (x % 64) (omega arith) ∙ joined e)
+    (λ (ne : x / 64 ≢ j). bit-set_there words j v x within ne ∙ before x (omega arith) lt)
     (cases_eq (x / 64) j)
   where
-    half : x / 64 ≡ j →
-        (if nat_lt (x % 64) 32 then holds (get_or halves (2 * j) 0) (x % 64) else holds (get_or halves (2 * j + 1) 0) (x % 64 - 32))
-        ≡ holds (get_or halves (x / 32) 0) (x % 32)
-    half e =
+    joined : x / 64 ≡ j →
+        (if nat_lt (x % 64) 32 then holds low (x % 64) else holds high (x % 64 - 32)) ≡ holds (half (x / 32)) (x % 32)
+    joined e =
         ⊎_elim
-        (λ (low : x % 64 < 32).
+        (λ (less : x % 64 < 32).
         let is : nat_lt (x % 64) 32 ≡ true = grind (arith, nat_tests) in
         let place : 2 * j ≡ x / 32 = omega arith in
         let inner : x % 64 ≡ x % 32 = omega arith in
-        ap (λ t. if t then holds (get_or halves (2 * j) 0) (x % 64) else holds (get_or halves (2 * j + 1) 0) (x % 64 - 32)) is
-        ∙ ap₂ (λ k b. holds (get_or halves k 0) b) place inner)
-        (λ (high : 32 ≤ x % 64).
+        ap (λ t. if t then holds low (x % 64) else holds high (x % 64 - 32)) is
+        ∙ ap₂ holds (first ∙ ap half place) inner)
+        (λ (more : 32 ≤ x % 64).
         let is : nat_lt (x % 64) 32 ≡ false = grind (arith, nat_tests) in
         let place : 2 * j + 1 ≡ x / 32 = omega arith in
         let inner : x % 64 - 32 ≡ x % 32 = omega arith in
-        ap (λ t. if t then holds (get_or halves (2 * j) 0) (x % 64) else holds (get_or halves (2 * j + 1) 0) (x % 64 - 32)) is
-        ∙ ap₂ (λ k b. holds (get_or halves k 0) b) place inner)
+        ap (λ t. if t then holds low (x % 64) else holds high (x % 64 - 32)) is
+        ∙ ap₂ holds (second (omega arith) ∙ ap half place) inner)
         (cases_lt (x % 64) 32)
 
 -- ---- masks
@@ -339,13 +339,3 @@ map-same f g n same =
 pub replicate-map : (f : ℕ → Bool) (n : ℕ) (value : Bool) → ((x : ℕ) → f x ≡ value) → replicate n value ≡ map f (range_with_len 0 n)
 replicate-map f n value same =
     fill_by_all f (replicate n value) n false (length-replicate n value) (λ x h. get_or-replicate n x value false h ∙ sym (same x))
-
--- cells that are read from words of 32 cells, of which those in front are known
-pub map-halves : (halves rest : List ℕ) (f : ℕ → ℕ) (n : ℕ) → ((i : ℕ) → i < length halves → get_or halves i 0 ≡ f i) →
-    n ≤ 32 * length halves →
-    map (λ x. holds (get_or (halves ++ rest) (x / 32) 0) (x % 32)) (range_with_len 0 n) ≡ map (λ x. holds (f (x / 32)) (x % 32)) (range_with_len 0 n)
-map-halves halves rest f n known few =
-    map-same (λ x. holds (get_or (halves ++ rest) (x / 32) 0) (x % 32)) (λ x. holds (f (x / 32)) (x % 32)) n
-    (λ x h.
-    let lt : x / 32 < length halves = omega arith in
-    ap (λ w. holds w (x % 32)) (get_or_append_left halves rest 0 (x / 32) lt ∙ known (x / 32) lt))

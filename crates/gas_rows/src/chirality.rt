@@ -1,10 +1,12 @@
-ghost use Rattle.std.specs.Prelude.{◌≡◌, ◌<◌, ◌≤◌, ℕ, length, map, slice_index_or, false};
+ghost use Rattle.std.specs.Prelude.{◌≡◌, ◌<◌, ◌≤◌, ◌+◌, ◌*◌, ℕ, length, map};
 ghost use Rattle.std.specs.List.{range_with_len};
+ghost use Rattle.rand_chacha.specs.ChaCha.{key_of};
+ghost use Rattle.gas_rows.specs.Key.{key_bytes};
 ghost use Rattle.gas_rows.specs.Chirality.{chirality_bit};
 
-use crate::key::key_words;
+use crate::key::{generator_of, seek};
 use crate::mask::Mask;
-use gas_geom::size::MOST_SIDE;
+use rand_chacha::ChaCha20Rng;
 
 /// Where the random bits of the collisions come from: one bit for each generation and cell.
 #[derive(Clone, Copy, Debug, PartialEq, Eq)]
@@ -17,9 +19,6 @@ pub enum Chirality {
     Right,
 }
 
-/// The most words of 32 bits that a row takes.
-const MOST_WORDS: usize = MOST_SIDE as usize / 32;
-
 /// Writes the random bits of row `y` of a channel of that width in the step from a generation.
 pub fn chi_row(chirality: Chirality, generation: u64, y: u32, width: u32, out: &mut Mask)
     requires { length out.old ≡ width }
@@ -27,21 +26,25 @@ pub fn chi_row(chirality: Chirality, generation: u64, y: u32, width: u32, out: &
     ensures bits { out.new ≡ map (λ x. chirality_bit chirality width generation x y) (range_with_len 0 width) }
 {
     match chirality {
-        Chirality::Seeded(seed) => seeded_row(seed, generation, y, width, out),
+        Chirality::Seeded(seed) => seeded_row(&mut generator_of(seed), generation, y, out),
         Chirality::Left => out.fill(true),
         Chirality::Right => out.fill(false),
     }
 }
 
-// The bits of the key stream, from the least of the row's first word.
-fn seeded_row(seed: u64, generation: u64, y: u32, width: u32, out: &mut Mask)
-    requires { length out.old ≡ width }
-    ensures wide { length out.new ≡ width }
-    ensures bits { out.new ≡ map (λ x. chirality_bit (Chirality.Seeded seed) width generation x y) (range_with_len 0 width) }
+/// Writes the bits of the key stream of row `y`, from the least of the row's first word. A generator
+/// that wrote the row before reads on.
+pub(crate) fn seeded_row(generator: &mut ChaCha20Rng, generation: u64, y: u32, out: &mut Mask)
+    ensures wide { length out.new ≡ length out.old }
+    ensures key { generator.new.key ≡ generator.old.key }
+    ensures bits { (seed : ℕ) → generator.old.key ≡ key_of (key_bytes seed) →
+        out.new ≡ map (λ x. chirality_bit (Chirality.Seeded seed) (length out.old) generation x y) (range_with_len 0 (length out.old)) }
 {
-    let mut words = [0u32; MOST_WORDS];
-    let needed = out.width().div_ceil(32);
-    let first = u64::from(y) * u64::from(needed);
-    key_words(seed, generation, first, &mut words[..needed as usize]);
-    out.load_halves(&words);
+    let words_of_row = out.width().div_ceil(32);
+    seek(
+        generator,
+        generation,
+        u64::from(y) * u64::from(words_of_row),
+    );
+    out.draw(generator);
 }

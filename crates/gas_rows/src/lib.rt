@@ -9,6 +9,7 @@ pub mod lattice;
 pub mod mask;
 mod mask_words;
 mod planes;
+pub mod random_bits;
 pub mod row;
 mod shift;
 mod span;

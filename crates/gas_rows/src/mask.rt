@@ -1,12 +1,14 @@
-ghost use Rattle.std.specs.Prelude.{◌≡◌, ◌<◌, ◌≤◌, ◌+◌, ◌-◌, ◌*◌, ◌/◌, ◌%◌, ℕ, Bool, false, List, length, map, replicate, slice_index, slice_index_or, slice_set, count_by, IfOk};
+ghost use Rattle.std.specs.Prelude.{◌≡◌, ◌<◌, ◌≤◌, ◌+◌, ◌-◌, ◌*◌, ◌/◌, ◌%◌, ◌^◌, ℕ, Bool, false, List, length, map, replicate, slice_index, slice_index_or, slice_set, count_by, IfOk};
 ghost use Rattle.std.specs.List.{range_with_len};
 ghost use Rattle.gas_geom.specs.Gas.{holds};
+ghost use Rattle.rand_chacha.specs.ChaCha.{word_at};
 ghost use Rattle.gas_rows.specs.Words.{words_in, bit};
 ghost use Rattle.gas_geom.specs.declared.size.TheConstants.{MOST_SIDE};
 
 use crate::mask_words;
 use crate::span::count_in;
 use crate::word::{has_bit, with_bit, words_for};
+use rand_chacha::ChaCha20Rng;
 use std::alloc::{AllocError, Global};
 use std::marker::Model;
 
@@ -107,12 +109,13 @@ impl Mask {
         mask_words::fill(&mut self.words, self.width, value);
     }
 
-    /// Takes over the bits of these words of 32 cells each, the first cell in the least bit.
-    pub(crate) fn load_halves(&mut self, halves: &[u32])
-        requires { 2 * words_in (length self.old) ≤ length halves.now }
-        ensures { self.new ≡ map (λ x. holds (slice_index halves.now (x / 32)) (x % 32)) (range_with_len 0 (length self.old)) }
+    /// Takes over the next words of a generator, 32 cells each, the first cell in the least bit.
+    pub(crate) fn draw(&mut self, generator: &mut ChaCha20Rng)
+        requires { generator.old.word_pos + 2 * words_in (length self.old) < 2 ^ 68 }
+        ensures key { generator.new.key ≡ generator.old.key }
+        ensures cells { self.new ≡ map (λ x. holds (word_at 10 generator.old.key generator.old.stream (generator.old.word_pos + x / 32)) (x % 32)) (range_with_len 0 (length self.old)) }
     {
-        mask_words::load_halves(halves, &mut self.words, self.width);
+        mask_words::draw(&mut self.words, self.width, generator);
     }
 
     /// The number of cells that are true.

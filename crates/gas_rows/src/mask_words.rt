@@ -1,9 +1,12 @@
 //! The words of a mask: one bit for each cell of a row, and nothing past its width.
-ghost use Rattle.std.specs.Prelude.{◌≡◌, ◌<◌, ◌≤◌, ◌*◌, ◌/◌, ◌%◌, ◌&&◌, ℕ, false, nat_lt, length, slice_index, slice_index_or};
+ghost use Rattle.std.specs.Prelude.{◌≡◌, ◌<◌, ◌≤◌, ◌*◌, ◌/◌, ◌%◌, ◌^◌, ◌+◌, ◌&&◌, ℕ, false, nat_lt, length, slice_index, slice_index_or};
 ghost use Rattle.gas_geom.specs.Gas.{holds};
+ghost use Rattle.rand_chacha.specs.ChaCha.{word_at};
 ghost use Rattle.gas_rows.specs.Words.{words_in, bit};
 
 use crate::word::{joined, packed, uniform, up_to};
+use rand_chacha::ChaCha20Rng;
+use rand_core::utils::NextWord;
 
 // Makes the bits past the width zero.
 fn clear_past(words: &mut [u64], width: u32)
@@ -36,23 +39,37 @@ pub(crate) fn pack(cells: &[bool], words: &mut [u64])
     }
 }
 
-// Writes the words whose halves are these words of 32 cells.
-fn join_halves(halves: &[u32], words: &mut [u64])
-    requires { 2 * length words.old ≤ length halves.now }
-    ensures { (x : ℕ) → x / 64 < length words.old → bit words.new x ≡ holds (slice_index halves.now (x / 32)) (x % 32) }
+// Writes the words whose halves are the next words of a generator, without a high half past the
+// width.
+fn join_halves(words: &mut [u64], width: u32, generator: &mut ChaCha20Rng)
+    requires some_cells { 1 ≤ width }
+    requires long { length words.old ≡ words_in width }
+    requires places { generator.old.word_pos + 2 * length words.old < 2 ^ 68 }
+    ensures key { generator.new.key ≡ generator.old.key }
+    ensures bits { (x : ℕ) → x < width →
+        bit words.new x ≡ holds (word_at 10 generator.old.key generator.old.stream (generator.old.word_pos + x / 32)) (x % 32) }
 {
+    let halves = width.div_ceil(32) as usize;
     for (j, word) in words.iter_mut().enumerate() {
-        *word = joined(halves[2 * j], halves[2 * j + 1]);
+        let low = generator.next_word();
+        let high = if 2 * j + 1 < halves {
+            generator.next_word()
+        } else {
+            0
+        };
+        *word = joined(low, high);
     }
 }
 
-/// Writes the cells of a row from words of 32 cells.
-pub(crate) fn load_halves(halves: &[u32], words: &mut [u64], width: u32)
+/// Writes the cells of a row from the next words of a generator, 32 cells each.
+pub(crate) fn draw(words: &mut [u64], width: u32, generator: &mut ChaCha20Rng)
     requires some_cells { 1 ≤ width }
     requires long { length words.old ≡ words_in width }
-    requires halves { 2 * length words.old ≤ length halves.now }
-    ensures { (x : ℕ) → bit words.new x ≡ (nat_lt x width && holds (slice_index halves.now (x / 32)) (x % 32)) }
+    requires places { generator.old.word_pos + 2 * length words.old < 2 ^ 68 }
+    ensures key { generator.new.key ≡ generator.old.key }
+    ensures bits { (x : ℕ) → bit words.new x
+        ≡ (nat_lt x width && holds (word_at 10 generator.old.key generator.old.stream (generator.old.word_pos + x / 32)) (x % 32)) }
 {
-    join_halves(halves, words);
+    join_halves(words, width, generator);
     clear_past(words, width);
 }

@@ -1,5 +1,5 @@
 //! The words of a row, cell by cell: each direction has `count` words, one after another.
-ghost use Rattle.std.specs.Prelude.{◌≡◌, ◌+◌, ◌*◌, ◌/◌, ◌^◌, ◌<◌, ◌≤◌, ◌==◌, ◌&&◌, ℕ, ◌%◌, not, nat_lt, if◌then◌else◌, length, slice_index};
+ghost use Rattle.std.specs.Prelude.{◌≡◌, ◌≢◌, ◌⊎◌, ◌+◌, ◌*◌, ◌/◌, ◌^◌, ◌<◌, ◌≤◌, ◌==◌, ◌&&◌, ℕ, ◌%◌, not, nat_lt, if◌then◌else◌, length, slice_index};
 ghost use Rattle.gas_geom.specs.Gas.{holds};
 ghost use Rattle.gas_geom.specs.Planes.{ZeroFrom};
 ghost use Rattle.gas_rows.specs.Words.{words_in, bit};
@@ -63,12 +63,55 @@ pub(crate) fn collide<G: Gas>(words: &mut [u64], count: usize, solid: &[u64], ch
         state words.new count G.rules.dirs y
         ≡ (if bit solid.now y then 0 else G.rules.collide (state words.old count G.rules.dirs y) (bit chi.now y)) }
 {
-    let dirs = directions::<G>();
-    for j in 0..count {
-        let planes = gather(words, count, dirs, j);
-        let after = G::collide64(planes, chi[j]);
-        scatter(words, count, dirs, j, after, solid[j]);
+    for k in 0..count / 2 {
+        collide_pair::<G>(words, count, 2 * k, solid, chi);
     }
+    if count % 2 == 1 {
+        collide_word::<G>(words, count, count - 1, solid, chi);
+    }
+}
+
+// Collides the cells of words j and j + 1. It reads both before it writes, so that a compiler can
+// take the two at a time.
+#[inline(always)]
+fn collide_pair<G: Gas>(words: &mut [u64], count: usize, j: usize, solid: &[u64], chi: &[u64])
+    requires few_words { count ≤ 64 }
+    requires long { length words.old ≡ G.rules.dirs * count }
+    requires solid { length solid.now ≡ count }
+    requires chi { length chi.now ≡ count }
+    requires within { j + 1 < count }
+    ensures collided { (y : ℕ) → j ≤ y / 64 → y / 64 < j + 2 →
+        state words.new count G.rules.dirs y
+        ≡ (if bit solid.now y then 0 else G.rules.collide (state words.old count G.rules.dirs y) (bit chi.now y)) }
+    ensures others { (y : ℕ) → y / 64 < count → (y / 64 < j) ⊎ (j + 2 ≤ y / 64) →
+        state words.new count G.rules.dirs y ≡ state words.old count G.rules.dirs y }
+{
+    let dirs = directions::<G>();
+    let planes = gather(words, count, dirs, j);
+    let planes_beside = gather(words, count, dirs, j + 1);
+    let first = G::collide64(planes, chi[j]);
+    let second = G::collide64(planes_beside, chi[j + 1]);
+    scatter_pair(words, count, dirs, j, first, second, solid[j], solid[j + 1]);
+}
+
+// Collides the cells of word j.
+#[inline(always)]
+fn collide_word<G: Gas>(words: &mut [u64], count: usize, j: usize, solid: &[u64], chi: &[u64])
+    requires few_words { count ≤ 64 }
+    requires long { length words.old ≡ G.rules.dirs * count }
+    requires solid { length solid.now ≡ count }
+    requires chi { length chi.now ≡ count }
+    requires within { j < count }
+    ensures collided { (y : ℕ) → y / 64 ≡ j →
+        state words.new count G.rules.dirs y
+        ≡ (if bit solid.now y then 0 else G.rules.collide (state words.old count G.rules.dirs y) (bit chi.now y)) }
+    ensures others { (y : ℕ) → y / 64 < count → y / 64 ≢ j →
+        state words.new count G.rules.dirs y ≡ state words.old count G.rules.dirs y }
+{
+    let dirs = directions::<G>();
+    let planes = gather(words, count, dirs, j);
+    let after = G::collide64(planes, chi[j]);
+    scatter(words, count, dirs, j, after, solid[j]);
 }
 
 /// Empties the solid cells.
@@ -116,6 +159,34 @@ fn scatter(words: &mut [u64], count: usize, dirs: usize, j: usize, planes: [u64;
 {
     for i in 0..dirs {
         words[i * count + j] = without(planes[i], solid);
+    }
+}
+
+// Writes words j and j + 1 of each direction, with nothing at solid cells.
+#[inline(always)]
+fn scatter_pair(
+    words: &mut [u64],
+    count: usize,
+    dirs: usize,
+    j: usize,
+    first: [u64; 8],
+    second: [u64; 8],
+    solid: u64,
+    solid_beside: u64,
+)
+    requires few_words { count ≤ 64 }
+    requires few_dirs { dirs ≤ 8 }
+    requires long { length words.old ≡ dirs * count }
+    requires within { j + 1 < count }
+    ensures { (i y : ℕ) → i < dirs → y / 64 < count →
+        has words.new count i y
+        ≡ (if y / 64 == j then holds (slice_index first i) (y % 64) && not (holds solid (y % 64))
+        else if y / 64 == j + 1 then holds (slice_index second i) (y % 64) && not (holds solid_beside (y % 64))
+        else has words.old count i y) }
+{
+    for i in 0..dirs {
+        words[i * count + j] = without(first[i], solid);
+        words[i * count + (j + 1)] = without(second[i], solid_beside);
     }
 }
 

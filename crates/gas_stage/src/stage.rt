@@ -10,9 +10,9 @@ ghost use Rattle.gas_stage.specs.Stage.{StageModel, Fits, owed, given};
 use crate::stream::stream_row;
 use gas_geom::gas::Gas;
 use gas_rows::channel::Channel;
-use gas_rows::chirality::{Chirality, chi_row};
+use gas_rows::chirality::Chirality;
 use gas_rows::collide::collide_row;
-use gas_rows::mask::Mask;
+use gas_rows::random_bits::RandomBits;
 use gas_rows::row::Row;
 use std::alloc::{AllocError, Global};
 use std::marker::Model;
@@ -58,7 +58,7 @@ pub struct Stage<'a, G: Gas> {
     chirality: Chirality,
     pass: Pass,
     fed: u32,
-    chi: Mask,
+    chi: RandomBits,
     spare: Row<G>,
     before_last: Row<G>,
     last: Option<Row<G>>,
@@ -117,7 +117,7 @@ impl<'a, G: Gas> Stage<'a, G> {
             chirality,
             pass: Pass::Closed,
             fed: 0,
-            chi: Mask::blank(alloc, width)?,
+            chi: RandomBits::new(alloc, width)?,
             spare: Row::blank(alloc, width)?,
             before_last: Row::blank(alloc, width)?,
             last: None,
@@ -161,8 +161,8 @@ impl<'a, G: Gas> Stage<'a, G> {
         let Pass::Computing(generation) = self.pass else {
             return Some(row);
         };
-        chi_row(self.chirality, generation, y, row.width(), &mut self.chi);
-        collide_row(&mut row, self.channel.mask(y), &self.chi);
+        self.chi.draw(self.chirality, generation, y);
+        collide_row(&mut row, self.channel.mask(y), self.chi.mask());
         let Some(last) = self.last.take() else {
             self.last = Some(row);
             return None;

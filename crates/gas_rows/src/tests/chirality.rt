@@ -2,6 +2,7 @@ use super::WIDTHS;
 use crate::chirality::{Chirality, chi_row};
 use crate::key::key_words;
 use crate::mask::Mask;
+use crate::random_bits::RandomBits;
 use std::alloc::Global;
 use std::process::Abort;
 use std::test::Fail;
@@ -74,6 +75,38 @@ fn row_has_one_bit(rt: &impl Abort, alloc: Global, width: u32) -> Result<(), Fai
 fn left_is_1_and_right_is_0_everywhere(rt: HostRuntime) -> Result<(), Fail> {
     for width in WIDTHS {
         row_has_one_bit(&rt, rt.alloc(), width)?;
+    }
+    Ok(())
+}
+
+// Draws row after row under one chirality after another, and compares each with a row drawn alone.
+fn rows_drawn_in_turn(rt: &impl Abort, alloc: Global, width: u32) -> Result<(), Fail> {
+    assert!(rt; 1 <= width && width <= 4096);
+    let mut random = RandomBits::new(alloc, width)?;
+    let mut alone = Mask::blank(alloc, width)?;
+    for chirality in [
+        Chirality::Right,
+        Chirality::Seeded(0),
+        Chirality::Seeded(7),
+        Chirality::Left,
+        Chirality::Seeded(7),
+    ] {
+        for (generation, y) in [(5, 0), (5, 1), (5, 2), (5, 9), (6, 9), (6, 10), (6, 10)] {
+            random.draw(chirality, generation, y);
+            chi_row(chirality, generation, y, width, &mut alone);
+            assert!(rt;
+                random.mask().words() == alone.words(),
+                "row {y} of {width} under {chirality:?}"
+            );
+        }
+    }
+    Ok(())
+}
+
+#[test]
+fn rows_drawn_in_turn_are_those_drawn_alone(rt: HostRuntime) -> Result<(), Fail> {
+    for width in WIDTHS {
+        rows_drawn_in_turn(&rt, rt.alloc(), width)?;
     }
     Ok(())
 }

@@ -1,16 +1,16 @@
-use Rattle.gas_rows.proofs.Collisions.{done-more, rest-more}
+use Rattle.std.proofs.Common.{◌*◌, ◌/◌, inl, inr, if◌then◌else◌, ap, ◌∙◌, arith}
+use Rattle.std.proofs.lemmas.Bool.{cases_lt}
+use Rattle.gas_rows.specs.Words.{bit}
 use Rattle.gas_rows.proofs.planes.collide.Goals as goal
 
-pub loop-j-preserved : goal.loop-j-preserved
-loop-j-preserved g c =
-    let gas = g.G.Gas.rules in
+pub loop-k-preserved : goal.loop-k-preserved
+loop-k-preserved g c =
+    let before = c.loop-k.invariant in
     record {
-      done = done-more gas.collide c.args.words.now c.loop-j.words c.scatter.new.words c.args.count c.loop-j.j gas.dirs
-          c.directions-dirs.result c.gather-planes.result c.collide64-after.result c.args.chi.now c.args.solid.now
-          c.directions-dirs.ensures.value c.gather-planes.ensures.planes c.collide64-after.ensures.cells c.scatter.ensures
-          c.loop-j.invariant.done c.loop-j.invariant.rest;
-      rest = rest-more gas.collide c.args.words.now c.loop-j.words c.scatter.new.words c.args.count c.loop-j.j gas.dirs
-          c.directions-dirs.result c.gather-planes.result c.collide64-after.result c.args.chi.now c.args.solid.now
-          c.directions-dirs.ensures.value c.gather-planes.ensures.planes c.collide64-after.ensures.cells c.scatter.ensures
-          c.loop-j.invariant.done c.loop-j.invariant.rest;
+      done = λ y lt hy. elim (cases_lt (y / 64) (2 * c.loop-k.k)) [
+        | inl low ↦ c.collide_pair.ensures.others y hy (inl low) ∙ before.done y low hy
+        | inr le ↦ c.collide_pair.ensures.collided y le (omega arith)
+            ∙ ap (λ s. if bit c.args.solid.now y then 0 else g.G.Gas.rules.collide s (bit c.args.chi.now y)) (before.rest y le hy)
+      ];
+      rest = λ y le hy. c.collide_pair.ensures.others y hy (inr (omega arith)) ∙ before.rest y (omega arith) hy;
     }

@@ -1,0 +1,40 @@
+use Rattle.std.proofs.Common.{◌≡◌, ◌+◌, ◌/◌, ◌%◌, ℕ, List, length, map, ap, ◌∙◌, sym, subst, arith}
+use Rattle.std.specs.List.{range_with_len}
+use Rattle.std.proofs.lemmas.List.{with_items_is}
+use Rattle.rand_chacha.specs.ChaCha.{word_at}
+use Rattle.gas_geom.specs.Gas.{holds}
+use Rattle.gas_rows.specs.Words.{words_in}
+use Rattle.gas_rows.specs.Mask.{cells, IsMask}
+use Rattle.gas_rows.proofs.Masks.{width_of, IsMask-written, cells-written}
+use Rattle.gas_rows.proofs.mask.Mask.draw.Goals as goal
+
+pub draw-requires-clause-places : goal.draw-requires-clause-places
+draw-requires-clause-places c =
+    let long : length c.deref_mut.result.now ≡ words_in c.self.inside.width =
+    ap (λ (words : List ℕ). length words) c.deref_mut.ensures.value ∙ c.self.invariant.long in
+    let wide : length c.args.self.now ≡ c.self.inside.width = width_of c.self.inside.width c.self.inside.words.items c.args.self.now c.self.view_is in
+    omega (arith, long, wide, c.requires)
+
+pub invariant_of-self : goal.invariant_of-self
+invariant_of-self c =
+    let width = c.self.inside.width in
+    let new = c.draw.new.words in
+    let start = c.args.generator.now in
+    let same = with_items_is c.self.inside.words new (c.draw.auto.words ∙ c.deref_mut.ensures.len) in
+    let long : length new ≡ words_in width =
+    c.draw.auto.words ∙ ap (λ (words : List ℕ). length words) c.deref_mut.ensures.value ∙ c.self.invariant.long in
+    subst (IsMask width) (sym same)
+    (IsMask-written width new (λ x. holds (word_at 10 start.key start.stream (start.word_pos + x / 32)) (x % 32)) c.self.invariant.some_cells c.self.invariant.few_cells long c.draw.ensures.bits)
+
+pub returns-clause-cells : goal.returns-clause-cells
+returns-clause-cells c =
+    let width = c.self.inside.width in
+    let new = c.draw.new.words in
+    let start = c.args.generator.now in
+    let f = λ (x : ℕ). holds (word_at 10 start.key start.stream (start.word_pos + x / 32)) (x % 32) in
+    let same = with_items_is c.self.inside.words new (c.draw.auto.words ∙ c.deref_mut.ensures.len) in
+    let long : length new ≡ words_in width =
+    c.draw.auto.words ∙ ap (λ (words : List ℕ). length words) c.deref_mut.ensures.value ∙ c.self.invariant.long in
+    ap (cells width) same
+    ∙ cells-written width new f c.self.invariant.some_cells c.self.invariant.few_cells long c.draw.ensures.bits
+    ∙ ap (λ n. map f (range_with_len 0 n)) (sym (width_of width c.self.inside.words.items c.args.self.now c.self.view_is))
