@@ -1,10 +1,11 @@
 -- What words say of a row of cells, and masks as the lists of their cells' truth values.
-use Rattle.std.proofs.Common.{◌≡◌, ◌≢◌, ℕ, ◌+◌, ◌-◌, ◌*◌, ◌/◌, ◌%◌, ◌^◌, ◌<◌, ◌≤◌, Bool, true, false, ◌&&◌, ◌||◌, ◌⊎◌, inl, inr, take, drop, length-drop, if◌then◌else◌, List, ◌++◌, map, length, get_or, set, replicate, refl, sym, ap, ap₂, ◌∙◌, arith, ⊎_elim, eq-eqb, ne_eqb, length-set, get_or-set_same, get_or-set_other}
+use Rattle.std.proofs.Common.{◌≡◌, ◌≢◌, ℕ, ◌+◌, ◌-◌, ◌*◌, ◌/◌, ◌%◌, ◌^◌, ◌<◌, ◌≤◌, Bool, true, false, ◌&&◌, ◌||◌, not, ◌⊎◌, inl, inr, take, drop, length-drop, if◌then◌else◌, List, map, length, get_or, set, replicate, refl, sym, ap, ap₂, ◌∙◌, arith, ⊎_elim, eq-eqb, ne_eqb, length-set, get_or-set_same, get_or-set_other}
 use Rattle.std.specs.Prelude.{◌==◌, nat_lt, nat_le}
-use Rattle.std.specs.List.{range_with_len}
+use Rattle.std.specs.List.{range_with_len, All}
+use Rattle.std.proofs.lemmas.List.Elements.{All-get_or}
 use Rattle.std.proofs.lemmas.Bool.{cases_eq, cases_lt}
 use Rattle.std.proofs.lemmas.Bool.Decides.{nat_tests}
-use Rattle.std.proofs.lemmas.List.{get_or_past, get_or_default, get_or_append_left, get_or-replicate, length-replicate, ext_get_or, get_or-take, get_or-drop, take_all}
+use Rattle.std.proofs.lemmas.List.{get_or_past, get_or_default, get_or-replicate, length-replicate, ext_get_or, get_or-take, get_or-drop, take_all}
 use Rattle.std.proofs.lemmas.List.FromFn.{get_or-map-range_with_len, length-map-range_with_len, fill_by_all}
 use Rattle.gas_geom.specs.Gas.{holds}
 use Rattle.std.specs.Int.Bits.{bit_or}
@@ -207,7 +208,7 @@ unfolding cells
 get_or-cells width words x h = get_or-map-range_with_len (bit words) 0 width x x false h (omega arith)
 
 -- of a mask the words and the cells say the same everywhere
-pub bit-cells : (width : ℕ) (words : List ℕ) → IsMask width words → (x : ℕ) → bit words x ≡ get_or (cells width words) x false
+pub bit-cells : (width : ℕ) (words : List ℕ) {blank : Bool} → IsMask width blank words → (x : ℕ) → bit words x ≡ get_or (cells width words) x false
 bit-cells width words mask x =
     ⊎_elim
     (λ (h : x < width). sym (get_or-cells width words x h))
@@ -217,7 +218,7 @@ bit-cells width words mask x =
 pub width_of : (width : ℕ) (words : List ℕ) (xs : List Bool) → cells width words ≡ xs → length xs ≡ width
 width_of width words xs e = ap length (sym e) ∙ length-cells width words
 
-pub word-within : (width : ℕ) (words : List ℕ) (xs : List Bool) → IsMask width words → cells width words ≡ xs →
+pub word-within : (width : ℕ) (words : List ℕ) (xs : List Bool) {blank : Bool} → IsMask width blank words → cells width words ≡ xs →
     (x : ℕ) → x < length xs → x / 64 < length words
 word-within width words xs mask e x h = omega (arith, mask.long, width_of width words xs e)
 
@@ -228,12 +229,13 @@ cells-from width words xs long each =
     ext_get_or false (cells width words) xs (length-cells width words ∙ sym long)
     (λ x h. let lt : x < width = omega (arith, length-cells width words) in get_or-cells width words x lt ∙ each x lt)
 
-pub IsMask-blank : (width : ℕ) → 1 ≤ width → width ≤ 4096 → IsMask width (replicate (words_in width) 0)
+pub IsMask-blank : (width : ℕ) → 1 ≤ width → width ≤ 4096 → IsMask width true (replicate (words_in width) 0)
 IsMask-blank width some few = record {
   some_cells = some;
   few_cells = few;
   long = length-replicate (words_in width) 0;
   clear = λ x h. bit-zeros (words_in width) x;
+  none = λ e x. bit-zeros (words_in width) x;
 }
 
 pub cells-blank : (width : ℕ) → cells width (replicate (words_in width) 0) ≡ replicate width false
@@ -242,7 +244,7 @@ cells-blank width =
     (λ x h. bit-zeros (words_in width) x ∙ sym (get_or-replicate width x false false h))
 
 -- one cell was changed
-module _ (width : ℕ) (words : List ℕ) (x v : ℕ) (value : Bool) (mask : IsMask width words) (within : x < width)
+module _ (width : ℕ) (words : List ℕ) (x v : ℕ) (value : Bool) {blank : Bool} (mask : IsMask width blank words) (within : x < width)
     (put : (i : ℕ) → i < 64 → holds v i ≡ (if i == x % 64 then value else holds (get_or words (x / 64) 0) i)) where
   in_range : x / 64 < length words
   in_range = omega (arith, mask.long)
@@ -262,8 +264,21 @@ module _ (width : ℕ) (words : List ℕ) (x v : ℕ) (value : Bool) (mask : IsM
       (λ (far : y / 64 ≢ x / 64). bit-set_there words (x / 64) v y in_range far)
       (cases_eq (y / 64) (x / 64))
 
-  pub IsMask-set : IsMask width (set words (x / 64) v)
+  both : (b c : Bool) → (b && not c) ≡ true → (b ≡ true) × (c ≡ false)
+  both true false e = (refl, refl)
+  both true true e = cc
+  both false c e = cc
+
+  none_set : (blank && not value) ≡ true → (y : ℕ) → bit (set words (x / 64) v) y ≡ false
+  none_set e y =
+      ⊎_elim
+      (λ (here : y ≡ x). ap (bit (set words (x / 64) v)) here ∙ same ∙ (both blank value e).1)
+      (λ (ne : y ≢ x). other y ne ∙ mask.none (both blank value e).0 y)
+      (cases_eq y x)
+
+  pub IsMask-set : IsMask width (blank && not value) (set words (x / 64) v)
   IsMask-set = record {
+    none = none_set;
     some_cells = mask.some_cells;
     few_cells = mask.few_cells;
     long = length-set words (x / 64) v ∙ mask.long;
@@ -284,13 +299,14 @@ module _ (width : ℕ) (words : List ℕ) (x v : ℕ) (value : Bool) (mask : IsM
       (cases_eq y x))
 
 -- all words were written, and the last one was cut at the width
-module _ (width : ℕ) (words : List ℕ) (f : ℕ → Bool) (some : 1 ≤ width) (few : width ≤ 4096) (long : length words ≡ words_in width)
+module _ (width : ℕ) (words : List ℕ) (f : ℕ → Bool) (blank : Bool) (some : 1 ≤ width) (few : width ≤ 4096) (long : length words ≡ words_in width)
     (each : (x : ℕ) → bit words x ≡ (nat_lt x width && f x)) where
   inside : (x : ℕ) → x < width → bit words x ≡ f x
   inside x h = let is : nat_lt x width ≡ true = grind (arith, nat_tests) in each x ∙ ap (λ t. t && f x) is
 
-  pub IsMask-written : IsMask width words
-  IsMask-written = record {
+  pub IsMask-written : (blank ≡ true → (x : ℕ) → bit words x ≡ false) → IsMask width blank words
+  IsMask-written none = record {
+    none = none;
     some_cells = some;
     few_cells = few;
     long = long;
@@ -339,3 +355,12 @@ map-same f g n same =
 pub replicate-map : (f : ℕ → Bool) (n : ℕ) (value : Bool) → ((x : ℕ) → f x ≡ value) → replicate n value ≡ map f (range_with_len 0 n)
 replicate-map f n value same =
     fill_by_all f (replicate n value) n false (length-replicate n value) (λ x h. get_or-replicate n x value false h ∙ sym (same x))
+
+-- where all words are zero, no bit is set
+pub bit-all_zero : (words : List ℕ) → All (λ w. w ≡ 0) words → (x : ℕ) → bit words x ≡ false
+bit-all_zero words zero x =
+    ⊎_elim
+    (λ (h : x / 64 < length words).
+    bit-is words x ∙ ap (λ w. holds w (x % 64)) (All-get_or (λ w. w ≡ 0) words (x / 64) 0 h zero) ∙ holds-zero (x % 64))
+    (λ (h : length words ≤ x / 64). bit-past words x h)
+    (cases_lt (x / 64) (length words))

@@ -67,7 +67,7 @@ module _ (plane : List ℕ) (width : ℕ) (least : 1 ≤ width) where
       let none : 64 * 0 + width - 1 ≡ width - 1 = omega arith in
       top ∙ sym (bit_at_place plane last ((width - 1) % 64) (omega arith)) ∙ ap (bit plane) (whole ∙ sym (ap (λ k. k % width) none ∙ mod-eq_of_lt (omega arith)))
 
-  before_next : (j : ℕ) → 64 * (j + 1) < width → holds (get_or plane j 0) 63 ≡ bit plane ((64 * (j + 1) + width - 1) % width)
+  pub before_next : (j : ℕ) → 64 * (j + 1) < width → holds (get_or plane j 0) 63 ≡ bit plane ((64 * (j + 1) + width - 1) % width)
   before_next j h =
       let back : 64 * (j + 1) + width - 1 ≡ 64 * j + 63 + width = omega arith in
       sym (bit_at_place plane j 63 (omega arith))

@@ -1,4 +1,4 @@
-ghost use Rattle.std.specs.Prelude.{◌≡◌, ◌<◌, ◌≤◌, ◌+◌, ◌-◌, ◌*◌, ◌/◌, ◌%◌, ◌^◌, ℕ, Bool, false, List, length, map, replicate, slice_index, slice_index_or, slice_set, count_by, IfOk};
+ghost use Rattle.std.specs.Prelude.{◌≡◌, ◌<◌, ◌≤◌, ◌+◌, ◌-◌, ◌*◌, ◌/◌, ◌%◌, ◌^◌, ℕ, Bool, false, List, length, map, replicate, slice_index, slice_index_or, slice_set, count_by, IfOk, IsTrue};
 ghost use Rattle.std.specs.List.{range_with_len};
 ghost use Rattle.gas_geom.specs.Gas.{holds};
 ghost use Rattle.rand_chacha.specs.ChaCha.{word_at};
@@ -17,6 +17,8 @@ use std::marker::Model;
 pub struct Mask {
     width: u32,
     words: Vec<u64>,
+    // Whether it is known that no cell is true.
+    blank: bool,
 }
 
 impl Model for Mask {
@@ -27,7 +29,7 @@ impl Model for Mask {
 
     ghost view = { λ m. cells m.width m.words.items };
 
-    ghost invariant = { λ m. IsMask m.width m.words.items };
+    ghost invariant = { λ m. IsMask m.width m.blank m.words.items };
 }
 
 impl Mask {
@@ -38,7 +40,11 @@ impl Mask {
         ensures { IfOk result (λ m. m ≡ replicate width false) }
     {
         let words = vec![in alloc; 0; words_for(width)]?;
-        Ok(Mask { width, words })
+        Ok(Mask {
+            width,
+            words,
+            blank: true,
+        })
     }
 
     /// An equal mask.
@@ -48,6 +54,7 @@ impl Mask {
         Ok(Mask {
             width: self.width,
             words: self.words.as_slice().to_vec(alloc)?,
+            blank: self.blank,
         })
     }
 
@@ -74,6 +81,15 @@ impl Mask {
     {
         let at = x as usize / 64;
         self.words[at] = with_bit(self.words[at], x % 64, value);
+        self.blank &= !value;
+    }
+
+    /// Whether it is known that no cell is true. It takes no time, and after a change of single cells
+    /// it may say no of a mask in which none is.
+    pub fn is_blank(&self) -> bool
+        ensures { IsTrue result → (x : ℕ) → slice_index_or self.now x false ≡ false }
+    {
+        self.blank
     }
 
     /// The values of the cells `64 * j` to `64 * j + 63`, the first in the least bit; bits past the
@@ -100,6 +116,7 @@ impl Mask {
         ensures { self.new ≡ cells.now }
     {
         mask_words::pack(cells, &mut self.words);
+        self.blank = mask_words::are_zero(&self.words);
     }
 
     /// Gives all cells one value.
@@ -107,6 +124,7 @@ impl Mask {
         ensures { self.new ≡ replicate (length self.old) value }
     {
         mask_words::fill(&mut self.words, self.width, value);
+        self.blank = !value;
     }
 
     /// Takes over the next words of a generator, 32 cells each, the first cell in the least bit.
@@ -116,6 +134,7 @@ impl Mask {
         ensures cells { self.new ≡ map (λ x. holds (word_at 10 generator.old.key generator.old.stream (generator.old.word_pos + x / 32)) (x % 32)) (range_with_len 0 (length self.old)) }
     {
         mask_words::draw(&mut self.words, self.width, generator);
+        self.blank = false;
     }
 
     /// The number of cells that are true.

@@ -1,5 +1,6 @@
 //! The words of a mask: one bit for each cell of a row, and nothing past its width.
-ghost use Rattle.std.specs.Prelude.{◌≡◌, ◌<◌, ◌≤◌, ◌*◌, ◌/◌, ◌%◌, ◌^◌, ◌+◌, ◌&&◌, ℕ, false, nat_lt, length, slice_index, slice_index_or};
+ghost use Rattle.std.specs.Prelude.{◌≡◌, ◌<◌, ◌≤◌, ◌*◌, ◌/◌, ◌%◌, ◌^◌, ◌+◌, ◌&&◌, ℕ, IsTrue, false, nat_lt, length, slice_index, slice_index_or};
+ghost use Rattle.std.specs.List.{All};
 ghost use Rattle.gas_geom.specs.Gas.{holds};
 ghost use Rattle.rand_chacha.specs.ChaCha.{word_at};
 ghost use Rattle.gas_rows.specs.Words.{words_in, bit};
@@ -16,6 +17,13 @@ fn clear_past(words: &mut [u64], width: u32)
 {
     let end = words.len() - 1;
     words[end] = up_to(words[end], (width - 1) % 64);
+}
+
+/// Whether all words are zero.
+pub(crate) fn are_zero(words: &[u64]) -> bool
+    ensures { IsTrue result → All (λ w. w ≡ 0) words.now }
+{
+    words.iter().all(|word| *word == 0)
 }
 
 /// Gives all cells of a row one value.

@@ -12,7 +12,7 @@ use crate::mask::Mask;
 use crate::planes::{
     clear_past, collide, directions, empty, gather, load, load_states, read_cell, write_cell,
 };
-use crate::shift::{reflect_part, stream_part};
+use crate::shift::{move_part, reflect_part, stream_part};
 use crate::span::count_in;
 use crate::transpose::states_of;
 use crate::word::{cut, words_for};
@@ -266,6 +266,21 @@ impl<G: Gas> Row<G> {
             own,
             self.width,
         );
+    }
+
+    /// Streams direction `i` into this row where no cell is solid, from the row that its particles
+    /// come from: `along` is the step along the row that leads there, and `from` the words of the
+    /// direction in that row.
+    pub fn move_plane(&mut self, i: u32, along: i32, from: &[u64])
+        requires direction { i < G.rules.dirs }
+        requires from { length from.now ≡ words_in (length self.old) }
+        ensures wide { length self.new ≡ length self.old }
+        ensures states { (x : ℕ) → slice_index self.new x < 2 ^ G.rules.dirs }
+        ensures moved { (m : Move) → along ≡ amount m → (x : ℕ) → x < length self.old →
+            holds (slice_index self.new x) i ≡ bit from.now (column_after (length self.old) x m) }
+        ensures others { (x k : ℕ) → k ≢ i → holds (slice_index self.new x) k ≡ holds (slice_index self.old x) k }
+    {
+        move_part(&mut self.words, i as usize, along, from, self.width);
     }
 
     /// Streams direction `i` into this row where its particles would come from past the wall, which

@@ -168,6 +168,53 @@ pub(crate) fn stream_words<S: Source>(
     out[last] = up_to(streamed(came, turned, back[last], own[last]), top);
 }
 
+// Moves the words of a row before the last one, as `move_words` does, two at a time: both are read
+// before they are written, so that a compiler can take them side by side.
+#[inline(always)]
+fn move_front<S: Source>(from: &[u64], out: &mut [u64], width: u32)
+    requires some_cells { 1 ≤ width }
+    requires few_cells { width ≤ 4096 }
+    requires from { length from.now ≡ words_in width }
+    requires out { length out.old ≡ words_in width }
+    ensures { (x : ℕ) → x < 64 * (words_in width - 1) → bit out.new x ≡ bit from.now (column_after width x S.source) }
+{
+    let last = out.len() - 1;
+    if last == 0 {
+        return;
+    }
+    out[0] = S::moved(to_top(from[last], (width - 1) % 64), from[0], from[1]);
+    for k in 0..(last - 1) / 2 {
+        let j = 2 * k + 1;
+        let first = S::moved(from[j - 1], from[j], from[j + 1]);
+        let second = S::moved(from[j], from[j + 1], from[j + 1 + 1]);
+        out[j] = first;
+        out[j + 1] = second;
+    }
+    if last % 2 == 0 {
+        let j = last - 1;
+        out[j] = S::moved(from[j - 1], from[j], from[j + 1]);
+    }
+}
+
+/// Streams one direction of a row where no cell is solid: `from` holds the direction in the row that
+/// its particles come from. Bits past the width are dropped.
+#[inline(always)]
+pub(crate) fn move_words<S: Source>(from: &[u64], out: &mut [u64], width: u32)
+    requires some_cells { 1 ≤ width }
+    requires few_cells { width ≤ 4096 }
+    requires from { length from.now ≡ words_in width }
+    requires out { length out.old ≡ words_in width }
+    ensures moved { (x : ℕ) → x < width → bit out.new x ≡ bit from.now (column_after width x S.source) }
+    ensures clear { (x : ℕ) → width ≤ x → x < 64 * words_in width → bit out.new x ≡ false }
+{
+    move_front::<S>(from, out, width);
+    let last = out.len() - 1;
+    let top = (width - 1) % 64;
+    let before = before_last(from, width);
+    let came = S::moved(before, continued(from[last], top, from[0]), from[0]);
+    out[last] = up_to(came, top);
+}
+
 /// Streams one direction of a row whose particles would come from past the wall: it sends back
 /// those of the opposite direction, `back`, at the cells that are not solid. Bits past the width
 /// are dropped.
@@ -219,6 +266,25 @@ fn stream_along(
     }
 }
 
+// Streams one direction of a row along the row where no cell is solid, where `along` leads to where
+// its particles come from.
+fn move_along(along: i32, from: &[u64], out: &mut [u64], width: u32)
+    requires some_cells { 1 ≤ width }
+    requires few_cells { width ≤ 4096 }
+    requires from { length from.now ≡ words_in width }
+    requires out { length out.old ≡ words_in width }
+    ensures moved { (m : Move) → along ≡ amount m → (x : ℕ) → x < width → bit out.new x ≡ bit from.now (column_after width x m) }
+    ensures clear { (x : ℕ) → width ≤ x → x < 64 * words_in width → bit out.new x ≡ false }
+{
+    if along < 0 {
+        move_words::<West>(from, out, width);
+    } else if along > 0 {
+        move_words::<East>(from, out, width);
+    } else {
+        move_words::<Here>(from, out, width);
+    }
+}
+
 /// Streams direction `i` of the words of a row.
 #[inline(always)]
 pub(crate) fn stream_part(
@@ -247,6 +313,23 @@ pub(crate) fn stream_part(
     let count = words_for(width);
     let out = &mut words[i * count..i * count + count];
     stream_along(along, from, met, back, own, out, width);
+}
+
+/// Streams direction `i` of the words of a row where no cell is solid.
+#[inline(always)]
+pub(crate) fn move_part(words: &mut [u64], i: usize, along: i32, from: &[u64], width: u32)
+    requires some_cells { 1 ≤ width }
+    requires few_cells { width ≤ 4096 }
+    requires direction { i < 8 }
+    requires within { i * words_in width + words_in width ≤ length words.old }
+    requires from { length from.now ≡ words_in width }
+    ensures moved { (m : Move) → along ≡ amount m → (x : ℕ) → x < width → has words.new (words_in width) i x ≡ bit from.now (column_after width x m) }
+    ensures clear { (x : ℕ) → width ≤ x → x < 64 * words_in width → has words.new (words_in width) i x ≡ false }
+    ensures others { (k x : ℕ) → k ≢ i → x / 64 < words_in width → has words.new (words_in width) k x ≡ has words.old (words_in width) k x }
+{
+    let count = words_for(width);
+    let out = &mut words[i * count..i * count + count];
+    move_along(along, from, out, width);
 }
 
 /// Streams direction `i` of the words of a row whose particles the wall sends back.

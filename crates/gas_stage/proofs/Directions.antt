@@ -82,6 +82,12 @@ row_after-near h y v Back there = (grind (arith, nat_tests), grind (arith, nat_t
 row_after-near h y v Stay there = (grind (arith, nat_tests), grind (arith, nat_tests))
 row_after-near h y v On there = (grind (arith, nat_tests), grind (arith, nat_tests))
 
+pub neighbour-near : (gas : Rules) (w h y d u v : ℕ) → y < h → neighbour_of gas w h 0 y d ≡ Some (u, v) → (y ≤ v + 1) × (v ≤ y + 1) × (v < h)
+neighbour-near gas w h y d u v within there =
+    let parts = neighbour-parts gas w h 0 y d u v there in
+    let near = row_after-near h y v (gas.step d (is_odd y)).1 parts.1 in
+    (near.0, near.1, row_after-lt h y v (gas.step d (is_odd y)).1 within parts.1)
+
 -- all cells of a row have their neighbours in one row
 pub neighbour-same_row : (gas : Rules) (w h x y d u v : ℕ) → neighbour_of gas w h 0 y d ≡ Some (u, v)
     → neighbour_of gas w h x y d ≡ Some (column_after w x (gas.step d (is_odd y)).0, v)

@@ -1,8 +1,9 @@
 //! Streaming: every particle moves along its link, or is sent back where the link ends at a solid
 //! cell or the wall.
-ghost use Rattle.std.specs.Prelude.{◌≡◌, ◌≢◌, ◌+◌, ◌<◌, ◌^◌, ◌↔◌, ℕ, false, List, [], length, slice_index, unwrap_or, IsSome};
+ghost use Rattle.std.specs.Prelude.{◌≡◌, ◌≢◌, ◌+◌, ◌<◌, ◌≤◌, ◌^◌, ◌↔◌, ℕ, false, IsTrue, List, [], length, slice_index, unwrap_or, IsSome};
 ghost use Rattle.std.specs.Option.{option_copied, ForSome};
 ghost use Rattle.gas_geom.specs.Gas.{holds};
+ghost use Rattle.gas_geom.specs.Channel.{is_solid};
 ghost use Rattle.gas_geom.specs.Lattice.{streamed, row_of};
 ghost use Rattle.gas_stage.specs.Streaming.{AreRowsAbout};
 
@@ -35,10 +36,22 @@ fn row_at<'a, G: Gas>(
     }
 }
 
-// Streams one direction of row y.
+// Whether it is known that no cell of row y and of the rows beside it is solid.
+fn is_free(channel: &Channel, y: u32) -> bool
+    requires row { y < channel.now.height }
+    ensures { IsTrue result → (x v : ℕ) → y ≤ v + 1 → v ≤ y + 1 → v < channel.now.height → is_solid channel.now x v ≡ false }
+{
+    let height = channel.size().height();
+    channel.mask(y).is_blank()
+        && (y == 0 || channel.mask(y - 1).is_blank())
+        && (y + 1 == height || channel.mask(y + 1).is_blank())
+}
+
+// Streams one direction of row y, where no cell near it is solid if `free` says so.
 fn stream_direction<G: Gas>(
     channel: &Channel,
     y: u32,
+    free: bool,
     up: Option<&Row<G>>,
     mid: &Row<G>,
     down: Option<&Row<G>>,
@@ -46,6 +59,7 @@ fn stream_direction<G: Gas>(
     out: &mut Row<G>,
 )
     requires row { y < channel.now.height }
+    requires free { IsTrue free → (x v : ℕ) → y ≤ v + 1 → v ≤ y + 1 → v < channel.now.height → is_solid channel.now x v ≡ false }
     requires up_there { IsSome up ↔ (0 < y) }
     requires down_there { IsSome down ↔ (y + 1 < channel.now.height) }
     requires up_wide { ForSome (option_copied up) (λ r. length r ≡ channel.now.width) }
@@ -64,16 +78,19 @@ fn stream_direction<G: Gas>(
 {
     let opposite = G::opposite(i);
     let (along, _) = G::step(opposite, y % 2 == 1);
-    let back = mid.plane(opposite);
-    let own = channel.mask(y).words();
-    match neighbour::<G>(channel.size(), 0, y, opposite) {
-        Some((_, v)) => {
-            let from = row_at(v, y, up, mid, down).plane(i);
-            let met = channel.mask(v).words();
-            out.stream_plane(i, along, from, met, back, own);
-        }
-        None => out.reflect_plane(i, back, own),
+    let Some((_, v)) = neighbour::<G>(channel.size(), 0, y, opposite) else {
+        out.reflect_plane(i, mid.plane(opposite), channel.mask(y).words());
+        return;
+    };
+    let from = row_at(v, y, up, mid, down).plane(i);
+    if free {
+        out.move_plane(i, along, from);
+        return;
     }
+    let back = mid.plane(opposite);
+    let met = channel.mask(v).words();
+    let own = channel.mask(y).words();
+    out.stream_plane(i, along, from, met, back, own);
 }
 
 /// Row `y` after streaming, from the collided rows above it, at it and below it. The first is None
@@ -99,7 +116,8 @@ pub fn stream_row<G: Gas>(
         (unwrap_or (option_copied up.entry) []) mid.now (unwrap_or (option_copied down.entry) []) →
         out.new ≡ row_of channel.now.width (λ x. streamed G.rules channel.now at x y) }
 {
+    let free = is_free(channel, y);
     for i in 0..G::DIRS {
-        stream_direction(channel, y, up, mid, down, i, out);
+        stream_direction(channel, y, free, up, mid, down, i, out);
     }
 }

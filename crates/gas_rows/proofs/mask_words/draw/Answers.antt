@@ -1,4 +1,4 @@
-use Rattle.std.proofs.Common.{◌∙◌, arith}
+use Rattle.std.proofs.Common.{◌∙◌}
 use Rattle.gas_rows.proofs.Masks.{cut-where}
 use Rattle.gas_rows.proofs.mask_words.draw.Goals as goal
 

@@ -1,8 +1,9 @@
 use Rattle.std.proofs.Common.{◌≡◌, ℕ, false, List, length, get_or, ap, ◌∙◌, sym, subst}
+use Rattle.std.specs.List.{All}
 use Rattle.std.proofs.lemmas.List.{with_items_is}
 use Rattle.gas_rows.specs.Words.{words_in}
 use Rattle.gas_rows.specs.Mask.{cells, IsMask}
-use Rattle.gas_rows.proofs.Masks.{width_of, cells-from, IsMask-written, cut-list}
+use Rattle.gas_rows.proofs.Masks.{width_of, cells-from, IsMask-written, cut-list, bit-all_zero}
 use Rattle.gas_rows.proofs.mask.Mask.copy_from.Goals as goal
 
 pub pack-requires : goal.pack-requires
@@ -20,9 +21,10 @@ invariant_of-self c =
     let wide : length cells ≡ width = c.requires ∙ width_of width old c.args.self.now c.self.view_is in
     let long : length new ≡ words_in width =
     c.pack.auto.words ∙ ap (λ (words : List ℕ). length words) c.deref_mut.ensures.value ∙ c.self.invariant.long in
-    subst (IsMask width) (sym same)
-    (IsMask-written width new (λ x. get_or cells x false) c.self.invariant.some_cells c.self.invariant.few_cells long
-    (λ x. c.pack.ensures x ∙ cut-list width cells wide x))
+    subst (IsMask width c.are_zero-self-inside.result) (sym same)
+    (IsMask-written width new (λ x. get_or cells x false) c.are_zero-self-inside.result c.self.invariant.some_cells c.self.invariant.few_cells long
+    (λ x. c.pack.ensures x ∙ cut-list width cells wide x)
+    (λ e. bit-all_zero new (subst (λ (ws : List ℕ). All (λ w. w ≡ 0) ws) (c.deref.ensures.value ∙ same) (c.are_zero-self-inside.ensures e))))
 
 pub returns : goal.returns
 returns c =

@@ -1,4 +1,4 @@
-use Rattle.std.proofs.Common.{◌≡◌, ◌+◌, ◌/◌, ◌%◌, ℕ, List, length, map, ap, ◌∙◌, sym, subst, arith}
+use Rattle.std.proofs.Common.{◌≡◌, ◌+◌, ◌/◌, ◌%◌, ℕ, false, List, length, map, ap, ◌∙◌, sym, subst, arith}
 use Rattle.std.specs.List.{range_with_len}
 use Rattle.std.proofs.lemmas.List.{with_items_is}
 use Rattle.rand_chacha.specs.ChaCha.{word_at}
@@ -23,8 +23,8 @@ invariant_of-self c =
     let same = with_items_is c.self.inside.words new (c.draw.auto.words ∙ c.deref_mut.ensures.len) in
     let long : length new ≡ words_in width =
     c.draw.auto.words ∙ ap (λ (words : List ℕ). length words) c.deref_mut.ensures.value ∙ c.self.invariant.long in
-    subst (IsMask width) (sym same)
-    (IsMask-written width new (λ x. holds (word_at 10 start.key start.stream (start.word_pos + x / 32)) (x % 32)) c.self.invariant.some_cells c.self.invariant.few_cells long c.draw.ensures.bits)
+    subst (IsMask width false) (sym same)
+    (IsMask-written width new (λ x. holds (word_at 10 start.key start.stream (start.word_pos + x / 32)) (x % 32)) false c.self.invariant.some_cells c.self.invariant.few_cells long c.draw.ensures.bits (λ e. cc))
 
 pub returns-clause-cells : goal.returns-clause-cells
 returns-clause-cells c =
@@ -36,5 +36,5 @@ returns-clause-cells c =
     let long : length new ≡ words_in width =
     c.draw.auto.words ∙ ap (λ (words : List ℕ). length words) c.deref_mut.ensures.value ∙ c.self.invariant.long in
     ap (cells width) same
-    ∙ cells-written width new f c.self.invariant.some_cells c.self.invariant.few_cells long c.draw.ensures.bits
+    ∙ cells-written width new f false c.self.invariant.some_cells c.self.invariant.few_cells long c.draw.ensures.bits
     ∙ ap (λ n. map f (range_with_len 0 n)) (sym (width_of width c.self.inside.words.items c.args.self.now c.self.view_is))
