@@ -79,11 +79,30 @@ fn left_is_1_and_right_is_0_everywhere(rt: HostRuntime) -> Result<(), Fail> {
     Ok(())
 }
 
-// Draws row after row under one chirality after another, and compares each with a row drawn alone.
-fn rows_drawn_in_turn(rt: &impl Abort, alloc: Global, width: u32) -> Result<(), Fail> {
+// Draws a row, and compares it with the one that is drawn alone.
+fn row_is_as_alone(
+    rt: &impl Abort,
+    alloc: Global,
+    random: &mut RandomBits,
+    chirality: Chirality,
+    generation: u64,
+    y: u32,
+) -> Result<(), Fail> {
+    random.draw(chirality, generation, y);
+    let width = random.mask().width();
+    let mut alone = Mask::blank(alloc, width)?;
+    chi_row(chirality, generation, y, width, &mut alone);
+    assert!(rt;
+        random.mask().words() == alone.words(),
+        "row {y} of {width} under {chirality:?}"
+    );
+    Ok(())
+}
+
+// Row after row under one chirality after another.
+fn rows_are_as_alone(rt: &impl Abort, alloc: Global, width: u32) -> Result<(), Fail> {
     assert!(rt; 1 <= width && width <= 4096);
     let mut random = RandomBits::new(alloc, width)?;
-    let mut alone = Mask::blank(alloc, width)?;
     for chirality in [
         Chirality::Right,
         Chirality::Seeded(0),
@@ -92,12 +111,7 @@ fn rows_drawn_in_turn(rt: &impl Abort, alloc: Global, width: u32) -> Result<(), 
         Chirality::Seeded(7),
     ] {
         for (generation, y) in [(5, 0), (5, 1), (5, 2), (5, 9), (6, 9), (6, 10), (6, 10)] {
-            random.draw(chirality, generation, y);
-            chi_row(chirality, generation, y, width, &mut alone);
-            assert!(rt;
-                random.mask().words() == alone.words(),
-                "row {y} of {width} under {chirality:?}"
-            );
+            row_is_as_alone(rt, alloc, &mut random, chirality, generation, y)?;
         }
     }
     Ok(())
@@ -106,7 +120,7 @@ fn rows_drawn_in_turn(rt: &impl Abort, alloc: Global, width: u32) -> Result<(), 
 #[test]
 fn rows_drawn_in_turn_are_those_drawn_alone(rt: HostRuntime) -> Result<(), Fail> {
     for width in WIDTHS {
-        rows_drawn_in_turn(&rt, rt.alloc(), width)?;
+        rows_are_as_alone(&rt, rt.alloc(), width)?;
     }
     Ok(())
 }
