@@ -91,6 +91,13 @@ def draw(pool, library, name, words, scene):
     print(f"{name}: {SEEDS} seeds")
 
 
+def as_many(library, name, runs):
+    """Runs of one line for more generations and fewer make as many requests."""
+    seen = {Ended(library, words, scene, {}).seen for words, scene in runs}
+    count(len(seen) == 1, f"{name}: requests {sorted(seen)}")
+    print(f"{name}: {sorted(seen)} requests")
+
+
 def run_within(limit, words, text):
     """Runs the program in an address space of so many bytes."""
     return subprocess.run(
@@ -131,6 +138,10 @@ def main():
             sweep(pool, library, f"{scene} {words}", [PROGRAM, *words.split()], path, b"memory refused\n")
         for scene, words in DRAWN:
             draw(pool, library, f"{scene} {words}", [PROGRAM, *words.split()], TOP / f"scenes/{scene}.toml")
+        drift = TOP / "scenes/drift.toml"
+        words = ["run", "--stages", "2", "--generations"]
+        as_many(library, "5, 50 and 5000 generations", [([PROGRAM, *words, str(many)], drift) for many in (5, 50, 5000)])
+        as_many(library, "run_2 and run_2_long", [([CALLS, call], os.devnull) for call in ("run_2", "run_2_long")])
     limits()
     print(f"{passed} passed, {failed} failed")
     return 1 if failed else 0

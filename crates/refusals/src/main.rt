@@ -16,7 +16,7 @@ use std::process::ExitCode;
 use std::sync::Wait;
 use std::thread::Threads;
 
-const CALLS: [&str; 24] = [
+const CALLS: [&str; 25] = [
     "row_blank",
     "row_copy",
     "mask_blank",
@@ -32,6 +32,7 @@ const CALLS: [&str; 24] = [
     "replay",
     "run_1",
     "run_2",
+    "run_2_long",
     "run_4",
     "read_map",
     "read_area",
@@ -66,6 +67,7 @@ fn made<R: Threads + Wait + Sync>(
         "replay" => line::whole_replay(alloc),
         "run_1" => line::whole_run(threads, alloc, 1, 5),
         "run_2" => line::whole_run(threads, alloc, 2, 5),
+        "run_2_long" => line::whole_run(threads, alloc, 2, 50),
         "run_4" => line::whole_run(threads, alloc, 4, 5),
         "read_map" => requests::scene_of_a_map(alloc),
         "read_area" => requests::scene_of_an_area(alloc),
