@@ -1,5 +1,5 @@
 #!/bin/bash
-# Site updates per second (cells times generations by seconds) of `fhpgas run` with 1, 2 and 4 stages and, beside it, of one
+# Site updates per second (cells times generations by seconds) of `fhpgas run` with 1 to 4 stages and, beside it, of one
 # stage on one thread and of a plain C program on bit planes, all on the same lattice of FHP-I, filled at rate 300. The time that
 # reading and printing take is measured by a run of 0 generations and taken off; of several tries the best counts. All must
 # print the same lattice; the C program knows chirality "left" alone. Then one stage on the other gases, and last what
@@ -56,7 +56,7 @@ if [ "$chirality" = left ]; then
     cmp "$room/wanted" "$room/plain_out" || exit 1
 fi
 tell "one stage, no thread" "$(less "$whole" "$around")"
-for stages in 1 2 4; do
+for stages in 1 2 3 4; do
     whole=$(seconds "$program" run --generations "$generations" --stages $stages --capacity "$capacity") || exit 1
     cmp "$room/out" "$room/wanted" || exit 1
     tell "stages $stages, by threads" "$(less "$whole" "$around")"
@@ -70,7 +70,7 @@ for gas in hpp fhp-rest; do
 done
 
 cp scenes/drift.toml "$room/scene"
-for stages in 1 2 4; do
+for stages in 1 2 3 4; do
     none=$(seconds bash -c "for i in {1..100}; do $program run --generations 0 < $room/scene; done")
     one=$(seconds bash -c "for i in {1..100}; do $program run --generations 1 --stages $stages < $room/scene; done")
     awk -v stages=$stages -v none="$none" -v one="$one" 'BEGIN { printf "starting the line, stages %d: %.0f microseconds\n", stages, (one - none) * 1e4 }'

@@ -8,7 +8,8 @@ use std::time::Duration;
 use std::{hint, thread};
 
 // How often a member looks again at once, and then how often after it has left its processor to
-// others, before it sleeps: on four processors with 3 to 16 workers fewer and more were slower.
+// others, before it sleeps. On four processors, with 1 to 16 workers, runs took longer where it did
+// not yield at all, and where it looked or yielded more.
 const LOOKS: u32 = 16;
 
 const YIELDS: u32 = 32;
