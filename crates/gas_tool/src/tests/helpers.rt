@@ -24,33 +24,38 @@ pub const CELLS: &[u8] = b"generation 1 particles 1\n........\n01......\n.......
 pub const ALONG_A_ROW: &[u8] =
     b"gas = \"fhp1\"\nchirality = \"left\"\nwidth = 7\nheight = 3\nparticles = [[0, 1, 1]]\n";
 
-/// Takes at most seven bytes a write, and `room` bytes in all. Once it is full, a write takes no byte
-/// and a flush fails.
+/// Takes at most seven bytes a write, and `room` bytes in all. Once it is full, a write fails or takes
+/// no byte, and a flush fails.
 #[derive(Drop)]
 pub struct Page {
     pub taken: Vec<u8>,
     pub flushes: usize,
     room: usize,
+    fails: bool,
 }
 
 impl Page {
-    pub fn new(alloc: Global, room: usize) -> Page {
+    pub fn new(alloc: Global, room: usize, fails: bool) -> Page {
         Page {
             taken: Vec::new(alloc),
             flushes: 0,
             room,
+            fails,
         }
     }
 
     /// A page with more room than any text of these tests needs.
     pub fn wide(alloc: Global) -> Page {
-        Page::new(alloc, 1000)
+        Page::new(alloc, 1000, true)
     }
 }
 
 impl Write for Page {
     fn write(&mut self, buf: &[u8]) -> io::Result<usize> {
         let left = self.room.saturating_sub(self.taken.len());
+        if left == 0 && self.fails {
+            return Err(io::Error::from(ErrorKind::BrokenPipe));
+        }
         let count = buf.len().min(7).min(left);
         self.taken.extend_from_slice(&buf[..count])?;
         Ok(count)

@@ -62,8 +62,8 @@ fn assert_cut_short<R: Abort + Threads + Wait + Sync>(
 ) -> Result<(), Fail>
     requires { IsAllowed request.now }
 {
-    for (room, flushes) in [(0, 0), (10, 0), (answer.len(), 1)] {
-        let mut out = Page::new(alloc, room);
+    for (room, fails, flushes) in [(0, true, 0), (10, false, 0), (answer.len(), true, 1)] {
+        let mut out = Page::new(alloc, room, fails);
         let fault = perform(rt, alloc, scene, request, &NoGate, &mut out);
         assert!(rt;
             matches!(fault, Err(ToolError::Write(written)) if written == room as u64),
