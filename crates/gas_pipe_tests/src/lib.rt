@@ -2,6 +2,8 @@
 #![tactic(auto)]
 
 #[cfg(test)]
+mod belts;
+#[cfg(test)]
 mod members;
 #[cfg(test)]
 mod replays;
