@@ -8,11 +8,11 @@ use std::time::Duration;
 use std::{hint, thread};
 
 // How often a member looks again at once, and then how often after it has left its processor to
-// others, before it sleeps. On four processors, with 1 to 16 workers, runs took longer where it did
-// not yield at all, and where it looked or yielded more.
-const LOOKS: u32 = 16;
+// others, before it sleeps. On four processors, with 3, 4 and 16 workers on small lattices, alone and
+// beside other work, fewer of either could make a run many times longer.
+const LOOKS: u32 = 32;
 
-const YIELDS: u32 = 32;
+const YIELDS: u32 = 128;
 
 // Looks after which it sleeps.
 const AWAKE_LOOKS: u32 = LOOKS + YIELDS;
