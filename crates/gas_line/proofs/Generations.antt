@@ -94,10 +94,6 @@ ends_last gas p enough =
     let e : (p.number + 1) * p.plan.stages ≡ p.number * p.plan.stages + p.plan.stages = omega arith in
     ap (at gas p) (min-eq_right (omega (arith, enough, e)))
 
--- belt 0 of a pass before which all generations were computed
-pub ends_at : (gas : Rules) (p : PassModel) → p.plan.generations ≤ p.number * p.plan.stages → rows_on gas p 0 ≡ at gas p p.plan.generations
-ends_at gas p enough = ap (at gas p) (min-eq_right (omega (arith, enough)))
-
 -- a lattice is its channel and its rows
 pub same_lattice : (l : LatticeModel) (c : ChannelModel) (rows : List RowModel) → l.channel ≡ c → l.rows ≡ rows → l ≡ record { channel = c; rows = rows }
 same_lattice l c rows channel is =

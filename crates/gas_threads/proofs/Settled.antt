@@ -2,7 +2,7 @@
 use Rattle.std.proofs.Common.{◌≡◌, ℕ, suc, ◌+◌, ◌-◌, ◌*◌, ◌≤◌, ◌<◌, ◌++◌, List, [], ◌∷◌, length, map, take, drop, refl, ap, sym, subst, ◌∙◌, arith}
 use Rattle.std.specs.List.{range_with_len}
 use Rattle.std.proofs.lemmas.Bool.{ne_eqb}
-use Rattle.std.proofs.lemmas.List.{length-map}
+use Rattle.std.proofs.lemmas.List.{length-map, map-id}
 use Rattle.std.proofs.lemmas.List.FromFn.{length-map-range_with_len}
 use Rattle.gas_geom.specs.Gas.{Rules, IsGas}
 use Rattle.gas_geom.specs.Channel.{ChannelModel}
@@ -32,16 +32,12 @@ map_twice : {A B C : Type 0} (g : B → C) (f : A → B) (xs : List A) → map (
 map_twice g f [] = refl
 map_twice g f (x ∷ xs) = ap (λ l. g (f x) ∷ l) (map_twice g f xs)
 
-map_none : {A : Type 0} (xs : List A) → map (λ x. x) xs ≡ xs
-map_none [] = refl
-map_none (x ∷ xs) = ap (λ l. x ∷ l) (map_none xs)
-
 -- what was put on belts that carried these rows, and what was taken from them
 pub all_put : (rows : List (List RowModel)) → map (λ (b : CarriedModel). b.put) (map whole rows) ≡ rows
-all_put rows = sym (map_twice (λ (b : CarriedModel). b.put) whole rows) ∙ map_none rows
+all_put rows = sym (map_twice (λ (b : CarriedModel). b.put) whole rows) ∙ map-id rows
 
 pub all_taken : (rows : List (List RowModel)) → map (λ (b : CarriedModel). b.taken) (map whole rows) ≡ rows
-all_taken rows = sym (map_twice (λ (b : CarriedModel). b.taken) whole rows) ∙ map_none rows
+all_taken rows = sym (map_twice (λ (b : CarriedModel). b.taken) whole rows) ∙ map-id rows
 
 -- a run with a generation to compute makes a belt more than it has workers
 pub rings_made : (gas : Rules) (p : PassModel) → 0 < p.plan.generations → length (map whole (rings gas p)) ≡ p.plan.stages + 1
