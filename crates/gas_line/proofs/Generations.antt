@@ -16,14 +16,14 @@ use Rattle.gas_line.specs.Pass.{PassModel, IsPass, computes_from, line_of, rows_
 module _ (gas : Rules) (p : PassModel) where
   -- the rows of generation n
   abbrev pub at : ℕ → List RowModel
-  at n = generation gas p.lattice.channel (chirality_bit p.chirality p.lattice.channel.width) 0 p.lattice.rows n
+  at n = generation gas p.lattice.channel (chirality_bit p.chirality p.lattice.channel.width) p.first p.lattice.rows n
 
   abbrev step : ℕ → List RowModel → List RowModel
   step g q = next gas p.lattice.channel (chirality_bit p.chirality p.lattice.channel.width g) q
 
   at_high : length p.lattice.rows ≡ p.lattice.channel.height → (n : ℕ) → length (at n) ≡ p.lattice.channel.height
   at_high high zero = high
-  at_high high (suc n) = length-next gas p.lattice.channel (chirality_bit p.chirality p.lattice.channel.width (0 + n)) (at n)
+  at_high high (suc n) = length-next gas p.lattice.channel (chirality_bit p.chirality p.lattice.channel.width (p.first + n)) (at n)
 
 module _ (gas : Rules) (p : PassModel) (is : IsPass gas p) where
   -- all rows of a lattice go over each belt
@@ -32,24 +32,24 @@ module _ (gas : Rules) (p : PassModel) (is : IsPass gas p) where
 
   pub pass_is_line : IsLine (line_of gas p)
   pass_is_line = record {
-    grows = λ k xs ys h. owed-grows gas p.lattice.channel p.chirality (computes_from p.plan p.number k) xs ys (omega (arith, rows_high 0, h));
-    all = λ k xs h. owed-all gas p.lattice.channel p.chirality (computes_from p.plan p.number k) xs (h ∙ rows_high 0) ∙ sym (rows_high 0);
-    no_more = λ k xs. owed-no_more gas p.lattice.channel p.chirality (computes_from p.plan p.number k) xs;
+    grows = λ k xs ys h. owed-grows gas p.lattice.channel p.chirality (computes_from p.first p.plan p.number k) xs ys (omega (arith, rows_high 0, h));
+    all = λ k xs h. owed-all gas p.lattice.channel p.chirality (computes_from p.first p.plan p.number k) xs (h ∙ rows_high 0) ∙ sym (rows_high 0);
+    no_more = λ k xs. owed-no_more gas p.lattice.channel p.chirality (computes_from p.first p.plan p.number k) xs;
     room = is.room;
   }
 
   -- the generation on belt k is below the last one
-  computing : (k : ℕ) → p.number * p.plan.stages + k < p.plan.generations → computes_from p.plan p.number (suc k) ≡ Some (p.number * p.plan.stages + k)
+  computing : (k : ℕ) → p.number * p.plan.stages + k < p.plan.generations → computes_from p.first p.plan p.number (suc k) ≡ Some (p.first + (p.number * p.plan.stages + k))
   computing k on =
       let e : p.number * p.plan.stages + suc k - 1 ≡ p.number * p.plan.stages + k = omega arith in
-      ap (λ (g : ℕ). if ltb g p.plan.generations then Some g else None) e
-      ∙ ap (λ (b : Bool). if b then Some (p.number * p.plan.stages + k) else None) (lt-ltb (p.number * p.plan.stages + k) p.plan.generations on)
+      ap (λ (n : ℕ). if ltb n p.plan.generations then Some (p.first + n) else None) e
+      ∙ ap (λ (b : Bool). if b then Some (p.first + (p.number * p.plan.stages + k)) else None) (lt-ltb (p.number * p.plan.stages + k) p.plan.generations on)
 
-  passing : (k : ℕ) → p.plan.generations ≤ p.number * p.plan.stages + k → computes_from p.plan p.number (suc k) ≡ None
+  passing : (k : ℕ) → p.plan.generations ≤ p.number * p.plan.stages + k → computes_from p.first p.plan p.number (suc k) ≡ None
   passing k past =
       let e : p.number * p.plan.stages + suc k - 1 ≡ p.number * p.plan.stages + k = omega arith in
-      ap (λ (g : ℕ). if ltb g p.plan.generations then Some g else None) e
-      ∙ ap (λ (b : Bool). if b then Some (p.number * p.plan.stages + k) else None) (le-ltb (p.number * p.plan.stages + k) p.plan.generations past)
+      ap (λ (n : ℕ). if ltb n p.plan.generations then Some (p.first + n) else None) e
+      ∙ ap (λ (b : Bool). if b then Some (p.first + (p.number * p.plan.stages + k)) else None) (le-ltb (p.number * p.plan.stages + k) p.plan.generations past)
 
   -- for all rows of a lattice a worker that computes owes the next lattice
   owed_whole : (g : ℕ) (q : List RowModel) → length q ≡ p.lattice.channel.height → owed gas p.lattice.channel p.chirality (Some g) q ≡ step gas p g q
@@ -57,15 +57,14 @@ module _ (gas : Rules) (p : PassModel) (is : IsPass gas p) where
       ap (λ (b : Bool). if b then step gas p g q else take (length q - 1) (step gas p g q)) (eq-eqb (length q) p.lattice.channel.height e)
 
   -- for all rows of one belt a worker owes those of the next
-  pub owes_next : (k : ℕ) → owed gas p.lattice.channel p.chirality (computes_from p.plan p.number (suc k)) (rows_on gas p k) ≡ rows_on gas p (suc k)
+  pub owes_next : (k : ℕ) → owed gas p.lattice.channel p.chirality (computes_from p.first p.plan p.number (suc k)) (rows_on gas p k) ≡ rows_on gas p (suc k)
   owes_next k =
       let e : p.number * p.plan.stages + suc k ≡ suc (p.number * p.plan.stages + k) = omega arith in
       ⊎_elim
       (λ (on : p.number * p.plan.stages + k < p.plan.generations).
       ap (λ (g : Option ℕ). owed gas p.lattice.channel p.chirality g (rows_on gas p k)) (computing k on)
-      ∙ owed_whole (p.number * p.plan.stages + k) (rows_on gas p k) (rows_high k)
-      ∙ ap (λ (n : ℕ). step gas p (p.number * p.plan.stages + k) (at gas p n)) (min-eq_left (omega (arith, on)))
-      ∙ ap (λ (n : ℕ). step gas p n (at gas p (p.number * p.plan.stages + k))) (let z : p.number * p.plan.stages + k ≡ 0 + (p.number * p.plan.stages + k) = omega arith in z)
+      ∙ owed_whole (p.first + (p.number * p.plan.stages + k)) (rows_on gas p k) (rows_high k)
+      ∙ ap (λ (n : ℕ). step gas p (p.first + (p.number * p.plan.stages + k)) (at gas p n)) (min-eq_left (omega (arith, on)))
       ∙ ap (at gas p) (sym (min-eq_left on))
       ∙ ap (λ (n : ℕ). at gas p (min n p.plan.generations)) (sym e))
       (λ (past : p.plan.generations ≤ p.number * p.plan.stages + k).
@@ -75,7 +74,7 @@ module _ (gas : Rules) (p : PassModel) (is : IsPass gas p) where
 
   pub carries : (k : ℕ) → carried (line_of gas p) k ≡ rows_on gas p k
   carries zero = refl
-  carries (suc k) = ap (owed gas p.lattice.channel p.chirality (computes_from p.plan p.number (suc k))) (carries k) ∙ owes_next k
+  carries (suc k) = ap (owed gas p.lattice.channel p.chirality (computes_from p.first p.plan p.number (suc k))) (carries k) ∙ owes_next k
 
 -- the first pass begins with the lattice, and each further one where the one before it ended
 pub begins_first : (gas : Rules) (p : PassModel) → p.number ≡ 0 → rows_on gas p 0 ≡ p.lattice.rows

@@ -40,7 +40,7 @@ module _ (gas : Rules) (p : PassModel) (is : IsPass gas p) where
       ((n : ℕ) → back (joined (λ i. rows_in gas p i p.plan.stages) n) ≡ joined (λ i. rows_in gas p i p.plan.stages) n) →
       IsRing p.lattice.channel.height p.plan.stages (owes_in gas p) back (rows_in gas p)
   is_ring back front kept = record {
-    whole = λ k n q h. owed-all gas p.lattice.channel p.chirality (computes_from p.plan n (suc k)) q h;
+    whole = λ k n q h. owed-all gas p.lattice.channel p.chirality (computes_from p.first p.plan n (suc k)) q h;
     high = rows_in_high;
     on = λ n k. owes_next gas (record p { number = n }) (in_pass n) k;
     again = again;

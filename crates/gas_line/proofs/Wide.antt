@@ -12,7 +12,7 @@ use Rattle.gas_line.proofs.Generations.{pass_is_line, carries}
 
 pub after_is_lattice : (gas : Rules) (p : PassModel) → IsGas gas → IsPass gas p → (n : ℕ) → IsLattice gas p.lattice.channel (rows_on gas p n)
 after_is_lattice gas p laws is n =
-    IsLattice-generation gas laws p.lattice.channel (chirality_bit p.chirality p.lattice.channel.width) 0 p.lattice.rows is.lattice (min (p.number * p.plan.stages + n) p.plan.generations)
+    IsLattice-generation gas laws p.lattice.channel (chirality_bit p.chirality p.lattice.channel.width) p.first p.lattice.rows is.lattice (min (p.number * p.plan.stages + n) p.plan.generations)
 
 row_is_wide : (gas : Rules) (p : PassModel) → IsGas gas → IsPass gas p → (n : ℕ) (xs : List RowModel) (row : RowModel) (ys : List RowModel) → xs ++ row ∷ ys ≡ rows_on gas p n →
     length row ≡ p.lattice.channel.width

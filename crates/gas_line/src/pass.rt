@@ -44,7 +44,7 @@ pub fn pass_at_the_end()
         k ≤ p.plan.stages → (after_turns (line_of gas p) turns start).taken k ≡ rows_on gas p k }
     ensures last { (gas : Rules) (p : PassModel) (turns : List ℕ) → IsPass gas p → is_done (line_of gas p) (after_turns (line_of gas p) turns start) ≡ true →
         p.plan.generations ≤ (p.number + 1) * p.plan.stages →
-        (after_turns (line_of gas p) turns start).taken p.plan.stages ≡ (lattice_after gas p.chirality p.lattice p.plan.generations).rows }
+        (after_turns (line_of gas p) turns start).taken p.plan.stages ≡ (lattice_after gas p.chirality p.first p.lattice p.plan.generations).rows }
     ensures count { (gas : Rules) (p : PassModel) (turns : List ℕ) → IsPass gas p → is_done (line_of gas p) (after_turns (line_of gas p) turns start) ≡ true →
         events (line_of gas p) turns start ≡ 2 * p.lattice.channel.height * (p.plan.stages + 1) }
 {}

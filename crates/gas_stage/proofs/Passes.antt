@@ -1,5 +1,5 @@
 -- A pass over a queue of rows: those that are still to be fed stand in front, those that the stage gave behind.
-use Rattle.std.proofs.Common.{◌≡◌, ℕ, ◌+◌, ◌-◌, ◌<◌, ◌≤◌, Some, Option, List, [], ◌∷◌, ◌++◌, length, take, get_or, ap, ◌∙◌, sym, refl, subst, arith, append_assoc, append-nil, zero-add, add-one, Bool, if◌then◌else◌, eq-eqb}
+use Rattle.std.proofs.Common.{◌≡◌, ℕ, ◌+◌, ◌-◌, ◌<◌, ◌≤◌, Some, Option, List, [], ◌∷◌, ◌++◌, length, take, get_or, ap, ◌∙◌, sym, refl, subst, arith, append_assoc, append-nil, add-one, Bool, if◌then◌else◌, eq-eqb}
 use Rattle.std.specs.Option.{option_to_list}
 use Rattle.std.proofs.lemmas.List.{length-append, length-take}
 use Rattle.gas_geom.specs.Gas.{Rules}
@@ -142,13 +142,12 @@ pass_gives gas old s g all queue queue' gave fed channel chirality high gives pu
         (subst (λ (h : Chirality). owed gas s.channel h (Some g) all ≡ given gas s.channel h (Some g) all ++ option_to_list gave) chirality gives)
 
 -- one generation more
-pub generation_more : (gas : Rules) (c : ChannelModel) (h : Chirality) (s : StageModel) (rows now after : List (List ℕ)) (n : ℕ) →
-    s.channel ≡ c → s.chirality ≡ h → now ≡ generation gas c (chirality_bit h c.width) 0 rows n →
-    after ≡ next gas s.channel (chirality_bit s.chirality s.channel.width n) now →
-    after ≡ generation gas c (chirality_bit h c.width) 0 rows (n + 1)
-generation_more gas c h s rows now after n channel chirality is step =
-    step ∙ ap (λ (ch : ChannelModel). next gas ch (chirality_bit s.chirality ch.width n) now) channel
-    ∙ ap (λ (x : Chirality). next gas c (chirality_bit x c.width n) now) chirality
-    ∙ ap (next gas c (chirality_bit h c.width n)) is
-    ∙ ap (λ k. next gas c (chirality_bit h c.width k) (generation gas c (chirality_bit h c.width) 0 rows n)) (sym (zero-add n))
-    ∙ ap (generation gas c (chirality_bit h c.width) 0 rows) (sym (add-one n))
+pub generation_more : (gas : Rules) (c : ChannelModel) (h : Chirality) (first : ℕ) (s : StageModel) (rows now after : List (List ℕ)) (n : ℕ) →
+    s.channel ≡ c → s.chirality ≡ h → now ≡ generation gas c (chirality_bit h c.width) first rows n →
+    after ≡ next gas s.channel (chirality_bit s.chirality s.channel.width (first + n)) now →
+    after ≡ generation gas c (chirality_bit h c.width) first rows (n + 1)
+generation_more gas c h first s rows now after n channel chirality is step =
+    step ∙ ap (λ (ch : ChannelModel). next gas ch (chirality_bit s.chirality ch.width (first + n)) now) channel
+    ∙ ap (λ (x : Chirality). next gas c (chirality_bit x c.width (first + n)) now) chirality
+    ∙ ap (next gas c (chirality_bit h c.width (first + n))) is
+    ∙ ap (generation gas c (chirality_bit h c.width) first rows) (sym (add-one n))

@@ -5,7 +5,7 @@ use Rattle.gas_geom.specs.Lattice.{LatticeModel, generation}
 use Rattle.gas_rows.specs.Chirality.{chirality_bit}
 use Rattle.gas_rows.specs.declared.chirality.Chirality.{Chirality}
 
--- the lattice n generations after a lattice of generation 0
-abbrev pub lattice_after : Rules → Chirality → LatticeModel → ℕ → LatticeModel
-lattice_after gas chirality lattice n =
-    record lattice { rows = generation gas lattice.channel (chirality_bit chirality lattice.channel.width) 0 lattice.rows n }
+-- the lattice n generations after a lattice of generation `first`
+abbrev pub lattice_after : Rules → Chirality → ℕ → LatticeModel → ℕ → LatticeModel
+lattice_after gas chirality first lattice n =
+    record lattice { rows = generation gas lattice.channel (chirality_bit chirality lattice.channel.width) first lattice.rows n }

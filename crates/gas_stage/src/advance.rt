@@ -1,9 +1,11 @@
 //! Generations of a whole lattice, by one stage on one thread.
-ghost use Rattle.std.specs.Prelude.{◌≡◌, ◌<◌, ◌++◌, None, IsSome, IfOk};
+ghost use Rattle.std.specs.Prelude.{ℕ, ◌≡◌, ◌<◌, ◌++◌, ◌+◌, ◌^◌, None, IsSome, IfOk};
 ghost use Rattle.std.specs.Option.{option_to_list};
 ghost use Rattle.std.specs.VecDeque.{deque_len, deque_capacity};
-ghost use Rattle.gas_geom.specs.Lattice.{IsLattice, next, generation};
+ghost use Rattle.gas_geom.specs.Gas.{Rules};
+ghost use Rattle.gas_geom.specs.Lattice.{LatticeModel, IsLattice, next, generation};
 ghost use Rattle.gas_rows.specs.Chirality.{chirality_bit};
+ghost use Rattle.gas_rows.specs.declared.chirality.Chirality.{Chirality};
 ghost use Rattle.gas_stage.specs.Evolution.{lattice_after};
 
 use crate::stage::Stage;
@@ -15,41 +17,53 @@ use gas_rows::row::Row;
 use std::alloc::{AllocError, Global};
 use std::collections::VecDeque;
 
-/// The lattice some generations after a lattice of generation 0. It takes memory for one copy of
-/// the lattice and for one stage, and none after that.
+/// The lattice some generations after a lattice of generation `first`. It takes memory for one copy
+/// of the lattice and for one stage, and none after that.
 pub fn lattice_after<G: Gas>(
     alloc: Global,
     lattice: &Lattice<G>,
     chirality: Chirality,
+    first: u64,
     generations: u64,
 ) -> Result<Lattice<G>, AllocError>
-    ensures { IfOk result (λ l. l ≡ lattice_after G.rules chirality lattice.now generations) }
+    requires room { first + generations < 2 ^ 64 }
+    ensures { IfOk result (λ l. l ≡ lattice_after G.rules chirality first lattice.now generations) }
 {
     let (channel, rows) = lattice.copy(alloc)?.into_rows();
     let rows = advance(
         alloc,
         &channel,
         chirality,
+        first,
         generations,
         VecDeque::from(rows),
     )?;
     Ok(Lattice::from_rows(channel, Vec::from(rows)))
 }
 
-// The rows some generations after those of generation 0.
+/// Generations add up: the lattice n generations after the one of m generations is that of m + n, where the
+/// later ones begin at the generation that was reached.
+pub fn generations_add_up()
+    ensures { (gas : Rules) (chirality : Chirality) (first : ℕ) (lattice : LatticeModel) (m n : ℕ) →
+        lattice_after gas chirality (first + m) (lattice_after gas chirality first lattice m) n ≡ lattice_after gas chirality first lattice (m + n) }
+{}
+
+// The rows some generations after those of generation `first`.
 fn advance<G: Gas>(
     alloc: Global,
     channel: &Channel,
     chirality: Chirality,
+    first: u64,
     generations: u64,
     mut rows: VecDeque<Row<G>>,
 ) -> Result<VecDeque<Row<G>>, AllocError>
-    requires { IsLattice G.rules channel.now rows.items }
-    ensures { IfOk result (λ r. r.items ≡ generation G.rules channel.now (chirality_bit chirality channel.now.width) 0 rows.items generations) }
+    requires lattice { IsLattice G.rules channel.now rows.items }
+    requires room { first + generations < 2 ^ 64 }
+    ensures { IfOk result (λ r. r.items ≡ generation G.rules channel.now (chirality_bit chirality channel.now.width) first rows.items generations) }
 {
     let mut stage = Stage::new(alloc, channel, chirality)?;
-    for generation in 0..generations {
-        pass(&mut stage, generation, &mut rows);
+    for done in 0..generations {
+        pass(&mut stage, first + done, &mut rows);
     }
     Ok(rows)
 }

@@ -37,7 +37,7 @@ pub record IsRing {A : Type 0} (H N : ℕ) (owe : ℕ → ℕ → List A → Lis
 
 -- what worker k + 1 owes in pass n of p's plan for the rows q
 abbrev pub owes_in : Rules → PassModel → ℕ → ℕ → List RowModel → List RowModel
-owes_in gas p k n q = owed gas p.lattice.channel p.chirality (computes_from p.plan n (suc k)) q
+owes_in gas p k n q = owed gas p.lattice.channel p.chirality (computes_from p.first p.plan n (suc k)) q
 
 -- what belt k carries in pass n of p's plan
 abbrev pub rows_in : Rules → PassModel → ℕ → ℕ → List RowModel

@@ -3,10 +3,10 @@ use Rattle.gas_geom.specs.Lattice.{generation}
 use Rattle.gas_rows.specs.Chirality.{chirality_bit}
 use Rattle.gas_stage.proofs.advance.advance.Given as goal
 
-abbrev pub invariant-loop-generation : goal.invariant-loop-generation
-invariant-loop-generation g l = record {
+abbrev pub invariant-loop-done : goal.invariant-loop-done
+invariant-loop-done g l = record {
   channel : l.stage.channel ≡ l.initial.stage.channel;
   chirality : l.stage.chirality ≡ l.initial.stage.chirality;
   closed : l.stage.pass ≡ None;
-  rows : l.rows.items ≡ generation g.G.Gas.rules l.channel (chirality_bit l.fn.chirality l.channel.width) 0 l.initial.rows.items l.generation;
+  rows : l.rows.items ≡ generation g.G.Gas.rules l.channel (chirality_bit l.fn.chirality l.channel.width) l.fn.first l.initial.rows.items l.done;
 }
