@@ -10,4 +10,5 @@ pub mod pass;
 pub mod plain_belt;
 pub mod plan;
 mod reserve;
+pub mod schedule;
 pub mod worker;

@@ -2,7 +2,6 @@
 
 ghost use Rattle.std.specs.Prelude.{◌≡◌, ◌≤◌, ◌<◌, ◌*◌, IfOk, IfErr, None, Some};
 ghost use Rattle.gas_line.specs.Plan.{passes_of};
-ghost use Rattle.gas_line.specs.Pass.{computes_from};
 ghost use Rattle.gas_members.specs.Plan.{plan_refusal};
 
 use std::marker::Model;
@@ -114,17 +113,5 @@ impl Plan {
         ensures most { result ≤ 1000000 }
     {
         self.generations.div_ceil(u64::from(self.stages))
-    }
-
-    /// The generation that worker `who`, counted from 1, computes the step from in a pass, counted
-    /// from 0, or None where it passes rows on.
-    pub fn generation(self, pass: u64, who: u32) -> Option<u64>
-        requires pass { pass * self.stages < self.generations }
-        requires some { 1 ≤ who }
-        requires one_of { who ≤ self.stages }
-        ensures { result ≡ computes_from self pass who }
-    {
-        let generation = pass * u64::from(self.stages) + u64::from(who - 1);
-        (generation < self.generations).then_some(generation)
     }
 }

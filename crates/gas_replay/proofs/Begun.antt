@@ -12,7 +12,7 @@ use Rattle.gas_replay.proofs.Slots.{at_push}
 
 -- one worker more has begun its pass
 pub begun_more : (gas : Rules) (p : PassModel) (workers : List WorkerModel) (n : ℕ) (w : WorkerModel) (e : Option ℕ) → HaveBegun gas p workers n →
-    w.stage.channel ≡ p.lattice.channel → w.stage.chirality ≡ p.chirality → e ≡ computes_from p.plan p.number (n + 1) → HasDone gas w e [] [] →
+    w.stage.channel ≡ p.lattice.channel → w.stage.chirality ≡ p.chirality → e ≡ computes_from p.first p.plan p.number (n + 1) → HasDone gas w e [] [] →
     HaveBegun gas p (workers ++ w ∷ []) (n + 1)
 begun_more gas p workers n w e begun channel chirality from done = (
   length_push workers w ∙ ap (λ k. k + 1) begun.0,
@@ -20,7 +20,7 @@ begun_more gas p workers n w e begun channel chirality from done = (
       (λ is. subst (λ i. IsAt gas p i w [] []) (sym is) (record {
         channel = channel;
         chirality = chirality;
-        done = subst (λ x. HasDone gas w x [] []) (from ∙ ap (computes_from p.plan p.number) (let more : n + 1 ≡ suc n = omega arith in more)) done;
+        done = subst (λ x. HasDone gas w x [] []) (from ∙ ap (computes_from p.first p.plan p.number) (let more : n + 1 ≡ suc n = omega arith in more)) done;
       }))
       (λ low. begun.1 k d low)),
 )

@@ -75,25 +75,25 @@ one_pass generations stages some few =
     omega arith
 
 -- how the only pass of a plan stands, where it has generations to compute
-pub stands : (gas : Rules) (p : PassModel) (turns : List ℕ) (r : ReplayModel) → p ≡ first_pass p.chirality p.lattice p.plan →
+pub stands : (gas : Rules) (p : PassModel) (turns : List ℕ) (r : ReplayModel) → p ≡ first_pass p.chirality p.first p.lattice p.plan →
     (p.plan.generations ≡ 0 → ⊥) → p.plan.generations ≤ p.plan.stages →
     r.lattice ≡ (if is_done (line_of gas p) (after gas p turns) then Some (record p.lattice { rows = rows_on gas p p.plan.stages }) else None) →
     r.belts ≡ map (counts_of (after gas p turns)) (range_with_len 0 (p.plan.stages + 1)) →
-    r ≡ replay_of gas p.chirality p.lattice p.plan turns
+    r ≡ replay_of gas p.chirality p.first p.lattice p.plan turns
 stands gas p turns r first some enough is_lattice is_belts =
-    let last : rows_on gas p p.plan.stages ≡ (lattice_after gas p.chirality p.lattice p.plan.generations).rows =
+    let last : rows_on gas p p.plan.stages ≡ (lattice_after gas p.chirality p.first p.lattice p.plan.generations).rows =
     ends_last gas p (let more : p.plan.generations ≤ (p.number + 1) * p.plan.stages = omega (arith, enough, suc_times p.number p.plan.stages) in more) in
     rw (ne_eqb p.plan.generations 0 some)
     (ap (λ (l : Option LatticeModel). record { lattice = l; belts = r.belts })
     (is_lattice ∙ ap (λ rows. if is_done (line_of gas p) (after gas p turns) then Some (record p.lattice { rows = rows }) else None) last)
     ∙ ap (λ (b : List Counts). record {
       lattice = if is_done (line_of gas p) (after gas p turns)
-          then Some (lattice_after gas p.chirality p.lattice p.plan.generations) else None;
+          then Some (lattice_after gas p.chirality p.first p.lattice p.plan.generations) else None;
       belts = b;
     }) is_belts
     ∙ ap (λ (q : PassModel). record {
       lattice = if is_done (line_of gas q) (after gas q turns)
-          then Some (lattice_after gas p.chirality p.lattice p.plan.generations) else None;
+          then Some (lattice_after gas p.chirality p.first p.lattice p.plan.generations) else None;
       belts = map (counts_of (after gas q turns)) (range_with_len 0 (p.plan.stages + 1));
     }) first)
   where

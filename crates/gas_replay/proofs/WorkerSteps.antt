@@ -46,7 +46,7 @@ module _ (gas : Rules) (p : PassModel) (f : FeederModel) (ws : List WorkerModel)
   was = subst (λ (u : WorkerModel). IsAt gas p k u (s.taken k) (s.put (suc k))) (is w) (sh.done k w in_line)
 
   abbrev from : Option ℕ
-  from = computes_from p.plan p.number (suc k)
+  from = computes_from p.first p.plan p.number (suc k)
 
   -- what the worker owes is what the line says
   owes_line : (u : WorkerModel) → u.stage.channel ≡ p.lattice.channel → u.stage.chirality ≡ p.chirality → (took : List RowModel) →

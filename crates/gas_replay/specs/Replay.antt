@@ -25,11 +25,11 @@ after gas p turns = after_turns (line_of gas p) turns start
 
 -- Where a pass stands after these turns: how far each of its belts is, and, where it is done, the lattice after all generations.
 -- Without a generation to compute there is no belt, and it is done at once.
-abbrev pub replay_of : Rules → Chirality → LatticeModel → PlanModel → List ℕ → ReplayModel
-replay_of gas chirality lattice plan turns =
-    let p : PassModel = first_pass chirality lattice plan in
+abbrev pub replay_of : Rules → Chirality → ℕ → LatticeModel → PlanModel → List ℕ → ReplayModel
+replay_of gas chirality first lattice plan turns =
+    let p : PassModel = first_pass chirality first lattice plan in
     if eqb plan.generations 0 then record { lattice = Some lattice; belts = [] }
     else record {
-      lattice = if is_done (line_of gas p) (after gas p turns) then Some (lattice_after gas chirality lattice plan.generations) else None;
+      lattice = if is_done (line_of gas p) (after gas p turns) then Some (lattice_after gas chirality first lattice plan.generations) else None;
       belts = map (counts_of (after gas p turns)) (range_with_len 0 (plan.stages + 1));
     }

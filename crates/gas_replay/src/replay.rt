@@ -3,7 +3,7 @@
 pub mod answer;
 mod local_line;
 
-ghost use Rattle.std.specs.Prelude.{◌≡◌, ◌≤◌, ◌<◌, ◌+◌, ◌*◌, ℕ, Err, IfOk, IsSome, ◌↔◌};
+ghost use Rattle.std.specs.Prelude.{◌≡◌, ◌≤◌, ◌<◌, ◌+◌, ◌*◌, ◌^◌, ℕ, Err, IfOk, IsSome, ◌↔◌};
 ghost use Rattle.gas_geom.specs.Lattice.{count};
 ghost use Rattle.gas_stage.specs.Evolution.{lattice_after};
 ghost use Rattle.gas_line.specs.Line.{HasRounds};
@@ -16,25 +16,28 @@ use gas_geom::gas::Gas;
 use gas_members::error::RunError;
 use gas_members::pass::FirstPass;
 use gas_members::plan::Plan;
+use gas_members::schedule::Schedule;
 use gas_rows::chirality::Chirality;
 use gas_rows::lattice::Lattice;
 use std::alloc::Global;
 
-/// One pass over a lattice of generation 0 on one thread, in which each of these numbers lets that
+/// One pass over a lattice of generation `first` on one thread, in which each of these numbers lets that
 /// member make a turn: 0 is the feeder, k is worker k, and a number above the workers' names nobody.
 /// A plan that needs more than one pass is refused.
 pub fn replay<G: Gas>(
     alloc: Global,
     lattice: &Lattice<G>,
     chirality: Chirality,
+    first: u64,
     plan: Plan,
     turns: &[u32],
 ) -> Result<Replay<G>, RunError>
+    requires room { first + plan.generations < 2 ^ 64 }
     ensures more_passes { 1 < passes_of plan.generations plan.stages ↔ result ≡ Err RunError.MorePasses }
-    ensures state { IfOk result (λ r. r ≡ replay_of G.rules chirality lattice.now plan turns.now) }
+    ensures state { IfOk result (λ r. r ≡ replay_of G.rules chirality first lattice.now plan turns.now) }
     ensures done { IfOk result (λ r. HasRounds plan.stages (2 * lattice.now.channel.height * (plan.stages + 1)) turns.now → IsSome r.lattice) }
     ensures number { IfOk result (λ _. (n : ℕ) → n ≤ plan.generations →
-        count G.rules (lattice_after G.rules chirality lattice.now n).rows ≡ count G.rules lattice.now.rows) }
+        count G.rules (lattice_after G.rules chirality first lattice.now n).rows ≡ count G.rules lattice.now.rows) }
 {
     if plan.passes() > 1 {
         return Err(RunError::MorePasses);
@@ -45,7 +48,7 @@ pub fn replay<G: Gas>(
     let pass = FirstPass {
         lattice,
         chirality,
-        plan,
+        schedule: Schedule { first, plan },
     };
     let mut line = LocalLine::new(alloc, &pass)?;
     line.run(turns);

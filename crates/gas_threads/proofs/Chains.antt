@@ -24,13 +24,14 @@ all_ready p k from (j ∷ js) l = (l.0.ready, all_ready p (suc k) j.tx.belt js l
 
 -- the job of the worker behind belt k
 pub takes_next : (p : PassModel) (k : ℕ) (from : Belt) (j : JobModel) → from ≡ j.rx.belt → IsReady j → j.who ≡ k + 1 →
-    j.plan ≡ p.plan → j.worker.stage.channel ≡ p.lattice.channel → j.worker.stage.chirality ≡ p.chirality → Takes p k from j
-takes_next p k from j link ready who plan channel chirality =
+    j.first ≡ p.first → j.plan ≡ p.plan → j.worker.stage.channel ≡ p.lattice.channel → j.worker.stage.chirality ≡ p.chirality → Takes p k from j
+takes_next p k from j link ready who first plan channel chirality =
     let more : k + 1 ≡ suc k = omega arith in
     record {
       link = link;
       ready = ready;
       who = who ∙ more;
+      first = first;
       plan = plan;
       channel = channel;
       chirality = chirality;

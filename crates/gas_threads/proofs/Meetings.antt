@@ -53,10 +53,11 @@ module _ (gas : Rules) (p : PassModel) (is : IsPass gas p) (b : List RowModel) (
     pub puts_next : e.rx.taken ≡ s.put → e.spent.put ≡ on gas p b (suc k)
     puts_next same =
         ran.owes_is
-        ∙ ap (λ (c : ChannelModel). owed_in c.height (λ i. owed gas c j.worker.stage.chirality (computes_from j.plan i j.who)) (passes_of j.plan.generations j.plan.stages) e.rx.taken) takes.channel
-        ∙ ap (λ (h : Chirality). owed_in p.lattice.channel.height (λ i. owed gas p.lattice.channel h (computes_from j.plan i j.who)) (passes_of j.plan.generations j.plan.stages) e.rx.taken) takes.chirality
-        ∙ ap (λ (q : PlanModel). owed_in p.lattice.channel.height (λ i. owed gas p.lattice.channel p.chirality (computes_from q i j.who)) (passes_of q.generations q.stages) e.rx.taken) takes.plan
-        ∙ ap (λ (w : ℕ). owed_in p.lattice.channel.height (λ i. owed gas p.lattice.channel p.chirality (computes_from p.plan i w)) (passes_of p.plan.generations p.plan.stages) e.rx.taken) takes.who
+        ∙ ap (λ (c : ChannelModel). owed_in c.height (λ i. owed gas c j.worker.stage.chirality (computes_from j.first j.plan i j.who)) (passes_of j.plan.generations j.plan.stages) e.rx.taken) takes.channel
+        ∙ ap (λ (h : Chirality). owed_in p.lattice.channel.height (λ i. owed gas p.lattice.channel h (computes_from j.first j.plan i j.who)) (passes_of j.plan.generations j.plan.stages) e.rx.taken) takes.chirality
+        ∙ ap (λ (g : ℕ). owed_in p.lattice.channel.height (λ i. owed gas p.lattice.channel p.chirality (computes_from g j.plan i j.who)) (passes_of j.plan.generations j.plan.stages) e.rx.taken) takes.first
+        ∙ ap (λ (q : PlanModel). owed_in p.lattice.channel.height (λ i. owed gas p.lattice.channel p.chirality (computes_from p.first q i j.who)) (passes_of q.generations q.stages) e.rx.taken) takes.plan
+        ∙ ap (λ (w : ℕ). owed_in p.lattice.channel.height (λ i. owed gas p.lattice.channel p.chirality (computes_from p.first p.plan i w)) (passes_of p.plan.generations p.plan.stages) e.rx.taken) takes.who
         ∙ ap (owed_in p.lattice.channel.height (owes_in gas p k) (passes_of p.plan.generations p.plan.stages)) (same ∙ reached.put_is)
         ∙ sym (on_next p.lattice.channel.height (owes_in gas p) (passes_of p.plan.generations p.plan.stages) b k)
 

@@ -110,20 +110,20 @@ module _ (gas : Rules) (e : Option ℕ) (w0 : WorkerModel) (rx0 : Receiver) (tx0
   }
 
 -- one pass more, of a worker that has made some
-pub one_pass_more : (gas : Rules) (w0 w : WorkerModel) (plan : PlanModel) (who pass : ℕ) (t p t2 p2 : List RowModel) →
-    w.stage.channel ≡ w0.stage.channel → w.stage.chirality ≡ w0.stage.chirality → length t ≡ pass * w0.stage.channel.height → p ≡ owes_until gas w0 plan who pass t →
-    OnePass gas w (computes_from plan pass who) t p t2 p2 →
-    (length t2 ≡ (pass + 1) * w0.stage.channel.height) × (p2 ≡ owes_until gas w0 plan who (pass + 1) t2)
-one_pass_more gas w0 w plan who pass t p t2 p2 channel chirality whole owes one =
+pub one_pass_more : (gas : Rules) (w0 w : WorkerModel) (first : ℕ) (plan : PlanModel) (who pass : ℕ) (t p t2 p2 : List RowModel) →
+    w.stage.channel ≡ w0.stage.channel → w.stage.chirality ≡ w0.stage.chirality → length t ≡ pass * w0.stage.channel.height → p ≡ owes_until gas w0 first plan who pass t →
+    OnePass gas w (computes_from first plan pass who) t p t2 p2 →
+    (length t2 ≡ (pass + 1) * w0.stage.channel.height) × (p2 ≡ owes_until gas w0 first plan who (pass + 1) t2)
+one_pass_more gas w0 w first plan who pass t p t2 p2 channel chirality whole owes one =
     let high : length one.took ≡ w0.stage.channel.height = one.whole ∙ ap (λ (c : ChannelModel). c.height) channel in
-    let owe : ℕ → List RowModel → List RowModel = λ i q. owed gas w0.stage.channel w0.stage.chirality (computes_from plan i who) q in
+    let owe : ℕ → List RowModel → List RowModel = λ i q. owed gas w0.stage.channel w0.stage.chirality (computes_from first plan i who) q in
     let on : suc pass ≡ pass + 1 = omega arith in (
       ap length one.came ∙ length-append t one.took ∙ omega (arith, whole, high, suc-mul pass w0.stage.channel.height, on),
       one.went
-          ∙ ap (λ (c : ChannelModel). p ++ owed gas c w.stage.chirality (computes_from plan pass who) one.took) channel
-          ∙ ap (λ (h : Chirality). p ++ owed gas w0.stage.channel h (computes_from plan pass who) one.took) chirality
+          ∙ ap (λ (c : ChannelModel). p ++ owed gas c w.stage.chirality (computes_from first plan pass who) one.took) channel
+          ∙ ap (λ (h : Chirality). p ++ owed gas w0.stage.channel h (computes_from first plan pass who) one.took) chirality
           ∙ ap (λ (l : List RowModel). l ++ owe pass one.took) owes
           ∙ sym (owed_pass w0.stage.channel.height owe pass t one.took whole high)
-          ∙ ap (λ (l : List RowModel). owes_until gas w0 plan who (suc pass) l) (sym one.came)
-          ∙ ap (λ (n : ℕ). owes_until gas w0 plan who n t2) on,
+          ∙ ap (λ (l : List RowModel). owes_until gas w0 first plan who (suc pass) l) (sym one.came)
+          ∙ ap (λ (n : ℕ). owes_until gas w0 first plan who n t2) on,
     )

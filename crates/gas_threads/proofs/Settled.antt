@@ -139,7 +139,7 @@ module _ (gas : Rules) (laws : IsGas gas) (p : PassModel) (is : IsPass gas p) wh
         before_it n h = omega (arith, h)
 
     -- the feeder holds the rows of the last generation
-    pub rows_are : f.rows ≡ (lattice_after gas p.chirality p.lattice p.plan.generations).rows
+    pub rows_are : f.rows ≡ (lattice_after gas p.chirality p.first p.lattice p.plan.generations).rows
     rows_are =
         fed_holds f passes p.lattice.rows b took fed over
         ∙ ap (λ (h : ℕ). drop (passes * h) (p.lattice.rows ++ emptied f.channel took)) height
@@ -155,6 +155,6 @@ module _ (gas : Rules) (laws : IsGas gas) (p : PassModel) (is : IsPass gas p) wh
             let e : passes ≡ before + 1 = omega (arith, one_more) in
             subst (λ (n : ℕ). p.plan.generations ≤ n * p.plan.stages) e (enough_passes p.plan.generations p.plan.stages some)
 
-    pub lattice_is : (l : LatticeModel) → l.channel ≡ f.channel → l.rows ≡ f.rows → l ≡ lattice_after gas p.chirality p.lattice p.plan.generations
+    pub lattice_is : (l : LatticeModel) → l.channel ≡ f.channel → l.rows ≡ f.rows → l ≡ lattice_after gas p.chirality p.first p.lattice p.plan.generations
     lattice_is l same rows =
-        same_lattice l p.lattice.channel (lattice_after gas p.chirality p.lattice p.plan.generations).rows (same ∙ channel) (rows ∙ rows_are)
+        same_lattice l p.lattice.channel (lattice_after gas p.chirality p.first p.lattice p.plan.generations).rows (same ∙ channel) (rows ∙ rows_are)

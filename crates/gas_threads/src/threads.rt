@@ -12,7 +12,7 @@ mod start;
 mod work;
 mod worker_loop;
 
-ghost use Rattle.std.specs.Prelude.{◌≡◌, ◌+◌, ◌≤◌, ◌<◌, ℕ, [], length, map, IfOk, IfErr};
+ghost use Rattle.std.specs.Prelude.{◌≡◌, ◌+◌, ◌≤◌, ◌<◌, ◌^◌, ℕ, [], length, map, IfOk, IfErr};
 ghost use Rattle.gas_geom.specs.Lattice.{count};
 ghost use Rattle.gas_stage.specs.Evolution.{lattice_after};
 ghost use Rattle.gas_line.specs.Plan.{passes_of};
@@ -26,13 +26,14 @@ use gas_members::error::RunError;
 use gas_members::feeder::Feeder;
 use gas_members::pass::FirstPass;
 use gas_members::plan::Plan;
+use gas_members::schedule::Schedule;
 use gas_rows::chirality::Chirality;
 use gas_rows::lattice::Lattice;
 use std::alloc::Global;
 use std::sync::Wait;
 use std::thread::Threads;
 
-/// Advances a lattice of generation 0 by the generations of a plan. It blocks until all passes are
+/// Advances a lattice of generation `first` by the generations of a plan. It blocks until all passes are
 /// over: it makes the belts, starts a thread for each worker, which calls the gate round each of
 /// its passes, makes the feeder's turns on the caller's thread, and joins all threads. The rows of
 /// a pass follow those of the pass before on the same belts. Each belt carries one list of rows,
@@ -44,15 +45,17 @@ pub fn run<G: Gas + Send, H: Gate + Sync, R: Threads + Wait + Sync>(
     alloc: Global,
     lattice: &Lattice<G>,
     chirality: Chirality,
+    first: u64,
     plan: Plan,
     gate: &H,
 ) -> Result<Run<G>, RunError>
-    ensures put { IfOk result (λ r. map (λ b. b.put) r.belts ≡ rings G.rules (first_pass chirality lattice.now plan)) }
-    ensures taken { IfOk result (λ r. map (λ b. b.taken) r.belts ≡ rings G.rules (first_pass chirality lattice.now plan)) }
+    requires room { first + plan.generations < 2 ^ 64 }
+    ensures put { IfOk result (λ r. map (λ b. b.put) r.belts ≡ rings G.rules (first_pass chirality first lattice.now plan)) }
+    ensures taken { IfOk result (λ r. map (λ b. b.taken) r.belts ≡ rings G.rules (first_pass chirality first lattice.now plan)) }
     ensures belts_made { 0 < plan.generations → IfOk result (λ r. length r.belts ≡ r.stages + 1) }
-    ensures lattice { IfOk result (λ r. r.lattice ≡ lattice_after G.rules chirality lattice.now plan.generations) }
+    ensures lattice { IfOk result (λ r. r.lattice ≡ lattice_after G.rules chirality first lattice.now plan.generations) }
     ensures number { IfOk result (λ _. (n : ℕ) → n ≤ plan.generations →
-        count G.rules (lattice_after G.rules chirality lattice.now n).rows ≡ count G.rules lattice.now.rows) }
+        count G.rules (lattice_after G.rules chirality first lattice.now n).rows ≡ count G.rules lattice.now.rows) }
     ensures stages { IfOk result (λ r. r.stages ≡ plan.stages) }
     ensures passes { IfOk result (λ r. r.passes ≡ passes_of plan.generations plan.stages) }
     ensures no_generation { plan.generations ≡ 0 → IfOk result (λ r. (r.lattice ≡ lattice.now) × (r.belts ≡ [])) }
@@ -65,7 +68,7 @@ pub fn run<G: Gas + Send, H: Gate + Sync, R: Threads + Wait + Sync>(
     let pass = FirstPass {
         lattice,
         chirality,
-        plan,
+        schedule: Schedule { first, plan },
     };
     Ok(run_ring(rt, alloc, gate, &pass, feeder)?)
 }

@@ -17,7 +17,7 @@ belt belts k = get_or belts k (record { rows = []; capacity = 0 })
 pub record IsAt (gas : Rules) (p : PassModel) (k : ℕ) (w : WorkerModel) (took gave : List RowModel) : Type 0 where
   pub channel : w.stage.channel ≡ p.lattice.channel
   pub chirality : w.stage.chirality ≡ p.chirality
-  pub done : HasDone gas w (computes_from p.plan p.number (suc k)) took gave
+  pub done : HasDone gas w (computes_from p.first p.plan p.number (suc k)) took gave
 
 -- the feeder, the workers and the belts may have come to their states by these histories of the pass
 pub record Shows (gas : Rules) (p : PassModel) (f : FeederModel) (workers : List WorkerModel) (belts : List BeltModel) (s : State) : Type 0 where

@@ -62,11 +62,11 @@ fn begun_workers<'a, G: Gas>(
     ensures some { 0 < pass.now.plan.stages }
     ensures few { pass.now.plan.stages ≤ 64 }
 {
-    let stages = pass.plan.stages();
+    let stages = pass.schedule.plan.stages();
     let mut workers = Vec::with_capacity(alloc, stages as usize)?;
     for k in 0..stages {
         let mut worker = Worker::new(alloc, pass.lattice.channel(), pass.chirality)?;
-        worker.begin(pass.plan.generation(0, k + 1));
+        worker.begin(pass.schedule.generation(0, k + 1));
         workers.push(worker)?;
     }
     Ok(workers)
@@ -106,7 +106,7 @@ impl<'a, G: Gas> LocalLine<'a, G> {
         Ok(LocalLine {
             feeder,
             workers: begun_workers(alloc, pass)?,
-            belts: unused_belts(alloc, pass.plan)?,
+            belts: unused_belts(alloc, pass.schedule.plan)?,
         })
     }
 

@@ -9,9 +9,10 @@ use Rattle.gas_line.specs.Pass.{computes_from}
 use Rattle.gas_line.specs.Inner.Ring.{owed_in}
 use Rattle.gas_members.specs.Worker.{WorkerModel, IsClosed, owes}
 
--- a worker's number, counted from 1, the plan, and the ends that it takes from and puts on
+-- a worker's number, counted from 1, the first generation and the plan, and the ends that it takes from and puts on
 pub record JobModel : Type 0 where
   pub who : ℕ
+  pub first : ℕ
   pub plan : PlanModel
   pub worker : WorkerModel
   pub rx : Receiver
@@ -39,12 +40,12 @@ pub record OnePass (gas : Rules) (w : WorkerModel) (e : Option ℕ) (t p t2 p2 :
   pub went : p2 ≡ p ++ owes gas w e took
 
 -- what a worker of a plan owes in the first n passes for the rows that it took
-abbrev pub owes_until : Rules → WorkerModel → PlanModel → ℕ → ℕ → List RowModel → List RowModel
-owes_until gas w plan who n took = owed_in w.stage.channel.height (λ i. owes gas w (computes_from plan i who)) n took
+abbrev pub owes_until : Rules → WorkerModel → ℕ → PlanModel → ℕ → ℕ → List RowModel → List RowModel
+owes_until gas w first plan who n took = owed_in w.stage.channel.height (λ i. owes gas w (computes_from first plan i who)) n took
 
 -- between the same two belts it took all rows of all passes, and put all that it owes for them
 pub record Ran (gas : Rules) (j : JobModel) (e : EndedModel) : Type 0 where
   pub rx : e.rx.belt ≡ j.rx.belt
   pub tx : e.spent.belt ≡ j.tx.belt
   pub whole : length e.rx.taken ≡ passes_of j.plan.generations j.plan.stages * j.worker.stage.channel.height
-  pub owes_is : e.spent.put ≡ owes_until gas j.worker j.plan j.who (passes_of j.plan.generations j.plan.stages) e.rx.taken
+  pub owes_is : e.spent.put ≡ owes_until gas j.worker j.first j.plan j.who (passes_of j.plan.generations j.plan.stages) e.rx.taken

@@ -19,6 +19,7 @@ pub record Takes (p : PassModel) (k : ℕ) (from : Belt) (j : JobModel) : Type 0
   pub link : from ≡ j.rx.belt
   pub ready : IsReady j
   pub who : j.who ≡ suc k
+  pub first : j.first ≡ p.first
   pub plan : j.plan ≡ p.plan
   pub channel : j.worker.stage.channel ≡ p.lattice.channel
   pub chirality : j.worker.stage.chirality ≡ p.chirality
@@ -56,7 +57,7 @@ on_first gas p b n = map (λ k. whole (on gas p b k)) (range_with_len 0 n)
 
 -- a run of p's plan: its lattice, and what its belts carried
 pub record HasRun (gas : Rules) (p : PassModel) (r : RunModel) : Type 0 where
-  pub lattice : r.lattice ≡ lattice_after gas p.chirality p.lattice p.plan.generations
+  pub lattice : r.lattice ≡ lattice_after gas p.chirality p.first p.lattice p.plan.generations
   pub stages : r.stages ≡ p.plan.stages
   pub passes : r.passes ≡ passes_of p.plan.generations p.plan.stages
   pub belts : r.belts ≡ map whole (rings gas p)

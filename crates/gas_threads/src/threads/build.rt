@@ -24,6 +24,7 @@ fn job_behind<'a, G: Gas>(
     ensures ready { IfOk result (λ r. IsReady r.0) }
     ensures link { IfOk result (λ r. rx.belt ≡ r.0.rx.belt) }
     ensures who { IfOk result (λ r. r.0.who ≡ k + 1) }
+    ensures first { IfOk result (λ r. r.0.first ≡ pass.now.first) }
     ensures plan { IfOk result (λ r. r.0.plan ≡ pass.now.plan) }
     ensures channel { IfOk result (λ r. r.0.worker.stage.channel ≡ pass.now.lattice.channel) }
     ensures chirality { IfOk result (λ r. r.0.worker.stage.chirality ≡ pass.now.chirality) }
@@ -31,10 +32,10 @@ fn job_behind<'a, G: Gas>(
     ensures nothing_taken { IfOk result (λ r. r.1.taken ≡ []) }
 {
     let channel = pass.lattice.channel();
-    let (tx, next) = belt(alloc, pass.plan.capacity(), channel.size().width())?;
+    let (tx, next) = belt(alloc, pass.schedule.plan.capacity(), channel.size().width())?;
     let job = Job {
         who: k + 1,
-        plan: pass.plan,
+        schedule: pass.schedule,
         worker: Worker::new(alloc, channel, pass.chirality)?,
         rx,
         tx,
@@ -61,10 +62,10 @@ pub(crate) fn build<'a, G: Gas>(
     ensures linked { IfOk result (λ ends. Linked pass.now 0 ends.first.belt ends.jobs.items) }
     ensures closed { IfOk result (λ ends. last_belt ends.first.belt ends.jobs.items ≡ ends.last.belt) }
 {
-    let stages = pass.plan.stages();
+    let stages = pass.schedule.plan.stages();
     let mut jobs = Vec::with_capacity(alloc, stages as usize)?;
     let width = pass.lattice.channel().size().width();
-    let (first, mut last) = belt(alloc, pass.plan.capacity(), width)?;
+    let (first, mut last) = belt(alloc, pass.schedule.plan.capacity(), width)?;
     for k in 0..stages {
         let (job, next) = job_behind(alloc, pass, k, last)?;
         jobs.push(job)?;

@@ -9,7 +9,7 @@ use crate::threads::worker_loop::make_passes;
 use gas_belt::rx::Rx;
 use gas_belt::tx::{Spent, Tx};
 use gas_geom::gas::Gas;
-use gas_members::plan::Plan;
+use gas_members::schedule::Schedule;
 use gas_members::worker::Worker;
 use std::marker::Model;
 use std::sync::Wait;
@@ -33,7 +33,7 @@ impl<G: Gas> Model for Ended<G> {
 #[derive(Drop)]
 pub struct Job<'a, G: Gas> {
     pub who: u32,
-    pub plan: Plan,
+    pub schedule: Schedule,
     pub worker: Worker<'a, G>,
     pub rx: Rx<G>,
     pub tx: Tx<G>,
@@ -46,7 +46,8 @@ impl<'a, G: Gas> Model for Job<'a, G> {
 
     ghost view = { λ j. record {
       who = j.who;
-      plan = j.plan;
+      first = j.schedule.first;
+      plan = j.schedule.plan;
       worker = j.worker;
       rx = j.rx;
       tx = j.tx;
@@ -61,12 +62,21 @@ impl<'a, G: Gas> Work<Ended<G>> for Job<'a, G> {
     fn do_work<H: Gate, R: Wait>(self, rt: &R, signals: &Signals, gate: &H) -> Option<Ended<G>> {
         let Job {
             who,
-            plan,
+            schedule,
             mut worker,
             mut rx,
             mut tx,
         } = self;
-        if make_passes(rt, signals, gate, who, plan, &mut worker, &mut rx, &mut tx) {
+        if make_passes(
+            rt,
+            signals,
+            gate,
+            who,
+            &schedule,
+            &mut worker,
+            &mut rx,
+            &mut tx,
+        ) {
             Some(Ended {
                 rx,
                 spent: tx.close(),

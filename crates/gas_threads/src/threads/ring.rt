@@ -53,7 +53,7 @@ fn settle<G: Gas, R: Threads>(
     let Ok(()) = belts.push(carried) else {
         return None;
     };
-    Some(Run::new(feeder.finish(), pass.plan, belts))
+    Some(Run::new(feeder.finish(), pass.schedule.plan, belts))
 }
 
 // Makes all passes in a scope. None where memory or a start was refused.
@@ -78,10 +78,10 @@ fn run_in_scope<'s, 'e: 's, G: Gas + Send + 'e, H: Gate + Sync, R: Threads + Wai
         jobs,
         mut last,
     } = build(alloc, pass).ok()?;
-    let stages = pass.plan.stages() as usize;
+    let stages = pass.schedule.plan.stages() as usize;
     let belts = Vec::with_capacity(alloc, stages + 1).ok()?;
     let handles = Vec::with_capacity(alloc, stages).ok()?;
-    feeder.begin_ring(pass.plan.passes());
+    feeder.begin_ring(pass.schedule.plan.passes());
     let (handles, all) = start(scope, rt, signals, gate, jobs, handles);
     if all && feed(rt, signals, &mut feeder, &mut last, &mut first) {
         return settle(rt, pass, first, last, feeder, handles, belts);
@@ -110,7 +110,7 @@ pub(crate) fn run_ring<G: Gas + Send, H: Gate + Sync, R: Threads + Wait + Sync>(
     requires rows { feeder.rows ≡ pass.now.lattice.rows }
     ensures { IfOk result (λ run. HasRun G.rules pass.now run) }
 {
-    let signals = Signals::new(alloc, pass.plan.stages())?;
+    let signals = Signals::new(alloc, pass.schedule.plan.stages())?;
     let signals = &signals;
     let run = thread::scope(
         thread::scope_env(),

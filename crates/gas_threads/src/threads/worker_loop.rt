@@ -10,7 +10,7 @@ use gas_belt::rx::Rx;
 use gas_belt::tx::Tx;
 use gas_geom::gas::Gas;
 use gas_members::ends::Turned;
-use gas_members::plan::Plan;
+use gas_members::schedule::Schedule;
 use gas_members::worker::Worker;
 use std::sync::Wait;
 
@@ -62,25 +62,27 @@ pub(crate) fn make_passes<G: Gas, H: Gate, R: Wait>(
     signals: &Signals,
     gate: &H,
     who: u32,
-    plan: Plan,
+    schedule: &Schedule,
     worker: &mut Worker<'_, G>,
     rx: &mut Rx<G>,
     tx: &mut Tx<G>,
 ) -> bool
     requires some { 1 ≤ who }
-    requires one_of { who ≤ plan.stages }
+    requires one_of { who ≤ schedule.now.plan.stages }
     requires closed { IsClosed worker.old }
     requires nothing_taken { rx.old.taken ≡ [] }
     requires nothing_put { tx.old.put ≡ [] }
     ensures rx { rx.new.belt ≡ rx.old.belt }
     ensures tx { tx.new.belt ≡ tx.old.belt }
-    ensures whole { IsTrue result → length rx.new.taken ≡ passes_of plan.generations plan.stages * worker.old.stage.channel.height }
+    ensures whole { IsTrue result → length rx.new.taken ≡ passes_of schedule.now.plan.generations schedule.now.plan.stages * worker.old.stage.channel.height }
     ensures owes { IsTrue result → tx.new.put
-        ≡ owes_until G.rules worker.old plan who (passes_of plan.generations plan.stages) rx.new.taken }
+        ≡ owes_until G.rules worker.old schedule.now.first schedule.now.plan who (passes_of schedule.now.plan.generations schedule.now.plan.stages) rx.new.taken }
 {
-    for pass in 0..plan.passes() {
+    let passes = schedule.passes();
+    for pass in 0..passes {
         gate.enter(who);
-        let over = make_pass(rt, signals, who, plan.generation(pass, who), worker, rx, tx);
+        let generation = schedule.generation(pass, who);
+        let over = make_pass(rt, signals, who, generation, worker, rx, tx);
         gate.leave(who);
         if !over {
             return false;

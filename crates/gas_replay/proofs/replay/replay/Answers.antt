@@ -12,7 +12,7 @@ use Rattle.gas_replay.proofs.replay.replay.Goals as goal
 
 pub returns-clause-state : goal.returns-clause-state
 returns-clause-state g c =
-    let p = first_pass c.args.chirality c.args.lattice.now c.args.plan in
+    let p = first_pass c.args.chirality c.args.first c.args.lattice.now c.args.plan in
     let turns = c.args.turns.now in
     let shows = c.run.ensures p c.in_ok-line.ensures.shows in
     let enough = one_pass c.args.plan.generations c.args.plan.stages shows.some (omega (arith, c.passes.ensures.value, c.if-passes-gt1.false)) in
@@ -23,7 +23,7 @@ returns-clause-state g c =
 
 pub returns-clause-done : goal.returns-clause-done
 returns-clause-done g c rounds =
-    let p = first_pass c.args.chirality c.args.lattice.now c.args.plan in
+    let p = first_pass c.args.chirality c.args.first c.args.lattice.now c.args.plan in
     let turns = c.args.turns.now in
     let shows = c.run.ensures p c.in_ok-line.ensures.shows in
     let high : c.args.lattice.now.channel.height ≡ length (rows_on g.G.Gas.rules p 0) = sym (rows_high g.G.Gas.rules p shows.pass 0) in
@@ -36,4 +36,4 @@ returns-clause-done g c rounds =
 pub returns-clause-number : goal.returns-clause-number
 returns-clause-number g c n few =
     count-generation g.G.Gas.rules g.met.G.Gas.laws c.args.lattice.now.channel
-    (chirality_bit c.args.chirality c.args.lattice.now.channel.width) 0 c.args.lattice.now.rows c.in_ok-line.ensures.pass.lattice n
+    (chirality_bit c.args.chirality c.args.lattice.now.channel.width) c.args.first c.args.lattice.now.rows c.in_ok-line.ensures.pass.lattice n

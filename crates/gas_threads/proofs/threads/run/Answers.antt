@@ -19,7 +19,7 @@ pub returns-clause-belts_made : goal.returns-clause-belts_made
 returns-clause-belts_made g c more =
     let ran = c.in_ok-run_ring.ensures in
     ap (λ (l : List CarriedModel). length l) ran.belts
-    ∙ rings_made g.G.Gas.rules (first_pass c.args.chirality c.args.lattice.now c.args.plan) more
+    ∙ rings_made g.G.Gas.rules (first_pass c.args.chirality c.args.first c.args.lattice.now c.args.plan) more
     ∙ ap (λ (n : ℕ). n + 1) (sym ran.stages)
 
 pub returns-clause-number : goal.returns-clause-number
@@ -30,7 +30,7 @@ returns-clause-number g c n few =
     subst (λ (r : List RowModel). IsLattice g.G.Gas.rules c.args.lattice.now.channel r) from.rows
     (subst (λ (x : ChannelModel). IsLattice g.G.Gas.rules x c.in_ok-feeder.feeder.rows) from.channel from.whole) in
     count-generation g.G.Gas.rules bound.laws c.args.lattice.now.channel
-    (chirality_bit c.args.chirality c.args.lattice.now.channel.width) 0 c.args.lattice.now.rows is n
+    (chirality_bit c.args.chirality c.args.lattice.now.channel.width) c.args.first c.args.lattice.now.rows is n
 
 pub returns-then-generations-eq0-clause-number : goal.returns-then-generations-eq0-clause-number
 returns-then-generations-eq0-clause-number g c n few =
@@ -40,4 +40,4 @@ returns-then-generations-eq0-clause-number g c n few =
     subst (λ (r : List RowModel). IsLattice g.G.Gas.rules c.args.lattice.now.channel r) from.rows
     (subst (λ (x : ChannelModel). IsLattice g.G.Gas.rules x c.in_ok-feeder.feeder.rows) from.channel from.whole) in
     count-generation g.G.Gas.rules bound.laws c.args.lattice.now.channel
-    (chirality_bit c.args.chirality c.args.lattice.now.channel.width) 0 c.args.lattice.now.rows is n
+    (chirality_bit c.args.chirality c.args.lattice.now.channel.width) c.args.first c.args.lattice.now.rows is n

@@ -15,7 +15,7 @@ loop-k-preserved g c =
       linked =
           rw items
           (linked_snoc p 0 c.loop-k.k first jobs _ len was.linked
-          (takes_next p c.loop-k.k _ c.in_ok-job.job (was.closed ∙ job.link) job.ready job.who job.plan job.channel job.chirality));
+          (takes_next p c.loop-k.k _ c.in_ok-job.job (was.closed ∙ job.link) job.ready job.who job.first job.plan job.channel job.chirality));
       closed = rw (items, last_belt_snoc first jobs) c.in_ok-job.ensures.next;
       count = search rules;
       nothing_taken = c.in_ok-job.ensures.nothing_taken;

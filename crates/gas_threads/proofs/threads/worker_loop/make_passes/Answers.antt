@@ -19,18 +19,18 @@ loop-pass-init g c =
       whole = ap length c.requires.nothing_taken ∙ sym (zero-mul w.stage.channel.height);
       owes =
           c.requires.nothing_put
-          ∙ sym (owed_none w.stage.channel.height (λ i. owed g.G.Gas.rules w.stage.channel w.stage.chirality (computes_from c.args.plan i c.args.who)) c.args.rx.now.taken);
+          ∙ sym (owed_none w.stage.channel.height (λ i. owed g.G.Gas.rules w.stage.channel w.stage.chirality (computes_from c.args.schedule.now.first c.args.schedule.now.plan i c.args.who)) c.args.rx.now.taken);
     }
 
 pub loop-pass-preserved : goal.loop-pass-preserved
 loop-pass-preserved g c =
     let was = c.loop-pass.invariant in
     let now = c.make_pass-over in
-    let pass : OnePass g.G.Gas.rules c.loop-pass.worker (computes_from c.args.plan c.loop-pass.pass c.args.who) c.loop-pass.rx.taken c.loop-pass.tx.put now.new.rx.taken now.new.tx.put =
-    subst (λ (e : Option ℕ). OnePass g.G.Gas.rules c.loop-pass.worker e c.loop-pass.rx.taken c.loop-pass.tx.put now.new.rx.taken now.new.tx.put) c.generation.ensures
+    let pass : OnePass g.G.Gas.rules c.loop-pass.worker (computes_from c.args.schedule.now.first c.args.schedule.now.plan c.loop-pass.pass c.args.who) c.loop-pass.rx.taken c.loop-pass.tx.put now.new.rx.taken now.new.tx.put =
+    subst (λ (e : Option ℕ). OnePass g.G.Gas.rules c.loop-pass.worker e c.loop-pass.rx.taken c.loop-pass.tx.put now.new.rx.taken now.new.tx.put) c.generation-generation.ensures
     (c.if-not-over.ensures.whole refl) in
     let more =
-    one_pass_more g.G.Gas.rules c.args.worker.now c.loop-pass.worker c.args.plan c.args.who c.loop-pass.pass c.loop-pass.rx.taken c.loop-pass.tx.put now.new.rx.taken now.new.tx.put
+    one_pass_more g.G.Gas.rules c.args.worker.now c.loop-pass.worker c.args.schedule.now.first c.args.schedule.now.plan c.args.who c.loop-pass.pass c.loop-pass.rx.taken c.loop-pass.tx.put now.new.rx.taken now.new.tx.put
     was.channel was.chirality was.whole was.owes pass in
     record {
       closed = c.if-not-over.ensures.closed refl;

@@ -11,5 +11,5 @@ invariant-loop-pass g l = record {
   rx : l.rx.belt ≡ l.fn.rx.belt;
   tx : l.tx.belt ≡ l.fn.tx.belt;
   whole : length l.rx.taken ≡ l.pass * l.fn.worker.stage.channel.height;
-  owes : l.tx.put ≡ owes_until g.G.Gas.rules l.fn.worker l.fn.plan l.fn.who l.pass l.rx.taken;
+  owes : l.tx.put ≡ owes_until g.G.Gas.rules l.fn.worker l.fn.schedule.first l.fn.schedule.plan l.fn.who l.pass l.rx.taken;
 }
