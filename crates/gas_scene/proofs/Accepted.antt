@@ -1,7 +1,6 @@
 -- What is known of a table that no check refuses.
 use Rattle.std.proofs.Common.{◌≡◌, ℕ, ◌*◌, ◌<◌, ◌≤◌, ◌/◌, ◌%◌, ◌==◌, Bool, true, false, not, ◌&&◌, [], ◌∷◌, length, Option, Some, None, codes, nat_le, refl, ap, sym, ◌∙◌, arith, if◌then◌else◌}
 use Rattle.std.specs.Prelude.{is_some, IsSome, option_map}
-use Rattle.gas_geom.specs.declared.size.TheConstants.{MOST_SIDE}
 use Rattle.gas_scene.specs.First.{first_of}
 use Rattle.std.proofs.lemmas.Bool.{and_parts, leb-true, eqb-true}
 use Rattle.toml.specs.Data.{Members}
@@ -9,6 +8,8 @@ use Rattle.gas_scene.specs.declared.error.SceneError.{SceneError}
 use Rattle.gas_scene.specs.declared.error.SceneError.TheVariants.{Range, RowLength}
 use Rattle.gas_scene.specs.declared.cells.Cell.{Cell}
 use Rattle.gas_scene.specs.Gases.{gas_named, states_named}
+use Rattle.gas_scene.specs.Version.{version_of, most_side}
+use Rattle.gas_scene.proofs.Versions.{most_side-few}
 use Rattle.gas_scene.specs.Fields.{has, text_at, rows_at, row_at}
 use Rattle.gas_scene.specs.Cells.{cell_at, bad_at, bad_column}
 use Rattle.gas_scene.specs.Ranges.{is_version, is_gas, is_common_in_range, is_map_in_range, is_area_in_range, is_in_range}
@@ -55,11 +56,11 @@ module _ (ms : Members) (accepted : refusal_of ms ≡ None) where
   cells = (none_before (bad_cell ms) None (none_before (row_length ms) _ (none_before (out_of_range ms) _ late).1).1).0
 
   fitting : (r : ℕ) → r < length (rows_at ms)
-      → (is_row_length (length (row_at (rows_at ms) r)) ≡ true) × ((length (row_at (rows_at ms) r) == length (row_at (rows_at ms) 0)) ≡ true)
+      → (is_row_length (most_side (version_of ms)) (length (row_at (rows_at ms) r)) ≡ true) × ((length (row_at (rows_at ms) r) == length (row_at (rows_at ms) 0)) ≡ true)
   unfolding row_length
   fitting r within =
-      and_parts (is_row_length (length (row_at (rows_at ms) r))) _
-      (not_false _ (passed (is_misfit (rows_at ms) r) (RowLength r) (first_below-none (λ r. refused_if (is_misfit (rows_at ms) r) (RowLength r)) (length (rows_at ms)) lengths r within)))
+      and_parts (is_row_length (most_side (version_of ms)) (length (row_at (rows_at ms) r))) _
+      (not_false _ (passed (is_misfit (most_side (version_of ms)) (rows_at ms) r) (RowLength r) (first_below-none (λ r. refused_if (is_misfit (most_side (version_of ms)) (rows_at ms) r) (RowLength r)) (length (rows_at ms)) lengths r within)))
 
   no_bad_cell : (r : ℕ) → r < length (rows_at ms) → bad_cell_in (states_named (text_at (codes "gas") ms)) (rows_at ms) r ≡ None
   unfolding bad_cell
@@ -73,24 +74,26 @@ some_cell : (o : Option Cell) (c : ℕ) → (if is_some o then None else Some c)
 some_cell None c e = absurd (cc)
 some_cell (Some cell) c e = refl
 
-row_bounds : (n : ℕ) → is_row_length n ≡ true → (2 ≤ n) × (n ≤ (2 * MOST_SIDE))
-row_bounds n held =
-    let both = and_parts (nat_le 2 n) (nat_le n (2 * MOST_SIDE)) (and_parts (n % 2 == 0) (nat_le 2 n && nat_le n (2 * MOST_SIDE)) held).1 in
-    (leb-true 2 n both.0, leb-true n (2 * MOST_SIDE) both.1)
+row_bounds : (most n : ℕ) → is_row_length most n ≡ true → (2 ≤ n) × (n ≤ (2 * most))
+row_bounds most n held =
+    let both = and_parts (nat_le 2 n) (nat_le n (2 * most)) (and_parts (n % 2 == 0) (nat_le 2 n && nat_le n (2 * most)) held).1 in
+    (leb-true 2 n both.0, leb-true n (2 * most) both.1)
 
 pub IsMap-accepted : (ms : Members) (states : ℕ) → refusal_of ms ≡ None → has (codes "cells") ms ≡ true → states_named (text_at (codes "gas") ms) ≡ states → IsMap states (rows_at ms)
 IsMap-accepted ms states accepted has_cells gas =
     let rows = rows_at ms in
-    let high = and_parts (nat_le 1 (length rows)) (nat_le (length rows) MOST_SIDE)
+    let most = most_side (version_of ms) in
+    let few = most_side-few (version_of ms) in
+    let high = and_parts (nat_le 1 (length rows)) (nat_le (length rows) most)
     (sym (ap (λ (b : Bool). if b then is_map_in_range ms else is_area_in_range ms) has_cells) ∙ form_range ms accepted) in
     let some_rows = leb-true 1 (length rows) high.0 in
-    let first = row_bounds (length (row_at rows 0)) (fitting ms accepted 0 some_rows).0 in
+    let first = row_bounds most (length (row_at rows 0)) (fitting ms accepted 0 some_rows).0 in
     let wide : (y : ℕ) → y < length rows → length (row_at rows y) / 2 ≡ map_width rows = λ y within. ap (λ n. n / 2) (eqb-true _ _ (fitting ms accepted y within).1) in
     record {
       some_rows = some_rows;
-      few_rows = leb-true (length rows) MOST_SIDE high.1;
+      few_rows = let fit = leb-true (length rows) most high.1 in omega (arith, fit, few);
       some_cells = omega arith;
-      few_cells = omega arith;
+      few_cells = omega (arith, first.1, few);
       wide = wide;
       cells = λ x y in_columns in_rows.
           let bad = map_none _ (bad_column (states_named (text_at (codes "gas") ms)) (row_at rows y)) (no_bad_cell ms accepted y in_rows) in

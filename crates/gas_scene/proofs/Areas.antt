@@ -16,9 +16,11 @@ use Rattle.gas_geom.specs.declared.size.TheConstants.{MOST_SIDE}
 use Rattle.gas_scene.specs.declared.fields.Extent.{Extent}
 use Rattle.gas_scene.specs.declared.fields.Rectangle.{Rectangle}
 use Rattle.gas_scene.specs.declared.fields.Placement.{Placement}
+use Rattle.gas_scene.specs.Version.{version_of, most_side}
+use Rattle.gas_scene.proofs.Versions.{extent-most}
 use Rattle.gas_scene.specs.Gases.{states_named}
 use Rattle.gas_scene.specs.Fields.{text_at, integer_at, array_at, extent_of, rectangle_of, placement_of}
-use Rattle.gas_scene.specs.Ranges.{is_size, is_rate, is_below, is_span_of, is_extent, fits, is_free, is_inside, is_placed, is_version, is_gas, is_chirality, is_common_in_range, is_filling, is_area_in_range, is_covered}
+use Rattle.gas_scene.specs.Ranges.{is_size, is_rate, is_below, is_span_of, is_extent, fits, is_free, is_inside, is_placed, is_version, is_generation, is_gas, is_chirality, is_common_in_range, is_filling, is_area_in_range, is_covered}
 use Rattle.gas_scene.specs.Grid.{lattice_of}
 use Rattle.gas_scene.specs.Area.{filling, placed, area_width, area_height, seed_of, rate_of, is_solid_in, area_lattice}
 use Rattle.gas_scene.proofs.Grids.{value-rows_of, rows_of-replicate}
@@ -35,16 +37,21 @@ int_lt-true a b e = grind (arith, ints)
 -- the parts of a check
 pub seed-range : (ms : Members) → is_common_in_range ms ≡ true → pos 0 ≤ℤ integer_at (codes "seed") ms
 seed-range ms held =
-    let first = (and_parts (is_version ms) (is_gas ms && (is_chirality ms && int_le (pos 0) (integer_at (codes "seed") ms))) held).1 in
-    let second = (and_parts (is_gas ms) (is_chirality ms && int_le (pos 0) (integer_at (codes "seed") ms)) first).1 in
-    int_le-true (pos 0) _ (and_parts (is_chirality ms) (int_le (pos 0) (integer_at (codes "seed") ms)) second).1
+    let seed = int_le (pos 0) (integer_at (codes "seed") ms) in
+    let generation = is_generation (integer_at (codes "generation") ms) in
+    let first = (and_parts (is_version ms) (is_gas ms && (is_chirality ms && (seed && generation))) held).1 in
+    let second = (and_parts (is_gas ms) (is_chirality ms && (seed && generation)) first).1 in
+    let third = (and_parts (is_chirality ms) (seed && generation) second).1 in
+    int_le-true (pos 0) _ (and_parts seed generation third).0
 
 module _ (ms : Members) (held : is_area_in_range ms ≡ true) where
   rest : (is_rate (integer_at (codes "rate") ms) && is_filling (extent_of ms) ms) ≡ true
-  rest = (and_parts (is_extent (extent_of ms)) (is_rate (integer_at (codes "rate") ms) && is_filling (extent_of ms) ms) held).1
+  rest = (and_parts (is_extent (most_side (version_of ms)) (extent_of ms)) (is_rate (integer_at (codes "rate") ms) && is_filling (extent_of ms) ms) held).1
 
-  pub extent-range : is_extent (extent_of ms) ≡ true
-  extent-range = (and_parts (is_extent (extent_of ms)) (is_rate (integer_at (codes "rate") ms) && is_filling (extent_of ms) ms) held).0
+  pub extent-range : is_extent MOST_SIDE (extent_of ms) ≡ true
+  extent-range =
+      extent-most (version_of ms) (extent_of ms)
+      (and_parts (is_extent (most_side (version_of ms)) (extent_of ms)) (is_rate (integer_at (codes "rate") ms) && is_filling (extent_of ms) ms) held).0
 
   rate_within : is_rate (integer_at (codes "rate") ms) ≡ true
   rate_within = (and_parts (is_rate (integer_at (codes "rate") ms)) (is_filling (extent_of ms) ms) rest).0
@@ -66,14 +73,14 @@ module _ (ms : Members) (held : is_area_in_range ms ≡ true) where
   placements-range = (and_parts (list_all (λ d. fits (extent_of ms) (rectangle_of d)) (array_at (codes "solid") ms))
       (list_all (λ d. is_placed (states_named (text_at (codes "gas") ms)) (extent_of ms) (array_at (codes "solid") ms) (placement_of d)) (array_at (codes "particles") ms)) filling_holds).1
 
-size_range : (z : ℤ) → is_size z ≡ true → (pos 1 ≤ℤ z) × (z ≤ℤ pos MOST_SIDE)
+size_range : (z : ℤ) → is_size MOST_SIDE z ≡ true → (pos 1 ≤ℤ z) × (z ≤ℤ pos MOST_SIDE)
 size_range z held =
     let both = and_parts (int_le (pos 1) z) (int_le z (pos MOST_SIDE)) held in
     (int_le-true (pos 1) z both.0, int_le-true z (pos MOST_SIDE) both.1)
 
-pub IsSize-extent : (e : Extent) → is_extent e ≡ true → IsSize (nat_abs e.width) (nat_abs e.height)
+pub IsSize-extent : (e : Extent) → is_extent MOST_SIDE e ≡ true → IsSize (nat_abs e.width) (nat_abs e.height)
 IsSize-extent e held =
-    let both = and_parts (is_size e.width) (is_size e.height) held in
+    let both = and_parts (is_size MOST_SIDE e.width) (is_size MOST_SIDE e.height) held in
     let wide = size_range e.width both.0 in
     let high = size_range e.height both.1 in
     record {
@@ -90,9 +97,9 @@ all_seen test vs ds seen held k d within =
     let each = AllPass-from_list_all test (map view vs) (ap (list_all test) seen ∙ held) k (view d) (omega (arith, length-map vs view)) in
     ap test (sym (get_or-map view vs k d (view d) within)) ∙ each
 
-pub fits-inside : (e : Extent) (r : Rectangle) → is_extent e ≡ true → fits e r ≡ true → IsRectangleIn (nat_abs e.width) (nat_abs e.height) r
+pub fits-inside : (e : Extent) (r : Rectangle) → is_extent MOST_SIDE e ≡ true → fits e r ≡ true → IsRectangleIn (nat_abs e.width) (nat_abs e.height) r
 fits-inside e r sized held =
-    let sizes = and_parts (is_size e.width) (is_size e.height) sized in
+    let sizes = and_parts (is_size MOST_SIDE e.width) (is_size MOST_SIDE e.height) sized in
     let wide = size_range e.width sizes.0 in
     let high = size_range e.height sizes.1 in
     let both = and_parts (is_span_of e.width r.columns) (is_span_of e.height r.rows) held in
@@ -115,10 +122,10 @@ not_true : (b : Bool) → not b ≡ true → b ≡ false
 not_true true e = sym e
 not_true false e = refl
 
-placed-can : (states : ℕ) (e : Extent) (solid : List Data) (p : Placement) (at : ℕ → ℕ → ℕ) → is_extent e ≡ true → is_placed states e solid p ≡ true
+placed-can : (states : ℕ) (e : Extent) (solid : List Data) (p : Placement) (at : ℕ → ℕ → ℕ) → is_extent MOST_SIDE e ≡ true → is_placed states e solid p ≡ true
     → CanPlace states (lattice_of (nat_abs e.width) (nat_abs e.height) (λ u v. is_covered solid (pos u) (pos v)) at).channel p
 placed-can states e solid p at sized held =
-    let sizes = and_parts (is_size e.width) (is_size e.height) sized in
+    let sizes = and_parts (is_size MOST_SIDE e.width) (is_size MOST_SIDE e.height) sized in
     let wide = size_range e.width sizes.0 in
     let high = size_range e.height sizes.1 in
     let first = and_parts (is_inside e p) (is_below (pos states) p.state && is_free solid p) held in

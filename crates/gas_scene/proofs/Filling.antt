@@ -22,7 +22,7 @@ abbrev are_placed : ℕ → Extent → List Data → List Data → Bool
 are_placed states e solid particles = list_all (λ d. is_placed states e solid (placement_of d)) particles
 
 -- a placement by the channel of the rectangles
-pos_abs : (n : ℤ) → is_size n ≡ true → pos (nat_abs n) ≡ n
+pos_abs : (n : ℤ) → is_size MOST_SIDE n ≡ true → pos (nat_abs n) ≡ n
 pos_abs n sized = let some = (and_parts (int_le (pos 1) n) (int_le n (pos MOST_SIDE)) sized).0 in grind (arith, ints)
 
 any_order : (inside free state : Bool) → ((inside && free) && state) ≡ (inside && (state && free))
@@ -50,15 +50,15 @@ free-if true e ds p is =
     (below_abs e.width p.x both.0) (below_abs e.height p.y both.1)
     ∙ ap₂ (is_covered ds) (natural e.width p.x both.0) (natural e.height p.y both.1))
 
-placed-in : (states : ℕ) (e : Extent) (ds : List Data) (p : Placement) → is_extent e ≡ true → is_placed_in states (channel_with e ds) p ≡ is_placed states e ds p
+placed-in : (states : ℕ) (e : Extent) (ds : List Data) (p : Placement) → is_extent MOST_SIDE e ≡ true → is_placed_in states (channel_with e ds) p ≡ is_placed states e ds p
 placed-in states e ds p sized =
-    let sizes = and_parts (is_size e.width) (is_size e.height) sized in
+    let sizes = and_parts (is_size MOST_SIDE e.width) (is_size MOST_SIDE e.height) sized in
     ap₂ (λ (w : ℤ) (h : ℤ). ((is_below w p.x && is_below h p.y) && not (is_solid (channel_with e ds) (nat_abs p.x) (nat_abs p.y))) && is_below (pos states) p.state)
     (pos_abs e.width sizes.0) (pos_abs e.height sizes.1)
     ∙ ap (λ (b : Bool). b && is_below (pos states) p.state) (free-if (is_inside e p) e ds p refl)
     ∙ any_order (is_inside e p) (is_free ds p) (is_below (pos states) p.state)
 
-pub placed-in-all : (states : ℕ) (e : Extent) (ds : List Data) (vs : List Value) → is_extent e ≡ true
+pub placed-in-all : (states : ℕ) (e : Extent) (ds : List Data) (vs : List Value) → is_extent MOST_SIDE e ≡ true
     → list_all (λ v. is_placed_in states (channel_with e ds) (placement_of (view v))) vs ≡ list_all (λ v. is_placed states e ds (placement_of (view v))) vs
 placed-in-all states e ds [] sized = refl
 placed-in-all states e ds (v ∷ vs) sized = ap₂ (λ (a : Bool) (b : Bool). a && b) (placed-in states e ds (placement_of (view v)) sized) (placed-in-all states e ds vs sized)

@@ -1,3 +1,4 @@
+pub mod Versions
 pub mod Answers
 pub mod Accepted
 pub mod Areas

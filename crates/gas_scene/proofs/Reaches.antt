@@ -132,7 +132,7 @@ covers-strip w h r x y inside =
     ∙ turned (nat_le (first_row r) y) _ (nat_lt y (nat_abs r.rows.end))
     ∙ ap₂ (λ (a : Bool) (b : Bool). a && b) (spans-pos r.columns _ _ x left right) (spans-pos r.rows _ _ y top bottom)
 
-pub is_reached-covered : (e : Extent) (ds : List Data) (x y : ℕ) → is_extent e ≡ true → list_all (λ d. fits e (rectangle_of d)) ds ≡ true → is_reached ds x y ≡ is_covered ds (pos x) (pos y)
+pub is_reached-covered : (e : Extent) (ds : List Data) (x y : ℕ) → is_extent MOST_SIDE e ≡ true → list_all (λ d. fits e (rectangle_of d)) ds ≡ true → is_reached ds x y ≡ is_covered ds (pos x) (pos y)
 is_reached-covered e [] x y sized held = refl
 is_reached-covered e (d ∷ ds) x y sized held =
     let parts = and_parts (fits e (rectangle_of d)) (list_all (λ d. fits e (rectangle_of d)) ds) held in
@@ -154,7 +154,7 @@ IsRectangleIn-most w h r size inside = record {
   bottom = omega (arith, ints, inside.bottom, size.few_rows);
 }
 
-pub All-inside : (e : Extent) (vs : List Value) → is_extent e ≡ true → list_all (λ d. fits e (rectangle_of d)) (map view vs) ≡ true
+pub All-inside : (e : Extent) (vs : List Value) → is_extent MOST_SIDE e ≡ true → list_all (λ d. fits e (rectangle_of d)) (map view vs) ≡ true
     → All (λ v. IsRectangleIn (nat_abs e.width) (nat_abs e.height) (rectangle_of (view v))) vs
 All-inside e vs sized held k d within = fits-inside e _ sized (all_seen (λ d. fits e (rectangle_of d)) vs _ refl held k d within)
 

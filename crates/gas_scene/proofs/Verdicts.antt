@@ -1,5 +1,5 @@
 -- Verdicts, one after another, and what they tell.
-use Rattle.std.proofs.Common.{◌≡◌, inl, inr, ℕ, ◌*◌, ◌≤◌, Bool, true, false, not, ◌&&◌, [], map, length, Option, Some, None, codes, nat_le, refl, ap, sym, ◌∙◌, arith, if◌then◌else◌}
+use Rattle.std.proofs.Common.{◌≡◌, inl, inr, ℕ, ◌*◌, ◌%◌, ◌==◌, ◌≤◌, Bool, true, false, not, ◌&&◌, [], map, length, Option, Some, None, codes, nat_le, refl, ap, sym, ◌∙◌, arith, if◌then◌else◌}
 use Rattle.std.specs.Prelude.{Result, Ok, Err, is_some}
 use Rattle.std.specs.Option.{option_or, option_map_or}
 use Rattle.std.proofs.lemmas.Bool.{and_parts, leb-true}
@@ -7,6 +7,9 @@ use Rattle.toml.specs.Data.{Data, Members, get_member}
 use Rattle.gas_geom.specs.declared.size.TheConstants.{MOST_SIDE}
 use Rattle.gas_scene.specs.declared.error.SceneError.{SceneError}
 use Rattle.gas_scene.specs.declared.error.SceneError.TheVariants.{Range, RowLength}
+use Rattle.gas_scene.specs.declared.version.Version.{Version}
+use Rattle.gas_scene.specs.Version.{version_of, most_side}
+use Rattle.gas_scene.proofs.Versions.{most_side-few}
 use Rattle.gas_scene.specs.Fields.{has, text_of, elements_of, rows_at, row_at}
 use Rattle.gas_scene.specs.Ranges.{is_common_in_range, is_map_in_range, is_area_in_range, is_in_range}
 use Rattle.gas_scene.specs.Refusals.{refused_if, out_of_range, row_length, is_row_length, is_misfit}
@@ -55,7 +58,10 @@ rows_of_none None none = omega arith
 rows_of_none (Some d) none = absurd (cc)
 
 few_rows_if : (ms : Members) (b : Bool) → has (codes "cells") ms ≡ b → (if b then is_map_in_range ms else is_area_in_range ms) ≡ true → length (rows_at ms) ≤ MOST_SIDE
-few_rows_if ms true is held = leb-true _ _ (and_parts (nat_le 1 (length (rows_at ms))) (nat_le (length (rows_at ms)) MOST_SIDE) held).1
+few_rows_if ms true is held =
+    let most = most_side (version_of ms) in
+    let few = leb-true (length (rows_at ms)) most (and_parts (nat_le 1 (length (rows_at ms))) (nat_le (length (rows_at ms)) most) held).1 in
+    omega (arith, few, most_side-few (version_of ms))
 few_rows_if ms false is held = rows_of_none (get_member (codes "cells") ms) is
 
 pub few_rows : (ms : Members) → verdict (out_of_range ms) ≡ Ok tt → length (rows_at ms) ≤ MOST_SIDE
@@ -65,16 +71,18 @@ few_rows ms ok =
     few_rows_if ms (has (codes "cells") ms) refl
     (and_parts (is_common_in_range ms) (if has (codes "cells") ms then is_map_in_range ms else is_area_in_range ms) held).1
 
-short_row : (n : ℕ) (b : Bool) → not (is_row_length n && b) ≡ false → n ≤ (2 * MOST_SIDE)
-short_row n b held =
-    let long = (and_parts (is_row_length n) b (not_false _ held)).0 in
-    leb-true _ _ (and_parts (nat_le 2 n) (nat_le n (2 * MOST_SIDE)) (and_parts _ (nat_le 2 n && nat_le n (2 * MOST_SIDE)) long).1).1
+short_row : (v : Version) (n : ℕ) (b : Bool) → not (is_row_length (most_side v) n && b) ≡ false → n ≤ (2 * MOST_SIDE)
+short_row v n b held =
+    let most = most_side v in
+    let long = (and_parts (is_row_length most n) b (not_false _ held)).0 in
+    let short = leb-true n (2 * most) (and_parts (nat_le 2 n) (nat_le n (2 * most)) (and_parts (n % 2 == 0) (nat_le 2 n && nat_le n (2 * most)) long).1).1 in
+    omega (arith, short, most_side-few v)
 
 pub short_rows : (ms : Members) → length (rows_at ms) ≤ MOST_SIDE → verdict (row_length ms) ≡ Ok tt → AreShort (rows_at ms)
 unfolding row_length
 short_rows ms high ok = record {
   high = high;
   wide = λ r within.
-      short_row (length (row_at (rows_at ms) r)) _
-      (refused_if-none (is_misfit (rows_at ms) r) (RowLength r) (ap verdict (first_below-none _ (length (rows_at ms)) (verdict_none _ ok) r within)));
+      short_row (version_of ms) (length (row_at (rows_at ms) r)) _
+      (refused_if-none (is_misfit (most_side (version_of ms)) (rows_at ms) r) (RowLength r) (ap verdict (first_below-none _ (length (rows_at ms)) (verdict_none _ ok) r within)));
 }

@@ -1,5 +1,5 @@
 -- The keys of a scene, and the types of their values.
-use Rattle.std.specs.Prelude.{ℕ, ◌==◌, ◌&&◌, Bool, true, List, [], ◌∷◌, Option, is_some, length, codes}
+use Rattle.std.specs.Prelude.{ℕ, ◌==◌, ◌&&◌, not, Bool, true, List, [], ◌∷◌, Option, is_some, length, codes}
 use Rattle.std.specs.List.{list_all}
 use Rattle.std.specs.Map.{lookup}
 use Rattle.std.specs.Option.{option_map_or}
@@ -7,12 +7,15 @@ use Rattle.std.specs.Str.{bytes_eq}
 use Rattle.toml.specs.Data.{Data, Members, no_members, member, as_str, as_integer, as_array}
 use Rattle.gas_scene.specs.declared.kind.Kind.{Kind}
 use Rattle.gas_scene.specs.declared.kind.Kind.TheVariants.{Integer, Text, Texts, Tuples}
+use Rattle.gas_scene.specs.declared.version.Version.{Version}
+use Rattle.gas_scene.specs.declared.version.Version.TheVariants.{One, Two}
 use Rattle.gas_scene.specs.Fields.{elements_of}
 
 -- the keys, each with the type of its values
 abbrev pub key_kinds : List (List ℕ × Kind)
 key_kinds =
-    (codes "version", Integer) ∷ (codes "seed", Integer) ∷ (codes "width", Integer) ∷ (codes "height", Integer) ∷ (codes "rate", Integer)
+    (codes "version", Integer) ∷ (codes "generation", Integer) ∷ (codes "seed", Integer)
+    ∷ (codes "width", Integer) ∷ (codes "height", Integer) ∷ (codes "rate", Integer)
     ∷ (codes "gas", Text) ∷ (codes "chirality", Text) ∷ (codes "cells", Texts)
     ∷ (codes "solid", Tuples 4) ∷ (codes "particles", Tuples 3) ∷ []
 
@@ -39,9 +42,10 @@ is_of_kind Text d = is_text d
 is_of_kind Texts d = is_array_of is_text d
 is_of_kind (Tuples n) d = is_array_of (is_tuple n) d
 
--- whether a scene has the key
-abbrev pub is_known : List ℕ → Bool
-is_known key = is_some (kind_of key)
+-- whether a scene of this version has the key
+abbrev pub is_known : Version → List ℕ → Bool
+is_known One key = is_some (kind_of key) && not (bytes_eq key (codes "generation"))
+is_known Two key = is_some (kind_of key)
 
 -- whether the value is of the type of its key
 abbrev pub is_typed : List ℕ → Data → Bool

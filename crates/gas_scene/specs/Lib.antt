@@ -1,6 +1,7 @@
 pub mod First
 pub mod Gases
 pub mod Fields
+pub mod Version
 pub mod Kind
 pub mod Cells
 pub mod Ranges

@@ -4,20 +4,21 @@ use Rattle.std.specs.List.{list_all, list_any}
 use Rattle.std.specs.Ordering.{int_eq}
 use Rattle.std.specs.Str.{bytes_eq}
 use Rattle.toml.specs.Data.{Data, Members}
-use Rattle.gas_geom.specs.declared.size.TheConstants.{MOST_SIDE}
+use Rattle.gas_scene.specs.declared.ranges.TheConstants.{LAST_GENERATION}
 use Rattle.gas_scene.specs.declared.fields.Extent.{Extent}
 use Rattle.gas_scene.specs.declared.fields.Span.{Span}
 use Rattle.gas_scene.specs.declared.fields.Rectangle.{Rectangle}
 use Rattle.gas_scene.specs.declared.fields.Placement.{Placement}
+use Rattle.gas_scene.specs.Version.{version_of, most_side}
 use Rattle.gas_scene.specs.Gases.{gas_named, states_named}
 use Rattle.gas_scene.specs.Fields.{has, text_at, integer_at, array_at, rows_at, extent_of, rectangle_of, placement_of}
 
 abbrev pub is_below : ℤ → ℤ → Bool
 is_below limit z = int_le (pos 0) z && int_lt z limit
 
--- a width or a height
-abbrev pub is_size : ℤ → Bool
-is_size z = int_le (pos 1) z && int_le z (pos MOST_SIDE)
+-- a width or a height of at most so many cells
+abbrev pub is_size : ℕ → ℤ → Bool
+is_size most z = int_le (pos 1) z && int_le z (pos most)
 
 -- a rate of filling, in thousandths
 abbrev pub is_rate : ℤ → Bool
@@ -55,7 +56,13 @@ abbrev pub is_placed : ℕ → Extent → List Data → Placement → Bool
 is_placed states e solid p = is_inside e p && (is_below (pos states) p.state && is_free solid p)
 
 abbrev pub is_version : Members → Bool
-is_version ms = not (has (codes "version") ms) || int_eq (integer_at (codes "version") ms) (pos 1)
+is_version ms =
+    let version : ℤ = integer_at (codes "version") ms in
+    not (has (codes "version") ms) || (int_eq version (pos 1) || int_eq version (pos 2))
+
+-- a number of a generation
+abbrev pub is_generation : ℤ → Bool
+is_generation z = int_le (pos 0) z && int_le z (pos LAST_GENERATION)
 
 abbrev pub is_gas : Members → Bool
 is_gas ms = is_some (gas_named (text_at (codes "gas") ms))
@@ -68,11 +75,13 @@ is_chirality ms =
 
 -- the values that both forms have
 abbrev pub is_common_in_range : Members → Bool
-is_common_in_range ms = is_version ms && (is_gas ms && (is_chirality ms && int_le (pos 0) (integer_at (codes "seed") ms)))
+is_common_in_range ms =
+    is_version ms && (is_gas ms && (is_chirality ms
+    && (int_le (pos 0) (integer_at (codes "seed") ms) && is_generation (integer_at (codes "generation") ms))))
 
 -- the number of rows of the map
 abbrev pub is_map_in_range : Members → Bool
-is_map_in_range ms = nat_le 1 (length (rows_at ms)) && nat_le (length (rows_at ms)) MOST_SIDE
+is_map_in_range ms = nat_le 1 (length (rows_at ms)) && nat_le (length (rows_at ms)) (most_side (version_of ms))
 
 -- the rectangles and the placements of the area
 abbrev pub is_filling : Extent → Members → Bool
@@ -82,13 +91,13 @@ is_filling e ms =
     list_all (λ d. fits e (rectangle_of d)) solid
     && list_all (λ d. is_placed states e solid (placement_of d)) (array_at (codes "particles") ms)
 
-abbrev pub is_extent : Extent → Bool
-is_extent e = is_size e.width && is_size e.height
+abbrev pub is_extent : ℕ → Extent → Bool
+is_extent most e = is_size most e.width && is_size most e.height
 
 -- the values of the area
 abbrev pub is_area_in_range : Members → Bool
 is_area_in_range ms =
-    is_extent (extent_of ms) && (is_rate (integer_at (codes "rate") ms) && is_filling (extent_of ms) ms)
+    is_extent (most_side (version_of ms)) (extent_of ms) && (is_rate (integer_at (codes "rate") ms) && is_filling (extent_of ms) ms)
 
 abbrev pub is_in_range : Members → Bool
 is_in_range ms = is_common_in_range ms && (if has (codes "cells") ms then is_map_in_range ms else is_area_in_range ms)

@@ -1,12 +1,12 @@
 -- Why a document's table is no scene.
 use Rattle.std.specs.Prelude.{ℕ, ◌*◌, ◌%◌, ◌==◌, ◌&&◌, ◌||◌, not, Bool, List, [], ◌∷◌, map, Option, Some, None, option_map, if◌then◌else◌, nat_le, length, codes}
 use Rattle.toml.specs.Data.{Members}
-use Rattle.gas_geom.specs.declared.size.TheConstants.{MOST_SIDE}
 use Rattle.gas_scene.specs.declared.error.SceneError.{SceneError}
 use Rattle.gas_scene.specs.declared.error.SceneError.TheVariants.{UnknownKey, Missing, WrongType, Range, BothForms, RowLength, BadCell}
 use Rattle.gas_scene.specs.First.{first_below, first_of}
 use Rattle.gas_scene.specs.Gases.{states_named}
 use Rattle.gas_scene.specs.Fields.{has, text_at, rows_at, row_at}
+use Rattle.gas_scene.specs.Version.{version_of, most_side}
 use Rattle.gas_scene.specs.Kind.{is_known, is_typed, members_all}
 use Rattle.gas_scene.specs.Cells.{bad_column}
 use Rattle.gas_scene.specs.Ranges.{is_in_range}
@@ -14,9 +14,9 @@ use Rattle.gas_scene.specs.Ranges.{is_in_range}
 abbrev pub refused_if : Bool → SceneError → Option SceneError
 refused_if b error = if b then Some error else None
 
--- a key that no scene has
+-- a key that no scene of the version has
 unfoldable pub unknown_key : Members → Option SceneError
-unknown_key ms = refused_if (not (members_all (λ key d. is_known key) ms)) UnknownKey
+unknown_key ms = refused_if (not (members_all (λ key d. is_known (version_of ms) key) ms)) UnknownKey
 
 -- a key of the area
 abbrev pub has_area : Members → Bool
@@ -47,16 +47,16 @@ unfoldable pub out_of_range : Members → Option SceneError
 out_of_range ms = refused_if (not (is_in_range ms)) Range
 
 -- two bytes for each cell
-abbrev pub is_row_length : ℕ → Bool
-is_row_length n = (n % 2 == 0) && (nat_le 2 n && nat_le n (2 * MOST_SIDE))
+abbrev pub is_row_length : ℕ → ℕ → Bool
+is_row_length most n = (n % 2 == 0) && (nat_le 2 n && nat_le n (2 * most))
 
 -- whether row r has a wrong length: the first row's counts for each
-abbrev pub is_misfit : List (List ℕ) → ℕ → Bool
-is_misfit rows r = not (is_row_length (length (row_at rows r)) && (length (row_at rows r) == length (row_at rows 0)))
+abbrev pub is_misfit : ℕ → List (List ℕ) → ℕ → Bool
+is_misfit most rows r = not (is_row_length most (length (row_at rows r)) && (length (row_at rows r) == length (row_at rows 0)))
 
 -- the first row of a wrong length
 unfoldable pub row_length : Members → Option SceneError
-row_length ms = first_below (λ r. refused_if (is_misfit (rows_at ms) r) (RowLength r)) (length (rows_at ms))
+row_length ms = first_below (λ r. refused_if (is_misfit (most_side (version_of ms)) (rows_at ms) r) (RowLength r)) (length (rows_at ms))
 
 -- the first column of row r in which no cell stands
 abbrev pub bad_cell_in : ℕ → List (List ℕ) → ℕ → Option SceneError

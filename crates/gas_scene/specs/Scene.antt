@@ -1,5 +1,5 @@
 -- The scene of a text.
-use Rattle.std.specs.Prelude.{◌≡◌, ◌⊎◌, ℕ, ◌^◌, List, Option, Some, None, Result, Ok, Err, if◌then◌else◌, codes}
+use Rattle.std.specs.Prelude.{◌≡◌, ◌⊎◌, ℕ, ◌^◌, List, Option, Some, None, Result, Ok, Err, if◌then◌else◌, codes, nat_abs}
 use Rattle.std.specs.Str.{bytes_eq, is_utf8}
 use Rattle.toml.specs.Data.{Members}
 use Rattle.toml.specs.Parse.{parse_document}
@@ -10,15 +10,16 @@ use Rattle.gas_rows.specs.declared.chirality.Chirality.TheVariants.{Seeded, Left
 use Rattle.gas_scene.specs.declared.error.SceneError.{SceneError}
 use Rattle.gas_scene.specs.declared.error.SceneError.TheVariants.{Memory, Syntax}
 use Rattle.gas_scene.specs.Gases.{rules_named, GasLattice}
-use Rattle.gas_scene.specs.Fields.{has, text_at, rows_at}
+use Rattle.gas_scene.specs.Fields.{has, text_at, integer_at, rows_at}
 use Rattle.gas_scene.specs.Refusals.{refusal_of}
 use Rattle.gas_scene.specs.Map.{map_lattice}
 use Rattle.gas_scene.specs.Area.{seed_of, area_lattice}
 
--- a lattice, and where the random bits of its collisions come from
+-- a lattice, where the random bits of its collisions come from, and its generation: the first step uses its random bits
 pub record SceneModel : Type 0 where
   pub lattice : GasLattice
   pub chirality : Chirality
+  pub generation : ℕ
 
 -- the lattice of a table of either form
 abbrev pub lattice_in : Rules → Members → LatticeModel
@@ -31,6 +32,10 @@ chirality_of ms =
     else if bytes_eq (text_at (codes "chirality") ms) (codes "right") then Right
     else Seeded (seed_of ms)
 
+-- left out, it is 0
+abbrev pub generation_of : Members → ℕ
+generation_of ms = nat_abs (integer_at (codes "generation") ms)
+
 -- the lattice of the gas that a table names
 abbrev pub gas_lattice_of : Members → GasLattice
 gas_lattice_of ms =
@@ -39,7 +44,7 @@ gas_lattice_of ms =
 
 -- the scene of a table that no check refuses
 abbrev pub scene_of : Members → SceneModel
-scene_of ms = record { lattice = gas_lattice_of ms; chirality = chirality_of ms }
+scene_of ms = record { lattice = gas_lattice_of ms; chirality = chirality_of ms; generation = generation_of ms }
 
 abbrev pub answer_of : Members → Option SceneError → Result SceneModel SceneError
 answer_of ms None = Ok (scene_of ms)

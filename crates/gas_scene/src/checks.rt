@@ -12,7 +12,7 @@ use crate::error::SceneError;
 use crate::fields::{array_at, has, row};
 use crate::kind::{has_known_keys, has_typed_values};
 use crate::ranges::{is_in_range, states};
-use gas_geom::size::MOST_SIDE;
+use crate::version::Version;
 use std::alloc::Global;
 use toml::{Table, Value};
 
@@ -23,11 +23,12 @@ fn refuse_if(refused: bool, error: SceneError) -> Result<(), SceneError>
     if refused { Err(error) } else { Ok(()) }
 }
 
-// Refuses a key that no scene has.
+// Refuses a key that no scene of the version has.
 fn check_keys(table: &Table) -> Result<(), SceneError>
     ensures { result ≡ verdict (unknown_key (table_view table.now)) }
 {
-    refuse_if(!has_known_keys(table), SceneError::UnknownKey)
+    let known = has_known_keys(Version::of(table), table);
+    refuse_if(!known, SceneError::UnknownKey)
 }
 
 // Whether there is a key of the area.
@@ -97,20 +98,20 @@ fn check_ranges(alloc: Global, table: &Table) -> Result<(), SceneError>
 }
 
 // Two bytes for each cell.
-fn is_row_length(length: usize) -> bool
-    ensures { result ≡ is_row_length length }
+fn is_row_length(most: u32, length: usize) -> bool
+    ensures { result ≡ is_row_length most length }
 {
-    length % 2 == 0 && 2 <= length && length <= 2 * MOST_SIDE as usize
+    length % 2 == 0 && 2 <= length && length <= 2 * most as usize
 }
 
 // Whether the length of row `r` is wrong: the first row's counts for each.
-fn is_misfit(rows: &[Value], r: usize) -> bool
+fn is_misfit(most: u32, rows: &[Value], r: usize) -> bool
     requires { r < length rows.now }
-    ensures { result ≡ is_misfit (map text_of (map view rows.now)) r }
+    ensures { result ≡ is_misfit most (map text_of (map view rows.now)) r }
 {
     let length = row(rows, r).len();
     let first = row(rows, 0).len();
-    !(is_row_length(length) && length == first)
+    !(is_row_length(most, length) && length == first)
 }
 
 // Refuses the first row of the map that has a wrong length.
@@ -118,9 +119,10 @@ fn check_row_lengths(table: &Table) -> Result<(), SceneError>
     requires { length (rows_at (table_view table.now)) ≤ MOST_SIDE }
     ensures { result ≡ verdict (row_length (table_view table.now)) }
 {
+    let most = Version::of(table).most_side();
     let rows = array_at(table, "cells");
     for r in 0..rows.len() {
-        if is_misfit(rows, r) {
+        if is_misfit(most, rows, r) {
             return Err(SceneError::RowLength(r as u32));
         }
     }

@@ -7,6 +7,7 @@ ghost use Rattle.toml.specs.View.{view};
 ghost use Rattle.gas_scene.specs.Kind.{kind_of, is_text, is_integer, is_tuple, is_of_kind, is_known, is_typed};
 
 use crate::fields::elements;
+use crate::version::Version;
 use toml::{Table, Value};
 
 /// A type of values.
@@ -25,7 +26,13 @@ impl Kind {
     fn of(key: &str) -> Option<Kind>
         ensures { result ≡ kind_of key.now }
     {
-        if key == "version" || key == "seed" || key == "width" || key == "height" || key == "rate" {
+        if key == "version"
+            || key == "generation"
+            || key == "seed"
+            || key == "width"
+            || key == "height"
+            || key == "rate"
+        {
             Some(Kind::Integer)
         } else if key == "gas" || key == "chirality" {
             Some(Kind::Text)
@@ -85,11 +92,21 @@ fn are_tuples(values: &[Value], n: usize) -> bool
     values.iter().all(|value| is_tuple(value, n))
 }
 
-/// Whether a scene has each of the keys.
-pub(crate) fn has_known_keys(table: &Table) -> bool
-    ensures { result ≡ list_all (λ k. is_known (string_bytes k)) (keys table.now) }
+// Whether a scene of this version has the key.
+fn is_known(version: Version, key: &str) -> bool
+    ensures { result ≡ is_known version key.now }
 {
-    table.keys().all(|key| Kind::of(key.as_str()).is_some())
+    match version {
+        Version::One => Kind::of(key).is_some() && key != "generation",
+        Version::Two => Kind::of(key).is_some(),
+    }
+}
+
+/// Whether a scene of this version has each of the keys.
+pub(crate) fn has_known_keys(version: Version, table: &Table) -> bool
+    ensures { result ≡ list_all (λ k. is_known version (string_bytes k)) (keys table.now) }
+{
+    table.keys().all(|key| is_known(version, key.as_str()))
 }
 
 // Whether the value is of the type of its key.

@@ -15,3 +15,4 @@ mod rectangles;
 pub mod scene;
 #[cfg(test)]
 mod tests;
+mod version;

@@ -4,25 +4,29 @@ ghost use Rattle.std.specs.Prelude.{◌≡◌, true, not, codes, pos, nat_abs, I
 ghost use Rattle.std.specs.List.{list_all};
 ghost use Rattle.toml.specs.View.{view, table_view};
 ghost use Rattle.gas_geom.specs.Size.{IsSize};
+ghost use Rattle.gas_geom.specs.declared.size.TheConstants.{MOST_SIDE};
 ghost use Rattle.gas_geom.specs.Channel.{is_solid};
 ghost use Rattle.gas_scene.specs.Fields.{text_at, rectangle_of, placement_of};
 ghost use Rattle.gas_scene.specs.Gases.{states_named};
 ghost use Rattle.gas_scene.specs.Strips.{is_cell_of, is_placed_in};
-ghost use Rattle.gas_scene.specs.Ranges.{is_size, is_rate, is_below, is_span_of, fits, is_version, is_gas, is_chirality, is_common_in_range, is_map_in_range, is_filling, is_extent, is_area_in_range, is_in_range};
+ghost use Rattle.gas_scene.specs.Ranges.{is_size, is_rate, is_below, is_span_of, fits, is_version, is_generation, is_gas, is_chirality, is_common_in_range, is_map_in_range, is_filling, is_extent, is_area_in_range, is_in_range};
 
 use crate::fields::{Extent, Placement, Rectangle, Span, array_at, has, integer_at, text_at};
 use crate::gases::states_named;
 use crate::rectangles::channel_with;
-use gas_geom::size::MOST_SIDE;
+use crate::version::Version;
 use gas_rows::channel::Channel;
 use std::alloc::{AllocError, Global};
 use toml::{Table, Value};
 
-// Whether this is a width or a height.
-fn is_size(size: i64) -> bool
-    ensures { result ≡ is_size size }
+/// The last generation that a scene can have.
+pub(crate) const LAST_GENERATION: u64 = 1_000_000_000_000;
+
+// Whether this is a width or a height of at most so many cells.
+fn is_size(most: u32, size: i64) -> bool
+    ensures { result ≡ is_size most size }
 {
-    1 <= size && size <= i64::from(MOST_SIDE)
+    1 <= size && size <= i64::from(most)
 }
 
 // Whether this is a rate of filling, in thousandths.
@@ -110,7 +114,15 @@ fn are_placed(values: &[Value], states: u16, channel: &Channel) -> bool
 fn is_version(table: &Table) -> bool
     ensures { result ≡ is_version (table_view table.now) }
 {
-    !has(table, "version") || integer_at(table, "version") == 1
+    let version = integer_at(table, "version");
+    !has(table, "version") || version == 1 || version == 2
+}
+
+// Whether this is the number of a generation.
+fn is_generation(generation: i64) -> bool
+    ensures { result ≡ is_generation generation }
+{
+    0 <= generation && generation <= LAST_GENERATION as i64
 }
 
 fn is_gas(table: &Table) -> bool
@@ -130,7 +142,11 @@ fn is_chirality(table: &Table) -> bool
 fn is_common_in_range(table: &Table) -> bool
     ensures { result ≡ is_common_in_range (table_view table.now) }
 {
-    is_version(table) && is_gas(table) && is_chirality(table) && 0 <= integer_at(table, "seed")
+    is_version(table)
+        && is_gas(table)
+        && is_chirality(table)
+        && 0 <= integer_at(table, "seed")
+        && is_generation(integer_at(table, "generation"))
 }
 
 // Whether the number of rows of the map is in range.
@@ -138,7 +154,7 @@ fn is_map_in_range(table: &Table) -> bool
     ensures { result ≡ is_map_in_range (table_view table.now) }
 {
     let rows = array_at(table, "cells").len();
-    1 <= rows && rows <= MOST_SIDE as usize
+    1 <= rows && rows <= Version::of(table).most_side() as usize
 }
 
 /// The number of states of a cell, or 0 where the gas is none.
@@ -148,16 +164,16 @@ pub(crate) fn states(table: &Table) -> u16
     states_named(text_at(table, "gas")).unwrap_or(0)
 }
 
-fn is_extent(extent: Extent) -> bool
-    ensures { result ≡ is_extent extent }
+fn is_extent(most: u32, extent: Extent) -> bool
+    ensures { result ≡ is_extent most extent }
 {
-    is_size(extent.width) && is_size(extent.height)
+    is_size(most, extent.width) && is_size(most, extent.height)
 }
 
 // Whether the rectangles and the placements of the area are in range. Each placement is looked up
 // in the channel of the rectangles.
 fn is_filling(alloc: Global, table: &Table, extent: Extent) -> Result<bool, AllocError>
-    requires { is_extent extent ≡ true }
+    requires { is_extent MOST_SIDE extent ≡ true }
     ensures { IfOk result (λ held. held ≡ is_filling extent (table_view table.now)) }
 {
     let solid = array_at(table, "solid");
@@ -174,7 +190,8 @@ fn is_area_in_range(alloc: Global, table: &Table) -> Result<bool, AllocError>
     ensures { IfOk result (λ held. held ≡ is_area_in_range (table_view table.now)) }
 {
     let extent = Extent::read(table);
-    if is_extent(extent) && is_rate(integer_at(table, "rate")) {
+    let most = Version::of(table).most_side();
+    if is_extent(most, extent) && is_rate(integer_at(table, "rate")) {
         is_filling(alloc, table, extent)
     } else {
         Ok(false)

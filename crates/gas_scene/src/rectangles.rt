@@ -195,7 +195,7 @@ fn strips(alloc: Global, size: Size, solid: &[Value]) -> Result<Vec<Vec<Strip>>,
 
 // The size of an area.
 fn size(extent: Extent) -> Size
-    requires { is_extent extent ≡ true }
+    requires { is_extent MOST_SIDE extent ≡ true }
     ensures { result ≡ record { width = nat_abs extent.width; height = nat_abs extent.height } }
 {
     Size::new(extent.width as u32, extent.height as u32).unwrap()
@@ -207,7 +207,7 @@ pub(crate) fn channel_with(
     extent: Extent,
     solid: &[Value],
 ) -> Result<Channel, AllocError>
-    requires sized { is_extent extent ≡ true }
+    requires sized { is_extent MOST_SIDE extent ≡ true }
     requires fitting { list_all (λ d. fits extent (rectangle_of d)) (map view solid.now) ≡ true }
     ensures { IfOk result (λ c. c ≡ channel_with extent (map view solid.now)) }
 {

@@ -4,13 +4,13 @@ ghost use Rattle.gas_scene.specs.Gases.{states_named, gas_lattice};
 ghost use Rattle.gas_scene.specs.Fields.{text_at};
 ghost use Rattle.gas_scene.specs.Ranges.{is_common_in_range};
 ghost use Rattle.gas_scene.specs.Refusals.{refusal_of};
-ghost use Rattle.gas_scene.specs.Scene.{chirality_of, lattice_in, gas_lattice_of, scene_of, table_answer, scene_of_text, Gives};
+ghost use Rattle.gas_scene.specs.Scene.{chirality_of, generation_of, lattice_in, gas_lattice_of, scene_of, table_answer, scene_of_text, Gives};
 
 use crate::any_lattice::AnyLattice;
 use crate::area_form::{area_lattice, seed};
 use crate::checks::check;
 use crate::error::SceneError;
-use crate::fields::{has, text_at};
+use crate::fields::{has, integer_at, text_at};
 use crate::map_form::map_lattice;
 use gas_geom::fhp_rest::FhpRest;
 use gas_geom::fhp1::Fhp1;
@@ -22,11 +22,13 @@ use std::alloc::{AllocError, Global};
 use std::marker::Model;
 use toml::Table;
 
-/// A lattice, and where the random bits of its collisions come from.
+/// A lattice, where the random bits of its collisions come from, and its generation: the first step
+/// uses the random bits of that generation.
 #[derive(Drop)]
 pub struct Scene {
     lattice: AnyLattice,
     chirality: Chirality,
+    generation: u64,
 }
 
 impl Model for Scene {
@@ -35,7 +37,7 @@ impl Model for Scene {
 
     ghost Value = { SceneModel };
 
-    ghost view = { λ s. record { lattice = gas_lattice s.lattice; chirality = s.chirality } };
+    ghost view = { λ s. record { lattice = gas_lattice s.lattice; chirality = s.chirality; generation = s.generation } };
 }
 
 impl Scene {
@@ -49,6 +51,13 @@ impl Scene {
         ensures { result ≡ self.now.chirality }
     {
         self.chirality
+    }
+
+    /// The generation of the lattice, 0 to 1,000,000,000,000.
+    pub fn generation(&self) -> u64
+        ensures { result ≡ self.now.generation }
+    {
+        self.generation
     }
 }
 
@@ -65,6 +74,13 @@ fn chirality_of(table: &Table) -> Chirality
     } else {
         Chirality::Seeded(seed(table))
     }
+}
+
+// The generation, or 0 where it is absent.
+fn generation_of(table: &Table) -> u64
+    ensures { result ≡ generation_of (table_view table.now) }
+{
+    integer_at(table, "generation").unsigned_abs()
 }
 
 // The lattice of a table of either form.
@@ -106,6 +122,7 @@ fn build(alloc: Global, table: &Table) -> Result<Scene, AllocError>
     Ok(Scene {
         lattice: any_lattice(alloc, table)?,
         chirality: chirality_of(table),
+        generation: generation_of(table),
     })
 }
 
@@ -122,14 +139,18 @@ fn read_table(alloc: Global, table: &Table) -> Result<Scene, SceneError>
 
 /// Reads a scene, a TOML document in UTF-8 whose keys stand at the top level.
 ///
-/// Both forms: `version` is 1, `gas` (required) is `"fhp1"`, `"hpp"` or `"fhp-rest"`, `chirality` is `"seeded"`,
-/// `"left"` or `"right"`, and `seed` is 0 or more; left out, they are 1, `"seeded"` and 0.
+/// Both forms: `version` is 1 or 2, `gas` (required) is `"fhp1"`, `"hpp"` or `"fhp-rest"`, `chirality` is `"seeded"`,
+/// `"left"` or `"right"`, and `seed` is 0 or more; left out, they are 1, `"seeded"` and 0. Version 2 alone
+/// has `generation`, the generation of the lattice that is given, 0 to 1,000,000,000,000, and 0 where it is
+/// left out.
 ///
-/// A map has `cells`, 1 to 4096 texts of one length, the rows from the top: two characters for each
-/// of 1 to 4096 cells, `..` or `00` for an empty one, `##` for a solid one, and else the state as
+/// The sides of a lattice have 1 to 4096 cells under version 1, and 1 to `MOST_SIDE` under version 2.
+///
+/// A map has `cells`, texts of one length, the rows from the top: two characters for each
+/// cell, `..` or `00` for an empty one, `##` for a solid one, and else the state as
 /// two digits of `0123456789abcdef`, where bit `i` stands for direction `i`.
 ///
-/// An area has `width` and `height`, each 1 to 4096, and may have `solid`, rectangles
+/// An area has `width` and `height`, and may have `solid`, rectangles
 /// `[x, y, w, h]` within it, `rate`, 0 to 1000, and `particles`, entries `[x, y, state]` at fluid
 /// cells. The rectangles are solid, each fluid cell is filled at the rate in thousandths by the key
 /// stream under the seed, and then each entry in order sets the state of its cell.

@@ -65,14 +65,6 @@ fn texts(rt: HostRuntime) {
             Some(SceneError::WrongType),
         ),
         (
-            "gas = \"fhp1\"\ncells = [\"01\"]\nversion = 2",
-            Some(SceneError::Range),
-        ),
-        (
-            "gas = \"fhp1\"\ncells = [\"01\"]\nversion = \"1\"",
-            Some(SceneError::WrongType),
-        ),
-        (
             "gas = \"fhp1\"\ncells = [\"é.\"]",
             Some(SceneError::RowLength(0)),
         ),
@@ -84,6 +76,82 @@ fn texts(rt: HostRuntime) {
         assert!(rt; refusal(rt.alloc(), text.as_bytes()) == wanted, "{text}");
     }
     assert!(rt; refusal(rt.alloc(), &[0xff]) == Some(SceneError::Syntax));
+}
+
+// The version decides whether there may be a generation. What is no version counts as 1.
+#[test]
+fn versions(rt: HostRuntime) -> Result<(), Fail> {
+    for (keys, wanted) in [
+        ("version = 1", None),
+        ("version = 2", None),
+        ("version = 0", Some(SceneError::Range)),
+        ("version = 3", Some(SceneError::Range)),
+        ("version = -2", Some(SceneError::Range)),
+        ("version = \"1\"", Some(SceneError::WrongType)),
+        ("version = \"2\"", Some(SceneError::WrongType)),
+        ("version = 2.0", Some(SceneError::WrongType)),
+        ("generation = 3", Some(SceneError::UnknownKey)),
+        ("generation = 3\nversion = 1", Some(SceneError::UnknownKey)),
+        ("generation = 3\nversion = 3", Some(SceneError::UnknownKey)),
+        (
+            "generation = 3\nversion = \"2\"",
+            Some(SceneError::UnknownKey),
+        ),
+        ("generation = 3\nversion = 2", None),
+        ("generation = -1\nversion = 2", Some(SceneError::Range)),
+        ("generation = 1000000000000\nversion = 2", None),
+        (
+            "generation = 1000000000001\nversion = 2",
+            Some(SceneError::Range),
+        ),
+        (
+            "generation = \"1\"\nversion = 2",
+            Some(SceneError::WrongType),
+        ),
+    ] {
+        for form in ["cells = [\"01\"]", "width = 3\nheight = 2"] {
+            let text = format!(in rt.alloc(); "gas = \"fhp1\"\n{form}\n{keys}")?;
+            assert!(rt;
+                refusal(rt.alloc(), text.as_str().as_bytes()) == wanted,
+                "{form} {keys}"
+            );
+        }
+    }
+    Ok(())
+}
+
+// The sides of an area: at most 4096 cells under version 1.
+#[test]
+fn sides(rt: HostRuntime) -> Result<(), Fail> {
+    for (keys, wanted) in [
+        ("width = 4096\nheight = 1", None),
+        ("width = 4097\nheight = 1", Some(SceneError::Range)),
+        ("width = 1\nheight = 4096", None),
+        ("width = 1\nheight = 4097", Some(SceneError::Range)),
+        (
+            "version = 1\nwidth = 4097\nheight = 1",
+            Some(SceneError::Range),
+        ),
+        (
+            "version = 2\nwidth = 65537\nheight = 1",
+            Some(SceneError::Range),
+        ),
+        (
+            "version = 2\nwidth = 1\nheight = 65537",
+            Some(SceneError::Range),
+        ),
+        (
+            "version = 2\nwidth = 0\nheight = 1",
+            Some(SceneError::Range),
+        ),
+    ] {
+        let text = format!(in rt.alloc(); "gas = \"fhp1\"\n{keys}")?;
+        assert!(rt;
+            refusal(rt.alloc(), text.as_str().as_bytes()) == wanted,
+            "{keys}"
+        );
+    }
+    Ok(())
 }
 
 // Areas: the keys beside the gas and the size.
@@ -122,7 +190,7 @@ fn areas(rt: HostRuntime) -> Result<(), Fail> {
     Ok(())
 }
 
-// The limits of a map: 4096 cells in a row, and 4096 rows.
+// The limits of a map under version 1: 4096 cells in a row, and 4096 rows.
 #[test]
 fn large_maps(rt: HostRuntime) -> Result<(), Fail> {
     for (pairs, rows, wanted) in [

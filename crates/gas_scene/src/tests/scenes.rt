@@ -65,6 +65,24 @@ fn chiralities(rt: HostRuntime) -> Result<(), Fail> {
     Ok(())
 }
 
+#[test]
+fn generations(rt: HostRuntime) -> Result<(), Fail> {
+    for (keys, wanted) in [
+        ("", 0),
+        ("version = 1", 0),
+        ("version = 2", 0),
+        ("version = 2\ngeneration = 10", 10),
+        ("version = 2\ngeneration = 1000000000000", 1000000000000),
+    ] {
+        let text = format!(in rt.alloc();
+            "gas = \"fhp1\"\nchirality = \"left\"\ncells = [\"........\", \"......01\", \"........\"]\n{keys}"
+        )?;
+        let scene = read(rt.alloc(), text.as_str().as_bytes())?;
+        assert!(rt; scene.generation() == wanted, "{keys}");
+    }
+    Ok(())
+}
+
 // Filling, asked cell by cell of the key stream.
 #[test]
 fn filling(rt: HostRuntime) -> Result<(), Fail> {

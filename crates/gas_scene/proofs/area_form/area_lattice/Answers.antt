@@ -3,6 +3,7 @@ use Rattle.std.specs.List.{list_all}
 use Rattle.toml.specs.Data.{Data}
 use Rattle.toml.specs.View.{table_view}
 use Rattle.gas_geom.specs.Size.{IsSize}
+use Rattle.gas_geom.specs.declared.size.TheConstants.{MOST_SIDE}
 use Rattle.gas_geom.specs.Lattice.{LatticeModel, empty_lattice}
 use Rattle.gas_scene.specs.declared.fields.Extent.{Extent}
 use Rattle.gas_scene.specs.Fields.{extent_of, rectangle_of}
@@ -15,7 +16,7 @@ use Rattle.gas_scene.proofs.Areas.{All-can, IsSize-extent, extent-range, rectang
 use Rattle.gas_scene.proofs.area_form.area_lattice.Goals as goal
 
 pub channel_with-requires-clause-sized : goal.channel_with-requires-clause-sized
-channel_with-requires-clause-sized g c = ap is_extent c.read-extent.ensures ∙ extent-range (table_view c.args.table.now) c.requires.area
+channel_with-requires-clause-sized g c = ap (is_extent MOST_SIDE) c.read-extent.ensures ∙ extent-range (table_view c.args.table.now) c.requires.area
 
 pub channel_with-requires-clause-fitting : goal.channel_with-requires-clause-fitting
 channel_with-requires-clause-fitting g c =
