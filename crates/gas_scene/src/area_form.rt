@@ -1,6 +1,6 @@
 //! The lattice of an area.
 
-ghost use Rattle.std.specs.Prelude.{◌≡◌, ℕ, ◌+◌, ◌*◌, ◌%◌, ◌<◌, ◌≤◌, ◌^◌, Bool, true, length, map, slice_index, IfOk, All, nat_lt, nat_abs, codes, if◌then◌else◌};
+ghost use Rattle.std.specs.Prelude.{◌≡◌, ℕ, ◌+◌, ◌*◌, ◌%◌, ◌<◌, ◌≤◌, ◌^◌, Bool, true, length, map, slice_index, IfOk, OnOk, All, nat_lt, nat_abs, codes, if◌then◌else◌};
 ghost use Rattle.toml.specs.View.{view, table_view};
 ghost use Rattle.gas_geom.specs.Size.{IsSize};
 ghost use Rattle.gas_geom.specs.declared.size.TheConstants.{MOST_SIDE};
@@ -14,7 +14,6 @@ ghost use Rattle.gas_scene.specs.Building.{filled_before, CanPlace};
 use crate::fields::{Extent, Placement, array_at, integer_at};
 use crate::rectangles::channel_with;
 use gas_geom::gas::Gas;
-use gas_geom::size::MOST_SIDE;
 use gas_rows::key::key_words;
 use gas_rows::lattice::Lattice;
 use std::alloc::{AllocError, Global};
@@ -32,17 +31,25 @@ fn particle(word: u32, rate: u32, i: u32) -> u8
     u8::from(word % 1000 < rate) << i
 }
 
-// Adds direction `i` to the states of row `y` where filling puts a particle into it.
-fn add_direction(states: &mut [u8], width: u32, seed: u64, rate: u32, y: u32, i: u32)
-    requires wide { width ≤ length states.old }
+// Adds direction `i` to the states of row `y` where filling puts a particle into it, by way of a
+// buffer for the words of the row.
+fn add_direction(
+    states: &mut [u8],
+    words: &mut [u32],
+    width: u32,
+    seed: u64,
+    rate: u32,
+    y: u32,
+    i: u32,
+)
+    requires wide { length states.old ≡ width }
+    requires as_wide { length words.old ≡ width }
     requires few { width ≤ MOST_SIDE }
     requires row { y < MOST_SIDE }
     requires direction { i < 8 }
     requires below { (x : ℕ) → x < width → slice_index states.old x < 2 ^ i }
     ensures { (x : ℕ) → x < width → slice_index states.new x ≡ slice_index states.old x + (if filled seed rate width x y i then 2 ^ i else 0) }
 {
-    let mut buffer = [0u32; MOST_SIDE as usize];
-    let words = &mut buffer[..width as usize];
     let first = u64::from(y) * u64::from(width);
     key_words(seed, FIRST_STREAM + u64::from(i), first, words);
     for x in 0..width as usize {
@@ -51,21 +58,38 @@ fn add_direction(states: &mut [u8], width: u32, seed: u64, rate: u32, y: u32, i:
 }
 
 // Sets the states of row `y` to what filling gives.
-fn fill_states<G: Gas>(states: &mut [u8], width: u32, seed: u64, rate: u32, y: u32)
-    requires wide { width ≤ length states.old }
+fn fill_states<G: Gas>(
+    states: &mut [u8],
+    words: &mut [u32],
+    width: u32,
+    seed: u64,
+    rate: u32,
+    y: u32,
+)
+    requires wide { length states.old ≡ width }
+    requires as_wide { length words.old ≡ width }
     requires few { width ≤ MOST_SIDE }
     requires row { y < MOST_SIDE }
     ensures { (x : ℕ) → x < width → slice_index states.new x ≡ filling G.rules seed rate width x y }
 {
     states.fill(0);
     for i in 0..G::DIRS {
-        add_direction(states, width, seed, rate, y, i);
+        add_direction(states, words, width, seed, rate, y, i);
     }
 }
 
-// Fills the fluid cells of row `y`.
-fn fill_row<G: Gas>(lattice: &mut Lattice<G>, seed: u64, rate: u32, y: u32)
+// Fills the fluid cells of row `y`, by way of a buffer for its states and one for words.
+fn fill_row<G: Gas>(
+    lattice: &mut Lattice<G>,
+    states: &mut [u8],
+    words: &mut [u32],
+    seed: u64,
+    rate: u32,
+    y: u32,
+)
     requires size { IsSize lattice.old.channel.width lattice.old.channel.height }
+    requires wide { length states.old ≡ lattice.old.channel.width }
+    requires as_wide { length words.old ≡ lattice.old.channel.width }
     requires row { y < lattice.old.channel.height }
     ensures wide { lattice.new.channel.width ≡ lattice.old.channel.width }
     ensures high { lattice.new.channel.height ≡ lattice.old.channel.height }
@@ -74,25 +98,56 @@ fn fill_row<G: Gas>(lattice: &mut Lattice<G>, seed: u64, rate: u32, y: u32)
         → lattice.new ≡ filled_before G.rules seed rate lattice.old.channel.width h solid 0 (y + 1) }
 {
     let width = lattice.channel().size().width();
-    let mut buffer = [0u8; MOST_SIDE as usize];
-    let states = &mut buffer[..width as usize];
-    fill_states::<G>(states, width, seed, rate, y);
+    fill_states::<G>(states, words, width, seed, rate, y);
     lattice.set_states(y, states);
 }
 
-// Fills the fluid cells.
-fn fill<G: Gas>(lattice: &mut Lattice<G>, seed: u64, rate: u32)
+// Fills the fluid cells, by way of buffers for a row.
+fn fill_rows<G: Gas>(
+    lattice: &mut Lattice<G>,
+    states: &mut [u8],
+    words: &mut [u32],
+    seed: u64,
+    rate: u32,
+)
     requires size { IsSize lattice.old.channel.width lattice.old.channel.height }
+    requires wide { length states.old ≡ lattice.old.channel.width }
+    requires as_wide { length words.old ≡ lattice.old.channel.width }
     ensures { (solid : ℕ → ℕ → Bool)
         → lattice.old ≡ filled_before G.rules seed rate lattice.old.channel.width lattice.old.channel.height solid 0 0
         → lattice.new ≡ filled_before G.rules seed rate lattice.old.channel.width lattice.old.channel.height solid 0 lattice.old.channel.height }
 {
-    if rate == 0 {
-        return;
-    }
     for y in 0..lattice.channel().size().height() {
-        fill_row(lattice, seed, rate, y);
+        fill_row(lattice, states, words, seed, rate, y);
     }
+}
+
+// Fills the fluid cells. Where memory is refused the lattice is as it was.
+fn fill<G: Gas>(
+    alloc: Global,
+    lattice: &mut Lattice<G>,
+    seed: u64,
+    rate: u32,
+) -> Result<(), AllocError>
+    requires size { IsSize lattice.old.channel.width lattice.old.channel.height }
+    ensures { OnOk result ((solid : ℕ → ℕ → Bool)
+        → lattice.old ≡ filled_before G.rules seed rate lattice.old.channel.width lattice.old.channel.height solid 0 0
+        → lattice.new ≡ filled_before G.rules seed rate lattice.old.channel.width lattice.old.channel.height solid 0 lattice.old.channel.height) }
+{
+    if rate == 0 {
+        return Ok(());
+    }
+    let width = lattice.channel().size().width() as usize;
+    let mut states = vec![in alloc; 0u8; width]?;
+    let mut words = vec![in alloc; 0u32; width]?;
+    fill_rows(
+        lattice,
+        states.as_mut_slice(),
+        words.as_mut_slice(),
+        seed,
+        rate,
+    );
+    Ok(())
 }
 
 // Sets the state of the cell of a placement.
@@ -148,7 +203,7 @@ pub(crate) fn area_lattice<G: Gas>(alloc: Global, table: &Table) -> Result<Latti
     let extent = Extent::read(table);
     let channel = channel_with(alloc, extent, array_at(table, "solid"))?;
     let mut lattice = Lattice::blank(alloc, channel)?;
-    fill(&mut lattice, seed(table), rate(table));
+    fill(alloc, &mut lattice, seed(table), rate(table))?;
     put_all(&mut lattice, array_at(table, "particles"));
     Ok(lattice)
 }

@@ -4,13 +4,13 @@ ghost use Rattle.std.specs.Prelude.{◌≡◌, ℕ, ◌+◌, ◌/◌, ◌<◌, �
 ghost use Rattle.toml.specs.View.{view, table_view};
 ghost use Rattle.gas_scene.specs.Fields.{text_of, rows_at};
 ghost use Rattle.gas_scene.specs.Cells.{cell_at};
-ghost use Rattle.gas_scene.specs.Map.{is_solid_cell, state_in, map_lattice};
+ghost use Rattle.gas_scene.specs.Map.{is_solid_cell, state_in, map_width, map_lattice};
 ghost use Rattle.gas_scene.specs.Building.{map_before, IsMap};
 
 use crate::cells::Cell;
 use crate::fields::{array_at, row};
 use gas_geom::gas::Gas;
-use gas_geom::size::{MOST_SIDE, Size};
+use gas_geom::size::Size;
 use gas_rows::channel::Channel;
 use gas_rows::lattice::Lattice;
 use std::alloc::{AllocError, Global};
@@ -34,21 +34,42 @@ fn read_row(row: &[u8], solid: &mut [bool], state_of: &mut [u8])
     }
 }
 
-// Puts the cells of row `y`.
-fn put_row<G: Gas>(lattice: &mut Lattice<G>, rows: &[Value], y: u32)
+// Puts the cells of row `y`, by way of a buffer for its solid cells and one for its states.
+fn put_row<G: Gas>(
+    lattice: &mut Lattice<G>,
+    rows: &[Value],
+    y: u32,
+    solid: &mut [bool],
+    state_of: &mut [u8],
+)
     requires map { IsMap (2 ^ G.rules.dirs) (map text_of (map view rows.now)) }
     requires within { y < length rows.now }
+    requires wide { length solid.old ≡ map_width (map text_of (map view rows.now)) }
+    requires as_wide { length state_of.old ≡ map_width (map text_of (map view rows.now)) }
     requires before { lattice.old ≡ map_before (2 ^ G.rules.dirs) (map text_of (map view rows.now)) 0 y }
     ensures { lattice.new ≡ map_before (2 ^ G.rules.dirs) (map text_of (map view rows.now)) 0 (y + 1) }
 {
     let row = row(rows, y as usize);
-    let width = row.len() / 2;
-    let mut solid_buffer = [false; MOST_SIDE as usize];
-    let mut state_buffer = [0u8; MOST_SIDE as usize];
-    let solid = &mut solid_buffer[..width];
-    let state_of = &mut state_buffer[..width];
     read_row(row, solid, state_of);
     lattice.set_row(y, solid, state_of);
+}
+
+// Puts the cells of all rows, by way of buffers for one.
+fn put_rows<G: Gas>(
+    lattice: &mut Lattice<G>,
+    rows: &[Value],
+    solid: &mut [bool],
+    state_of: &mut [u8],
+)
+    requires map { IsMap (2 ^ G.rules.dirs) (map text_of (map view rows.now)) }
+    requires before { lattice.old ≡ map_before (2 ^ G.rules.dirs) (map text_of (map view rows.now)) 0 0 }
+    requires wide { length solid.old ≡ map_width (map text_of (map view rows.now)) }
+    requires as_wide { length state_of.old ≡ map_width (map text_of (map view rows.now)) }
+    ensures { lattice.new ≡ map_before (2 ^ G.rules.dirs) (map text_of (map view rows.now)) 0 (length rows.now) }
+{
+    for y in 0..rows.len() {
+        put_row(lattice, rows, y as u32, solid, state_of);
+    }
 }
 
 /// The lattice of a map.
@@ -60,8 +81,13 @@ pub(crate) fn map_lattice<G: Gas>(alloc: Global, table: &Table) -> Result<Lattic
     let width = row(rows, 0).len() / 2;
     let size = Size::new(width as u32, rows.len() as u32).unwrap();
     let mut lattice = Lattice::blank(alloc, Channel::free(alloc, size)?)?;
-    for y in 0..rows.len() {
-        put_row(&mut lattice, rows, y as u32);
-    }
+    let mut solid = vec![in alloc; false; width]?;
+    let mut state_of = vec![in alloc; 0u8; width]?;
+    put_rows(
+        &mut lattice,
+        rows,
+        solid.as_mut_slice(),
+        state_of.as_mut_slice(),
+    );
     Ok(lattice)
 }

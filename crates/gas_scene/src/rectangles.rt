@@ -14,7 +14,7 @@ ghost use Rattle.gas_scene.specs.Building.{IsRectangleIn};
 ghost use Rattle.gas_scene.specs.Strips.{channel_before, channel_of, channel_with, strips_at, reaches, is_reached, strip_of, first_row, IsStrip, AreStrips};
 
 use crate::fields::{Extent, Rectangle};
-use gas_geom::size::{MOST_SIDE, Size};
+use gas_geom::size::Size;
 use gas_rows::channel::Channel;
 use std::alloc::{AllocError, Global};
 use toml::Value;
@@ -214,9 +214,14 @@ pub(crate) fn channel_with(
     let size = size(extent);
     let mut channel = Channel::free(alloc, size)?;
     let rows = strips(alloc, size, solid)?;
-    let mut until = [0u32; MOST_SIDE as usize];
-    let mut blocks = [0u32; MOST_SIDE as usize / 64];
-    let until = &mut until[..size.width() as usize];
-    make_solid(&mut channel, rows.as_slice(), until, &mut blocks);
+    let width = size.width() as usize;
+    let mut until = vec![in alloc; 0u32; width]?;
+    let mut blocks = vec![in alloc; 0u32; width / 64 + 1]?;
+    make_solid(
+        &mut channel,
+        rows.as_slice(),
+        until.as_mut_slice(),
+        blocks.as_mut_slice(),
+    );
     Ok(channel)
 }

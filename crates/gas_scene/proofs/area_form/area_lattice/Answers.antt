@@ -29,7 +29,7 @@ put_all-requires-clause-size g c =
     let ms = table_view c.args.table.now in
     let made : c.in_ok-lattice.lattice ≡ lattice_of (area_width ms) (area_height ms) (is_solid_in ms) (λ _ _. 0) =
     c.in_ok-lattice.ensures ∙ ap empty_lattice (c.in_ok-channel.ensures ∙ ap₂ channel_with c.read-extent.ensures c.array_at.ensures) ∙ lattice_of-solid_in ms in
-    let after = lattice_of-filled gas _ _ (area_width ms) (area_height ms) (is_solid_in ms) _ _ made c.fill.ensures in
+    let after = lattice_of-filled gas _ _ (area_width ms) (area_height ms) (is_solid_in ms) _ _ made c.in_ok-fill.ensures in
     subst (λ (l : LatticeModel). IsSize l.channel.width l.channel.height) (sym after) (IsSize-extent (extent_of ms) (extent-range ms c.requires.area))
 
 pub put_all-requires-clause-can : goal.put_all-requires-clause-can
@@ -38,7 +38,7 @@ put_all-requires-clause-can g c =
     let ms = table_view c.args.table.now in
     let made : c.in_ok-lattice.lattice ≡ lattice_of (area_width ms) (area_height ms) (is_solid_in ms) (λ _ _. 0) =
     c.in_ok-lattice.ensures ∙ ap empty_lattice (c.in_ok-channel.ensures ∙ ap₂ channel_with c.read-extent.ensures c.array_at.ensures) ∙ lattice_of-solid_in ms in
-    let after = lattice_of-filled gas _ _ (area_width ms) (area_height ms) (is_solid_in ms) _ _ made c.fill.ensures in
+    let after = lattice_of-filled gas _ _ (area_width ms) (area_height ms) (is_solid_in ms) _ _ made c.in_ok-fill.ensures in
     All-can ms c.requires.area (2 ^ gas.dirs) c.array_at-2.result.now _ _ c.requires.gas c.array_at-2.ensures after
 
 pub returns : goal.returns
@@ -47,6 +47,6 @@ returns g c =
     let ms = table_view c.args.table.now in
     let made : c.in_ok-lattice.lattice ≡ lattice_of (area_width ms) (area_height ms) (is_solid_in ms) (λ _ _. 0) =
     c.in_ok-lattice.ensures ∙ ap empty_lattice (c.in_ok-channel.ensures ∙ ap₂ channel_with c.read-extent.ensures c.array_at.ensures) ∙ lattice_of-solid_in ms in
-    let after = lattice_of-filled gas _ _ (area_width ms) (area_height ms) (is_solid_in ms) _ _ made c.fill.ensures in
+    let after = lattice_of-filled gas _ _ (area_width ms) (area_height ms) (is_solid_in ms) _ _ made c.in_ok-fill.ensures in
     c.put_all.ensures (area_width ms) (area_height ms) (is_solid_in ms) _ after
     ∙ lattice_of-area gas ms _ _ c.array_at-2.result.now c.seed.ensures c.rate.ensures c.array_at-2.ensures

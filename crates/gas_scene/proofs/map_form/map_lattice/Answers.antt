@@ -10,8 +10,8 @@ use Rattle.gas_scene.proofs.Maps.{map_before-none, map_before-all}
 use Rattle.gas_scene.proofs.map_form.map_lattice.Goals as goal
 use Rattle.gas_scene.specs.Building.{map_before}
 
-pub loop-y-init : goal.loop-y-init
-loop-y-init g c =
+pub put_rows-requires-clause-before : goal.put_rows-requires-clause-before
+put_rows-requires-clause-before g c =
     let states = 2 ^ g.G.Gas.rules.dirs in
     let rows = map text_of (map view c.array_at-rows.result.now) in
     let values = c.array_at-rows.result.now in
@@ -26,6 +26,6 @@ pub returns : goal.returns
 returns g c =
     let states = 2 ^ g.G.Gas.rules.dirs in
     let values = c.array_at-rows.result.now in
-    let end : c.loop-y.y ≡ length (map text_of (map view values)) = omega (arith, c.loop-y-test.false, c.loop-y.auto.y-end, length-map values view, length-map (map view values) text_of) in
-    c.loop-y.invariant ∙ ap (map_before states (map text_of (map view values)) 0) end ∙ map_before-all states (map text_of (map view values))
+    let end : length values ≡ length (map text_of (map view values)) = omega (arith, length-map values view, length-map (map view values) text_of) in
+    c.put_rows.ensures ∙ ap (map_before states (map text_of (map view values)) 0) end ∙ map_before-all states (map text_of (map view values))
     ∙ ap (λ ds. map_lattice states (map text_of ds)) c.array_at-rows.ensures

@@ -1,5 +1,5 @@
 use Rattle.std.proofs.Common.{◌≡◌, ℕ, Bool}
-use Rattle.gas_scene.proofs.area_form.fill.Given as goal
+use Rattle.gas_scene.proofs.area_form.fill_rows.Given as goal
 use Rattle.gas_scene.specs.Building.{filled_before}
 
 abbrev pub invariant-loop-y : goal.invariant-loop-y

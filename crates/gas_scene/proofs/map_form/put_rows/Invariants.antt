@@ -1,7 +1,7 @@
 use Rattle.std.proofs.Common.{◌≡◌, ◌^◌, map}
 use Rattle.toml.specs.View.{view}
 use Rattle.gas_scene.specs.Fields.{text_of}
-use Rattle.gas_scene.proofs.map_form.map_lattice.Given as goal
+use Rattle.gas_scene.proofs.map_form.put_rows.Given as goal
 use Rattle.gas_scene.specs.Building.{map_before}
 
 abbrev pub invariant-loop-y : goal.invariant-loop-y
