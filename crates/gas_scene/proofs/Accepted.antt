@@ -1,6 +1,9 @@
 -- What is known of a table that no check refuses.
 use Rattle.std.proofs.Common.{◌≡◌, ℕ, ◌*◌, ◌<◌, ◌≤◌, ◌/◌, ◌%◌, ◌==◌, Bool, true, false, not, ◌&&◌, [], ◌∷◌, length, Option, Some, None, codes, nat_le, refl, ap, sym, ◌∙◌, arith, if◌then◌else◌}
-use Rattle.std.specs.Prelude.{is_some, IsSome, option_map}
+use Rattle.std.specs.Prelude.{is_some, IsSome, option_map, ℤ, pos, int_le, nat_abs}
+use Rattle.std.proofs.lemmas.Int.{ints}
+use Rattle.gas_scene.specs.declared.ranges.TheConstants.{LAST_GENERATION}
+use Rattle.gas_scene.specs.Scene.{generation_of}
 use Rattle.gas_scene.specs.First.{first_of}
 use Rattle.std.proofs.lemmas.Bool.{and_parts, leb-true, eqb-true}
 use Rattle.toml.specs.Data.{Members}
@@ -10,9 +13,9 @@ use Rattle.gas_scene.specs.declared.cells.Cell.{Cell}
 use Rattle.gas_scene.specs.Gases.{gas_named, states_named}
 use Rattle.gas_scene.specs.Version.{version_of, most_side}
 use Rattle.gas_scene.proofs.Versions.{most_side-few}
-use Rattle.gas_scene.specs.Fields.{has, text_at, rows_at, row_at}
+use Rattle.gas_scene.specs.Fields.{has, text_at, integer_at, rows_at, row_at}
 use Rattle.gas_scene.specs.Cells.{cell_at, bad_at, bad_column}
-use Rattle.gas_scene.specs.Ranges.{is_version, is_gas, is_common_in_range, is_map_in_range, is_area_in_range, is_in_range}
+use Rattle.gas_scene.specs.Ranges.{is_version, is_gas, is_chirality, is_generation, is_common_in_range, is_map_in_range, is_area_in_range, is_in_range}
 use Rattle.gas_scene.specs.Refusals.{refused_if, unknown_key, both_forms, missing, wrong_type, out_of_range, row_length, bad_cell, bad_cell_in, refusal_of, is_row_length, is_misfit}
 use Rattle.gas_scene.specs.Map.{map_width}
 use Rattle.gas_scene.proofs.First.{none_before, first_below-none}
@@ -22,6 +25,19 @@ use Rattle.gas_scene.specs.Building.{IsMap}
 passed : (b : Bool) (e : SceneError) → refused_if b e ≡ None → b ≡ false
 passed true e none = absurd (cc)
 passed false e none = refl
+
+abs_few : (most : ℕ) (z : ℤ) → (int_le (pos 0) z && int_le z (pos most)) ≡ true → nat_abs z ≤ most
+abs_few most z held =
+    let parts = and_parts (int_le (pos 0) z) (int_le z (pos most)) held in
+    let low = parts.0 in
+    let high = parts.1 in grind (arith, ints)
+
+-- a generation in range
+pub generation-few : (ms : Members) → is_common_in_range ms ≡ true → generation_of ms ≤ LAST_GENERATION
+generation-few ms held =
+    abs_few LAST_GENERATION (integer_at (codes "generation") ms)
+    (and_parts _ (is_generation (integer_at (codes "generation") ms))
+    (and_parts (is_chirality ms) _ (and_parts (is_gas ms) _ (and_parts (is_version ms) _ held).1).1).1).1
 
 module _ (ms : Members) (accepted : refusal_of ms ≡ None) where
   late : first_of (out_of_range ms ∷ row_length ms ∷ bad_cell ms ∷ []) ≡ None

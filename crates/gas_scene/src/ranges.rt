@@ -20,7 +20,7 @@ use std::alloc::{AllocError, Global};
 use toml::{Table, Value};
 
 /// The last generation that a scene can have.
-pub(crate) const LAST_GENERATION: u64 = 1_000_000_000_000;
+pub const LAST_GENERATION: u64 = 1_000_000_000_000;
 
 // Whether this is a width or a height of at most so many cells.
 fn is_size(most: u32, size: i64) -> bool

@@ -1,7 +1,8 @@
-ghost use Rattle.std.specs.Prelude.{◌≡◌, ◌^◌, true, codes, IfOk};
+ghost use Rattle.std.specs.Prelude.{◌≡◌, ◌≤◌, ◌^◌, true, codes, IfOk};
 ghost use Rattle.toml.specs.View.{table_view};
 ghost use Rattle.gas_scene.specs.Gases.{states_named, gas_lattice};
 ghost use Rattle.gas_scene.specs.Fields.{text_at};
+ghost use Rattle.gas_scene.specs.declared.ranges.TheConstants.{LAST_GENERATION};
 ghost use Rattle.gas_scene.specs.Ranges.{is_common_in_range};
 ghost use Rattle.gas_scene.specs.Refusals.{refusal_of};
 ghost use Rattle.gas_scene.specs.Scene.{chirality_of, generation_of, lattice_in, gas_lattice_of, scene_of, table_answer, scene_of_text, Gives};
@@ -34,10 +35,14 @@ pub struct Scene {
 impl Model for Scene {
     ghost use Rattle.gas_scene.specs.Gases.{gas_lattice};
     ghost use Rattle.gas_scene.specs.Scene.{SceneModel};
+    ghost use Rattle.std.specs.Prelude.{◌≤◌};
+    ghost use Rattle.gas_scene.specs.declared.ranges.TheConstants.{LAST_GENERATION};
 
     ghost Value = { SceneModel };
 
     ghost view = { λ s. record { lattice = gas_lattice s.lattice; chirality = s.chirality; generation = s.generation } };
+
+    ghost invariant = { λ s. s.generation ≤ LAST_GENERATION };
 }
 
 impl Scene {
@@ -55,7 +60,8 @@ impl Scene {
 
     /// The generation of the lattice, 0 to 1,000,000,000,000.
     pub fn generation(&self) -> u64
-        ensures { result ≡ self.now.generation }
+        ensures value { result ≡ self.now.generation }
+        ensures few { result ≤ LAST_GENERATION }
     {
         self.generation
     }
