@@ -7,7 +7,7 @@ use crate::gas::Gas;
 use std::marker::Model;
 
 /// The most columns of a channel, and the most rows.
-pub const MOST_SIDE: u32 = 4096;
+pub const MOST_SIDE: u32 = 65536;
 
 /// The width and the height of a channel in cells, each 1 to `MOST_SIDE`.
 #[derive(Clone, Copy)]

@@ -12,6 +12,7 @@ use Rattle.std.specs.Int.Bits.{bit_or}
 use mir.Val.{bool_byte}
 use Rattle.gas_geom.proofs.Holds.{holds-zero, holds-or}
 use Rattle.gas_rows.proofs.Bits.{holds-set, or-false}
+use Rattle.gas_geom.specs.declared.size.TheConstants.{MOST_SIDE}
 use Rattle.gas_rows.specs.Words.{words_in, bit}
 use Rattle.gas_rows.specs.Mask.{cells, IsMask}
 
@@ -229,7 +230,7 @@ cells-from width words xs long each =
     ext_get_or false (cells width words) xs (length-cells width words ∙ sym long)
     (λ x h. let lt : x < width = omega (arith, length-cells width words) in get_or-cells width words x lt ∙ each x lt)
 
-pub IsMask-blank : (width : ℕ) → 1 ≤ width → width ≤ 4096 → IsMask width true (replicate (words_in width) 0)
+pub IsMask-blank : (width : ℕ) → 1 ≤ width → width ≤ MOST_SIDE → IsMask width true (replicate (words_in width) 0)
 IsMask-blank width some few = record {
   some_cells = some;
   few_cells = few;
@@ -299,7 +300,7 @@ module _ (width : ℕ) (words : List ℕ) (x v : ℕ) (value : Bool) {blank : Bo
       (cases_eq y x))
 
 -- all words were written, and the last one was cut at the width
-module _ (width : ℕ) (words : List ℕ) (f : ℕ → Bool) (blank : Bool) (some : 1 ≤ width) (few : width ≤ 4096) (long : length words ≡ words_in width)
+module _ (width : ℕ) (words : List ℕ) (f : ℕ → Bool) (blank : Bool) (some : 1 ≤ width) (few : width ≤ MOST_SIDE) (long : length words ≡ words_in width)
     (each : (x : ℕ) → bit words x ≡ (nat_lt x width && f x)) where
   inside : (x : ℕ) → x < width → bit words x ≡ f x
   inside x h = let is : nat_lt x width ≡ true = grind (arith, nat_tests) in each x ∙ ap (λ t. t && f x) is

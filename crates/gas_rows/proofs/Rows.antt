@@ -8,6 +8,7 @@ use Rattle.std.proofs.lemmas.Grind.{same_number_lists}
 use Rattle.std.proofs.Math.Nat.{mul-le-mul_right}
 use Rattle.gas_geom.specs.Gas.{holds}
 use Rattle.gas_geom.specs.Lattice.{row_of}
+use Rattle.gas_geom.specs.declared.size.TheConstants.{MOST_SIDE}
 use Rattle.gas_rows.specs.Words.{words_in, bit}
 use Rattle.gas_rows.specs.Planes.{has, state, cells_of, AreWordsOf}
 use Rattle.gas_rows.specs.Inside.{ArePlanes, IsClear}
@@ -228,7 +229,7 @@ module _ (d width : ℕ) (words row : List ℕ) (inside : ArePlanes d width word
         ]))
 
 -- a row whose words were taken over, and cut at the width
-module _ (d width : ℕ) (given new : List ℕ) (dirs : ℕ) (ed : dirs ≡ d) (some : 1 ≤ width) (few : width ≤ 4096)
+module _ (d width : ℕ) (given new : List ℕ) (dirs : ℕ) (ed : dirs ≡ d) (some : 1 ≤ width) (few : width ≤ MOST_SIDE)
     (long_new : length new ≡ d * words_in width)
     (each : (i y : ℕ) → i < dirs → y / 64 < words_in width →
     has new (words_in width) i y ≡ (ltb y width && has given (words_in width) i y)) where
@@ -249,7 +250,7 @@ module _ (d width : ℕ) (given new : List ℕ) (dirs : ℕ) (ed : dirs ≡ d) (
       ∙ sym (get_or-cells d width given x hx))
 
 -- a row of given states
-module _ (d width : ℕ) (new states : List ℕ) (n dirs : ℕ) (en : n ≡ words_in width) (ed : dirs ≡ d) (some : 1 ≤ width) (few : width ≤ 4096)
+module _ (d width : ℕ) (new states : List ℕ) (n dirs : ℕ) (en : n ≡ words_in width) (ed : dirs ≡ d) (some : 1 ≤ width) (few : width ≤ MOST_SIDE)
     (long_new : length new ≡ d * words_in width) (all : length states ≡ width) (small : (x : ℕ) → get_or states x 0 < 2 ^ d)
     (each : (i y : ℕ) → i < dirs → y / 64 < n → has new n i y ≡ holds (get_or states y 0) i) where
   each_state : (i y : ℕ) → i < d → y / 64 < words_in width → has new (words_in width) i y ≡ holds (get_or states y 0) i

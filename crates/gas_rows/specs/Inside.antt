@@ -1,6 +1,7 @@
 -- Inner words: what functions of this crate promise one another. No public contract cites them.
--- The words of a row are those of 1 to 4096 cells, with nothing past the width.
+-- The words of a row are those of 1 to MOST_SIDE cells, with nothing past the width.
 use Rattle.std.specs.Prelude.{◌≡◌, ℕ, ◌*◌, ◌<◌, ◌≤◌, false, List, length}
+use Rattle.gas_geom.specs.declared.size.TheConstants.{MOST_SIDE}
 use Rattle.gas_rows.specs.Words.{words_in}
 use Rattle.gas_rows.specs.Planes.{has}
 
@@ -11,6 +12,6 @@ IsClear dirs width words =
 
 pub record ArePlanes (dirs width : ℕ) (words : List ℕ) : Type 0 where
   pub some_cells : 1 ≤ width
-  pub few_cells : width ≤ 4096
+  pub few_cells : width ≤ MOST_SIDE
   pub long : length words ≡ dirs * words_in width
   pub clear : IsClear dirs width words

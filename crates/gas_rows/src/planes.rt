@@ -2,6 +2,7 @@
 ghost use Rattle.std.specs.Prelude.{◌≡◌, ◌≢◌, ◌⊎◌, ◌+◌, ◌*◌, ◌/◌, ◌^◌, ◌<◌, ◌≤◌, ◌==◌, ◌&&◌, ℕ, ◌%◌, not, nat_lt, if◌then◌else◌, length, slice_index};
 ghost use Rattle.gas_geom.specs.Gas.{holds};
 ghost use Rattle.gas_geom.specs.Planes.{ZeroFrom};
+ghost use Rattle.gas_geom.specs.declared.size.TheConstants.{MOST_SIDE};
 ghost use Rattle.gas_rows.specs.Words.{words_in, bit};
 ghost use Rattle.gas_rows.specs.Planes.{has, state};
 
@@ -22,7 +23,7 @@ pub(crate) fn directions<G: Gas>() -> usize
 /// The set of one cell.
 #[inline(always)]
 pub(crate) fn read_cell(words: &[u64], count: usize, dirs: usize, x: u32) -> u8
-    requires few_words { count ≤ 64 }
+    requires few_words { count ≤ words_in MOST_SIDE }
     requires few_dirs { dirs ≤ 8 }
     requires long { length words.now ≡ dirs * count }
     requires within { x / 64 < count }
@@ -40,7 +41,7 @@ pub(crate) fn read_cell(words: &[u64], count: usize, dirs: usize, x: u32) -> u8
 /// Gives one cell another set.
 #[inline(always)]
 pub(crate) fn write_cell(words: &mut [u64], count: usize, dirs: usize, x: u32, set: u8)
-    requires few_words { count ≤ 64 }
+    requires few_words { count ≤ words_in MOST_SIDE }
     requires few_dirs { dirs ≤ 8 }
     requires long { length words.old ≡ dirs * count }
     requires within { x / 64 < count }
@@ -55,7 +56,7 @@ pub(crate) fn write_cell(words: &mut [u64], count: usize, dirs: usize, x: u32, s
 
 /// Collides each cell by itself with its random bit, and empties the solid cells.
 pub(crate) fn collide<G: Gas>(words: &mut [u64], count: usize, solid: &[u64], chi: &[u64])
-    requires few_words { count ≤ 64 }
+    requires few_words { count ≤ words_in MOST_SIDE }
     requires long { length words.old ≡ G.rules.dirs * count }
     requires solid { length solid.now ≡ count }
     requires chi { length chi.now ≡ count }
@@ -75,7 +76,7 @@ pub(crate) fn collide<G: Gas>(words: &mut [u64], count: usize, solid: &[u64], ch
 // take the two at a time.
 #[inline(always)]
 fn collide_pair<G: Gas>(words: &mut [u64], count: usize, j: usize, solid: &[u64], chi: &[u64])
-    requires few_words { count ≤ 64 }
+    requires few_words { count ≤ words_in MOST_SIDE }
     requires long { length words.old ≡ G.rules.dirs * count }
     requires solid { length solid.now ≡ count }
     requires chi { length chi.now ≡ count }
@@ -97,7 +98,7 @@ fn collide_pair<G: Gas>(words: &mut [u64], count: usize, j: usize, solid: &[u64]
 // Collides the cells of word j.
 #[inline(always)]
 fn collide_word<G: Gas>(words: &mut [u64], count: usize, j: usize, solid: &[u64], chi: &[u64])
-    requires few_words { count ≤ 64 }
+    requires few_words { count ≤ words_in MOST_SIDE }
     requires long { length words.old ≡ G.rules.dirs * count }
     requires solid { length solid.now ≡ count }
     requires chi { length chi.now ≡ count }
@@ -116,7 +117,7 @@ fn collide_word<G: Gas>(words: &mut [u64], count: usize, j: usize, solid: &[u64]
 
 /// Empties the solid cells.
 pub(crate) fn empty(words: &mut [u64], count: usize, dirs: usize, solid: &[u64])
-    requires few_words { count ≤ 64 }
+    requires few_words { count ≤ words_in MOST_SIDE }
     requires few_dirs { dirs ≤ 8 }
     requires long { length words.old ≡ dirs * count }
     requires solid { length solid.now ≡ count }
@@ -132,7 +133,7 @@ pub(crate) fn empty(words: &mut [u64], count: usize, dirs: usize, solid: &[u64])
 /// Word `j` of each direction.
 #[inline(always)]
 pub(crate) fn gather(words: &[u64], count: usize, dirs: usize, j: usize) -> [u64; 8]
-    requires few_words { count ≤ 64 }
+    requires few_words { count ≤ words_in MOST_SIDE }
     requires few_dirs { dirs ≤ 8 }
     requires long { length words.now ≡ dirs * count }
     requires within { j < count }
@@ -149,7 +150,7 @@ pub(crate) fn gather(words: &[u64], count: usize, dirs: usize, j: usize) -> [u64
 // Writes word j of each direction, with nothing at solid cells.
 #[inline(always)]
 fn scatter(words: &mut [u64], count: usize, dirs: usize, j: usize, planes: [u64; 8], solid: u64)
-    requires few_words { count ≤ 64 }
+    requires few_words { count ≤ words_in MOST_SIDE }
     requires few_dirs { dirs ≤ 8 }
     requires long { length words.old ≡ dirs * count }
     requires within { j < count }
@@ -174,7 +175,7 @@ fn scatter_pair(
     solid: u64,
     solid_beside: u64,
 )
-    requires few_words { count ≤ 64 }
+    requires few_words { count ≤ words_in MOST_SIDE }
     requires few_dirs { dirs ≤ 8 }
     requires long { length words.old ≡ dirs * count }
     requires within { j + 1 < count }
@@ -192,7 +193,7 @@ fn scatter_pair(
 
 /// Takes over the sets of all cells.
 pub(crate) fn load_states(words: &mut [u64], count: usize, dirs: usize, states: &[u8])
-    requires few_words { count ≤ 64 }
+    requires few_words { count ≤ words_in MOST_SIDE }
     requires few_dirs { dirs ≤ 8 }
     requires long { length words.old ≡ dirs * count }
     requires wide { words_in (length states.now) ≡ count }
@@ -221,7 +222,7 @@ fn block(states: &[u8]) -> [u8; 64]
 /// Takes over the words of a row, and drops the bits past its width.
 pub(crate) fn load(words: &mut [u64], given: &[u64], dirs: usize, width: u32)
     requires some_cells { 1 ≤ width }
-    requires few_cells { width ≤ 4096 }
+    requires few_cells { width ≤ MOST_SIDE }
     requires few_dirs { dirs ≤ 8 }
     requires long { length words.old ≡ dirs * words_in width }
     requires given { length given.now ≡ dirs * words_in width }
@@ -235,7 +236,7 @@ pub(crate) fn load(words: &mut [u64], given: &[u64], dirs: usize, width: u32)
 /// Clears the bits past the width.
 pub(crate) fn clear_past(words: &mut [u64], dirs: usize, width: u32)
     requires some_cells { 1 ≤ width }
-    requires few_cells { width ≤ 4096 }
+    requires few_cells { width ≤ MOST_SIDE }
     requires few_dirs { dirs ≤ 8 }
     requires long { length words.old ≡ dirs * words_in width }
     ensures { (i y : ℕ) → i < dirs → y / 64 < words_in width →

@@ -2,6 +2,7 @@
 ghost use Rattle.std.specs.Prelude.{◌≡◌, ◌≢◌, ◌/◌, ◌%◌, ℕ, ◌*◌, ◌-◌, ◌<◌, ◌≤◌, ◌&&◌, ◌+◌, nat_le, length, false, if◌then◌else◌};
 ghost use Rattle.gas_geom.specs.Gas.{Move, Back, Stay, On, amount, holds};
 ghost use Rattle.gas_geom.specs.Neighbour.{column_after};
+ghost use Rattle.gas_geom.specs.declared.size.TheConstants.{MOST_SIDE};
 ghost use Rattle.gas_rows.specs.Words.{words_in, bit};
 ghost use Rattle.gas_rows.specs.Planes.{has};
 ghost use Rattle.gas_rows.specs.Moved.{moved_bit};
@@ -110,7 +111,7 @@ fn stream_front<S: Source>(
     width: u32,
 )
     requires some_cells { 1 ≤ width }
-    requires few_cells { width ≤ 4096 }
+    requires few_cells { width ≤ MOST_SIDE }
     requires from { length from.now ≡ words_in width }
     requires met { length met.now ≡ words_in width }
     requires back { length back.now ≡ words_in width }
@@ -148,7 +149,7 @@ pub(crate) fn stream_words<S: Source>(
     width: u32,
 )
     requires some_cells { 1 ≤ width }
-    requires few_cells { width ≤ 4096 }
+    requires few_cells { width ≤ MOST_SIDE }
     requires from { length from.now ≡ words_in width }
     requires met { length met.now ≡ words_in width }
     requires back { length back.now ≡ words_in width }
@@ -173,7 +174,7 @@ pub(crate) fn stream_words<S: Source>(
 #[inline(always)]
 fn move_front<S: Source>(from: &[u64], out: &mut [u64], width: u32)
     requires some_cells { 1 ≤ width }
-    requires few_cells { width ≤ 4096 }
+    requires few_cells { width ≤ MOST_SIDE }
     requires from { length from.now ≡ words_in width }
     requires out { length out.old ≡ words_in width }
     ensures { (x : ℕ) → x < 64 * (words_in width - 1) → bit out.new x ≡ bit from.now (column_after width x S.source) }
@@ -201,7 +202,7 @@ fn move_front<S: Source>(from: &[u64], out: &mut [u64], width: u32)
 #[inline(always)]
 pub(crate) fn move_words<S: Source>(from: &[u64], out: &mut [u64], width: u32)
     requires some_cells { 1 ≤ width }
-    requires few_cells { width ≤ 4096 }
+    requires few_cells { width ≤ MOST_SIDE }
     requires from { length from.now ≡ words_in width }
     requires out { length out.old ≡ words_in width }
     ensures moved { (x : ℕ) → x < width → bit out.new x ≡ bit from.now (column_after width x S.source) }
@@ -220,7 +221,7 @@ pub(crate) fn move_words<S: Source>(from: &[u64], out: &mut [u64], width: u32)
 /// are dropped.
 pub(crate) fn reflect_words(back: &[u64], own: &[u64], out: &mut [u64], width: u32)
     requires some_cells { 1 ≤ width }
-    requires few_cells { width ≤ 4096 }
+    requires few_cells { width ≤ MOST_SIDE }
     requires back { length back.now ≡ words_in width }
     requires own { length own.now ≡ words_in width }
     requires out { length out.old ≡ words_in width }
@@ -247,7 +248,7 @@ fn stream_along(
     width: u32,
 )
     requires some_cells { 1 ≤ width }
-    requires few_cells { width ≤ 4096 }
+    requires few_cells { width ≤ MOST_SIDE }
     requires from { length from.now ≡ words_in width }
     requires met { length met.now ≡ words_in width }
     requires back { length back.now ≡ words_in width }
@@ -270,7 +271,7 @@ fn stream_along(
 // its particles come from.
 fn move_along(along: i32, from: &[u64], out: &mut [u64], width: u32)
     requires some_cells { 1 ≤ width }
-    requires few_cells { width ≤ 4096 }
+    requires few_cells { width ≤ MOST_SIDE }
     requires from { length from.now ≡ words_in width }
     requires out { length out.old ≡ words_in width }
     ensures moved { (m : Move) → along ≡ amount m → (x : ℕ) → x < width → bit out.new x ≡ bit from.now (column_after width x m) }
@@ -298,7 +299,7 @@ pub(crate) fn stream_part(
     width: u32,
 )
     requires some_cells { 1 ≤ width }
-    requires few_cells { width ≤ 4096 }
+    requires few_cells { width ≤ MOST_SIDE }
     requires direction { i < 8 }
     requires within { i * words_in width + words_in width ≤ length words.old }
     requires from { length from.now ≡ words_in width }
@@ -319,7 +320,7 @@ pub(crate) fn stream_part(
 #[inline(always)]
 pub(crate) fn move_part(words: &mut [u64], i: usize, along: i32, from: &[u64], width: u32)
     requires some_cells { 1 ≤ width }
-    requires few_cells { width ≤ 4096 }
+    requires few_cells { width ≤ MOST_SIDE }
     requires direction { i < 8 }
     requires within { i * words_in width + words_in width ≤ length words.old }
     requires from { length from.now ≡ words_in width }
@@ -336,7 +337,7 @@ pub(crate) fn move_part(words: &mut [u64], i: usize, along: i32, from: &[u64], w
 #[inline(always)]
 pub(crate) fn reflect_part(words: &mut [u64], i: usize, back: &[u64], own: &[u64], width: u32)
     requires some_cells { 1 ≤ width }
-    requires few_cells { width ≤ 4096 }
+    requires few_cells { width ≤ MOST_SIDE }
     requires direction { i < 8 }
     requires within { i * words_in width + words_in width ≤ length words.old }
     requires back { length back.now ≡ words_in width }

@@ -1,12 +1,13 @@
 //! Words of 64 cells, bit by bit.
 ghost use Rattle.std.specs.Prelude.{◌≡◌, ◌+◌, ◌-◌, ◌*◌, ◌<◌, ◌≤◌, ◌==◌, ◌&&◌, ℕ, not, nat_le, nat_lt, if◌then◌else◌, false, length, slice_index_or};
 ghost use Rattle.gas_geom.specs.Gas.{holds};
+ghost use Rattle.gas_geom.specs.declared.size.TheConstants.{MOST_SIDE};
 ghost use Rattle.gas_rows.specs.Words.{words_in};
 
-/// How many words a row of at most 4096 cells takes.
+/// How many words a row of at most `MOST_SIDE` cells takes.
 #[inline(always)]
 pub(crate) fn words_for(width: u32) -> usize
-    requires { width ≤ 4096 }
+    requires { width ≤ MOST_SIDE }
     ensures { result ≡ words_in width }
 {
     (width as usize).div_ceil(64)
@@ -75,7 +76,7 @@ pub(crate) fn up_to(word: u64, last: u32) -> u64
 #[inline(always)]
 pub(crate) fn cut(word: u64, j: u32, width: u32) -> u64
     requires some_cells { 1 ≤ width }
-    requires few_cells { width ≤ 4096 }
+    requires few_cells { width ≤ MOST_SIDE }
     requires within { j < words_in width }
     ensures { (b : ℕ) → b < 64 → holds result b ≡ (nat_lt (64 * j + b) width && holds word b) }
 {

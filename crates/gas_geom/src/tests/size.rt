@@ -4,8 +4,10 @@ use std::test::Fail;
 
 #[test]
 fn sizes(rt: HostRuntime) {
-    assert!(rt; Size::new(4096, 4096).is_some());
-    for (width, height) in [(4097, 1), (0, 1), (1, 4097), (1, 0)] {
+    for (width, height) in [(1, 1), (4097, 1), (1, 4097), (65536, 65536)] {
+        assert!(rt; Size::new(width, height).is_some(), "{width} x {height}");
+    }
+    for (width, height) in [(65537, 1), (0, 1), (1, 65537), (1, 0)] {
         assert!(rt; Size::new(width, height).is_none(), "{width} x {height}");
     }
 }

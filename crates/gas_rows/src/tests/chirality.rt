@@ -37,7 +37,7 @@ fn seeded_bits_at_seed_0(rt: HostRuntime) -> Result<(), Fail> {
 
 // Each cell's bit against its word of the key stream, read by itself.
 fn row_is_the_key_stream(rt: &impl Abort, alloc: Global, width: u32) -> Result<(), Fail> {
-    assert!(rt; 1 <= width && width <= 4096);
+    assert!(rt; 1 <= width && width <= 65536);
     let mut bits = Mask::blank(alloc, width)?;
     chi_row(Chirality::Seeded(7), 5, 3, width, &mut bits);
     for x in 0..width {
@@ -59,7 +59,7 @@ fn seeded_rows_are_the_key_stream(rt: HostRuntime) -> Result<(), Fail> {
 }
 
 fn row_has_one_bit(rt: &impl Abort, alloc: Global, width: u32) -> Result<(), Fail> {
-    assert!(rt; 1 <= width && width <= 4096);
+    assert!(rt; 1 <= width && width <= 65536);
     let mut bits = Mask::blank(alloc, width)?;
     chi_row(Chirality::Left, 5, 7, width, &mut bits);
     assert_eq!(rt; bits.count(), width);
@@ -101,7 +101,7 @@ fn row_is_as_alone(
 
 // Row after row under one chirality after another.
 fn rows_are_as_alone(rt: &impl Abort, alloc: Global, width: u32) -> Result<(), Fail> {
-    assert!(rt; 1 <= width && width <= 4096);
+    assert!(rt; 1 <= width && width <= 65536);
     let mut random = RandomBits::new(alloc, width)?;
     for chirality in [
         Chirality::Right,

@@ -10,7 +10,7 @@ use std::test::Fail;
 
 // Every third cell is true, from cell 1 on.
 fn every_third(rt: &impl Abort, alloc: Global, width: u32) -> Result<Mask, Fail> {
-    assert!(rt; 1 <= width && width <= 4096);
+    assert!(rt; 1 <= width && width <= 65536);
     let mut mask = Mask::blank(alloc, width)?;
     for x in 0..width {
         assert!(rt; x < mask.width() && !mask.get(x), "cell {x} of {width}");
@@ -73,21 +73,21 @@ fn words_hold_64_cells_each(rt: HostRuntime) -> Result<(), Fail> {
 }
 
 // Where counts begin and end: in, at and about the ends of words.
-const BOUNDS: [u32; 16] = [
-    0, 1, 5, 62, 63, 64, 65, 66, 100, 127, 128, 129, 192, 4000, 4095, 4096,
+const BOUNDS: [u32; 18] = [
+    0, 1, 5, 62, 63, 64, 65, 66, 100, 127, 128, 129, 192, 4000, 4095, 4096, 65535, 65536,
 ];
 
 // How many x from `from` up to `to` leave 1 when they are divided by 3.
 fn thirds(from: u32, to: u32) -> u32
     requires order { from ≤ to }
-    requires few { to ≤ 4096 }
+    requires few { to ≤ 65536 }
 {
     (to + 1) / 3 - (from + 1) / 3
 }
 
 #[test]
 fn counts_between_columns(rt: HostRuntime) -> Result<(), Fail> {
-    for width in [1, 63, 64, 65, 128, 4096] {
+    for width in [1, 63, 64, 65, 128, 4096, 65535, 65536] {
         let mask = every_third(&rt, rt.alloc(), width)?;
         for from in BOUNDS {
             for to in BOUNDS {

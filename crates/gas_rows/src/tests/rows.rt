@@ -32,7 +32,7 @@ fn fhp1_state(x: u32) -> u8
 
 // Each cell keeps the state that it was given last, and the row counts their directions.
 fn each_cell_is_kept(rt: &impl Abort, alloc: Global, width: u32) -> Result<(), Fail> {
-    assert!(rt; 1 <= width && width <= 4096);
+    assert!(rt; 1 <= width && width <= 65536);
     let mut row = Row::<Fhp1>::blank(alloc, width)?;
     let mut wanted = 0u32;
     for x in 0..width {
@@ -88,27 +88,45 @@ fn holding(row: &Row<Fhp1>, i: u32, from: u32, to: u32) -> u32 {
 // Where counts begin and end: in, at and about the ends of words.
 const BOUNDS: [u32; 13] = [0, 1, 17, 62, 63, 64, 65, 100, 127, 128, 129, 4095, 4096];
 
-#[test]
-fn directions_counted_between_columns(rt: HostRuntime) -> Result<(), Fail> {
-    for width in [1, 63, 64, 65, 128, 4096] {
-        let mut row = Row::<Fhp1>::blank(rt.alloc(), width)?;
-        for x in 0..width {
-            assert!(rt; x < row.width());
-            row.set(x, fhp1_state(x));
-        }
-        for from in BOUNDS {
-            for to in BOUNDS {
-                if from <= to && to <= row.width() {
-                    for i in 0..6 {
-                        assert_eq!(rt;
-                            row.count_in(i, from, to),
-                            holding(&row, i, from, to),
-                            "{i} in {from} to {to} of {width}"
-                        );
-                    }
+// The same in a wide row, of which fewer are tried.
+const WIDE_BOUNDS: [u32; 5] = [0, 4097, 65472, 65535, 65536];
+
+// The counts of each direction from each of the bounds to each other.
+fn counts_are_those_of_the_cells(
+    rt: &impl Abort,
+    alloc: Global,
+    width: u32,
+    bounds: &[u32],
+) -> Result<(), Fail> {
+    assert!(rt; 1 <= width && width <= 65536);
+    let mut row = Row::<Fhp1>::blank(alloc, width)?;
+    for x in 0..width {
+        assert!(rt; x < row.width());
+        row.set(x, fhp1_state(x));
+    }
+    for from in bounds {
+        for to in bounds {
+            if from <= to && *to <= row.width() {
+                for i in 0..6 {
+                    assert_eq!(rt;
+                        row.count_in(i, *from, *to),
+                        holding(&row, i, *from, *to),
+                        "{i} in {from} to {to} of {width}"
+                    );
                 }
             }
         }
+    }
+    Ok(())
+}
+
+#[test]
+fn directions_counted_between_columns(rt: HostRuntime) -> Result<(), Fail> {
+    for width in [1, 63, 64, 65, 128, 4096] {
+        counts_are_those_of_the_cells(&rt, rt.alloc(), width, &BOUNDS)?;
+    }
+    for width in [65535, 65536] {
+        counts_are_those_of_the_cells(&rt, rt.alloc(), width, &WIDE_BOUNDS)?;
     }
     Ok(())
 }

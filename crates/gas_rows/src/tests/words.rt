@@ -98,7 +98,7 @@ fn mixed_words(alloc: Global, count: usize) -> Result<Vec<u64>, Fail> {
 // A row loaded from words holds what they say, and gives the same words without the bits past the
 // width.
 fn words_are_the_cells<G: Gas>(rt: &impl Abort, alloc: Global, width: u32) -> Result<(), Fail> {
-    assert!(rt; 1 <= width && width <= 4096);
+    assert!(rt; 1 <= width && width <= 65536);
     let count = words_for(width);
     let words = mixed_words(alloc, directions::<G>() * count)?;
     let mut row = Row::<G>::blank(alloc, width)?;

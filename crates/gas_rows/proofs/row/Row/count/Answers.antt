@@ -1,6 +1,8 @@
-use Rattle.std.proofs.Common.{◌≡◌, suc, ◌+◌, ◌^◌, ◌<◌, length, get_or, refl, ap, subst, ◌∙◌, arith}
+use Rattle.std.proofs.Common.{◌≡◌, suc, ◌+◌, ◌*◌, ◌^◌, ◌<◌, ◌≤◌, length, get_or, refl, ap, subst, ◌∙◌, arith}
 use Rattle.std.specs.Prelude.{count_ones}
+use Rattle.std.proofs.Math.Nat.{mul-le-mul_right}
 use Rattle.gas_geom.specs.Gas.{sum_below}
+use Rattle.gas_rows.specs.Words.{words_in}
 use Rattle.gas_rows.proofs.Counting.{particles-ones, ones-le_64}
 use Rattle.gas_rows.proofs.row.Row.count.Goals as goal
 
@@ -17,6 +19,15 @@ loop-word-preserved g c =
       fits = c.loop-word.invariant.fits;
       bounded = omega (arith, ones-le_64 (get_or items i 0) (c.loop-word.invariant.fits i));
     }
+
+pub overflow_add-total : goal.overflow_add-total
+overflow_add-total g c =
+    let items = c.deref-word-items.result.now in
+    let i = c.loop-word.word-index in
+    let count = words_in c.self.inside.width in
+    let all : length items ≡ g.G.Gas.rules.dirs * count = ap length c.deref-word-items.ensures.value ∙ c.self.invariant.long in
+    let few : g.G.Gas.rules.dirs * count ≤ 8 * count = mul-le-mul_right count g.met.G.Gas.laws.few_dirs in
+    omega (arith, ones-le_64 (get_or items i 0) (c.loop-word.invariant.fits i), c.self.invariant.few_cells)
 
 pub returns : goal.returns
 returns g c =
