@@ -13,7 +13,7 @@ use std::test::Fail;
 
 // A row with particles in one cell.
 fn row_with(alloc: Global, width: u32, x: u32, state: u8) -> Result<Row<Fhp1>, Fail>
-    requires few_cells { width ≤ 4096 }
+    requires few_cells { width ≤ 65536 }
     requires within { x < width }
     requires state { state < 64 }
     ensures { IfOk result (λ r. length r ≡ width) }
@@ -36,6 +36,21 @@ fn west_across_the_seam(rt: HostRuntime) -> Result<(), Fail> {
     assert!(rt; stage.feed(row_with(rt.alloc(), 65, 0, 0x08)?).is_none());
     let given = stage.flush().ok_or("the bottom row")?;
     assert!(rt; has_only(&given, 64, 0x08));
+    Ok(())
+}
+
+#[test]
+fn west_across_the_seam_of_the_widest_rows(rt: HostRuntime) -> Result<(), Fail> {
+    for width in [65535, 65536] {
+        let channel = channel_of(rt.alloc(), width, 1)?;
+        let mut stage = Stage::new(rt.alloc(), &channel, Chirality::Left)?;
+        stage.begin(Some(0));
+        assert!(rt; 1 <= width && width <= 65536);
+        let row = row_with(rt.alloc(), width, 0, 0x08)?;
+        assert!(rt; stage.feed(row).is_none());
+        let given = stage.flush().ok_or("the bottom row")?;
+        assert!(rt; has_only(&given, width - 1, 0x08), "width {width}");
+    }
     Ok(())
 }
 
