@@ -7,10 +7,11 @@ use Rattle.std.proofs.Math.Nat.{mul-add, mul-le-mul_right, suc-mul}
 use Rattle.std.proofs.lemmas.List.FromFn.{length-range_with_len}
 use Rattle.std.proofs.lemmas.List.Sums.{sum_by-cons, count_by-le-length}
 use Rattle.gas_geom.specs.Gas.{Rules, IsGas, IsSmall, holds, sum_below, sum_held}
+use Rattle.gas_geom.specs.declared.size.TheConstants.{MOST_SIDE}
 use Rattle.std.specs.Int.{bit_at}
 use Rattle.gas_geom.proofs.Sets.{bit_of-holds}
 use Rattle.gas_geom.proofs.Sums.{sum_below-cong, sum_below-zero, sum_below-add}
-use Rattle.gas_blocks.specs.Tally.{HasRoom, plus_cell, plus_particles}
+use Rattle.gas_blocks.specs.Tally.{HasRoom, most_cells, plus_cell, plus_particles}
 use Rattle.gas_blocks.specs.declared.blocks.Block.{Block}
 use Rattle.gas_blocks.proofs.Tallies.{Within, Within-add, Within-le}
 
@@ -113,9 +114,9 @@ counted-none gas solid state b start xs p q r s x y =
     same_block start (counted gas solid state b xs 0) p q r (omega (arith, s)) (x ∙ sym (z_none b.px)) (y ∙ sym (z_none b.py))
 
 -- a block made of its numbers
-pub particles_made : (gas : Rules) (b : Block) (i count : ℕ) (x y : ℤ) → x ≡ b.px +ℤ (gas.momentum i).0 *ℤ pos count → y ≡ b.py +ℤ (gas.momentum i).1 *ℤ pos count
-    → let made : Block = record { col = b.col; row = b.row; fluid = b.fluid; particles = b.particles + count; px = x; py = y } in made ≡ plus_particles gas b i count
-particles_made gas b i count x y e n = rw (e, n) refl
+pub particles_made : (gas : Rules) (b : Block) (i count many : ℕ) (x y : ℤ) → many ≡ count → x ≡ b.px +ℤ (gas.momentum i).0 *ℤ pos count → y ≡ b.py +ℤ (gas.momentum i).1 *ℤ pos count
+    → let made : Block = record { col = b.col; row = b.row; fluid = b.fluid; particles = b.particles + many; px = x; py = y } in made ≡ plus_particles gas b i count
+particles_made gas b i count many x y m e n = rw (m, e, n) refl
 
 -- how many cells of a row may hold a direction
 pub holding-le : (f : ℕ → Bool) (from n : ℕ) → count_by f (range_with_len from n) ≤ n
@@ -157,17 +158,17 @@ counted-all gas solid state b (x ∷ xs) =
     counted-cell gas solid state b x xs ∙ counted-all gas solid state (plus_cell gas b (solid x) (state x)) xs
 
 -- cells of one row have room
-pub counted-room : (gas : Rules) → IsGas gas → (solid : ℕ → Bool) (state : ℕ → ℕ) (b : Block) (xs : List ℕ) (n : ℕ) → n ≤ gas.dirs → length xs ≤ 4096 →
-    HasRoom b 16773120 → HasRoom (counted gas solid state b xs n) 16777216
+pub counted-room : (gas : Rules) → IsGas gas → (solid : ℕ → Bool) (state : ℕ → ℕ) (b : Block) (xs : List ℕ) (n : ℕ) → n ≤ gas.dirs → length xs ≤ MOST_SIDE →
+    HasRoom b (most_cells - MOST_SIDE) → HasRoom (counted gas solid state b xs n) most_cells
 counted-room gas laws solid state b xs n few short h =
-    let each : (i : ℕ) → holding state xs i ≤ 4096 = λ i. omega (arith, count_by-le-length (λ x. holds (state x) i) xs) in
+    let each : (i : ℕ) → holding state xs i ≤ MOST_SIDE = λ i. omega (arith, count_by-le-length (λ x. holds (state x) i) xs) in
     let most : n ≤ 8 = omega (arith, laws.few_dirs) in
-    let le : n * 4096 ≤ 8 * 4096 = mul-le-mul_right 4096 most in
-    let east = sum_times-within n 4096 (holding state xs) (λ i. (gas.momentum i).0) each (λ i lt. (laws.momentum_small i (omega arith)).0) in
-    let north = sum_times-within n 4096 (holding state xs) (λ i. (gas.momentum i).1) each (λ i lt. (laws.momentum_small i (omega arith)).1) in
+    let le : n * MOST_SIDE ≤ 8 * MOST_SIDE = mul-le-mul_right MOST_SIDE most in
+    let east = sum_times-within n MOST_SIDE (holding state xs) (λ i. (gas.momentum i).0) each (λ i lt. (laws.momentum_small i (omega arith)).0) in
+    let north = sum_times-within n MOST_SIDE (holding state xs) (λ i. (gas.momentum i).1) each (λ i lt. (laws.momentum_small i (omega arith)).1) in
     record {
       fluid = omega (arith, h.fluid);
-      particles = omega (arith, h.particles, sum_below-le n 4096 (holding state xs) each, le);
+      particles = omega (arith, h.particles, sum_below-le n MOST_SIDE (holding state xs) each, le);
       west = omega (arith, ints, h.west, east.low, le);
       east = omega (arith, ints, h.east, east.high, le);
       south = omega (arith, ints, h.south, north.low, le);

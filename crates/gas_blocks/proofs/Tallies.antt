@@ -12,11 +12,12 @@ use Rattle.std.proofs.lemmas.List.Sums.{fold-append}
 use Rattle.std.proofs.lemmas.List.{length-map}
 use Rattle.std.proofs.lemmas.List.Folds.{fold-map}
 use Rattle.gas_geom.specs.Gas.{Rules, IsGas, IsSmall, holds, sum_held, particles, momentum_of}
+use Rattle.gas_geom.specs.declared.size.TheConstants.{MOST_SIDE}
 use Rattle.gas_geom.specs.Channel.{is_solid}
 use Rattle.gas_geom.specs.Lattice.{LatticeModel, cell}
 use Rattle.gas_blocks.proofs.Particles.{held-le}
 use Rattle.gas_blocks.specs.Blocks.{part, cells_of, block_of_cells, strip_of}
-use Rattle.gas_blocks.specs.Tally.{HasRoom, empty_block, plus_cell, plus_cell_of, plus_row}
+use Rattle.gas_blocks.specs.Tally.{HasRoom, most_cells, empty_block, plus_cell, plus_cell_of, plus_row}
 use Rattle.gas_blocks.specs.declared.blocks.Block.{Block}
 use Rattle.gas_blocks.proofs.Ranges.{range-append, part-range, part-short, begins-within}
 
@@ -131,9 +132,9 @@ cells_few lattice width col from (suc n) =
     let long : length row ≡ length xs = length-map xs _ in
     omega (arith, length-append row (cells_from lattice width col (from + 1) n), long, short, cells_few lattice width col (from + 1) n, suc-mul n lattice.channel.width)
 
--- a block of less than 4096 rows has room for one more
-pub block_from-room : (gas : Rules) → IsGas gas → (lattice : LatticeModel) (width row from n col : ℕ) → lattice.channel.width ≤ 4096 → n < 4096
-    → HasRoom (block_from gas lattice width row from n col) 16773120
+-- a block of less than MOST_SIDE rows has room for one more
+pub block_from-room : (gas : Rules) → IsGas gas → (lattice : LatticeModel) (width row from n col : ℕ) → lattice.channel.width ≤ MOST_SIDE → n < MOST_SIDE
+    → HasRoom (block_from gas lattice width row from n col) (most_cells - MOST_SIDE)
 block_from-room gas laws lattice width row from n col wide few =
     let none : HasRoom (empty_block col row) 0 = record {
       fluid = omega arith;
@@ -144,8 +145,8 @@ block_from-room gas laws lattice width row from n col wide few =
       north = omega (arith, ints);
     } in
     let cells : List (ℕ × ℕ) = cells_from lattice width col from n in
-    let most : n * lattice.channel.width ≤ 4095 * 4096 = mul-le-mul (let h : n ≤ 4095 = omega arith in h) wide in
-    HasRoom-le _ (0 + length cells) 16773120 (omega (arith, cells_few lattice width col from n, most)) (HasRoom-fold gas laws lattice cells (empty_block col row) 0 none)
+    let most : n * lattice.channel.width ≤ (MOST_SIDE - 1) * MOST_SIDE = mul-le-mul (let h : n ≤ MOST_SIDE - 1 = omega arith in h) wide in
+    HasRoom-le _ (0 + length cells) (most_cells - MOST_SIDE) (omega (arith, cells_few lattice width col from n, most)) (HasRoom-fold gas laws lattice cells (empty_block col row) 0 none)
 
 -- a block with the cells of one row more
 block_from-more : (gas : Rules) (lattice : LatticeModel) (width row from n y col : ℕ) → from + n ≡ y → length (slice_index_or lattice.rows y []) ≡ lattice.channel.width
@@ -191,10 +192,10 @@ strip-begins gas lattice width row from n strip cells some wide is =
     let within : col * width < cells = subst (λ k. col * width < k) (sym wide) (begins-within lattice.channel.width width col some lt) in
     subst (λ k. k < cells) (sym at) within)
 
-pub strip-room : (gas : Rules) → IsGas gas → (lattice : LatticeModel) (width row from n : ℕ) (strip : List Block) → lattice.channel.width ≤ 4096 → n < 4096
-    → strip ≡ map (block_from gas lattice width row from n) (range_with_len 0 (div_ceil lattice.channel.width width)) → All (λ b. HasRoom b 16773120) strip
+pub strip-room : (gas : Rules) → IsGas gas → (lattice : LatticeModel) (width row from n : ℕ) (strip : List Block) → lattice.channel.width ≤ MOST_SIDE → n < MOST_SIDE
+    → strip ≡ map (block_from gas lattice width row from n) (range_with_len 0 (div_ceil lattice.channel.width width)) → All (λ b. HasRoom b (most_cells - MOST_SIDE)) strip
 strip-room gas laws lattice width row from n strip wide few is =
-    strip-all (λ b. HasRoom b 16773120) (block_from gas lattice width row from n) _ strip is (λ col lt. block_from-room gas laws lattice width row from n col wide few)
+    strip-all (λ b. HasRoom b (most_cells - MOST_SIDE)) (block_from gas lattice width row from n) _ strip is (λ col lt. block_from-room gas laws lattice width row from n col wide few)
 
 -- a strip with all of its rows
 pub strip-whole : (gas : Rules) (lattice : LatticeModel) (width height row n : ℕ) (strip : List Block) → 1 ≤ height → row * height < lattice.channel.height

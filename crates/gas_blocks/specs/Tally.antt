@@ -2,6 +2,7 @@
 -- How a block's numbers come together: cells, directions and rows.
 use Rattle.std.specs.Prelude.{ℕ, ◌+◌, ◌*◌, ◌≤◌, Bool, false, not, if◌then◌else◌, List, fold, length, slice_index, slice_index_or, pos, neg_ℤ, ◌+ℤ◌, ◌*ℤ◌, ◌≤ℤ◌}
 use Rattle.gas_geom.specs.Gas.{Rules, particles, momentum_of}
+use Rattle.gas_geom.specs.declared.size.TheConstants.{MOST_SIDE}
 use Rattle.gas_blocks.specs.Blocks.{part}
 use Rattle.gas_blocks.specs.declared.blocks.Block.{Block}
 
@@ -37,6 +38,10 @@ plus_particles gas b i count = record {
   px = b.px +ℤ (gas.momentum i).0 *ℤ pos count;
   py = b.py +ℤ (gas.momentum i).1 *ℤ pos count;
 }
+
+-- the most cells of a lattice, and so of a block
+abbrev pub most_cells : ℕ
+most_cells = MOST_SIDE * MOST_SIDE
 
 -- a block of at most n cells may have these numbers
 pub record HasRoom (b : Block) (n : ℕ) : Type 0 where

@@ -6,7 +6,7 @@ ghost use Rattle.std.specs.List.{range_with_len};
 ghost use Rattle.gas_geom.specs.Gas.{holds};
 ghost use Rattle.gas_geom.specs.declared.size.TheConstants.{MOST_SIDE};
 ghost use Rattle.gas_blocks.specs.Blocks.{blocks_of, part, strip_of};
-ghost use Rattle.gas_blocks.specs.Tally.{HasRoom, empty_block, plus_cell_of, plus_particles, plus_row};
+ghost use Rattle.gas_blocks.specs.Tally.{HasRoom, most_cells, empty_block, plus_cell_of, plus_particles, plus_row};
 
 use gas_geom::gas::Gas;
 use gas_rows::lattice::Lattice;
@@ -22,10 +22,10 @@ use std::alloc::{AllocError, Global};
 pub struct Block {
     pub col: u32,
     pub row: u32,
-    pub fluid: u32,
-    pub particles: u32,
-    pub px: i32,
-    pub py: i32,
+    pub fluid: u64,
+    pub particles: u64,
+    pub px: i64,
+    pub py: i64,
 }
 
 impl Block {
@@ -45,16 +45,15 @@ impl Block {
     // The block with `count` more particles of direction `i`.
     fn plus_particles<G: Gas>(self, i: u32, count: u32) -> Block
         requires direction { i < G.rules.dirs }
-        requires few { count ≤ MOST_SIDE }
-        requires room { HasRoom self (2 ^ 24) }
+        requires room { HasRoom self most_cells }
         ensures { result ≡ plus_particles G.rules self i count }
     {
         let (px, py) = G::momentum(i);
-        let times = count as i32;
+        let times = i64::from(count);
         Block {
-            particles: self.particles + count,
-            px: self.px + px * times,
-            py: self.py + py * times,
+            particles: self.particles + u64::from(count),
+            px: self.px + i64::from(px) * times,
+            py: self.py + i64::from(py) * times,
             ..self
         }
     }
@@ -65,11 +64,11 @@ impl Block {
         requires within { to ≤ length row.now }
         requires few { to ≤ MOST_SIDE }
         requires same { length solid.now ≡ length row.now }
-        requires room { HasRoom self (2 ^ 24 - MOST_SIDE) }
+        requires room { HasRoom self (most_cells - MOST_SIDE) }
         ensures { result ≡ fold (plus_cell_of G.rules solid.now row.now) self (range_with_len from (to - from)) }
     {
         let mut block = Block {
-            fluid: self.fluid + (to - from - solid.count_in(from, to)),
+            fluid: self.fluid + u64::from(to - from - solid.count_in(from, to)),
             ..self
         };
         for i in 0..G::DIRS {
@@ -83,7 +82,7 @@ impl Block {
         requires some_columns { 1 ≤ width }
         requires same { length solid.now ≡ length row.now }
         requires begins { self.col * width < length row.now }
-        requires room { HasRoom self (2 ^ 24 - MOST_SIDE) }
+        requires room { HasRoom self (most_cells - MOST_SIDE) }
         ensures { result ≡ plus_row G.rules width solid.now row.now self }
     {
         let cells = row.width();
@@ -98,7 +97,7 @@ fn add_row<G: Gas>(strip: &mut [Block], row: &Row<G>, solid: &Mask, width: u32)
     requires some_columns { 1 ≤ width }
     requires same { length solid.now ≡ length row.now }
     requires blocks { All (λ b. b.col * width < length row.now) strip.old }
-    requires room { All (λ b. HasRoom b (2 ^ 24 - MOST_SIDE)) strip.old }
+    requires room { All (λ b. HasRoom b (most_cells - MOST_SIDE)) strip.old }
     ensures { strip.new ≡ map (plus_row G.rules width solid.now row.now) strip.old }
 {
     for block in strip.iter_mut() {
@@ -171,7 +170,7 @@ pub fn coarse<G: Gas>(
     let size = lattice.channel().size();
     let columns = size.width().div_ceil(width);
     let rows = size.height().div_ceil(height);
-    let mut blocks = Vec::with_capacity(alloc, (columns * rows) as usize)?;
+    let mut blocks = Vec::with_capacity(alloc, columns as usize * rows as usize)?;
     for row in 0..rows {
         push_strip(&mut blocks, lattice, row, width, height)?;
     }

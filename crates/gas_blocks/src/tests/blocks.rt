@@ -10,7 +10,7 @@ use std::alloc::{AllocError, Global};
 use std::test::Fail;
 
 /// The block at a place, with these numbers of fluid cells and particles and this momentum.
-fn block(place: (u32, u32), fluid: u32, particles: u32, momentum: (i32, i32)) -> Block {
+fn block(place: (u32, u32), fluid: u64, particles: u64, momentum: (i64, i64)) -> Block {
     Block {
         col: place.0,
         row: place.1,

@@ -54,15 +54,14 @@ fn to_each_writer(rt: HostRuntime) -> Result<(), Fail> {
 
 #[test]
 fn of_wide_numbers(rt: HostRuntime) -> Result<(), Fail> {
-    let most = u32::MAX;
     let blocks = [
         Block {
-            col: most,
-            row: most,
-            fluid: most,
-            particles: most,
-            px: i32::MIN,
-            py: i32::MAX,
+            col: u32::MAX,
+            row: u32::MAX,
+            fluid: u64::MAX,
+            particles: u64::MAX,
+            px: i64::MIN,
+            py: i64::MAX,
         },
         Block {
             col: 12345,
@@ -72,12 +71,21 @@ fn of_wide_numbers(rt: HostRuntime) -> Result<(), Fail> {
             px: -100000000,
             py: -1000000000,
         },
+        Block {
+            col: 0,
+            row: 0,
+            fluid: 4294967296,
+            particles: 34359738368,
+            px: -4294967297,
+            py: 8589934592,
+        },
     ];
     let mut out = Narrow::new(rt.alloc(), 100, 1000, End::Error);
     write_table(&blocks, &mut out)?;
     let want = "  col   row    fluid particles         px         py
-4294967295 4294967295 4294967295 4294967295 -2147483648 2147483647
+4294967295 4294967295 18446744073709551615 18446744073709551615 -9223372036854775808 9223372036854775807
 12345 123456 12345678 123456789 -100000000 -1000000000
+    0     0 4294967296 34359738368 -4294967297 8589934592
 ";
     assert!(rt; out.taken.as_slice() == want.as_bytes());
     Ok(())

@@ -2,6 +2,7 @@ use Rattle.std.proofs.Common.{◌≡◌, ◌∙◌, ◌<◌, ◌≤◌, ◌+◌,
 use Rattle.std.specs.Int.{div_ceil}
 use Rattle.std.specs.List.{range_with_len}
 use Rattle.gas_geom.specs.Channel.{ChannelModel}
+use Rattle.gas_geom.specs.declared.size.TheConstants.{MOST_SIDE}
 use Rattle.gas_blocks.specs.Tally.{plus_row}
 use Rattle.gas_blocks.proofs.Tallies.{block_from, strip-begins, strip-room, strip-more, strip-whole}
 use Rattle.gas_blocks.proofs.blocks.fill_strip.Goals as goal
@@ -12,8 +13,8 @@ add_row-requires-clause-blocks g c =
 
 pub add_row-requires-clause-room : goal.add_row-requires-clause-room
 add_row-requires-clause-room g c =
-    let wide : c.args.lattice.now.channel.width ≤ 4096 = subst (λ (a : ChannelModel). a.width ≤ 4096) c.channel.ensures.channel c.size.ensures.whole.size.few_columns in
-    let few : c.loop-y.y - c.args.row * c.args.height < 4096 = omega (arith, c.min.ensures) in
+    let wide : c.args.lattice.now.channel.width ≤ MOST_SIDE = subst (λ (a : ChannelModel). a.width ≤ MOST_SIDE) c.channel.ensures.channel c.size.ensures.whole.size.few_columns in
+    let few : c.loop-y.y - c.args.row * c.args.height < MOST_SIDE = omega (arith, c.min.ensures) in
     strip-room g.G.Gas.rules g.met.G.Gas.laws c.args.lattice.now c.args.width c.args.row _ _ c.loop-y.strip wide few c.loop-y.invariant
 
 pub loop-y-preserved : goal.loop-y-preserved

@@ -1,4 +1,4 @@
-use Rattle.std.proofs.Common.{◌≡◌, ◌∙◌, ap, subst, rules, to_z, of_z, w32, FitsSigned}
+use Rattle.std.proofs.Common.{◌≡◌, ◌∙◌, ap, subst, rules, to_z, of_z, w64, FitsSigned}
 use Rattle.std.specs.Fmt.{decimal, styled_decimal, styled_signed_decimal}
 use Rattle.std.proofs.lemmas.Int.{to_z-of_z}
 use Rattle.gas_text.specs.Sink.{Adds}
@@ -8,10 +8,10 @@ use Rattle.gas_text.proofs.table.put_block.Goals as goal
 pub returns : goal.returns
 returns g c =
     let b = c.args.block in
-    let px : FitsSigned w32 b.px = search rules in
-    let py : FitsSigned w32 b.py = search rules in
-    let is_px : to_z w32 (of_z w32 b.px) ≡ b.px = search (rules, to_z-of_z) in
-    let is_py : to_z w32 (of_z w32 b.py) ≡ b.py = search (rules, to_z-of_z) in
+    let px : FitsSigned w64 b.px = search rules in
+    let py : FitsSigned w64 b.py = search rules in
+    let is_px : to_z w64 (of_z w64 b.px) ≡ b.px = search (rules, to_z-of_z) in
+    let is_py : to_z w64 (of_z w64 b.py) ≡ b.py = search (rules, to_z-of_z) in
     subst (Adds _ _ _ _) (table_made _ _ _ _ _ _ _ _ _ _ _ _
     (ap (λ s. styled_decimal s b.col) c.laid_out.ensures ∙ padded-right 5 (decimal b.col))
     (ap (λ s. styled_decimal s b.row) c.laid_out-2.ensures ∙ padded-right 5 (decimal b.row))

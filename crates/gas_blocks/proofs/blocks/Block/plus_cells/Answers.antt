@@ -2,32 +2,27 @@ use Rattle.std.proofs.Common.{◌≡◌, ◌∙◌, ◌+◌, ◌-◌, ◌≤◌,
 use Rattle.std.specs.List.{range_with_len}
 use Rattle.std.proofs.lemmas.Int.{ints}
 use Rattle.std.proofs.lemmas.List.FromFn.{length-range_with_len}
-use Rattle.gas_geom.specs.Gas.{holds}
-use Rattle.gas_blocks.specs.Tally.{HasRoom, plus_particles}
+use Rattle.gas_blocks.specs.Tally.{HasRoom, most_cells, plus_particles}
 use Rattle.gas_blocks.specs.declared.blocks.Block.{Block}
 use Rattle.gas_blocks.proofs.Counts.{counted, counted-none, counted-more, counted-all, counted-room, holding-le}
 use Rattle.gas_blocks.proofs.blocks.Block.plus_cells.Goals as goal
 
-pub overflow_sub-block-2 : goal.overflow_sub-block-2
-overflow_sub-block-2 g c =
+pub overflow_sub-to-2 : goal.overflow_sub-to-2
+overflow_sub-to-2 g c =
     omega (arith, c.count_in.ensures, holding-le (λ x. slice_index_or c.args.solid.now x false) c.args.from (c.args.to - c.args.from))
 
 pub loop-i-init : goal.loop-i-init
 loop-i-init g c =
     let cells = range_with_len c.args.from (c.args.to - c.args.from) in
     counted-none g.G.Gas.rules (λ x. slice_index_or c.args.solid.now x false) (λ x. slice_index c.args.row.now x) c.args.self _ cells refl refl
-    (ap₂ (λ m n. c.args.self.fluid + (m - n)) (sym (length-range_with_len c.args.from (c.args.to - c.args.from))) c.count_in.ensures)
+    (ap (λ k. c.args.self.fluid + k) (c.from.ensures ∙ ap₂ (λ m n. m - n) (sym (length-range_with_len c.args.from (c.args.to - c.args.from))) c.count_in.ensures))
     refl (omega (arith, ints)) (omega (arith, ints))
-
-pub plus_particles-block-requires-clause-few : goal.plus_particles-block-requires-clause-few
-plus_particles-block-requires-clause-few g c =
-    omega (arith, c.count_in-in-loop-i.ensures, holding-le (λ x. holds (slice_index c.args.row.now x) c.loop-i.i) c.args.from (c.args.to - c.args.from))
 
 pub plus_particles-block-requires-clause-room : goal.plus_particles-block-requires-clause-room
 plus_particles-block-requires-clause-room g c =
     let cells = range_with_len c.args.from (c.args.to - c.args.from) in
     let few : c.loop-i.i ≤ g.G.Gas.rules.dirs = omega (arith, g.met.G.Gas.dirs_are) in
-    subst (λ (b : Block). HasRoom b 16777216) (sym c.loop-i.invariant)
+    subst (λ (b : Block). HasRoom b most_cells) (sym c.loop-i.invariant)
     (counted-room g.G.Gas.rules g.met.G.Gas.laws (λ x. slice_index_or c.args.solid.now x false) (λ x. slice_index c.args.row.now x) c.args.self cells c.loop-i.i few
     (omega (arith, length-range_with_len c.args.from (c.args.to - c.args.from))) c.requires.room)
 
