@@ -33,7 +33,7 @@ fn replayed(
     turns: &[u32],
 ) -> Result<Replay<Fhp1>, Fail> {
     let plan = Plan::new(stages, 1, generations)?;
-    Ok(replay(alloc, lattice, Chirality::Left, plan, turns)?)
+    Ok(replay(alloc, lattice, Chirality::Left, 0, plan, turns)?)
 }
 
 // So many turns, round after round.
@@ -188,7 +188,7 @@ fn no_generation_needs_no_belt(rt: HostRuntime) -> Result<(), Fail> {
 fn two_passes_are_refused(rt: HostRuntime) -> Result<(), Fail> {
     let lattice = lattice(rt.alloc(), 3, 1)?;
     let plan = Plan::new(1, 1, 2)?;
-    match replay(rt.alloc(), &lattice, Chirality::Left, plan, &[]) {
+    match replay(rt.alloc(), &lattice, Chirality::Left, 0, plan, &[]) {
         Ok(_) => assert!(rt; false),
         Err(error) => assert!(rt; error == RunError::MorePasses),
     }

@@ -93,7 +93,7 @@ fn ran<G: Gas + Send, R: Threads + Wait + Sync>(
     generations: u64,
 ) -> Result<Run<G>, Fail> {
     let plan = Plan::new(stages, 1, generations)?;
-    Ok(run(rt, alloc, lattice, chirality, plan, &NoGate)?)
+    Ok(run(rt, alloc, lattice, chirality, 0, plan, &NoGate)?)
 }
 
 // Each belt of a pass was gone through by this number of rows, and there is no further belt.
@@ -354,7 +354,7 @@ fn counts_are<R: Abort + Threads + Wait + Sync>(
     )?;
     let lattice = lattice::<Fhp1>(alloc, size, &cells)?;
     let plan = Plan::new(stages, 2, 5)?;
-    run(rt, alloc, &lattice, Chirality::Seeded(7), plan, &gate)?;
+    run(rt, alloc, &lattice, Chirality::Seeded(7), 0, plan, &gate)?;
     assert!(rt; gate.entered.load(Ordering::SeqCst) == times);
     assert!(rt; gate.left.load(Ordering::SeqCst) == times);
     Ok(())

@@ -127,10 +127,11 @@ fn compare(
         lengths.turn(*member);
     }
     let chirality = Chirality::Seeded(11);
-    let replay = replay(alloc, lattice, chirality, plan, turns)?;
+    let first = 1_000_000;
+    let replay = replay(alloc, lattice, chirality, first, plan, turns)?;
     assert_stands(rt, &replay, &lengths);
     if let Some(found) = replay.lattice() {
-        let wanted = lattice_after(alloc, lattice, chirality, plan.generations())?;
+        let wanted = lattice_after(alloc, lattice, chirality, first, plan.generations())?;
         assert_same(rt, found, &wanted);
     }
     Ok(replay.done())

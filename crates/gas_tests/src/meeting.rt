@@ -109,10 +109,10 @@ fn all_workers_of_a_run_meet(rt: HostRuntime) -> Result<(), Fail> {
     lattice.set_cell(0, 1, 0x01);
     let gate = Meeting::of(rt.alloc(), 4)?;
     let plan = Plan::new(4, 1, 5)?;
-    let run = run(&rt, rt.alloc(), &lattice, Chirality::Left, plan, &gate)?;
+    let run = run(&rt, rt.alloc(), &lattice, Chirality::Left, 0, plan, &gate)?;
     gate.was_kept(&rt, 8);
     assert_eq!(rt; run.belts_made(), 5);
-    let wanted = lattice_after(rt.alloc(), &lattice, Chirality::Left, 5)?;
+    let wanted = lattice_after(rt.alloc(), &lattice, Chirality::Left, 0, 5)?;
     assert_same(&rt, run.lattice(), &wanted);
     Ok(())
 }

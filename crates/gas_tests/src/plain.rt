@@ -150,18 +150,20 @@ pub fn next_lattice<G: Gas>(
     Ok(Lattice::from_rows(lattice.channel().copy(alloc)?, rows))
 }
 
-/// The lattice after that many generations, from generation 0.
+/// The lattice after that many generations, from generation `first`.
 pub fn lattice_after<G: Gas>(
     alloc: Global,
     lattice: &Lattice<G>,
     chirality: Chirality,
+    first: u64,
     generations: u64,
 ) -> Result<Lattice<G>, AllocError>
-    ensures { IfOk result (λ l. l ≡ lattice_after G.rules chirality lattice.now generations) }
+    requires room { first + generations < 2 ^ 64 }
+    ensures { IfOk result (λ l. l ≡ lattice_after G.rules chirality first lattice.now generations) }
 {
     let mut current = lattice.copy(alloc)?;
     for passed in 0..generations {
-        current = next_lattice(alloc, &current, chirality, passed)?;
+        current = next_lattice(alloc, &current, chirality, first + passed)?;
     }
     Ok(current)
 }

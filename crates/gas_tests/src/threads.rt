@@ -19,7 +19,8 @@ use std::sync::Wait;
 use std::test::Fail;
 use std::thread::Threads;
 
-// A run of a random lattice, of up to so many rows, for a random number of generations.
+// A run of a random lattice of a random generation, of up to so many rows, for a random number of
+// generations.
 fn compare<G: Gas + Send, R: Abort + Threads + Wait + Sync>(
     rt: &R,
     alloc: Global,
@@ -32,14 +33,15 @@ fn compare<G: Gas + Send, R: Abort + Threads + Wait + Sync>(
     let height = random.next_word() % most_rows.max(1) + 1;
     let generations = u64::from(random.next_word() % 41);
     let chirality = Chirality::Seeded(random.next_u64());
+    let first = random.next_u64() % 1_000_000_000_000;
     let size = Size::new(width, height).ok_or("a size")?;
     let lattice = random_lattice::<G>(alloc, size, random)?;
     let plan = Plan::new(stages, capacity, generations)?;
-    let run = run(rt, alloc, &lattice, chirality, plan, &NoGate)?;
+    let run = run(rt, alloc, &lattice, chirality, first, plan, &NoGate)?;
     assert_same(
         rt,
         run.lattice(),
-        &lattice_after(alloc, &lattice, chirality, generations)?,
+        &lattice_after(alloc, &lattice, chirality, first, generations)?,
     );
     assert_eq!(rt; run.lattice().count(), lattice.count());
     let rows = generations

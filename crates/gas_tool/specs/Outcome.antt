@@ -1,5 +1,5 @@
 -- What `perform` answers and writes.
-use Rattle.std.specs.Prelude.{◌≡◌, ◌≤◌, ℕ, nat_lt, List, length, take, Option, None, Some, Result, Ok, Err, IsOkAnd, ⊤, if◌then◌else◌}
+use Rattle.std.specs.Prelude.{◌≡◌, ◌≤◌, ◌+◌, ℕ, nat_lt, List, length, take, Option, None, Some, Result, Ok, Err, IsOkAnd, ⊤, if◌then◌else◌}
 use Rattle.std.specs.Io.KnownBytes.{Appends}
 use Rattle.gas_geom.specs.Gas.{Rules}
 use Rattle.gas_geom.specs.Lattice.{LatticeModel, count}
@@ -44,29 +44,30 @@ abbrev pub unless_refused : Option PlanError → Result (List ℕ) ToolError →
 unless_refused None otherwise = otherwise
 unless_refused (Some error) otherwise = Err (Plan error)
 
--- where one pass of a plan over a lattice stands after these turns; a plan that needs more passes is a fault
-abbrev pub replay_outcome : Rules → LatticeModel → Chirality → PlanModel → List ℕ → Result (List ℕ) ToolError
-replay_outcome gas lattice chirality plan turns =
+-- where one pass of a plan over a lattice of generation `first` stands after these turns; a plan that needs more passes is a
+-- fault
+abbrev pub replay_outcome : Rules → LatticeModel → Chirality → ℕ → PlanModel → List ℕ → Result (List ℕ) ToolError
+replay_outcome gas lattice chirality first plan turns =
     if nat_lt 1 (passes_of plan.generations plan.stages) then Err MorePasses
-    else Ok (replay_text gas (replay_of gas chirality lattice plan turns) plan.generations)
+    else Ok (replay_text gas (replay_of gas chirality first lattice plan turns) (first + plan.generations))
 
--- what a request on a lattice of a gas leads to: the text of its answer, or the first fault
-abbrev pub gas_outcome : Rules → LatticeModel → Chirality → Request → Result (List ℕ) ToolError
-gas_outcome gas lattice chirality Check = Ok (check_text gas.name lattice.channel (count gas lattice.rows))
-gas_outcome gas lattice chirality (Run stages capacity generations) =
+-- what a request on a lattice of a gas, of generation `first`, leads to: the text of its answer, or the first fault
+abbrev pub gas_outcome : Rules → LatticeModel → Chirality → ℕ → Request → Result (List ℕ) ToolError
+gas_outcome gas lattice chirality first Check = Ok (check_text gas.name lattice.channel (count gas lattice.rows))
+gas_outcome gas lattice chirality first (Run stages capacity generations) =
     unless_refused (plan_refusal stages capacity generations)
-    (Ok (lattice_text gas (lattice_after gas chirality lattice generations) generations))
-gas_outcome gas lattice chirality (Coarse stages capacity generations width height) =
+    (Ok (lattice_text gas (lattice_after gas chirality first lattice generations) (first + generations)))
+gas_outcome gas lattice chirality first (Coarse stages capacity generations width height) =
     unless_refused (plan_refusal stages capacity generations)
-    (Ok (table_text (blocks_of gas (lattice_after gas chirality lattice generations) width height)))
-gas_outcome gas lattice chirality (Replay stages capacity generations turns) =
+    (Ok (table_text (blocks_of gas (lattice_after gas chirality first lattice generations) width height)))
+gas_outcome gas lattice chirality first (Replay stages capacity generations turns) =
     unless_refused (plan_refusal stages capacity generations)
-    (replay_outcome gas lattice chirality (record { stages = stages; capacity = capacity; generations = generations }) turns)
+    (replay_outcome gas lattice chirality first (record { stages = stages; capacity = capacity; generations = generations }) turns)
 
 -- what a request on a scene, or on a text that is none, leads to
 abbrev pub scene_outcome : Result SceneModel SceneError → Request → Result (List ℕ) ToolError
 scene_outcome (Err error) request = Err (scene_fault error)
-scene_outcome (Ok s) request = gas_outcome (rules_named s.lattice.gas) s.lattice.lattice s.chirality request
+scene_outcome (Ok s) request = gas_outcome (rules_named s.lattice.gas) s.lattice.lattice s.chirality s.generation request
 
 -- what a request on a text leads to: the first of its faults, in the order scene, plan, passes; else the text of its answer
 abbrev pub outcome : List ℕ → Request → Result (List ℕ) ToolError

@@ -1,8 +1,9 @@
 //! The answer to a request on a scene.
 
-ghost use Rattle.std.specs.Prelude.{◌≡◌, Ok};
+ghost use Rattle.std.specs.Prelude.{◌≡◌, ◌+◌, ◌<◌, ◌≤◌, ◌^◌, Ok};
 ghost use Rattle.gas_geom.specs.Lattice.{count};
 ghost use Rattle.gas_stage.specs.Evolution.{lattice_after};
+ghost use Rattle.gas_scene.specs.declared.ranges.TheConstants.{LAST_GENERATION};
 ghost use Rattle.gas_tool.specs.Outcome.{Performs, gas_outcome, outcome, replay_outcome};
 ghost use Rattle.gas_words.specs.Requests.{IsAllowed};
 ghost use Rattle.gas_tool.specs.View.{HasSomeCells, view_text};
@@ -35,6 +36,13 @@ struct Means<'a, H, R> {
     gate: &'a H,
 }
 
+/// Where the random bits of a scene's lattice come from, and its generation.
+#[derive(Clone, Copy)]
+struct Start {
+    chirality: Chirality,
+    generation: u64,
+}
+
 /// What is printed of a lattice.
 #[derive(Clone, Copy)]
 enum View {
@@ -62,11 +70,14 @@ pub fn perform<W: Write, H: Gate + Sync, R: Threads + Wait + Sync>(
 {
     let scene = read(alloc, text)?;
     let means = Means { rt, alloc, gate };
-    let chirality = scene.chirality();
+    let start = Start {
+        chirality: scene.chirality(),
+        generation: scene.generation(),
+    };
     match scene.lattice() {
-        AnyLattice::Fhp1(lattice) => perform_on(&means, lattice, chirality, request, out),
-        AnyLattice::Hpp(lattice) => perform_on(&means, lattice, chirality, request, out),
-        AnyLattice::FhpRest(lattice) => perform_on(&means, lattice, chirality, request, out),
+        AnyLattice::Fhp1(lattice) => perform_on(&means, lattice, start, request, out),
+        AnyLattice::Hpp(lattice) => perform_on(&means, lattice, start, request, out),
+        AnyLattice::FhpRest(lattice) => perform_on(&means, lattice, start, request, out),
     }
 }
 
@@ -74,12 +85,13 @@ pub fn perform<W: Write, H: Gate + Sync, R: Threads + Wait + Sync>(
 fn perform_on<G: Gas + Send, W: Write, H: Gate + Sync, R: Threads + Wait + Sync>(
     means: &Means<H, R>,
     lattice: &Lattice<G>,
-    chirality: Chirality,
+    start: Start,
     request: &Request,
     out: &mut W,
 ) -> Result<(), ToolError>
-    requires { IsAllowed request.now }
-    ensures { Performs (gas_outcome G.rules lattice.now chirality request.now)
+    requires allowed { IsAllowed request.now }
+    requires generation { start.generation ≤ LAST_GENERATION }
+    ensures { Performs (gas_outcome G.rules lattice.now start.chirality start.generation request.now)
         (W.contents out.old) (W.contents out.new) result }
 {
     match request {
@@ -90,7 +102,7 @@ fn perform_on<G: Gas + Send, W: Write, H: Gate + Sync, R: Threads + Wait + Sync>
             generations,
         } => {
             let plan = Plan::new(*stages, *capacity, *generations)?;
-            print_run(means, lattice, chirality, plan, View::Cells, out)
+            print_run(means, lattice, start, plan, View::Cells, out)
         }
         Request::Coarse {
             stages,
@@ -104,7 +116,7 @@ fn perform_on<G: Gas + Send, W: Write, H: Gate + Sync, R: Threads + Wait + Sync>
                 width: *block_width,
                 height: *block_height,
             };
-            print_run(means, lattice, chirality, plan, view, out)
+            print_run(means, lattice, start, plan, view, out)
         }
         Request::Replay {
             stages,
@@ -113,7 +125,7 @@ fn perform_on<G: Gas + Send, W: Write, H: Gate + Sync, R: Threads + Wait + Sync>
             turns,
         } => {
             let plan = Plan::new(*stages, *capacity, *generations)?;
-            print_replay(means.alloc, lattice, chirality, plan, turns.as_slice(), out)
+            print_replay(means.alloc, lattice, start, plan, turns.as_slice(), out)
         }
     }
 }
@@ -123,19 +135,25 @@ fn perform_on<G: Gas + Send, W: Write, H: Gate + Sync, R: Threads + Wait + Sync>
 fn print_run<G: Gas + Send, W: Write, H: Gate + Sync, R: Threads + Wait + Sync>(
     means: &Means<H, R>,
     lattice: &Lattice<G>,
-    chirality: Chirality,
+    start: Start,
     plan: Plan,
     view: View,
     out: &mut W,
 ) -> Result<(), ToolError>
-    requires { HasSomeCells view }
+    requires some_cells { HasSomeCells view }
+    requires generation { start.generation ≤ LAST_GENERATION }
     ensures { Performs
-        (Ok (view_text view G.rules (lattice_after G.rules chirality lattice.now plan.generations) plan.generations))
+        (Ok (view_text view G.rules (lattice_after G.rules start.chirality start.generation lattice.now plan.generations) (start.generation + plan.generations)))
         (W.contents out.old) (W.contents out.new) result }
 {
     let Means { rt, alloc, gate } = means;
-    let run = run(*rt, *alloc, lattice, chirality, plan, *gate)?;
-    print(*alloc, run.lattice(), plan.generations(), view, out)
+    let Start {
+        chirality,
+        generation,
+    } = start;
+    let last = generation + plan.generations();
+    let run = run(*rt, *alloc, lattice, chirality, generation, plan, *gate)?;
+    print(*alloc, run.lattice(), last, view, out)
 }
 
 // Prints a lattice at a generation.
@@ -163,15 +181,21 @@ fn print<G: Gas, W: Write>(
 fn print_replay<G: Gas, W: Write>(
     alloc: Global,
     lattice: &Lattice<G>,
-    chirality: Chirality,
+    start: Start,
     plan: Plan,
     turns: &[u32],
     out: &mut W,
 ) -> Result<(), ToolError>
-    ensures { Performs (replay_outcome G.rules lattice.now chirality plan turns.now)
+    requires generation { start.generation ≤ LAST_GENERATION }
+    ensures { Performs (replay_outcome G.rules lattice.now start.chirality start.generation plan turns.now)
         (W.contents out.old) (W.contents out.new) result }
 {
-    let replay = replay(alloc, lattice, chirality, plan, turns)?;
-    write_replay(&replay, plan.generations(), out)?;
+    let Start {
+        chirality,
+        generation,
+    } = start;
+    let last = generation + plan.generations();
+    let replay = replay(alloc, lattice, chirality, generation, plan, turns)?;
+    write_replay(&replay, last, out)?;
     Ok(())
 }

@@ -130,11 +130,11 @@ const ROUNDS: [u32; 24] = [
 pub fn whole_replay(alloc: Global) -> Result<Outcome, AllocError> {
     let lattice = lattice_with_obstacle(alloc)?;
     let before = lattice_with_obstacle(alloc)?;
-    let after = lattice_after(alloc, &lattice, Chirality::Left, 1)?;
+    let after = lattice_after(alloc, &lattice, Chirality::Left, 0, 1)?;
     let Ok(plan) = Plan::new(1, 1, 1) else {
         return Ok(Outcome::Wrong);
     };
-    let replayed = replay(alloc, &lattice, Chirality::Left, plan, &ROUNDS);
+    let replayed = replay(alloc, &lattice, Chirality::Left, 0, plan, &ROUNDS);
     let is_unchanged = are_same_lattices(&lattice, &before);
     Ok(match replayed {
         Ok(replayed) => {
@@ -156,12 +156,20 @@ pub fn whole_run<R: Threads + Wait + Sync>(
 ) -> Result<Outcome, AllocError> {
     let lattice = lattice_with_obstacle(alloc)?;
     let before = lattice_with_obstacle(alloc)?;
-    let after = lattice_after(alloc, &lattice, Chirality::Left, generations)?;
+    let after = lattice_after(alloc, &lattice, Chirality::Left, 0, generations)?;
     let register = Register::of(alloc, workers)?;
     let Ok(plan) = Plan::new(workers, 1, generations) else {
         return Ok(Outcome::Wrong);
     };
-    let ran = run(threads, alloc, &lattice, Chirality::Left, plan, &register);
+    let ran = run(
+        threads,
+        alloc,
+        &lattice,
+        Chirality::Left,
+        0,
+        plan,
+        &register,
+    );
     let is_well = are_same_lattices(&lattice, &before) && register.is_closed();
     Ok(match ran {
         Ok(run) => Outcome::of_answer(is_well && are_same_lattices(run.lattice(), &after)),

@@ -4,10 +4,9 @@
 #![tactic(auto)]
 
 use gas_geom::gas::Gas;
-use gas_rows::chirality::Chirality;
 use gas_rows::lattice::Lattice;
 use gas_scene::any_lattice::AnyLattice;
-use gas_scene::scene::read;
+use gas_scene::scene::{Scene, read};
 use gas_stage::advance::lattice_after;
 use gas_text::input::slurp;
 use gas_text::text::write_cells;
@@ -23,11 +22,13 @@ fn generations(rt: &HostRuntime) -> Option<u64> {
 fn print<G: Gas>(
     rt: &HostRuntime,
     lattice: &Lattice<G>,
-    chirality: Chirality,
+    scene: &Scene,
     generations: u64,
 ) -> Option<()> {
-    let lattice = lattice_after(rt.alloc(), lattice, chirality, generations).ok()?;
-    write_cells(&lattice, generations, &mut rt.stdout()).ok()
+    let first = scene.generation();
+    let last = first.checked_add(generations)?;
+    let lattice = lattice_after(rt.alloc(), lattice, scene.chirality(), first, generations).ok()?;
+    write_cells(&lattice, last, &mut rt.stdout()).ok()
 }
 
 fn answer(rt: &HostRuntime) -> Option<()> {
@@ -35,9 +36,9 @@ fn answer(rt: &HostRuntime) -> Option<()> {
     let text = slurp(rt.alloc(), &mut rt.reader()).ok()?;
     let scene = read(rt.alloc(), text.as_slice()).ok()?;
     match scene.lattice() {
-        AnyLattice::Fhp1(lattice) => print(rt, lattice, scene.chirality(), generations),
-        AnyLattice::Hpp(lattice) => print(rt, lattice, scene.chirality(), generations),
-        AnyLattice::FhpRest(lattice) => print(rt, lattice, scene.chirality(), generations),
+        AnyLattice::Fhp1(lattice) => print(rt, lattice, &scene, generations),
+        AnyLattice::Hpp(lattice) => print(rt, lattice, &scene, generations),
+        AnyLattice::FhpRest(lattice) => print(rt, lattice, &scene, generations),
     }
 }
 
