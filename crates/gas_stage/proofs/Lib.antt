@@ -3,3 +3,4 @@ pub mod Feeding
 pub mod Owed
 pub mod Passes
 pub mod Directions
+pub mod Additions

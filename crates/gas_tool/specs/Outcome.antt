@@ -73,6 +73,13 @@ scene_outcome (Ok s) request = gas_outcome (rules_named s.lattice.gas) s.lattice
 abbrev pub outcome : List ℕ → Request → Result (List ℕ) ToolError
 outcome text request = scene_outcome (scene_of_text text) request
 
+-- the scene of a scene's lattice so many generations on
+abbrev pub scene_after : SceneModel → ℕ → SceneModel
+scene_after s n = record s {
+  lattice = record s.lattice { lattice = lattice_after (rules_named s.lattice.gas) s.chirality s.generation s.lattice.lattice n };
+  generation = s.generation + n;
+}
+
 -- A call that is to have this outcome answers so, and what was written goes from `old` to `new`: by the whole text; or by its
 -- first n bytes, where the writer failed after n; or by nothing, where the fault is the outcome's, or want of memory.
 abbrev pub Performs : Result (List ℕ) ToolError → Option (List ℕ) → Option (List ℕ) → Result ⊤ ToolError → Type 0

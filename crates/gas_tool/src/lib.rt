@@ -5,6 +5,7 @@
 pub mod faults;
 pub mod perform;
 mod replayed;
+pub mod resume;
 #[cfg(test)]
 mod tests;
 
