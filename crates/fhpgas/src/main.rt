@@ -1,10 +1,12 @@
 //! The program `fhpgas`: words, a scene on standard input, the answer on standard output.
 #![tactic(auto)]
 
+mod progress;
+
 ghost use Rattle.std.specs.Prelude.{IfOk};
 ghost use Rattle.gas_words.specs.Requests.{IsAllowed};
 
-use gas_pipe::threads::gate::NoGate;
+use crate::progress::Progress;
 use gas_tool::faults::{InputFault, ToolError, UsageFault};
 use gas_tool::input::slurp;
 use gas_tool::perform::perform;
@@ -83,15 +85,17 @@ fn request(rt: &HostRuntime) -> Result<Request, UsageFault>
 fn answer<R: Threads + Wait + Sync>(rt: &HostRuntime, threads: &R) -> Result<(), Fault> {
     let request = request(rt)?;
     let text = slurp(rt.alloc(), &mut rt.reader())?;
-    perform(
+    let progress = Progress::new(rt, &request);
+    let performed = perform(
         threads,
         rt.alloc(),
         text.as_slice(),
         &request,
-        &NoGate,
+        &progress,
         &mut rt.stdout(),
-    )?;
-    Ok(())
+    );
+    progress.wipe();
+    Ok(performed?)
 }
 
 // Prints a fault's line, or the texts that come with their line feeds. Nothing tells of a printing

@@ -1,0 +1,133 @@
+//! A line of progress on standard error, where that is a terminal.
+
+use gas_pipe::threads::gate::Gate;
+use gas_tool::request::Request;
+use std::fs;
+use std::os::unix::fs::{FileTypeExt, MetadataExt};
+use std::sync::atomic::{AtomicU64, Ordering};
+use std::time::Instant;
+
+// The line is written anew at most once in so many milliseconds.
+const LINE_MILLISECONDS: u128 = 100;
+
+// Back to the start of the line, which is wiped.
+const WIPE: &str = "\r\x1b[K";
+
+// Whether standard error is a terminal, by its device's number: Linux's list of devices has consoles
+// and serial lines under 4 and 5, and pseudo terminals under 136 to 143.
+fn is_terminal(rt: &HostRuntime) -> bool {
+    let Ok(metadata) = fs::metadata(rt, "/proc/self/fd/2") else {
+        return false;
+    };
+    let device = metadata.rdev() >> 8 & 0xfff;
+    metadata.file_type().is_char_device() && matches!(device, 4 | 5 | 136..=143)
+}
+
+// A run whose last worker's passes are counted.
+#[derive(Drop)]
+struct Work {
+    stages: u32,
+    generations: u64,
+    begun: Instant,
+    passes: AtomicU64,
+    lines: AtomicU64,
+}
+
+impl Work {
+    fn new(rt: &HostRuntime, stages: u32, generations: u64) -> Option<Work> {
+        Some(Work {
+            stages,
+            generations,
+            begun: Instant::now(rt).ok()?,
+            passes: AtomicU64::new(0),
+            lines: AtomicU64::new(0),
+        })
+    }
+
+    // The work of a request that computes generations by threads.
+    fn of(rt: &HostRuntime, request: &Request) -> Option<Work> {
+        match request {
+            Request::Run {
+                stages,
+                generations,
+                ..
+            }
+            | Request::Coarse {
+                stages,
+                generations,
+                ..
+            } => Work::new(rt, *stages, *generations),
+            _ => None,
+        }
+    }
+
+    // Whether the time of the next line has come.
+    fn is_due(&self, rt: &HostRuntime) -> bool {
+        let lines = u128::from(self.lines.load(Ordering::Relaxed));
+        match self.begun.elapsed(rt) {
+            Ok(elapsed) => elapsed.as_millis() / LINE_MILLISECONDS > lines,
+            Err(_) => false,
+        }
+    }
+
+    // Counts a pass, and writes the line anew where its time has come.
+    fn count_pass(&self, rt: &HostRuntime) {
+        let passes = self
+            .passes
+            .fetch_add(1, Ordering::Relaxed)
+            .saturating_add(1);
+        let done = passes.saturating_mul(u64::from(self.stages));
+        if done >= self.generations {
+            self.wipe(rt);
+        } else if self.is_due(rt) {
+            self.lines.fetch_add(1, Ordering::Relaxed);
+            let share = u128::from(done) * 100 / u128::from(self.generations);
+            let generations = self.generations;
+            let _ = eprint!(rt; "{WIPE}{done} of {generations} generations ({share} %)");
+        }
+    }
+
+    // Wipes the line, where there is one.
+    fn wipe(&self, rt: &HostRuntime) {
+        if self.lines.load(Ordering::Relaxed) > 0 {
+            let _ = eprint!(rt; "{WIPE}");
+        }
+    }
+}
+
+/// A gate that tells how many generations of a run are computed, and what share of all, on standard
+/// error: nothing where that is no terminal. Nothing tells of a printing that failed.
+#[derive(Drop)]
+pub struct Progress<'a> {
+    rt: &'a HostRuntime,
+    work: Option<Work>,
+}
+
+impl<'a> Progress<'a> {
+    pub(crate) fn new(rt: &'a HostRuntime, request: &Request) -> Self {
+        let work = if is_terminal(rt) {
+            Work::of(rt, request)
+        } else {
+            None
+        };
+        Progress { rt, work }
+    }
+
+    /// Wipes the line of a run that is over or was given up.
+    pub(crate) fn wipe(&self) {
+        if let Some(work) = &self.work {
+            work.wipe(self.rt);
+        }
+    }
+}
+
+impl<'a> Gate for Progress<'a> {
+    fn enter(&self, _who: u32) {}
+
+    fn leave(&self, who: u32) {
+        match &self.work {
+            Some(work) if who == work.stages => work.count_pass(self.rt),
+            _ => {}
+        }
+    }
+}

@@ -1,0 +1,73 @@
+#!/usr/bin/env python3
+"""Runs the program with standard error on a terminal: while generations are computed a line there tells how many, and is wiped
+before the program ends; standard output has the bytes that it has without a terminal, where standard error stays empty."""
+import os
+import pathlib
+import pty
+import re
+import subprocess
+import sys
+
+PROGRAM = pathlib.Path(__file__).resolve().parent.parent / 'crates/fhpgas/out/fhpgas'
+# long enough on any machine that a line is due
+SCENE = b'gas = "fhp1"\nwidth = 512\nheight = 512\nrate = 300\n'
+WIPE = '\r\x1b[K'
+LINE = re.compile(re.escape(WIPE) + r'(\d+) of (\d+) generations \((\d+) %\)')
+
+
+def on_terminal(words):
+    """The status, what came on standard output, and what the terminal was told."""
+    ours, theirs = pty.openpty()
+    process = subprocess.Popen([PROGRAM, *words], stdin=subprocess.PIPE, stdout=subprocess.PIPE, stderr=theirs)
+    os.close(theirs)
+    process.stdin.write(SCENE)
+    process.stdin.close()
+    answer = process.stdout.read()
+    told = b''
+    while True:
+        try:
+            part = os.read(ours, 65536)
+        except OSError:
+            break
+        if not part:
+            break
+        told += part
+    os.close(ours)
+    return process.wait(), answer, told.decode()
+
+
+def in_pipe(words):
+    done = subprocess.run([PROGRAM, *words], input=SCENE, capture_output=True)
+    return done.returncode, done.stdout, done.stderr.decode()
+
+
+def tells(told, generations):
+    """Whether the terminal was told growing numbers of generations with their shares, and the line was wiped in the end."""
+    lines = [tuple(map(int, found.groups())) for found in LINE.finditer(told)]
+    done = [line[0] for line in lines]
+    return (
+        lines != []
+        and done == sorted(done)
+        and all(total == generations and part < total and share == part * 100 // total for part, total, share in lines)
+        and LINE.sub('', told) == WIPE
+    )
+
+
+passed = failed = 0
+for name, words, generations in [
+    ('run', ['run', '--generations', '20000'], 20000),
+    ('coarse', ['coarse', '--generations', '20001', '--block-width', '512', '--block-height', '512'], 20001),
+    ('check', ['check'], None),
+    ('no generation', ['run', '--generations', '0'], None),
+]:
+    plain = in_pipe(words)
+    shown = on_terminal(words)
+    right = plain[0] == 0 and plain[2] == '' and shown[:2] == plain[:2]
+    right = right and (shown[2] == '' if generations is None else tells(shown[2], generations))
+    if right:
+        passed += 1
+    else:
+        failed += 1
+        print(f'FAILED: {name}: the terminal was told {shown[2][:200]!r}')
+print(f'terminal: {passed} passed, {failed} failed')
+sys.exit(failed > 0)
