@@ -198,6 +198,30 @@ for wanted in tests/examples/*.wanted; do
     count "$name"
 done
 
+# as_scene KEYS: makes the cells that `run` printed a scene again, with these keys
+as_scene() {
+    awk -v keys="$1" 'NR == 1 { print "version = 2\n" keys "\ngeneration = " $2 "\ncells = [" } NR > 1 { print "\"" $0 "\"," } END { print "]" }'
+}
+
+# three generations and then four of what was printed print what seven do
+for gas in fhp1 hpp fhp-rest; do
+    for chirality in left right seeded; do
+        keys="gas = \"$gas\"
+chirality = \"$chirality\"
+seed = 7"
+        ends 0 "$keys
+width = 67
+height = 9
+rate = 400
+solid = [[20, 2, 3, 4], [66, 8, 1, 1]]
+" run --generations 7 --stages 3 && cp "$room/out" "$room/whole" \
+            && "$program" run --generations 3 --stages 2 < "$room/scene" | as_scene "$keys" > "$room/later" \
+            && "$program" run --generations 4 < "$room/later" > "$room/out" 2> "$room/err" \
+            && cmp -s "$room/out" "$room/whole" && head -n 1 "$room/out" | grep -q '^generation 7 particles [1-9]' && [ ! -s "$room/err" ]
+        count "a run in two parts of $gas, $chirality"
+    done
+done
+
 for scene in scenes/*.toml; do
     "$program" run --generations 3 < "$scene" > "$room/out" 2> "$room/err"
     [ $? = 0 ] && head -n 1 "$room/out" | grep -q '^generation 3 particles '
