@@ -1,5 +1,5 @@
 -- Lemmas on the first answer.
-use Rattle.std.proofs.Common.{◌≡◌, ℕ, ◌+◌, ◌<◌, zero, suc, Option, Some, None, refl, ap, arith, add-one, inl, inr, ◌∙◌}
+use Rattle.std.proofs.Common.{◌≡◌, ℕ, ◌+◌, ◌<◌, zero, suc, Option, Some, None, refl, ap, ap₂, arith, add-one, inl, inr, ◌∙◌}
 use Rattle.std.proofs.Common.{Bool, true, false, ◌&&◌, is_none, if◌then◌else◌}
 use Rattle.std.specs.Option.{option_or}
 use Rattle.std.proofs.lemmas.Bool.{cases_lt, false≢true}
@@ -29,6 +29,10 @@ first_below-none f (suc n) none k within =
       | inl lt ↦ first_below-none f n both.0 k lt
       | inr ge ↦ let e : k ≡ n = omega arith in ap f e ∙ both.1
     ]
+
+pub first_below-all : {A : Type 0} (f : ℕ → Option A) (n : ℕ) → ((k : ℕ) → k < n → f k ≡ None) → first_below f n ≡ None
+first_below-all f zero none = refl
+first_below-all f (suc n) none = ap₂ option_or (first_below-all f n (λ k within. none k (omega (arith, within)))) (none n (omega arith))
 
 no_answer : {A : Type 0} (a b : Option A) → (is_none a && is_none b) ≡ is_none (option_or a b)
 no_answer None b = refl

@@ -12,5 +12,9 @@ pub mod Digits
 pub mod First
 pub mod Values
 pub mod Names
+pub mod Members
+pub mod Printed
+pub mod Tables
+pub mod Checkpoints
 pub mod Strips
 pub mod Reaches

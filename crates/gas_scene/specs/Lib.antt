@@ -13,3 +13,5 @@ pub mod Area
 pub mod Building
 pub mod Strips
 pub mod Scene
+pub mod Checkpoint
+pub mod Printing

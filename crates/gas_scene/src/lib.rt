@@ -4,6 +4,7 @@
 pub mod any_lattice;
 mod area_form;
 mod cells;
+pub mod checkpoint;
 mod checks;
 pub mod error;
 mod fields;

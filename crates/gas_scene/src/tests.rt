@@ -1,3 +1,4 @@
+mod checkpoints;
 mod errors;
 mod helpers;
 mod refusals;

@@ -1,0 +1,117 @@
+-- The printed cells of a lattice, read back.
+use Rattle.std.proofs.Common.{◌≡◌, inl, inr, ℕ, zero, suc, ◌+◌, ◌*◌, ◌/◌, ◌%◌, ◌<◌, ◌≤◌, ◌==◌, Bool, true, false, ◌&&◌, List, [], ◌∷◌, ◌++◌, length, get_or, Option, Some, None, codes, nat_eq, nat_lt, ap, ap₂, sym, ◌∙◌, refl, arith, if◌then◌else◌}
+use Rattle.std.specs.Fmt.{digit_glyph}
+use Rattle.std.specs.Option.{option_eq}
+use Rattle.std.specs.Str.{bytes_eq}
+use Rattle.std.proofs.lemmas.Bool.{agree_below_at, eqb-true, cases_lt, lt-ltb}
+use Rattle.std.proofs.lemmas.Bool.Decides.{nat_tests}
+use Rattle.std.proofs.lemmas.List.{length-append, get_or_append_left, get_or-append-add}
+use Rattle.gas_geom.specs.Channel.{is_solid}
+use Rattle.gas_geom.specs.Lattice.{LatticeModel, cell}
+use Rattle.gas_scene.specs.declared.cells.Cell.{Cell}
+use Rattle.gas_scene.specs.declared.cells.Cell.TheVariants.{Solid, State}
+use Rattle.gas_scene.specs.Cells.{digit_of, state_of, cell_of, cell_at}
+use Rattle.gas_scene.specs.Printing.{cell_text, cells_text, row_text}
+
+-- a digit is read back, and is no mark
+same_option : (a b : Option ℕ) → option_eq nat_eq a b ≡ true → a ≡ b
+same_option None None e = refl
+same_option None (Some y) e = absurd (cc)
+same_option (Some x) None e = absurd (cc)
+same_option (Some x) (Some y) e = ap Some (eqb-true x y e)
+
+digit_of-glyph : (d : ℕ) → d < 16 → digit_of (digit_glyph false d) ≡ Some d
+unfolding digit_of
+digit_of-glyph d h = same_option _ _ (agree_below_at (λ d. option_eq nat_eq (digit_of (digit_glyph false d)) (Some d)) (λ _. true) 16 d refl h)
+
+no_mark : (mark d : ℕ) → mark < 48 → d < 16 → (digit_glyph false d == mark) ≡ false
+no_mark mark d low h = let above : 48 ≤ digit_glyph false d = least d in grind (arith, nat_tests)
+  where
+    least-if : (d : ℕ) (b : Bool) → 48 ≤ (if b then 48 + d else 87 + d)
+    least-if d true = omega arith
+    least-if d false = omega arith
+
+    least : (d : ℕ) → 48 ≤ digit_glyph false d
+    least d = least-if d (nat_lt d 10)
+
+-- what a cell of a lattice is read as
+abbrev pub cell_data : Bool → ℕ → Cell
+cell_data solid state = if solid then Solid else State state
+
+differs : (a b mark : ℕ) → (a == mark) ≡ false → bytes_eq (a ∷ b ∷ []) (mark ∷ mark ∷ []) ≡ false
+differs a b mark e = ap (λ (t : Bool). t && ((b == mark) && true)) e
+
+digits_read : (states state : ℕ) → state < states → states ≤ 256
+    → cell_of states (digit_glyph false (state / 16)) (digit_glyph false (state % 16)) ≡ Some (State state)
+unfolding cell_of
+digits_read states state below few =
+    let high : state / 16 < 16 = omega (arith, below, few) in
+    let low : state % 16 < 16 = omega arith in
+    let whole : state / 16 * 16 + state % 16 ≡ state = omega arith in
+    let a : ℕ = digit_glyph false (state / 16) in
+    let b : ℕ = digit_glyph false (state % 16) in
+    ap₂ (λ (s : Bool) (e : Bool). if s then Some Solid else if e then Some (State 0) else state_of states (digit_of a) (digit_of b))
+    (differs a b 35 (no_mark 35 _ (omega arith) high)) (differs a b 46 (no_mark 46 _ (omega arith) high))
+    ∙ ap₂ (state_of states) (digit_of-glyph _ high) (digit_of-glyph _ low)
+    ∙ ap (λ n. if nat_lt n states then Some (State n) else None) whole
+    ∙ ap (λ (t : Bool). if t then Some (State state) else None) (lt-ltb state states below)
+
+abbrev text_if : Bool → Bool → ℕ → List ℕ
+text_if solid empty state =
+    if solid then codes "##" else if empty then codes ".." else digit_glyph false (state / 16) ∷ digit_glyph false (state % 16) ∷ []
+
+two-if : (solid empty : Bool) (state : ℕ) → length (text_if solid empty state) ≡ 2
+two-if true empty state = refl
+two-if false true state = refl
+two-if false false state = refl
+
+solid_read : (states : ℕ) → cell_of states 35 35 ≡ Some Solid
+unfolding cell_of
+solid_read states = refl
+
+empty_read : (states : ℕ) → cell_of states 46 46 ≡ Some (State 0)
+unfolding cell_of
+empty_read states = refl
+
+cell_of-if : (states state : ℕ) (solid empty : Bool) → state < states → states ≤ 256 → (state == 0) ≡ empty
+    → cell_of states (get_or (text_if solid empty state) 0 0) (get_or (text_if solid empty state) 1 0) ≡ Some (cell_data solid state)
+cell_of-if states state true empty below few is = solid_read states
+cell_of-if states state false true below few is = empty_read states ∙ ap (λ s. Some (State s)) (sym (eqb-true state 0 is))
+cell_of-if states state false false below few is = digits_read states state below few
+
+two : (solid : Bool) (state : ℕ) → length (cell_text solid state) ≡ 2
+two solid state = two-if solid (state == 0) state
+
+pub length-cells_text : (l : LatticeModel) (y n : ℕ) → length (cells_text l y n) ≡ 2 * n
+length-cells_text l y zero = refl
+length-cells_text l y (suc n) =
+    let here = length-append (cells_text l y n) (cell_text (is_solid l.channel n y) (cell l.rows n y)) in
+    omega (arith, here, length-cells_text l y n, two (is_solid l.channel n y) (cell l.rows n y))
+
+-- the characters of a cell among those of its row
+character : (l : LatticeModel) (y n x k : ℕ) → x < n → k < 2
+    → get_or (cells_text l y n) (2 * x + k) 0 ≡ get_or (cell_text (is_solid l.channel x y) (cell l.rows x y)) k 0
+character l y zero x k within few = absurd (omega (arith, within))
+character l y (suc n) x k within few =
+    let before : List ℕ = cells_text l y n in
+    let last : List ℕ = cell_text (is_solid l.channel n y) (cell l.rows n y) in
+    elim (cases_lt x n) [
+      | inl lt ↦ get_or_append_left before last 0 (2 * x + k) (omega (arith, lt, few, length-cells_text l y n)) ∙ character l y n x k lt few
+      | inr ge ↦ let same : x ≡ n = omega (arith, ge, within) in
+          let place : 2 * x + k ≡ length before + k = omega (arith, same, length-cells_text l y n) in
+          ap (λ i. get_or (before ++ last) i 0) place ∙ get_or-append-add before last k 0
+          ∙ ap (λ u. get_or (cell_text (is_solid l.channel u y) (cell l.rows u y)) k 0) (sym same)
+    ]
+
+pub length-row_text : (l : LatticeModel) (y : ℕ) → length (row_text l y) ≡ 2 * l.channel.width
+unfolding row_text
+length-row_text l y = length-cells_text l y l.channel.width
+
+pub cell_at-row_text : (l : LatticeModel) (states x y : ℕ) → x < l.channel.width → cell l.rows x y < states → states ≤ 256
+    → cell_at states (row_text l y) x ≡ Some (cell_data (is_solid l.channel x y) (cell l.rows x y))
+unfolding row_text
+cell_at-row_text l states x y within below few =
+    let first : 2 * x ≡ 2 * x + 0 = omega arith in
+    let row : List ℕ = cells_text l y l.channel.width in
+    ap₂ (cell_of states) (ap (λ i. get_or row i 0) first ∙ character l y l.channel.width x 0 within (omega arith)) (character l y l.channel.width x 1 within (omega arith))
+    ∙ cell_of-if states (cell l.rows x y) (is_solid l.channel x y) (cell l.rows x y == 0) below few refl

@@ -1,0 +1,204 @@
+//! A lattice amid its generations as the text of a scene, from which its run can go on.
+
+ghost use Rattle.std.specs.Prelude.{◌≡◌, ◌⊎◌, ◌↔◌, ◌++◌, ◌<◌, ◌^◌, true, false, Some, Ok, Err, pos, map, IfOk, IfErr, OnOk, string_bytes};
+ghost use Rattle.std.specs.Fmt.{digit_glyph};
+ghost use Rattle.gas_geom.specs.Channel.{IsChannel};
+ghost use Rattle.gas_geom.specs.Lattice.{IsLattice};
+ghost use Rattle.toml.specs.Data.{integer};
+ghost use Rattle.toml.specs.View.{view, table_view};
+ghost use Rattle.gas_scene.specs.declared.error.SceneError.TheVariants.{Memory, Range};
+ghost use Rattle.gas_scene.specs.Gases.{gas_lattice, gas_named};
+ghost use Rattle.gas_scene.specs.Scene.{scene_of_text};
+ghost use Rattle.gas_scene.specs.Checkpoint.{is_seed_told, is_told};
+ghost use Rattle.gas_scene.specs.Printing.{cell_text, row_text, row_values, insert_member, chirality_name, with_seed, checkpoint_table};
+
+use crate::any_lattice::AnyLattice;
+use crate::error::SceneError;
+use crate::ranges::LAST_GENERATION;
+use gas_geom::gas::Gas;
+use gas_rows::chirality::Chirality;
+use gas_rows::lattice::Lattice;
+use std::alloc::{AllocError, Global};
+use toml::{Table, Value};
+
+// The character of a hexadecimal digit.
+fn hex_digit(digit: u8) -> char
+    requires { digit < 16 }
+    ensures { result ≡ digit_glyph false digit }
+{
+    if digit < 10 {
+        char::from(b'0' + digit)
+    } else {
+        char::from(b'a' + (digit - 10))
+    }
+}
+
+// Adds the two characters of a cell.
+fn push_cell(text: &mut String, solid: bool, state: u8) -> Result<(), AllocError>
+    ensures { OnOk result (string_bytes text.new ≡ string_bytes text.old ++ cell_text solid state) }
+{
+    if solid {
+        text.push_str("##")
+    } else if state == 0 {
+        text.push_str("..")
+    } else {
+        text.push(hex_digit(state / 16))?;
+        text.push(hex_digit(state % 16))
+    }
+}
+
+// The characters of row `y`.
+fn row_text<G: Gas>(alloc: Global, lattice: &Lattice<G>, y: u32) -> Result<String, AllocError>
+    requires { y < lattice.now.channel.height }
+    ensures { IfOk result (λ s. string_bytes s ≡ row_text lattice.now y) }
+{
+    let channel = lattice.channel();
+    let width = channel.size().width();
+    let mut text = String::with_capacity(alloc, 2 * width as usize)?;
+    for x in 0..width {
+        push_cell(&mut text, channel.is_solid(x, y), lattice.cell(x, y))?;
+    }
+    Ok(text)
+}
+
+// The rows from the top, as values of a table.
+fn row_values<G: Gas>(alloc: Global, lattice: &Lattice<G>) -> Result<Vec<Value>, AllocError>
+    ensures rows { IfOk result (λ rows. map view rows.items ≡ row_values lattice.now lattice.now.channel.height) }
+    ensures lattice { IsLattice G.rules lattice.now.channel lattice.now.rows }
+    ensures channel { IsChannel lattice.now.channel }
+{
+    let height = lattice.channel().size().height();
+    let mut rows = Vec::with_capacity(alloc, height as usize)?;
+    for y in 0..height {
+        rows.push(Value::String(row_text(alloc, lattice, y)?))?;
+    }
+    Ok(rows)
+}
+
+// Sets the value at a key.
+fn insert(alloc: Global, table: &mut Table, key: &str, value: Value) -> Result<(), AllocError>
+    ensures { OnOk result (table_view table.new ≡ insert_member key.now (view value) (table_view table.old)) }
+{
+    let key = String::from_str(alloc, key)?;
+    match table.insert(key, value) {
+        Ok(_) => Ok(()),
+        Err(_) => Err(AllocError),
+    }
+}
+
+fn chirality_name(chirality: Chirality) -> &'static str
+    ensures { result.now ≡ chirality_name chirality }
+{
+    match chirality {
+        Chirality::Seeded(_) => "seeded",
+        Chirality::Left => "left",
+        Chirality::Right => "right",
+    }
+}
+
+// A number as an integer of TOML.
+fn integer(number: u64) -> Value
+    requires { number < 2 ^ 63 }
+    ensures { view result ≡ integer (pos number) }
+{
+    Value::Integer(number as i64)
+}
+
+// Sets the seed, if there is one.
+fn insert_seed(alloc: Global, table: &mut Table, chirality: Chirality) -> Result<(), AllocError>
+    requires { is_seed_told chirality ≡ true }
+    ensures { OnOk result (table_view table.new ≡ with_seed chirality (table_view table.old)) }
+{
+    match chirality {
+        Chirality::Seeded(seed) => insert(alloc, table, "seed", integer(seed)),
+        Chirality::Left => Ok(()),
+        Chirality::Right => Ok(()),
+    }
+}
+
+// The table of a checkpoint.
+fn table_of(
+    alloc: Global,
+    gas: &str,
+    cells: Vec<Value>,
+    chirality: Chirality,
+    generation: u64,
+) -> Result<Table, AllocError>
+    requires { is_told chirality generation ≡ true }
+    ensures { IfOk result (λ t. table_view t ≡ checkpoint_table gas.now (map view cells.items) chirality generation) }
+{
+    let mut table = Table::new(alloc);
+    let chirality_value = Value::string(alloc, chirality_name(chirality))?;
+    insert(alloc, &mut table, "version", Value::Integer(2))?;
+    insert(alloc, &mut table, "gas", Value::string(alloc, gas)?)?;
+    insert(alloc, &mut table, "chirality", chirality_value)?;
+    insert(alloc, &mut table, "generation", integer(generation))?;
+    insert(alloc, &mut table, "cells", Value::Array(cells))?;
+    insert_seed(alloc, &mut table, chirality)?;
+    Ok(table)
+}
+
+// The text of a checkpoint of a lattice of one gas.
+fn text_of<G: Gas>(
+    alloc: Global,
+    lattice: &Lattice<G>,
+    chirality: Chirality,
+    generation: u64,
+) -> Result<String, AllocError>
+    requires told { is_told chirality generation ≡ true }
+    requires named { gas_named G.rules.name ≡ Some G.rules }
+    ensures { IfOk result (λ s. scene_of_text (string_bytes s) ≡ Ok (record {
+      lattice = record { gas = G.rules.name; lattice = lattice.now };
+      chirality = chirality;
+      generation = generation;
+    })) }
+{
+    let cells = row_values(alloc, lattice)?;
+    let table = table_of(alloc, G::name(), cells, chirality, generation)?;
+    match toml::table_to_string(alloc, &table) {
+        Ok(text) => Ok(text),
+        Err(_) => Err(AllocError),
+    }
+}
+
+// Whether the seed, if there is one, is an integer of TOML.
+fn is_seed_told(chirality: Chirality) -> bool
+    ensures { result ≡ is_seed_told chirality }
+{
+    match chirality {
+        Chirality::Seeded(seed) => seed < 1 << 63,
+        Chirality::Left => true,
+        Chirality::Right => true,
+    }
+}
+
+/// The text of a scene of version 2 that holds a lattice, where the random bits of its collisions
+/// come from, and its generation: `scene::read` gives all of them back, so that a run from the text
+/// goes on as one from the lattice. It draws the lattice as a map.
+///
+/// `Range` exactly where the generation is above 1,000,000,000,000 or a seed above 2^63 - 1; else
+/// `Memory` where memory is refused.
+pub fn checkpoint(
+    alloc: Global,
+    lattice: &AnyLattice,
+    chirality: Chirality,
+    generation: u64,
+) -> Result<String, SceneError>
+    ensures text { IfOk result (λ s. scene_of_text (string_bytes s) ≡ Ok (record {
+      lattice = gas_lattice lattice.now;
+      chirality = chirality;
+      generation = generation;
+    })) }
+    ensures range { (result ≡ Err Range) ↔ (is_told chirality generation ≡ false) }
+    ensures errors { IfErr result (λ e. (e ≡ Range) ⊎ (e ≡ Memory)) }
+{
+    if !is_seed_told(chirality) || LAST_GENERATION < generation {
+        return Err(SceneError::Range);
+    }
+    let text = match lattice {
+        AnyLattice::Fhp1(lattice) => text_of(alloc, lattice, chirality, generation),
+        AnyLattice::Hpp(lattice) => text_of(alloc, lattice, chirality, generation),
+        AnyLattice::FhpRest(lattice) => text_of(alloc, lattice, chirality, generation),
+    };
+    text.or(Err(SceneError::Memory))
+}
