@@ -13,7 +13,7 @@ mod words;
 // A row that tells a number below 4096 by its first cell and its last.
 fn numbered(alloc: Global, width: u32, number: u32) -> Result<Row<Fhp1>, AllocError>
     requires some_cells { 2 ≤ width }
-    requires few_cells { width ≤ 4096 }
+    requires few_cells { width ≤ 65536 }
     requires number { number < 4096 }
 {
     let mut row = Row::blank(alloc, width)?;

@@ -9,7 +9,7 @@ use std::test::Fail;
 
 // Rows with no order to be seen go through a belt as they are.
 fn rows_come_as_they_went<G: Gas>(rt: &impl Abort, alloc: Global, width: u32) -> Result<(), Fail> {
-    assert!(rt; 1 <= width && width <= 4096);
+    assert!(rt; 1 <= width && width <= 65536);
     let (mut tx, mut rx) = belt::<G>(alloc, 2, width)?;
     let mut word = 0u64;
     for n in 0..9 {
@@ -41,7 +41,7 @@ fn rows_come_as_they_went<G: Gas>(rt: &impl Abort, alloc: Global, width: u32) ->
 
 #[test]
 fn rows_of_both_gases(rt: HostRuntime) -> Result<(), Fail> {
-    for width in [1, 2, 63, 64, 65, 127, 128, 129, 4095, 4096] {
+    for width in [1, 2, 63, 64, 65, 127, 128, 129, 4095, 4096, 65535, 65536] {
         rows_come_as_they_went::<Fhp1>(&rt, rt.alloc(), width)?;
         rows_come_as_they_went::<Hpp>(&rt, rt.alloc(), width)?;
     }
