@@ -8,7 +8,7 @@ use std::sync::atomic::{AtomicU64, Ordering};
 use std::time::Instant;
 
 // The line is written anew at most once in so many milliseconds.
-const LINE_MILLISECONDS: u128 = 100;
+const LINE_MILLISECONDS: u64 = 100;
 
 // Back to the start of the line, which is wiped.
 const WIPE: &str = "\r\x1b[K";
@@ -30,7 +30,8 @@ struct Work {
     generations: u64,
     begun: Instant,
     passes: AtomicU64,
-    lines: AtomicU64,
+    // when the line was written last, 0 for never
+    written: AtomicU64,
 }
 
 impl Work {
@@ -40,7 +41,7 @@ impl Work {
             generations,
             begun: Instant::now(rt).ok()?,
             passes: AtomicU64::new(0),
-            lines: AtomicU64::new(0),
+            written: AtomicU64::new(0),
         })
     }
 
@@ -61,13 +62,10 @@ impl Work {
         }
     }
 
-    // Whether the time of the next line has come.
-    fn is_due(&self, rt: &HostRuntime) -> bool {
-        let lines = u128::from(self.lines.load(Ordering::Relaxed));
-        match self.begun.elapsed(rt) {
-            Ok(elapsed) => elapsed.as_millis() / LINE_MILLISECONDS > lines,
-            Err(_) => false,
-        }
+    // How many milliseconds it has taken so far.
+    fn milliseconds(&self, rt: &HostRuntime) -> Option<u64> {
+        let elapsed = self.begun.elapsed(rt).ok()?;
+        u64::try_from(elapsed.as_millis()).ok()
     }
 
     // Counts a pass, and writes the line anew where its time has come.
@@ -79,17 +77,22 @@ impl Work {
         let done = passes.saturating_mul(u64::from(self.stages));
         if done >= self.generations {
             self.wipe(rt);
-        } else if self.is_due(rt) {
-            self.lines.fetch_add(1, Ordering::Relaxed);
-            let share = u128::from(done) * 100 / u128::from(self.generations);
+            return;
+        }
+        let now = self.milliseconds(rt).unwrap_or(0);
+        let written = self.written.load(Ordering::Relaxed);
+        if now >= written.saturating_add(LINE_MILLISECONDS) {
+            self.written.store(now, Ordering::Relaxed);
             let generations = self.generations;
+            let share = u128::from(done) * 100 / u128::from(generations);
             let _ = eprint!(rt; "{WIPE}{done} of {generations} generations ({share} %)");
         }
     }
 
     // Wipes the line, where there is one.
     fn wipe(&self, rt: &HostRuntime) {
-        if self.lines.load(Ordering::Relaxed) > 0 {
+        if self.written.load(Ordering::Relaxed) > 0 {
+            self.written.store(0, Ordering::Relaxed);
             let _ = eprint!(rt; "{WIPE}");
         }
     }
