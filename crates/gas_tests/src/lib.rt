@@ -7,6 +7,8 @@ mod lines;
 mod meeting;
 pub mod plain;
 #[cfg(test)]
+mod resumed;
+#[cfg(test)]
 mod tests;
 #[cfg(test)]
 mod threads;

@@ -16,7 +16,7 @@ use std::process::ExitCode;
 use std::sync::Wait;
 use std::thread::Threads;
 
-const CALLS: [&str; 25] = [
+const CALLS: [&str; 26] = [
     "row_blank",
     "row_copy",
     "mask_blank",
@@ -36,6 +36,7 @@ const CALLS: [&str; 25] = [
     "run_4",
     "read_map",
     "read_area",
+    "checkpoint",
     "coarse",
     "slurp",
     "parse_words",
@@ -71,6 +72,7 @@ fn made<R: Threads + Wait + Sync>(
         "run_4" => line::whole_run(threads, alloc, 4, 5),
         "read_map" => requests::scene_of_a_map(alloc),
         "read_area" => requests::scene_of_an_area(alloc),
+        "checkpoint" => requests::written_down(alloc),
         "coarse" => requests::blocks(alloc),
         "slurp" => Ok(requests::input(alloc)),
         "parse_words" => Ok(requests::words(alloc)),

@@ -5,7 +5,9 @@ ghost use Rattle.gas_words.specs.Requests.{IsAllowed};
 use crate::line::Register;
 use crate::outcome::Outcome;
 use crate::rows::{are_same_lattices, lattice_with_obstacle};
+use gas_rows::chirality::Chirality;
 use gas_scene::any_lattice::AnyLattice;
+use gas_scene::checkpoint::checkpoint;
 use gas_scene::error::SceneError;
 use gas_scene::scene::read;
 use gas_tool::blocks::{Block, coarse};
@@ -100,6 +102,22 @@ pub fn scene_of_a_map(alloc: Global) -> Result<Outcome, AllocError> {
 
 pub fn scene_of_an_area(alloc: Global) -> Result<Outcome, AllocError> {
     scene(alloc, AREA)
+}
+
+/// The lattice at the last generation that a scene can tell, written down and read again.
+pub fn written_down(alloc: Global) -> Result<Outcome, AllocError> {
+    let before = lattice_with_obstacle(alloc)?;
+    let lattice = AnyLattice::Fhp1(lattice_with_obstacle(alloc)?);
+    let text = checkpoint(alloc, &lattice, Chirality::Left, 1_000_000_000_000);
+    let is_unchanged = match &lattice {
+        AnyLattice::Fhp1(lattice) => are_same_lattices(lattice, &before),
+        _ => false,
+    };
+    match text {
+        Ok(text) if is_unchanged => scene(alloc, text.as_bytes()),
+        Err(SceneError::Memory) => Ok(Outcome::of_refusal(is_unchanged)),
+        _ => Ok(Outcome::Wrong),
+    }
 }
 
 // The blocks of the lattice: one of four columns with the obstacle in it, and one of three.
