@@ -1,5 +1,5 @@
 //! The next lattice, cell by cell: plain and slow, for tests to compare with.
-ghost use Rattle.std.specs.Prelude.{◌≡◌, ◌<◌, ◌≤◌, ◌^◌, IfOk};
+ghost use Rattle.std.specs.Prelude.{◌+◌, ◌≡◌, ◌<◌, ◌≤◌, ◌^◌, IfOk};
 ghost use Rattle.gas_geom.specs.Gas.{holds};
 ghost use Rattle.gas_geom.specs.Lattice.{arriving, streamed, row_of};
 ghost use Rattle.gas_rows.specs.Chirality.{chirality_bit};

@@ -1,15 +1,10 @@
 //! Runs in two parts, with a scene written down between them.
 
 use crate::tests::assert_same;
-use gas_geom::fhp_rest::FhpRest;
-use gas_geom::fhp1::Fhp1;
 use gas_geom::gas::Gas;
-use gas_geom::hpp::Hpp;
-use gas_geom::size::Size;
 use gas_pipe::plan::Plan;
 use gas_pipe::threads::gate::NoGate;
 use gas_pipe::threads::run;
-use gas_rows::channel::Channel;
 use gas_rows::chirality::Chirality;
 use gas_rows::lattice::Lattice;
 use gas_scene::any_lattice::AnyLattice;
@@ -21,15 +16,16 @@ use std::sync::Wait;
 use std::test::Fail;
 use std::thread::Threads;
 
-// Some head-on pairs, one of them at the seam, whose random bit is the first of a word.
-fn pairs<G: Gas>(alloc: Global, pair: u8) -> Result<Lattice<G>, Fail> {
-    let size = Size::new(33, 2).ok_or("a size")?;
-    let mut lattice = Lattice::blank(alloc, Channel::free(alloc, size)?)?;
-    for x in [3, 31, 32] {
-        lattice.set_cell(x, 1, pair);
-    }
-    Ok(lattice)
-}
+// Head-on pairs, two of them at the seam, where a random bit is the first of a word.
+const FHP1: &[u8] = b"gas = \"fhp1\"\nwidth = 33\nheight = 2\n\
+particles = [[3, 1, 9], [31, 1, 9], [32, 1, 9]]\n";
+
+const HPP: &[u8] = b"gas = \"hpp\"\nwidth = 33\nheight = 2\n\
+particles = [[3, 1, 5], [31, 1, 5], [32, 1, 5]]\n";
+
+// One beside a particle at rest.
+const FHP_REST: &[u8] = b"gas = \"fhp-rest\"\nwidth = 33\nheight = 2\n\
+particles = [[3, 1, 9], [31, 1, 0x49], [32, 1, 9]]\n";
 
 // The lattice so many generations after one of generation `first`.
 fn lattice_after<G: Gas + Send, R: Threads + Wait + Sync>(
@@ -102,14 +98,10 @@ fn split<R: Abort + Threads + Wait + Sync>(
 #[test]
 fn every_split_of_seven_generations(rt: HostRuntime) -> Result<(), Fail> {
     let alloc = rt.alloc();
-    for start in [
-        AnyLattice::Fhp1(pairs::<Fhp1>(alloc, 0x09)?),
-        AnyLattice::Hpp(pairs::<Hpp>(alloc, 0x05)?),
-        AnyLattice::FhpRest(pairs::<FhpRest>(alloc, 0x09)?),
-        AnyLattice::FhpRest(pairs::<FhpRest>(alloc, 0x49)?),
-    ] {
+    for text in [FHP1, HPP, FHP_REST] {
+        let start = read(alloc, text)?;
         for chirality in [Chirality::Seeded(0), Chirality::Left, Chirality::Right] {
-            split(&rt, alloc, &start, chirality)?;
+            split(&rt, alloc, start.lattice(), chirality)?;
         }
     }
     Ok(())
