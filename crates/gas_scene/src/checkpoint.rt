@@ -52,11 +52,11 @@ fn row_text<G: Gas>(alloc: Global, lattice: &Lattice<G>, y: u32) -> Result<Strin
     requires { y < lattice.now.channel.height }
     ensures { IfOk result (λ s. string_bytes s ≡ row_text lattice.now y) }
 {
-    let channel = lattice.channel();
-    let width = channel.size().width();
-    let mut text = String::with_capacity(alloc, 2 * width as usize)?;
-    for x in 0..width {
-        push_cell(&mut text, channel.is_solid(x, y), lattice.cell(x, y))?;
+    let row = lattice.row(y);
+    let solid = lattice.channel().mask(y);
+    let mut text = String::with_capacity(alloc, 2 * row.width() as usize)?;
+    for x in 0..row.width() {
+        push_cell(&mut text, solid.get(x), row.get(x))?;
     }
     Ok(text)
 }
