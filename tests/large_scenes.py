@@ -60,6 +60,12 @@ def texts(size):
     rows = min(SIDE, size // (2 * SIDE + 4))
     row = '"' + "3f" * SIDE + '",\n'
     yield "a map", ['gas = "fhp1"\ncells = [\n'] + [row] * rows + ["]\n"], f"gas fhp1 width {SIDE} height {rows} solid 0 particles {6 * SIDE * rows}"
+    wide = '"' + "##" * 65535 + '01",\n'
+    rows = max(size // len(wide), 1)
+    wide_map = ['version = 2\ngas = "fhp1"\ncells = [\n'] + [wide] * rows + ["]\n"]
+    yield "a map of the widest rows", wide_map, f"gas fhp1 width 65536 height {rows} solid {65535 * rows} particles {rows}"
+    wide_area = 'version = 2\ngas = "fhp1"\nwidth = 65536\nheight = 2\nrate = 1000\nsolid = ['
+    yield "rectangles across the widest rows", repeated(wide_area, "[0,0,65535,2],", "]\n", size)[0], "gas fhp1 width 65536 height 2 solid 131070 particles 12"
     yield "nested arrays", repeated("cells = ", "[", "", half)[0] + repeated("", "]", "\n", half)[0], SYNTAX
     yield "nested inline tables", repeated("cells = ", "{a=", "1", 3 * size // 4)[0] + repeated("", "}", "\n", size // 4)[0], SYNTAX
     yield "nested arrays that never end", repeated("cells = ", "[", "", size)[0], SYNTAX

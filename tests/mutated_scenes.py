@@ -29,7 +29,9 @@ GRAMMAR = ["[", "]", "[[", "]]", "{", "}", "=", ",", ".", "#", "\n", "\r\n", "\r
            ".5", "1.5", "-1.5e-3", "nan", "-inf", "1979-05-27", "07:32:00", "07:32", "1979-05-27T07:32:00Z", "1979-05-27 07:32:00.5+01:00",
            "1979-02-30", "9223372036854775807", "9223372036854775808", "-9223372036854775808", "-9223372036854775809",
            "99999999999999999999999999", "[" * 70 + "]" * 70, "[" * 300 + "]" * 300, "{a=" * 60 + "1" + "}" * 60, "..", "##", "3f", "40", "3F"]
-KEYS = ["version", "gas", "chirality", "seed", "cells", "width", "height", "solid", "rate", "particles", "colour", "gas.a"]
+SIDES = ["65535", "65536", "65537"]
+GENERATIONS = ["0", "1", "10", "-1", "999999999999", "1000000000000", "1000000000001"]
+KEYS = ["version", "generation", "gas", "chirality", "seed", "cells", "width", "height", "solid", "rate", "particles", "colour", "gas.a"]
 
 
 def number(rng):
@@ -58,12 +60,16 @@ def value(rng, key):
     if key in ("solid", "particles"):
         count = 4 if key == "solid" else 3
         return "[" + ", ".join(numbers(rng, count) for _ in range(rng.randint(0, 3))) + "]"
-    return "1" if key == "version" and rng.random() < 0.8 else number(rng)
+    if key == "version" and rng.random() < 0.9:
+        return rng.choice("12")
+    return rng.choice(GENERATIONS) if key == "generation" and rng.random() < 0.8 else number(rng)
 
 
 def scene(rng):
     form = ["cells"] if rng.random() < 0.5 else ["width", "height"] + [k for k in ("solid", "rate", "particles") if rng.random() < 0.6]
     keys = ["gas"] + form + [k for k in ("version", "chirality", "seed") if rng.random() < 0.5]
+    if rng.random() < (0.6 if "version" in keys else 0.05):
+        keys.append("generation")
     if rng.random() < 0.15:
         keys.append(rng.choice(KEYS))
     if rng.random() < 0.1:
@@ -154,23 +160,29 @@ class Counts:
 
 
 def given_texts():
-    """Every prefix of three scenes; each integer at the edges of 64 bits, past them and as another value; letters in a map."""
+    """Every prefix of three scenes; each integer at the edges of 64 bits and of its range, past them and as another value, in both
+    versions; a generation beside each kind of version; letters in a map; maps at the limits of both versions."""
     for name in ("drift", "obstacle", "square"):
         text = (ROOT / f"scenes/{name}.toml").read_bytes()
         yield from (text[:length] for length in range(len(text) + 1))
-    keys = {"version": "%s", "seed": "%s", "width": "%s", "height": "%s", "rate": "%s"}
+    keys = {"version": "%s", "generation": "%s", "seed": "%s", "width": "%s", "height": "%s", "rate": "%s"}
     keys |= {f"solid {k}": "[[" + ", ".join("%s" if i == k else "1" for i in range(4)) + "]]" for k in range(4)}
     keys |= {f"particles {k}": "[[" + ", ".join("%s" if i == k else "1" for i in range(3)) + "]]" for k in range(3)}
     for place, form in keys.items():
-        for number in NUMBERS + EDGES:
-            area = {"gas": '"fhp1"', "width": "4", "height": "3"} | {place.split()[0]: form % number}
-            yield "\n".join(f"{key} = {value}" for key, value in area.items()).encode()
+        for number in NUMBERS + EDGES + SIDES + GENERATIONS:
+            for version in ({}, {"version": "2"}):
+                area = {"gas": '"fhp1"', "width": "4", "height": "3"} | version | {place.split()[0]: form % number}
+                yield "\n".join(f"{key} = {value}" for key, value in area.items()).encode()
+    for version in ("", "version = 1", "version = 3", 'version = "2"', "version = 2.0", "version = [2]", "version = 2"):
+        for generation in GENERATIONS + ["'1'"]:
+            yield f'gas = "fhp1"\ncells = ["01"]\n{version}\ngeneration = {generation}'.encode()
     for letters in ("é", "éé", "Ж", "ЖЖ", "中", "中.", "中中", "０１", "٠١", "🙂", "🙂🙂", "e\u0301", "..é", "01Ж", "0\u00a0", "ｆｆ", "\u2028\u2028"):
         yield f'gas = "fhp1"\ncells = ["{letters}"]'.encode()
         yield f'gas = "{letters}"\ncells = [".."]'.encode()
         yield f'"{letters}" = 1'.encode()
-    for row, rows in ((8192, 1), (8194, 1), (2, 4096), (2, 4097), (8191, 1), (0, 1)):
-        yield ('gas = "fhp1"\ncells = [' + f'"{"." * row}",' * rows + "]").encode()
+    for version, row, rows in ((1, 8192, 1), (1, 8194, 1), (1, 2, 4096), (1, 2, 4097), (1, 8191, 1), (1, 0, 1), (2, 8194, 1), (2, 2, 4097),
+                               (2, 131072, 1), (2, 131074, 1), (2, 2, 65536), (2, 2, 65537), (2, 131071, 1), (2, 0, 1)):
+        yield (f'version = {version}\ngas = "fhp1"\ncells = [' + f'"{"." * row}",' * rows + "]").encode()
 
 
 def text_of(rng, counts):

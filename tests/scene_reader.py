@@ -7,9 +7,10 @@ import struct
 import tomllib
 
 STATES = {"fhp1": 64, "hpp": 16, "fhp-rest": 128}
-MOST_SIDE = 4096
+MOST_SIDE = {1: 4096, 2: 65536}
+LAST_GENERATION = 10**12
 SYNTAX = "scene: not TOML"
-INTEGERS = ("version", "seed", "width", "height", "rate")
+INTEGERS = ("version", "generation", "seed", "width", "height", "rate")
 TEXTS = ("gas", "chirality")
 LISTS = {"solid": 4, "particles": 3}
 AREA = ("width", "height", "solid", "rate", "particles")
@@ -21,10 +22,11 @@ class Refused(Exception):
 
 
 class Lattice:
-    """A gas, and the rows of cells from the top: a state, or None for a solid cell."""
+    """A gas, a generation, and the rows of cells from the top: a state, or None for a solid cell."""
 
-    def __init__(self, gas, rows):
+    def __init__(self, gas, generation, rows):
         self.gas = gas
+        self.generation = generation
         self.rows = rows
 
     def particles(self):
@@ -36,7 +38,7 @@ class Lattice:
 
     def printed(self):
         rows = ("".join("##" if cell is None else f"{cell:02x}" if cell else ".." for cell in row) + "\n" for row in self.rows)
-        return f"generation 0 particles {self.particles()}\n" + "".join(rows)
+        return f"generation {self.generation} particles {self.particles()}\n" + "".join(rows)
 
 
 def chacha_block(seed, stream, block):
@@ -85,14 +87,24 @@ def is_typed(key, value):
     return all(type(entry) is str if key == "cells" else is_tuple(entry, LISTS[key]) for entry in value)
 
 
+def version_of(table):
+    """The version whose keys and limits hold: whatever is no 2 counts as 1."""
+    version = table.get("version")
+    return 2 if is_integer(version) and version == 2 else 1
+
+
+def most_side(table):
+    return MOST_SIDE[version_of(table)]
+
+
 def is_common_in_range(table):
-    return (table.get("version", 1) == 1 and table["gas"] in STATES and table.get("chirality", "seeded") in ("seeded", "left", "right")
-            and table.get("seed", 0) >= 0)
+    return (table.get("version", 1) in (1, 2) and table["gas"] in STATES and table.get("chirality", "seeded") in ("seeded", "left", "right")
+            and table.get("seed", 0) >= 0 and 0 <= table.get("generation", 0) <= LAST_GENERATION)
 
 
 def is_area_in_range(table):
     width, height = table["width"], table["height"]
-    if not (1 <= width <= MOST_SIDE and 1 <= height <= MOST_SIDE and 0 <= table.get("rate", 0) <= 1000):
+    if not (1 <= width <= most_side(table) and 1 <= height <= most_side(table) and 0 <= table.get("rate", 0) <= 1000):
         return False
     solid = table.get("solid", [])
     if not all(0 <= x and 0 <= y and 1 <= w and 1 <= h and x + w <= width and y + h <= height for x, y, w, h in solid):
@@ -110,7 +122,7 @@ def is_covered(solid, x, y):
 def is_in_range(table):
     if not is_common_in_range(table):
         return False
-    return 1 <= len(table["cells"]) <= MOST_SIDE if "cells" in table else is_area_in_range(table)
+    return 1 <= len(table["cells"]) <= most_side(table) if "cells" in table else is_area_in_range(table)
 
 
 def cell_of(pair, states):
@@ -126,7 +138,7 @@ def cell_of(pair, states):
 def map_rows(table):
     rows = [row.encode() for row in table["cells"]]
     for number, row in enumerate(rows):
-        if not 2 <= len(row) <= 2 * MOST_SIDE or len(row) % 2 or len(row) != len(rows[0]):
+        if not 2 <= len(row) <= 2 * most_side(table) or len(row) % 2 or len(row) != len(rows[0]):
             raise Refused(f"scene: row {number} has a wrong length")
     found = []
     for number, row in enumerate(rows):
@@ -155,7 +167,8 @@ def area_rows(table):
 
 def check(table):
     """The checks before those of a map's rows, in their order."""
-    if not all(key in INTEGERS + TEXTS + ("cells",) + tuple(LISTS) for key in table):
+    known = set(INTEGERS + TEXTS + ("cells",) + tuple(LISTS)) - ({"generation"} if version_of(table) == 1 else set())
+    if not all(key in known for key in table):
         raise Refused("scene: unknown key")
     if "cells" in table and any(key in table for key in AREA):
         raise Refused("scene: both forms")
@@ -190,4 +203,4 @@ def read(text, most_cells):
     check(table)
     if "cells" not in table and table["width"] * table["height"] > most_cells:
         return None
-    return Lattice(table["gas"], map_rows(table) if "cells" in table else area_rows(table))
+    return Lattice(table["gas"], table.get("generation", 0), map_rows(table) if "cells" in table else area_rows(table))
