@@ -1,6 +1,7 @@
 //! The next lattice, cell by cell: plain and slow, for tests to compare with.
 ghost use Rattle.std.specs.Prelude.{◌+◌, ◌≡◌, ◌<◌, ◌≤◌, ◌^◌, IfOk};
 ghost use Rattle.gas_geom.specs.Gas.{holds};
+ghost use Rattle.gas_geom.specs.declared.size.TheConstants.{MOST_SIDE};
 ghost use Rattle.gas_geom.specs.Lattice.{arriving, streamed, row_of};
 ghost use Rattle.gas_rows.specs.Chirality.{chirality_bit};
 ghost use Rattle.gas_stage.specs.Evolution.{lattice_after};
@@ -17,7 +18,7 @@ use std::alloc::{AllocError, Global};
 
 // The random bit of the cell (x, y) of a channel of that width.
 fn random_bit(chirality: Chirality, generation: u64, width: u32, x: u32, y: u32) -> bool
-    requires { width ≤ 4096 }
+    requires { width ≤ MOST_SIDE }
     ensures { result ≡ chirality_bit chirality width generation x y }
 {
     match chirality {
