@@ -1,6 +1,5 @@
 //! Runs in two parts, with a scene written down between them.
 
-use crate::tests::assert_same;
 use gas_geom::gas::Gas;
 use gas_pipe::plan::Plan;
 use gas_pipe::threads::gate::NoGate;
@@ -9,7 +8,7 @@ use gas_rows::chirality::Chirality;
 use gas_rows::lattice::Lattice;
 use gas_scene::any_lattice::AnyLattice;
 use gas_scene::checkpoint::checkpoint;
-use gas_scene::scene::read;
+use gas_scene::scene::{Scene, read};
 use std::alloc::Global;
 use std::process::Abort;
 use std::sync::Wait;
@@ -27,70 +26,58 @@ particles = [[3, 1, 5], [31, 1, 5], [32, 1, 5]]\n";
 const FHP_REST: &[u8] = b"gas = \"fhp-rest\"\nwidth = 33\nheight = 2\n\
 particles = [[3, 1, 9], [31, 1, 0x49], [32, 1, 9]]\n";
 
-// The lattice so many generations after one of generation `first`.
+// A lattice of the scene after the generations of a plan, and its generation.
 fn lattice_after<G: Gas + Send, R: Threads + Wait + Sync>(
     rt: &R,
     alloc: Global,
+    scene: &Scene,
     lattice: &Lattice<G>,
-    chirality: Chirality,
-    first: u64,
     plan: Plan,
-) -> Result<Lattice<G>, Fail> {
-    let run = run(rt, alloc, lattice, chirality, first, plan, &NoGate)?;
-    Ok(run.lattice().copy(alloc)?)
+) -> Result<(Lattice<G>, u64), Fail> {
+    let first = scene.generation();
+    let last = first + plan.generations();
+    let run = run(rt, alloc, lattice, scene.chirality(), first, plan, &NoGate)?;
+    Ok((run.lattice().copy(alloc)?, last))
 }
 
-fn any_lattice_after<R: Threads + Wait + Sync>(
+// The text of the scene after the generations of a plan.
+fn text_after<R: Threads + Wait + Sync>(
     rt: &R,
     alloc: Global,
-    lattice: &AnyLattice,
-    chirality: Chirality,
-    first: u64,
+    scene: &Scene,
     plan: Plan,
-) -> Result<AnyLattice, Fail> {
-    Ok(match lattice {
+) -> Result<String, Fail> {
+    let (lattice, last) = match scene.lattice() {
         AnyLattice::Fhp1(lattice) => {
-            AnyLattice::Fhp1(lattice_after(rt, alloc, lattice, chirality, first, plan)?)
+            let (lattice, last) = lattice_after(rt, alloc, scene, lattice, plan)?;
+            (AnyLattice::Fhp1(lattice), last)
         }
         AnyLattice::Hpp(lattice) => {
-            AnyLattice::Hpp(lattice_after(rt, alloc, lattice, chirality, first, plan)?)
+            let (lattice, last) = lattice_after(rt, alloc, scene, lattice, plan)?;
+            (AnyLattice::Hpp(lattice), last)
         }
         AnyLattice::FhpRest(lattice) => {
-            AnyLattice::FhpRest(lattice_after(rt, alloc, lattice, chirality, first, plan)?)
+            let (lattice, last) = lattice_after(rt, alloc, scene, lattice, plan)?;
+            (AnyLattice::FhpRest(lattice), last)
         }
-    })
+    };
+    Ok(checkpoint(alloc, &lattice, scene.chirality(), last)?)
 }
 
-fn assert_same_any(rt: &impl Abort, found: &AnyLattice, wanted: &AnyLattice) {
-    match (found, wanted) {
-        (AnyLattice::Fhp1(found), AnyLattice::Fhp1(wanted)) => assert_same(rt, found, wanted),
-        (AnyLattice::Hpp(found), AnyLattice::Hpp(wanted)) => assert_same(rt, found, wanted),
-        (AnyLattice::FhpRest(found), AnyLattice::FhpRest(wanted)) => {
-            assert_same(rt, found, wanted)
-        }
-        _ => assert!(rt; false, "another gas"),
-    }
-}
-
-// Seven generations in two parts of every length, by lines of other lengths than the whole.
+// Seven generations of a scene in two parts of every length, by lines of other lengths than the
+// whole: a text tells the lattice, the chirality and the generation.
 fn split<R: Abort + Threads + Wait + Sync>(
     rt: &R,
     alloc: Global,
-    start: &AnyLattice,
-    chirality: Chirality,
+    scene: &Scene,
 ) -> Result<(), Fail> {
-    let whole = any_lattice_after(rt, alloc, start, chirality, 0, Plan::new(4, 2, 7)?)?;
+    let whole = text_after(rt, alloc, scene, Plan::new(4, 2, 7)?)?;
     for part in 0..=7 {
-        let plan = Plan::new(3, 1, part)?;
-        let reached = any_lattice_after(rt, alloc, start, chirality, 0, plan)?;
-        let text = checkpoint(alloc, &reached, chirality, part)?;
-        let scene = read(alloc, text.as_bytes())?;
-        assert!(rt; scene.chirality() == chirality);
-        assert_eq!(rt; scene.generation(), part);
-        let plan = Plan::new(2, 3, 7 - part)?;
-        let first = scene.generation();
-        let last = any_lattice_after(rt, alloc, scene.lattice(), scene.chirality(), first, plan)?;
-        assert_same_any(rt, &last, &whole);
+        let reached = text_after(rt, alloc, scene, Plan::new(3, 1, part)?)?;
+        let later = read(alloc, reached.as_bytes())?;
+        assert_eq!(rt; later.generation(), part);
+        let last = text_after(rt, alloc, &later, Plan::new(2, 3, 7 - part)?)?;
+        assert_eq!(rt; last.as_str(), whole.as_str());
     }
     Ok(())
 }
@@ -101,7 +88,8 @@ fn every_split_of_seven_generations(rt: HostRuntime) -> Result<(), Fail> {
     for text in [FHP1, HPP, FHP_REST] {
         let start = read(alloc, text)?;
         for chirality in [Chirality::Seeded(0), Chirality::Left, Chirality::Right] {
-            split(&rt, alloc, start.lattice(), chirality)?;
+            let text = checkpoint(alloc, start.lattice(), chirality, 0)?;
+            split(&rt, alloc, &read(alloc, text.as_bytes())?)?;
         }
     }
     Ok(())
