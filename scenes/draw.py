@@ -1,0 +1,168 @@
+#!/usr/bin/env python3
+"""Writes a scene on standard output: blocks, discs, a nozzle or a porous medium in a channel that is filled at random.
+
+    scenes/draw.py blocks --block 8 2 3 4 > plate.toml
+    scenes/draw.py discs --width 96 --height 48 --disc 24 24 6 > disc.toml
+    scenes/draw.py nozzle --throat 6 --length 40 > nozzle.toml
+    scenes/draw.py porous --percent 30 --radius 2 --seed 5 > porous.toml
+
+A cell is named by its column and row from 0 at the top left; rates are thousandths of the places for a particle. The same words
+write the same scene. `--seed` is the scene's seed, and where anything is drawn by lot here (a porous medium, the particles of a
+patch), the seed of that too.
+"""
+import argparse
+import math
+import random
+import sys
+
+DIRECTIONS = {"fhp1": 6, "hpp": 4, "fhp-rest": 7}
+ROW_DISTANCE = math.sqrt(3) / 2  # of two rows of the triangular lattice, in steps eastwards
+
+
+def options():
+    common = argparse.ArgumentParser(add_help=False)
+    common.add_argument("--gas", choices=DIRECTIONS, default="fhp1")
+    common.add_argument("--chirality", choices=("seeded", "left", "right"), default="seeded")
+    common.add_argument("--seed", type=int, default=0, help="0 if left out")
+    common.add_argument("--width", type=int, default=64, metavar="COLUMNS", help="64 if left out")
+    common.add_argument("--height", type=int, default=24, metavar="ROWS", help="24 if left out")
+    common.add_argument("--rate", type=int, default=200, help="how the channel is filled; 200 if left out")
+    common.add_argument("--patch", type=int, nargs=5, action="append", default=[], metavar=("X", "Y", "W", "H", "RATE"),
+                        help="fill these columns and rows at another rate; may be given again")
+    common.add_argument("--closed", action="store_true", help="make the first column solid, so that nothing passes the ends")
+    reader = argparse.ArgumentParser(description=__doc__, formatter_class=argparse.RawDescriptionHelpFormatter)
+    shapes = reader.add_subparsers(dest="shape", required=True)
+    blocks = shapes.add_parser("blocks", parents=[common], help="rectangles")
+    blocks.add_argument("--block", type=int, nargs=4, action="append", default=[], metavar=("X", "Y", "W", "H"))
+    discs = shapes.add_parser("discs", parents=[common], help="discs, round as the lattice lies")
+    discs.add_argument("--disc", type=int, nargs=3, action="append", default=[], metavar=("X", "Y", "RADIUS"))
+    nozzle = shapes.add_parser("nozzle", parents=[common], help="the channel narrows to a throat and widens again")
+    nozzle.add_argument("--throat", type=int, default=6, metavar="ROWS", help="open rows of the narrowest column; 6 if left out")
+    nozzle.add_argument("--length", type=int, default=40, metavar="COLUMNS", help="from full to full height; 40 if left out")
+    porous = shapes.add_parser("porous", parents=[common], help="discs by lot, until the share of solid cells is reached")
+    porous.add_argument("--percent", type=int, default=30, help="of all cells that are solid, at least; 30 if left out")
+    porous.add_argument("--radius", type=int, default=2, help="of each disc; 2 if left out")
+    return reader
+
+
+def fault(asked):
+    """Why no such scene can be drawn, or None."""
+    def is_inside(x, y, w, h):
+        return 0 <= x and 0 <= y and 1 <= w and 1 <= h and x + w <= asked.width and y + h <= asked.height
+
+    if not (1 <= asked.width <= 4096 and 1 <= asked.height <= 4096):
+        return "width and height must be 1 to 4096"
+    if not 0 <= asked.seed < 2**63:
+        return "seed must be 0 to 9223372036854775807"
+    if not all(0 <= rate <= 1000 for rate in [asked.rate] + [patch[4] for patch in asked.patch]):
+        return "rate must be 0 to 1000"
+    if not all(is_inside(*patch[:4]) for patch in asked.patch):
+        return "a patch leaves the channel or is empty"
+    if asked.shape == "blocks" and not all(is_inside(*block) for block in asked.block):
+        return "a block leaves the channel or is empty"
+    if asked.shape == "discs" and not all(is_inside(x, y, 1, 1) and radius >= 0 for x, y, radius in asked.disc):
+        return "a disc's middle is outside the channel, or its radius is negative"
+    if asked.shape == "nozzle" and not (1 <= asked.throat <= asked.height and 1 <= asked.length <= asked.width):
+        return "throat must be 1 to the height, length 1 to the width"
+    if asked.shape == "porous" and not (0 <= asked.percent <= 100 and asked.radius >= 0):
+        return "percent must be 0 to 100, radius not negative"
+    return None
+
+
+def disc_cells(asked, column, row, radius):
+    """The cells whose middles are at most `radius` steps from that of a cell; columns close on themselves."""
+    def place(x, y):
+        return (x, y) if asked.gas == "hpp" else (x + y % 2 / 2, y * ROW_DISTANCE)
+
+    middle = place(column, row)
+    for y in range(asked.height):
+        down = place(0, y)[1] - middle[1]
+        if abs(down) > radius:
+            continue
+        for x in range(asked.width):
+            along = abs(place(x, y)[0] - middle[0])
+            along = min(along, abs(asked.width - along))
+            if along * along + down * down <= radius * radius + 1e-9:
+                yield x, y
+
+
+def nozzle_cells(asked):
+    """The cells above and below the opening, which is the throat in the middle column and grows evenly to both sides."""
+    middle = asked.width // 2
+    for x in range(asked.width):
+        share = min(1, abs(x - middle) / (asked.length / 2))
+        opening = asked.throat + round((asked.height - asked.throat) * share)
+        top = (asked.height - opening) // 2
+        yield from ((x, y) for y in range(asked.height) if not top <= y < top + opening)
+
+
+def porous_cells(asked, lots):
+    found = set()
+    while 100 * len(found) < asked.percent * asked.width * asked.height:
+        found.update(disc_cells(asked, lots.randrange(asked.width), lots.randrange(asked.height), asked.radius))
+    return found
+
+
+def solid_cells(asked, lots):
+    if asked.shape == "blocks":
+        found = {(i, j) for x, y, w, h in asked.block for i in range(x, x + w) for j in range(y, y + h)}
+    elif asked.shape == "discs":
+        found = {cell for disc in asked.disc for cell in disc_cells(asked, *disc)}
+    elif asked.shape == "nozzle":
+        found = set(nozzle_cells(asked))
+    else:
+        found = porous_cells(asked, lots)
+    return found | {(0, y) for y in range(asked.height)} if asked.closed else found
+
+
+def rectangles(asked, solid):
+    """Rectangles [x, y, w, h] that cover the solid cells, each once: runs along a row, and those below a like one joined to it."""
+    last, found = {}, []
+    for y in range(asked.height):
+        here, x = {}, 0
+        while x < asked.width:
+            start = x
+            while (x, y) in solid:
+                x += 1
+            if x > start:
+                rectangle = last.get((start, x)) or [start, y, x - start, 0]
+                if rectangle[3] == 0:
+                    found.append(rectangle)
+                rectangle[3] += 1
+                here[start, x] = rectangle
+            x += 1
+        last = here
+    return found
+
+
+def particles(asked, solid, lots):
+    """The cells of the patches, [x, y, state], each place filled by lot."""
+    for left, top, w, h, rate in asked.patch:
+        for y in range(top, top + h):
+            for x in range(left, left + w):
+                state = sum(1 << i for i in range(DIRECTIONS[asked.gas]) if lots.randrange(1000) < rate)
+                if (x, y) not in solid:
+                    yield [x, y, state]
+
+
+def listed(key, entries, per_line):
+    lines = [", ".join(map(str, entries[i : i + per_line])) for i in range(0, len(entries), per_line)]
+    return f"{key} = [\n" + "".join(f"    {line},\n" for line in lines) + "]\n" if entries else ""
+
+
+def main():
+    reader = options()
+    asked = reader.parse_args()
+    why = fault(asked)
+    if why:
+        reader.error(why)
+    lots = random.Random(asked.seed)
+    solid = solid_cells(asked, lots)
+    print(f"# Drawn by: scenes/draw.py {' '.join(sys.argv[1:])}")
+    print(f'gas = "{asked.gas}"\nchirality = "{asked.chirality}"\nseed = {asked.seed}')
+    print(f"width = {asked.width}\nheight = {asked.height}\nrate = {asked.rate}")
+    print(listed("solid", rectangles(asked, solid), 8) + listed("particles", list(particles(asked, solid, lots)), 12), end="")
+
+
+if __name__ == "__main__":
+    main()
