@@ -223,8 +223,9 @@ solid = [[20, 2, 3, 4], [66, 8, 1, 1]]
 done
 
 for scene in scenes/*.toml; do
+    first=$(sed -n 's/^generation = //p' "$scene")
     "$program" run --generations 3 < "$scene" > "$room/out" 2> "$room/err"
-    [ $? = 0 ] && head -n 1 "$room/out" | grep -q '^generation 3 particles '
+    [ $? = 0 ] && head -n 1 "$room/out" | grep -q "^generation $((${first:-0} + 3)) particles "
     count "$scene runs"
 done
 
