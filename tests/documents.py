@@ -1,6 +1,6 @@
 #!/usr/bin/env python3
-"""Runs the commands of the README and the manual as they are printed: each block marked `sh` must end with 0, and where the block
-after it is marked `text`, it must print that. Ends with the counts."""
+"""Runs the commands of the README, the manual and the guide as they are printed: each block marked `sh` must end with 0, and where
+the block after it is marked `text`, it must print that. Ends with the counts."""
 
 import pathlib
 import re
@@ -10,7 +10,7 @@ import tempfile
 
 TOP = pathlib.Path(__file__).resolve().parent.parent
 PROGRAM = TOP / "crates/fhpgas/out/fhpgas"
-DOCUMENTS = ["README.md", "docs/FORMATS.md"]
+DOCUMENTS = ["README.md", "docs/FORMATS.md", "docs/GUIDE.md"]
 BLOCK = re.compile(r"^```(\w*)\n(.*?)^```$", re.M | re.S)
 
 
