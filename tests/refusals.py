@@ -26,6 +26,7 @@ REQUESTS = [
     ("drift", "run --generations 5 --stages 4"),
     ("channel", "run --generations 1"),
     ("rest", "run --generations 4 --stages 2"),
+    ("later", "run --generations 3 --stages 2"),
     ("wind", "coarse --generations 2 --block-width 8 --block-height 8"),
     ("drift", "replay --generations 2 --stages 2 0 1 2 0 1 2"),
     ("square", "check"),
