@@ -189,11 +189,13 @@ head -c 67108865 /dev/zero | "$program" run --generations 1 > "$room/out" 2> "$r
 [ $? = 1 ] && [ ! -s "$room/out" ] && [ "$(cat "$room/err")" = "input: too long" ]
 count "an input of one byte too many"
 
-# worked examples: NAME.toml with the words NAME.words prints NAME.wanted
+# worked examples: NAME.toml, here or among the scenes, with the words NAME.words prints NAME.wanted
 for wanted in tests/examples/*.wanted; do
     name=${wanted%.wanted}
+    scene=$name.toml
+    if [ ! -e "$scene" ]; then scene=scenes/${name##*/}.toml; fi
     read -r -a words < "$name.words"
-    "$program" "${words[@]}" < "$name.toml" > "$room/out" 2> "$room/err"
+    "$program" "${words[@]}" < "$scene" > "$room/out" 2> "$room/err"
     [ $? = 0 ] && cmp -s "$room/out" "$wanted" && [ ! -s "$room/err" ]
     count "$name"
 done
