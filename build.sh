@@ -1,7 +1,7 @@
 #!/bin/bash
 # Builds the program: proves each crate that it stands on as soon as those below it are proved, side by side where it can,
-# and links. Says on standard error how far it is, at least every half minute; where a crate fails it shows the end of that
-# crate's log and fails.
+# and links, for the level of x86-64 that FHPGAS_CPU names (x86-64-v2 if it names none). Says on standard error how far it is, at
+# least every half minute; where a crate fails it shows the end of that crate's log and fails.
 cd "$(dirname "$0")" || exit 1
 if [ ! -w crates ]; then echo "fhpgas: $PWD/crates cannot be written, where the program has to be built" >&2; exit 1; fi
 command -v rt > /dev/null || { echo "fhpgas: the Rattle kit's command rt is not on the PATH (see README.md)" >&2; exit 1; }
@@ -16,7 +16,7 @@ below() {
 # prove NAME: its log is out/build.log in the crate's folder
 prove() {
     mkdir -p "crates/$1/out"
-    if [ "$1" = fhpgas ]; then set -- "$1" run -- --help; else set -- "$1" lib; fi
+    if [ "$1" = fhpgas ]; then set -- "$1" run --cpu "$cpu" -- --help; else set -- "$1" lib; fi
     (cd "crates/$1" && shift && exec rt "$@") > "crates/$1/out/build.log" 2>&1
 }
 
@@ -34,8 +34,9 @@ add() {
     for crate in $(below "$1"); do add "$crate"; done
 }
 
+cpu=${FHPGAS_CPU:-x86-64-v2}
 add fhpgas
-echo "fhpgas: building ${#left[@]} crates; the first time each is proved, which takes some minutes" >&2
+echo "fhpgas: building ${#left[@]} crates for $cpu; the first time each is proved, which takes some minutes" >&2
 tell &
 teller=$!
 while [ ${#left[@]} -gt 0 ]; do
@@ -64,4 +65,5 @@ while [ ${#left[@]} -gt 0 ]; do
     echo "fhpgas: $crate took $((SECONDS - started[$crate])) seconds (${#left[@]} left)" >&2
 done
 kill $teller
+echo "$cpu" > crates/fhpgas/out/level
 touch crates/fhpgas/out/built

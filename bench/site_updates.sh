@@ -3,7 +3,8 @@
 # stage on one thread and of a plain C program on bit planes, all on the same lattice of FHP-I, filled at rate 300. The time that
 # reading and printing take is measured by a run of 0 generations and taken off; of several tries the best counts. All must
 # print the same lattice; the C program knows chirality "left" alone. Then one stage on the other gases, and last what
-# starting the line costs: a run of one generation on a tiny lattice, less one of none.
+# starting the line costs: a run of one generation on a tiny lattice, less one of none. All are
+# built for the level of the processor that the program was built for.
 # Usage: bench/site_updates.sh [SIDE [GENERATIONS [CHIRALITY [CAPACITY]]]]
 cd "$(dirname "$0")/.." || exit 1
 side=${1:-1024}
@@ -13,10 +14,11 @@ capacity=${4:-2}
 program=crates/fhpgas/out/fhpgas
 single=crates/single_stage/out/single_stage
 ./fhpgas --help > /dev/null || exit 1
-(cd crates/single_stage && rt run -- 0 < stdin) > /dev/null 2>&1 || { echo "single_stage was not built" >&2; exit 1; }
+level=$(cat crates/fhpgas/out/level 2> /dev/null || echo x86-64-v2)
+(cd crates/single_stage && rt run --cpu "$level" -- 0 < stdin) > /dev/null 2>&1 || { echo "single_stage was not built" >&2; exit 1; }
 room=$(mktemp -d) || exit 1
 trap 'rm -rf "$room"' EXIT
-cc -O3 -o "$room/planes" bench/planes.c || exit 1
+cc -O3 -march="$level" -o "$room/planes" bench/planes.c || exit 1
 
 # fill GAS: the scene of a lattice of that gas
 fill() {
