@@ -151,6 +151,16 @@ for words in --help "run --help" "check --help" "coarse --help" "replay --help";
     count "help: $words"
 done
 
+ends 0 '' --version && grep -q '^fhpgas [0-9.]* (rattle-kit.*)$' "$room/out" && [ "$(wc -l < "$room/out")" = 1 ] && [ ! -s "$room/err" ]
+count "the version"
+[ "$(sed -n 's/^fhpgas \([0-9.]*\) .*/\1/p' "$room/out")" = "$(sed -n 's/^version: //p' CITATION.cff)" ] \
+    && grep -q "^## $(sed -n 's/^version: //p' CITATION.cff)\$" CHANGELOG.md && grep -qF "$(sed 's/.*(\(.*\))/\1/' "$room/out")" README.md
+count "the version is the one that is cited, and the kit the one that is needed"
+ends 2 '' coars --generations 1 && grep -q "'coarse'" "$room/err"
+count "a mistyped command gets a hint"
+ends 2 '' run --generation 1 && grep -q -- '--generations' "$room/err"
+count "a mistyped option gets a hint"
+
 "$program" run --generations 1 < scenes/drift.toml > /dev/full 2> "$room/err"
 [ $? = 4 ] && [ "$(cat "$room/err")" = "write: failed after 0 bytes" ]
 count "a full disk is a failed write"

@@ -1,6 +1,7 @@
 #!/usr/bin/env python3
 """Runs the program with standard error on a terminal: while generations are computed a line there tells how many, and is wiped
-before the program ends; standard output has the bytes that it has without a terminal, where standard error stays empty."""
+before the program ends; standard output has the bytes that it has without a terminal, where standard error stays empty. Then
+with standard input on one, where it says that it awaits a scene. Ends with the counts."""
 import os
 import pathlib
 import pty
@@ -69,5 +70,17 @@ for name, words, generations in [
     else:
         failed += 1
         print(f'FAILED: {name}: the terminal was told {shown[2][:200]!r}')
+ours, theirs = pty.openpty()
+process = subprocess.Popen([PROGRAM, 'check'], stdin=theirs, stdout=subprocess.PIPE, stderr=subprocess.PIPE)
+os.close(theirs)
+os.write(ours, SCENE.replace(b'rate = 300', b'rate = 0') + b'\x04')
+answer, told = process.communicate()
+os.close(ours)
+right = process.returncode == 0 and answer == b'gas fhp1 width 512 height 512 solid 0 particles 0\n'
+if right and told == b'fhpgas: type a scene, and end it by Ctrl-D on a line of its own\n':
+    passed += 1
+else:
+    failed += 1
+    print(f'FAILED: a scene that is typed: {answer!r}, {told!r}')
 print(f'terminal: {passed} passed, {failed} failed')
 sys.exit(failed > 0)

@@ -2,11 +2,13 @@
 #![tactic(auto)]
 
 mod progress;
+mod terminal;
 
 ghost use Rattle.std.specs.Prelude.{IfOk};
 ghost use Rattle.gas_words.specs.Requests.{IsAllowed};
 
 use crate::progress::Progress;
+use crate::terminal::{INPUT, is_terminal};
 use gas_tool::faults::{InputFault, ToolError, UsageFault};
 use gas_tool::input::slurp;
 use gas_tool::perform::perform;
@@ -82,8 +84,16 @@ fn request(rt: &HostRuntime) -> Result<Request, UsageFault>
     }
 }
 
+// Says where the scene is awaited, to people who gave none.
+fn tell_of_input(rt: &HostRuntime) {
+    if is_terminal(rt, INPUT) {
+        let _ = eprintln!(rt; "fhpgas: type a scene, and end it by Ctrl-D on a line of its own");
+    }
+}
+
 fn answer<R: Threads + Wait + Sync>(rt: &HostRuntime, threads: &R) -> Result<(), Fault> {
     let request = request(rt)?;
+    tell_of_input(rt);
     let text = slurp(rt.alloc(), &mut rt.reader())?;
     let progress = Progress::new(rt, &request);
     let performed = perform(

@@ -1,9 +1,8 @@
 //! A line of progress on standard error, where that is a terminal.
 
+use crate::terminal::{ERRORS, is_terminal};
 use gas_pipe::threads::gate::Gate;
 use gas_tool::request::Request;
-use std::fs;
-use std::os::unix::fs::{FileTypeExt, MetadataExt};
 use std::sync::atomic::{AtomicU64, Ordering};
 use std::time::Instant;
 
@@ -12,16 +11,6 @@ const LINE_MILLISECONDS: u64 = 100;
 
 // Back to the start of the line, which is wiped.
 const WIPE: &str = "\r\x1b[K";
-
-// Whether standard error is a terminal, by its device's number: Linux's list of devices has consoles
-// and serial lines under 4 and 5, and pseudo terminals under 136 to 143.
-fn is_terminal(rt: &HostRuntime) -> bool {
-    let Ok(metadata) = fs::metadata(rt, "/proc/self/fd/2") else {
-        return false;
-    };
-    let device = metadata.rdev() >> 8 & 0xfff;
-    metadata.file_type().is_char_device() && matches!(device, 4 | 5 | 136..=143)
-}
 
 // A run whose last worker's passes are counted.
 #[derive(Drop)]
@@ -108,7 +97,7 @@ pub struct Progress<'a> {
 
 impl<'a> Progress<'a> {
     pub(crate) fn new(rt: &'a HostRuntime, request: &Request) -> Self {
-        let work = if is_terminal(rt) {
+        let work = if is_terminal(rt, ERRORS) {
             Work::of(rt, request)
         } else {
             None

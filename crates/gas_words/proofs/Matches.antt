@@ -1,7 +1,7 @@
 -- Lemmas on what the matches of the words say.
 use Rattle.std.proofs.lemmas.Bool.{cases_lt}
 use Rattle.std.proofs.lemmas.List.{get_or_append_left, get_or_push}
-use Rattle.std.proofs.Common.{◌+◌, ◌<◌, ◌≤◌, ◌++◌, length, get_or, arith, ⊎_elim, [], ◌∷◌, inl, inr, ◌≡◌, ℕ, List, Option, Some, None, refl, sym, ap, ap₂, ◌∙◌, option_map, subst, Box}
+use Rattle.std.proofs.Common.{◌≢◌, ◌+◌, ◌<◌, ◌≤◌, ◌++◌, length, get_or, arith, ⊎_elim, [], ◌∷◌, inl, inr, ◌≡◌, ℕ, List, Option, Some, None, refl, sym, ap, ap₂, ◌∙◌, option_map, subst, Box}
 use Rattle.std.specs.Prelude.{Result, true}
 use Rattle.std.specs.Str.Parse.{ParsesUnsigned, ExplainsUnsignedError, HasUnsignedDigitsIfOk}
 use Rattle.std.specs.declared.num.ParseIntError.{ParseIntError}
@@ -14,7 +14,7 @@ use Rattle.gas_words.specs.Words.{program_app}
 use Rattle.clap.specs.Words.{Kinds, HasKind, IsAmong, kind_of, is_simple_and_free}
 use Rattle.clap.specs.declared.error.Error.{Error}
 use Rattle.clap.specs.declared.error.kind.ErrorKind.{ErrorKind}
-use Rattle.clap.specs.declared.error.kind.ErrorKind.TheVariants.{DisplayHelp, OutOfMemory}
+use Rattle.clap.specs.declared.error.kind.ErrorKind.TheVariants.{DisplayHelp, DisplayVersion, OutOfMemory}
 use Rattle.gas_words.specs.declared.faults.UsageFault.{UsageFault}
 use Rattle.gas_words.specs.declared.faults.UsageFault.TheVariants as fault
 use Rattle.gas_words.specs.Requests.{IsNumberAt, IsFaultOf}
@@ -66,14 +66,19 @@ program_is_free = refl
 -- the fault of an error is one of the kinds that the words may give
 pub fault_tells : (kinds : Kinds) (e : Error) (f : UsageFault) → HasKind kinds e → TellsKind (kind_of e) f → IsFaultOf kinds f
 fault_tells kinds e fault.Memory h t = tt
-fault_tells kinds e (fault.Help text) (inl memory) t = absurd (let bad : OutOfMemory ≡ DisplayHelp = sym memory ∙ t in cc)
-fault_tells kinds e (fault.Help text) (inr among) t = subst (λ (k : ErrorKind). IsAmong k kinds) t among
-fault_tells kinds e (fault.Usage text) (inl memory) t = absurd (t.1 memory)
-fault_tells kinds e (fault.Usage text) (inr among) t = λ only. is_help (subst (IsAmong (kind_of e)) only among)
+fault_tells kinds e (fault.Help text) (inl memory) (inl t) = absurd (let bad : OutOfMemory ≡ DisplayHelp = sym memory ∙ t in cc)
+fault_tells kinds e (fault.Help text) (inl memory) (inr t) = absurd (let bad : OutOfMemory ≡ DisplayVersion = sym memory ∙ t in cc)
+fault_tells kinds e (fault.Help text) (inr among) (inl t) = inl (subst (λ (k : ErrorKind). IsAmong k kinds) t among)
+fault_tells kinds e (fault.Help text) (inr among) (inr t) = inr (subst (λ (k : ErrorKind). IsAmong k kinds) t among)
+fault_tells kinds e (fault.Usage text) (inl memory) t = absurd (t.2 memory)
+fault_tells kinds e (fault.Usage text) (inr among) t = (
+  (λ only. is_only DisplayHelp t.0 (subst (IsAmong (kind_of e)) only among)),
+  (λ only. is_only DisplayVersion t.1 (subst (IsAmong (kind_of e)) only among)),
+)
   where
-    is_help : IsAmong (kind_of e) (DisplayHelp ∷ []) → ⊥
-    is_help (inl same) = t.0 same
-    is_help (inr none) = none
+    is_only : (k : ErrorKind) → kind_of e ≢ k → IsAmong (kind_of e) (k ∷ []) → ⊥
+    is_only k other (inl same) = other same
+    is_only k other (inr none) = none
 
 -- what holds of each number of a list, and of one more, holds of the list with that one
 pub one_more : (P : ℕ → ℕ → Type 0) (numbers : List ℕ) (n i : ℕ) → length numbers ≡ i → ((k : ℕ) → k < i → P k (get_or numbers k 0)) → P i n →

@@ -1,9 +1,9 @@
 -- The request of the matches of the words, and the fault where they give none.
-use Rattle.std.specs.Prelude.{◌≡◌, ◌≢◌, ◌≤◌, ◌<◌, ℕ, List, [], ◌∷◌, Option, Some, None, Ok, codes, length, slice_index, slice_index_or, unwrap_or, ⊤}
+use Rattle.std.specs.Prelude.{◌≡◌, ◌≢◌, ◌⊎◌, ◌≤◌, ◌<◌, ℕ, List, [], ◌∷◌, Option, Some, None, Ok, codes, length, slice_index, slice_index_or, unwrap_or, ⊤}
 use Rattle.std.specs.Str.Parse.{ParsesUnsigned}
 use Rattle.std.specs.declared.num.ParseIntError.{ParseIntError}
 use Rattle.clap.specs.Words.{Row, Text, all_of, one_of, IsAmong, Kinds}
-use Rattle.clap.specs.declared.error.kind.ErrorKind.TheVariants.{DisplayHelp}
+use Rattle.clap.specs.declared.error.kind.ErrorKind.TheVariants.{DisplayHelp, DisplayVersion}
 use Rattle.gas_words.specs.Words.{most_block_side}
 use Rattle.gas_words.specs.declared.faults.UsageFault.{UsageFault}
 use Rattle.gas_words.specs.declared.faults.UsageFault.TheVariants as fault
@@ -59,9 +59,9 @@ IsAllowed (Run stages capacity generations) = ⊤
 IsAllowed (Coarse stages capacity generations width height) = (1 ≤ width) × (1 ≤ height)
 IsAllowed (Replay stages capacity generations turns) = ⊤
 
--- the fault of words for which `clap` gives errors of these kinds: help only where they ask for it,
--- and never usage where they ask for help alone
+-- the fault of words for which `clap` gives errors of these kinds: help only where they ask for it or for the version,
+-- and never usage where they ask for one of these alone
 abbrev pub IsFaultOf : Kinds → UsageFault → Type 0
 IsFaultOf kinds fault.Memory = ⊤
-IsFaultOf kinds (fault.Help text) = IsAmong DisplayHelp kinds
-IsFaultOf kinds (fault.Usage text) = kinds ≢ DisplayHelp ∷ []
+IsFaultOf kinds (fault.Help text) = IsAmong DisplayHelp kinds ⊎ IsAmong DisplayVersion kinds
+IsFaultOf kinds (fault.Usage text) = (kinds ≢ DisplayHelp ∷ []) × (kinds ≢ DisplayVersion ∷ [])

@@ -80,4 +80,4 @@ check_app = new_app (codes "check")
 abbrev pub program_app : App
 program_app =
     with_subcommand (with_subcommand (with_subcommand (with_subcommand
-    (on_top (λ s. record s { subcommand_required = true }) (new_app (codes "fhpgas"))) check_app.top) run_app.top) coarse_app.top) replay_app.top
+    (on_top (λ s. record s { subcommand_required = true; has_version = true }) (new_app (codes "fhpgas"))) check_app.top) run_app.top) coarse_app.top) replay_app.top

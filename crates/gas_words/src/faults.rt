@@ -5,7 +5,8 @@ ghost use Rattle.gas_words.specs.Status.{usage_status};
 
 use thiserror::Error;
 
-/// Why the words gave no request. `Usage` and `Help` hold the text to print, with its last line feed.
+/// Why the words gave no request. `Usage` and `Help` hold the text to print, with its last line feed;
+/// the version is a help too.
 #[derive(Debug, Drop, Error)]
 pub enum UsageFault {
     #[error("memory refused")]

@@ -19,29 +19,46 @@ use std::alloc::{AllocError, Global};
 /// The most columns, and the most rows, of a block.
 const MOST_BLOCK_SIDE: u32 = 4096;
 
+/// The program's version, and the kit by which it is proved.
+const VERSION: &str = "0.1.0 (rattle-kit-13b logic dac8208d650f15bf)";
+
 const ABOUT: &str =
     "A lattice gas in a channel: particles move from cell to cell, collide, and are sent back by
 walls and obstacles. The scene comes on standard input, the answer goes to standard output.";
 
 const SCENES: &str =
     "A scene is a TOML text that says which gas it is, how the channel is shaped and where the
-particles are. `fhpgas COMMAND --help` tells the options of a command.";
+particles are. Columns close on themselves, the top and the bottom are walls, and on the triangular
+lattice odd rows lie half a cell to the east. `fhpgas COMMAND --help` tells the options of a command.";
+
+const USAGE: &str = "fhpgas COMMAND [OPTIONS] < SCENE";
 
 const ABOUT_CHECK: &str = "Read the scene and print a line that tells what it is";
 
+const USAGE_CHECK: &str = "fhpgas check < SCENE";
+
 const LINE: &str =
     "The line tells the gas, the width and the height in cells, and the numbers of solid cells and
-of particles.";
+of particles.
+
+Example: fhpgas check < scene.toml";
 
 const ABOUT_RUN: &str = "Compute generations of the scene and print the cells";
+
+const USAGE_RUN: &str = "fhpgas run --generations G [--stages N] [--capacity C] < SCENE";
 
 const CELLS: &str =
     "The first line tells the generation reached and the number of particles. Then come the rows
 of the channel from the top, two characters a cell: `..` is empty, `##` is solid, and other
-cells show the set of directions of their particles in hexadecimal, bit i for direction i.";
+cells show the set of directions of their particles in hexadecimal, bit i for direction i.
+
+Example: fhpgas run --generations 100 < scene.toml";
 
 const ABOUT_COARSE: &str =
     "Compute generations of the scene and print a table of its blocks of cells";
+
+const USAGE_COARSE: &str =
+    "fhpgas coarse --generations G [--stages N] [--capacity C] --block-width BW --block-height BH < SCENE";
 
 const BLOCKS: &str =
     "The lattice falls into blocks of BW columns and BH rows, from the top left; those at the right
@@ -53,18 +70,26 @@ of blocks by row of blocks, from the left in each. Its columns are:
   particles  the number of its particles
   px, py     the sums of its particles' momenta, eastwards and northwards: in half steps and in
              units of half the square root of 3 in FHP-I and fhp-rest, in whole steps
-             in HPP";
+             in HPP
+
+Example: fhpgas coarse --generations 100 --block-width 16 --block-height 16 < scene.toml";
 
 const ABOUT_REPLAY: &str =
-    "Let the members of a line make given turns, in one pass on one thread, and print where it stands";
+    "Let the workers take steps in a given order, on one thread, and print where their belts stand";
+
+const USAGE_REPLAY: &str =
+    "fhpgas replay --generations G [--stages N] [--capacity C] [TURN]... < SCENE";
 
 const TURNS: &str =
-    "Each TURN names a member of the line: 0 is the feeder, which holds the lattice's rows, and k is
-stage k; a number above N names nobody. Its turn is the put of its next row on the belt behind it,
-if it owes one and the belt has room, else the take of a row from the belt before it, else nothing.
-The first line tells whether all rows have come back to the feeder (`done`); then there is a line a
-belt, from 0, with the numbers of rows put on it and taken from it; and where it is done, the cells
-as `run` prints them. G generations need G stages at least.";
+    "Each TURN names who takes a step next: 0 is the feeder, which holds the lattice's rows, and k is
+worker k, which takes rows from the belt before it and puts those of the next generation on the belt
+behind it. A step is the put of the next row, if one is owed and the belt has room, else the take of
+a row from the belt before, else nothing; a number above N is nobody's. The first line tells whether
+all rows have come back to the feeder (`done`); then there is a line a belt, from 0, with the
+numbers of rows put on it and taken from it; and where it is done, the cells as `run` prints them. G
+generations need G workers at least.
+
+Example: fhpgas replay --generations 1 --stages 1 0 1 0 1 < scene.toml";
 
 fn generations_arg<'a>(alloc: Global) -> Arg<'a>
     ensures rule { rule_of result ≡ generations_rule }
@@ -84,7 +109,7 @@ fn stages_arg<'a>(alloc: Global) -> Arg<'a>
     ensures local { result.global ≡ false }
 {
     default_arg(alloc, "stages", "N", "4").help(
-        "Stages of the pipeline, which compute a generation each in a pass: 1 to 64",
+        "Workers, each on a thread of its own, which compute a generation each in a pass: 1 to 64",
     )
 }
 
@@ -93,7 +118,7 @@ fn capacity_arg<'a>(alloc: Global) -> Arg<'a>
     ensures local { result.global ≡ false }
 {
     default_arg(alloc, "capacity", "C", "2").help(
-        "Rows that the belt between two stages holds: 1 to 1024",
+        "Rows that the belt between two workers holds: 1 to 1024",
     )
 }
 
@@ -110,12 +135,22 @@ fn default_arg<'a>(alloc: Global, name: &'a str, value_name: &'a str, value: &'a
         .default_value(value)
 }
 
-// A command with the texts of its help: what it does, and what else there is to know.
-fn described<'a>(alloc: Global, name: &'a str, about: &'a str, notes: &'a str) -> Command<'a>
+// A command with the texts of its help: how it is called, what it does, and what else there is to
+// know.
+fn described<'a>(
+    alloc: Global,
+    name: &'a str,
+    usage: &'a str,
+    about: &'a str,
+    notes: &'a str,
+) -> Command<'a>
     ensures app { app_of result ≡ new_app name.entry.now }
     ensures local { (fields_of result).has_globals ≡ false }
 {
-    Command::new(alloc, name).about(about).after_help(notes)
+    Command::new(alloc, name)
+        .override_usage(usage)
+        .about(about)
+        .after_help(notes)
 }
 
 // The command with the options of a plan.
@@ -134,7 +169,7 @@ fn run_command<'a>(alloc: Global) -> Result<Command<'a>, AllocError>
     ensures app { IfOk result (λ r. app_of r ≡ run_app) }
     ensures local { IfOk result (λ r. (fields_of r).has_globals ≡ false) }
 {
-    with_plan_args(alloc, described(alloc, "run", ABOUT_RUN, CELLS))
+    with_plan_args(alloc, described(alloc, "run", USAGE_RUN, ABOUT_RUN, CELLS))
 }
 
 // An option for the width or the height of blocks.
@@ -179,7 +214,7 @@ fn coarse_command<'a>(alloc: Global) -> Result<Command<'a>, AllocError>
     ensures app { IfOk result (λ r. app_of r ≡ coarse_app) }
     ensures local { IfOk result (λ r. (fields_of r).has_globals ≡ false) }
 {
-    let command = described(alloc, "coarse", ABOUT_COARSE, BLOCKS);
+    let command = described(alloc, "coarse", USAGE_COARSE, ABOUT_COARSE, BLOCKS);
     let first = with_plan_args(alloc, command)?;
     let second = first.arg(block_width_arg(alloc))?;
     let third = second.arg(block_height_arg(alloc))?;
@@ -195,14 +230,14 @@ fn turns_arg<'a>(alloc: Global) -> Arg<'a>
         .action(ArgAction::Append)
         .num_args(0..)
         .value_parser(value_parser!(u32))
-        .help("Members that make a turn, one after another")
+        .help("Who takes a step, one after another")
 }
 
 fn replay_command<'a>(alloc: Global) -> Result<Command<'a>, AllocError>
     ensures app { IfOk result (λ r. app_of r ≡ replay_app) }
     ensures local { IfOk result (λ r. (fields_of r).has_globals ≡ false) }
 {
-    let command = described(alloc, "replay", ABOUT_REPLAY, TURNS);
+    let command = described(alloc, "replay", USAGE_REPLAY, ABOUT_REPLAY, TURNS);
     let first = with_plan_args(alloc, command)?;
     let second = first.arg(turns_arg(alloc))?;
     Ok(second)
@@ -212,7 +247,7 @@ fn check_command<'a>(alloc: Global) -> Command<'a>
     ensures app { app_of result ≡ check_app }
     ensures local { (fields_of result).has_globals ≡ false }
 {
-    described(alloc, "check", ABOUT_CHECK, LINE)
+    described(alloc, "check", USAGE_CHECK, ABOUT_CHECK, LINE)
 }
 
 fn program_command<'a>(alloc: Global) -> Result<Command<'a>, AllocError>
@@ -221,7 +256,8 @@ fn program_command<'a>(alloc: Global) -> Result<Command<'a>, AllocError>
     let run = run_command(alloc)?;
     let coarse = coarse_command(alloc)?;
     let replay = replay_command(alloc)?;
-    let command = described(alloc, "fhpgas", ABOUT, SCENES)
+    let command = described(alloc, "fhpgas", USAGE, ABOUT, SCENES)
+        .version(VERSION)
         .subcommand_required(true)
         .subcommand(check_command(alloc))?
         .subcommand(run)?
@@ -241,6 +277,7 @@ fn usage_of(alloc: Global, error: clap::Error) -> UsageFault
     match kind {
         ErrorKind::OutOfMemory => UsageFault::Memory,
         ErrorKind::DisplayHelp => UsageFault::Help(text),
+        ErrorKind::DisplayVersion => UsageFault::Help(text),
         _ => UsageFault::Usage(text),
     }
 }
@@ -372,8 +409,8 @@ fn replay_request(alloc: Global, matches: &ArgMatches) -> Result<Option<Request>
     }))
 }
 
-/// The request of the words, the program's name first. `Help` is for words that ask for help, and
-/// `Usage` for all others that give no request.
+/// The request of the words, the program's name first. `Help` is for words that ask for help or the
+/// version, and `Usage` for all others that give no request.
 pub fn parse_words<'a>(alloc: Global, words: &'a [&'a str]) -> Result<Request, UsageFault>
     ensures fault { IfErr result (IsFaultOf
         (fault_of program_app (map (λ s. s.now) words.entry.now))) }

@@ -30,6 +30,10 @@ fn of_run(rt: HostRuntime) -> Result<(), Fail> {
     assert!(rt; parse_words(alloc, &["fhpgas", "walk"]).is_err_and(|e| e.status() == 2));
     assert!(rt; parse_words(alloc, &["fhpgas", "--help"]).is_err_and(|e| e.status() == 0));
     assert!(rt; parse_words(alloc, &["fhpgas", "run", "--help"]).is_err_and(|e| e.status() == 0));
+    assert!(rt; parse_words(alloc, &["fhpgas", "--version"]).is_err_and(|e| e.status() == 0));
+    assert!(rt;
+        parse_words(alloc, &["fhpgas", "run", "--version"]).is_err_and(|e| e.status() == 2)
+    );
     Ok(())
 }
 

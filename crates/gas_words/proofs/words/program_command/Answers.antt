@@ -6,7 +6,7 @@ use Rattle.gas_words.proofs.words.program_command.Goals as goal
 
 pub returns : goal.returns
 returns c =
-    let base : app_of c.subcommand_required.result ≡ on_top (λ s. record s { subcommand_required = true }) (new_app (codes "fhpgas")) = search rules in
+    let base : app_of c.subcommand_required.result ≡ on_top (λ s. record s { subcommand_required = true; has_version = true }) (new_app (codes "fhpgas")) = search rules in
     let add = λ (a : App) (b : App). with_subcommand a b.top in
     let check = c.in_ok-subcommand.ensures.shape c.check_command.ensures.local ∙ ap₂ add base c.check_command.ensures.app in
     let run = c.in_ok-subcommand-2.ensures.shape c.in_ok-run.ensures.local ∙ ap₂ add check c.in_ok-run.ensures.app in
