@@ -29,7 +29,8 @@ walls and obstacles. The scene comes on standard input, the answer goes to stand
 const SCENES: &str =
     "A scene is a TOML text that says which gas it is, how the channel is shaped and where the
 particles are. Columns close on themselves, the top and the bottom are walls, and on the triangular
-lattice odd rows lie half a cell to the east. `fhpgas COMMAND --help` tells the options of a command.";
+lattice odd rows lie half a cell to the east. With `version = 2` a scene can tell its `generation` and
+have sides up to 65536 cells, else up to 4096. `fhpgas COMMAND --help` tells the options of a command.";
 
 const USAGE: &str = "fhpgas COMMAND [OPTIONS] < SCENE";
 
