@@ -14,6 +14,19 @@ DOCUMENTS = ["README.md", "docs/FORMATS.md", "docs/GUIDE.md"]
 BLOCK = re.compile(r"^```(\w*)\n(.*?)^```$", re.M | re.S)
 
 
+def is_well(commands, wanted, room):
+    """Whether a block ends with 0 and prints what is wanted (None: anything), and nothing on standard error; else says what it did."""
+    try:
+        ran = subprocess.run(["bash", "-ec", commands], cwd=room, capture_output=True, text=True, timeout=60)
+    except subprocess.TimeoutExpired as fault:
+        print(fault)
+        return False
+    if ran.returncode == 0 and not ran.stderr and wanted in (None, ran.stdout):
+        return True
+    print(f"status {ran.returncode}: {ran.stdout}{ran.stderr}")
+    return False
+
+
 def main():
     passed = failed = 0
     with tempfile.TemporaryDirectory() as room:
@@ -24,11 +37,11 @@ def main():
             for (kind, commands), (after, text) in zip(blocks, blocks[1:] + [("", "")]):
                 if kind != "sh":
                     continue
-                ran = subprocess.run(["bash", "-ec", commands], cwd=room, capture_output=True, text=True, timeout=60)
-                is_well = ran.returncode == 0 and not ran.stderr and (after != "text" or ran.stdout == text)
-                passed, failed = passed + is_well, failed + (not is_well)
-                if not is_well:
-                    print(f"FAILED: {name}: {commands}status {ran.returncode}: {ran.stdout}{ran.stderr}")
+                if is_well(commands, text if after == "text" else None, room):
+                    passed += 1
+                else:
+                    failed += 1
+                    print(f"FAILED: {name}: {commands}")
     print(f"{passed} passed, {failed} failed")
     return 1 if failed or not passed else 0
 

@@ -129,7 +129,7 @@ def main():
     for test in TESTS:
         try:
             test()
-        except (AssertionError, scene_reader.Refused) as fault:
+        except (AssertionError, scene_reader.Refused, subprocess.TimeoutExpired) as fault:
             failed += 1
             print(f"FAILED: {test.__name__}: {fault}")
     print(f"{len(TESTS) - failed} passed, {failed} failed")
