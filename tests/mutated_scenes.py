@@ -112,7 +112,10 @@ def fed_back(printed):
 
 def run(text, *words):
     """The status and what was printed, on standard error where nothing was on standard output."""
-    done = subprocess.run([PROGRAM, *words], input=text, capture_output=True, timeout=60)
+    try:
+        done = subprocess.run([PROGRAM, *words], input=text, capture_output=True, timeout=60)
+    except subprocess.TimeoutExpired as fault:
+        return None, str(fault)
     if bool(done.stdout) == bool(done.stderr):
         return done.returncode, f"{done.stdout[:80]!r} and {done.stderr[:80]!r}"
     return done.returncode, (done.stdout or done.stderr).decode(errors="replace")
