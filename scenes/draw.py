@@ -5,23 +5,25 @@
     scenes/draw.py discs --width 96 --height 48 --disc 24 24 6 > disc.toml
     scenes/draw.py nozzle --throat 6 --length 40 > nozzle.toml
     scenes/draw.py porous --percent 30 --radius 2 --seed 5 > porous.toml
+    scenes/draw.py discs --width 512 --height 256 --disc 128 128 20 --wind 200 > wake.toml
 
 A cell is named by its column and row from 0 at the top left; rates are thousandths of the places for a particle. The same words
 write the same scene. `--seed` is the scene's seed, and where anything is drawn by lot here (a porous medium, the particles of a
-patch), the seed of that too.
+patch or of a wind), the seed of that too. A wind needs its own chance for each direction, so such a scene is a map, drawn cell by cell.
 """
 import argparse
 import math
 import random
 import sys
 
-DIRECTIONS = {"fhp1": 6, "hpp": 4, "fhp-rest": 7}
+# how far a particle of each direction gets eastwards in a generation
+EASTWARDS = {"fhp1": (1, 0.5, -0.5, -1, -0.5, 0.5), "hpp": (1, 0, -1, 0), "fhp-rest": (1, 0.5, -0.5, -1, -0.5, 0.5, 0)}
 ROW_DISTANCE = math.sqrt(3) / 2  # of two rows of the triangular lattice, in steps eastwards
 
 
 def options():
     common = argparse.ArgumentParser(add_help=False)
-    common.add_argument("--gas", choices=DIRECTIONS, default="fhp1")
+    common.add_argument("--gas", choices=EASTWARDS, default="fhp1")
     common.add_argument("--chirality", choices=("seeded", "left", "right"), default="seeded")
     common.add_argument("--seed", type=int, default=0, help="0 if left out")
     common.add_argument("--width", type=int, default=64, metavar="COLUMNS", help="64 if left out")
@@ -29,6 +31,8 @@ def options():
     common.add_argument("--rate", type=int, default=200, help="how the channel is filled; 200 if left out")
     common.add_argument("--patch", type=int, nargs=5, action="append", default=[], metavar=("X", "Y", "W", "H", "RATE"),
                         help="fill these columns and rows at another rate; may be given again")
+    common.add_argument("--wind", type=int, default=0, metavar="SPEED",
+                        help="the particles' mean velocity eastwards, in thousandths of a cell a generation; 0 if left out")
     common.add_argument("--closed", action="store_true", help="make the first column solid, so that nothing passes the ends")
     reader = argparse.ArgumentParser(description=__doc__, formatter_class=argparse.RawDescriptionHelpFormatter)
     shapes = reader.add_subparsers(dest="shape", required=True)
@@ -45,6 +49,13 @@ def options():
     return reader
 
 
+def chances(asked, rate):
+    """The chance of a particle in each direction: all together they fill the rate, and have the mean velocity of the wind."""
+    eastwards = EASTWARDS[asked.gas]
+    mean_square = sum(east * east for east in eastwards) / len(eastwards)
+    return [rate / 1000 * (1 + asked.wind / 1000 * east / mean_square) for east in eastwards]
+
+
 def fault(asked):
     """Why no such scene can be drawn, or None."""
     def is_inside(x, y, w, h):
@@ -56,6 +67,8 @@ def fault(asked):
         return "seed must be 0 to 9223372036854775807"
     if not all(0 <= rate <= 1000 for rate in [asked.rate] + [patch[4] for patch in asked.patch]):
         return "rate must be 0 to 1000"
+    if not all(0 <= chance <= 1 for rate in [asked.rate] + [patch[4] for patch in asked.patch] for chance in chances(asked, rate)):
+        return "no gas filled at this rate has such a wind"
     if not all(is_inside(*patch[:4]) for patch in asked.patch):
         return "a patch leaves the channel or is empty"
     if asked.shape == "blocks" and not all(is_inside(*block) for block in asked.block):
@@ -140,9 +153,23 @@ def particles(asked, solid, lots):
     for left, top, w, h, rate in asked.patch:
         for y in range(top, top + h):
             for x in range(left, left + w):
-                state = sum(1 << i for i in range(DIRECTIONS[asked.gas]) if lots.randrange(1000) < rate)
+                state = sum(1 << i for i in range(len(EASTWARDS[asked.gas])) if lots.randrange(1000) < rate)
                 if (x, y) not in solid:
                     yield [x, y, state]
+
+
+def rows(asked, solid, lots):
+    """The rows of a map, each place filled by lot with the chance of its direction."""
+    for y in range(asked.height):
+        cells = []
+        for x in range(asked.width):
+            rate = asked.rate
+            for left, top, w, h, other in asked.patch:
+                if left <= x < left + w and top <= y < top + h:
+                    rate = other
+            filled = sum(1 << i for i, chance in enumerate(chances(asked, rate)) if lots.random() < chance)
+            cells.append("##" if (x, y) in solid else f"{filled:02x}")
+        yield "".join(cells)
 
 
 def listed(key, entries, per_line):
@@ -160,6 +187,9 @@ def main():
     solid = solid_cells(asked, lots)
     print(f"# Drawn by: scenes/draw.py {' '.join(sys.argv[1:])}")
     print(f'gas = "{asked.gas}"\nchirality = "{asked.chirality}"\nseed = {asked.seed}')
+    if asked.wind:
+        print("cells = [\n" + "".join(f'    "{row}",\n' for row in rows(asked, solid, lots)) + "]")
+        return
     print(f"width = {asked.width}\nheight = {asked.height}\nrate = {asked.rate}")
     print(listed("solid", rectangles(asked, solid), 8) + listed("particles", list(particles(asked, solid, lots)), 12), end="")
 

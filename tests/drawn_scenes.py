@@ -27,8 +27,12 @@ def lattice(words):
     return found
 
 
+def solid_in(rows):
+    return {(x, y) for y, row in enumerate(rows) for x, cell in enumerate(row) if cell is None}
+
+
 def solid_of(words):
-    return {(x, y) for y, row in enumerate(lattice(words).rows) for x, cell in enumerate(row) if cell is None}
+    return solid_in(lattice(words).rows)
 
 
 def a_block_is_solid_and_nothing_else():
@@ -93,6 +97,22 @@ def a_patch_is_filled_at_its_own_rate():
     assert 5700 < half < 6300, half  # 12,000 places: a standard deviation is 55 particles
 
 
+def a_wind_has_its_speed_and_its_rate():
+    """Places are filled at their rate, and the mean step eastwards of the particles is the wind; in a patch too."""
+    halves = {"fhp1": (2, 1, -1, -2, -1, 1), "hpp": (2, 0, -2, 0), "fhp-rest": (2, 1, -1, -2, -1, 1, 0)}  # half cells eastwards
+    for gas, steps in halves.items():
+        for wind in (300, -100):
+            disc = f"discs --gas {gas} --width 100 --height 100 --disc 30 50 9"
+            rows = lattice(f"{disc} --rate 200 --patch 50 0 50 100 400 --wind {wind}").rows
+            assert solid_in(rows) == solid_of(disc)
+            for part, rate in ((slice(0, 50), 0.2), (slice(50, 100), 0.4)):
+                cells = [cell for row in rows for cell in row[part] if cell is not None]
+                held = [step for cell in cells for i, step in enumerate(steps) if cell >> i & 1]
+                found = len(held) / (len(cells) * len(steps)), sum(held) / 2 / len(held)
+                # standard deviations: 0.004 of the rate, 0.012 of the speed at most
+                assert abs(found[0] - rate) < 0.015 and abs(found[1] - wind / 1000) < 0.04, (gas, wind, rate, found)
+
+
 def closed_ends_are_a_solid_column():
     assert solid_of("blocks --width 12 --height 8 --closed") == {(0, y) for y in range(8)}
 
@@ -107,7 +127,8 @@ def what_cannot_be_drawn_is_refused():
     for words in ("", "cubes", "blocks --width 0", "blocks --height 4097", "blocks --rate 1001", "blocks --seed -1", "blocks --block 60 0 5 1",
                   "blocks --block 0 0 0 1", "blocks --patch 0 0 1 1 1001", "blocks --patch 0 20 1 5 10", "discs --disc 64 0 1",
                   "discs --disc 0 0 -1", "nozzle --throat 0", "nozzle --throat 25", "nozzle --length 65", "porous --percent 101",
-                  "porous --radius -1", "blocks --gas fhp2"):
+                  "porous --radius -1", "blocks --gas fhp2", "blocks --wind 501", "blocks --wind -501",
+                  "blocks --rate 800 --wind 200", "blocks --patch 0 0 1 1 800 --wind 200"):
         ran = drawn(words)
         assert ran.returncode == 2 and not ran.stdout and ran.stderr, words
 
@@ -120,8 +141,9 @@ def help_is_told():
 
 TESTS = [a_block_is_solid_and_nothing_else, blocks_may_overlap, discs_have_the_cells_of_a_hexagon,
          a_disc_of_one_step_is_a_cell_with_its_neighbours, a_disc_goes_on_past_the_last_column, a_nozzle_has_its_throat_and_open_ends,
-         a_porous_medium_has_its_share, another_seed_is_another_medium, a_patch_is_filled_at_its_own_rate, closed_ends_are_a_solid_column,
-         keys_are_those_asked_for, what_cannot_be_drawn_is_refused, help_is_told]
+         a_porous_medium_has_its_share, another_seed_is_another_medium, a_patch_is_filled_at_its_own_rate,
+         a_wind_has_its_speed_and_its_rate, closed_ends_are_a_solid_column, keys_are_those_asked_for, what_cannot_be_drawn_is_refused,
+         help_is_told]
 
 
 def main():
