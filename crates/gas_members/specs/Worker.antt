@@ -20,17 +20,24 @@ pub record IsClosed (w : WorkerModel) : Type 0 where
 abbrev pub owes : Rules → WorkerModel → Option ℕ → List RowModel → List RowModel
 owes gas w e took = owed gas w.stage.channel w.stage.chirality e took
 
--- The worker may have come to its state in the pass e by taking the rows `took` and putting the rows `gave`: until the stage's
--- pass is closed it has put, but for the row that waits, what the stage gave, and from then on all that it owes. A new pass
--- fits two empty lists; so what is promised for all lists that a worker fits is promised for those of its open pass.
+-- In a pass that is open the stage was fed the rows that were taken, and what it gave for them was put, but for the row that
+-- waits.
+pub record IsUnderWay (gas : Rules) (w : WorkerModel) (e : Option ℕ) (took gave : List RowModel) : Type 0 where
+  pub few : length took ≤ w.stage.channel.height
+  pub fed : Fits gas w.stage e took
+  pub put : gave ++ option_to_list w.waiting ≡ given gas w.stage.channel w.stage.chirality e took
+
+-- In a pass that is closed all rows of a lattice were taken, and all that is owed for them was put, but for the row that waits.
+pub record IsFlushed (gas : Rules) (w : WorkerModel) (e : Option ℕ) (took gave : List RowModel) : Type 0 where
+  pub all : length took ≡ w.stage.channel.height
+  pub put : gave ++ option_to_list w.waiting ≡ owes gas w e took
+
+-- The worker may have come to its state in the pass e by taking the rows `took` and putting the rows `gave`. A new pass fits
+-- two empty lists; so what is promised for all lists that a worker fits is promised for those of its open pass.
 pub record HasDone (gas : Rules) (w : WorkerModel) (e : Option ℕ) (took gave : List RowModel) : Type 0 where
   pub no_stray : w.stray ≡ false
-  pub few : length took ≤ w.stage.channel.height
-  pub fed : IsSome w.stage.pass → Fits gas w.stage e took
-  pub under_way : IsSome w.stage.pass →
-      gave ++ option_to_list w.waiting ≡ given gas w.stage.channel w.stage.chirality e took
-  pub all : w.stage.pass ≡ None → length took ≡ w.stage.channel.height
-  pub flushed : w.stage.pass ≡ None → gave ++ option_to_list w.waiting ≡ owes gas w e took
+  pub while_open : IsSome w.stage.pass → IsUnderWay gas w e took gave
+  pub once_closed : w.stage.pass ≡ None → IsFlushed gas w e took gave
 
 -- what a step does to all rows that the worker may have taken and put: one more was taken, one more was put, or none
 abbrev pub AfterTake : Rules → WorkerModel → RowModel → WorkerModel → Type 0
