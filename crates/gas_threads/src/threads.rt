@@ -7,6 +7,7 @@ pub mod gate;
 mod gather;
 mod job;
 mod ring;
+mod shared;
 mod signals;
 mod start;
 mod work;

@@ -3,7 +3,7 @@ ghost use Rattle.std.specs.Prelude.{◌≡◌, IfSome};
 ghost use Rattle.gas_threads.specs.Inner.Job.{JobModel, EndedModel, IsReady, Ran};
 
 use crate::threads::gate::Gate;
-use crate::threads::signals::Signals;
+use crate::threads::shared::Shared;
 use crate::threads::work::Work;
 use crate::threads::worker_loop::make_passes;
 use gas_belt::rx::Rx;
@@ -59,7 +59,7 @@ impl<'a, G: Gas> Work<Ended<G>> for Job<'a, G> {
 
     ghost kept = { λ j e. Ran G.rules j e };
 
-    fn do_work<H: Gate, R: Wait>(self, rt: &R, signals: &Signals, gate: &H) -> Option<Ended<G>> {
+    fn do_work<H: Gate, R: Wait>(self, shared: &Shared<'_, H, R>) -> Option<Ended<G>> {
         let Job {
             who,
             schedule,
@@ -67,16 +67,7 @@ impl<'a, G: Gas> Work<Ended<G>> for Job<'a, G> {
             mut rx,
             mut tx,
         } = self;
-        if make_passes(
-            rt,
-            signals,
-            gate,
-            who,
-            &schedule,
-            &mut worker,
-            &mut rx,
-            &mut tx,
-        ) {
+        if make_passes(shared, who, &schedule, &mut worker, &mut rx, &mut tx) {
             Some(Ended {
                 rx,
                 spent: tx.close(),

@@ -10,6 +10,7 @@ use crate::threads::build::{Ends, build};
 use crate::threads::feeder_loop::feed;
 use crate::threads::gate::Gate;
 use crate::threads::gather::gather;
+use crate::threads::shared::Shared;
 use crate::threads::signals::Signals;
 use crate::threads::start::{Started, start};
 use gas_belt::carried::{Carried, meet};
@@ -59,10 +60,8 @@ fn settle<G: Gas, R: Threads>(
 // Makes all passes in a scope. None where memory or a start was refused.
 fn run_in_scope<'s, 'e: 's, G: Gas + Send + 'e, H: Gate + Sync, R: Threads + Wait + Sync>(
     scope: &'s Scope<'s, &'e ()>,
-    rt: &'e R,
     alloc: Global,
-    signals: &'e Signals,
-    gate: &'e H,
+    shared: &'e Shared<'e, H, R>,
     pass: &'e FirstPass<'e, G>,
     mut feeder: Feeder<G>,
 ) -> Option<Run<G>>
@@ -82,13 +81,21 @@ fn run_in_scope<'s, 'e: 's, G: Gas + Send + 'e, H: Gate + Sync, R: Threads + Wai
     let belts = Vec::with_capacity(alloc, stages + 1).ok()?;
     let handles = Vec::with_capacity(alloc, stages).ok()?;
     feeder.begin_ring(pass.schedule.plan.passes());
-    let (handles, all) = start(scope, rt, signals, gate, jobs, handles);
-    if all && feed(rt, signals, &mut feeder, &mut last, &mut first) {
-        return settle(rt, pass, first, last, feeder, handles, belts);
+    let (handles, all) = start(scope, shared, jobs, handles);
+    if all
+        && feed(
+            shared.rt,
+            shared.signals,
+            &mut feeder,
+            &mut last,
+            &mut first,
+        )
+    {
+        return settle(shared.rt, pass, first, last, feeder, handles, belts);
     }
-    signals.stop();
+    shared.signals.stop();
     for handle in handles {
-        drop(handle.join(rt));
+        drop(handle.join(shared.rt));
     }
     None
 }
@@ -111,7 +118,11 @@ pub(crate) fn run_ring<G: Gas + Send, H: Gate + Sync, R: Threads + Wait + Sync>(
     ensures { IfOk result (λ run. HasRun G.rules pass.now run) }
 {
     let signals = Signals::new(alloc, pass.schedule.plan.stages())?;
-    let signals = &signals;
+    let shared = &Shared {
+        rt,
+        signals: &signals,
+        gate,
+    };
     let run = thread::scope(
         thread::scope_env(),
         rt,
@@ -122,7 +133,7 @@ pub(crate) fn run_ring<G: Gas + Send, H: Gate + Sync, R: Threads + Wait + Sync>(
             requires channel { feeder.channel ≡ pass.now.lattice.channel }
             requires rows { feeder.rows ≡ pass.now.lattice.rows }
             ensures { IfSome result (λ run. HasRun G.rules pass.entry.now run) }
-        { run_in_scope(scope, rt, alloc, signals, gate, pass, feeder) },
+        { run_in_scope(scope, alloc, shared, pass, feeder) },
     );
     run.ok_or(AllocError)
 }

@@ -4,7 +4,7 @@ ghost use Rattle.gas_threads.specs.Inner.Links.{AllReady, job_of};
 
 use crate::threads::gate::Gate;
 use crate::threads::job::{Ended, Job};
-use crate::threads::signals::Signals;
+use crate::threads::shared::Shared;
 use crate::threads::work::{WorkPromise, start_work};
 use gas_geom::gas::Gas;
 use std::sync::Wait;
@@ -17,9 +17,7 @@ pub type Started<'e, G> = PromisedHandle<Option<Ended<G>>, WorkPromise<Job<'e, G
 /// flag is raised.
 pub(crate) fn start<'s, 'e: 's, G: Gas + Send + 'e, H: Gate + Sync, R: Wait + Sync>(
     scope: &'s Scope<'s, &'e ()>,
-    rt: &'e R,
-    signals: &'e Signals,
-    gate: &'e H,
+    shared: &'e Shared<'e, H, R>,
     jobs: Vec<Job<'e, G>>,
     handles: Vec<Started<'e, G>>,
 ) -> (Vec<Started<'e, G>>, bool)
@@ -31,12 +29,12 @@ pub(crate) fn start<'s, 'e: 's, G: Gas + Send + 'e, H: Gate + Sync, R: Wait + Sy
 {
     let mut handles = handles;
     for job in jobs {
-        let Some(handle) = start_work(scope, rt, signals, gate, job) else {
-            signals.stop();
+        let Some(handle) = start_work(scope, shared, job) else {
+            shared.signals.stop();
             return (handles, false);
         };
         let Ok(()) = handles.push(handle) else {
-            signals.stop();
+            shared.signals.stop();
             return (handles, false);
         };
     }

@@ -2,7 +2,7 @@
 ghost use Rattle.std.specs.Prelude.{◌≡◌, IfSome};
 
 use crate::threads::gate::Gate;
-use crate::threads::signals::Signals;
+use crate::threads::shared::Shared;
 use std::snapshot::Snapshot;
 use std::sync::Wait;
 use std::thread::{Promise, PromisedHandle, Scope};
@@ -15,7 +15,7 @@ pub trait Work<E> {
     /// What it gives, if it does not stop early.
     ghost kept: { Self → E → Type 0 };
 
-    fn do_work<H: Gate, R: Wait>(self, rt: &R, signals: &Signals, gate: &H) -> Option<E>
+    fn do_work<H: Gate, R: Wait>(self, shared: &Shared<'_, H, R>) -> Option<E>
         requires { fresh self }
         ensures { IfSome result (λ e. kept self e) };
 }
@@ -38,9 +38,7 @@ pub(crate) fn start_work<
     R: Wait + Sync,
 >(
     scope: &'s Scope<'s, &'e ()>,
-    rt: &'e R,
-    signals: &'e Signals,
-    gate: &'e H,
+    shared: &'e Shared<'e, H, R>,
     work: W,
 ) -> Option<PromisedHandle<Option<E>, WorkPromise<W>>>
     requires { W.fresh work }
@@ -52,7 +50,7 @@ pub(crate) fn start_work<
         move || -> Option<E>
             requires { W.fresh work }
             ensures { IfSome result (λ e. W.kept work e) }
-        { work.do_work(rt, signals, gate) },
+        { work.do_work(shared) },
     );
     started.ok()
 }

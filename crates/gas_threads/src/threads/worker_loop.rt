@@ -5,7 +5,8 @@ ghost use Rattle.gas_members.specs.Worker.{IsClosed};
 ghost use Rattle.gas_threads.specs.Inner.Job.{OnePass, owes_until};
 
 use crate::threads::gate::Gate;
-use crate::threads::signals::{Signals, Watch};
+use crate::threads::shared::Shared;
+use crate::threads::signals::Watch;
 use gas_belt::rx::Rx;
 use gas_belt::tx::Tx;
 use gas_geom::gas::Gas;
@@ -17,9 +18,8 @@ use std::sync::Wait;
 // Makes one pass of a worker, and says whether it is over. It is not where the worker stopped
 // early: because the flag is raised, or because a row of another width came, and then the worker
 // raises the flag.
-fn make_pass<G: Gas, R: Wait>(
-    rt: &R,
-    signals: &Signals,
+fn make_pass<G: Gas, H, R: Wait>(
+    shared: &Shared<'_, H, R>,
     who: u32,
     generation: Option<u64>,
     worker: &mut Worker<'_, G>,
@@ -35,19 +35,19 @@ fn make_pass<G: Gas, R: Wait>(
     ensures whole { IsTrue result → OnePass G.rules worker.old generation rx.old.taken tx.old.put rx.new.taken tx.new.put }
 {
     worker.begin(generation);
-    let mut watch = Watch::new(signals, who);
-    for _ in rt.forever() {
+    let mut watch = Watch::new(shared.signals, who);
+    for _ in shared.rt.forever() {
         match worker.turn(rx, tx) {
             Turned::Done => return true,
             Turned::Idle => {
-                if !watch.wait(rt) {
+                if !watch.wait(shared.rt) {
                     return false;
                 }
             }
             Turned::Took => watch.took(),
             Turned::Put => watch.put(),
             Turned::Stray => {
-                signals.stop();
+                shared.signals.stop();
                 return false;
             }
         }
@@ -58,9 +58,7 @@ fn make_pass<G: Gas, R: Wait>(
 /// Makes all passes of a plan's worker, counted from 1, between fresh ends, and says whether all
 /// are over. It calls the gate before and after each, also where it stops early.
 pub(crate) fn make_passes<G: Gas, H: Gate, R: Wait>(
-    rt: &R,
-    signals: &Signals,
-    gate: &H,
+    shared: &Shared<'_, H, R>,
     who: u32,
     schedule: &Schedule,
     worker: &mut Worker<'_, G>,
@@ -80,10 +78,10 @@ pub(crate) fn make_passes<G: Gas, H: Gate, R: Wait>(
 {
     let passes = schedule.passes();
     for pass in 0..passes {
-        gate.enter(who);
+        shared.gate.enter(who);
         let generation = schedule.generation(pass, who);
-        let over = make_pass(rt, signals, who, generation, worker, rx, tx);
-        gate.leave(who);
+        let over = make_pass(shared, who, generation, worker, rx, tx);
+        shared.gate.leave(who);
         if !over {
             return false;
         }
