@@ -1,5 +1,6 @@
 -- One bit of a word as a truth value, through shifts, masks and writes of one bit.
 use Rattle.std.proofs.Common.{◌≡◌, ℕ, suc, ◌+◌, ◌-◌, ◌*◌, ◌/◌, ◌%◌, ◌^◌, ◌<◌, ◌≤◌, Bool, true, false, ◌&&◌, ◌||◌, ◌==◌, if◌then◌else◌, ap₂, ⊎_elim, refl, sym, ap, ◌∙◌, subst, arith, w64, mul_assoc, cond, inl, inr, eq-eqb, ne_eqb, leb}
+use mathlib.Core.Bool.{or-false}
 use Rattle.std.specs.Prelude.{nat_lt}
 use Rattle.std.specs.Int.{bit_at}
 use Rattle.std.proofs.lemmas.Nat.Bits.{shr_and_one, bit_at_set_same, bit_at_set_other, bit_at_clear_same, bit_at_clear_other, bit_at_ones, bit_at_ones_above, ones_shr}
@@ -74,10 +75,6 @@ holds-up_to y last b h =
       | inl le ↦ holds-ones (last + 1) b (omega arith) ∙ sym (grind (arith, nat_tests))
       | inr lt ↦ holds-ones_above (last + 1) b (omega arith) ∙ sym (grind (arith, nat_tests))
     ])
-
-pub or-false : (b : Bool) → (b || false) ≡ b
-or-false true = refl
-or-false false = refl
 
 -- `low | high << 32`
 pub holds-joined : (low high b : ℕ) → low < 2 ^ 32 → b < 64 →

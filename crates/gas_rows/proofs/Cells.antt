@@ -1,8 +1,8 @@
 -- The cells that the words of a row hold: what a cell is, and what a write of one word changes.
-use Rattle.std.proofs.Common.{◌≡◌, ◌≢◌, ℕ, zero, suc, ◌+◌, ◌-◌, ◌*◌, ◌/◌, ◌%◌, ◌^◌, ◌<◌, ◌≤◌, Bool, false, not, ◌&&◌, ◌==◌, if◌then◌else◌, List, length, get_or, set, replicate, ltb, leb, refl, sym, ap, ap₂, ◌∙◌, arith, ◌⊎◌, inl, inr, eq-eqb, ne_eqb}
+use Rattle.std.proofs.Common.{◌≡◌, ◌≢◌, ℕ, zero, suc, ◌+◌, ◌-◌, ◌*◌, ◌/◌, ◌%◌, ◌^◌, ◌<◌, ◌≤◌, Bool, false, not, ◌&&◌, ◌==◌, if◌then◌else◌, List, length, get_or, set, replicate, ltb, leb, refl, sym, ap, ap₂, ◌∙◌, subst, arith, ◌⊎◌, inl, inr, eq-eqb, ne_eqb}
 use Rattle.std.proofs.lemmas.Bool.{cases_eq, cases_order, cases_lt}
 use Rattle.std.proofs.lemmas.Bool.Decides.{nat_tests}
-use Rattle.std.proofs.lemmas.List.{get_or_default, get_or_past, get_or-replicate, length-replicate, get_or-set_same, get_or-set_other, length-set}
+use Rattle.std.proofs.lemmas.List.{get_or_past, get_or-replicate, length-replicate, get_or-set_same, get_or-set_other, length-set}
 use Rattle.std.proofs.lemmas.List.FromFn.{get_or-map-range_with_len, length-map-range_with_len}
 use Rattle.std.proofs.lemmas.Grind.{same_number_lists}
 use Rattle.std.proofs.lemmas.Nat.{one_shl, pow_pos}
@@ -62,6 +62,13 @@ unfolding cells_of
 get_or-cells d width words x h =
     get_or-map-range_with_len (λ y. state words (words_in width) d y) 0 width x x 0 h (omega arith)
 
+-- a cell is a set of the directions
+pub cells-lt : (d width : ℕ) (words : List ℕ) (x : ℕ) → get_or (cells_of d width words) x 0 < 2 ^ d
+cells-lt d width words x = elim (cases_lt x width) [
+  | inl lt ↦ subst (λ s. s < 2 ^ d) (sym (get_or-cells d width words x lt)) (state-lt words (words_in width) d x)
+  | inr le ↦ subst (λ s. s < 2 ^ d) (sym (get_or_past (cells_of d width words) x 0 (omega (arith, length-cells d width words)))) (pow_pos d)
+]
+
 -- a row is known by its cells
 pub cells-from : (d width : ℕ) (words xs : List ℕ) → length xs ≡ width →
     ((x : ℕ) → x < width → state words (words_in width) d x ≡ get_or xs x 0) → cells_of d width words ≡ xs
@@ -114,9 +121,6 @@ has-set words n i a v k y within ha hy =
     other ne apart =
         ap (λ z. holds z (y % 64)) (get_or-set_other words (i * n + a) (k * n + y / 64) v 0 ne)
         ∙ sym (ap (λ c. if c then holds v (y % 64) else holds (get_or words (k * n + y / 64) 0) (y % 64)) apart)
-
-pub read_at : (words : List ℕ) (k w : ℕ) → k < length words → w ≡ get_or words k w → w ≡ get_or words k 0
-read_at words k w h e = e ∙ get_or_default words k w 0 h
 
 -- ---- a blank row
 pub zero_at : (k j : ℕ) → get_or {A = ℕ} (replicate k 0) j 0 ≡ 0

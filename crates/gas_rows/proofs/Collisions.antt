@@ -1,5 +1,6 @@
 -- A row collided 64 cells at a time: one word of each direction written, and then one word more of the row done.
 use Rattle.std.proofs.Common.{◌≡◌, ◌≢◌, ℕ, zero, suc, ◌+◌, ◌*◌, ◌/◌, ◌%◌, ◌<◌, ◌≤◌, Bool, true, false, not, ◌&&◌, ◌==◌, if◌then◌else◌, List, length, get_or, set, ltb, length-set, refl, sym, ap, ap₂, ◌∙◌, subst, arith, inl, inr, eq-eqb, ne_eqb}
+use mathlib.Core.Bool.{and-false, and-true}
 use Rattle.std.proofs.lemmas.Bool.{cases_eq, cases_lt}
 use Rattle.std.proofs.lemmas.Bool.Decides.{nat_tests}
 use Rattle.std.proofs.lemmas.Nat.{pow_pos}
@@ -81,14 +82,6 @@ module _ (table : ℕ → Bool → ℕ) (words new : List ℕ) (n j d dirs : ℕ
       set_of-same d (λ i. has words n i y) (λ i. holds (get_or planes i 0) (y % 64)) (λ i hi.
       ap (λ k. holds (get_or words (i * n + k) 0) (y % 64)) e
       ∙ ap (λ w. holds w (y % 64)) (sym (gathered i (omega arith))))
-
-  and-false : (b : Bool) → (b && false) ≡ false
-  and-false true = refl
-  and-false false = refl
-
-  and-true : (b : Bool) → (b && true) ≡ b
-  and-true true = refl
-  and-true false = refl
 
   after-is : (y : ℕ) → y / 64 ≡ j → (s : Bool) → s ≡ holds (get_or solid j 0) (y % 64) →
       state new n d y ≡ (if s then 0 else set_at d after (y % 64))

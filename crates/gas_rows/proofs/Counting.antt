@@ -13,7 +13,8 @@ use Rattle.gas_rows.specs.Words.{words_in}
 use Rattle.gas_rows.specs.Planes.{has, cells_of}
 use Rattle.gas_rows.specs.Inside.{ArePlanes}
 use Rattle.gas_geom.proofs.Holds.{bit_cases}
-use Rattle.gas_rows.proofs.Sums.{sum_below-cong, sum_below-zero, sum_below-swap, sum_below-split, sum_below-blocks, sum_by-below}
+use Rattle.gas_geom.proofs.Sums.{sum_below-cong, sum_below-zero, sum_below-swap}
+use Rattle.gas_rows.proofs.Sums.{sum_below-split, sum_below-blocks, sum_by-below}
 use Rattle.gas_rows.proofs.Rows.{wide, held, has_word}
 
 -- ---- the ones of a word
@@ -53,7 +54,8 @@ ones-bits d s h =
     ∙ ap (count_by (holds s)) (sym (same_map d 0)) ∙ count-range (holds s) d
     ∙ sum_below-cong d _ _ (λ i _. one-bit s i)
 
-bits-le : (n s : ℕ) → sum_below n (λ i. bit_at s i) ≤ n
+-- no more bits than places
+pub bits-le : (n s : ℕ) → sum_below n (λ i. bit_at s i) ≤ n
 bits-le zero s = omega arith
 bits-le (suc n) s = omega (arith, bits-le n s, bit_at-lt s n)
 

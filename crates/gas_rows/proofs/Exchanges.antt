@@ -2,21 +2,14 @@
 use Rattle.std.proofs.Common.{◌≡◌, ℕ, ◌+◌, ◌-◌, ◌*◌, ◌/◌, ◌%◌, ◌^◌, ◌<◌, Bool, true, false, not, ◌&&◌, ◌||◌, ◌==◌, if◌then◌else◌, refl, sym, ap, ap₂, ◌∙◌, arith, ◌≢◌, ◌⊎◌, inl, inr, eq-eqb, ne_eqb}
 use Rattle.std.specs.Int.Bits.{bit_and, bit_or, or_lt}
 use Rattle.std.specs.Prelude.{nat_le, nat_lt}
-use Rattle.std.proofs.lemmas.Bool.{cases_eq, cases_lt, eqb-true, ltb-true}
+use mathlib.Core.Bool.{and-true}
+use Rattle.std.proofs.lemmas.Bool.{cases_eq, cases_lt, eqb-true, ltb-true, not-true}
 use Rattle.std.proofs.lemmas.Bool.Decides.{nat_tests}
 use Rattle.gas_geom.specs.Gas.{holds}
 use Rattle.gas_geom.specs.Laws.Finite.{each_below}
 use Rattle.gas_geom.proofs.Holds.{holds-and, holds-or, holds-not, holds-above}
 use Rattle.gas_rows.specs.Exchange.{is_above, partner}
 use Rattle.gas_rows.proofs.Bits.{holds-shl_high, holds-shl_low, holds-shr}
-
-not_true : (b : Bool) → not b ≡ true → b ≡ false
-not_true true e = sym e
-not_true false e = refl
-
-and-true : (t : Bool) → (t && true) ≡ t
-and-true true = refl
-and-true false = refl
 
 none : (s t : Bool) → (s && (t && false)) ≡ false
 none true true = refl
@@ -80,13 +73,13 @@ abbrev pub eights : ℕ
 eights = 0xf0f0f0f0
 
 pub pairs-apart : (b : ℕ) → b < 64 → (holds pairs b && is_above pairs 7 b) ≡ false
-pairs-apart b h = not_true _ (each_below (λ b. not (holds pairs b && is_above pairs 7 b)) 64 b refl h)
+pairs-apart b h = not-true _ (each_below (λ b. not (holds pairs b && is_above pairs 7 b)) 64 b refl h)
 
 pub fours-apart : (b : ℕ) → b < 64 → (holds fours b && is_above fours 14 b) ≡ false
-fours-apart b h = not_true _ (each_below (λ b. not (holds fours b && is_above fours 14 b)) 64 b refl h)
+fours-apart b h = not-true _ (each_below (λ b. not (holds fours b && is_above fours 14 b)) 64 b refl h)
 
 pub eights-apart : (b : ℕ) → b < 64 → (holds eights b && is_above eights 28 b) ≡ false
-eights-apart b h = not_true _ (each_below (λ b. not (holds eights b && is_above eights 28 b)) 64 b refl h)
+eights-apart b h = not-true _ (each_below (λ b. not (holds eights b && is_above eights 28 b)) 64 b refl h)
 
 pub fours-lt : (b : ℕ) → b < 64 → partner fours 14 b < 64
 fours-lt b h = ltb-true _ _ (each_below (λ b. nat_lt (partner fours 14 b) 64) 64 b refl h)

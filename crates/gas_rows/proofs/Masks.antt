@@ -1,5 +1,6 @@
 -- What words say of a row of cells, and masks as the lists of their cells' truth values.
 use Rattle.std.proofs.Common.{◌≡◌, ◌≢◌, ℕ, ◌+◌, ◌-◌, ◌*◌, ◌/◌, ◌%◌, ◌^◌, ◌<◌, ◌≤◌, Bool, true, false, ◌&&◌, ◌||◌, not, ◌⊎◌, inl, inr, take, drop, length-drop, if◌then◌else◌, List, map, length, get_or, set, replicate, refl, sym, ap, ap₂, ◌∙◌, arith, ⊎_elim, eq-eqb, ne_eqb, length-set, get_or-set_same, get_or-set_other}
+use mathlib.Core.Bool.{and-false, or-false}
 use Rattle.std.specs.Prelude.{◌==◌, nat_lt, nat_le}
 use Rattle.std.specs.List.{range_with_len, All}
 use Rattle.std.proofs.lemmas.List.Elements.{All-get_or}
@@ -11,7 +12,7 @@ use Rattle.gas_geom.specs.Gas.{holds}
 use Rattle.std.specs.Int.Bits.{bit_or}
 use mir.Val.{bool_byte}
 use Rattle.gas_geom.proofs.Holds.{holds-zero, holds-or}
-use Rattle.gas_rows.proofs.Bits.{holds-set, or-false}
+use Rattle.gas_rows.proofs.Bits.{holds-set}
 use Rattle.gas_geom.specs.declared.size.TheConstants.{MOST_SIDE}
 use Rattle.gas_rows.specs.Words.{words_in, bit}
 use Rattle.gas_rows.specs.Mask.{cells, IsMask}
@@ -88,9 +89,6 @@ bit-cleared words width v some long cut x =
         (λ (h : width ≤ x). let gt : (width - 1) % 64 < x % 64 = omega arith in grind (arith, nat_tests))
         (cases_lt x width)
 
-    and-true : (b : Bool) → b ≡ (true && b)
-    and-true b = refl
-
     other : x / 64 ≢ length words - 1 → bit words x ≡ (nat_lt x width && bit words x)
     other ne =
         ⊎_elim
@@ -130,10 +128,6 @@ packed-none word b i cells is before =
     let alike : nat_lt i b ≡ nat_lt i (b + 1) = grind (arith, nat_tests) in
     ap (λ t. t && get_or cells i false) alike)
     (cases_eq i b)
-  where
-    and-false : (b : Bool) → (b && false) ≡ false
-    and-false true = refl
-    and-false false = refl
 
 pub packed-more : (word b k : ℕ) (cells : List Bool) → b < 64 → k ≡ bool_byte (get_or cells b false) →
     ((i : ℕ) → holds word i ≡ (nat_lt i b && get_or cells i false)) →

@@ -17,7 +17,7 @@ use Rattle.gas_rows.proofs.Counting.{from_bits}
 use Rattle.gas_rows.proofs.Masks.{bit-at}
 
 -- ---- counts over ranges of numbers
-range-append : (a n m : ℕ) → range_with_len a (n + m) ≡ range_with_len a n ++ range_with_len (a + n) m
+pub range-append : (a n m : ℕ) → range_with_len a (n + m) ≡ range_with_len a n ++ range_with_len (a + n) m
 range-append a zero m = ap₂ range_with_len (let e : a ≡ a + 0 = omega arith in e) (let e : 0 + m ≡ m = omega arith in e)
 range-append a (suc n) m =
     ap (range_with_len a) (let e : suc n + m ≡ suc (n + m) = omega arith in e)

@@ -2,14 +2,13 @@
 use Rattle.std.proofs.Common.{◌≡◌, ◌≢◌, ℕ, ◌+◌, ◌-◌, ◌*◌, ◌/◌, ◌%◌, ◌^◌, ◌<◌, ◌≤◌, Bool, false, List, length, get_or, sym, ap, ap₂, ◌∙◌, subst, arith, inl, inr}
 use Rattle.std.proofs.lemmas.Bool.{cases_lt, cases_order}
 use Rattle.std.proofs.lemmas.List.{places, get_or_past}
-use Rattle.std.proofs.lemmas.Nat.{pow_pos}
 use borrow.Rule.Slice.PartMut.{put_mid}
 use Rattle.gas_geom.specs.Gas.{holds}
 use Rattle.gas_geom.proofs.Holds.{holds-above}
 use Rattle.gas_rows.specs.Words.{words_in, bit}
 use Rattle.gas_rows.specs.Planes.{has, cells_of}
 use Rattle.gas_rows.specs.Inside.{ArePlanes}
-use Rattle.gas_rows.proofs.Cells.{width_of, length-cells, get_or-cells, holds-cells, state-lt, place_in}
+use Rattle.gas_rows.proofs.Cells.{width_of, length-cells, cells-lt, holds-cells, place_in}
 
 -- ---- the words of one direction among those of all
 put_inside : (xs ys : List ℕ) (a k j : ℕ) → k ≡ length ys → j < k → a + k ≤ length xs → get_or (put_mid a k xs ys) (a + j) 0 ≡ get_or ys j 0
@@ -49,7 +48,7 @@ module _ (d width : ℕ) (words row : List ℕ) (inside : ArePlanes d width word
   wide : length row ≡ width
   wide = width_of d width words row view
 
-  pub plane-written : ArePlanes d width new
+  plane-written : ArePlanes d width new
   plane-written = record {
     some_cells = inside.some_cells;
     few_cells = inside.few_cells;
@@ -61,31 +60,44 @@ module _ (d width : ℕ) (words row : List ℕ) (inside : ArePlanes d width word
     ];
   }
 
-  pub written-wide : length (cells_of d width new) ≡ length row
-  written-wide = length-cells d width new ∙ sym wide
-
-  pub written-lt : (x : ℕ) → get_or (cells_of d width new) x 0 < 2 ^ d
-  written-lt x = elim (cases_lt x width) [
-    | inl lt ↦ subst (λ s. s < 2 ^ d) (sym (get_or-cells d width new x lt)) (state-lt new (words_in width) d x)
-    | inr le ↦ subst (λ s. s < 2 ^ d) (sym (get_or_past (cells_of d width new) x 0 (omega (arith, length-cells d width new)))) (pow_pos d)
-  ]
-
-  pub written-here : (f : ℕ → Bool) → i < d → ((x : ℕ) → x < width → has new (words_in width) i x ≡ f x) → (x : ℕ) → x < length row
+  written-here : (f : ℕ → Bool) → i < d → ((x : ℕ) → x < width → has new (words_in width) i x ≡ f x) → (x : ℕ) → x < length row
       → holds (get_or (cells_of d width new) x 0) i ≡ f x
   written-here f hi here x h = let lt : x < width = omega (arith, wide) in holds-cells d width new i x hi lt ∙ here x lt
 
-  row-lt : (x : ℕ) → get_or row x 0 < 2 ^ d
-  row-lt x = subst (λ r. get_or r x 0 < 2 ^ d) view (elim (cases_lt x width) [
-    | inl lt ↦ subst (λ s. s < 2 ^ d) (sym (get_or-cells d width words x lt)) (state-lt words (words_in width) d x)
-    | inr le ↦ subst (λ s. s < 2 ^ d) (sym (get_or_past (cells_of d width words) x 0 (omega (arith, length-cells d width words)))) (pow_pos d)
-  ])
-
-  pub written-other : (x k : ℕ) → k ≢ i → holds (get_or (cells_of d width new) x 0) k ≡ holds (get_or row x 0) k
+  written-other : (x k : ℕ) → k ≢ i → holds (get_or (cells_of d width new) x 0) k ≡ holds (get_or row x 0) k
   written-other x k ne = elim (cases_lt k d) [
     | inl hk ↦ elim (cases_lt x width) [
       | inl lt ↦ holds-cells d width new k x hk lt ∙ others k x ne (omega arith) ∙ sym (holds-cells d width words k x hk lt)
           ∙ ap (λ r. holds (get_or r x 0) k) view
       | inr le ↦ ap (λ s. holds s k) (get_or_past (cells_of d width new) x 0 (omega (arith, length-cells d width new)) ∙ sym (get_or_past row x 0 (omega (arith, wide))))
     ]
-    | inr le ↦ holds-above (get_or (cells_of d width new) x 0) d k (written-lt x) le ∙ sym (holds-above (get_or row x 0) d k (row-lt x) le)
+    | inr le ↦ holds-above (get_or (cells_of d width new) x 0) d k (cells-lt d width new x) le
+        ∙ sym (holds-above (get_or row x 0) d k (subst (λ r. get_or r x 0 < 2 ^ d) view (cells-lt d width words x)) le)
   ]
+
+-- The row `row` of which the words of direction i were written: `new` has all words, and its cells are those of `after`.
+pub record IsWritten (d width : ℕ) (row new after : List ℕ) (i : ℕ) : Type 0 where
+  pub inside : ArePlanes d width after
+  pub wide : length (cells_of d width after) ≡ length row
+  pub states : (x : ℕ) → get_or (cells_of d width after) x 0 < 2 ^ d
+  pub here : (f : ℕ → Bool) → i < d → ((x : ℕ) → x < width → has new (words_in width) i x ≡ f x) → (x : ℕ) → x < length row
+      → holds (get_or (cells_of d width after) x 0) i ≡ f x
+  pub others : (x k : ℕ) → k ≢ i → holds (get_or (cells_of d width after) x 0) k ≡ holds (get_or row x 0) k
+
+-- so it is where a part of the words of a vector, as they were lent, was written
+pub written : (d width : ℕ) (words row lent new after : List ℕ) (i : ℕ) → ArePlanes d width words → cells_of d width words ≡ row →
+    lent ≡ words → length new ≡ length lent → after ≡ new →
+    ((x : ℕ) → width ≤ x → x < 64 * words_in width → has new (words_in width) i x ≡ false) →
+    ((k x : ℕ) → k ≢ i → x / 64 < words_in width → has new (words_in width) k x ≡ has lent (words_in width) k x) →
+    IsWritten d width row new after i
+written d width words row lent new after i inside view value long is clear others =
+    let rest : (k x : ℕ) → k ≢ i → x / 64 < words_in width → has new (words_in width) k x ≡ has words (words_in width) k x =
+    λ k x ne h. others k x ne h ∙ ap (λ (ws : List ℕ). has ws (words_in width) k x) value in
+    let all : length new ≡ length words = long ∙ ap length value in
+    subst (λ (ws : List ℕ). IsWritten d width row new ws i) (sym is) (record {
+      inside = plane-written d width words row inside view new i all clear rest;
+      wide = length-cells d width new ∙ sym (width_of d width words row view);
+      states = cells-lt d width new;
+      here = written-here d width words row inside view new i all clear rest;
+      others = written-other d width words row inside view new i all clear rest;
+    })

@@ -1,5 +1,6 @@
 -- One bit of a word that is shifted or joined with others.
 use Rattle.std.proofs.Common.{◌≡◌, ℕ, zero, suc, ◌+◌, ◌-◌, ◌*◌, ◌/◌, ◌%◌, ◌^◌, ◌<◌, ◌≤◌, Bool, true, false, not, ◌&&◌, ◌||◌, ◌==◌, if◌then◌else◌, refl, sym, ap, ap₂, ◌∙◌, subst, arith, inl, inr}
+use mathlib.Core.Bool.{or-false}
 use lib.Bits.{bit_and, bit_or}
 use Rattle.std.proofs.lemmas.Bool.{cases_lt}
 use Rattle.std.proofs.lemmas.Bool.Decides.{nat_tests}
@@ -8,7 +9,7 @@ use Rattle.gas_geom.specs.Gas.{Back, On, holds}
 use Rattle.gas_geom.proofs.Holds.{holds-and, holds-or, holds-not, holds-above}
 use Rattle.gas_rows.specs.Moved.{moved_bit}
 use Rattle.gas_rows.specs.Shift.{streamed_bit}
-use Rattle.gas_rows.proofs.Bits.{holds-shl_high, holds-shl_low, holds-shr, or-false}
+use Rattle.gas_rows.proofs.Bits.{holds-shl_high, holds-shl_low, holds-shr}
 
 -- `(word << 1) | (before >> 63)`
 pub holds-from_west : (before word after b : ℕ) → before < 2 ^ 64 → b < 64 → holds (bit_or (word * 2 ^ 1 % 2 ^ 64) (before / 2 ^ 63)) b ≡ moved_bit Back before word after b

@@ -1,8 +1,7 @@
 -- The cells of one direction as they are shifted word by word, where the columns are periodic.
-use Rattle.std.proofs.Common.{◌≡◌, ℕ, zero, suc, ◌+◌, ◌-◌, ◌*◌, ◌/◌, ◌%◌, ◌<◌, ◌≤◌, Bool, true, false, ◌&&◌, nat_le, if◌then◌else◌, cond, List, length, get_or, set, eqb, sym, ap, ap₂, ◌∙◌, arith, inl, inr, eq-eqb, ne_eqb}
+use Rattle.std.proofs.Common.{◌≡◌, ℕ, zero, suc, ◌+◌, ◌-◌, ◌*◌, ◌/◌, ◌%◌, ◌<◌, ◌≤◌, Bool, true, false, ◌&&◌, nat_le, if◌then◌else◌, cond, List, length, get_or, set, sym, ap, ap₂, ◌∙◌, arith, inl, inr, eq-eqb, ne_eqb}
 use Rattle.std.proofs.lemmas.Bool.{cases_eq, cases_lt}
 use Rattle.std.proofs.lemmas.Bool.Decides.{nat_tests}
-use Rattle.std.proofs.lemmas.List.{get_or-set_same, get_or-set_other}
 use Rattle.std.proofs.Math.Nat.{mod-eq_of_lt, add-mod_right}
 use Rattle.std.proofs.Math.Dec.{eqb-suc-zero}
 use Rattle.gas_geom.specs.Gas.{Move, Back, Stay, On, holds}
@@ -10,27 +9,11 @@ use Rattle.gas_geom.specs.Neighbour.{column_after}
 use Rattle.gas_rows.specs.Words.{words_in, bit}
 use Rattle.gas_rows.specs.Moved.{moved_bit}
 use Rattle.gas_rows.specs.Shift.{streamed_bit}
+use Rattle.gas_rows.proofs.Masks.{bit-at, bit-set}
 
 -- the last word of a row
 pub last_word : (width last : ℕ) → 1 ≤ width → last + 1 ≡ words_in width → last ≡ (width - 1) / 64
 last_word width last h e = omega arith
-
-pub bit-set : (words : List ℕ) (j v x : ℕ) → j < length words → bit (set words j v) x ≡ cond (eqb (x / 64) j) (holds v (x % 64)) (bit words x)
-unfolding bit
-bit-set words j v x h =
-    elim (cases_eq (x / 64) j) [
-      | inl e ↦ ap (λ k. holds (get_or (set words j v) k 0) (x % 64)) e ∙ ap (λ w. holds w (x % 64)) (get_or-set_same words j v 0 h)
-          ∙ sym (ap (λ b. cond b (holds v (x % 64)) (holds (get_or words (x / 64) 0) (x % 64))) (eq-eqb (x / 64) j e))
-      | inr ne ↦ ap (λ w. holds w (x % 64)) (get_or-set_other words j (x / 64) v 0 ne)
-          ∙ sym (ap (λ b. cond b (holds v (x % 64)) (holds (get_or words (x / 64) 0) (x % 64))) (ne_eqb (x / 64) j ne))
-    ]
-
-pub bit_at_place : (words : List ℕ) (j b : ℕ) → b < 64 → bit words (64 * j + b) ≡ holds (get_or words j 0) b
-unfolding bit
-bit_at_place words j b h =
-    let q : (64 * j + b) / 64 ≡ j = omega arith in
-    let r : (64 * j + b) % 64 ≡ b = omega arith in
-    ap₂ (λ k i. holds (get_or words k 0) i) q r
 
 -- word j of the cells that P tells, and the cells before and after it
 pub record IsWord (P : ℕ → Bool) (width j before word after : ℕ) : Type 0 where
@@ -65,12 +48,12 @@ module _ (plane : List ℕ) (width : ℕ) (least : 1 ≤ width) where
   before_first last before e top =
       let whole : 64 * last + (width - 1) % 64 ≡ width - 1 = omega arith in
       let none : 64 * 0 + width - 1 ≡ width - 1 = omega arith in
-      top ∙ sym (bit_at_place plane last ((width - 1) % 64) (omega arith)) ∙ ap (bit plane) (whole ∙ sym (ap (λ k. k % width) none ∙ mod-eq_of_lt (omega arith)))
+      top ∙ sym (bit-at plane last ((width - 1) % 64) (omega arith)) ∙ ap (bit plane) (whole ∙ sym (ap (λ k. k % width) none ∙ mod-eq_of_lt (omega arith)))
 
   pub before_next : (j : ℕ) → 64 * (j + 1) < width → holds (get_or plane j 0) 63 ≡ bit plane ((64 * (j + 1) + width - 1) % width)
   before_next j h =
       let back : 64 * (j + 1) + width - 1 ≡ 64 * j + 63 + width = omega arith in
-      sym (bit_at_place plane j 63 (omega arith))
+      sym (bit-at plane j 63 (omega arith))
       ∙ ap (bit plane) (sym (ap (λ k. k % width) back ∙ add-mod_right (64 * j + 63) width ∙ mod-eq_of_lt (omega arith)))
 
   pub before_here : (j : ℕ) → 1 ≤ j → 64 * j < width → holds (get_or plane (j - 1) 0) 63 ≡ bit plane ((64 * j + width - 1) % width)
@@ -79,13 +62,13 @@ module _ (plane : List ℕ) (width : ℕ) (least : 1 ≤ width) where
       before_next (j - 1) (omega arith) ∙ ap (λ k. bit plane ((64 * k + width - 1) % width)) e
 
   within : (j b : ℕ) → b < 64 → 64 * j + b < width → holds (get_or plane j 0) b ≡ bit plane ((64 * j + b) % width)
-  within j b h lt = sym (bit_at_place plane j b h) ∙ ap (bit plane) (sym (mod-eq_of_lt lt))
+  within j b h lt = sym (bit-at plane j b h) ∙ ap (bit plane) (sym (mod-eq_of_lt lt))
 
   -- after the last cell comes the first
   around : (k : ℕ) → k ≡ width → holds (get_or plane 0 0) 0 ≡ bit plane (k % width)
   around k e =
       let whole : k ≡ 0 + width = omega arith in
-      sym (bit_at_place plane 0 0 (omega arith)) ∙ ap (bit plane) (sym (ap (λ n. n % width) whole ∙ add-mod_right 0 width ∙ mod-eq_of_lt (omega arith)))
+      sym (bit-at plane 0 0 (omega arith)) ∙ ap (bit plane) (sym (ap (λ n. n % width) whole ∙ add-mod_right 0 width ∙ mod-eq_of_lt (omega arith)))
 
   pub inner_word : (j before : ℕ) → 64 * (j + 1) < width → holds before 63 ≡ bit plane ((64 * j + width - 1) % width)
       → IsWord (bit plane) width j before (get_or plane j 0) (get_or plane (j + 1) 0)

@@ -1,32 +1,9 @@
--- Sums over the numbers below n: equal terms, a double sum in either order, and a sum block by block.
-use Rattle.std.proofs.Common.{◌≡◌, ℕ, zero, suc, ◌+◌, ◌*◌, ◌<◌, ◌≤◌, List, length, get_or, take, ap, ◌∙◌, sym, refl, arith}
+-- Sums over the numbers below n, block by block, and over a list.
+use Rattle.std.proofs.Common.{◌≡◌, ℕ, zero, suc, ◌+◌, ◌*◌, ◌≤◌, List, length, get_or, take, ap, ◌∙◌, sym, refl, arith}
 use Rattle.std.specs.Prelude.{sum_by}
 use Rattle.std.proofs.lemmas.List.{take_all}
 use Rattle.std.proofs.lemmas.List.Sums.{sum_by_more}
 use Rattle.gas_geom.specs.Gas.{sum_below}
-
-pub sum_below-cong : (n : ℕ) (f g : ℕ → ℕ) → ((k : ℕ) → k < n → f k ≡ g k) → sum_below n f ≡ sum_below n g
-sum_below-cong zero f g e = refl
-sum_below-cong (suc n) f g e =
-    let rest : sum_below n f ≡ sum_below n g = sum_below-cong n f g (λ k h. e k (omega arith)) in
-    let last : f n ≡ g n = e n (omega arith) in
-    omega arith
-
-pub sum_below-zero : (n : ℕ) → sum_below n (λ _. 0) ≡ 0
-sum_below-zero zero = refl
-sum_below-zero (suc n) = omega (arith, sum_below-zero n)
-
-pub sum_below-add : (n : ℕ) (f g : ℕ → ℕ) → sum_below n (λ k. f k + g k) ≡ sum_below n f + sum_below n g
-sum_below-add zero f g = refl
-sum_below-add (suc n) f g = omega (arith, sum_below-add n f g)
-
--- a double sum in either order
-pub sum_below-swap : (m n : ℕ) (f : ℕ → ℕ → ℕ) →
-    sum_below m (λ i. sum_below n (λ j. f i j)) ≡ sum_below n (λ j. sum_below m (λ i. f i j))
-sum_below-swap zero n f = sym (sum_below-zero n)
-sum_below-swap (suc m) n f =
-    ap (λ v. v + sum_below n (λ j. f m j)) (sum_below-swap m n f)
-    ∙ sym (sum_below-add n (λ j. sum_below m (λ i. f i j)) (λ j. f m j))
 
 -- the terms below n, and those from n on
 pub sum_below-split : (n m : ℕ) (f : ℕ → ℕ) → sum_below (n + m) f ≡ sum_below n f + sum_below m (λ k. f (n + k))

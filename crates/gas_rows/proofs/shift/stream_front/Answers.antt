@@ -2,7 +2,8 @@ use Rattle.std.proofs.Common.{ℕ, ◌+◌, ◌-◌, ◌*◌, ◌<◌, length, l
 use Rattle.gas_geom.specs.Neighbour.{column_after}
 use Rattle.gas_rows.specs.Words.{bit}
 use Rattle.gas_rows.specs.Shift.{streamed_bit}
-use Rattle.gas_rows.proofs.Shifts.{moved_bit-is, before_first, before_here, inner_word, one_more_word, bit_at_place, streamed_bit-at}
+use Rattle.gas_rows.proofs.Masks.{bit-at}
+use Rattle.gas_rows.proofs.Shifts.{moved_bit-is, before_first, before_here, inner_word, one_more_word, streamed_bit-at}
 use Rattle.gas_rows.proofs.shift.stream_front.Goals as goal
 
 pub loop-j-init : goal.loop-j-init
@@ -18,8 +19,8 @@ loop-j-init g c =
     (before_first c.args.from.now width c.requires.some_cells (length c.args.out.now - 1) c.to_top-before.result (omega arith) c.to_top-before.ensures)) b h lt)
     (c.moved-first_turned.ensures b h ∙ moved_bit-is (bit c.args.met.now) width 0 _ _ _ source (inner_word c.args.met.now width c.requires.some_cells 0 c.to_top-before_met.result inner
     (before_first c.args.met.now width c.requires.some_cells (length c.args.out.now - 1) c.to_top-before_met.result (omega arith) c.to_top-before_met.ensures)) b h lt)
-    (bit_at_place c.args.back.now 0 b h)
-    (bit_at_place c.args.own.now 0 b h))
+    (bit-at c.args.back.now 0 b h)
+    (bit-at c.args.own.now 0 b h))
     (λ x below inside. absurd (omega arith))
 
 pub loop-j-preserved : goal.loop-j-preserved
@@ -36,6 +37,6 @@ loop-j-preserved g c =
     (before_here c.args.from.now width c.requires.some_cells j (omega arith) (omega arith))) b h lt)
     (c.moved-turned.ensures b h ∙ moved_bit-is (bit c.args.met.now) width j _ _ _ source (inner_word c.args.met.now width c.requires.some_cells j _ inner
     (before_here c.args.met.now width c.requires.some_cells j (omega arith) (omega arith))) b h lt)
-    (bit_at_place c.args.back.now j b h)
-    (bit_at_place c.args.own.now j b h))
+    (bit-at c.args.back.now j b h)
+    (bit-at c.args.own.now j b h))
     c.loop-j.invariant
