@@ -1,6 +1,6 @@
 -- The queue of a feeder through its steps, from a lattice to a lattice.
-use Rattle.std.proofs.Common.{◌≡◌, ℕ, suc, ◌+◌, ◌-◌, ◌*◌, ◌%◌, ◌^◌, ◌<◌, ◌≤◌, Bool, true, false, if◌then◌else◌, List, [], ◌∷◌, ◌++◌, length, get_or, ap, ◌∙◌, sym, refl, subst, arith, ⊎_elim}
-use Rattle.std.proofs.lemmas.Bool.{cases_lt, cases_Bool, both_ways}
+use Rattle.std.proofs.Common.{◌≡◌, ℕ, suc, ◌+◌, ◌-◌, ◌*◌, ◌%◌, ◌^◌, ◌<◌, ◌≤◌, Bool, true, if◌then◌else◌, List, [], ◌∷◌, ◌++◌, length, get_or, ap, ◌∙◌, sym, refl, subst, arith, ⊎_elim}
+use Rattle.std.proofs.lemmas.Bool.{cases_lt}
 use Rattle.std.proofs.lemmas.List.{length-append, get_or_append_left, get_or_push, get_or_past}
 use Rattle.std.proofs.lemmas.List.FromFn.{get_or-map-range_with_len, length-map-range_with_len}
 use Rattle.std.proofs.lemmas.Nat.{pow_pos}
@@ -58,19 +58,13 @@ at_push P rows row before last past i =
     (cases_lt (length rows) i))
     (cases_lt i (length rows))
 
--- what holds of 0, and of each cell that is not solid, holds of each cell of the row with its solid cells empty
-at_emptied : (P : ℕ → Type 0) (c : ChannelModel) (y : ℕ) (row : RowModel) (x : ℕ) → P 0 → (is_solid c x y ≡ false → P (get_or row x 0)) →
-    P (get_or (emptied_row c y row) x 0)
-at_emptied P c y row x none fluid =
+-- a solid cell is empty in the row with its solid cells empty
+emptied-solid : (c : ChannelModel) (y : ℕ) (row : RowModel) (x : ℕ) → is_solid c x y ≡ true → get_or (emptied_row c y row) x 0 ≡ 0
+emptied-solid c y row x solid =
     ⊎_elim
     (λ (h : x < length row).
-    subst P (sym (get_or-map-range_with_len value 0 (length row) x x 0 h (omega arith)))
-    (⊎_elim
-    (λ (solid : is_solid c x y ≡ true). subst P (sym (ap (λ (b : Bool). if b then 0 else get_or row x 0) solid)) none)
-    (λ (free : is_solid c x y ≡ false). subst P (sym (ap (λ (b : Bool). if b then 0 else get_or row x 0) free)) (fluid free))
-    (cases_Bool (is_solid c x y))))
-    (λ (h : length row ≤ x).
-    subst P (sym (get_or_past (emptied_row c y row) x 0 (omega (arith, length-map-range_with_len value 0 (length row))))) none)
+    get_or-map-range_with_len value 0 (length row) x x 0 h (omega arith) ∙ ap (λ (b : Bool). if b then 0 else get_or row x 0) solid)
+    (λ (h : length row ≤ x). get_or_past (emptied_row c y row) x 0 (omega (arith, length-map-range_with_len value 0 (length row))))
     (cases_lt x (length row))
   where
     value : ℕ → ℕ
@@ -129,7 +123,7 @@ queue_put gas c row rows old_put to_put to_take next q one first = record {
 -- the next row came back
 pub queue_take : (gas : Rules) (c : ChannelModel) (rows : List RowModel) (to_put old_take to_take old_next next : ℕ) (row : RowModel) →
     IsQueue gas c rows to_put old_take old_next → old_take ≡ to_take + 1 → next ≡ (old_next + 1) % c.height → old_next < c.height →
-    length row ≡ c.width → ((x : ℕ) → get_or row x 0 < 2 ^ gas.dirs) → IsQueue gas c (rows ++ emptied_row c old_next row ∷ []) to_put to_take next
+    length row ≡ c.width → ((x : ℕ) → get_or (emptied_row c old_next row) x 0 < 2 ^ gas.dirs) → IsQueue gas c (rows ++ emptied_row c old_next row ∷ []) to_put to_take next
 queue_take gas c rows to_put old_take to_take old_next next row q one follows below wide sets = record {
   long = omega (arith, q.long, longer);
   place =
@@ -142,7 +136,7 @@ queue_take gas c rows to_put old_take to_take old_next next row q one follows be
       i (omega (arith, longer));
   sets = λ x i. at_push (λ k r. get_or r x 0 < 2 ^ gas.dirs) rows (emptied_row c old_next row)
       (λ k _. q.sets x k)
-      (at_emptied (λ s. s < 2 ^ gas.dirs) c old_next row x (pow_pos gas.dirs) (λ _. sets x))
+      (sets x)
       (λ k _. pow_pos gas.dirs)
       i;
   empty = λ x y h solid. at_push (λ k r. (y + to_put) % c.height ≡ k → get_or r x 0 ≡ 0) rows (emptied_row c old_next row)
@@ -156,9 +150,7 @@ queue_take gas c rows to_put old_take to_take old_next next row q one follows be
     longer = length-append rows (emptied_row c old_next row ∷ [])
 
     last : (x y : ℕ) → is_solid c x y ≡ true → y ≡ old_next → get_or (emptied_row c old_next row) x 0 ≡ 0
-    last x y solid here =
-        at_emptied (λ s. s ≡ 0) c old_next row x refl
-        (λ free. absurd (both_ways (is_solid c x old_next) free (sym (ap (λ (k : ℕ). is_solid c x k) here) ∙ solid)))
+    last x y solid here = emptied-solid c old_next row x (sym (ap (λ (k : ℕ). is_solid c x k) here) ∙ solid)
 
 -- where nothing is left to put or take the queue is a lattice
 pub queue_closed : (gas : Rules) (c : ChannelModel) (rows : List RowModel) (to_put to_take next : ℕ) → IsQueue gas c rows to_put to_take next →

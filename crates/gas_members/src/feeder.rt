@@ -21,7 +21,8 @@ use std::marker::Model;
 fn empty_solid<G: Gas>(channel: &Channel, y: u32, row: &mut Row<G>)
     requires row { y < channel.now.height }
     requires wide { length row.old ≡ channel.now.width }
-    ensures { row.new ≡ emptied_row channel.now y row.old }
+    ensures emptied { row.new ≡ emptied_row channel.now y row.old }
+    ensures states { (x : ℕ) → slice_index row.new x < 2 ^ G.rules.dirs }
 {
     row.empty_solid(channel.mask(y));
 }
@@ -168,7 +169,6 @@ impl<G: Gas> Feeder<G> {
         requires owed { self.old.to_put < self.old.to_take }
         requires no_stray { self.old.stray ≡ false }
         requires wide { length row ≡ self.old.channel.width }
-        requires sets { (x : ℕ) → slice_index row x < 2 ^ G.rules.dirs }
         ensures channel { self.new.channel ≡ self.old.channel }
         ensures rows { self.new.rows ≡ self.old.rows ++ emptied_row self.old.channel self.old.next row ∷ [] }
         ensures to_put { self.new.to_put ≡ self.old.to_put }

@@ -213,8 +213,9 @@ impl<G: Gas> Row<G> {
     /// Empties the solid cells. The row and the mask have one width.
     pub fn empty_solid(&mut self, solid: &Mask)
         requires { length solid.now ≡ length self.old }
-        ensures { self.new ≡ row_of (length self.old) (λ x.
+        ensures emptied { self.new ≡ row_of (length self.old) (λ x.
             if slice_index_or solid.now x false then 0 else slice_index self.old x) }
+        ensures states { (x : ℕ) → slice_index self.new x < 2 ^ G.rules.dirs }
     {
         let count = words_for(self.width);
         empty(&mut self.words, count, directions::<G>(), solid.words());

@@ -1,4 +1,5 @@
-use Rattle.std.proofs.Common.{arith, rules, ℕ, ◌≡◌, ◌-◌, ◌+◌, ◌%◌, ◌<◌, ◌≤◌, ◌∙◌, ap, subst, sym}
+use Rattle.std.proofs.Common.{arith, rules, ℕ, ◌≡◌, ◌-◌, ◌+◌, ◌%◌, ◌<◌, ◌≤◌, ◌^◌, ◌∙◌, ap, get_or, subst, sym}
+use Rattle.gas_rows.specs.Row.{RowModel}
 use Rattle.gas_members.specs.Feeder.{FeederModel}
 use Rattle.gas_members.specs.Inner.Queue.{IsQueue}
 use Rattle.gas_members.proofs.Queues.{queue_take, queue_closed}
@@ -15,11 +16,11 @@ queue : (g : Over) (c : After-push_back_reserved g) →
 queue g c =
     let high : c.height.result ≡ c.self.inside.channel.height = c.height.ensures.value ∙ c.self.invariant.height in
     let some : c.self.inside.to_put < c.self.inside.to_take = owed g c in
-    rw (c.push_back_reserved.ensures.items, c.empty_solid.ensures)
+    rw (c.push_back_reserved.ensures.items, c.empty_solid.ensures.emptied)
     (queue_take g.G.Gas.rules c.self.inside.channel c.self.inside.rows.items c.self.inside.to_put c.self.inside.to_take
     (c.self.inside.to_take - 1) c.self.inside.next ((c.self.inside.next + 1) % c.height.result) c.args.row c.self.invariant.queue (omega arith)
     (ap (λ (h : ℕ). (c.self.inside.next + 1) % h) high) c.self.invariant.next_within
-    (c.requires.wide ∙ sym (ap (λ (f : FeederModel). f.channel.width) c.self.view_is)) c.requires.sets)
+    (c.requires.wide ∙ sym (ap (λ (f : FeederModel). f.channel.width) c.self.view_is)) (λ x. subst (λ (row : RowModel). get_or row x 0 < 2 ^ g.G.Gas.rules.dirs) c.empty_solid.ensures.emptied (c.empty_solid.ensures.states x)))
 
 pub invariant_of-self : goal.invariant_of-self
 invariant_of-self g c =

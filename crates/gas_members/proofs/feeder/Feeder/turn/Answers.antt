@@ -1,26 +1,9 @@
-use Rattle.std.proofs.Common.{rules, ◌++◌, ◌∷◌, [], ℕ, List, ◌<◌, ◌≤◌, ◌^◌, ◌∙◌, ap, get_or, sym, subst, refl, arith, ⊎_elim}
-use Rattle.std.proofs.lemmas.Bool.{cases_lt}
-use Rattle.std.proofs.lemmas.List.{get_or_past}
-use Rattle.std.proofs.lemmas.Nat.{pow_pos}
+use Rattle.std.proofs.Common.{rules, ◌++◌, ◌∷◌, [], ◌<◌, ◌∙◌, ap, sym, subst, refl, arith}
 use Rattle.gas_geom.specs.Lattice.{IsLattice}
-use Rattle.gas_rows.specs.Row.{RowModel}
-use Rattle.gas_rows.specs.Words.{words_in}
-use Rattle.gas_rows.specs.Planes.{cells_of}
-use Rattle.gas_rows.proofs.Cells.{get_or-cells, length-cells, state-lt}
 use Rattle.gas_members.specs.Feeder.{FeederModel, HasFed}
 use Rattle.gas_members.proofs.Feeds.{fed_take}
 use Rattle.gas_members.proofs.Queues.{queue_closed}
 use Rattle.gas_members.proofs.feeder.Feeder.turn.Goals as goal
-
--- a row's cells are sets of the gas's directions
-cell-lt : (d width : ℕ) (words : List ℕ) (x : ℕ) → get_or (cells_of d width words) x 0 < 2 ^ d
-cell-lt d width words x =
-    ⊎_elim
-    (λ (inside : x < width).
-    subst (λ s. s < 2 ^ d) (sym (get_or-cells d width words x inside)) (state-lt words (words_in width) d x))
-    (λ (past : width ≤ x).
-    subst (λ s. s < 2 ^ d) (sym (get_or_past (cells_of d width words) x 0 (omega (arith, length-cells d width words)))) (pow_pos d))
-    (cases_lt x width)
 
 pub returns-clause-took : goal.returns-clause-took
 returns-clause-took g c = λ _.
@@ -37,9 +20,6 @@ returns-clause-took g c = λ _.
           c.accept.ensures.to_take c.accept.ensures.next c.accept.ensures.stray some passes rows gave took
           (subst (λ (f : FeederModel). HasFed f passes rows gave took) (sym rests.1) fed)),
     )
-
-pub accept-requires-clause-sets : goal.accept-requires-clause-sets
-accept-requires-clause-sets g c = λ x. subst (λ (row : RowModel). get_or row x 0 < 2 ^ g.G.Gas.rules.dirs) c.row.view_is (cell-lt g.G.Gas.rules.dirs _ _ x)
 
 pub returns-then-self-eq0-clause-whole : goal.returns-then-self-eq0-clause-whole
 returns-then-self-eq0-clause-whole g c = λ closed.

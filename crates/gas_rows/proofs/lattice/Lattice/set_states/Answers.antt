@@ -12,7 +12,7 @@ invariant_of-self g c =
     let iny : y < channel.height = subst (λ (l : LatticeModel). y < l.channel.height) (sym c.self.view_is) c.requires.row in
     let wide : length states ≡ channel.width = c.requires.wide ∙ ap (λ (l : LatticeModel). l.channel.width) (sym c.self.view_is) in
     let row : c.empty_solid.new.self ≡ row_of channel.width (fluid_state channel y states) =
-    c.empty_solid.ensures
+    c.empty_solid.ensures.emptied
     ∙ ap (λ (r : List ℕ). row_of (length r) (λ x. if get_or c.mask.result.now x false then 0 else get_or r x 0)) c.copy_from.ensures
     ∙ ap (λ (m : List Bool). row_of (length states) (λ x. if get_or m x false then 0 else get_or states x 0)) c.mask.ensures.row
     ∙ ap (λ n. row_of n (fluid_state channel y states)) wide in

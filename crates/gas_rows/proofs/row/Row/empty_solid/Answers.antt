@@ -1,8 +1,9 @@
-use Rattle.std.proofs.Common.{◌≡◌, ◌/◌, ◌<◌, ℕ, Bool, if◌then◌else◌, List, length, get_or, refl, ap, ◌∙◌, sym, subst}
+use Rattle.std.proofs.Common.{◌≡◌, ◌/◌, ◌^◌, ◌<◌, ℕ, Bool, if◌then◌else◌, List, length, get_or, refl, ap, ◌∙◌, sym, subst}
 use Rattle.std.proofs.lemmas.List.{with_items_is}
 use Rattle.gas_rows.specs.Words.{words_in, bit}
 use Rattle.gas_rows.specs.Planes.{state, cells_of}
 use Rattle.gas_rows.specs.Inside.{ArePlanes}
+use Rattle.gas_rows.proofs.Cells.{cells-lt}
 use Rattle.gas_rows.proofs.Rows.{wide, row_of-same}
 use Rattle.gas_rows.proofs.Collisions.{planes-collided, row-collided}
 use Rattle.gas_rows.proofs.row.Row.empty_solid.Goals as goal
@@ -29,9 +30,9 @@ invariant_of-self g c =
     (subst (λ e. Emptied new c.self.inside.words.items n e c.words.result.now) c.directions.ensures.value
     (subst (λ ws. Emptied new ws n c.directions.result c.words.result.now) c.deref_mut.ensures.value c.empty.ensures)))
 
-pub returns : goal.returns
+pub returns-clause-emptied : goal.returns-clause-emptied
 unfolding Emptied
-returns g c =
+returns-clause-emptied g c =
     let d = g.G.Gas.rules.dirs in
     let new = c.empty.new.words in
     let n = c.words_for-count.result in
@@ -42,3 +43,10 @@ returns g c =
     (subst (λ e. Emptied new c.self.inside.words.items n e c.words.result.now) c.directions.ensures.value
     (subst (λ ws. Emptied new ws n c.directions.result c.words.result.now) c.deref_mut.ensures.value c.empty.ensures))
     ∙ row_of-same (length c.args.self.now) _ _ (λ x h. ap (λ (s : Bool). if s then 0 else get_or c.args.self.now x 0) (c.words.ensures.bits x))
+
+pub returns-clause-states : goal.returns-clause-states
+returns-clause-states g c x =
+    let new = c.empty.new.words in
+    let same = with_items_is c.self.inside.words new (c.empty.auto.words ∙ c.deref_mut.ensures.len) in
+    subst (λ ws. get_or (cells_of g.G.Gas.rules.dirs c.self.inside.width ws) x 0 < 2 ^ g.G.Gas.rules.dirs) (sym same)
+    (cells-lt g.G.Gas.rules.dirs c.self.inside.width new x)
