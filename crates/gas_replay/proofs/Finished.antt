@@ -6,10 +6,8 @@ use Rattle.std.proofs.lemmas.Bool.{eq-eqb, ne_eqb, and_from, and_right}
 use Rattle.std.proofs.Math.Nat.{mul-le-mul_right}
 use Rattle.std.proofs.lemmas.Grind.{div_ceil_times}
 use Rattle.gas_geom.specs.Gas.{Rules, IsGas}
-use Rattle.gas_geom.specs.Channel.{ChannelModel}
 use Rattle.gas_geom.specs.Lattice.{LatticeModel}
 use Rattle.gas_stage.specs.Evolution.{lattice_after}
-use Rattle.gas_rows.specs.Row.{RowModel}
 use Rattle.gas_line.specs.Line.{State, is_done}
 use Rattle.gas_line.specs.Pass.{PassModel, line_of, rows_on, first_pass}
 use Rattle.gas_members.specs.Belt.{BeltModel}

@@ -1,5 +1,5 @@
 -- The rows about a row, as streaming reads them.
-use Rattle.std.specs.Prelude.{◌≡◌, ℕ, ◌+◌, ◌-◌, ◌<◌, false, List, length, slice_index}
+use Rattle.std.specs.Prelude.{◌≡◌, ℕ, ◌+◌, ◌-◌, ◌<◌, false, List, slice_index}
 use Rattle.gas_geom.specs.Channel.{ChannelModel, is_solid}
 
 -- a row is row y of the lattice `at` at its fluid cells; of solid cells nothing is said
