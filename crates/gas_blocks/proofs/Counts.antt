@@ -1,10 +1,9 @@
 -- The cells of a block counted direction by direction make the block of its cells one after another.
 use Rattle.std.proofs.Common.{◌≡◌, ◌∙◌, ap, ap₂, sym, true, false, Bool, cond, ℕ, zero, suc, ◌+◌, ◌-◌, ◌*◌, ◌<◌, ◌≤◌, refl, pos, negsuc, ◌+ℤ◌, ◌*ℤ◌, neg_ℤ, ℤ, arith, List, [], ◌∷◌, fold, length}
 use Rattle.std.specs.Prelude.{if◌then◌else◌, not}
-use Rattle.std.specs.List.{count_by, range_with_len}
+use Rattle.std.specs.List.{count_by}
 use Rattle.std.proofs.lemmas.Int.{ints}
 use Rattle.std.proofs.Math.Nat.{mul-add, mul-le-mul_right, suc-mul}
-use Rattle.std.proofs.lemmas.List.FromFn.{length-range_with_len}
 use Rattle.std.proofs.lemmas.List.Sums.{sum_by-cons, count_by-le-length}
 use Rattle.gas_geom.specs.Gas.{Rules, IsGas, IsSmall, holds, sum_below, sum_held}
 use Rattle.gas_geom.specs.declared.size.TheConstants.{MOST_SIDE}
@@ -117,10 +116,6 @@ counted-none gas solid state b start xs p q r s x y =
 pub particles_made : (gas : Rules) (b : Block) (i count many : ℕ) (x y : ℤ) → many ≡ count → x ≡ b.px +ℤ (gas.momentum i).0 *ℤ pos count → y ≡ b.py +ℤ (gas.momentum i).1 *ℤ pos count
     → let made : Block = record { col = b.col; row = b.row; fluid = b.fluid; particles = b.particles + many; px = x; py = y } in made ≡ plus_particles gas b i count
 particles_made gas b i count many x y m e n = rw (m, e, n) refl
-
--- how many cells of a row may hold a direction
-pub holding-le : (f : ℕ → Bool) (from n : ℕ) → count_by f (range_with_len from n) ≤ n
-holding-le f from n = omega (arith, count_by-le-length f (range_with_len from n), length-range_with_len from n)
 
 -- those of one direction more
 pub counted-more : (gas : Rules) (solid : ℕ → Bool) (state : ℕ → ℕ) (b : Block) (xs : List ℕ) (n : ℕ) →

@@ -1,4 +1,3 @@
 pub mod Counts
-pub mod Particles
 pub mod Ranges
 pub mod Tallies

@@ -1,5 +1,5 @@
 -- Lemmas on ranges of numbers, the parts that they fall into, and lists that grow.
-use Rattle.std.proofs.Common.{◌≡◌, ◌∙◌, ap, sym, cond, true, false, Bool, ℕ, zero, suc, ◌+◌, ◌-◌, ◌*◌, ◌/◌, ◌<◌, ◌≤◌, min, refl, add-zero, zero-add, suc-add, append_assoc, arith, List, [], ◌∷◌, ◌++◌, map, length, take, drop, get_or, append-nil, ap₂, length-append}
+use Rattle.std.proofs.Common.{◌≡◌, ◌∙◌, ap, sym, cond, true, false, Bool, ℕ, zero, suc, ◌+◌, ◌-◌, ◌*◌, ◌/◌, ◌<◌, ◌≤◌, min, refl, zero-add, append_assoc, arith, List, [], ◌∷◌, ◌++◌, map, length, take, drop, get_or, append-nil, ap₂, length-append}
 use Rattle.std.specs.Prelude.{◌==◌, filter}
 use Rattle.std.specs.Int.{div_ceil}
 use Rattle.std.specs.List.{range_with_len, flat_map}
@@ -12,13 +12,8 @@ use Rattle.std.proofs.lemmas.List.{get_or-append_right, get_or-drop, length-map,
 use Rattle.std.proofs.Math.Seq.{take-append_seam, drop-append_seam}
 use Rattle.std.proofs.lemmas.List.Edits.{map_over_more}
 use Rattle.std.proofs.Math.ListN.{set}
+use Rattle.gas_rows.proofs.Ones.{range-append}
 use Rattle.gas_blocks.specs.Blocks.{part}
-
--- two ranges, one after the other
-pub range-append : (a m n : ℕ) → range_with_len a (m + n) ≡ range_with_len a m ++ range_with_len (a + m) n
-range-append a zero n = ap (λ k. range_with_len a k) (zero-add n) ∙ ap (λ b. range_with_len b n) (sym (add-zero a))
-range-append a (suc m) n =
-    ap (range_with_len a) (suc-add m n) ∙ ap (λ xs. a ∷ xs) (range-append (a + 1) m n ∙ ap (λ b. range_with_len (a + 1) m ++ range_with_len b n) (omega arith))
 
 filter_none : (p : ℕ → Bool) (a n : ℕ) → ((i : ℕ) → a ≤ i → i < a + n → p i ≡ false) → filter p (range_with_len a n) ≡ []
 filter_none p a zero h = refl

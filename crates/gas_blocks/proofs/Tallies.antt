@@ -15,11 +15,12 @@ use Rattle.gas_geom.specs.Gas.{Rules, IsGas, IsSmall, holds, sum_held, particles
 use Rattle.gas_geom.specs.declared.size.TheConstants.{MOST_SIDE}
 use Rattle.gas_geom.specs.Channel.{is_solid}
 use Rattle.gas_geom.specs.Lattice.{LatticeModel, cell}
-use Rattle.gas_blocks.proofs.Particles.{held-le}
+use Rattle.gas_rows.proofs.Counting.{bits-le}
+use Rattle.gas_rows.proofs.Ones.{range-append}
 use Rattle.gas_blocks.specs.Blocks.{part, cells_of, block_of_cells, strip_of}
 use Rattle.gas_blocks.specs.Tally.{HasRoom, most_cells, empty_block, plus_cell, plus_cell_of, plus_row}
 use Rattle.gas_blocks.specs.declared.blocks.Block.{Block}
-use Rattle.gas_blocks.proofs.Ranges.{range-append, part-range, part-short, begins-within}
+use Rattle.gas_blocks.proofs.Ranges.{part-range, part-short, begins-within}
 
 -- a number from -m to m
 pub record Within (m : ℕ) (z : ℤ) : Type 0 where
@@ -59,7 +60,7 @@ HasRoom-cell gas laws b solid s n h =
     let m = momentum_within gas laws s in
     record {
       fluid = omega (arith, h.fluid, solid_counts solid);
-      particles = omega (arith, h.particles, held-le gas.dirs s, laws.few_dirs);
+      particles = omega (arith, h.particles, bits-le gas.dirs s, laws.few_dirs);
       west = omega (arith, ints, h.west, m.0.low);
       east = omega (arith, ints, h.east, m.0.high);
       south = omega (arith, ints, h.south, m.1.low);

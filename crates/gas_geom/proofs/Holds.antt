@@ -43,7 +43,8 @@ pub holds-above : (s k i : ℕ) → s < 2 ^ k → k ≤ i → holds s i ≡ fals
 holds-above s k i h le = ap (λ x. x == 1) (bit_at_above s k i h le)
 
 -- ---- the set of the directions for which f holds
-one_more : (b : Bool) (a p q : ℕ) → a < p → q ≡ p * 2 → a + (if b then p else 0) < q
+-- one direction more, or not
+pub one_more : (b : Bool) (a p q : ℕ) → a < p → q ≡ p * 2 → a + (if b then p else 0) < q
 one_more true a p q lt e = omega arith
 one_more false a p q lt e = omega arith
 

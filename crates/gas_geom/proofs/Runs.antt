@@ -8,7 +8,7 @@ use Rattle.std.proofs.lemmas.Nat.{pow_pos}
 use Rattle.gas_geom.specs.Gas.{Rules, IsGas}
 use Rattle.gas_geom.specs.Channel.{ChannelModel, is_solid}
 use Rattle.gas_geom.specs.Lattice.{cell, row_of, rows_of, IsLattice, arriving, collided, streamed, set_of, next, generation, count}
-use Rattle.gas_geom.proofs.Sets.{set_of-lt}
+use Rattle.gas_geom.proofs.Holds.{set_of-lt}
 use Rattle.gas_geom.proofs.Number.{count-next}
 
 -- what holds of 0 and of each cell holds of every cell of rows that are made by cells

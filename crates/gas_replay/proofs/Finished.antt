@@ -40,9 +40,9 @@ module _ (gas : Rules) (p : PassModel) (f : FeederModel) (ws : List WorkerModel)
       (eq-eqb (length (now.put 0)) (length (rows_on gas p 0)) (omega (arith, high, over, fed.puts, fed.takes, fed.behind)))
       (eq-eqb (length (now.taken p.plan.stages)) (length (rows_on gas p 0)) (omega (arith, high, over, fed.takes)))
 
-  open_not_done : (f.to_take ≡ 0 → ⊥) → is_done (line_of gas p) now ≡ false
+  pub unfinished : (f.to_take ≡ 0 → ⊥) → is_done (line_of gas p) now ≡ false
   unfolding is_done
-  open_not_done left =
+  unfinished left =
       let fed = sh.fed in
       and_right (eqb (length (now.put 0)) (length (rows_on gas p 0))) (eqb (length (now.taken p.plan.stages)) (length (rows_on gas p 0)))
       (ne_eqb (length (now.taken p.plan.stages)) (length (rows_on gas p 0)) (λ e. left (omega (arith, high, e, fed.takes))))
@@ -61,9 +61,6 @@ module _ (gas : Rules) (p : PassModel) (f : FeederModel) (ws : List WorkerModel)
 
   pub finished : f.to_take ≡ 0 → (is_done (line_of gas p) now ≡ true) × (f.rows ≡ rows_on gas p p.plan.stages)
   finished over = (closed_done over, holds_last over)
-
-  pub unfinished : (f.to_take ≡ 0 → ⊥) → is_done (line_of gas p) now ≡ false
-  unfinished left = open_not_done left
 
 -- a plan that needs no more than one pass has a stage for each generation
 pub one_pass : (generations stages : ℕ) → 0 < stages → passes_of generations stages ≤ 1 → generations ≤ stages

@@ -1,8 +1,8 @@
 -- What the checks say of an area, and its lattice step by step.
-use Rattle.std.proofs.Common.{◌≡◌, ℕ, ◌<◌, Bool, true, false, not, ◌&&◌, List, map, length, get_or, ℤ, pos, ◌≤ℤ◌, ◌<ℤ◌, codes, ap, ap₂, sym, ◌∙◌, refl, subst, arith, if◌then◌else◌}
+use Rattle.std.proofs.Common.{◌≡◌, ℕ, ◌<◌, Bool, true, false, ◌&&◌, List, map, length, get_or, ℤ, pos, ◌≤ℤ◌, ◌<ℤ◌, codes, ap, ap₂, sym, ◌∙◌, refl, subst, arith, if◌then◌else◌}
 use Rattle.std.specs.Prelude.{int_le, int_lt, All}
 use Rattle.std.specs.List.{list_all}
-use Rattle.std.proofs.lemmas.Bool.{and_parts}
+use Rattle.std.proofs.lemmas.Bool.{and_parts, not-true}
 use Rattle.std.proofs.lemmas.Int.{ints}
 use Rattle.std.proofs.lemmas.List.{length-map, get_or-map}
 use Rattle.std.proofs.lemmas.List.Sums.{AllPass-from_list_all}
@@ -118,10 +118,6 @@ fits-inside e r sized held =
       bottom = omega (arith, ints);
     }
 
-not_true : (b : Bool) → not b ≡ true → b ≡ false
-not_true true e = sym e
-not_true false e = refl
-
 placed-can : (states : ℕ) (e : Extent) (solid : List Data) (p : Placement) (at : ℕ → ℕ → ℕ) → is_extent MOST_SIDE e ≡ true → is_placed states e solid p ≡ true
     → CanPlace states (lattice_of (nat_abs e.width) (nat_abs e.height) (λ u v. is_covered solid (pos u) (pos v)) at).channel p
 placed-can states e solid p at sized held =
@@ -140,7 +136,7 @@ placed-can states e solid p at sized held =
     let bottom = int_lt-true p.y e.height y.1 in
     let x_is : pos (nat_abs p.x) ≡ p.x = omega (arith, ints) in
     let y_is : pos (nat_abs p.y) ≡ p.y = omega (arith, ints) in
-    let free : is_covered solid (pos (nat_abs p.x)) (pos (nat_abs p.y)) ≡ false = ap₂ (is_covered solid) x_is y_is ∙ not_true _ second.1 in
+    let free : is_covered solid (pos (nat_abs p.x)) (pos (nat_abs p.y)) ≡ false = ap₂ (is_covered solid) x_is y_is ∙ not-true _ second.1 in
     record {
       left = left;
       right = omega (arith, ints);

@@ -3,6 +3,7 @@ use Rattle.std.proofs.Common.{◌≡◌, ℕ, ◌*◌, ◌/◌, ◌^◌, ◌<◌
 use Rattle.std.specs.Prelude.{Ok, is_some, option_map}
 use Rattle.std.specs.List.{range_with_len}
 use Rattle.std.specs.Option.{option_or, option_map_or, unwrap_or}
+use Rattle.std.proofs.lemmas.Bool.{and_from}
 use Rattle.std.proofs.lemmas.Bool.Decides.{nat_tests}
 use Rattle.std.proofs.lemmas.List.FromFn.{fill_by_all, length-map-range_with_len, get_or-map-range_with_len}
 use Rattle.toml.specs.Data.{Members}
@@ -43,9 +44,6 @@ fit_length w some few = grind (arith, nat_tests)
 
 same_length : (n : ℕ) → (n == n) ≡ true
 same_length n = grind (arith, nat_tests)
-
-both : {a b : Bool} → a ≡ true → b ≡ true → (a && b) ≡ true
-both p q = cc
 
 few_rows : (n most : ℕ) → 1 ≤ n → n ≤ most → (nat_le 1 n && nat_le n most) ≡ true
 few_rows n most some few = grind (arith, nat_tests)
@@ -112,7 +110,7 @@ module _ (gas : Rules) (l : LatticeModel) (whole : IsLattice gas l.channel l.row
         ∙ few_rows l.channel.height MOST_SIDE channel.size.some_rows channel.size.few_rows
 
     in_range : is_in_range ms ≡ true
-    in_range = both table.common (ap (λ (b : Bool). if b then is_map_in_range ms else is_area_in_range ms) table.cells ∙ map_range)
+    in_range = and_from _ _ table.common (ap (λ (b : Bool). if b then is_map_in_range ms else is_area_in_range ms) table.cells ∙ map_range)
 
     range : out_of_range ms ≡ None
     unfolding out_of_range
@@ -122,7 +120,7 @@ module _ (gas : Rules) (l : LatticeModel) (whole : IsLattice gas l.channel l.row
     fits r within =
         ap₂ (λ (m : ℕ) (rows : List (List ℕ)). is_misfit m rows r) (ap most_side table.version) table.rows_are
         ∙ ap₂ (λ (n k : ℕ). not (is_row_length MOST_SIDE n && (n == k))) (wide-texts r within) (wide-texts 0 channel.size.some_rows)
-        ∙ ap not (both (fit_length l.channel.width channel.size.some_columns channel.size.few_columns) (same_length (2 * l.channel.width)))
+        ∙ ap not (and_from _ _ (fit_length l.channel.width channel.size.some_columns channel.size.few_columns) (same_length (2 * l.channel.width)))
 
     lengths : row_length ms ≡ None
     unfolding row_length

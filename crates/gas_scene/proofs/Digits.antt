@@ -15,7 +15,7 @@ use Rattle.gas_scene.specs.Cells.{digit_of, state_of, cell_of}
 abbrev pub is_marked : ℕ → ℕ → ℕ → Bool
 is_marked mark a b = bytes_eq (a ∷ b ∷ []) (mark ∷ mark ∷ [])
 
-same_option : (a b : Option ℕ) → option_eq nat_eq a b ≡ true → a ≡ b
+pub same_option : (a b : Option ℕ) → option_eq nat_eq a b ≡ true → a ≡ b
 same_option None None e = refl
 same_option None (Some y) e = absurd (false≢true e)
 same_option (Some x) None e = absurd (false≢true e)

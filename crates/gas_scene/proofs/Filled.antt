@@ -4,7 +4,7 @@ use Rattle.std.proofs.lemmas.Bool.Decides.{nat_tests}
 use Rattle.std.proofs.lemmas.List.FromFn.{get_or-map-range_with_len, length-map-range_with_len}
 use Rattle.gas_geom.specs.Gas.{Rules}
 use Rattle.gas_geom.specs.Lattice.{LatticeModel, set_of, row_of}
-use Rattle.gas_geom.proofs.Sets.{set_of-lt}
+use Rattle.gas_geom.proofs.Holds.{set_of-lt}
 use Rattle.gas_rows.proofs.Lattices.{fluid_state}
 use Rattle.gas_scene.specs.Grid.{lattice_of}
 use Rattle.gas_scene.specs.Area.{filled, filling}

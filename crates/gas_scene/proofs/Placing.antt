@@ -1,5 +1,6 @@
 -- Placements, one after another.
 use Rattle.std.proofs.Common.{◌≡◌, ◌≢◌, ◌⊎◌, inl, inr, ℕ, ◌+◌, ◌<◌, Bool, true, false, ◌&&◌, List, [], ◌∷◌, ◌++◌, map, length, get_or, take, ℤ, pos, ap, ap₂, sym, ◌∙◌, refl, if◌then◌else◌}
+use mathlib.Core.Bool.{and-false}
 use Rattle.std.specs.Ordering.{int_eq}
 use Rattle.std.proofs.lemmas.List.{map-append}
 use Rattle.std.proofs.lemmas.Bool.Decides.{Decides-int_eq}
@@ -27,13 +28,9 @@ other-int_eq z n m e ne = by (int_eq z (pos m)) refl
 pub is_at-here : (p : Placement) (x y : ℕ) → p.x ≡ pos x → p.y ≡ pos y → is_at p x y ≡ true
 is_at-here p x y ex ey = ap₂ (λ (a : Bool) (b : Bool). a && b) (same-int_eq p.x x ex) (same-int_eq p.y y ey)
 
-and_false : (a : Bool) → (a && false) ≡ false
-and_false true = refl
-and_false false = refl
-
 pub is_at-other : (p : Placement) (x y u k : ℕ) → p.x ≡ pos x → p.y ≡ pos y → (u ≢ x) ⊎ (k ≢ y) → is_at p u k ≡ false
 is_at-other p x y u k ex ey (inl ne) = ap (λ (b : Bool). b && int_eq p.y (pos k)) (other-int_eq p.x x u ex ne)
-is_at-other p x y u k ex ey (inr ne) = ap (λ (b : Bool). int_eq p.x (pos u) && b) (other-int_eq p.y y k ey ne) ∙ and_false (int_eq p.x (pos u))
+is_at-other p x y u k ex ey (inr ne) = ap (λ (b : Bool). int_eq p.x (pos u) && b) (other-int_eq p.y y k ey ne) ∙ and-false (int_eq p.x (pos u))
 
 placed-last : (ps : List Placement) (p : Placement) (x y s : ℕ) → placed (ps ++ p ∷ []) x y s ≡ (if is_at p x y then nat_abs p.state else placed ps x y s)
 placed-last [] p x y s = refl

@@ -1,5 +1,5 @@
 -- The printed cells of a lattice, read back.
-use Rattle.std.proofs.Common.{◌≡◌, inl, inr, ℕ, zero, suc, ◌+◌, ◌*◌, ◌/◌, ◌%◌, ◌<◌, ◌≤◌, ◌==◌, Bool, true, false, ◌&&◌, List, [], ◌∷◌, ◌++◌, length, get_or, Option, Some, None, codes, nat_eq, nat_lt, ap, ap₂, sym, ◌∙◌, refl, arith, if◌then◌else◌}
+use Rattle.std.proofs.Common.{◌≡◌, inl, inr, ℕ, zero, suc, ◌+◌, ◌*◌, ◌/◌, ◌%◌, ◌<◌, ◌≤◌, ◌==◌, Bool, true, false, ◌&&◌, List, [], ◌∷◌, ◌++◌, length, get_or, Some, None, codes, nat_eq, nat_lt, ap, ap₂, sym, ◌∙◌, refl, arith, if◌then◌else◌}
 use Rattle.std.specs.Fmt.{digit_glyph}
 use Rattle.std.specs.Option.{option_eq}
 use Rattle.std.specs.Str.{bytes_eq}
@@ -12,14 +12,9 @@ use Rattle.gas_scene.specs.declared.cells.Cell.{Cell}
 use Rattle.gas_scene.specs.declared.cells.Cell.TheVariants.{Solid, State}
 use Rattle.gas_scene.specs.Cells.{digit_of, state_of, cell_of, cell_at}
 use Rattle.gas_scene.specs.Printing.{cell_text, cells_text, row_text}
+use Rattle.gas_scene.proofs.Digits.{same_option}
 
 -- a digit is read back, and is no mark
-same_option : (a b : Option ℕ) → option_eq nat_eq a b ≡ true → a ≡ b
-same_option None None e = refl
-same_option None (Some y) e = absurd (cc)
-same_option (Some x) None e = absurd (cc)
-same_option (Some x) (Some y) e = ap Some (eqb-true x y e)
-
 digit_of-glyph : (d : ℕ) → d < 16 → digit_of (digit_glyph false d) ≡ Some d
 unfolding digit_of
 digit_of-glyph d h = same_option _ _ (agree_below_at (λ d. option_eq nat_eq (digit_of (digit_glyph false d)) (Some d)) (λ _. true) 16 d refl h)

@@ -1,5 +1,6 @@
 -- Rectangles by the rows in which they start.
 use Rattle.std.proofs.Common.{◌≡◌, ℕ, ◌+◌, ◌<◌, ◌==◌, Bool, true, false, ◌||◌, ◌&&◌, List, [], ◌∷◌, ◌++◌, map, length, get_or, set, take, nat_lt, nat_le, Vec, Global, pos, ap, ap₂, sym, ◌∙◌, refl, arith, subst, ◌≢◌, ◌⊎◌, inl, inr, if◌then◌else◌}
+use mathlib.Core.Bool.{or-false}
 use Rattle.std.specs.Prelude.{nat_abs, int_le, int_lt, All}
 use Rattle.std.specs.List.{list_all, list_any}
 use Rattle.std.proofs.lemmas.Bool.{and_parts, cases_eq}
@@ -45,13 +46,9 @@ strips_at-set rows y k row d strip within more = ap (λ (ls : List (List Strip))
     at (inr other) = let e : (y == k) ≡ false = grind (arith, nat_tests, other) in rw e (get_or-set_other lists y k row.items [] other)
 
 -- one strip more
-or_false : (a : Bool) → (a || false) ≡ a
-or_false true = refl
-or_false false = refl
-
 any-if : (b : Bool) (test : Strip → Bool) (ss : List Strip) (s : Strip) → list_any test (if b then ss ++ s ∷ [] else ss) ≡ (list_any test ss || (b && test s))
-any-if true test ss s = list_any-append test ss (s ∷ []) ∙ ap (λ (b : Bool). list_any test ss || b) (or_false (test s))
-any-if false test ss s = sym (or_false (list_any test ss))
+any-if true test ss s = list_any-append test ss (s ∷ []) ∙ ap (λ (b : Bool). list_any test ss || b) (or-false (test s))
+any-if false test ss s = sym (or-false (list_any test ss))
 
 pub All-if : (b : Bool) (width : ℕ) (ss : List Strip) (s : Strip) → All (λ t. IsStrip width t) ss → IsStrip width s → All (λ t. IsStrip width t) (if b then ss ++ s ∷ [] else ss)
 All-if true width ss s all one = All-append (λ t. IsStrip width t) ss (s ∷ []) all (All-cons (λ t. IsStrip width t) s [] one (All-nil (λ t. IsStrip width t)))
@@ -67,7 +64,7 @@ strips-more vs k v top x y ss within is before =
     let test : Data → Bool = λ d. (first_row (rectangle_of d) == top) && reaches (strip_of (rectangle_of d)) x y in
     any-if (first_row r == top) (λ s. reaches s x y) ss (strip_of r)
     ∙ ap (λ (b : Bool). b || test (view v)) before
-    ∙ sym (ap (list_any test) (view-more vs k v within is) ∙ list_any-append test (map view (take k vs)) (view v ∷ []) ∙ ap (λ (b : Bool). list_any test (map view (take k vs)) || b) (or_false (test (view v))))
+    ∙ sym (ap (list_any test) (view-more vs k v within is) ∙ list_any-append test (map view (take k vs)) (view v ∷ []) ∙ ap (λ (b : Bool). list_any test (map view (take k vs)) || b) (or-false (test (view v))))
 
 pub strips-none : (top x y : ℕ) → list_any (λ s. reaches s x y) [] ≡ is_reached_at [] top x y
 strips-none top x y = refl

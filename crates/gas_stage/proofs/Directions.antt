@@ -1,11 +1,9 @@
 -- One direction of a streamed cell, by the row that its particles come from, and a row whose directions are all streamed.
-use Rattle.std.proofs.Common.{◌≡◌, ℕ, ◌+◌, ◌-◌, ◌^◌, ◌<◌, ◌≤◌, ◌==◌, inl, inr, subst, option_map, Bool, true, false, if◌then◌else◌, Option, Some, None, List, length, get_or, ap, ◌∙◌, sym, arith, refl}
-use Rattle.std.specs.Int.{bit_at}
+use Rattle.std.proofs.Common.{◌≡◌, ℕ, ◌+◌, ◌-◌, ◌^◌, ◌<◌, ◌≤◌, inl, inr, subst, option_map, Bool, true, false, if◌then◌else◌, Option, Some, None, List, length, get_or, ap, ◌∙◌, sym, arith, refl}
 use Rattle.std.proofs.lemmas.Bool.{cases_order}
 use Rattle.std.proofs.lemmas.Bool.Decides.{nat_tests}
 use Rattle.std.proofs.lemmas.List.FromFn.{fill_by_all}
 use Rattle.std.proofs.lemmas.Nat.{pow_pos}
-use Rattle.std.proofs.lemmas.Nat.Bits.{bit_at-lt, same_from_bits_below}
 use Rattle.gas_geom.specs.Gas.{Rules, Move, Back, Stay, On, holds}
 use Rattle.gas_geom.specs.Neighbour.{neighbour_of, row_after, column_after, is_odd}
 use Rattle.gas_geom.proofs.Steps.{neighbour-parts, row_after-lt}
@@ -13,6 +11,7 @@ use Rattle.gas_geom.specs.Channel.{ChannelModel, is_solid}
 use Rattle.gas_geom.specs.Lattice.{arriving, arrives_from, streamed, set_of, row_of}
 use Rattle.gas_geom.proofs.Holds.{set_of-lt, holds-set_of, holds-zero}
 use Rattle.gas_rows.specs.Shift.{streamed_bit}
+use Rattle.gas_rows.proofs.Sets.{set_of-holds, set_from}
 use Rattle.gas_stage.specs.Streaming.{AreRowsAbout, IsRowAt}
 
 -- what a streamed cell holds
@@ -55,11 +54,7 @@ module _ (gas : Rules) (c : ChannelModel) (at : ℕ → ℕ → ℕ) (x y i : �
 
 -- a set is known by its directions
 same_set : (n s t : ℕ) → s < 2 ^ n → t < 2 ^ n → ((i : ℕ) → i < n → holds s i ≡ holds t i) → s ≡ t
-same_set n s t hs ht same =
-    same_from_bits_below n s t hs ht (λ i h. same_bit (bit_at s i) (bit_at t i) (bit_at-lt s i) (bit_at-lt t i) (same i h))
-  where
-    same_bit : (a b : ℕ) → a < 2 → b < 2 → (a == 1) ≡ (b == 1) → a ≡ b
-    same_bit a b ha hb e = grind (arith, nat_tests)
+same_set n s t hs ht same = sym (set_of-holds n s hs) ∙ set_from n t (holds s) ht same
 
 streamed-lt : (gas : Rules) (c : ChannelModel) (at : ℕ → ℕ → ℕ) (x y : ℕ) → streamed gas c at x y < 2 ^ gas.dirs
 streamed-lt gas c at x y = by (is_solid c x y)

@@ -4,12 +4,13 @@ use Rattle.std.proofs.lemmas.Int.{ints}
 use Rattle.std.proofs.lemmas.List.FromFn.{length-range_with_len}
 use Rattle.gas_blocks.specs.Tally.{HasRoom, most_cells, plus_particles}
 use Rattle.gas_blocks.specs.declared.blocks.Block.{Block}
-use Rattle.gas_blocks.proofs.Counts.{counted, counted-none, counted-more, counted-all, counted-room, holding-le}
+use Rattle.gas_blocks.proofs.Counts.{counted, counted-none, counted-more, counted-all, counted-room}
+use Rattle.gas_rows.proofs.Ones.{count-le}
 use Rattle.gas_blocks.proofs.blocks.Block.plus_cells.Goals as goal
 
 pub overflow_sub-to-2 : goal.overflow_sub-to-2
 overflow_sub-to-2 g c =
-    omega (arith, c.count_in.ensures, holding-le (λ x. slice_index_or c.args.solid.now x false) c.args.from (c.args.to - c.args.from))
+    omega (arith, c.count_in.ensures, count-le (λ x. slice_index_or c.args.solid.now x false) c.args.from (c.args.to - c.args.from))
 
 pub loop-i-init : goal.loop-i-init
 loop-i-init g c =
