@@ -122,3 +122,36 @@ fn rows_take_over_values(rt: HostRuntime) -> Result<(), Fail> {
     assert_eq!(rt; channel.count_solid(), 4);
     Ok(())
 }
+
+// A mask made, copied, filled or taken over without a true cell says that none is; one that has a
+// true cell never says so.
+fn blank_is_known(rt: &impl Abort, alloc: Global, width: u32) -> Result<(), Fail> {
+    assert!(rt; 1 <= width && width <= 65536);
+    let mut mask = Mask::blank(alloc, width)?;
+    let copy = mask.copy(alloc)?;
+    assert!(rt; mask.is_blank() && copy.is_blank(), "width {width}");
+    for x in [0, width / 2, width - 1] {
+        let mut cells = vec![in alloc; false; mask.width() as usize]?;
+        mask.copy_from(&cells);
+        assert!(rt; x < mask.width() && mask.is_blank(), "cell {x} of {width}");
+        cells[x as usize] = true;
+        mask.copy_from(&cells);
+        assert!(rt; !mask.is_blank(), "cell {x} of {width}");
+        mask.fill(false);
+        assert!(rt; x < mask.width() && mask.is_blank(), "cell {x} of {width}");
+        mask.set(x, true);
+        let copy = mask.copy(alloc)?;
+        assert!(rt; !mask.is_blank() && !copy.is_blank(), "cell {x} of {width}");
+    }
+    mask.fill(true);
+    assert!(rt; !mask.is_blank(), "width {width}");
+    Ok(())
+}
+
+#[test]
+fn a_blank_mask_is_known(rt: HostRuntime) -> Result<(), Fail> {
+    for width in WIDTHS {
+        blank_is_known(&rt, rt.alloc(), width)?;
+    }
+    Ok(())
+}

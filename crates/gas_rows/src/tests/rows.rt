@@ -1,6 +1,4 @@
-ghost use Rattle.std.specs.Prelude.{◌<◌, ◌^◌};
-
-use super::WIDTHS;
+use super::{WIDTHS, fhp1_state};
 use crate::row::Row;
 use gas_geom::fhp1::Fhp1;
 use gas_geom::hpp::Hpp;
@@ -21,13 +19,6 @@ fn a_copied_row_is_a_row_of_its_own(rt: HostRuntime) -> Result<(), Fail> {
     assert_eq!(rt; row.get(64), 0x3f);
     assert_eq!(rt; copy.count(), 0);
     Ok(())
-}
-
-// A state for each cell of FHP-I, with no order to be seen.
-fn fhp1_state(x: u32) -> u8
-    ensures { result < 2 ^ 6 }
-{
-    (x.wrapping_mul(0x9e37_79b1) >> 26) as u8
 }
 
 // Each cell keeps the state that it was given last, and the row counts their directions.

@@ -82,10 +82,10 @@ fn says(words: &[u64], count: usize, i: usize, x: u32) -> bool {
     at < words.len() && (words[at] >> (x % 64)) & 1 == 1
 }
 
-// Words with no order to be seen.
-fn mixed_words(alloc: Global, count: usize) -> Result<Vec<u64>, Fail> {
+// Words with no order to be seen, others for another first one.
+fn mixed_words(alloc: Global, first: u64, count: usize) -> Result<Vec<u64>, Fail> {
     let mut words = Vec::with_capacity(alloc, count)?;
-    let mut word = 0u64;
+    let mut word = first;
     for _ in 0..count {
         word = word
             .wrapping_mul(0x5851_f42d_4c95_7f2d)
@@ -100,7 +100,7 @@ fn mixed_words(alloc: Global, count: usize) -> Result<Vec<u64>, Fail> {
 fn words_are_the_cells<G: Gas>(rt: &impl Abort, alloc: Global, width: u32) -> Result<(), Fail> {
     assert!(rt; 1 <= width && width <= 65536);
     let count = words_for(width);
-    let words = mixed_words(alloc, directions::<G>() * count)?;
+    let words = mixed_words(alloc, 0, directions::<G>() * count)?;
     let mut row = Row::<G>::blank(alloc, width)?;
     assert!(rt; words.len() == directions::<G>() * words_for(row.width()));
     row.load_words(&words);
@@ -130,6 +130,68 @@ fn words_at_each_width(rt: HostRuntime) -> Result<(), Fail> {
     for width in WIDTHS {
         words_are_the_cells::<Fhp1>(&rt, rt.alloc(), width)?;
         words_are_the_cells::<Hpp>(&rt, rt.alloc(), width)?;
+    }
+    Ok(())
+}
+
+// The cell to which the step `along` leads from cell x, where the columns are periodic.
+fn cell_along(x: u32, along: i32, width: u32) -> u32 {
+    if along < 0 {
+        if x == 0 { width.wrapping_sub(1) } else { x - 1 }
+    } else if along > 0 {
+        if x.wrapping_add(1) == width {
+            0
+        } else {
+            x.wrapping_add(1)
+        }
+    } else {
+        x
+    }
+}
+
+// Direction i moved from words with anything past the width: each cell holds it where the cell along
+// does, and the words of the other directions stay.
+fn direction_is_moved(
+    rt: &impl Abort,
+    alloc: Global,
+    width: u32,
+    i: u32,
+    along: i32,
+) -> Result<(), Fail> {
+    assert!(rt; 1 <= width && width <= 65536 && i < 6);
+    let count = words_for(width);
+    let mut row = Row::<Fhp1>::blank(alloc, width)?;
+    let own = mixed_words(alloc, 0, directions::<Fhp1>() * count)?;
+    assert!(rt; own.len() == directions::<Fhp1>() * words_for(row.width()));
+    row.load_words(&own);
+    let before = row.copy(alloc)?;
+    let from = mixed_words(alloc, 1, count)?;
+    assert!(rt; from.len() == words_for(row.width()));
+    row.move_plane(i, along, &from);
+    for x in 0..64 * count as u32 {
+        let came = x < width && says(&from, count, 0, cell_along(x, along, width));
+        assert!(rt;
+            says(row.plane(i), count, 0, x) == came,
+            "direction {i} of cell {x} of {width}, from {along}"
+        );
+    }
+    for k in 0..6 {
+        assert!(rt;
+            k == i || row.plane(k) == before.plane(k),
+            "direction {k} beside {i}"
+        );
+    }
+    Ok(())
+}
+
+#[test]
+fn directions_are_moved(rt: HostRuntime) -> Result<(), Fail> {
+    for width in [1, 2, 63, 64, 65, 127, 128, 129, 192, 193, 256, 320] {
+        for i in 0..6 {
+            for along in [-1, 0, 1] {
+                direction_is_moved(&rt, rt.alloc(), width, i, along)?;
+            }
+        }
     }
     Ok(())
 }
