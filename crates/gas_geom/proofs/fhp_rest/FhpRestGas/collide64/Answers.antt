@@ -1,37 +1,11 @@
 use Rattle.std.proofs.Common.{List, [], ◌∷◌, arith, refl, rules}
 use Rattle.gas_geom.specs.FhpRest.{fhp_rest}
-use Rattle.gas_geom.proofs.Planes.{Formula, Plane, Chi, Zero, And, Or, Xor, Not, collided}
+use Rattle.gas_geom.proofs.Planes.{Formula, Plane, Zero, And, Or, Xor, Not, collided}
+use Rattle.gas_geom.proofs.Axes.{e, ne, nw, w, sw, se, one_e, one_ne, one_nw, pair_e, pair_ne}
 use Rattle.gas_geom.proofs.fhp_rest.FhpRestGas.collide64.Goals as goal
-
-abbrev e : Formula
-e = Plane 0
-
-abbrev ne : Formula
-ne = Plane 1
-
-abbrev nw : Formula
-nw = Plane 2
-
-abbrev w : Formula
-w = Plane 3
-
-abbrev sw : Formula
-sw = Plane 4
-
-abbrev se : Formula
-se = Plane 5
 
 abbrev rest : Formula
 rest = Plane 6
-
-abbrev one_e : Formula
-one_e = Xor e w
-
-abbrev one_ne : Formula
-one_ne = Xor ne sw
-
-abbrev one_nw : Formula
-one_nw = Xor nw se
 
 abbrev each_one : Formula
 each_one = And (And one_e one_ne) one_nw
@@ -45,23 +19,8 @@ second = Or (Or ne w) se
 abbrev one_side : Formula
 one_side = Xor first second
 
-abbrev unlike : Formula
-unlike = Xor e ne
-
 abbrev triple : Formula
 triple = And each_one one_side
-
-abbrev pair : Formula
-pair = And (Xor unlike nw) (Not (Or (Or (Or (And e ne) one_e) one_ne) one_nw))
-
-abbrev right : Formula
-right = Not Chi
-
-abbrev pair_e : Formula
-pair_e = And pair (Or e (Xor nw right))
-
-abbrev pair_ne : Formula
-pair_ne = And pair (Or ne (Xor e right))
 
 abbrev along_e : Formula
 along_e = Or triple pair_e
