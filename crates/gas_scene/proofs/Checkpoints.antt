@@ -25,7 +25,7 @@ use Rattle.gas_scene.specs.Map.{is_solid_cell, state_in, map_cell, map_width, ma
 use Rattle.gas_scene.specs.Area.{area_lattice}
 use Rattle.gas_scene.specs.Scene.{lattice_in, gas_lattice_of, scene_of, table_answer}
 use Rattle.gas_scene.specs.Checking.{verdict}
-use Rattle.gas_scene.specs.Printing.{row_text}
+use Rattle.gas_scene.specs.Checkpoint.{row_text}
 use Rattle.gas_scene.proofs.Answers.{table_answer-accepted}
 use Rattle.gas_scene.proofs.First.{first_below-all}
 use Rattle.gas_scene.proofs.Grids.{rows_of-same}

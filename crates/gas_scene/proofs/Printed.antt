@@ -11,7 +11,7 @@ use Rattle.gas_geom.specs.Lattice.{LatticeModel, cell}
 use Rattle.gas_scene.specs.declared.cells.Cell.{Cell}
 use Rattle.gas_scene.specs.declared.cells.Cell.TheVariants.{Solid, State}
 use Rattle.gas_scene.specs.Cells.{digit_of, state_of, cell_of, cell_at}
-use Rattle.gas_scene.specs.Printing.{cell_text, cells_text, row_text}
+use Rattle.gas_scene.specs.Checkpoint.{cell_text, cells_text, row_text}
 use Rattle.gas_scene.proofs.Digits.{same_option}
 
 -- a digit is read back, and is no mark

@@ -1,10 +1,10 @@
 -- What the checks and the fields see of the table of a checkpoint.
-use Rattle.std.proofs.Common.{◌≡◌, ℕ, suc, Bool, true, not, ◌&&◌, ◌≤◌, List, [], ◌∷◌, map, None, pos, codes, nat_le, ap, ap₂, sym, refl, subst, arith}
+use Rattle.std.proofs.Common.{◌≡◌, ℕ, suc, Bool, true, not, ◌&&◌, ◌≤◌, List, [], ◌∷◌, map, None, pos, codes, nat_le, ap, ap₂, sym, ◌∙◌, refl, subst, arith}
 use Rattle.std.specs.Prelude.{is_some, int_le, max}
 use Rattle.std.specs.List.{list_all, range_with_len}
 use Rattle.std.proofs.lemmas.Bool.{and_parts, leb-true}
 use Rattle.std.proofs.lemmas.Int.{ints}
-use Rattle.toml.specs.Data.{string, Members, items_depth, members_depth}
+use Rattle.toml.specs.Data.{Data, string, Members, items_depth, members_depth}
 use Rattle.toml.specs.View.{items_of}
 use Rattle.gas_geom.specs.Lattice.{LatticeModel}
 use Rattle.gas_rows.specs.declared.chirality.Chirality.{Chirality}
@@ -12,15 +12,15 @@ use Rattle.gas_rows.specs.declared.chirality.Chirality.TheVariants.{Seeded, Left
 use Rattle.gas_scene.specs.declared.error.SceneError.TheVariants.{WrongType}
 use Rattle.gas_scene.specs.declared.ranges.TheConstants.{LAST_GENERATION}
 use Rattle.gas_scene.specs.declared.version.Version.TheVariants.{Two}
-use Rattle.gas_scene.specs.Gases.{gas_named}
+use Rattle.gas_scene.specs.Gases.{GasLattice, gas_named}
 use Rattle.gas_scene.specs.Fields.{has, text_of, list_of, text_at, rows_at}
 use Rattle.gas_scene.specs.Version.{version_of}
 use Rattle.gas_scene.specs.Kind.{is_text}
 use Rattle.gas_scene.specs.Ranges.{is_generation, is_common_in_range}
 use Rattle.gas_scene.specs.Refusals.{refused_if, unknown_key, both_forms, missing, wrong_type}
 use Rattle.gas_scene.specs.Scene.{chirality_of, generation_of}
-use Rattle.gas_scene.specs.Checkpoint.{is_told}
-use Rattle.gas_scene.specs.Printing.{row_text, row_values, checkpoint_table}
+use Rattle.gas_scene.specs.Checkpoint.{is_told, row_text, row_values, checkpoint_table}
+use Rattle.gas_scene.specs.Printing.{inserted}
 
 -- the rows of a lattice as texts
 abbrev pub texts : LatticeModel → List (List ℕ)
@@ -40,6 +40,18 @@ flat f (y ∷ ys) = ap (max 0) (flat f ys)
 
 low : (n : ℕ) → n ≡ 0 → max (suc n) 0 ≤ 80
 low n e = subst (λ k. max (suc k) 0 ≤ 80) (sym e) (omega arith)
+
+-- put together key after key, the table is that of a checkpoint
+in_order : (l : GasLattice) (chirality : Chirality) (generation : ℕ) → inserted l.gas (row_values l.lattice) chirality generation ≡ checkpoint_table l chirality generation
+unfolding inserted checkpoint_table
+in_order l (Seeded seed) generation = refl
+in_order l Left generation = refl
+in_order l Right generation = refl
+
+pub checkpoint_table-made : (l : GasLattice) (chirality : Chirality) (generation : ℕ) (gas : List ℕ) (cells : List Data) (ms : Members) → gas ≡ l.gas → cells ≡ row_values l.lattice
+    → ms ≡ inserted gas cells chirality generation → ms ≡ checkpoint_table l chirality generation
+checkpoint_table-made l chirality generation gas cells ms named rows made =
+    made ∙ ap₂ (λ (name : List ℕ) (ds : List Data). inserted name ds chirality generation) named rows ∙ in_order l chirality generation
 
 -- what the checks and the fields see of a table of version 2 with a map
 pub record IsSceneTable (ms : Members) (gas : List ℕ) (rows : List (List ℕ)) (chirality : Chirality) (generation : ℕ) : Type 0 where
@@ -66,7 +78,7 @@ told chirality generation held =
 
 module _ (l : LatticeModel) (gas : List ℕ) (generation : ℕ) (named : is_some (gas_named gas) ≡ true) where
   pub IsSceneTable-checkpoint : (chirality : Chirality) → is_told chirality generation ≡ true
-      → IsSceneTable (checkpoint_table gas (row_values l l.channel.height) chirality generation) gas (texts l) chirality generation
+      → IsSceneTable (checkpoint_table (record { gas = gas; lattice = l }) chirality generation) gas (texts l) chirality generation
   unfolding checkpoint_table unknown_key both_forms missing wrong_type
   IsSceneTable-checkpoint (Seeded seed) held = record {
     known = refl;

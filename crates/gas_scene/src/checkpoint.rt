@@ -5,12 +5,13 @@ ghost use Rattle.std.specs.Fmt.{digit_glyph};
 ghost use Rattle.gas_geom.specs.Channel.{IsChannel};
 ghost use Rattle.gas_geom.specs.Lattice.{IsLattice};
 ghost use Rattle.toml.specs.Data.{integer};
+ghost use Rattle.toml.specs.Parse.{parse_document};
 ghost use Rattle.toml.specs.View.{view, table_view};
 ghost use Rattle.gas_scene.specs.declared.error.SceneError.TheVariants.{Memory, Range};
 ghost use Rattle.gas_scene.specs.Gases.{gas_lattice, gas_named};
 ghost use Rattle.gas_scene.specs.Scene.{scene_of_text};
-ghost use Rattle.gas_scene.specs.Checkpoint.{is_seed_told, is_told};
-ghost use Rattle.gas_scene.specs.Printing.{cell_text, row_text, row_values, insert_member, chirality_name, with_seed, checkpoint_table};
+ghost use Rattle.gas_scene.specs.Checkpoint.{is_seed_told, is_told, cell_text, row_text, row_values, chirality_name, checkpoint_table};
+ghost use Rattle.gas_scene.specs.Printing.{insert_member, insert_seed, inserted};
 
 use crate::any_lattice::AnyLattice;
 use crate::error::SceneError;
@@ -63,7 +64,7 @@ fn row_text<G: Gas>(alloc: Global, lattice: &Lattice<G>, y: u32) -> Result<Strin
 
 // The rows from the top, as values of a table.
 fn row_values<G: Gas>(alloc: Global, lattice: &Lattice<G>) -> Result<Vec<Value>, AllocError>
-    ensures rows { IfOk result (λ rows. map view rows.items ≡ row_values lattice.now lattice.now.channel.height) }
+    ensures rows { IfOk result (λ rows. map view rows.items ≡ row_values lattice.now) }
     ensures lattice { IsLattice G.rules lattice.now.channel lattice.now.rows }
     ensures channel { IsChannel lattice.now.channel }
 {
@@ -107,7 +108,7 @@ fn integer(number: u64) -> Value
 // Sets the seed, if there is one.
 fn insert_seed(alloc: Global, table: &mut Table, chirality: Chirality) -> Result<(), AllocError>
     requires { is_seed_told chirality ≡ true }
-    ensures { OnOk result (table_view table.new ≡ with_seed chirality (table_view table.old)) }
+    ensures { OnOk result (table_view table.new ≡ insert_seed chirality (table_view table.old)) }
 {
     match chirality {
         Chirality::Seeded(seed) => insert(alloc, table, "seed", integer(seed)),
@@ -125,7 +126,7 @@ fn table_of(
     generation: u64,
 ) -> Result<Table, AllocError>
     requires { is_told chirality generation ≡ true }
-    ensures { IfOk result (λ t. table_view t ≡ checkpoint_table gas.now (map view cells.items) chirality generation) }
+    ensures { IfOk result (λ t. table_view t ≡ inserted gas.now (map view cells.items) chirality generation) }
 {
     let mut table = Table::new(alloc);
     let chirality_value = Value::string(alloc, chirality_name(chirality))?;
@@ -147,11 +148,13 @@ fn text_of<G: Gas>(
 ) -> Result<String, AllocError>
     requires told { is_told chirality generation ≡ true }
     requires named { gas_named G.rules.name ≡ Some G.rules }
-    ensures { IfOk result (λ s. scene_of_text (string_bytes s) ≡ Ok (record {
+    ensures scene { IfOk result (λ s. scene_of_text (string_bytes s) ≡ Ok (record {
       lattice = record { gas = G.rules.name; lattice = lattice.now };
       chirality = chirality;
       generation = generation;
     })) }
+    ensures table { IfOk result (λ s. parse_document (string_bytes s)
+        ≡ Some (checkpoint_table (record { gas = G.rules.name; lattice = lattice.now }) chirality generation)) }
 {
     let cells = row_values(alloc, lattice)?;
     let table = table_of(alloc, G::name(), cells, chirality, generation)?;
@@ -174,7 +177,11 @@ fn is_seed_told(chirality: Chirality) -> bool
 
 /// The text of a scene of version 2 that holds a lattice, where the random bits of its collisions
 /// come from, and its generation: `scene::read` gives all of them back, so that a run from the text
-/// goes on as one from the lattice. It draws the lattice as a map.
+/// goes on as one from the lattice.
+///
+/// It is a TOML document with the keys `cells`, the rows from the top in the form in which cells are
+/// printed, `chirality`, `gas`, `generation` and `version`, and `seed` exactly where the chirality is
+/// seeded.
 ///
 /// `Range` exactly where the generation is above 1,000,000,000,000 or a seed above 2^63 - 1; else
 /// `Memory` where memory is refused.
@@ -184,11 +191,13 @@ pub fn checkpoint(
     chirality: Chirality,
     generation: u64,
 ) -> Result<String, SceneError>
-    ensures text { IfOk result (λ s. scene_of_text (string_bytes s) ≡ Ok (record {
+    ensures scene { IfOk result (λ s. scene_of_text (string_bytes s) ≡ Ok (record {
       lattice = gas_lattice lattice.now;
       chirality = chirality;
       generation = generation;
     })) }
+    ensures table { IfOk result (λ s. parse_document (string_bytes s)
+        ≡ Some (checkpoint_table (gas_lattice lattice.now) chirality generation)) }
     ensures range { (result ≡ Err Range) ↔ (is_told chirality generation ≡ false) }
     ensures errors { IfErr result (λ e. (e ≡ Range) ⊎ (e ≡ Memory)) }
 {

@@ -1,5 +1,5 @@
 use Rattle.std.proofs.Common.{◌≡◌, ◌∙◌, ap, arith}
-use Rattle.gas_scene.specs.Printing.{cells_text, row_text}
+use Rattle.gas_scene.specs.Checkpoint.{cells_text, row_text}
 use Rattle.gas_scene.proofs.checkpoint.row_text.Goals as goal
 
 pub returns : goal.returns

@@ -1,5 +1,5 @@
 use Rattle.std.proofs.Common.{◌≡◌, string_bytes}
-use Rattle.gas_scene.specs.Printing.{cells_text}
+use Rattle.gas_scene.specs.Checkpoint.{cells_text}
 use Rattle.gas_scene.proofs.checkpoint.row_text.Given as goal
 
 abbrev pub invariant-loop-x : goal.invariant-loop-x

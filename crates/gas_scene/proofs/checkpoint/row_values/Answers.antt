@@ -5,7 +5,7 @@ use Rattle.toml.specs.Data.{Data, string}
 use Rattle.toml.specs.View.{view}
 use Rattle.toml.specs.declared.value.Value.{String}
 use Rattle.toml.proofs.Views.{view-String}
-use Rattle.gas_scene.specs.Printing.{row_text}
+use Rattle.gas_scene.specs.Checkpoint.{row_text}
 use Rattle.gas_scene.proofs.checkpoint.row_values.Goals as goal
 
 pub loop-y-preserved : goal.loop-y-preserved

@@ -2,11 +2,12 @@ use Rattle.std.proofs.Common.{◌≡◌, ◌∙◌, ap, ap₂, pos, map, codes}
 use Rattle.toml.specs.Data.{string, integer, array, Members, no_members}
 use Rattle.toml.specs.View.{view, table_view, members_view, items_of}
 use Rattle.toml.proofs.Views.{view-Integer, view-Array}
-use Rattle.gas_scene.specs.Printing.{insert_member, chirality_name, with_seed, checkpoint_table}
+use Rattle.gas_scene.specs.Checkpoint.{chirality_name}
+use Rattle.gas_scene.specs.Printing.{insert_member, insert_seed, inserted}
 use Rattle.gas_scene.proofs.checkpoint.table_of.Goals as goal
 
 pub returns : goal.returns
-unfolding checkpoint_table
+unfolding inserted
 returns c =
     let m1 : Members = insert_member (codes "version") (integer (pos 2)) no_members in
     let m2 : Members = insert_member (codes "gas") (string c.args.gas.now) m1 in
@@ -20,4 +21,4 @@ returns c =
     c.in_ok-insert-3.ensures ∙ ap₂ (insert_member (codes "chirality")) (c.in_ok-chirality_value.ensures ∙ ap string c.chirality_name.ensures) t2 in
     let t4 : table_view c.insert-4.new.table ≡ m4 = c.in_ok-insert-4.ensures ∙ ap₂ (insert_member (codes "generation")) c.integer.ensures t3 in
     let t5 : table_view c.insert-5.new.table ≡ m5 = c.in_ok-insert-5.ensures ∙ ap₂ (insert_member (codes "cells")) (view-Array c.args.cells) t4 in
-    c.in_ok-insert_seed.ensures ∙ ap (with_seed c.args.chirality) t5
+    c.in_ok-insert_seed.ensures ∙ ap (insert_seed c.args.chirality) t5
