@@ -158,7 +158,7 @@ fn text_of<G: Gas>(
 {
     let cells = row_values(alloc, lattice)?;
     let table = table_of(alloc, G::name(), cells, chirality, generation)?;
-    match toml::table_to_string(alloc, &table) {
+    match toml::table_to_string_pretty(alloc, &table) {
         Ok(text) => Ok(text),
         Err(_) => Err(AllocError),
     }

@@ -124,6 +124,22 @@ fn keys(rt: HostRuntime) -> Result<(), Fail> {
     Ok(())
 }
 
+// A line for each row.
+#[test]
+fn layout(rt: HostRuntime) -> Result<(), Fail> {
+    let scene = map(
+        rt.alloc(),
+        "fhp1",
+        "\"........\", \"......01\", \"........\"",
+    )?;
+    let text = checkpoint(rt.alloc(), scene.lattice(), Chirality::Left, 10)?;
+    let rows = "cells = [\n    \"........\",\n    \"......01\",\n    \"........\",\n]\n";
+    let rest = "chirality = \"left\"\ngas = \"fhp1\"\ngeneration = 10\nversion = 2\n";
+    let want = format!(in rt.alloc(); "{rows}{rest}")?;
+    assert_eq!(rt; text.as_str(), want.as_str());
+    Ok(())
+}
+
 // A lattice of the most columns, and one of the most rows, with a particle in the last cell.
 #[test]
 fn wide_and_high(rt: HostRuntime) -> Result<(), Fail> {
