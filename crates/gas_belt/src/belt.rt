@@ -1,6 +1,5 @@
 //! Making a belt.
 ghost use Rattle.std.specs.Prelude.{◌≡◌, ◌≤◌, [], IfOk, None};
-ghost use Rattle.gas_geom.specs.declared.size.TheConstants.{MOST_SIDE};
 
 use crate::rx::Rx;
 use crate::spares::Spares;
@@ -10,7 +9,7 @@ use gas_rows::row::Row;
 use rtrb::RingBuffer;
 use std::alloc::{AllocError, Global};
 
-/// A belt for rows of `width` cells, 1 to `MOST_SIDE`, with places for the words of `capacity` rows,
+/// A belt for rows of `width` cells, 1 to 65536, with places for the words of `capacity` rows,
 /// 1 to 1024. Both ends are unused, and each may go to a thread of its own. The end that rows are
 /// taken from holds two buffers. All memory of the belt is taken here; each end frees its own rows,
 /// and the ring is freed with the second end.
@@ -18,7 +17,7 @@ pub fn belt<G: Gas>(alloc: Global, capacity: u32, width: u32) -> Result<(Tx<G>, 
     requires some_places { 1 ≤ capacity }
     requires few_places { capacity ≤ 1024 }
     requires some_cells { 1 ≤ width }
-    requires few_cells { width ≤ MOST_SIDE }
+    requires few_cells { width ≤ 65536 }
     ensures one_belt { IfOk result (λ r. r.0.belt ≡ r.1.belt) }
     ensures width { IfOk result (λ r. r.0.belt.width ≡ width) }
     ensures nothing_put { IfOk result (λ r. r.0.put ≡ []) }

@@ -1,6 +1,5 @@
 -- The size of a channel.
 use Rattle.std.specs.Prelude.{ℕ, ◌≤◌}
-use Rattle.gas_geom.specs.declared.size.TheConstants.{MOST_SIDE}
 
 pub record SizeModel : Type 0 where
   pub width : ℕ
@@ -9,6 +8,6 @@ pub record SizeModel : Type 0 where
 -- the limits of a size
 pub record IsSize (width height : ℕ) : Type 0 where
   pub some_columns : 1 ≤ width
-  pub few_columns : width ≤ MOST_SIDE
+  pub few_columns : width ≤ 65536
   pub some_rows : 1 ≤ height
-  pub few_rows : height ≤ MOST_SIDE
+  pub few_rows : height ≤ 65536

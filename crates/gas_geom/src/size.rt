@@ -9,7 +9,7 @@ use std::marker::Model;
 /// The most columns of a channel, and the most rows.
 pub const MOST_SIDE: u32 = 65536;
 
-/// The width and the height of a channel in cells, each 1 to `MOST_SIDE`.
+/// The width and the height of a channel in cells, each 1 to 65536.
 #[derive(Clone, Copy)]
 pub struct Size {
     width: u32,
@@ -30,7 +30,7 @@ impl Model for Size {
 }
 
 impl Size {
-    /// A size, or None where the width or the height is not 1 to `MOST_SIDE`.
+    /// A size, or None where the width or the height is not 1 to 65536.
     pub fn new(width: u32, height: u32) -> Option<Size>
         ensures within { IsSome result ↔ IsSize width height }
         ensures made { IfSome result (λ s. s ≡ record { width = width; height = height }) }

@@ -1,7 +1,6 @@
 //! The feeder of the line, over any two ends.
 ghost use Rattle.std.specs.Prelude.{◌≡◌, ◌≢◌, ◌<◌, ◌≤◌, ◌↔◌, ◌+◌, ◌*◌, ◌%◌, ◌++◌, ◌∷◌, ◌^◌, ℕ, [], List, IfOk, IsTrue, IsFalse, true, false, length, slice_index, drop};
 ghost use Rattle.gas_geom.specs.Lattice.{IsLattice};
-ghost use Rattle.gas_geom.specs.declared.size.TheConstants.{MOST_SIDE};
 ghost use Rattle.gas_rows.specs.Row.{RowModel};
 ghost use mathlib.Core.List.{IsPrefix};
 ghost use Rattle.gas_members.specs.Feeder.{FeederModel, HasFed, AfterTake, AfterPut, emptied_row, emptied};
@@ -129,7 +128,7 @@ impl<G: Gas> Feeder<G> {
     /// last one.
     pub fn taken(&self) -> u32
         ensures value { (rows gave took : List RowModel) → HasFed self.now 1 rows gave took → result ≡ length took }
-        ensures few { result ≤ MOST_SIDE }
+        ensures few { result ≤ 65536 }
     {
         if self.to_take == 0 {
             self.size.height()

@@ -1,7 +1,6 @@
 //! A worker of the line, over any two ends.
 ghost use Rattle.std.specs.Prelude.{◌≡◌, ◌≢◌, ◌<◌, ◌≤◌, ◌++◌, ◌∷◌, ℕ, [], List, Option, None, Some, IfOk, IsNone, true, false, length};
 ghost use Rattle.gas_geom.specs.Gas.{Rules};
-ghost use Rattle.gas_geom.specs.declared.size.TheConstants.{MOST_SIDE};
 ghost use Rattle.gas_rows.specs.Row.{RowModel};
 ghost use mathlib.Core.List.{IsPrefix};
 ghost use Rattle.gas_members.specs.Worker.{WorkerModel, IsClosed, HasDone, owes, AfterTake, AfterPut, AfterNone, HasPutAll, HasTakenAll, HasMoreToTake};
@@ -74,7 +73,7 @@ impl<'a, G: Gas> Worker<'a, G> {
     /// The number of rows that it took in its pass, or in the pass that it closed last.
     pub fn taken(&self) -> u32
         ensures value { (e : Option ℕ) (took gave : List RowModel) → HasDone G.rules self.now e took gave → result ≡ length took }
-        ensures few { result ≤ MOST_SIDE }
+        ensures few { result ≤ 65536 }
     {
         let height = self.size.height();
         if self.stage.is_open() {

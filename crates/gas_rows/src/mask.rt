@@ -3,7 +3,6 @@ ghost use Rattle.std.specs.List.{range_with_len};
 ghost use Rattle.gas_geom.specs.Gas.{holds};
 ghost use Rattle.rand_chacha.specs.ChaCha.{word_at};
 ghost use Rattle.gas_rows.specs.Words.{words_in, bit};
-ghost use Rattle.gas_geom.specs.declared.size.TheConstants.{MOST_SIDE};
 
 use crate::mask_words;
 use crate::span::count_in;
@@ -33,10 +32,10 @@ impl Model for Mask {
 }
 
 impl Mask {
-    /// A mask of 1 to `MOST_SIDE` cells that is false everywhere.
+    /// A mask of 1 to 65536 cells that is false everywhere.
     pub fn blank(alloc: Global, width: u32) -> Result<Mask, AllocError>
         requires some_cells { 1 ≤ width }
-        requires few_cells { width ≤ MOST_SIDE }
+        requires few_cells { width ≤ 65536 }
         ensures { IfOk result (λ m. m ≡ replicate width false) }
     {
         let words = vec![in alloc; 0; words_for(width)]?;
@@ -58,11 +57,11 @@ impl Mask {
         })
     }
 
-    /// The number of cells, 1 to `MOST_SIDE`.
+    /// The number of cells, 1 to 65536.
     pub fn width(&self) -> u32
         ensures value { result ≡ length self.now }
         ensures some_cells { 1 ≤ result }
-        ensures few_cells { result ≤ MOST_SIDE }
+        ensures few_cells { result ≤ 65536 }
     {
         self.width
     }

@@ -1,6 +1,5 @@
 ghost use Rattle.std.specs.Prelude.{◌≡◌, ◌≤◌, ℕ, length, map, replicate, IfOk};
 ghost use Rattle.std.specs.List.{range_with_len};
-ghost use Rattle.gas_geom.specs.declared.size.TheConstants.{MOST_SIDE};
 ghost use Rattle.gas_rows.specs.Chirality.{chirality_bit};
 
 use crate::chirality::{Chirality, seeded_row};
@@ -37,10 +36,10 @@ impl Model for RandomBits {
 }
 
 impl RandomBits {
-    /// The bits of a row of 1 to `MOST_SIDE` cells, before any was drawn.
+    /// The bits of a row of 1 to 65536 cells, before any was drawn.
     pub fn new(alloc: Global, width: u32) -> Result<Self, AllocError>
         requires some_cells { 1 ≤ width }
-        requires few_cells { width ≤ MOST_SIDE }
+        requires few_cells { width ≤ 65536 }
         ensures wide { IfOk result (λ r. length r ≡ width) }
     {
         Ok(RandomBits {

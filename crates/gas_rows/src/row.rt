@@ -6,7 +6,6 @@ ghost use Rattle.gas_geom.specs.Neighbour.{column_after};
 ghost use Rattle.gas_rows.specs.Shift.{streamed_bit};
 ghost use Rattle.gas_rows.specs.Words.{words_in, bit};
 ghost use Rattle.gas_rows.specs.Planes.{AreWordsOf, cells_of};
-ghost use Rattle.gas_geom.specs.declared.size.TheConstants.{MOST_SIDE};
 
 use crate::mask::Mask;
 use crate::planes::{
@@ -42,10 +41,10 @@ impl<G: Gas> Model for Row<G> {
 }
 
 impl<G: Gas> Row<G> {
-    /// A row of 1 to `MOST_SIDE` empty cells.
+    /// A row of 1 to 65536 empty cells.
     pub fn blank(alloc: Global, width: u32) -> Result<Self, AllocError>
         requires some_cells { 1 ≤ width }
-        requires few_cells { width ≤ MOST_SIDE }
+        requires few_cells { width ≤ 65536 }
         ensures { IfOk result (λ r. r ≡ replicate width 0) }
     {
         Ok(Row {
@@ -66,11 +65,11 @@ impl<G: Gas> Row<G> {
         })
     }
 
-    /// The number of cells, 1 to `MOST_SIDE`.
+    /// The number of cells, 1 to 65536.
     pub fn width(&self) -> u32
         ensures value { result ≡ length self.now }
         ensures some_cells { 1 ≤ result }
-        ensures few_cells { result ≤ MOST_SIDE }
+        ensures few_cells { result ≤ 65536 }
     {
         self.width
     }

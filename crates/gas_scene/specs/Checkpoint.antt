@@ -8,7 +8,6 @@ use Rattle.gas_geom.specs.Channel.{is_solid}
 use Rattle.gas_geom.specs.Lattice.{LatticeModel, cell}
 use Rattle.gas_rows.specs.declared.chirality.Chirality.{Chirality}
 use Rattle.gas_rows.specs.declared.chirality.Chirality.TheVariants.{Seeded, Left, Right}
-use Rattle.gas_scene.specs.declared.ranges.TheConstants.{LAST_GENERATION}
 use Rattle.gas_scene.specs.Gases.{GasLattice}
 
 -- whether the seed, if there is one, is an integer of TOML
@@ -19,7 +18,7 @@ is_seed_told Right = true
 
 -- whether a scene can have this chirality and this generation
 abbrev pub is_told : Chirality → ℕ → Bool
-is_told chirality generation = is_seed_told chirality && nat_le generation LAST_GENERATION
+is_told chirality generation = is_seed_told chirality && nat_le generation 1000000000000
 
 -- the two characters of a cell: `##` solid, `..` empty, else the state in lower-case hexadecimal digits
 abbrev pub cell_text : Bool → ℕ → List ℕ

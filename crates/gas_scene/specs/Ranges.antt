@@ -4,7 +4,6 @@ use Rattle.std.specs.List.{list_all, list_any}
 use Rattle.std.specs.Ordering.{int_eq}
 use Rattle.std.specs.Str.{bytes_eq}
 use Rattle.toml.specs.Data.{Data, Members}
-use Rattle.gas_scene.specs.declared.ranges.TheConstants.{LAST_GENERATION}
 use Rattle.gas_scene.specs.declared.fields.Extent.{Extent}
 use Rattle.gas_scene.specs.declared.fields.Span.{Span}
 use Rattle.gas_scene.specs.declared.fields.Rectangle.{Rectangle}
@@ -62,7 +61,7 @@ is_version ms =
 
 -- a number of a generation
 abbrev pub is_generation : ℤ → Bool
-is_generation z = int_le (pos 0) z && int_le z (pos LAST_GENERATION)
+is_generation z = int_le (pos 0) z && int_le z (pos 1000000000000)
 
 abbrev pub is_gas : Members → Bool
 is_gas ms = is_some (gas_named (text_at (codes "gas") ms))

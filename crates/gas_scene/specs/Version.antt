@@ -2,8 +2,6 @@
 use Rattle.std.specs.Prelude.{ℕ, pos, codes, if◌then◌else◌}
 use Rattle.std.specs.Ordering.{int_eq}
 use Rattle.toml.specs.Data.{Members}
-use Rattle.gas_geom.specs.declared.size.TheConstants.{MOST_SIDE}
-use Rattle.gas_scene.specs.declared.version.TheConstants.{FIRST_MOST_SIDE}
 use Rattle.gas_scene.specs.declared.version.Version.{Version}
 use Rattle.gas_scene.specs.declared.version.Version.TheVariants.{One, Two}
 use Rattle.gas_scene.specs.Fields.{integer_at}
@@ -14,5 +12,5 @@ version_of ms = if int_eq (integer_at (codes "version") ms) (pos 2) then Two els
 
 -- the most columns, and the most rows
 abbrev pub most_side : Version → ℕ
-most_side One = FIRST_MOST_SIDE
-most_side Two = MOST_SIDE
+most_side One = 4096
+most_side Two = 65536

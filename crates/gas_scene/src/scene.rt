@@ -2,7 +2,6 @@ ghost use Rattle.std.specs.Prelude.{◌≡◌, ◌≤◌, ◌^◌, true, codes, 
 ghost use Rattle.toml.specs.View.{table_view};
 ghost use Rattle.gas_scene.specs.Gases.{states_named, gas_lattice};
 ghost use Rattle.gas_scene.specs.Fields.{text_at};
-ghost use Rattle.gas_scene.specs.declared.ranges.TheConstants.{LAST_GENERATION};
 ghost use Rattle.gas_scene.specs.Ranges.{is_common_in_range};
 ghost use Rattle.gas_scene.specs.Refusals.{refusal_of};
 ghost use Rattle.gas_scene.specs.Scene.{chirality_of, generation_of, lattice_in, gas_lattice_of, scene_of, table_answer, scene_of_text, Gives};
@@ -13,6 +12,7 @@ use crate::checks::check;
 use crate::error::SceneError;
 use crate::fields::{has, integer_at, text_at};
 use crate::map_form::map_lattice;
+pub use crate::ranges::LAST_GENERATION;
 use gas_geom::fhp_rest::FhpRest;
 use gas_geom::fhp1::Fhp1;
 use gas_geom::gas::Gas;
@@ -36,13 +36,12 @@ impl Model for Scene {
     ghost use Rattle.gas_scene.specs.Gases.{gas_lattice};
     ghost use Rattle.gas_scene.specs.Scene.{SceneModel};
     ghost use Rattle.std.specs.Prelude.{◌≤◌};
-    ghost use Rattle.gas_scene.specs.declared.ranges.TheConstants.{LAST_GENERATION};
 
     ghost Value = { SceneModel };
 
     ghost view = { λ s. record { lattice = gas_lattice s.lattice; chirality = s.chirality; generation = s.generation } };
 
-    ghost invariant = { λ s. s.generation ≤ LAST_GENERATION };
+    ghost invariant = { λ s. s.generation ≤ 1000000000000 };
 }
 
 impl Scene {
@@ -61,7 +60,7 @@ impl Scene {
     /// The generation of the lattice, 0 to 1,000,000,000,000.
     pub fn generation(&self) -> u64
         ensures value { result ≡ self.now.generation }
-        ensures few { result ≤ LAST_GENERATION }
+        ensures few { result ≤ 1000000000000 }
     {
         self.generation
     }
@@ -150,7 +149,7 @@ fn read_table(alloc: Global, table: &Table) -> Result<Scene, SceneError>
 /// has `generation`, the generation of the lattice that is given, 0 to 1,000,000,000,000, and 0 where it is
 /// left out.
 ///
-/// The sides of a lattice have 1 to 4096 cells under version 1, and 1 to `MOST_SIDE` under version 2.
+/// The sides of a lattice have 1 to 4096 cells under version 1, and 1 to 65,536 under version 2.
 ///
 /// A map has `cells`, texts of one length, the rows from the top: two characters for each
 /// cell, `..` or `00` for an empty one, `##` for a solid one, and else the state as
