@@ -13,6 +13,7 @@ use Rattle.gas_geom.specs.Channel.{IsChannel, is_solid}
 use Rattle.gas_geom.specs.Lattice.{LatticeModel, IsLattice, cell, rows_of}
 use Rattle.gas_geom.specs.declared.size.TheConstants.{MOST_SIDE}
 use Rattle.gas_rows.specs.declared.chirality.Chirality.{Chirality}
+use Rattle.gas_cells.specs.Cells.{row_cells}
 use Rattle.gas_scene.specs.declared.error.SceneError.TheVariants.{Range, RowLength, BadCell}
 use Rattle.gas_scene.specs.Gases.{GasLattice, gas_named, states_named, rules_named}
 use Rattle.gas_scene.specs.Fields.{text_at, rows_at, row_at}
@@ -25,11 +26,10 @@ use Rattle.gas_scene.specs.Map.{is_solid_cell, state_in, map_cell, map_width, ma
 use Rattle.gas_scene.specs.Area.{area_lattice}
 use Rattle.gas_scene.specs.Scene.{lattice_in, gas_lattice_of, scene_of, table_answer}
 use Rattle.gas_scene.specs.Checking.{verdict}
-use Rattle.gas_scene.specs.Checkpoint.{row_text}
 use Rattle.gas_scene.proofs.Answers.{table_answer-accepted}
 use Rattle.gas_scene.proofs.First.{first_below-all}
 use Rattle.gas_scene.proofs.Grids.{rows_of-same}
-use Rattle.gas_scene.proofs.Printed.{cell_data, length-row_text, cell_at-row_text}
+use Rattle.gas_scene.proofs.Printed.{cell_data, length-row_cells, cell_at-row_cells}
 use Rattle.gas_scene.proofs.Tables.{texts, IsSceneTable}
 
 -- rows by what stands in them
@@ -63,14 +63,14 @@ module _ (gas : Rules) (l : LatticeModel) (whole : IsLattice gas l.channel l.row
   states : ℕ
   states = 2 ^ gas.dirs
 
-  row-texts : (y : ℕ) → y < l.channel.height → row_at (texts l) y ≡ row_text l y
-  row-texts y within = get_or-map-range_with_len (λ v. row_text l v) 0 l.channel.height y y [] within (omega arith)
+  row-texts : (y : ℕ) → y < l.channel.height → row_at (texts l) y ≡ row_cells l.channel l.rows y
+  row-texts y within = get_or-map-range_with_len (λ v. row_cells l.channel l.rows v) 0 l.channel.height y y [] within (omega arith)
 
   high-texts : length (texts l) ≡ l.channel.height
-  high-texts = length-map-range_with_len (λ v. row_text l v) 0 l.channel.height
+  high-texts = length-map-range_with_len (λ v. row_cells l.channel l.rows v) 0 l.channel.height
 
   wide-texts : (y : ℕ) → y < l.channel.height → length (row_at (texts l) y) ≡ 2 * l.channel.width
-  wide-texts y within = ap length (row-texts y within) ∙ length-row_text l y
+  wide-texts y within = ap length (row-texts y within) ∙ length-row_cells l y
 
   width-texts : map_width (texts l) ≡ l.channel.width
   width-texts = omega (arith, wide-texts 0 channel.size.some_rows)
@@ -78,7 +78,7 @@ module _ (gas : Rules) (l : LatticeModel) (whole : IsLattice gas l.channel l.row
   read : (x y : ℕ) → x < l.channel.width → y < l.channel.height
       → map_cell (2 ^ gas.dirs) (texts l) x y ≡ Some (cell_data (is_solid l.channel x y) (cell l.rows x y))
   read x y in_columns in_rows =
-      ap (λ r. cell_at (2 ^ gas.dirs) r x) (row-texts y in_rows) ∙ cell_at-row_text l (2 ^ gas.dirs) x y in_columns (whole.sets x y) few
+      ap (λ r. cell_at (2 ^ gas.dirs) r x) (row-texts y in_rows) ∙ cell_at-row_cells l (2 ^ gas.dirs) x y in_columns (whole.sets x y) few
 
   same_solid : rows_of l.channel.width l.channel.height (λ x y. is_solid_cell (map_cell (2 ^ gas.dirs) (texts l) x y)) ≡ l.channel.solid
   same_solid =

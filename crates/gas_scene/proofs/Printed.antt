@@ -5,13 +5,14 @@ use Rattle.std.specs.Option.{option_eq}
 use Rattle.std.specs.Str.{bytes_eq}
 use Rattle.std.proofs.lemmas.Bool.{agree_below_at, eqb-true, cases_lt, lt-ltb}
 use Rattle.std.proofs.lemmas.Bool.Decides.{nat_tests}
-use Rattle.std.proofs.lemmas.List.{length-append, get_or_append_left, get_or-append-add}
+use Rattle.std.proofs.lemmas.List.{get_or_append_left, get_or-append-add}
 use Rattle.gas_geom.specs.Channel.{is_solid}
 use Rattle.gas_geom.specs.Lattice.{LatticeModel, cell}
+use Rattle.gas_cells.specs.Cells.{cell_text, texts_below, row_cells}
+use Rattle.gas_cells.proofs.Pairs.{cell_text-long, pairs-long}
 use Rattle.gas_scene.specs.declared.cells.Cell.{Cell}
 use Rattle.gas_scene.specs.declared.cells.Cell.TheVariants.{Solid, State}
 use Rattle.gas_scene.specs.Cells.{digit_of, state_of, cell_of, cell_at}
-use Rattle.gas_scene.specs.Checkpoint.{cell_text, cells_text, row_text}
 use Rattle.gas_scene.proofs.Digits.{same_option}
 
 -- a digit is read back, and is no mark
@@ -55,11 +56,6 @@ abbrev text_if : Bool → Bool → ℕ → List ℕ
 text_if solid empty state =
     if solid then codes "##" else if empty then codes ".." else digit_glyph false (state / 16) ∷ digit_glyph false (state % 16) ∷ []
 
-two-if : (solid empty : Bool) (state : ℕ) → length (text_if solid empty state) ≡ 2
-two-if true empty state = refl
-two-if false true state = refl
-two-if false false state = refl
-
 solid_read : (states : ℕ) → cell_of states 35 35 ≡ Some Solid
 unfolding cell_of
 solid_read states = refl
@@ -74,39 +70,33 @@ cell_of-if states state true empty below few is = solid_read states
 cell_of-if states state false true below few is = empty_read states ∙ ap (λ s. Some (State s)) (sym (eqb-true state 0 is))
 cell_of-if states state false false below few is = digits_read states state below few
 
-two : (solid : Bool) (state : ℕ) → length (cell_text solid state) ≡ 2
-two solid state = two-if solid (state == 0) state
-
-pub length-cells_text : (l : LatticeModel) (y n : ℕ) → length (cells_text l y n) ≡ 2 * n
-length-cells_text l y zero = refl
-length-cells_text l y (suc n) =
-    let here = length-append (cells_text l y n) (cell_text (is_solid l.channel n y) (cell l.rows n y)) in
-    omega (arith, here, length-cells_text l y n, two (is_solid l.channel n y) (cell l.rows n y))
-
 -- the characters of a cell among those of its row
-character : (l : LatticeModel) (y n x k : ℕ) → x < n → k < 2
-    → get_or (cells_text l y n) (2 * x + k) 0 ≡ get_or (cell_text (is_solid l.channel x y) (cell l.rows x y)) k 0
-character l y zero x k within few = absurd (omega (arith, within))
-character l y (suc n) x k within few =
-    let before : List ℕ = cells_text l y n in
-    let last : List ℕ = cell_text (is_solid l.channel n y) (cell l.rows n y) in
+character : (f : ℕ → List ℕ) → ((b : ℕ) → length (f b) ≡ 2) → (n x k : ℕ) → x < n → k < 2 → get_or (texts_below f n) (2 * x + k) 0 ≡ get_or (f x) k 0
+character f two zero x k within few = absurd (omega (arith, within))
+character f two (suc n) x k within few =
     elim (cases_lt x n) [
-      | inl lt ↦ get_or_append_left before last 0 (2 * x + k) (omega (arith, lt, few, length-cells_text l y n)) ∙ character l y n x k lt few
+      | inl lt ↦ get_or_append_left (texts_below f n) (f n) 0 (2 * x + k) (omega (arith, lt, few, pairs-long f two n)) ∙ character f two n x k lt few
       | inr ge ↦ let same : x ≡ n = omega (arith, ge, within) in
-          let place : 2 * x + k ≡ length before + k = omega (arith, same, length-cells_text l y n) in
-          ap (λ i. get_or (before ++ last) i 0) place ∙ get_or-append-add before last k 0
-          ∙ ap (λ u. get_or (cell_text (is_solid l.channel u y) (cell l.rows u y)) k 0) (sym same)
+          let place : 2 * x + k ≡ length (texts_below f n) + k = omega (arith, same, pairs-long f two n) in
+          ap (λ i. get_or (texts_below f n ++ f n) i 0) place ∙ get_or-append-add (texts_below f n) (f n) k 0
+          ∙ ap (λ u. get_or (f u) k 0) (sym same)
     ]
 
-pub length-row_text : (l : LatticeModel) (y : ℕ) → length (row_text l y) ≡ 2 * l.channel.width
-unfolding row_text
-length-row_text l y = length-cells_text l y l.channel.width
+abbrev text_at : LatticeModel → ℕ → ℕ → List ℕ
+text_at l y x = cell_text (is_solid l.channel x y) (cell l.rows x y)
 
-pub cell_at-row_text : (l : LatticeModel) (states x y : ℕ) → x < l.channel.width → cell l.rows x y < states → states ≤ 256
-    → cell_at states (row_text l y) x ≡ Some (cell_data (is_solid l.channel x y) (cell l.rows x y))
-unfolding row_text
-cell_at-row_text l states x y within below few =
+two : (l : LatticeModel) (y x : ℕ) → length (text_at l y x) ≡ 2
+two l y x = cell_text-long (is_solid l.channel x y) (cell l.rows x y)
+
+pub length-row_cells : (l : LatticeModel) (y : ℕ) → length (row_cells l.channel l.rows y) ≡ 2 * l.channel.width
+unfolding row_cells
+length-row_cells l y = pairs-long (text_at l y) (two l y) l.channel.width
+
+pub cell_at-row_cells : (l : LatticeModel) (states x y : ℕ) → x < l.channel.width → cell l.rows x y < states → states ≤ 256
+    → cell_at states (row_cells l.channel l.rows y) x ≡ Some (cell_data (is_solid l.channel x y) (cell l.rows x y))
+unfolding row_cells
+cell_at-row_cells l states x y within below few =
     let first : 2 * x ≡ 2 * x + 0 = omega arith in
-    let row : List ℕ = cells_text l y l.channel.width in
-    ap₂ (cell_of states) (ap (λ i. get_or row i 0) first ∙ character l y l.channel.width x 0 within (omega arith)) (character l y l.channel.width x 1 within (omega arith))
+    let row : List ℕ = texts_below (text_at l y) l.channel.width in
+    ap₂ (cell_of states) (ap (λ i. get_or row i 0) first ∙ character (text_at l y) (two l y) l.channel.width x 0 within (omega arith)) (character (text_at l y) (two l y) l.channel.width x 1 within (omega arith))
     ∙ cell_of-if states (cell l.rows x y) (is_solid l.channel x y) (cell l.rows x y == 0) below few refl

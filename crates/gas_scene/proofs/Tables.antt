@@ -9,6 +9,7 @@ use Rattle.toml.specs.View.{items_of}
 use Rattle.gas_geom.specs.Lattice.{LatticeModel}
 use Rattle.gas_rows.specs.declared.chirality.Chirality.{Chirality}
 use Rattle.gas_rows.specs.declared.chirality.Chirality.TheVariants.{Seeded, Left, Right}
+use Rattle.gas_cells.specs.Cells.{row_cells}
 use Rattle.gas_scene.specs.declared.error.SceneError.TheVariants.{WrongType}
 use Rattle.gas_scene.specs.declared.ranges.TheConstants.{LAST_GENERATION}
 use Rattle.gas_scene.specs.declared.version.Version.TheVariants.{Two}
@@ -19,12 +20,12 @@ use Rattle.gas_scene.specs.Kind.{is_text}
 use Rattle.gas_scene.specs.Ranges.{is_generation, is_common_in_range}
 use Rattle.gas_scene.specs.Refusals.{refused_if, unknown_key, both_forms, missing, wrong_type}
 use Rattle.gas_scene.specs.Scene.{chirality_of, generation_of}
-use Rattle.gas_scene.specs.Checkpoint.{is_told, row_text, row_values, checkpoint_table}
+use Rattle.gas_scene.specs.Checkpoint.{is_told, row_values, checkpoint_table}
 use Rattle.gas_scene.specs.Printing.{inserted}
 
 -- the rows of a lattice as texts
 abbrev pub texts : LatticeModel → List (List ℕ)
-texts l = map (λ y. row_text l y) (range_with_len 0 l.channel.height)
+texts l = map (λ y. row_cells l.channel l.rows y) (range_with_len 0 l.channel.height)
 
 texts_read : (f : ℕ → List ℕ) (ys : List ℕ) → map text_of (list_of (items_of (map (λ y. string (f y)) ys))) ≡ map f ys
 texts_read f [] = refl
@@ -84,41 +85,41 @@ module _ (l : LatticeModel) (gas : List ℕ) (generation : ℕ) (named : is_some
     known = refl;
     one_form = refl;
     complete = refl;
-    typed = ap (λ (b : Bool). refused_if (not (b && true)) WrongType) (all_texts (row_text l) (range_with_len 0 l.channel.height));
+    typed = ap (λ (b : Bool). refused_if (not (b && true)) WrongType) (all_texts (row_cells l.channel l.rows) (range_with_len 0 l.channel.height));
     cells = refl;
     version = refl;
     common = ap₂ (λ (a : Bool) (b : Bool). a && b) named (ap₂ (λ (a : Bool) (b : Bool). a && b) (natural seed) (told (Seeded seed) generation held));
     gas_is = refl;
-    rows_are = texts_read (row_text l) (range_with_len 0 l.channel.height);
+    rows_are = texts_read (row_cells l.channel l.rows) (range_with_len 0 l.channel.height);
     chirality_is = refl;
     generation_is = refl;
-    flat = low _ (flat (row_text l) (range_with_len 0 l.channel.height));
+    flat = low _ (flat (row_cells l.channel l.rows) (range_with_len 0 l.channel.height));
   }
   IsSceneTable-checkpoint Left held = record {
     known = refl;
     one_form = refl;
     complete = refl;
-    typed = ap (λ (b : Bool). refused_if (not (b && true)) WrongType) (all_texts (row_text l) (range_with_len 0 l.channel.height));
+    typed = ap (λ (b : Bool). refused_if (not (b && true)) WrongType) (all_texts (row_cells l.channel l.rows) (range_with_len 0 l.channel.height));
     cells = refl;
     version = refl;
     common = ap₂ (λ (a : Bool) (b : Bool). a && b) named (told Left generation held);
     gas_is = refl;
-    rows_are = texts_read (row_text l) (range_with_len 0 l.channel.height);
+    rows_are = texts_read (row_cells l.channel l.rows) (range_with_len 0 l.channel.height);
     chirality_is = refl;
     generation_is = refl;
-    flat = low _ (flat (row_text l) (range_with_len 0 l.channel.height));
+    flat = low _ (flat (row_cells l.channel l.rows) (range_with_len 0 l.channel.height));
   }
   IsSceneTable-checkpoint Right held = record {
     known = refl;
     one_form = refl;
     complete = refl;
-    typed = ap (λ (b : Bool). refused_if (not (b && true)) WrongType) (all_texts (row_text l) (range_with_len 0 l.channel.height));
+    typed = ap (λ (b : Bool). refused_if (not (b && true)) WrongType) (all_texts (row_cells l.channel l.rows) (range_with_len 0 l.channel.height));
     cells = refl;
     version = refl;
     common = ap₂ (λ (a : Bool) (b : Bool). a && b) named (told Right generation held);
     gas_is = refl;
-    rows_are = texts_read (row_text l) (range_with_len 0 l.channel.height);
+    rows_are = texts_read (row_cells l.channel l.rows) (range_with_len 0 l.channel.height);
     chirality_is = refl;
     generation_is = refl;
-    flat = low _ (flat (row_text l) (range_with_len 0 l.channel.height));
+    flat = low _ (flat (row_cells l.channel l.rows) (range_with_len 0 l.channel.height));
   }

@@ -1,13 +1,12 @@
 -- What a scene can tell of a lattice amid its generations, and the table that tells it.
-use Rattle.std.specs.Prelude.{ℕ, zero, suc, ◌/◌, ◌%◌, ◌^◌, ◌==◌, ◌&&◌, Bool, true, false, List, [], ◌∷◌, ◌++◌, map, if◌then◌else◌, codes, pos, nat_lt, nat_le}
-use Rattle.std.specs.Fmt.{digit_glyph}
+use Rattle.std.specs.Prelude.{ℕ, ◌^◌, ◌&&◌, Bool, true, List, map, codes, pos, nat_lt, nat_le}
 use Rattle.std.specs.List.{range_with_len}
 use Rattle.toml.specs.Data.{Data, string, integer, array, Members, no_members, member}
 use Rattle.toml.specs.View.{items_of}
-use Rattle.gas_geom.specs.Channel.{is_solid}
-use Rattle.gas_geom.specs.Lattice.{LatticeModel, cell}
+use Rattle.gas_geom.specs.Lattice.{LatticeModel}
 use Rattle.gas_rows.specs.declared.chirality.Chirality.{Chirality}
 use Rattle.gas_rows.specs.declared.chirality.Chirality.TheVariants.{Seeded, Left, Right}
+use Rattle.gas_cells.specs.Cells.{row_cells}
 use Rattle.gas_scene.specs.Gases.{GasLattice}
 
 -- whether the seed, if there is one, is an integer of TOML
@@ -20,25 +19,9 @@ is_seed_told Right = true
 abbrev pub is_told : Chirality → ℕ → Bool
 is_told chirality generation = is_seed_told chirality && nat_le generation 1000000000000
 
--- the two characters of a cell: `##` solid, `..` empty, else the state in lower-case hexadecimal digits
-abbrev pub cell_text : Bool → ℕ → List ℕ
-cell_text solid state =
-    if solid then codes "##"
-    else if state == 0 then codes ".."
-    else digit_glyph false (state / 16) ∷ digit_glyph false (state % 16) ∷ []
-
--- the characters of the first n cells of row y
-abbrev pub cells_text : LatticeModel → ℕ → ℕ → List ℕ
-cells_text l y zero = []
-cells_text l y (suc n) = cells_text l y n ++ cell_text (is_solid l.channel n y) (cell l.rows n y)
-
--- the characters of row y
-unfoldable pub row_text : LatticeModel → ℕ → List ℕ
-row_text l y = cells_text l y l.channel.width
-
 -- the texts of the rows, from the top
 abbrev pub row_values : LatticeModel → List Data
-row_values l = map (λ y. string (row_text l y)) (range_with_len 0 l.channel.height)
+row_values l = map (λ y. string (row_cells l.channel l.rows y)) (range_with_len 0 l.channel.height)
 
 abbrev pub chirality_name : Chirality → List ℕ
 chirality_name (Seeded seed) = codes "seeded"

@@ -1,65 +1,55 @@
 //! A lattice amid its generations as the text of a scene, from which its run can go on.
 
-ghost use Rattle.std.specs.Prelude.{◌≡◌, ◌⊎◌, ◌↔◌, ◌++◌, ◌<◌, ◌^◌, true, false, Some, Ok, Err, pos, map, IfOk, IfErr, OnOk, string_bytes};
-ghost use Rattle.std.specs.Fmt.{digit_glyph};
+ghost use Rattle.std.specs.Prelude.{◌≡◌, ◌⊎◌, ◌↔◌, ◌<◌, ◌^◌, true, false, Some, Ok, Err, pos, map, IfOk, IfErr, OnOk, string_bytes};
 ghost use Rattle.gas_geom.specs.Channel.{IsChannel};
 ghost use Rattle.gas_geom.specs.Lattice.{IsLattice};
 ghost use Rattle.toml.specs.Data.{integer};
 ghost use Rattle.toml.specs.Parse.{parse_document};
 ghost use Rattle.toml.specs.View.{view, table_view};
+ghost use Rattle.gas_cells.specs.Cells.{row_cells};
 ghost use Rattle.gas_scene.specs.declared.error.SceneError.TheVariants.{Memory, Range};
 ghost use Rattle.gas_scene.specs.Gases.{gas_lattice, gas_named};
 ghost use Rattle.gas_scene.specs.Scene.{scene_of_text};
-ghost use Rattle.gas_scene.specs.Checkpoint.{is_seed_told, is_told, cell_text, row_text, row_values, chirality_name, checkpoint_table};
+ghost use Rattle.gas_scene.specs.Checkpoint.{is_seed_told, is_told, row_values, chirality_name, checkpoint_table};
 ghost use Rattle.gas_scene.specs.Printing.{insert_member, insert_seed, inserted};
 
 use crate::any_lattice::AnyLattice;
 use crate::error::SceneError;
 use crate::ranges::LAST_GENERATION;
+use gas_cells::cells::row_pairs;
 use gas_geom::gas::Gas;
 use gas_rows::chirality::Chirality;
 use gas_rows::lattice::Lattice;
 use std::alloc::{AllocError, Global};
 use toml::{Table, Value};
 
-// The character of a hexadecimal digit.
-fn hex_digit(digit: u8) -> char
-    requires { digit < 16 }
-    ensures { result ≡ digit_glyph false digit }
-{
-    if digit < 10 {
-        char::from(b'0' + digit)
-    } else {
-        char::from(b'a' + (digit - 10))
-    }
-}
-
-// Adds the two characters of a cell.
-fn push_cell(text: &mut String, solid: bool, state: u8) -> Result<(), AllocError>
-    ensures { OnOk result (string_bytes text.new ≡ string_bytes text.old ++ cell_text solid state) }
-{
-    if solid {
-        text.push_str("##")
-    } else if state == 0 {
-        text.push_str("..")
-    } else {
-        text.push(hex_digit(state / 16))?;
-        text.push(hex_digit(state % 16))
-    }
-}
-
 // The characters of row `y`.
-fn row_text<G: Gas>(alloc: Global, lattice: &Lattice<G>, y: u32) -> Result<String, AllocError>
+fn row_bytes<G: Gas>(alloc: Global, lattice: &Lattice<G>, y: u32) -> Result<Vec<u8>, AllocError>
     requires { y < lattice.now.channel.height }
-    ensures { IfOk result (λ s. string_bytes s ≡ row_text lattice.now y) }
+    ensures row { IfOk result (λ text. text.items ≡ row_cells lattice.now.channel lattice.now.rows y) }
+    ensures lattice { IsLattice G.rules lattice.now.channel lattice.now.rows }
 {
     let row = lattice.row(y);
     let solid = lattice.channel().mask(y);
-    let mut text = String::with_capacity(alloc, 2 * row.width() as usize)?;
-    for x in 0..row.width() {
-        push_cell(&mut text, solid.get(x), row.get(x))?;
+    let width = row.width();
+    let mut text = Vec::with_capacity(alloc, 2 * width as usize)?;
+    for j in 0..width.div_ceil(64) {
+        let pairs = row_pairs(row, solid, j);
+        let cells = (width - 64 * j).min(64) as usize;
+        text.extend_from_slice(&pairs[..2 * cells])?;
     }
     Ok(text)
+}
+
+// The text of row `y`, whose characters are ASCII.
+fn row_text<G: Gas>(alloc: Global, lattice: &Lattice<G>, y: u32) -> Result<String, AllocError>
+    requires { y < lattice.now.channel.height }
+    ensures { IfOk result (λ s. string_bytes s ≡ row_cells lattice.now.channel lattice.now.rows y) }
+{
+    match String::from_utf8(row_bytes(alloc, lattice, y)?) {
+        Ok(text) => Ok(text),
+        Err(_) => unreachable!(),
+    }
 }
 
 // The rows from the top, as values of a table.

@@ -11,7 +11,7 @@ use Rattle.std.specs.Fmt.{WritesText}
 use Rattle.arrayvec.specs.ArrayString.{ArrayString}
 use Rattle.std.specs.Prelude.{IfSome}
 use Rattle.gas_text.specs.Sink.{SinkModel, HasSent, Adds}
-use Rattle.gas_text.specs.Text.{texts_below}
+use Rattle.gas_cells.specs.Cells.{texts_below}
 
 -- the next part of a text went out
 pub Appends-part : (a b c : Option (List ℕ)) (n k : ℕ) (xs : List ℕ) → Appends a b (take n xs) → Appends b c (take k (take (length xs - n) (drop n xs))) → Appends a c (take (n + k) xs)
@@ -80,6 +80,14 @@ Adds-next a b c p q r f n h k =
 -- the texts below an equal number
 pub Adds-below : (a b : Option (List ℕ)) (p q : SinkModel) (f : ℕ → List ℕ) (n m : ℕ) → n ≡ m → Adds a b p q (texts_below f n) → Adds a b p q (texts_below f m)
 Adds-below a b p q f n m e h = subst (λ (k : ℕ). Adds a b p q (texts_below f k)) e h
+
+-- the same text
+pub Adds-same : (a b : Option (List ℕ)) (p q : SinkModel) (text whole : List ℕ) → text ≡ whole → Adds a b p q text → Adds a b p q whole
+Adds-same a b p q text whole e h = subst (Adds a b p q) e h
+
+-- bytes that make of a text another one
+pub Adds-more : (a b c : Option (List ℕ)) (p q r : SinkModel) (text bytes whole : List ℕ) → text ++ bytes ≡ whole → Adds a b p q text → Adds b c q r bytes → Adds a c p r whole
+Adds-more a b c p q r text bytes whole e h more = Adds-same a c p r _ _ e (Adds-then a b c p q r _ _ h more)
 
 -- a text of which nothing waits went out whole, and a flush adds nothing
 pub HasSent-whole : (start a b : Option (List ℕ)) (s : SinkModel) (text : List ℕ) → HasSent start a s text → s.failed ≡ false → s.waiting ≡ [] → Keeps a b → Appends start b text

@@ -1,21 +1,9 @@
 -- The printed texts: of a lattice a line with its generation and its particles, then its rows from the top; of a scene one
 -- line that tells what it is.
-use Rattle.std.specs.Prelude.{ℕ, zero, suc, ◌/◌, ◌%◌, ◌==◌, Bool, false, if◌then◌else◌, List, [], ◌∷◌, ◌++◌, codes}
-use Rattle.std.specs.Fmt.{decimal, digit_glyph}
-use Rattle.gas_geom.specs.Channel.{ChannelModel, is_solid, solid_cells}
-use Rattle.gas_geom.specs.Lattice.{cell}
-
--- the two characters of a cell: `##` solid, `..` empty, else the state in lower-case hexadecimal digits
-abbrev pub cell_text : Bool → ℕ → List ℕ
-cell_text solid state =
-    if solid then codes "##"
-    else if state == 0 then codes ".."
-    else digit_glyph false (state / 16) ∷ digit_glyph false (state % 16) ∷ []
-
--- the texts of the numbers below n, one after the other
-abbrev pub texts_below : (ℕ → List ℕ) → ℕ → List ℕ
-texts_below f zero = []
-texts_below f (suc n) = texts_below f n ++ f n
+use Rattle.std.specs.Prelude.{ℕ, List, [], ◌∷◌, ◌++◌, codes}
+use Rattle.std.specs.Fmt.{decimal}
+use Rattle.gas_geom.specs.Channel.{ChannelModel, solid_cells}
+use Rattle.gas_cells.specs.Cells.{texts_below, row_cells}
 
 abbrev pub line_feed : List ℕ
 line_feed = 10 ∷ []
@@ -26,8 +14,7 @@ header_text generation particles =
     ++ codes " particles " ++ decimal particles ++ line_feed
 
 abbrev pub row_text : ChannelModel → List (List ℕ) → ℕ → List ℕ
-row_text channel rows y =
-    texts_below (λ x. cell_text (is_solid channel x y) (cell rows x y)) channel.width ++ line_feed
+row_text channel rows y = row_cells channel rows y ++ line_feed
 
 abbrev pub rows_text : ChannelModel → List (List ℕ) → List ℕ
 rows_text channel rows = texts_below (row_text channel rows) channel.height

@@ -1,56 +1,17 @@
 //! The printed texts.
 
-ghost use Rattle.std.specs.Prelude.{◌≡◌, ◌<◌, ◌≤◌, ◌*◌, ℕ, false, slice_index, take};
-ghost use Rattle.std.specs.Fmt.{digit_glyph};
-ghost use Rattle.gas_geom.specs.Gas.{holds};
+ghost use Rattle.std.specs.Prelude.{◌<◌};
 ghost use Rattle.gas_geom.specs.Lattice.{count};
 ghost use Rattle.gas_text.specs.Output.{Writes};
 ghost use Rattle.gas_text.specs.Sink.{Adds};
-ghost use Rattle.gas_text.specs.Text.{cell_text, cells_text, check_line, check_text, header_text, row_text, rows_text, texts_below};
+ghost use Rattle.gas_text.specs.Text.{cells_text, check_line, check_text, header_text, row_text, rows_text};
 
 use crate::faults::WriteFault;
 use crate::output::{Sink, put_line};
+use gas_cells::cells::row_pairs;
 use gas_geom::gas::Gas;
 use gas_rows::lattice::Lattice;
 use std::io::Write;
-
-fn hex_digit(digit: u8) -> u8
-    requires { digit < 16 }
-    ensures { result ≡ digit_glyph false digit }
-{
-    if digit < 10 {
-        b'0' + digit
-    } else {
-        b'a' + (digit - 10)
-    }
-}
-
-/// The two characters of a cell.
-pub(crate) fn cell_pair(solid: bool, state: u8) -> [u8; 2]
-    ensures { result ≡ cell_text solid state }
-{
-    if solid {
-        *b"##"
-    } else if state == 0 {
-        *b".."
-    } else {
-        [hex_digit(state / 16), hex_digit(state % 16)]
-    }
-}
-
-// The characters of 64 cells, of their bits in a mask and their states.
-fn cell_pairs(solid: u64, states: [u8; 64]) -> [u8; 128]
-    ensures { (cells : ℕ) → cells ≤ 64 → take (2 * cells) result
-        ≡ texts_below (λ b. cell_text (holds solid b) (slice_index states b)) cells }
-{
-    let mut pairs = [0; 128];
-    for b in 0..64 {
-        let pair = cell_pair((solid >> b) & 1 == 1, states[b]);
-        pairs[2 * b] = pair[0];
-        pairs[2 * b + 1] = pair[1];
-    }
-    pairs
-}
 
 /// Adds the line above the cells of a lattice.
 pub(crate) fn put_header<W: Write>(sink: &mut Sink, out: &mut W, generation: u64, particles: u64)
@@ -74,7 +35,7 @@ fn put_row<G: Gas, W: Write>(sink: &mut Sink, out: &mut W, lattice: &Lattice<G>,
     let solid = lattice.channel().mask(y);
     let width = row.width();
     for j in 0..width.div_ceil(64) {
-        let pairs = cell_pairs(solid.word(j), row.states64(j));
+        let pairs = row_pairs(row, solid, j);
         let cells = (width - 64 * j).min(64) as usize;
         sink.push(out, &pairs[..2 * cells]);
     }

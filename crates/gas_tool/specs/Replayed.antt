@@ -5,7 +5,8 @@ use Rattle.gas_geom.specs.Gas.{Rules}
 use Rattle.gas_geom.specs.Lattice.{LatticeModel, count}
 use Rattle.gas_replay.specs.Replay.{ReplayModel}
 use Rattle.gas_replay.specs.declared.replay.answer.Counts.{Counts}
-use Rattle.gas_text.specs.Text.{line_feed, texts_below, cells_text}
+use Rattle.gas_cells.specs.Cells.{texts_below}
+use Rattle.gas_text.specs.Text.{line_feed, cells_text}
 
 abbrev pub done_line : Option LatticeModel → List ℕ
 done_line None = codes "not done" ++ line_feed

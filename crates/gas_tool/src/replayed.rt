@@ -4,7 +4,7 @@ ghost use Rattle.std.specs.Prelude.{◌≡◌, ◌<◌, length, IsTrue, ◌↔�
 ghost use Rattle.gas_geom.specs.Lattice.{LatticeModel};
 ghost use Rattle.gas_text.specs.Output.{Writes};
 ghost use Rattle.gas_text.specs.Sink.{Adds};
-ghost use Rattle.gas_text.specs.Text.{texts_below};
+ghost use Rattle.gas_cells.specs.Cells.{texts_below};
 ghost use Rattle.gas_tool.specs.Replayed.{belt_line, done_line, end_text, line_of_belt, replay_text};
 
 use gas_geom::gas::Gas;

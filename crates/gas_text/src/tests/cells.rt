@@ -2,26 +2,17 @@
 
 use super::helpers::{CELLS, End, Narrow, one_particle};
 use crate::output::Sink;
-use crate::text::{cell_pair, put_header, write_cells};
+use crate::text::{put_header, write_cells};
 use std::test::Fail;
 
 #[test]
-fn pairs_and_headers(rt: HostRuntime) -> Result<(), Fail> {
+fn headers(rt: HostRuntime) -> Result<(), Fail> {
     let mut out = Narrow::new(rt.alloc(), 100, 100, End::Error);
     let mut sink = Sink::new();
     put_header(&mut sink, &mut out, 1, 1);
     put_header(&mut sink, &mut out, 1_000_000, 100_663_296);
-    for (solid, state) in [
-        (false, 0),
-        (true, 0),
-        (false, 1),
-        (false, 0x3f),
-        (false, 0xa0),
-    ] {
-        sink.push(&mut out, cell_pair(solid, state).as_slice());
-    }
     sink.finish(&mut out)?;
-    let want = "generation 1 particles 1\ngeneration 1000000 particles 100663296\n..##013fa0";
+    let want = "generation 1 particles 1\ngeneration 1000000 particles 100663296\n";
     assert!(rt; out.taken.as_slice() == want.as_bytes());
     Ok(())
 }

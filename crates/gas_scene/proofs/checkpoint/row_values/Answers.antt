@@ -5,7 +5,7 @@ use Rattle.toml.specs.Data.{Data, string}
 use Rattle.toml.specs.View.{view}
 use Rattle.toml.specs.declared.value.Value.{String}
 use Rattle.toml.proofs.Views.{view-String}
-use Rattle.gas_scene.specs.Checkpoint.{row_text}
+use Rattle.gas_cells.specs.Cells.{row_cells}
 use Rattle.gas_scene.proofs.checkpoint.row_values.Goals as goal
 
 pub loop-y-preserved : goal.loop-y-preserved
@@ -16,4 +16,4 @@ loop-y-preserved g c =
     ap (map view) c.in_ok-push.ensures.items
     ∙ map-append view c.loop-y.rows.items (String row ∷ [])
     ∙ ap₂ (λ (ds : List Data) (d : Data). ds ++ d ∷ []) c.loop-y.invariant (view-String row ∙ ap string c.in_ok-row_text.ensures)
-    ∙ sym (map-range_with_len_more (λ y. string (row_text l y)) 0 y y (omega arith))
+    ∙ sym (map-range_with_len_more (λ y. string (row_cells l.channel l.rows y)) 0 y y (omega arith))

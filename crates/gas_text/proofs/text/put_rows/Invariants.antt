@@ -1,5 +1,6 @@
 use Rattle.gas_text.specs.Sink.{Adds}
-use Rattle.gas_text.specs.Text.{row_text, texts_below}
+use Rattle.gas_cells.specs.Cells.{texts_below}
+use Rattle.gas_text.specs.Text.{row_text}
 use Rattle.gas_text.proofs.text.put_rows.Given as goal
 
 -- the rows so far were added

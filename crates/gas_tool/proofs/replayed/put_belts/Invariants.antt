@@ -1,5 +1,5 @@
 use Rattle.gas_text.specs.Sink.{Adds}
-use Rattle.gas_text.specs.Text.{texts_below}
+use Rattle.gas_cells.specs.Cells.{texts_below}
 use Rattle.gas_tool.specs.Replayed.{line_of_belt}
 use Rattle.gas_tool.proofs.replayed.put_belts.Given as goal
 

@@ -1,7 +1,7 @@
 use Rattle.std.proofs.Common.{◌≡◌, ◌*◌, length, slice_index, take}
 use Rattle.gas_geom.specs.Gas.{holds}
-use Rattle.gas_text.specs.Text.{cell_text, texts_below}
-use Rattle.gas_text.proofs.text.cell_pairs.Given as goal
+use Rattle.gas_cells.specs.Cells.{cell_text, texts_below}
+use Rattle.gas_cells.proofs.cells.cell_pairs.Given as goal
 
 -- the pairs so far are the cells' characters
 abbrev pub invariant-loop-b : goal.invariant-loop-b

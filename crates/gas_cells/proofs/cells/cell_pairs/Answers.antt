@@ -2,9 +2,9 @@ use Rattle.std.proofs.Common.{◌≡◌, ◌∙◌, ap, ap₂, refl, ℕ, ◌+�
 use Rattle.std.specs.List.{slice_index}
 use Rattle.gas_geom.specs.Gas.{holds}
 use Rattle.gas_rows.proofs.Bits.{holds-shr_and}
-use Rattle.gas_text.specs.Text.{cell_text, texts_below}
-use Rattle.gas_text.proofs.Pairs.{cell_text-long, pair_written, pairs-cut}
-use Rattle.gas_text.proofs.text.cell_pairs.Goals as goal
+use Rattle.gas_cells.specs.Cells.{cell_text, texts_below}
+use Rattle.gas_cells.proofs.Pairs.{cell_text-long, pair_written, pairs-cut}
+use Rattle.gas_cells.proofs.cells.cell_pairs.Goals as goal
 
 pub loop-b-preserved : goal.loop-b-preserved
 loop-b-preserved c =

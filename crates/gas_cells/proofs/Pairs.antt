@@ -1,11 +1,17 @@
 -- Lemmas on texts of two characters a cell.
-use Rattle.std.proofs.Common.{◌≡◌, ℕ, zero, suc, ◌+◌, ◌-◌, ◌*◌, ◌<◌, ◌≤◌, ◌==◌, Bool, true, false, Option, List, [], ◌∷◌, ◌++◌, length, get_or, set, take, refl, sym, ap, ap₂, ◌∙◌, subst, append_assoc, append-nil, length-append, length-set, arith}
+use Rattle.std.proofs.Common.{◌≡◌, ℕ, zero, suc, ◌+◌, ◌-◌, ◌*◌, ◌/◌, ◌%◌, ◌<◌, ◌≤◌, ◌==◌, Bool, true, false, List, [], ◌∷◌, ◌++◌, length, get_or, set, take, refl, sym, ap, ap₂, ◌∙◌, append_assoc, append-nil, length-append, length-set, arith}
 use Rattle.std.specs.Prelude.{if◌then◌else◌, codes}
 use Rattle.std.proofs.lemmas.Grind.{take-set_at}
 use Rattle.std.proofs.lemmas.List.{take_at, take-take}
-use Rattle.gas_text.specs.Sink.{SinkModel, Adds}
-use Rattle.gas_text.specs.Text.{cell_text, texts_below}
-use Rattle.gas_text.proofs.Sinks.{Adds-then}
+use Rattle.std.specs.Fmt.{digit_glyph}
+use Rattle.std.specs.Prelude.{nat_lt}
+use Rattle.std.specs.Str.{IsAscii}
+use Rattle.std.proofs.lemmas.Bool.{agree_below_at, ltb-true}
+use Rattle.std.proofs.lemmas.Str.{IsAscii-append}
+use Rattle.std.proofs.lemmas.Str.Ascii.{IsAscii-nil}
+use Rattle.gas_geom.specs.Channel.{ChannelModel, is_solid}
+use Rattle.gas_geom.specs.Lattice.{cell}
+use Rattle.gas_cells.specs.Cells.{cell_text, texts_below, row_cells}
 
 -- a cell has two characters
 pub cell_text-long : (solid : Bool) (state : ℕ) → length (cell_text solid state) ≡ 2
@@ -39,7 +45,7 @@ texts-join f g n (suc m) same =
     ∙ ap₂ (λ s t. s ++ t) (texts-join f g n m (λ b h. same b (omega arith))) (same m (omega arith))
     ∙ ap (texts_below g) (let e : suc (n + m) ≡ n + suc m = omega arith in e)
 
-pairs-long : (f : ℕ → List ℕ) → ((b : ℕ) → length (f b) ≡ 2) → (n : ℕ) → length (texts_below f n) ≡ 2 * n
+pub pairs-long : (f : ℕ → List ℕ) → ((b : ℕ) → length (f b) ≡ 2) → (n : ℕ) → length (texts_below f n) ≡ 2 * n
 pairs-long f two zero = refl
 pairs-long f two (suc n) = omega (arith, length-append (texts_below f n) (f n), two n, pairs-long f two n)
 
@@ -51,9 +57,28 @@ pairs-cut f two xs n m le written =
     let fewer : take (2 * m) xs ≡ take (2 * m) (take (2 * n) xs) = sym (take-take (2 * m) (2 * n) xs (omega (arith, le))) in
     fewer ∙ ap (take (2 * m)) (written ∙ all) ∙ take_at (texts_below f m) _ (2 * m) (pairs-long f two m)
 
--- m more of the texts below a number
-pub Adds-joined : (a b c : Option (List ℕ)) (p q r : SinkModel) (f g : ℕ → List ℕ) (n m k : ℕ) (bytes : List ℕ) → Adds a b p q (texts_below g n) → Adds b c q r bytes
-    → bytes ≡ texts_below f m → ((b : ℕ) → b < m → f b ≡ g (n + b)) → n + m ≡ k → Adds a c p r (texts_below g k)
-Adds-joined a b c p q r f g n m k bytes h more is same e =
-    let whole : texts_below g n ++ bytes ≡ texts_below g k = ap (λ (t : List ℕ). texts_below g n ++ t) is ∙ texts-join f g n m same ∙ ap (texts_below g) e in
-    subst (Adds a c p r) whole (Adds-then a b c p q r _ _ h more)
+-- the characters of a cell whose state has eight bits are ASCII
+glyph_ascii : (d : ℕ) → d < 16 → digit_glyph false d < 128
+glyph_ascii d h = ltb-true _ _ (agree_below_at (λ d. nat_lt (digit_glyph false d) 128) (λ _. true) 16 d refl h)
+
+ascii_pair : (a b : ℕ) → a < 128 → b < 128 → IsAscii (a ∷ b ∷ [])
+ascii_pair a b p q zero = p
+ascii_pair a b p q (suc zero) = q
+ascii_pair a b p q (suc (suc i)) = omega arith
+
+IsAscii-cell_text : (solid : Bool) (state : ℕ) → state < 256 → IsAscii (cell_text solid state)
+IsAscii-cell_text true state low = ascii_pair 35 35 (omega arith) (omega arith)
+IsAscii-cell_text false state low = either (state == 0)
+  where
+    either : (b : Bool) → IsAscii (if b then codes ".." else digit_glyph false (state / 16) ∷ digit_glyph false (state % 16) ∷ [])
+    either true = ascii_pair 46 46 (omega arith) (omega arith)
+    either false = ascii_pair _ _ (glyph_ascii (state / 16) (omega (arith, low))) (glyph_ascii (state % 16) (omega arith))
+
+IsAscii-texts_below : (f : ℕ → List ℕ) → ((b : ℕ) → IsAscii (f b)) → (n : ℕ) → IsAscii (texts_below f n)
+IsAscii-texts_below f each zero = IsAscii-nil
+IsAscii-texts_below f each (suc n) = IsAscii-append (texts_below f n) (f n) (IsAscii-texts_below f each n) (each n)
+
+pub IsAscii-row_cells : (channel : ChannelModel) (rows : List (List ℕ)) (y : ℕ) → ((x : ℕ) → cell rows x y < 256) → IsAscii (row_cells channel rows y)
+unfolding row_cells
+IsAscii-row_cells channel rows y low =
+    IsAscii-texts_below (λ x. cell_text (is_solid channel x y) (cell rows x y)) (λ x. IsAscii-cell_text (is_solid channel x y) (cell rows x y) (low x)) channel.width

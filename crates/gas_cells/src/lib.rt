@@ -1,0 +1,6 @@
+//! The printed form of cells: two characters each.
+#![tactic(auto)]
+
+pub mod cells;
+#[cfg(test)]
+mod tests;
