@@ -51,10 +51,10 @@ impl Sink {
         }
     }
 
-    /// Adds bytes to the text, at most a block of them.
+    /// Adds bytes to the text, at most 8192 of them, a block.
     #[inline]
     pub fn push<W: Write>(&mut self, out: &mut W, bytes: &[u8])
-        requires short { length bytes.now ≤ BLOCK }
+        requires short { length bytes.now ≤ 8192 }
         ensures { Adds (W.contents out.old) (W.contents out.new) self.old self.new bytes.now }
     {
         if self.block.remaining_capacity() < bytes.len() {
