@@ -1,7 +1,7 @@
 -- Inner words: what functions of this crate promise one another. No public contract cites them.
 -- Here: channels row by row, and rectangles by the rows in which they start.
 use Rattle.std.specs.Global.{Global}
-use Rattle.std.specs.Prelude.{◌≡◌, ℕ, ◌+◌, ◌==◌, ◌≤◌, ◌&&◌, Bool, false, not, List, [], map, Vec, if◌then◌else◌, nat_le, nat_lt, nat_abs, slice_index_or, pos}
+use Rattle.std.specs.Prelude.{◌≡◌, ℕ, ◌+◌, ◌/◌, ◌==◌, ◌≤◌, ◌&&◌, ◌||◌, Bool, false, not, List, [], map, Vec, if◌then◌else◌, nat_le, nat_lt, nat_abs, slice_index, slice_index_or, pos}
 use Rattle.std.specs.List.{list_any}
 use Rattle.toml.specs.Data.{Data}
 use Rattle.gas_geom.specs.Channel.{ChannelModel, is_solid}
@@ -45,6 +45,12 @@ first_row r = nat_abs r.rows.start
 -- whether a strip that starts above the cell (x, y), or in its row, covers it
 abbrev pub reaches : Strip → ℕ → ℕ → Bool
 reaches s x y = (nat_le s.start x && nat_lt x s.end) && nat_lt y s.bottom
+
+-- whether column x is solid up to a row below y, by its own number, that of its block of 64 columns, or that of its group of 64
+-- blocks
+abbrev pub is_later : List ℕ → List ℕ → List ℕ → ℕ → ℕ → Bool
+is_later until blocks groups x y =
+    nat_lt y (slice_index until x) || (nat_lt y (slice_index blocks (x / 64)) || nat_lt y (slice_index groups (x / 64 / 64)))
 
 -- whether one of the rectangles that start in the row `top`, or in a row before it, does
 abbrev pub is_reached_at : List Data → ℕ → ℕ → ℕ → Bool

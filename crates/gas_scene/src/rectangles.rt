@@ -11,7 +11,7 @@ ghost use Rattle.gas_geom.specs.declared.size.TheConstants.{MOST_SIDE};
 ghost use Rattle.gas_scene.specs.Fields.{rectangle_of};
 ghost use Rattle.gas_scene.specs.Ranges.{fits, is_covered, is_extent};
 ghost use Rattle.gas_scene.specs.Building.{IsRectangleIn};
-ghost use Rattle.gas_scene.specs.Strips.{channel_before, channel_of, channel_with, strips_at, reaches, is_reached, strip_of, first_row, IsStrip, AreStrips};
+ghost use Rattle.gas_scene.specs.Strips.{channel_before, channel_of, channel_with, strips_at, is_later, reaches, is_reached, strip_of, first_row, IsStrip, AreStrips};
 
 use crate::fields::{Extent, Rectangle};
 use gas_geom::size::Size;
@@ -72,86 +72,110 @@ fn extend(until: &mut [u32], strip: Strip)
     }
 }
 
-// Does so with one number for each whole block of 64 columns, and one for each column of the rest.
-fn extend_blocks(until: &mut [u32], blocks: &mut [u32], strip: Strip)
-    requires columns { IsStrip (length until.old) strip }
-    requires blocks { length until.old ≤ 64 * length blocks.old }
-    ensures { (x y : ℕ) → (nat_lt y (slice_index until.new x) || nat_lt y (slice_index blocks.new (x / 64)))
-        ≡ ((nat_lt y (slice_index until.old x) || nat_lt y (slice_index blocks.old (x / 64))) || reaches strip x y) }
+// Does so outside of the whole blocks of 64 columns that the strip crosses, and gives these blocks.
+fn extend_ends(until: &mut [u32], strip: Strip) -> Strip
+    requires { IsStrip (length until.old) strip }
+    ensures within { (n : ℕ) → length until.old ≤ 64 * n → IsStrip n result }
+    ensures cells { (x y : ℕ) → (nat_lt y (slice_index until.new x) || reaches result (x / 64) y)
+        ≡ (nat_lt y (slice_index until.old x) || reaches strip x y) }
 {
     let first = strip.start / 64 + 1;
     let last = strip.end / 64;
     if last <= first {
         extend(until, strip);
-    } else {
-        extend(
-            until,
-            Strip {
-                end: 64 * first,
-                ..strip
-            },
-        );
-        extend(
-            blocks,
-            Strip {
-                start: first,
-                end: last,
-                ..strip
-            },
-        );
-        extend(
-            until,
-            Strip {
-                start: 64 * last,
-                ..strip
-            },
-        );
+        return Strip {
+            start: 0,
+            end: 0,
+            ..strip
+        };
     }
+    extend(
+        until,
+        Strip {
+            end: 64 * first,
+            ..strip
+        },
+    );
+    extend(
+        until,
+        Strip {
+            start: 64 * last,
+            ..strip
+        },
+    );
+    Strip {
+        start: first,
+        end: last,
+        ..strip
+    }
+}
+
+// Lets the columns of a strip be solid at least up to its bottom: by one number for each whole group
+// of 64 blocks, one for each whole block of the rest, and one for each column of what is left.
+fn extend_levels(until: &mut [u32], blocks: &mut [u32], groups: &mut [u32], strip: Strip)
+    requires columns { IsStrip (length until.old) strip }
+    requires blocks { length until.old ≤ 64 * length blocks.old }
+    requires groups { length blocks.old ≤ 64 * length groups.old }
+    ensures { (x y : ℕ) → is_later until.new blocks.new groups.new x y ≡ (is_later until.old blocks.old groups.old x y || reaches strip x y) }
+{
+    let in_blocks = extend_ends(until, strip);
+    let in_groups = extend_ends(blocks, in_blocks);
+    extend(groups, in_groups);
 }
 
 // Does so for each of the strips.
-fn extend_all(until: &mut [u32], blocks: &mut [u32], strips: &[Strip])
+fn extend_all(until: &mut [u32], blocks: &mut [u32], groups: &mut [u32], strips: &[Strip])
     requires columns { All (λ s. IsStrip (length until.old) s) strips.now }
     requires blocks { length until.old ≤ 64 * length blocks.old }
-    ensures { (x y : ℕ) → (nat_lt y (slice_index until.new x) || nat_lt y (slice_index blocks.new (x / 64)))
-        ≡ ((nat_lt y (slice_index until.old x) || nat_lt y (slice_index blocks.old (x / 64))) || list_any (λ s. reaches s x y) strips.now) }
+    requires groups { length blocks.old ≤ 64 * length groups.old }
+    ensures { (x y : ℕ) → is_later until.new blocks.new groups.new x y
+        ≡ (is_later until.old blocks.old groups.old x y || list_any (λ s. reaches s x y) strips.now) }
 {
     for strip in strips {
-        extend_blocks(until, blocks, *strip);
+        extend_levels(until, blocks, groups, *strip);
     }
 }
 
-// Whether a column is solid up to a later row, by its own number or by that of its block.
-fn is_later(y: u32, column: u32, block: u32) -> bool
-    ensures { result ≡ (nat_lt y column || nat_lt y block) }
+// Whether a column is solid up to a later row, by its own number, that of its block or that of its group.
+fn is_later(y: u32, column: u32, block: u32, group: u32) -> bool
+    ensures { result ≡ (nat_lt y column || (nat_lt y block || nat_lt y group)) }
 {
-    y < column || y < block
+    y < column || y < block || y < group
 }
 
 // Makes the cells of row `y` solid whose columns are solid up to a later row.
-fn make_row_solid(channel: &mut Channel, y: u32, until: &[u32], blocks: &[u32])
+fn make_row_solid(channel: &mut Channel, y: u32, until: &[u32], blocks: &[u32], groups: &[u32])
     requires row { y < channel.old.height }
     requires wide { length until.now ≡ channel.old.width }
     requires blocks { length until.now ≤ 64 * length blocks.now }
+    requires groups { length blocks.now ≤ 64 * length groups.now }
     ensures wide { channel.new.width ≡ channel.old.width }
     ensures high { channel.new.height ≡ channel.old.height }
     ensures cells { (w h : ℕ) (solid : ℕ → ℕ → Bool) → channel.old ≡ channel_before w h solid 0 y
-        → ((x : ℕ) → x < w → (nat_lt y (slice_index until.now x) || nat_lt y (slice_index blocks.now (x / 64))) ≡ solid x y)
+        → ((x : ℕ) → x < w → is_later until.now blocks.now groups.now x y ≡ solid x y)
         → channel.new ≡ channel_before w h solid 0 (y + 1) }
 {
     for x in 0..channel.size().width() {
         let column = x as usize;
-        if is_later(y, until[column], blocks[column / 64]) {
+        let block = column / 64;
+        if is_later(y, until[column], blocks[block], groups[block / 64]) {
             channel.make_solid(x, y);
         }
     }
 }
 
 // Makes the cells of the channel solid that one of the rectangles covers, whose strips these are.
-fn make_solid(channel: &mut Channel, rows: &[Vec<Strip>], until: &mut [u32], blocks: &mut [u32])
+fn make_solid(
+    channel: &mut Channel,
+    rows: &[Vec<Strip>],
+    until: &mut [u32],
+    blocks: &mut [u32],
+    groups: &mut [u32],
+)
     requires high { length rows.now ≡ channel.old.height }
     requires wide { length until.old ≡ channel.old.width }
     requires blocks { length until.old ≤ 64 * length blocks.old }
+    requires groups { length blocks.old ≤ 64 * length groups.old }
     requires columns { (y : ℕ) → y < channel.old.height → All (λ s. IsStrip channel.old.width s) (strips_at rows.now y) }
     ensures { (w h : ℕ) (ds : List Data) → channel.old ≡ free_channel w h
         → ((y : ℕ) → y < h → AreStrips ds y (strips_at rows.now y))
@@ -159,9 +183,10 @@ fn make_solid(channel: &mut Channel, rows: &[Vec<Strip>], until: &mut [u32], blo
 {
     until.fill(0);
     blocks.fill(0);
+    groups.fill(0);
     for y in 0..channel.size().height() {
-        extend_all(until, blocks, rows[y as usize].as_slice());
-        make_row_solid(channel, y, until, blocks);
+        extend_all(until, blocks, groups, rows[y as usize].as_slice());
+        make_row_solid(channel, y, until, blocks, groups);
     }
 }
 
@@ -217,11 +242,13 @@ pub(crate) fn channel_with(
     let width = size.width() as usize;
     let mut until = vec![in alloc; 0u32; width]?;
     let mut blocks = vec![in alloc; 0u32; width / 64 + 1]?;
+    let mut groups = vec![in alloc; 0u32; width / 64 / 64 + 1]?;
     make_solid(
         &mut channel,
         rows.as_slice(),
         until.as_mut_slice(),
         blocks.as_mut_slice(),
+        groups.as_mut_slice(),
     );
     Ok(channel)
 }

@@ -1,5 +1,6 @@
-use Rattle.std.proofs.Common.{◌≡◌, ◌/◌, ◌||◌, ◌<◌, true, false, nat_lt, get_or, sym, ◌∙◌, ap, arith}
+use Rattle.std.proofs.Common.{◌≡◌, ◌<◌, true, false, sym, ◌∙◌, ap, arith}
 use Rattle.gas_geom.specs.Channel.{ChannelModel, with_solid}
+use Rattle.gas_scene.specs.Strips.{is_later}
 use Rattle.gas_scene.proofs.Strips.{channel_before-solid, channel_before-fluid, channel_before-row}
 use Rattle.gas_scene.proofs.rectangles.make_row_solid.Goals as goal
 use Rattle.gas_scene.proofs.rectangles.make_row_solid.Goals.{then-is_later, else-is_later}
@@ -17,7 +18,7 @@ loop-x-preserved c =
         cells = λ w h solid e same.
             let in_columns : x < w = omega (arith, c.loop-x-test.true, c.width-x-end.ensures.value, c.size.ensures.width, ap (λ (ch : ChannelModel). ch.width) e) in
             let in_rows : y < h = omega (arith, c.requires.row, ap (λ (ch : ChannelModel). ch.height) e) in
-            let later : (nat_lt y (get_or c.args.until.now x 0) || nat_lt y (get_or c.args.blocks.now (x / 64) 0)) ≡ true = sym c.is_later.ensures ∙ t.if-is_later.true in
+            let later : is_later c.args.until.now c.args.blocks.now c.args.groups.now x y ≡ true = sym c.is_later.ensures ∙ t.if-is_later.true in
             t.channel-is ∙ t.make_solid.ensures ∙ ap (λ ch. with_solid ch x y) (is_old.cells w h solid e same)
             ∙ channel_before-solid w h solid x y in_columns in_rows (sym (same x in_columns) ∙ later);
       }
@@ -26,7 +27,7 @@ loop-x-preserved c =
         high = ap (λ (ch : ChannelModel). ch.height) t.channel-is ∙ is_old.high;
         cells = λ w h solid e same.
             let in_columns : x < w = omega (arith, c.loop-x-test.true, c.width-x-end.ensures.value, c.size.ensures.width, ap (λ (ch : ChannelModel). ch.width) e) in
-            let not_later : (nat_lt y (get_or c.args.until.now x 0) || nat_lt y (get_or c.args.blocks.now (x / 64) 0)) ≡ false = sym c.is_later.ensures ∙ t.if-is_later.false in
+            let not_later : is_later c.args.until.now c.args.blocks.now c.args.groups.now x y ≡ false = sym c.is_later.ensures ∙ t.if-is_later.false in
             t.channel-is ∙ is_old.cells w h solid e same ∙ channel_before-fluid w h solid x y (sym (same x in_columns) ∙ not_later);
       }
     ]

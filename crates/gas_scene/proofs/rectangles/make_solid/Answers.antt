@@ -5,7 +5,7 @@ use Rattle.std.proofs.lemmas.Bool.Decides.{nat_tests}
 use Rattle.toml.specs.Data.{Data}
 use Rattle.gas_geom.specs.Channel.{ChannelModel}
 use Rattle.gas_scene.specs.declared.rectangles.Strip.{Strip}
-use Rattle.gas_scene.specs.Strips.{channel_before, is_reached, is_reached_before, strips_at, reaches, IsStrip, AreStrips}
+use Rattle.gas_scene.specs.Strips.{channel_before, is_later, is_reached, is_reached_before, strips_at, reaches, IsStrip, AreStrips}
 use Rattle.gas_scene.proofs.Strips.{channel_before-none, channel_before-all}
 use Rattle.gas_scene.proofs.Reaches.{strips_at-row, is_reached_before-none, is_reached_before-next}
 use Rattle.gas_scene.proofs.rectangles.make_solid.Goals as goal
@@ -18,7 +18,10 @@ loop-y-init c = record {
       let none : get_or c.fill.new.self x 0 ≡ 0 = search rules in
       let below : nat_lt v 0 ≡ Bool.false = grind (arith, nat_tests) in
       let none_in : get_or c.fill-2.new.self (x / 64) 0 ≡ 0 = search rules in
-      ap₂ (λ (a : Bool) (b : Bool). a || b) (ap (nat_lt v) none ∙ below) (ap (nat_lt v) none_in ∙ below) ∙ sym (is_reached_before-none ds x v);
+      let none_about : get_or c.fill-3.new.self (x / 64 / 64) 0 ≡ 0 = search rules in
+      ap₂ (λ (a : Bool) (b : Bool). a || b) (ap (nat_lt v) none ∙ below)
+      (ap₂ (λ (a : Bool) (b : Bool). a || b) (ap (nat_lt v) none_in ∙ below) (ap (nat_lt v) none_about ∙ below))
+      ∙ sym (is_reached_before-none ds x v);
   cells = λ w h ds e strips. e ∙ channel_before-none w h (is_reached ds);
 }
 
@@ -39,7 +42,7 @@ loop-y-preserved c =
     let row : c.as_slice.result.now ≡ strips_at c.args.rows.now y =
     c.as_slice.ensures.value ∙ strips_at-row c.args.rows.now y c.index-rows-y.result (omega (arith, in_rows, c.requires.high)) c.index-rows-y.is in
     let reached : (ds : List Data) → ((k : ℕ) → k < c.args.channel.now.height → AreStrips ds k (strips_at c.args.rows.now k))
-    → (x v : ℕ) → x < c.args.channel.now.width → (nat_lt v (get_or c.extend_all.new.until x 0) || nat_lt v (get_or c.extend_all.new.blocks (x / 64) 0)) ≡ is_reached_before ds (y + 1) x v =
+    → (x v : ℕ) → x < c.args.channel.now.width → is_later c.extend_all.new.until c.extend_all.new.blocks c.extend_all.new.groups x v ≡ is_reached_before ds (y + 1) x v =
     λ ds strips x v within.
     c.extend_all.ensures x v
     ∙ ap (λ (b : Bool). b || list_any (λ s. reaches s x v) c.as_slice.result.now) (c.loop-y.invariant.until ds strips x v within)

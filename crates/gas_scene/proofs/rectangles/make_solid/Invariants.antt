@@ -1,7 +1,7 @@
-use Rattle.std.proofs.Common.{◌≡◌, ℕ, ◌/◌, ◌||◌, ◌<◌, List, nat_lt, get_or}
+use Rattle.std.proofs.Common.{◌≡◌, ℕ, ◌<◌, List}
 use Rattle.toml.specs.Data.{Data}
 use Rattle.gas_geom.specs.Channel.{free_channel}
-use Rattle.gas_scene.specs.Strips.{channel_before, strips_at, is_reached, is_reached_before, AreStrips}
+use Rattle.gas_scene.specs.Strips.{channel_before, is_later, strips_at, is_reached, is_reached_before, AreStrips}
 use Rattle.gas_scene.proofs.rectangles.make_solid.Given as goal
 
 abbrev pub invariant-loop-y : goal.invariant-loop-y
@@ -9,7 +9,7 @@ invariant-loop-y l = record {
   wide : l.channel.width ≡ l.initial.channel.width;
   high : l.channel.height ≡ l.initial.channel.height;
   until : (ds : List Data) → ((y : ℕ) → y < l.initial.channel.height → AreStrips ds y (strips_at l.rows y))
-      → (x v : ℕ) → x < l.initial.channel.width → (nat_lt v (get_or l.until x 0) || nat_lt v (get_or l.blocks (x / 64) 0)) ≡ is_reached_before ds l.y x v;
+      → (x v : ℕ) → x < l.initial.channel.width → is_later l.until l.blocks l.groups x v ≡ is_reached_before ds l.y x v;
   cells : (w h : ℕ) (ds : List Data) → l.initial.channel ≡ free_channel w h → ((y : ℕ) → y < h → AreStrips ds y (strips_at l.rows y))
       → l.channel ≡ channel_before w h (is_reached ds) 0 l.y;
 }
