@@ -87,7 +87,7 @@ impl Channel {
     }
 
     /// Sets which cells of row `y` are solid.
-    pub(crate) fn set_row(&mut self, y: u32, solid: &[bool])
+    pub fn set_row(&mut self, y: u32, solid: &[bool])
         requires row { y < self.old.height }
         requires wide { length solid.now ≡ self.old.width }
         ensures { self.new ≡ record self.old { solid = slice_set self.old.solid y solid.now } }

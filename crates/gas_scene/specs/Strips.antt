@@ -18,9 +18,9 @@ use Rattle.gas_scene.specs.Building.{is_before}
 abbrev pub channel_of : ℕ → ℕ → (ℕ → ℕ → Bool) → ChannelModel
 channel_of width height solid = record { width = width; height = height; solid = rows_of width height solid }
 
--- the channel up to the cell (x, y), fluid from there on
-abbrev pub channel_before : ℕ → ℕ → (ℕ → ℕ → Bool) → ℕ → ℕ → ChannelModel
-channel_before width height solid x y = channel_of width height (λ u v. if is_before x y u v then solid u v else false)
+-- the channel up to row y, fluid from there on
+abbrev pub channel_before : ℕ → ℕ → (ℕ → ℕ → Bool) → ℕ → ChannelModel
+channel_before width height solid y = channel_of width height (λ u v. if is_before 0 y u v then solid u v else false)
 
 -- the channel of an area with these rectangles
 abbrev pub channel_with : Extent → List Data → ChannelModel

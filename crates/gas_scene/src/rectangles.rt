@@ -1,7 +1,7 @@
 //! The channel of an area, whose rectangles are solid. However much they overlap, each is gone
 //! through once, in the row where it starts, along its columns.
 
-ghost use Rattle.std.specs.Prelude.{◌≡◌, ℕ, ◌+◌, ◌*◌, ◌/◌, ◌<◌, ◌≤◌, ◌==◌, ◌&&◌, ◌||◌, [], ◌∷◌, ◌++◌, Bool, true, List, length, map, slice_index, slice_index_or, IfOk, OnOk, All, nat_le, nat_lt, nat_abs, pos, ◌≤ℤ◌, if◌then◌else◌};
+ghost use Rattle.std.specs.Prelude.{◌≡◌, ℕ, ◌+◌, ◌*◌, ◌/◌, ◌<◌, ◌≤◌, ◌==◌, ◌&&◌, ◌||◌, [], ◌∷◌, ◌++◌, Bool, true, false, List, length, map, slice_index, slice_index_or, IfOk, OnOk, All, nat_le, nat_lt, nat_abs, pos, ◌≤ℤ◌, if◌then◌else◌};
 ghost use Rattle.std.specs.List.{list_all, list_any};
 ghost use Rattle.toml.specs.Data.{Data};
 ghost use Rattle.toml.specs.View.{view};
@@ -136,31 +136,40 @@ fn extend_all(until: &mut [u32], blocks: &mut [u32], groups: &mut [u32], strips:
     }
 }
 
-// Whether a column is solid up to a later row, by its own number, that of its block or that of its group.
-fn is_later(y: u32, column: u32, block: u32, group: u32) -> bool
-    ensures { result ≡ (nat_lt y column || (nat_lt y block || nat_lt y group)) }
+// Whether the columns of a block are all solid up to a later row, by its number or that of its group.
+fn is_whole(y: u32, block: u32, group: u32) -> bool
+    ensures { result ≡ (nat_lt y block || nat_lt y group) }
 {
-    y < column || y < block || y < group
+    y < block || y < group
 }
 
-// Makes the cells of row `y` solid whose columns are solid up to a later row.
-fn make_row_solid(channel: &mut Channel, y: u32, until: &[u32], blocks: &[u32], groups: &[u32])
-    requires row { y < channel.old.height }
-    requires wide { length until.now ≡ channel.old.width }
+// Tells of the columns `from` up to `to` which are solid up to a later row: by their own numbers, or
+// all of them where their block is. There is no branch, so that a compiler can take many at a time.
+fn mark_block(solid: &mut [bool], until: &[u32], from: usize, to: usize, y: u32, whole: bool)
+    requires long { length solid.old ≡ length until.now }
+    requires order { from ≤ to }
+    requires within { to ≤ length until.now }
+    ensures { (x : ℕ) → slice_index_or solid.new x false
+        ≡ (if nat_le from x && nat_lt x to then nat_lt y (slice_index until.now x) || whole else slice_index_or solid.old x false) }
+{
+    for x in from..to {
+        solid[x] = (y < until[x]) | whole;
+    }
+}
+
+// Tells of all columns which are solid up to a later row.
+fn mark(solid: &mut [bool], until: &[u32], blocks: &[u32], groups: &[u32], y: u32)
+    requires long { length solid.old ≡ length until.now }
+    requires few { length until.now ≤ MOST_SIDE }
     requires blocks { length until.now ≤ 64 * length blocks.now }
     requires groups { length blocks.now ≤ 64 * length groups.now }
-    ensures wide { channel.new.width ≡ channel.old.width }
-    ensures high { channel.new.height ≡ channel.old.height }
-    ensures cells { (w h : ℕ) (solid : ℕ → ℕ → Bool) → channel.old ≡ channel_before w h solid 0 y
-        → ((x : ℕ) → x < w → is_later until.now blocks.now groups.now x y ≡ solid x y)
-        → channel.new ≡ channel_before w h solid 0 (y + 1) }
+    ensures { (x : ℕ) → x < length until.now → slice_index_or solid.new x false ≡ is_later until.now blocks.now groups.now x y }
 {
-    for x in 0..channel.size().width() {
-        let column = x as usize;
-        let block = column / 64;
-        if is_later(y, until[column], blocks[block], groups[block / 64]) {
-            channel.make_solid(x, y);
-        }
+    let width = until.len();
+    for block in 0..width.div_ceil(64) {
+        let whole = is_whole(y, blocks[block], groups[block / 64]);
+        let to = width.min(64 * block + 64);
+        mark_block(solid, until, 64 * block, to, y, whole);
     }
 }
 
@@ -171,9 +180,12 @@ fn make_solid(
     until: &mut [u32],
     blocks: &mut [u32],
     groups: &mut [u32],
+    solid: &mut [bool],
 )
     requires high { length rows.now ≡ channel.old.height }
+    requires few { channel.old.width ≤ MOST_SIDE }
     requires wide { length until.old ≡ channel.old.width }
+    requires as_wide { length solid.old ≡ channel.old.width }
     requires blocks { length until.old ≤ 64 * length blocks.old }
     requires groups { length blocks.old ≤ 64 * length groups.old }
     requires columns { (y : ℕ) → y < channel.old.height → All (λ s. IsStrip channel.old.width s) (strips_at rows.now y) }
@@ -186,7 +198,8 @@ fn make_solid(
     groups.fill(0);
     for y in 0..channel.size().height() {
         extend_all(until, blocks, groups, rows[y as usize].as_slice());
-        make_row_solid(channel, y, until, blocks, groups);
+        mark(solid, until, blocks, groups, y);
+        channel.set_row(y, solid);
     }
 }
 
@@ -243,12 +256,14 @@ pub(crate) fn channel_with(
     let mut until = vec![in alloc; 0u32; width]?;
     let mut blocks = vec![in alloc; 0u32; width / 64 + 1]?;
     let mut groups = vec![in alloc; 0u32; width / 64 / 64 + 1]?;
+    let mut cells = vec![in alloc; false; width]?;
     make_solid(
         &mut channel,
         rows.as_slice(),
         until.as_mut_slice(),
         blocks.as_mut_slice(),
         groups.as_mut_slice(),
+        cells.as_mut_slice(),
     );
     Ok(channel)
 }

@@ -1,4 +1,4 @@
-use Rattle.std.proofs.Common.{◌≡◌, ℕ, ◌+◌, ◌/◌, ◌<◌, ◌||◌, Bool, List, length, nat_lt, get_or, subst, sym, ◌∙◌, ap, ap₂, arith, rules, refl}
+use Rattle.std.proofs.Common.{◌≡◌, ℕ, ◌+◌, ◌/◌, ◌<◌, ◌||◌, Bool, List, length, nat_lt, get_or, set, subst, sym, ◌∙◌, ap, ap₂, arith, rules, refl}
 use Rattle.std.specs.Prelude.{All}
 use Rattle.std.specs.List.{list_any}
 use Rattle.std.proofs.lemmas.Bool.Decides.{nat_tests}
@@ -6,7 +6,7 @@ use Rattle.toml.specs.Data.{Data}
 use Rattle.gas_geom.specs.Channel.{ChannelModel}
 use Rattle.gas_scene.specs.declared.rectangles.Strip.{Strip}
 use Rattle.gas_scene.specs.Strips.{channel_before, is_later, is_reached, is_reached_before, strips_at, reaches, IsStrip, AreStrips}
-use Rattle.gas_scene.proofs.Strips.{channel_before-none, channel_before-all}
+use Rattle.gas_scene.proofs.Strips.{channel_before-none, channel_before-next, channel_before-all}
 use Rattle.gas_scene.proofs.Reaches.{strips_at-row, is_reached_before-none, is_reached_before-next}
 use Rattle.gas_scene.proofs.rectangles.make_solid.Goals as goal
 
@@ -50,17 +50,19 @@ loop-y-preserved c =
     ∙ ap (λ (b : Bool). is_reached_before ds y x v || b) (strips y in_rows x v)
     ∙ is_reached_before-next ds y x v in
     record {
-      wide = c.make_row_solid.ensures.wide ∙ c.loop-y.invariant.wide;
-      high = c.make_row_solid.ensures.high ∙ c.loop-y.invariant.high;
+      wide = ap (λ (ch : ChannelModel). ch.width) c.set_row.ensures ∙ c.loop-y.invariant.wide;
+      high = ap (λ (ch : ChannelModel). ch.height) c.set_row.ensures ∙ c.loop-y.invariant.high;
       until = reached;
       cells = λ w h ds e strips.
           let wide : c.args.channel.now.width ≡ w = ap (λ (ch : ChannelModel). ch.width) e in
           let high : c.args.channel.now.height ≡ h = ap (λ (ch : ChannelModel). ch.height) e in
-          c.make_row_solid.ensures.cells w h (is_reached ds) (c.loop-y.invariant.cells w h ds e strips)
-          (λ x within. reached ds (λ k k_within. strips k (omega (arith, k_within, high))) x y (omega (arith, within, wide)));
+          c.set_row.ensures
+          ∙ ap (λ (ch : ChannelModel). record ch { solid = set ch.solid y c.mark.new.solid }) (c.loop-y.invariant.cells w h ds e strips)
+          ∙ channel_before-next w h (is_reached ds) y c.mark.new.solid (omega (arith, in_rows, high)) (search rules)
+          (λ x within. c.mark.ensures x (omega (arith, within, wide)) ∙ reached ds (λ k k_within. strips k (omega (arith, k_within, high))) x y (omega (arith, within, wide)));
     }
 
 pub returns : goal.returns
 returns c = λ w h ds e strips.
     let end : c.loop-y.y ≡ h = omega (arith, c.loop-y-test.false, c.loop-y.auto.y-end, c.height-y-end.ensures.value, c.size.ensures.height, ap (λ (ch : ChannelModel). ch.height) e) in
-    c.loop-y.invariant.cells w h ds e strips ∙ ap (channel_before w h (is_reached ds) 0) end ∙ channel_before-all w h (is_reached ds)
+    c.loop-y.invariant.cells w h ds e strips ∙ ap (channel_before w h (is_reached ds)) end ∙ channel_before-all w h (is_reached ds)

@@ -11,5 +11,5 @@ invariant-loop-y l = record {
   until : (ds : List Data) → ((y : ℕ) → y < l.initial.channel.height → AreStrips ds y (strips_at l.rows y))
       → (x v : ℕ) → x < l.initial.channel.width → is_later l.until l.blocks l.groups x v ≡ is_reached_before ds l.y x v;
   cells : (w h : ℕ) (ds : List Data) → l.initial.channel ≡ free_channel w h → ((y : ℕ) → y < h → AreStrips ds y (strips_at l.rows y))
-      → l.channel ≡ channel_before w h (is_reached ds) 0 l.y;
+      → l.channel ≡ channel_before w h (is_reached ds) l.y;
 }
