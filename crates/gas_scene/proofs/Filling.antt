@@ -78,6 +78,14 @@ is_filling-then e ms states solid particles r p seen_solid seen_particles same_s
     ∙ ap (λ n. are_placed n e (array_at (codes "solid") ms) (array_at (codes "particles") ms)) same_states
     ∙ ap (λ b. b && are_placed (states_named (text_at (codes "gas") ms)) e (array_at (codes "solid") ms) (array_at (codes "particles") ms)) (sym rectangles_fit)
 
+pub is_filling-no_particles : (e : Extent) (ms : Members) (solid particles : List Value) (r : Bool)
+    → map view solid ≡ array_at (codes "solid") ms → map view particles ≡ array_at (codes "particles") ms
+    → r ≡ list_all (λ v. fits e (rectangle_of (view v))) solid → r ≡ true → particles ≡ []
+    → true ≡ is_filling e ms
+is_filling-no_particles e ms solid particles r seen_solid seen_particles rectangles held none =
+    is_filling-then e ms (states_named (text_at (codes "gas") ms)) solid particles r true seen_solid seen_particles refl rectangles held
+    (ap (list_all (λ v. is_placed (states_named (text_at (codes "gas") ms)) e (map view solid) (placement_of (view v)))) (sym none))
+
 pub is_filling-else : (e : Extent) (ms : Members) (solid : List Value) (r : Bool)
     → map view solid ≡ array_at (codes "solid") ms
     → r ≡ list_all (λ v. fits e (rectangle_of (view v))) solid → r ≡ false

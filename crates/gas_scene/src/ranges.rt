@@ -171,7 +171,7 @@ fn is_extent(most: u32, extent: Extent) -> bool
 }
 
 // Whether the rectangles and the placements of the area are in range. Each placement is looked up
-// in the channel of the rectangles.
+// in the channel of the rectangles, which is made for them alone.
 fn is_filling(alloc: Global, table: &Table, extent: Extent) -> Result<bool, AllocError>
     requires { is_extent MOST_SIDE extent ≡ true }
     ensures { IfOk result (λ held. held ≡ is_filling extent (table_view table.now)) }
@@ -180,6 +180,9 @@ fn is_filling(alloc: Global, table: &Table, extent: Extent) -> Result<bool, Allo
     let particles = array_at(table, "particles");
     if !are_rectangles(solid, extent) {
         return Ok(false);
+    }
+    if particles.is_empty() {
+        return Ok(true);
     }
     let channel = channel_with(alloc, extent, solid)?;
     Ok(are_placed(particles, states(table), &channel))
