@@ -1,7 +1,7 @@
 -- Inner words: what functions of this crate promise one another. No public contract cites them.
 -- Here: channels row by row, and rectangles by the rows in which they start.
 use Rattle.std.specs.Global.{Global}
-use Rattle.std.specs.Prelude.{◌≡◌, ℕ, ◌+◌, ◌/◌, ◌==◌, ◌≤◌, ◌&&◌, ◌||◌, Bool, false, not, List, [], map, Vec, if◌then◌else◌, nat_le, nat_lt, nat_abs, slice_index, slice_index_or, pos}
+use Rattle.std.specs.Prelude.{◌≡◌, ℕ, ◌+◌, ◌*◌, ◌/◌, ◌==◌, ◌≤◌, ◌&&◌, ◌||◌, Bool, false, not, List, [], length, map, Vec, if◌then◌else◌, nat_le, nat_lt, nat_abs, slice_index, slice_index_or, pos}
 use Rattle.std.specs.List.{list_any}
 use Rattle.toml.specs.Data.{Data}
 use Rattle.gas_geom.specs.Channel.{ChannelModel, is_solid}
@@ -10,6 +10,7 @@ use Rattle.gas_scene.specs.declared.fields.Extent.{Extent}
 use Rattle.gas_scene.specs.declared.fields.Rectangle.{Rectangle}
 use Rattle.gas_scene.specs.declared.fields.Placement.{Placement}
 use Rattle.gas_scene.specs.declared.rectangles.Strip.{Strip}
+use Rattle.gas_scene.specs.declared.rectangles.Reach.{Reach}
 use Rattle.gas_scene.specs.Fields.{rectangle_of}
 use Rattle.gas_scene.specs.Ranges.{is_below, is_covered}
 use Rattle.gas_scene.specs.Building.{is_before}
@@ -46,11 +47,16 @@ first_row r = nat_abs r.rows.start
 abbrev pub reaches : Strip → ℕ → ℕ → Bool
 reaches s x y = (nat_le s.start x && nat_lt x s.end) && nat_lt y s.bottom
 
--- whether column x is solid up to a row below y, by its own number, that of its block of 64 columns, or that of its group of 64
--- blocks
-abbrev pub is_later : List ℕ → List ℕ → List ℕ → ℕ → ℕ → Bool
-is_later until blocks groups x y =
-    nat_lt y (slice_index until x) || (nat_lt y (slice_index blocks (x / 64)) || nat_lt y (slice_index groups (x / 64 / 64)))
+-- whether column x is solid up to a row below y
+abbrev pub is_later : Reach → ℕ → ℕ → Bool
+is_later r x y =
+    nat_lt y (slice_index r.columns.items x) || (nat_lt y (slice_index r.blocks.items (x / 64)) || nat_lt y (slice_index r.groups.items (x / 64 / 64)))
+
+-- a number for each of so many columns, for each of their blocks, and for each of their groups
+pub record IsReach (width : ℕ) (r : Reach) : Type 0 where
+  pub columns : length r.columns.items ≡ width
+  pub blocks : width ≤ 64 * length r.blocks.items
+  pub groups : length r.blocks.items ≤ 64 * length r.groups.items
 
 -- whether one of the rectangles that start in the row `top`, or in a row before it, does
 abbrev pub is_reached_at : List Data → ℕ → ℕ → ℕ → Bool

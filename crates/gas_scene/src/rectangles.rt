@@ -11,7 +11,7 @@ ghost use Rattle.gas_geom.specs.declared.size.TheConstants.{MOST_SIDE};
 ghost use Rattle.gas_scene.specs.Fields.{rectangle_of};
 ghost use Rattle.gas_scene.specs.Ranges.{fits, is_covered, is_extent};
 ghost use Rattle.gas_scene.specs.Building.{IsRectangleIn};
-ghost use Rattle.gas_scene.specs.Strips.{channel_before, channel_of, channel_with, strips_at, is_later, reaches, is_reached, strip_of, first_row, IsStrip, AreStrips};
+ghost use Rattle.gas_scene.specs.Strips.{channel_before, channel_of, channel_with, strips_at, is_later, reaches, is_reached, strip_of, first_row, IsStrip, IsReach, AreStrips};
 
 use crate::fields::{Extent, Rectangle};
 use gas_geom::size::Size;
@@ -110,32 +110,6 @@ fn extend_ends(until: &mut [u32], strip: Strip) -> Strip
     }
 }
 
-// Lets the columns of a strip be solid at least up to its bottom: by one number for each whole group
-// of 64 blocks, one for each whole block of the rest, and one for each column of what is left.
-fn extend_levels(until: &mut [u32], blocks: &mut [u32], groups: &mut [u32], strip: Strip)
-    requires columns { IsStrip (length until.old) strip }
-    requires blocks { length until.old ≤ 64 * length blocks.old }
-    requires groups { length blocks.old ≤ 64 * length groups.old }
-    ensures { (x y : ℕ) → is_later until.new blocks.new groups.new x y ≡ (is_later until.old blocks.old groups.old x y || reaches strip x y) }
-{
-    let in_blocks = extend_ends(until, strip);
-    let in_groups = extend_ends(blocks, in_blocks);
-    extend(groups, in_groups);
-}
-
-// Does so for each of the strips.
-fn extend_all(until: &mut [u32], blocks: &mut [u32], groups: &mut [u32], strips: &[Strip])
-    requires columns { All (λ s. IsStrip (length until.old) s) strips.now }
-    requires blocks { length until.old ≤ 64 * length blocks.old }
-    requires groups { length blocks.old ≤ 64 * length groups.old }
-    ensures { (x y : ℕ) → is_later until.new blocks.new groups.new x y
-        ≡ (is_later until.old blocks.old groups.old x y || list_any (λ s. reaches s x y) strips.now) }
-{
-    for strip in strips {
-        extend_levels(until, blocks, groups, *strip);
-    }
-}
-
 // Whether the columns of a block are all solid up to a later row, by its number or that of its group.
 fn is_whole(y: u32, block: u32, group: u32) -> bool
     ensures { result ≡ (nat_lt y block || nat_lt y group) }
@@ -157,48 +131,92 @@ fn mark_block(solid: &mut [bool], until: &[u32], from: usize, to: usize, y: u32,
     }
 }
 
-// Tells of all columns which are solid up to a later row.
-fn mark(solid: &mut [bool], until: &[u32], blocks: &[u32], groups: &[u32], y: u32)
-    requires long { length solid.old ≡ length until.now }
-    requires few { length until.now ≤ MOST_SIDE }
-    requires blocks { length until.now ≤ 64 * length blocks.now }
-    requires groups { length blocks.now ≤ 64 * length groups.now }
-    ensures { (x : ℕ) → x < length until.now → slice_index_or solid.new x false ≡ is_later until.now blocks.now groups.now x y }
-{
-    let width = until.len();
-    for block in 0..width.div_ceil(64) {
-        let whole = is_whole(y, blocks[block], groups[block / 64]);
-        let to = width.min(64 * block + 64);
-        mark_block(solid, until, 64 * block, to, y, whole);
+/// How far down columns are solid: up to the greatest of the numbers of a column, of its block of 64 columns and of
+/// its group of 64 blocks.
+#[derive(Drop)]
+pub struct Reach {
+    pub columns: Vec<u32>,
+    pub blocks: Vec<u32>,
+    pub groups: Vec<u32>,
+}
+
+impl Reach {
+    ghost use Rattle.std.specs.Prelude.{false, slice_index_or};
+    ghost use Rattle.gas_scene.specs.Strips.{IsReach, IsStrip, is_later, reaches};
+    ghost use Rattle.gas_geom.specs.declared.size.TheConstants.{MOST_SIDE};
+
+    // No column of so many is solid.
+    fn none(alloc: Global, width: usize) -> Result<Reach, AllocError>
+        requires { width ≤ MOST_SIDE }
+        ensures sized { IfOk result (λ r. IsReach width r) }
+        ensures cells { IfOk result (λ r. (x y : ℕ) → is_later r x y ≡ false) }
+    {
+        Ok(Reach {
+            columns: vec![in alloc; 0; width]?,
+            blocks: vec![in alloc; 0; width / 64 + 1]?,
+            groups: vec![in alloc; 0; width / 64 / 64 + 1]?,
+        })
+    }
+
+    // Lets the columns of a strip be solid at least up to its bottom: by one number for each whole group
+    // of 64 blocks, one for each whole block of the rest, and one for each column of what is left.
+    fn extend(&mut self, strip: Strip)
+        requires columns { IsStrip (length self.old.columns.items) strip }
+        requires sized { IsReach (length self.old.columns.items) self.old }
+        ensures sized { IsReach (length self.old.columns.items) self.new }
+        ensures cells { (x y : ℕ) → is_later self.new x y ≡ (is_later self.old x y || reaches strip x y) }
+    {
+        let in_blocks = extend_ends(self.columns.as_mut_slice(), strip);
+        let in_groups = extend_ends(self.blocks.as_mut_slice(), in_blocks);
+        extend(self.groups.as_mut_slice(), in_groups);
+    }
+
+    // Does so for each of the strips.
+    fn extend_all(&mut self, strips: &[Strip])
+        requires columns { All (λ s. IsStrip (length self.old.columns.items) s) strips.now }
+        requires sized { IsReach (length self.old.columns.items) self.old }
+        ensures sized { IsReach (length self.old.columns.items) self.new }
+        ensures cells { (x y : ℕ) → is_later self.new x y ≡ (is_later self.old x y || list_any (λ s. reaches s x y) strips.now) }
+    {
+        for strip in strips {
+            self.extend(*strip);
+        }
+    }
+
+    // Tells of all columns which are solid up to a row below row `y`.
+    fn mark(&self, solid: &mut [bool], y: u32)
+        requires sized { IsReach (length solid.old) self.now }
+        requires few { length solid.old ≤ MOST_SIDE }
+        ensures { (x : ℕ) → x < length solid.old → slice_index_or solid.new x false ≡ is_later self.now x y }
+    {
+        let columns = self.columns.as_slice();
+        let blocks = self.blocks.as_slice();
+        let groups = self.groups.as_slice();
+        let width = columns.len();
+        for block in 0..width.div_ceil(64) {
+            let whole = is_whole(y, blocks[block], groups[block / 64]);
+            let to = width.min(64 * block + 64);
+            mark_block(solid, columns, 64 * block, to, y, whole);
+        }
     }
 }
 
-// Makes the cells of the channel solid that one of the rectangles covers, whose strips these are.
-fn make_solid(
-    channel: &mut Channel,
-    rows: &[Vec<Strip>],
-    until: &mut [u32],
-    blocks: &mut [u32],
-    groups: &mut [u32],
-    solid: &mut [bool],
-)
+// Makes the cells of the channel solid that one of the rectangles covers, whose strips these are, by
+// way of what is solid of a row.
+fn make_solid(channel: &mut Channel, rows: &[Vec<Strip>], reach: &mut Reach, solid: &mut [bool])
     requires high { length rows.now ≡ channel.old.height }
     requires few { channel.old.width ≤ MOST_SIDE }
-    requires wide { length until.old ≡ channel.old.width }
-    requires as_wide { length solid.old ≡ channel.old.width }
-    requires blocks { length until.old ≤ 64 * length blocks.old }
-    requires groups { length blocks.old ≤ 64 * length groups.old }
+    requires wide { length solid.old ≡ channel.old.width }
+    requires sized { IsReach channel.old.width reach.old }
+    requires none { (x y : ℕ) → is_later reach.old x y ≡ false }
     requires columns { (y : ℕ) → y < channel.old.height → All (λ s. IsStrip channel.old.width s) (strips_at rows.now y) }
     ensures { (w h : ℕ) (ds : List Data) → channel.old ≡ free_channel w h
         → ((y : ℕ) → y < h → AreStrips ds y (strips_at rows.now y))
         → channel.new ≡ channel_of w h (is_reached ds) }
 {
-    until.fill(0);
-    blocks.fill(0);
-    groups.fill(0);
     for y in 0..channel.size().height() {
-        extend_all(until, blocks, groups, rows[y as usize].as_slice());
-        mark(solid, until, blocks, groups, y);
+        reach.extend_all(rows[y as usize].as_slice());
+        reach.mark(solid, y);
         channel.set_row(y, solid);
     }
 }
@@ -253,16 +271,12 @@ pub(crate) fn channel_with(
     let mut channel = Channel::free(alloc, size)?;
     let rows = strips(alloc, size, solid)?;
     let width = size.width() as usize;
-    let mut until = vec![in alloc; 0u32; width]?;
-    let mut blocks = vec![in alloc; 0u32; width / 64 + 1]?;
-    let mut groups = vec![in alloc; 0u32; width / 64 / 64 + 1]?;
+    let mut reach = Reach::none(alloc, width)?;
     let mut cells = vec![in alloc; false; width]?;
     make_solid(
         &mut channel,
         rows.as_slice(),
-        until.as_mut_slice(),
-        blocks.as_mut_slice(),
-        groups.as_mut_slice(),
+        &mut reach,
         cells.as_mut_slice(),
     );
     Ok(channel)

@@ -1,11 +1,10 @@
-use Rattle.std.proofs.Common.{◌≡◌, ℕ, ◌+◌, ◌/◌, ◌<◌, ◌||◌, Bool, List, length, nat_lt, get_or, set, subst, sym, ◌∙◌, ap, ap₂, arith, rules, refl}
+use Rattle.std.proofs.Common.{◌≡◌, ℕ, ◌+◌, ◌<◌, ◌||◌, Bool, List, length, set, subst, sym, ◌∙◌, ap, arith, rules, refl}
 use Rattle.std.specs.Prelude.{All}
 use Rattle.std.specs.List.{list_any}
-use Rattle.std.proofs.lemmas.Bool.Decides.{nat_tests}
 use Rattle.toml.specs.Data.{Data}
 use Rattle.gas_geom.specs.Channel.{ChannelModel}
 use Rattle.gas_scene.specs.declared.rectangles.Strip.{Strip}
-use Rattle.gas_scene.specs.Strips.{channel_before, is_later, is_reached, is_reached_before, strips_at, reaches, IsStrip, AreStrips}
+use Rattle.gas_scene.specs.Strips.{channel_before, is_later, is_reached, is_reached_before, strips_at, reaches, IsStrip, IsReach, AreStrips}
 use Rattle.gas_scene.proofs.Strips.{channel_before-none, channel_before-next, channel_before-all}
 use Rattle.gas_scene.proofs.Reaches.{strips_at-row, is_reached_before-none, is_reached_before-next}
 use Rattle.gas_scene.proofs.rectangles.make_solid.Goals as goal
@@ -14,14 +13,8 @@ pub loop-y-init : goal.loop-y-init
 loop-y-init c = record {
   wide = refl;
   high = refl;
-  until = λ ds strips x v within.
-      let none : get_or c.fill.new.self x 0 ≡ 0 = search rules in
-      let below : nat_lt v 0 ≡ Bool.false = grind (arith, nat_tests) in
-      let none_in : get_or c.fill-2.new.self (x / 64) 0 ≡ 0 = search rules in
-      let none_about : get_or c.fill-3.new.self (x / 64 / 64) 0 ≡ 0 = search rules in
-      ap₂ (λ (a : Bool) (b : Bool). a || b) (ap (nat_lt v) none ∙ below)
-      (ap₂ (λ (a : Bool) (b : Bool). a || b) (ap (nat_lt v) none_in ∙ below) (ap (nat_lt v) none_about ∙ below))
-      ∙ sym (is_reached_before-none ds x v);
+  sized = c.requires.sized;
+  reach = λ ds strips x v within. c.requires.none x v ∙ sym (is_reached_before-none ds x v);
   cells = λ w h ds e strips. e ∙ channel_before-none w h (is_reached ds);
 }
 
@@ -29,7 +22,7 @@ pub extend_all-requires-clause-columns : goal.extend_all-requires-clause-columns
 extend_all-requires-clause-columns c =
     let y = c.loop-y.y in
     let in_rows : y < c.args.channel.now.height = omega (arith, c.loop-y-test.true, c.height-y-end.ensures.value, c.size.ensures.height) in
-    let wide : length c.loop-y.until ≡ c.args.channel.now.width = search rules in
+    let wide : length c.loop-y.reach.columns.items ≡ c.args.channel.now.width = c.loop-y.invariant.sized.columns in
     let row : c.as_slice.result.now ≡ strips_at c.args.rows.now y =
     c.as_slice.ensures.value ∙ strips_at-row c.args.rows.now y c.index-rows-y.result (omega (arith, in_rows, c.requires.high)) c.index-rows-y.is in
     subst (λ n. All (λ s. IsStrip n s) c.as_slice.result.now) (sym wide)
@@ -42,17 +35,18 @@ loop-y-preserved c =
     let row : c.as_slice.result.now ≡ strips_at c.args.rows.now y =
     c.as_slice.ensures.value ∙ strips_at-row c.args.rows.now y c.index-rows-y.result (omega (arith, in_rows, c.requires.high)) c.index-rows-y.is in
     let reached : (ds : List Data) → ((k : ℕ) → k < c.args.channel.now.height → AreStrips ds k (strips_at c.args.rows.now k))
-    → (x v : ℕ) → x < c.args.channel.now.width → is_later c.extend_all.new.until c.extend_all.new.blocks c.extend_all.new.groups x v ≡ is_reached_before ds (y + 1) x v =
+    → (x v : ℕ) → x < c.args.channel.now.width → is_later c.extend_all.new.self x v ≡ is_reached_before ds (y + 1) x v =
     λ ds strips x v within.
-    c.extend_all.ensures x v
-    ∙ ap (λ (b : Bool). b || list_any (λ s. reaches s x v) c.as_slice.result.now) (c.loop-y.invariant.until ds strips x v within)
+    c.extend_all.ensures.cells x v
+    ∙ ap (λ (b : Bool). b || list_any (λ s. reaches s x v) c.as_slice.result.now) (c.loop-y.invariant.reach ds strips x v within)
     ∙ ap (λ (ss : List Strip). is_reached_before ds y x v || list_any (λ s. reaches s x v) ss) row
     ∙ ap (λ (b : Bool). is_reached_before ds y x v || b) (strips y in_rows x v)
     ∙ is_reached_before-next ds y x v in
     record {
       wide = ap (λ (ch : ChannelModel). ch.width) c.set_row.ensures ∙ c.loop-y.invariant.wide;
       high = ap (λ (ch : ChannelModel). ch.height) c.set_row.ensures ∙ c.loop-y.invariant.high;
-      until = reached;
+      sized = subst (λ n. IsReach n c.extend_all.new.self) c.loop-y.invariant.sized.columns c.extend_all.ensures.sized;
+      reach = reached;
       cells = λ w h ds e strips.
           let wide : c.args.channel.now.width ≡ w = ap (λ (ch : ChannelModel). ch.width) e in
           let high : c.args.channel.now.height ≡ h = ap (λ (ch : ChannelModel). ch.height) e in
