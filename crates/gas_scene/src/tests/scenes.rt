@@ -143,3 +143,70 @@ fn rectangles(rt: HostRuntime) -> Result<(), Fail> {
     assert_eq!(rt; cells.as_str(), wanted.as_str());
     Ok(())
 }
+
+// Rectangles in the widest rows, of one cell, of all columns, side by side, and at the seams of blocks of 64 columns and of
+// groups of 64 blocks.
+#[test]
+fn wide_rectangles(rt: HostRuntime) -> Result<(), Fail> {
+    let scene = read(
+        rt.alloc(),
+        b"version = 2\ngas = \"hpp\"\nwidth = 65536\nheight = 6\nsolid = [[0, 0, 65536, 1], [63, 1, 1, 1], [65, 1, 1, 2], [128, 1, 64, 1], [256, 1, 65, 1], [447, 1, 65, 1], [4095, 1, 1, 1], [4097, 1, 4095, 1], [65535, 1, 1, 1], [4096, 2, 4096, 2], [8192, 2, 4096, 1], [12289, 2, 8190, 1], [32767, 2, 8194, 1], [61440, 2, 4096, 1], [1, 3, 65534, 1], [0, 5, 4096, 1], [4160, 5, 61376, 1]]",
+    )?;
+    let mut wanted = String::new(rt.alloc());
+    for y in 0..6u32 {
+        for x in 0..65536u32 {
+            let mut covered = false;
+            for (left, top, right, bottom) in [
+                (0u32, 0u32, 65536u32, 1u32),
+                (63, 1, 64, 2),
+                (65, 1, 66, 3),
+                (128, 1, 192, 2),
+                (256, 1, 321, 2),
+                (447, 1, 512, 2),
+                (4095, 1, 4096, 2),
+                (4097, 1, 8192, 2),
+                (65535, 1, 65536, 2),
+                (4096, 2, 8192, 4),
+                (8192, 2, 12288, 3),
+                (12289, 2, 20479, 3),
+                (32767, 2, 40961, 3),
+                (61440, 2, 65536, 3),
+                (1, 3, 65535, 4),
+                (0, 5, 4096, 6),
+                (4160, 5, 65536, 6),
+            ] {
+                if left <= x && x < right && top <= y && y < bottom {
+                    covered = true;
+                }
+            }
+            wanted.push_str(if covered { "##" } else { ".." })?;
+        }
+        wanted.push_str("\n")?;
+    }
+    let cells = cells_of(rt.alloc(), &scene)?;
+    assert!(rt; cells.as_str() == wanted.as_str());
+    Ok(())
+}
+
+// A rectangle of the whole area, whatever its width leaves of blocks of 64 columns and of groups of 64 blocks.
+#[test]
+fn whole_areas(rt: HostRuntime) -> Result<(), Fail> {
+    for width in [
+        1u32, 63, 64, 65, 127, 128, 4095, 4096, 4097, 4160, 8191, 8192, 65535, 65536,
+    ] {
+        let text = format!(in rt.alloc();
+            "version = 2\ngas = \"fhp1\"\nrate = 1000\nwidth = {width}\nheight = 2\nsolid = [[0, 0, {width}, 2]]"
+        )?;
+        let scene = read(rt.alloc(), text.as_str().as_bytes())?;
+        let mut wanted = String::new(rt.alloc());
+        for _ in 0..2 {
+            for _ in 0..width {
+                wanted.push_str("##")?;
+            }
+            wanted.push_str("\n")?;
+        }
+        let cells = cells_of(rt.alloc(), &scene)?;
+        assert!(rt; cells.as_str() == wanted.as_str(), "{width}");
+    }
+    Ok(())
+}
