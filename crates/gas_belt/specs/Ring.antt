@@ -1,17 +1,28 @@
 -- Inner words: what functions of this crate promise one another. No public contract cites them.
 -- The ring of a belt, and the rows in its words.
-use Rattle.std.specs.Prelude.{ℕ, zero, suc, ◌*◌, List, [], ◌∷◌, ◌++◌, take, drop}
+use Rattle.std.specs.Prelude.{ℕ, zero, suc, ◌*◌, ◌-◌, List, [], ◌∷◌, ◌++◌, length, take, drop}
 use Rattle.std.specs.Global.{Global}
 use Rattle.rtrb.specs.declared.AnyItems.{AnyItems}
 use Rattle.rtrb.specs.declared.end.End.{End}
+use Rattle.rtrb.specs.Ring.{sent, received}
 use Rattle.gas_rows.specs.Planes.{cells_of}
 use Rattle.gas_rows.specs.Row.{RowModel}
 use Rattle.gas_rows.specs.Words.{words_in}
 use Rattle.gas_belt.specs.Belt.{Belt}
+use Rattle.gas_belt.specs.declared.outlet.Outlet.{Outlet}
+use Rattle.gas_belt.specs.declared.inlet.Inlet.{Inlet}
 
 -- the belt that an end of a ring is of, where rows have that width
 abbrev pub belt_of : ℕ → End ℕ Global AnyItems → Belt
 belt_of width e = record { width = width; words = e.words; slots = e.slots; names = e.names; heap = e.heap }
+
+-- all words that were sent: those that went into the ring, and behind them those that gathered beside it
+abbrev pub sent_words : Outlet → List ℕ
+sent_words o = sent o.ring ++ take o.waiting o.words.items
+
+-- all words that were taken: those that came out of the ring, but not those that wait beside it
+abbrev pub taken_words : Inlet → List ℕ
+taken_words i = take (length (received i.ring) - (i.filled - i.first)) (received i.ring)
 
 -- how many words a row of that width takes
 abbrev pub row_words : ℕ → ℕ → ℕ

@@ -1,13 +1,53 @@
 //! Making a belt.
-ghost use Rattle.std.specs.Prelude.{◌≡◌, ◌≤◌, [], IfOk, None};
+ghost use Rattle.std.specs.Prelude.{◌≡◌, ◌≤◌, ◌<◌, [], length, IfOk, None};
+ghost use Rattle.rtrb.specs.Ring.{received};
+ghost use Rattle.gas_belt.specs.Ring.{belt_of};
 
+use crate::inlet::Inlet;
+use crate::outlet::Outlet;
 use crate::rx::Rx;
 use crate::spares::Spares;
 use crate::tx::Tx;
 use gas_geom::gas::Gas;
 use gas_rows::row::Row;
-use rtrb::RingBuffer;
+use rtrb::{Consumer, RingBuffer};
 use std::alloc::{AllocError, Global};
+
+// The most rows whose words go through the ring together.
+const MOST_ROWS: usize = 8;
+
+// The most words that go through the ring together.
+const MOST_WORDS: usize = 4096;
+
+// How many words may gather at an end before they go through the ring: those of half the places, so
+// that the other end has work meanwhile, and none where that is a single row.
+fn words_together(places: usize, row: usize) -> usize
+    requires { 0 < row }
+{
+    let rows = (places / 2).min(MOST_ROWS).min(MOST_WORDS / row);
+    if rows < 2 { 0 } else { rows * row }
+}
+
+// The end that takes rows as wide as `row`, with that row and another as buffers.
+fn receiver<G: Gas>(
+    alloc: Global,
+    ring: Consumer<u64>,
+    row: Row<G>,
+    together: usize,
+) -> Result<Rx<G>, AllocError>
+    requires nothing { received ring ≡ [] }
+    ensures belt { IfOk result (λ r. r.belt ≡ belt_of (length row) ring.end) }
+    ensures nothing_taken { IfOk result (λ r. r.taken ≡ []) }
+    ensures two_buffers { IfOk result (λ r. r.held ≡ 2) }
+{
+    let width = row.width();
+    let words = vec![in alloc; 0; row.as_words().len()]?;
+    let mut spares = Spares::new(alloc, width)?;
+    spares.keep(row);
+    spares.keep(Row::blank(alloc, width)?);
+    let inlet = Inlet::new(ring, vec![in alloc; 0; together]?);
+    Ok(Rx::new(inlet, words, spares))
+}
 
 /// A belt for rows of `width` cells, 1 to 65536, with places for the words of `capacity` rows,
 /// 1 to 1024. Both ends are unused, and each may go to a thread of its own. The end that rows are
@@ -26,10 +66,10 @@ pub fn belt<G: Gas>(alloc: Global, capacity: u32, width: u32) -> Result<(Tx<G>, 
     ensures two_buffers { IfOk result (λ r. r.1.held ≡ 2) }
 {
     let row = Row::<G>::blank(alloc, width)?;
-    let words = vec![in alloc; 0; row.as_words().len()]?;
-    let (producer, consumer) = RingBuffer::new(alloc, capacity as usize * words.len())?;
-    let mut spares = Spares::new(alloc, width)?;
-    spares.keep(row);
-    spares.keep(Row::blank(alloc, width)?);
-    Ok((Tx::new(producer, width), Rx::new(consumer, words, spares)))
+    let row_words = row.as_words().len();
+    let together = words_together(capacity as usize, row_words);
+    let (producer, consumer) = RingBuffer::new(alloc, capacity as usize * row_words)?;
+    let outlet = Outlet::new(producer, vec![in alloc; 0; together]?);
+    let rx = receiver(alloc, consumer, row, together)?;
+    Ok((Tx::new(outlet, width), rx))
 }

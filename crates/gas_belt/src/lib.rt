@@ -3,6 +3,8 @@
 
 pub mod belt;
 pub mod carried;
+mod inlet;
+mod outlet;
 pub mod rx;
 mod spares;
 #[cfg(test)]

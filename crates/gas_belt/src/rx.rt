@@ -1,80 +1,63 @@
 //! The end of a belt that rows are taken from.
-ghost use Rattle.std.specs.Prelude.{◌≡◌, ◌≢◌, ◌+◌, ◌-◌, ◌≤◌, ◌<◌, ◌++◌, ◌∷◌, [], ℕ, List, length, take, drop, min, vec_len, IfSome, IfNone, IsNone};
-ghost use Rattle.rtrb.specs.Ring.{received, SameConsumer};
-ghost use Rattle.gas_belt.specs.Ring.{belt_of, row_words};
+ghost use Rattle.std.specs.Prelude.{◌≡◌, ◌≢◌, ◌+◌, ◌-◌, ◌≤◌, ◌<◌, ◌++◌, ◌∷◌, [], length, min, vec_len, IfSome, IfNone, IsNone};
+ghost use Rattle.gas_belt.specs.Ring.{belt_of, row_words, taken_words};
 
+use crate::inlet::Inlet;
 use crate::spares::Spares;
 use gas_geom::gas::Gas;
 use gas_rows::row::Row;
-use rtrb::Consumer;
 use std::marker::Model;
 
 /// The end of a belt that rows are taken from. It counts them.
 #[derive(Drop)]
 pub struct Rx<G: Gas> {
-    pub(crate) ring: Consumer<u64>,
+    pub(crate) inlet: Inlet,
     pub(crate) count: u64,
-    // The words of the next row, of which the first `filled` have come.
+    // Places for the words of a row.
     words: Vec<u64>,
-    filled: usize,
     spares: Spares<G>,
 }
 
 impl<G: Gas> Model for Rx<G> {
-    ghost use Rattle.std.specs.Prelude.{◌≡◌, ◌+◌, ◌*◌, ◌<◌, length, take, drop, vec_len};
-    ghost use Rattle.rtrb.specs.Ring.{received};
+    ghost use Rattle.std.specs.Prelude.{◌≡◌, ◌*◌, ◌<◌, length, vec_len};
     ghost use Rattle.gas_belt.specs.Belt.{Receiver};
-    ghost use Rattle.gas_belt.specs.Ring.{belt_of, row_words, rows_in};
+    ghost use Rattle.gas_belt.specs.Ring.{belt_of, row_words, rows_in, taken_words};
 
     ghost Value = { Receiver };
 
     ghost view = { λ r. record {
-      belt = belt_of r.spares.width r.ring.end;
-      taken = rows_in G.rules.dirs r.spares.width r.count (received r.ring);
+      belt = belt_of r.spares.width r.inlet.ring.end;
+      taken = rows_in G.rules.dirs r.spares.width r.count (taken_words r.inlet);
       held = r.spares.count;
     } };
 
     ghost invariant = { λ r. record {
-      counted : length (received r.ring) ≡ row_words G.rules.dirs r.spares.width * r.count + r.filled;
+      counted : length (taken_words r.inlet) ≡ row_words G.rules.dirs r.spares.width * r.count;
       long : vec_len r.words ≡ row_words G.rules.dirs r.spares.width;
-      under_way : r.filled < row_words G.rules.dirs r.spares.width;
-      collected : take r.filled r.words.items ≡ drop (row_words G.rules.dirs r.spares.width * r.count) (received r.ring);
+      some : 0 < vec_len r.words;
     } };
-}
-
-// Pops words to the places from `filled` on. It gives their number.
-fn fill(ring: &mut Consumer<u64>, words: &mut [u64], filled: usize) -> usize
-    requires { filled ≤ length words.old }
-    ensures ring { SameConsumer ring.old ring.new }
-    ensures within { filled + result ≤ length words.old }
-    ensures came { (part : List ℕ) × (received ring.new ≡ received ring.old ++ part) × (length part ≡ result)
-        × (take (filled + result) words.new ≡ take filled words.old ++ part) }
-{
-    let (_, rest) = words.split_at_mut(filled);
-    ring.pop_partial_slice(rest)
 }
 
 impl<G: Gas> Rx<G> {
     #[tactic(auto, using(crate::proofs::Parts::parts_none))]
-    pub(crate) fn new(ring: Consumer<u64>, words: Vec<u64>, spares: Spares<G>) -> Self
-        requires nothing { received ring ≡ [] }
+    pub(crate) fn new(inlet: Inlet, words: Vec<u64>, spares: Spares<G>) -> Self
+        requires nothing { taken_words inlet ≡ [] }
         requires some_words { 0 < vec_len words }
         requires long { vec_len words ≡ row_words G.rules.dirs spares.width }
-        ensures { result ≡ record { belt = belt_of spares.width ring.end; taken = []; held = spares.count } }
+        ensures { result ≡ record { belt = belt_of spares.width inlet.ring.end; taken = []; held = spares.count } }
     {
         Rx {
-            ring,
+            inlet,
             count: 0,
             words,
-            filled: 0,
             spares,
         }
     }
 
-    /// Collects words that have come, and takes the oldest row on the belt once it is whole, in one
-    /// of the buffers. None where it is not, where no buffer is held, or where 2^64 - 1 rows were
-    /// taken. It takes no memory and waits for nobody.
-    #[tactic(auto, using(crate::proofs::Parts::parts_length))]
+    /// Takes the oldest row on the belt once all its words have come, in one of the buffers. None
+    /// where they have not, where no buffer is held, or where 2^64 - 1 rows were taken. It takes no
+    /// memory and waits for nobody.
+    #[tactic(auto, using(crate::proofs::Parts::parts_length, crate::proofs::Parts::parts_row))]
     pub fn try_take(&mut self) -> Option<Row<G>>
         ensures taken { IfSome result (λ row.
             self.new ≡ record self.old { taken = self.old.taken ++ row ∷ []; held = self.old.held - 1 }) }
@@ -86,15 +69,13 @@ impl<G: Gas> Rx<G> {
         if self.count == u64::MAX || self.spares.count() == 0 {
             return None;
         }
-        self.filled += fill(&mut self.ring, &mut self.words, self.filled);
-        if self.filled < self.words.len() {
+        if !self.inlet.take(&mut self.words) {
             return None;
         }
         let Some(mut row) = self.spares.take() else {
             unreachable!()
         };
         row.exchange_words(&mut self.words);
-        self.filled = 0;
         self.count += 1;
         Some(row)
     }

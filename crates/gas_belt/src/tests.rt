@@ -8,6 +8,7 @@ mod buffers;
 mod order;
 mod parts;
 mod threads;
+mod together;
 mod words;
 
 // A row that tells a number below 4096 by its first cell and its last.

@@ -1,8 +1,9 @@
 //! The end of a belt that rows are put on.
 ghost use Rattle.std.specs.Prelude.{◌≡◌, ◌++◌, ◌∷◌, [], length, OnOk, IfErr, OnErr, IsErr, IsTrue, IsFalse, Some, None};
 ghost use Rattle.rtrb.specs.Ring.{sent};
-ghost use Rattle.gas_belt.specs.Ring.{belt_of};
+ghost use Rattle.gas_belt.specs.Ring.{belt_of, sent_words};
 
+use crate::outlet::Outlet;
 use gas_geom::gas::Gas;
 use gas_rows::row::Row;
 use rtrb::Producer;
@@ -34,7 +35,45 @@ impl<G: Gas> Model for Spent<G> {
     ghost invariant = { λ s. length (sent s.ring) ≡ row_words G.rules.dirs s.width * s.count };
 }
 
-impl<G: Gas> Spent<G> {
+/// The end of a belt that rows are put on. It counts them.
+#[derive(Drop)]
+pub struct Tx<G: Gas> {
+    outlet: Outlet,
+    count: u64,
+    width: u32,
+    spare: Option<Row<G>>,
+}
+
+impl<G: Gas> Model for Tx<G> {
+    ghost use Rattle.std.specs.Prelude.{◌≡◌, ◌*◌, length};
+    ghost use Rattle.gas_belt.specs.Belt.{Sender};
+    ghost use Rattle.gas_belt.specs.Ring.{belt_of, row_words, rows_in, sent_words};
+
+    ghost Value = { Sender };
+
+    ghost view = { λ t. record {
+      belt = belt_of t.width t.outlet.ring.end;
+      put = rows_in G.rules.dirs t.width t.count (sent_words t.outlet);
+      spare = t.spare;
+    } };
+
+    ghost invariant = { λ t. length (sent_words t.outlet) ≡ row_words G.rules.dirs t.width * t.count };
+}
+
+impl<G: Gas> Tx<G> {
+    #[tactic(auto, using(crate::proofs::Parts::parts_none))]
+    pub(crate) fn new(outlet: Outlet, width: u32) -> Self
+        requires { sent_words outlet ≡ [] }
+        ensures { result ≡ record { belt = belt_of width outlet.ring.end; put = []; spare = None } }
+    {
+        Tx {
+            outlet,
+            count: 0,
+            width,
+            spare: None,
+        }
+    }
+
     // Sends the words of a row, if all find a place. It says whether they did.
     #[tactic(auto, using(crate::proofs::Parts::parts_length, crate::proofs::Parts::parts_row))]
     fn send(&mut self, row: &Row<G>) -> bool
@@ -46,56 +85,17 @@ impl<G: Gas> Spent<G> {
         if self.count == u64::MAX || row.width() != self.width {
             return false;
         }
-        if self.ring.push_entire_slice(row.as_words()).is_err() {
+        if !self.outlet.send(row.as_words()) {
             return false;
         }
         self.count += 1;
         true
     }
-}
-
-/// The end of a belt that rows are put on. It counts them.
-#[derive(Drop)]
-pub struct Tx<G: Gas> {
-    rows: Spent<G>,
-    spare: Option<Row<G>>,
-}
-
-impl<G: Gas> Model for Tx<G> {
-    ghost use Rattle.std.specs.Prelude.{◌≡◌, None};
-    ghost use Rattle.gas_belt.specs.Belt.{Sender};
-
-    ghost Value = { Sender };
-
-    ghost view = { λ t. record {
-      belt = t.rows.belt;
-      put = t.rows.put;
-      spare = t.spare;
-    } };
-
-    ghost invariant = { λ t. t.rows.spare ≡ None };
-}
-
-impl<G: Gas> Tx<G> {
-    #[tactic(auto, using(crate::proofs::Parts::parts_none))]
-    pub(crate) fn new(ring: Producer<u64>, width: u32) -> Self
-        requires { sent ring ≡ [] }
-        ensures { result ≡ record { belt = belt_of width ring.end; put = []; spare = None } }
-    {
-        Tx {
-            rows: Spent {
-                ring,
-                count: 0,
-                width,
-                gas: PhantomData,
-            },
-            spare: None,
-        }
-    }
 
     /// Puts a row, or hands it back where its words find no place, its width is not the belt's, or
-    /// 2^64 - 1 rows were put. A row that was put becomes the spare row. It takes no memory and
-    /// waits for nobody.
+    /// 2^64 - 1 rows were put. A row that was put becomes the spare row. On a belt with 4 places or
+    /// more, rows may gather before the other end is shown them; where one finds no place, it is
+    /// shown all. It takes no memory and waits for nobody.
     pub fn try_put(&mut self, row: Row<G>) -> Result<(), Row<G>>
         ensures put { OnOk result (self.new ≡ record self.old { put = self.old.put ++ row ∷ []; spare = Some row }) }
         ensures width { OnOk result (length row ≡ self.old.belt.width) }
@@ -103,7 +103,7 @@ impl<G: Gas> Tx<G> {
         ensures unchanged { OnErr result (self.new ≡ self.old) }
         ensures no_more { length self.old.put ≡ u64.MAX → IsErr result }
     {
-        if self.rows.send(&row) {
+        if self.send(&row) {
             self.spare = Some(row);
             Ok(())
         } else {
@@ -119,10 +119,24 @@ impl<G: Gas> Tx<G> {
         self.spare.take()
     }
 
-    /// Ends the list of the rows put: what is left of the end has no put, and no spare row.
+    /// Shows the other end all rows that were put, where some gathered here to be shown together.
+    /// It says whether some did. It takes no memory and waits for nobody.
+    pub fn publish(&mut self) -> bool
+        ensures { self.new ≡ self.old }
+    {
+        self.outlet.publish()
+    }
+
+    /// Ends the list of the rows put: what is left of the end has no put, and no spare row. The other
+    /// end is shown all of them.
     pub fn close(self) -> Spent<G>
         ensures { result ≡ record self { spare = None } }
     {
-        self.rows
+        Spent {
+            ring: self.outlet.close(),
+            count: self.count,
+            width: self.width,
+            gas: PhantomData,
+        }
     }
 }

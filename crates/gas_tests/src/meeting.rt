@@ -102,19 +102,29 @@ fn assert_prints<R: Abort + Threads + Wait + Sync>(
     Ok(())
 }
 
+// The workers of a run of two passes meet before each, however many rows gather on the belts.
+fn workers_meet<R: Abort + Threads + Wait + Sync>(
+    rt: &R,
+    alloc: Global,
+    capacity: u32,
+) -> Result<(), Fail> {
+    let size = Size::new(7, 3).ok_or("a size")?;
+    let mut lattice = Lattice::<Fhp1>::blank(alloc, Channel::free(alloc, size)?)?;
+    lattice.set_cell(0, 1, 0x01);
+    let gate = Meeting::of(alloc, 4)?;
+    let plan = Plan::new(4, capacity, 5)?;
+    let run = run(rt, alloc, &lattice, Chirality::Left, 0, plan, &gate)?;
+    gate.was_kept(rt, 8);
+    assert_eq!(rt; run.belts_made(), 5);
+    let wanted = lattice_after(alloc, &lattice, Chirality::Left, 0, 5)?;
+    assert_same(rt, run.lattice(), &wanted);
+    Ok(())
+}
+
 #[test]
 fn all_workers_of_a_run_meet(rt: HostRuntime) -> Result<(), Fail> {
-    let size = Size::new(7, 3).ok_or("a size")?;
-    let mut lattice = Lattice::<Fhp1>::blank(rt.alloc(), Channel::free(rt.alloc(), size)?)?;
-    lattice.set_cell(0, 1, 0x01);
-    let gate = Meeting::of(rt.alloc(), 4)?;
-    let plan = Plan::new(4, 1, 5)?;
-    let run = run(&rt, rt.alloc(), &lattice, Chirality::Left, 0, plan, &gate)?;
-    gate.was_kept(&rt, 8);
-    assert_eq!(rt; run.belts_made(), 5);
-    let wanted = lattice_after(rt.alloc(), &lattice, Chirality::Left, 0, 5)?;
-    assert_same(&rt, run.lattice(), &wanted);
-    Ok(())
+    workers_meet(&rt, rt.alloc(), 1)?;
+    workers_meet(&rt, rt.alloc(), 32)
 }
 
 #[test]

@@ -54,7 +54,8 @@ fn compare<G: Gas + Send, R: Abort + Threads + Wait + Sync>(
 }
 
 // So many rounds of random runs of all gases: through lines of all lengths up to 8, with one place in
-// each belt, two, and more than a low lattice has rows. Each comes to its end.
+// each belt, two, and more than a low lattice has rows, which then gather by four or by eight. Each
+// comes to its end.
 fn soak<R: Abort + Threads + Wait + Sync>(
     rt: &R,
     alloc: Global,
@@ -64,7 +65,7 @@ fn soak<R: Abort + Threads + Wait + Sync>(
     let mut random = Pcg32::new(42, 54);
     for _ in 0..rounds {
         for stages in 1..=8 {
-            for capacity in [1, 2, 7] {
+            for capacity in [1, 2, 9, 33] {
                 compare::<Fhp1, _>(rt, alloc, stages, capacity, highest, &mut random)?;
                 compare::<Hpp, _>(rt, alloc, stages, capacity, highest, &mut random)?;
                 compare::<FhpRest, _>(rt, alloc, stages, capacity, highest, &mut random)?;
@@ -81,5 +82,5 @@ fn runs_of_high_lattices(rt: HostRuntime) -> Result<(), Fail> {
 
 #[test]
 fn runs_of_low_lattices(rt: HostRuntime) -> Result<(), Fail> {
-    soak(&rt, rt.alloc(), 130, 3)
+    soak(&rt, rt.alloc(), 100, 3)
 }

@@ -1,4 +1,5 @@
 use super::{number, numbered};
+use crate::inlet::Inlet;
 use crate::rx::Rx;
 use crate::spares::Spares;
 use gas_geom::fhp1::Fhp1;
@@ -11,14 +12,15 @@ use std::test::Fail;
 // The words of a row of 65 cells.
 const WORDS: usize = 12;
 
-// An end with one buffer for rows of 65 cells, and the other end of its ring, which has places for
-// a row and a half.
-fn end_and_ring(alloc: Global) -> Result<(Producer<u64>, Rx<Fhp1>), AllocError> {
+// An end with one buffer for rows of 65 cells, of whose words so many come out of the ring together,
+// and the other end of its ring, which has places for a row and a half.
+fn end_and_ring(alloc: Global, together: usize) -> Result<(Producer<u64>, Rx<Fhp1>), AllocError> {
     let (ring, consumer) = RingBuffer::new(alloc, 18)?;
     let words = vec![in alloc; 0; WORDS]?;
     let mut spares = Spares::new(alloc, 65)?;
     spares.keep(Row::blank(alloc, 65)?);
-    Ok((ring, Rx::new(consumer, words, spares)))
+    let inlet = Inlet::new(consumer, vec![in alloc; 0; together]?);
+    Ok((ring, Rx::new(inlet, words, spares)))
 }
 
 // Sends words, and takes the row that is whole by then.
@@ -38,19 +40,18 @@ fn send_and_take(
     Some(taken)
 }
 
-#[test]
-fn a_row_in_two_and_three_parts(rt: HostRuntime) -> Result<(), Fail> {
-    let (mut ring, mut rx) = end_and_ring(rt.alloc())?;
+fn in_two_and_three_parts(rt: &impl Abort, alloc: Global, together: usize) -> Result<(), Fail> {
+    let (mut ring, mut rx) = end_and_ring(alloc, together)?;
     for first in 0..=WORDS {
         for second in first..=WORDS {
             let n = 100 * first as u32 + second as u32;
-            let row = numbered(rt.alloc(), 65, n)?;
+            let row = numbered(alloc, 65, n)?;
             let words = row.as_words();
             assert!(rt; words.len() == WORDS);
             let taken = [
-                send_and_take(&rt, &mut ring, &mut rx, &words[..first]),
-                send_and_take(&rt, &mut ring, &mut rx, &words[first..second]),
-                send_and_take(&rt, &mut ring, &mut rx, &words[second..]),
+                send_and_take(rt, &mut ring, &mut rx, &words[..first]),
+                send_and_take(rt, &mut ring, &mut rx, &words[first..second]),
+                send_and_take(rt, &mut ring, &mut rx, &words[second..]),
             ];
             let wanted = if first == WORDS {
                 [Some(n), None, None]
@@ -59,8 +60,45 @@ fn a_row_in_two_and_three_parts(rt: HostRuntime) -> Result<(), Fail> {
             } else {
                 [None, None, Some(n)]
             };
-            assert!(rt; taken == wanted, "{first} and {second}");
+            assert!(rt;
+                taken == wanted,
+                "{first} and {second}, {together} words together"
+            );
         }
+    }
+    Ok(())
+}
+
+fn with_a_part_of_the_next(rt: &impl Abort, alloc: Global, together: usize) -> Result<(), Fail> {
+    let (mut ring, mut rx) = end_and_ring(alloc, together)?;
+    for part in 0..=6 {
+        let first = numbered(alloc, 65, 2000 + part as u32)?;
+        let second = numbered(alloc, 65, 3000 + part as u32)?;
+        let words = second.as_words();
+        assert!(rt; words.len() == WORDS);
+        assert!(rt; ring.push_entire_slice(first.as_words()).is_ok());
+        let taken = send_and_take(rt, &mut ring, &mut rx, &words[..part]);
+        assert!(rt;
+            taken == Some(2000 + part as u32),
+            "{part}, {together} words together"
+        );
+        assert!(rt;
+            rx.try_take().is_none(),
+            "{part}, {together} words together"
+        );
+        let taken = send_and_take(rt, &mut ring, &mut rx, &words[part..]);
+        assert!(rt;
+            taken == Some(3000 + part as u32),
+            "{part}, {together} words together"
+        );
+    }
+    Ok(())
+}
+
+#[test]
+fn a_row_in_two_and_three_parts(rt: HostRuntime) -> Result<(), Fail> {
+    for rows in [0, 2, 3] {
+        in_two_and_three_parts(&rt, rt.alloc(), rows * WORDS)?;
     }
     Ok(())
 }
@@ -68,18 +106,8 @@ fn a_row_in_two_and_three_parts(rt: HostRuntime) -> Result<(), Fail> {
 // Where words of the next row have come too, they stay behind the row that is whole.
 #[test]
 fn a_row_and_a_part_of_the_next(rt: HostRuntime) -> Result<(), Fail> {
-    let (mut ring, mut rx) = end_and_ring(rt.alloc())?;
-    for part in 0..=6 {
-        let first = numbered(rt.alloc(), 65, 2000 + part as u32)?;
-        let second = numbered(rt.alloc(), 65, 3000 + part as u32)?;
-        let words = second.as_words();
-        assert!(rt; words.len() == WORDS);
-        assert!(rt; ring.push_entire_slice(first.as_words()).is_ok());
-        let taken = send_and_take(&rt, &mut ring, &mut rx, &words[..part]);
-        assert!(rt; taken == Some(2000 + part as u32), "{part}");
-        assert!(rt; rx.try_take().is_none(), "{part}");
-        let taken = send_and_take(&rt, &mut ring, &mut rx, &words[part..]);
-        assert!(rt; taken == Some(3000 + part as u32), "{part}");
+    for rows in [0, 2, 3] {
+        with_a_part_of_the_next(&rt, rt.alloc(), rows * WORDS)?;
     }
     Ok(())
 }

@@ -89,7 +89,7 @@ fn through_threads<R: Threads + Wait + Sync>(
 
 #[test]
 fn a_thread_puts_and_a_thread_takes(rt: HostRuntime) -> Result<(), Fail> {
-    for capacity in [1, 2, 7] {
+    for capacity in [1, 2, 7, 8, 33] {
         let met = through_threads(&rt, rt.alloc(), capacity)?;
         assert!(rt; met == Some((1000, true)), "{capacity} places");
     }

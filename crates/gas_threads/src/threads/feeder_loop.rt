@@ -32,7 +32,7 @@ pub(crate) fn feed<G: Gas, R: Wait>(
         match feeder.turn(tx, rx) {
             Turned::Done => return true,
             Turned::Idle => {
-                if !watch.wait(rt) {
+                if !watch.rest(rt, tx) {
                     return false;
                 }
             }

@@ -1,6 +1,10 @@
 //! How the threads of a run wait for one another.
 
+ghost use Rattle.std.specs.Prelude.{◌≡◌};
+
 use crossbeam_utils::CachePadded;
+use gas_belt::tx::Tx;
+use gas_geom::gas::Gas;
 use std::alloc::{AllocError, Global};
 use std::sync::Wait;
 use std::sync::atomic::{AtomicBool, AtomicU64, Ordering};
@@ -89,10 +93,10 @@ impl<'a> Watch<'a> {
         }
     }
 
-    /// Waits a little after a turn in which nothing could be done, and says whether to go on: not
-    /// where the stop flag is raised. Between the word that it will sleep and the sleep it looks
-    /// once more, so that it misses nobody who did not see that word.
-    pub(crate) fn wait<R: Wait>(&mut self, rt: &R) -> bool {
+    // Waits a little, and says whether to go on: not where the stop flag is raised. Between the word
+    // that it will sleep and the sleep it looks once more, so that it misses nobody who did not see
+    // that word.
+    fn wait<R: Wait>(&mut self, rt: &R) -> bool {
         if self.signals.stop.load(Ordering::SeqCst) {
             return false;
         }
@@ -126,6 +130,26 @@ impl<'a> Watch<'a> {
         let behind = self.member.wrapping_add(1);
         let is_last = behind >= self.signals.bells.len();
         self.signals.wake(if is_last { 0 } else { behind });
+    }
+
+    /// Shows the member behind rows that gathered on the belt, and says whether there were any.
+    pub(crate) fn publish<G: Gas>(&mut self, tx: &mut Tx<G>) -> bool
+        ensures { tx.new ≡ tx.old }
+    {
+        let any = tx.publish();
+        if any {
+            self.put();
+        }
+        any
+    }
+
+    /// After a turn in which nothing could be done: rows that gathered are shown first, since the
+    /// member behind may wait for them; where there are none it waits a little. It says whether to go
+    /// on.
+    pub(crate) fn rest<G: Gas, R: Wait>(&mut self, rt: &R, tx: &mut Tx<G>) -> bool
+        ensures { tx.new ≡ tx.old }
+    {
+        self.publish(tx) || self.wait(rt)
     }
 
     /// A row was taken: the member before may wait for its room.

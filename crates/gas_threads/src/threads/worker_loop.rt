@@ -38,9 +38,12 @@ fn make_pass<G: Gas, H, R: Wait>(
     let mut watch = Watch::new(shared.signals, who);
     for _ in shared.rt.forever() {
         match worker.turn(rx, tx) {
-            Turned::Done => return true,
+            Turned::Done => {
+                watch.publish(tx);
+                return true;
+            }
             Turned::Idle => {
-                if !watch.wait(shared.rt) {
+                if !watch.rest(shared.rt, tx) {
                     return false;
                 }
             }

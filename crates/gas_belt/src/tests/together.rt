@@ -1,0 +1,67 @@
+use super::{number, numbered};
+use crate::belt::belt;
+use crate::carried::meet;
+use std::test::Fail;
+
+// On a belt with four places two rows gather before they are shown.
+#[test]
+fn two_rows_are_shown_together(rt: HostRuntime) -> Result<(), Fail> {
+    let (mut tx, mut rx) = belt(rt.alloc(), 4, 65)?;
+    assert!(rt; !tx.publish());
+    assert!(rt; tx.try_put(numbered(rt.alloc(), 65, 10)?).is_ok());
+    assert!(rt; rx.try_take().is_none());
+    assert!(rt; tx.try_put(numbered(rt.alloc(), 65, 20)?).is_ok());
+    let first = rx.try_take().ok_or("the first row")?;
+    let second = rx.try_take().ok_or("the second row")?;
+    assert_eq!(rt; (number(&first), number(&second)), (10, 20));
+    rx.give(first);
+    assert!(rt; rx.try_take().is_none());
+    assert!(rt; tx.try_put(numbered(rt.alloc(), 65, 30)?).is_ok());
+    assert!(rt; tx.publish());
+    assert!(rt; !tx.publish());
+    assert_eq!(rt; number(&rx.try_take().ok_or("the third row")?), 30);
+    Ok(())
+}
+
+// A row that finds no place is handed back, and all before it are shown.
+#[test]
+fn a_full_belt_shows_its_rows(rt: HostRuntime) -> Result<(), Fail> {
+    let (mut tx, mut rx) = belt(rt.alloc(), 9, 7)?;
+    for n in 0..9 {
+        assert!(rt; tx.try_put(numbered(rt.alloc(), 7, n)?).is_ok(), "{n}");
+    }
+    let Err(back) = tx.try_put(numbered(rt.alloc(), 7, 99)?) else {
+        return Err("a tenth row was put")?;
+    };
+    assert_eq!(rt; number(&back), 99);
+    assert!(rt; !tx.publish());
+    for n in 0..9 {
+        let row = rx.try_take().ok_or("a row")?;
+        assert_eq!(rt; number(&row), n);
+        rx.give(row);
+    }
+    assert!(rt; rx.try_take().is_none());
+    Ok(())
+}
+
+// A belt that is closed has shown all rows.
+#[test]
+fn rows_that_gathered_are_not_lost(rt: HostRuntime) -> Result<(), Fail> {
+    let (mut tx, mut rx) = belt(rt.alloc(), 32, 130)?;
+    for n in 0..13 {
+        assert!(rt; tx.try_put(numbered(rt.alloc(), 130, n)?).is_ok(), "{n}");
+    }
+    let Err((spent, mut rx)) = meet(tx.close(), rx) else {
+        return Err("met with rows left")?;
+    };
+    for n in 0..13 {
+        let row = rx.try_take().ok_or("a row")?;
+        assert_eq!(rt; number(&row), n);
+        rx.give(row);
+    }
+    let Ok(carried) = meet(spent, rx) else {
+        return Err("no row is left")?;
+    };
+    assert_eq!(rt; carried.len(), 13);
+    Ok(())
+}
