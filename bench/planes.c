@@ -1,44 +1,57 @@
-/* FHP-I in plain C, on bit planes and one thread, to compare the speed and the answers of fhpgas with: a word holds a direction
-   in 64 cells. It reads the cells that `fhpgas run --generations 0` prints, computes G generations under chirality "left" and
-   prints the cells. Usage: planes G < CELLS. On standard error: the seconds that the generations took. */
+/* FHP-I in plain C, on bit planes, to compare the speed and the answers of fhpgas with: a word holds a direction in 64 cells. The
+   lattice is cut into bands of rows, one for each thread, which meet after each generation. It reads the cells that
+   `fhpgas run --generations 0` prints, computes G generations under chirality "left" and prints the cells.
+   Usage: planes G THREADS < CELLS. On standard error: the seconds that the generations took. */
+#include <pthread.h>
+#include <sched.h>
+#include <stdatomic.h>
 #include <stdint.h>
 #include <stdio.h>
 #include <stdlib.h>
 #include <string.h>
 #include <time.h>
 
-enum { DIRECTIONS = 6, MOST_SIDE = 4096, MOST_WORDS = MOST_SIDE / 64 };
-typedef uint64_t Row[DIRECTIONS][MOST_WORDS];
+enum { DIRECTIONS = 6, MOST_SIDE = 65536, MOST_WORDS = MOST_SIDE / 64, MOST_THREADS = 64, LOOKS = 1000 };
+typedef uint64_t Word;
 
-static Row lattices[2][MOST_SIDE];
-static uint64_t solid[MOST_SIDE][MOST_WORDS];
-static int width, height, words;
+static int width, height, words, threads;
+static long generations;
+static Word *collided, *streamed, *solid; /* rows of six planes, and a row of the mask for each */
+static unsigned char *near_solid;         /* whether a row, the one above or the one below has a solid cell */
 static char line[2 * MOST_SIDE + 64];
 
 /* the column steps from even and odd rows, and the row steps, of E, NE, NW, W, SW, SE */
 static const int across[2][DIRECTIONS] = {{1, 0, -1, -1, -1, 0}, {1, 1, 0, -1, 0, 1}};
 static const int down[DIRECTIONS] = {0, -1, -1, 0, 1, 1};
 
+static Word *plane(Word *rows, int y, int i) { return rows + ((size_t)y * DIRECTIONS + i) * words; }
+
+static Word *mask(int y) { return solid + (size_t)y * words; }
+
 /* pairs turn to the left and triples turn about; solid cells are emptied */
-static void collide(Row row, const uint64_t *walls) {
+static void collide(int y) {
+    Word *restrict p0 = plane(streamed, y, 0), *restrict p1 = p0 + words, *restrict p2 = p1 + words;
+    Word *restrict p3 = p2 + words, *restrict p4 = p3 + words, *restrict p5 = p4 + words;
+    Word *restrict q = plane(collided, y, 0);
+    const Word *restrict walls = mask(y);
     for (int j = 0; j < words; j++) {
-        uint64_t e = row[0][j], ne = row[1][j], nw = row[2][j], w = row[3][j], sw = row[4][j], se = row[5][j];
-        uint64_t single = (e ^ w) | (ne ^ sw) | (nw ^ se), all = (e ^ w) & (ne ^ sw) & (nw ^ se);
-        uint64_t triple = all & (e ^ ne) & (ne ^ nw);
-        uint64_t pair_e = e & ~(ne | nw | single), pair_ne = ne & ~(e | nw | single), pair_nw = nw & ~(e | ne | single);
-        uint64_t turn_e = triple | pair_e | pair_nw, turn_ne = triple | pair_ne | pair_e, turn_nw = triple | pair_nw | pair_ne;
-        uint64_t fluid = ~walls[j];
-        row[0][j] = (e ^ turn_e) & fluid;
-        row[1][j] = (ne ^ turn_ne) & fluid;
-        row[2][j] = (nw ^ turn_nw) & fluid;
-        row[3][j] = (w ^ turn_e) & fluid;
-        row[4][j] = (sw ^ turn_ne) & fluid;
-        row[5][j] = (se ^ turn_nw) & fluid;
+        Word e = p0[j], ne = p1[j], nw = p2[j], w = p3[j], sw = p4[j], se = p5[j];
+        Word single = (e ^ w) | (ne ^ sw) | (nw ^ se), all = (e ^ w) & (ne ^ sw) & (nw ^ se);
+        Word triple = all & (e ^ ne) & (ne ^ nw);
+        Word pair_e = e & ~(ne | nw | single), pair_ne = ne & ~(e | nw | single), pair_nw = nw & ~(e | ne | single);
+        Word turn_e = triple | pair_e | pair_nw, turn_ne = triple | pair_ne | pair_e, turn_nw = triple | pair_nw | pair_ne;
+        Word fluid = ~walls[j];
+        q[j] = (e ^ turn_e) & fluid;
+        q[j + words] = (ne ^ turn_ne) & fluid;
+        q[j + 2 * words] = (nw ^ turn_nw) & fluid;
+        q[j + 3 * words] = (w ^ turn_e) & fluid;
+        q[j + 4 * words] = (sw ^ turn_ne) & fluid;
+        q[j + 5 * words] = (se ^ turn_nw) & fluid;
     }
 }
 
 /* out(x) = in(x - step), where the columns close */
-static void move(uint64_t *restrict out, const uint64_t *restrict in, int step) {
+static void move(Word *restrict out, const Word *restrict in, int step) {
     int last = (width - 1) % 64;
     if (step == 1) {
         out[0] = in[0] << 1 | (in[words - 1] >> last & 1);
@@ -53,67 +66,128 @@ static void move(uint64_t *restrict out, const uint64_t *restrict in, int step) 
 }
 
 /* a particle that would come from a solid cell or through a wall is the one that was sent back */
-static void stream(Row out, Row *rows, int y) {
-    uint64_t came[MOST_WORDS], met[MOST_WORDS];
+static void stream(int y) {
+    Word met[MOST_WORDS];
     for (int i = 0; i < DIRECTIONS; i++) {
-        const uint64_t *back = rows[y][(i + 3) % DIRECTIONS], *own = solid[y];
+        Word *restrict out = plane(streamed, y, i);
+        const Word *restrict back = plane(collided, y, (i + 3) % DIRECTIONS), *restrict own = mask(y);
         int from = y - down[i];
         if (from < 0 || from >= height) {
-            for (int j = 0; j < words; j++) out[i][j] = back[j] & ~own[j];
+            for (int j = 0; j < words; j++) out[j] = back[j] & ~own[j];
             continue;
         }
-        move(came, rows[from][i], across[from % 2][i]);
-        move(met, solid[from], across[from % 2][i]);
-        for (int j = 0; j < words; j++) out[i][j] = ((came[j] & ~met[j]) | (back[j] & met[j])) & ~own[j];
+        move(out, plane(collided, from, i), across[from % 2][i]);
+        if (!near_solid[y]) continue;
+        move(met, mask(from), across[from % 2][i]);
+        for (int j = 0; j < words; j++) out[j] = ((out[j] & ~met[j]) | (back[j] & met[j])) & ~own[j];
     }
 }
 
-static void generation(Row *from, Row *to) {
-    collide(from[0], solid[0]);
-    for (int y = 0; y < height; y++) {
-        if (y + 1 < height) collide(from[y + 1], solid[y + 1]);
-        stream(to[y], from, y);
+/* where the threads meet: each waits until all have come */
+static atomic_int came;
+static atomic_long meetings;
+
+static void meet(void) {
+    long before = atomic_load(&meetings);
+    if (atomic_fetch_add(&came, 1) + 1 == threads) {
+        atomic_store(&came, 0);
+        atomic_fetch_add(&meetings, 1);
+        return;
     }
+    for (int looks = 0; atomic_load(&meetings) == before; looks++)
+        if (looks > LOOKS) sched_yield();
+}
+
+/* A band is read by its neighbours once it was collided, and streamed once it was read. */
+static void *work(void *given) {
+    int band = (int)(intptr_t)given, from = (int)((long)height * band / threads), to = (int)((long)height * (band + 1) / threads);
+    for (long g = 0; g < generations; g++) {
+        if (threads == 1) {
+            collide(0);
+            for (int y = 0; y < height; y++) {
+                if (y + 1 < height) collide(y + 1);
+                stream(y);
+            }
+            continue;
+        }
+        if (from < to) collide(from);
+        if (from + 1 < to) collide(to - 1);
+        meet();
+        for (int y = from; y < to; y++) {
+            if (y + 1 < to - 1) collide(y + 1);
+            stream(y);
+        }
+        meet();
+    }
+    return NULL;
 }
 
 static int digit(char c) { return c <= '9' ? c - '0' : c - 'a' + 10; }
 
 static void read_row(const char *text, int y) {
     for (int x = 0; x < width; x++) {
-        uint64_t bit = (uint64_t)1 << x % 64;
-        if (text[2 * x] == '#') solid[y][x / 64] |= bit;
+        Word bit = (Word)1 << x % 64;
+        if (text[2 * x] == '#') mask(y)[x / 64] |= bit;
         if (text[2 * x] == '#' || text[2 * x] == '.') continue;
         int state = 16 * digit(text[2 * x]) + digit(text[2 * x + 1]);
         for (int i = 0; i < DIRECTIONS; i++)
-            if (state >> i & 1) lattices[0][y][i][x / 64] |= bit;
+            if (state >> i & 1) plane(streamed, y, i)[x / 64] |= bit;
     }
 }
 
-static void print_row(Row row, int y) {
+/* the rows one after another, since only the last line tells how many there are */
+static int read_cells(void) {
+    size_t row;
+    while (height < MOST_SIDE && fgets(line, sizeof line, stdin)) {
+        width = (int)strcspn(line, "\n") / 2;
+        words = (width + 63) / 64;
+        row = (size_t)words * sizeof(Word);
+        streamed = realloc(streamed, (height + 1) * DIRECTIONS * row);
+        solid = realloc(solid, (height + 1) * row);
+        if (!streamed || !solid) return 0;
+        memset(plane(streamed, height, 0), 0, DIRECTIONS * row);
+        memset(mask(height), 0, row);
+        read_row(line, height++);
+    }
+    collided = calloc((size_t)height * DIRECTIONS * words, sizeof(Word));
+    near_solid = calloc(height, 1);
+    if (!collided || !near_solid) return 0;
+    for (int y = 0; y < height; y++)
+        for (int j = 0; j < words; j++)
+            if (mask(y)[j])
+                for (int near = y ? y - 1 : 0; near <= y + 1 && near < height; near++) near_solid[near] = 1;
+    return 1;
+}
+
+static void print_row(int y) {
+    static const char digits[] = "0123456789abcdef";
     for (int x = 0; x < width; x++) {
         int state = 0;
-        for (int i = 0; i < DIRECTIONS; i++) state |= (int)(row[i][x / 64] >> x % 64 & 1) << i;
-        if (solid[y][x / 64] >> x % 64 & 1) fputs("##", stdout);
-        else if (state) printf("%02x", state);
-        else fputs("..", stdout);
+        for (int i = 0; i < DIRECTIONS; i++) state |= (int)(plane(streamed, y, i)[x / 64] >> x % 64 & 1) << i;
+        line[2 * x] = state ? digits[state / 16] : '.';
+        line[2 * x + 1] = state ? digits[state % 16] : '.';
+        if (mask(y)[x / 64] >> x % 64 & 1) line[2 * x] = line[2 * x + 1] = '#';
     }
-    putchar('\n');
+    line[2 * width] = '\n';
+    fwrite(line, 1, 2 * width + 1, stdout);
 }
 
 int main(int count, char **given) {
-    if (count != 2 || !fgets(line, sizeof line, stdin)) return 1;
-    long generations = atol(given[1]), particles = atol(strstr(line, "particles ") + 10);
-    while (height < MOST_SIDE && fgets(line, sizeof line, stdin)) {
-        width = (int)strcspn(line, "\n") / 2;
-        read_row(line, height++);
-    }
-    words = (width + 63) / 64;
+    if (count != 3 || !fgets(line, sizeof line, stdin)) return 1;
+    generations = atol(given[1]);
+    threads = atoi(given[2]);
+    long particles = atol(strstr(line, "particles ") + 10);
+    if (threads < 1 || threads > MOST_THREADS || !read_cells()) return 1;
+    pthread_t others[MOST_THREADS];
     struct timespec begun, ended;
     clock_gettime(CLOCK_MONOTONIC, &begun);
-    for (long g = 0; g < generations; g++) generation(lattices[g % 2], lattices[(g + 1) % 2]);
+    for (int t = 1; t < threads; t++)
+        if (pthread_create(&others[t], NULL, work, (void *)(intptr_t)t)) return 1;
+    work((void *)0);
+    for (int t = 1; t < threads; t++) pthread_join(others[t], NULL);
     clock_gettime(CLOCK_MONOTONIC, &ended);
     fprintf(stderr, "%.4f\n", ended.tv_sec - begun.tv_sec + (ended.tv_nsec - begun.tv_nsec) / 1e9);
     printf("generation %ld particles %ld\n", generations, particles);
-    for (int y = 0; y < height; y++) print_row(lattices[generations % 2][y], y);
+    for (int y = 0; y < height; y++) print_row(y);
     return 0;
 }

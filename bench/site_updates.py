@@ -1,0 +1,131 @@
+#!/usr/bin/env python3
+"""Site updates per second (cells times generations by seconds) of `fhpgas run`, beside one stage on one thread and beside a plain
+C program on bit planes, alone and with a thread for each processor, all on the same lattice of FHP-I filled at rate 300.
+
+Every program takes its turn in each round; a figure is the best of the rounds, and behind it how many times longer the worst one
+took. What reading and printing cost is taken off by a run of no generation. All must print the same cells (the C program knows chirality
+"left" alone). All are built for the level of the processor that the program was built for. Have nothing else running.
+
+Usage: bench/site_updates.py [--rounds R] [--stages N,N..] [--capacities C,C..] [WIDTHxHEIGHTxGENERATIONS[:left|seeded]]...
+"""
+import argparse
+import hashlib
+import os
+import pathlib
+import subprocess
+import sys
+import tempfile
+import time
+
+ROOT = pathlib.Path(__file__).resolve().parent.parent
+PROGRAM = ROOT / "crates/fhpgas/out/fhpgas"
+SINGLE = ROOT / "crates/single_stage/out/single_stage"
+LATTICES = ["256x256x8000:left", "256x256x8000:seeded", "1024x1024x1500:left", "1024x1024x1000:seeded", "4096x1024x600:left",
+            "4096x1024x300:seeded"]
+
+
+def numbers(text):
+    return [int(word) for word in text.split(",")]
+
+
+def build(room):
+    """The C program's path, where all three are built."""
+    subprocess.run([ROOT / "fhpgas", "--help"], check=True, stdout=subprocess.DEVNULL)
+    level = (ROOT / "crates/fhpgas/out/level").read_text().strip()
+    folder = ROOT / "crates/single_stage"
+    subprocess.run(["rt", "run", "--cpu", level, "--", "0"], cwd=folder, stdin=open(folder / "stdin"), check=True,
+                   stdout=subprocess.DEVNULL, stderr=subprocess.DEVNULL)
+    planes = room / "planes"
+    subprocess.run(["cc", "-O3", "-march=" + level, "-pthread", "-o", planes, ROOT / "bench/planes.c"], check=True)
+    return planes, level
+
+
+def timed(words, given, out):
+    """The seconds that a command takes, its output in the file `out`."""
+    with open(given) as source, open(out, "w") as sink:
+        begun = time.perf_counter()
+        subprocess.run(words, stdin=source, stdout=sink, check=True)
+        return time.perf_counter() - begun
+
+
+def timed_planes(words, given, out):
+    """The seconds that the C program says its generations took."""
+    with open(given) as source, open(out, "w") as sink:
+        told = subprocess.run(words, stdin=source, stdout=sink, stderr=subprocess.PIPE, text=True, check=True)
+    return float(told.stderr)
+
+
+def digest(path):
+    return hashlib.sha256(path.read_bytes()).hexdigest()
+
+
+class Bench:
+    def __init__(self, room, planes, lattice, options):
+        size, _, self.chirality = lattice.partition(":")
+        self.chirality = self.chirality or "left"
+        self.width, self.height, self.generations = (int(word) for word in size.split("x"))
+        self.room, self.planes, self.options = room, planes, options
+        self.scene, self.start, self.out = room / "scene", room / "start", room / "out"
+        self.scene.write_text(f'gas = "fhp1"\nchirality = "{self.chirality}"\nseed = 1\nwidth = {self.width}\n'
+                              f'height = {self.height}\nrate = 300\n')
+        self.wanted = None
+        self.seconds = {}
+
+    def check(self, name):
+        found = digest(self.out)
+        self.wanted = self.wanted or found
+        if found != self.wanted:
+            sys.exit(f"{name} prints another lattice")
+
+    def ours(self, name, words):
+        """The generations' time alone: the whole run's less that of a run of none."""
+        none = timed([*words, "0"] if words[0] == SINGLE else [*words, "--generations", "0"], self.scene, self.start)
+        last = str(self.generations)
+        whole = timed([*words, last] if words[0] == SINGLE else [*words, "--generations", last], self.scene, self.out)
+        self.check(name)
+        self.seconds.setdefault(name, []).append(whole - none)
+
+    def plain(self, name, threads):
+        self.seconds.setdefault(name, []).append(
+            timed_planes([self.planes, str(self.generations), str(threads)], self.start, self.out))
+        self.check(name)
+
+    def round(self):
+        self.ours("one stage", [SINGLE])
+        if self.chirality == "left":
+            processors = os.cpu_count() or 1
+            self.plain("C, 1 thread", 1)
+            self.plain(f"C, {processors} threads", processors)
+        for capacity in self.options.capacities:
+            for stages in self.options.stages:
+                self.ours(f"N = {stages}, C = {capacity}",
+                          [PROGRAM, "run", "--stages", str(stages), "--capacity", str(capacity)])
+
+    def table(self):
+        print(f"\n{self.width} x {self.height}, {self.chirality}, {self.generations} generations\n")
+        print("| program | million site updates a second | worst / best |\n|---|---|---|")
+        for name, seconds in self.seconds.items():
+            updates = self.width * self.height * self.generations / min(seconds) / 1e6
+            print(f"| {name} | {updates:,.0f} | {max(seconds) / min(seconds):.2f} |", flush=True)
+
+
+def main():
+    words = argparse.ArgumentParser(description=__doc__, formatter_class=argparse.RawDescriptionHelpFormatter)
+    words.add_argument("--rounds", type=int, default=3)
+    words.add_argument("--stages", type=numbers, default=[1, 2, 3, 4])
+    words.add_argument("--capacities", type=numbers, default=[2, 32])
+    words.add_argument("lattices", nargs="*", default=LATTICES)
+    options = words.parse_args()
+    with tempfile.TemporaryDirectory() as folder:
+        room = pathlib.Path(folder)
+        planes, level = build(room)
+        print(f"{os.cpu_count()} processors, built for {level}, best of {options.rounds}")
+        for lattice in options.lattices:
+            bench = Bench(room, planes, lattice, options)
+            for _ in range(options.rounds):
+                bench.round()
+            bench.table()
+
+
+if __name__ == "__main__":
+    main()
