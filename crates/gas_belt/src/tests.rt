@@ -1,5 +1,7 @@
-ghost use Rattle.std.specs.Prelude.{◌<◌, ◌≤◌};
+ghost use Rattle.std.specs.Prelude.{◌≡◌, ◌<◌, ◌≤◌};
 
+use crate::rx::Rx;
+use crate::tx::Tx;
 use gas_geom::fhp1::Fhp1;
 use gas_rows::row::Row;
 use std::alloc::{AllocError, Global};
@@ -26,4 +28,22 @@ fn numbered(alloc: Global, width: u32, number: u32) -> Result<Row<Fhp1>, AllocEr
 fn number(row: &Row<Fhp1>) -> u32 {
     let last = row.width() - 1;
     u32::from(row.get(0)) + 64 * u32::from(row.get(last))
+}
+
+fn put(tx: &mut Tx<Fhp1>, row: Row<Fhp1>) -> Result<(), Row<Fhp1>>
+    ensures { tx.new.belt ≡ tx.old.belt }
+{
+    tx.try_put(row)
+}
+
+fn take(rx: &mut Rx<Fhp1>) -> Option<Row<Fhp1>>
+    ensures { rx.new.belt ≡ rx.old.belt }
+{
+    rx.try_take()
+}
+
+fn give(rx: &mut Rx<Fhp1>, row: Row<Fhp1>)
+    ensures { rx.new.belt ≡ rx.old.belt }
+{
+    rx.give(row);
 }

@@ -1,4 +1,4 @@
-use super::{number, numbered};
+use super::{give, number, numbered, put, take};
 use crate::belt::belt;
 use crate::carried::meet;
 use std::test::Fail;
@@ -8,18 +8,18 @@ use std::test::Fail;
 fn two_rows_are_shown_together(rt: HostRuntime) -> Result<(), Fail> {
     let (mut tx, mut rx) = belt(rt.alloc(), 4, 65)?;
     assert!(rt; !tx.publish());
-    assert!(rt; tx.try_put(numbered(rt.alloc(), 65, 10)?).is_ok());
-    assert!(rt; rx.try_take().is_none());
-    assert!(rt; tx.try_put(numbered(rt.alloc(), 65, 20)?).is_ok());
-    let first = rx.try_take().ok_or("the first row")?;
-    let second = rx.try_take().ok_or("the second row")?;
+    assert!(rt; put(&mut tx, numbered(rt.alloc(), 65, 10)?).is_ok());
+    assert!(rt; take(&mut rx).is_none());
+    assert!(rt; put(&mut tx, numbered(rt.alloc(), 65, 20)?).is_ok());
+    let first = take(&mut rx).ok_or("the first row")?;
+    let second = take(&mut rx).ok_or("the second row")?;
     assert_eq!(rt; (number(&first), number(&second)), (10, 20));
-    rx.give(first);
-    assert!(rt; rx.try_take().is_none());
-    assert!(rt; tx.try_put(numbered(rt.alloc(), 65, 30)?).is_ok());
+    give(&mut rx, first);
+    assert!(rt; take(&mut rx).is_none());
+    assert!(rt; put(&mut tx, numbered(rt.alloc(), 65, 30)?).is_ok());
     assert!(rt; tx.publish());
     assert!(rt; !tx.publish());
-    assert_eq!(rt; number(&rx.try_take().ok_or("the third row")?), 30);
+    assert_eq!(rt; number(&take(&mut rx).ok_or("the third row")?), 30);
     Ok(())
 }
 
@@ -28,19 +28,19 @@ fn two_rows_are_shown_together(rt: HostRuntime) -> Result<(), Fail> {
 fn a_full_belt_shows_its_rows(rt: HostRuntime) -> Result<(), Fail> {
     let (mut tx, mut rx) = belt(rt.alloc(), 9, 7)?;
     for n in 0..9 {
-        assert!(rt; tx.try_put(numbered(rt.alloc(), 7, n)?).is_ok(), "{n}");
+        assert!(rt; put(&mut tx, numbered(rt.alloc(), 7, n)?).is_ok(), "{n}");
     }
-    let Err(back) = tx.try_put(numbered(rt.alloc(), 7, 99)?) else {
+    let Err(back) = put(&mut tx, numbered(rt.alloc(), 7, 99)?) else {
         return Err("a tenth row was put")?;
     };
     assert_eq!(rt; number(&back), 99);
     assert!(rt; !tx.publish());
     for n in 0..9 {
-        let row = rx.try_take().ok_or("a row")?;
+        let row = take(&mut rx).ok_or("a row")?;
         assert_eq!(rt; number(&row), n);
-        rx.give(row);
+        give(&mut rx, row);
     }
-    assert!(rt; rx.try_take().is_none());
+    assert!(rt; take(&mut rx).is_none());
     Ok(())
 }
 
@@ -49,15 +49,15 @@ fn a_full_belt_shows_its_rows(rt: HostRuntime) -> Result<(), Fail> {
 fn rows_that_gathered_are_not_lost(rt: HostRuntime) -> Result<(), Fail> {
     let (mut tx, mut rx) = belt(rt.alloc(), 32, 130)?;
     for n in 0..13 {
-        assert!(rt; tx.try_put(numbered(rt.alloc(), 130, n)?).is_ok(), "{n}");
+        assert!(rt; put(&mut tx, numbered(rt.alloc(), 130, n)?).is_ok(), "{n}");
     }
     let Err((spent, mut rx)) = meet(tx.close(), rx) else {
         return Err("met with rows left")?;
     };
     for n in 0..13 {
-        let row = rx.try_take().ok_or("a row")?;
+        let row = take(&mut rx).ok_or("a row")?;
         assert_eq!(rt; number(&row), n);
-        rx.give(row);
+        give(&mut rx, row);
     }
     let Ok(carried) = meet(spent, rx) else {
         return Err("no row is left")?;
