@@ -13,19 +13,22 @@ use gas_rows::row::Row;
 use rtrb::{Consumer, RingBuffer};
 use std::alloc::{AllocError, Global};
 
-// The most rows whose words go through the ring together.
-const MOST_ROWS: usize = 8;
+// The fewest rows and the most whose words go through the ring together. These numbers are measured
+// ones, as is the next.
+const FEWEST_ROWS: usize = 4;
 
-// The most words that go through the ring together.
-const MOST_WORDS: usize = 4096;
+const MOST_ROWS: usize = 16;
+
+// The most words that go through the ring together: for longer rows the copy costs more than it saves.
+const MOST_WORDS: usize = 1024;
 
 // How many words may gather at an end before they go through the ring: those of half the places, so
-// that the other end has work meanwhile, and none where that is a single row.
+// that the other end has work meanwhile, and none where these are few rows.
 fn words_together(places: usize, row: usize) -> usize
     requires { 0 < row }
 {
     let rows = (places / 2).min(MOST_ROWS).min(MOST_WORDS / row);
-    if rows < 2 { 0 } else { rows * row }
+    if rows < FEWEST_ROWS { 0 } else { rows * row }
 }
 
 // The end that takes rows as wide as `row`, with that row and another as buffers.

@@ -93,7 +93,7 @@ impl<G: Gas> Tx<G> {
     }
 
     /// Puts a row, or hands it back where its words find no place, its width is not the belt's, or
-    /// 2^64 - 1 rows were put. A row that was put becomes the spare row. On a belt with 4 places or
+    /// 2^64 - 1 rows were put. A row that was put becomes the spare row. On a belt with 8 places or
     /// more, rows may gather before the other end is shown them; where one finds no place, it is
     /// shown all. It takes no memory and waits for nobody.
     pub fn try_put(&mut self, row: Row<G>) -> Result<(), Row<G>>

@@ -54,7 +54,7 @@ fn compare<G: Gas + Send, R: Abort + Threads + Wait + Sync>(
 }
 
 // So many rounds of random runs of all gases: through lines of all lengths up to 8, with one place in
-// each belt, two, and more than a low lattice has rows, which then gather by four or by eight. Each
+// each belt, two, and more than a low lattice has rows, which then gather by four or by sixteen. Each
 // comes to its end.
 fn soak<R: Abort + Threads + Wait + Sync>(
     rt: &R,
