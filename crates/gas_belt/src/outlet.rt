@@ -86,7 +86,6 @@ impl Outlet {
             return self.ring.push_entire_slice(words).is_ok();
         }
         if !self.has_room(words.len()) {
-            self.publish();
             return false;
         }
         self.gather(words);

@@ -94,8 +94,8 @@ impl<G: Gas> Tx<G> {
 
     /// Puts a row, or hands it back where its words find no place, its width is not the belt's, or
     /// 2^64 - 1 rows were put. A row that was put becomes the spare row. On a belt with 8 places or
-    /// more, rows may gather before the other end is shown them; where one finds no place, it is
-    /// shown all. It takes no memory and waits for nobody.
+    /// more, rows may gather before the other end is shown them, at the latest by `publish` or
+    /// `close`. It takes no memory and waits for nobody.
     pub fn try_put(&mut self, row: Row<G>) -> Result<(), Row<G>>
         ensures put { OnOk result (self.new ≡ record self.old { put = self.old.put ++ row ∷ []; spare = Some row }) }
         ensures width { OnOk result (length row ≡ self.old.belt.width) }

@@ -27,7 +27,7 @@ fn four_rows_are_shown_together(rt: HostRuntime) -> Result<(), Fail> {
     Ok(())
 }
 
-// A row that finds no place is handed back, and all before it are shown.
+// Of a full belt the rows that gathered last can still be shown.
 #[test]
 fn a_full_belt_shows_its_rows(rt: HostRuntime) -> Result<(), Fail> {
     let (mut tx, mut rx) = belt(rt.alloc(), 9, 7)?;
@@ -38,6 +38,7 @@ fn a_full_belt_shows_its_rows(rt: HostRuntime) -> Result<(), Fail> {
         return Err("a tenth row was put")?;
     };
     assert_eq!(rt; number(&back), 99);
+    assert!(rt; tx.publish());
     assert!(rt; !tx.publish());
     for n in 0..9 {
         let row = take(&mut rx).ok_or("a row")?;
