@@ -36,6 +36,12 @@ fn put(tx: &mut Tx<Fhp1>, row: Row<Fhp1>) -> Result<(), Row<Fhp1>>
     tx.try_put(row)
 }
 
+fn gather(tx: &mut Tx<Fhp1>, row: Row<Fhp1>) -> Result<(), Row<Fhp1>>
+    ensures { tx.new.belt ≡ tx.old.belt }
+{
+    tx.try_gather(row)
+}
+
 fn take(rx: &mut Rx<Fhp1>) -> Option<Row<Fhp1>>
     ensures { rx.new.belt ≡ rx.old.belt }
 {

@@ -93,10 +93,23 @@ impl<G: Gas> Tx<G> {
     }
 
     /// Puts a row, or hands it back where its words find no place, its width is not the belt's, or
-    /// 2^64 - 1 rows were put. A row that was put becomes the spare row. On a belt with 8 places or
-    /// more, rows may gather before the other end is shown them, at the latest by `publish` or
-    /// `close`. It takes no memory and waits for nobody.
+    /// 2^64 - 1 rows were put. A row that was put becomes the spare row, and the other end is shown
+    /// it. It takes no memory and waits for nobody.
     pub fn try_put(&mut self, row: Row<G>) -> Result<(), Row<G>>
+        ensures put { OnOk result (self.new ≡ record self.old { put = self.old.put ++ row ∷ []; spare = Some row }) }
+        ensures width { OnOk result (length row ≡ self.old.belt.width) }
+        ensures back { IfErr result (λ r. r ≡ row) }
+        ensures unchanged { OnErr result (self.new ≡ self.old) }
+        ensures no_more { length self.old.put ≡ u64.MAX → IsErr result }
+    {
+        let tried = self.try_gather(row);
+        self.publish();
+        tried
+    }
+
+    /// Puts a row as `try_put` does, but on a belt with 8 places or more, rows that are short may
+    /// gather before the other end is shown them, at the latest by `publish` or `close`.
+    pub fn try_gather(&mut self, row: Row<G>) -> Result<(), Row<G>>
         ensures put { OnOk result (self.new ≡ record self.old { put = self.old.put ++ row ∷ []; spare = Some row }) }
         ensures width { OnOk result (length row ≡ self.old.belt.width) }
         ensures back { IfErr result (λ r. r ≡ row) }
