@@ -1,7 +1,7 @@
 /* FHP-I in plain C, on bit planes, to compare the speed and the answers of fhpgas with: a word holds a direction in 64 cells. The
    lattice is cut into bands of rows, one for each thread, which meet after each generation. It reads the cells that
-   `fhpgas run --generations 0` prints, computes G generations under chirality "left" and prints the cells.
-   Usage: planes G THREADS < CELLS. On standard error: the seconds that the generations took. */
+   `fhpgas run --generations 0` prints, computes G generations under chirality "left", or "seeded" where a seed is given, and prints
+   the cells. Usage: planes G THREADS [SEED] < CELLS. On standard error: the seconds that the generations took. */
 #include <pthread.h>
 #include <sched.h>
 #include <stdatomic.h>
@@ -15,7 +15,9 @@ enum { DIRECTIONS = 6, MOST_SIDE = 65536, MOST_WORDS = MOST_SIDE / 64, MOST_THRE
 typedef uint64_t Word;
 
 static int width, height, words, threads;
-static long generations;
+static long first, generations;
+static int seeded;
+static uint64_t seed;
 static Word *collided, *streamed, *solid; /* rows of six planes, and a row of the mask for each */
 static unsigned char *near_solid;         /* whether a row, the one above or the one below has a solid cell */
 static char line[2 * MOST_SIDE + 64];
@@ -28,8 +30,58 @@ static Word *plane(Word *rows, int y, int i) { return rows + ((size_t)y * DIRECT
 
 static Word *mask(int y) { return solid + (size_t)y * words; }
 
-/* pairs turn to the left and triples turn about; solid cells are emptied */
-static void collide(int y) {
+/* The key stream of ChaCha20 (the block function of RFC 8439 with a counter and a stream number of 64 bits each, the seed before 24
+   zero bytes as the key), a block in each lane. The bits of a step are those of the generation's stream, a row from a word of 32 bits on. */
+#ifdef __AVX2__
+enum { LANES = 8 };
+#else
+enum { LANES = 4 };
+#endif
+enum { BLOCK = 16, CHUNK = BLOCK * LANES };
+typedef uint32_t Lanes __attribute__((vector_size(4 * LANES)));
+static _Thread_local Lanes made[BLOCK]; /* a word of each of the blocks of a chunk */
+static _Thread_local uint64_t made_chunk;
+static _Thread_local long made_stream = -1;
+
+#define TURNED(x, by) ((x) << (by) | (x) >> (32 - (by)))
+#define QUARTER(a, b, c, d) \
+    a += b, d = TURNED(d ^ a, 16), c += d, b = TURNED(b ^ c, 12), a += b, d = TURNED(d ^ a, 8), c += d, b = TURNED(b ^ c, 7)
+
+static void make_chunk(long stream, uint64_t chunk) {
+    Lanes start[BLOCK] = {0}, x[BLOCK];
+    uint32_t given[BLOCK] = {0x61707865, 0x3320646e, 0x79622d32, 0x6b206574, (uint32_t)seed, (uint32_t)(seed >> 32)};
+    given[14] = (uint32_t)stream, given[15] = (uint32_t)((uint64_t)stream >> 32);
+    for (int i = 0; i < BLOCK; i++) start[i] += given[i];
+    for (int lane = 0; lane < LANES; lane++) {
+        start[12][lane] = (uint32_t)(chunk * LANES + lane);
+        start[13][lane] = (uint32_t)((chunk * LANES + lane) >> 32);
+    }
+    memcpy(x, start, sizeof x);
+    for (int twice = 0; twice < 10; twice++) {
+        QUARTER(x[0], x[4], x[8], x[12]), QUARTER(x[1], x[5], x[9], x[13]);
+        QUARTER(x[2], x[6], x[10], x[14]), QUARTER(x[3], x[7], x[11], x[15]);
+        QUARTER(x[0], x[5], x[10], x[15]), QUARTER(x[1], x[6], x[11], x[12]);
+        QUARTER(x[2], x[7], x[8], x[13]), QUARTER(x[3], x[4], x[9], x[14]);
+    }
+    for (int i = 0; i < BLOCK; i++) made[i] = x[i] + start[i];
+    made_chunk = chunk, made_stream = stream;
+}
+
+static void random_row(long generation, int y, Word *bits) {
+    int count = (width + 31) / 32;
+    for (int i = 0; i < count;) {
+        uint64_t place = (uint64_t)y * count + i;
+        if (made_stream != generation || made_chunk != place / CHUNK) make_chunk(generation, place / CHUNK);
+        int lane = place % CHUNK / BLOCK;
+        for (int k = place % BLOCK; k < BLOCK && i < count; k++, i++) {
+            Word word = made[k][lane];
+            bits[i / 2] = i % 2 ? bits[i / 2] | word << 32 : word;
+        }
+    }
+}
+
+/* pairs turn to the left, or to the right where the random bit is 0, and triples turn about; solid cells are emptied */
+static inline __attribute__((always_inline)) void collide_by(int y, int left, const Word *restrict bits) {
     Word *restrict p0 = plane(streamed, y, 0), *restrict p1 = p0 + words, *restrict p2 = p1 + words;
     Word *restrict p3 = p2 + words, *restrict p4 = p3 + words, *restrict p5 = p4 + words;
     Word *restrict q = plane(collided, y, 0);
@@ -39,7 +91,10 @@ static void collide(int y) {
         Word single = (e ^ w) | (ne ^ sw) | (nw ^ se), all = (e ^ w) & (ne ^ sw) & (nw ^ se);
         Word triple = all & (e ^ ne) & (ne ^ nw);
         Word pair_e = e & ~(ne | nw | single), pair_ne = ne & ~(e | nw | single), pair_nw = nw & ~(e | ne | single);
-        Word turn_e = triple | pair_e | pair_nw, turn_ne = triple | pair_ne | pair_e, turn_nw = triple | pair_nw | pair_ne;
+        Word chosen = left ? UINT64_MAX : bits[j];
+        Word turn_e = triple | pair_e | (chosen & pair_nw) | (~chosen & pair_ne);
+        Word turn_ne = triple | pair_ne | (chosen & pair_e) | (~chosen & pair_nw);
+        Word turn_nw = triple | pair_nw | (chosen & pair_ne) | (~chosen & pair_e);
         Word fluid = ~walls[j];
         q[j] = (e ^ turn_e) & fluid;
         q[j + words] = (ne ^ turn_ne) & fluid;
@@ -47,6 +102,16 @@ static void collide(int y) {
         q[j + 3 * words] = (w ^ turn_e) & fluid;
         q[j + 4 * words] = (sw ^ turn_ne) & fluid;
         q[j + 5 * words] = (se ^ turn_nw) & fluid;
+    }
+}
+
+static void collide(int y, long generation) {
+    Word bits[MOST_WORDS];
+    if (seeded) {
+        random_row(generation, y, bits);
+        collide_by(y, 0, bits);
+    } else {
+        collide_by(y, 1, NULL);
     }
 }
 
@@ -101,20 +166,20 @@ static void meet(void) {
 /* A band is read by its neighbours once it was collided, and streamed once it was read. */
 static void *work(void *given) {
     int band = (int)(intptr_t)given, from = (int)((long)height * band / threads), to = (int)((long)height * (band + 1) / threads);
-    for (long g = 0; g < generations; g++) {
+    for (long g = first; g < first + generations; g++) {
         if (threads == 1) {
-            collide(0);
+            collide(0, g);
             for (int y = 0; y < height; y++) {
-                if (y + 1 < height) collide(y + 1);
+                if (y + 1 < height) collide(y + 1, g);
                 stream(y);
             }
             continue;
         }
-        if (from < to) collide(from);
-        if (from + 1 < to) collide(to - 1);
+        if (from < to) collide(from, g);
+        if (from + 1 < to) collide(to - 1, g);
         meet();
         for (int y = from; y < to; y++) {
-            if (y + 1 < to - 1) collide(y + 1);
+            if (y + 1 < to - 1) collide(y + 1, g);
             stream(y);
         }
         meet();
@@ -173,10 +238,12 @@ static void print_row(int y) {
 }
 
 int main(int count, char **given) {
-    if (count != 3 || !fgets(line, sizeof line, stdin)) return 1;
+    if (count < 3 || count > 4 || !fgets(line, sizeof line, stdin)) return 1;
     generations = atol(given[1]);
     threads = atoi(given[2]);
-    long particles = atol(strstr(line, "particles ") + 10);
+    if (count == 4) seeded = 1, seed = strtoull(given[3], NULL, 10);
+    long particles;
+    if (sscanf(line, "generation %ld particles %ld", &first, &particles) != 2) return 1;
     if (threads < 1 || threads > MOST_THREADS || !read_cells()) return 1;
     pthread_t others[MOST_THREADS];
     struct timespec begun, ended;
@@ -187,7 +254,7 @@ int main(int count, char **given) {
     for (int t = 1; t < threads; t++) pthread_join(others[t], NULL);
     clock_gettime(CLOCK_MONOTONIC, &ended);
     fprintf(stderr, "%.4f\n", ended.tv_sec - begun.tv_sec + (ended.tv_nsec - begun.tv_nsec) / 1e9);
-    printf("generation %ld particles %ld\n", generations, particles);
+    printf("generation %ld particles %ld\n", first + generations, particles);
     for (int y = 0; y < height; y++) print_row(y);
     return 0;
 }

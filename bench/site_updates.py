@@ -1,10 +1,11 @@
 #!/usr/bin/env python3
 """Site updates per second (cells times generations by seconds) of `fhpgas run`, beside one stage on one thread and beside a plain
-C program on bit planes, alone and with a thread for each processor, all on the same lattice of FHP-I filled at rate 300.
+C program on bit planes, alone and with a thread for each processor, all on the same lattice of FHP-I filled at rate 300. Under a
+seed it also makes the random bits of as many updates alone.
 
 Every program takes its turn in each round; a figure is the best of the rounds, and behind it how many times longer the worst one
-took. What reading and printing cost is taken off by a run of no generation. All must print the same cells (the C program knows chirality
-"left" alone). All are built for the level of the processor that the program was built for. Have nothing else running.
+took. What reading and printing cost is taken off by a run of no generation. All must print the same cells. All are built for the
+level of the processor that the program was built for. Have nothing else running.
 
 Usage: bench/site_updates.py [--rounds R] [--stages N,N..] [--capacities C,C..] [WIDTHxHEIGHTxGENERATIONS[:left|seeded]]...
 """
@@ -20,6 +21,9 @@ import time
 ROOT = pathlib.Path(__file__).resolve().parent.parent
 PROGRAM = ROOT / "crates/fhpgas/out/fhpgas"
 SINGLE = ROOT / "crates/single_stage/out/single_stage"
+KEY_STREAM = ROOT / "crates/key_stream/out/key_stream"
+CELLS_OF_KEY_ROW = 4096 * 32
+SMALL_SCENE = b'gas = "fhp1"\nwidth = 1\nheight = 1\n'
 LATTICES = ["256x256x8000:left", "256x256x8000:seeded", "1024x1024x1500:left", "1024x1024x1000:seeded", "4096x1024x600:left",
             "4096x1024x300:seeded"]
 
@@ -29,12 +33,12 @@ def numbers(text):
 
 
 def build(room):
-    """The C program's path, where all three are built."""
+    """The C program's path and the level, where all are built."""
     subprocess.run([ROOT / "fhpgas", "--help"], check=True, stdout=subprocess.DEVNULL)
     level = (ROOT / "crates/fhpgas/out/level").read_text().strip()
-    folder = ROOT / "crates/single_stage"
-    subprocess.run(["rt", "run", "--cpu", level, "--", "0"], cwd=folder, stdin=open(folder / "stdin"), check=True,
-                   stdout=subprocess.DEVNULL, stderr=subprocess.DEVNULL)
+    for program in SINGLE, KEY_STREAM:
+        subprocess.run(["rt", "run", "--cpu", level, "--", "0"], cwd=program.parent.parent, input=SMALL_SCENE, check=True,
+                       stdout=subprocess.DEVNULL, stderr=subprocess.DEVNULL)
     planes = room / "planes"
     subprocess.run(["cc", "-O3", "-march=" + level, "-pthread", "-o", planes, ROOT / "bench/planes.c"], check=True)
     return planes, level
@@ -86,16 +90,22 @@ class Bench:
         self.seconds.setdefault(name, []).append(whole - none)
 
     def plain(self, name, threads):
-        self.seconds.setdefault(name, []).append(
-            timed_planes([self.planes, str(self.generations), str(threads)], self.start, self.out))
+        words = [self.planes, str(self.generations), str(threads), *(["1"] if self.chirality == "seeded" else [])]
+        self.seconds.setdefault(name, []).append(timed_planes(words, self.start, self.out))
         self.check(name)
 
+    def random_bits(self, name):
+        rows = self.width * self.height * self.generations // CELLS_OF_KEY_ROW
+        none, whole = (timed([KEY_STREAM, str(count)], self.scene, self.room / "word") for count in (0, rows))
+        self.seconds.setdefault(name, []).append(whole - none)
+
     def round(self):
+        processors = os.cpu_count() or 1
+        if self.chirality == "seeded":
+            self.random_bits("random bits alone")
         self.ours("one stage", [SINGLE])
-        if self.chirality == "left":
-            processors = os.cpu_count() or 1
-            self.plain("C, 1 thread", 1)
-            self.plain(f"C, {processors} threads", processors)
+        self.plain("C, 1 thread", 1)
+        self.plain(f"C, {processors} threads", processors)
         for capacity in self.options.capacities:
             for stages in self.options.stages:
                 self.ours(f"N = {stages}, C = {capacity}",
