@@ -22,13 +22,24 @@ use toml::{Table, Value};
 // The number of the key stream that fills direction 0.
 const FIRST_STREAM: u64 = 1 << 63;
 
+// Just above 2^64 / 1000.
+const SCALE: u64 = u64::MAX / 1000 + 1;
+
+// Whether a word is a particle at the rate, by one multiplication: SCALE takes the word 1000 q + r to
+// 384 q + SCALE r modulo 2^64, and 384 q is below SCALE.
+fn is_particle(word: u32, rate: u32) -> bool
+    ensures { result ≡ nat_lt (word % 1000) rate }
+{
+    u64::from(word).wrapping_mul(SCALE) < u64::from(rate).saturating_mul(SCALE)
+}
+
 // The bit of direction `i` where a word is a particle at the rate, and else 0. There is no branch:
 // the processor would guess it wrong for random words.
 fn particle(word: u32, rate: u32, i: u32) -> u8
     requires { i < 8 }
     ensures { result ≡ (if nat_lt (word % 1000) rate then 2 ^ i else 0) }
 {
-    u8::from(word % 1000 < rate) << i
+    u8::from(is_particle(word, rate)) << i
 }
 
 // Adds direction `i` to the states of row `y` where filling puts a particle into it, by way of a
