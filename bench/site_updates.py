@@ -5,11 +5,12 @@ seed it also makes the random bits of as many updates alone.
 
 Every program takes its turn in each round; a figure is the best of the rounds, and behind it how many times longer the worst one
 took. What reading and printing cost is taken off by a run of no generation. All must print the same cells. All are built for the
-level of the processor that the program was built for. Have nothing else running.
+level of the processor that the program was built for. Have nothing else running, but for B busy programs that it starts itself.
 
-Usage: bench/site_updates.py [--rounds R] [--stages N,N..] [--capacities C,C..] [WIDTHxHEIGHTxGENERATIONS[:left|seeded]]...
+Usage: bench/site_updates.py [--rounds R] [--busy B] [--stages N,N..] [--capacities C,C..] [WIDTHxHEIGHTxGENERATIONS[:left|seeded]]...
 """
 import argparse
+import contextlib
 import hashlib
 import os
 import pathlib
@@ -42,6 +43,18 @@ def build(room):
     planes = room / "planes"
     subprocess.run(["cc", "-O3", "-march=" + level, "-pthread", "-o", planes, ROOT / "bench/planes.c"], check=True)
     return planes, level
+
+
+@contextlib.contextmanager
+def busy_programs(count):
+    """Has so many other programs keep a processor busy each."""
+    programs = [subprocess.Popen([sys.executable, "-c", "while True: pass"]) for _ in range(count)]
+    try:
+        yield
+    finally:
+        for program in programs:
+            program.kill()
+            program.wait()
 
 
 def timed(words, given, out):
@@ -122,6 +135,7 @@ class Bench:
 def main():
     words = argparse.ArgumentParser(description=__doc__, formatter_class=argparse.RawDescriptionHelpFormatter)
     words.add_argument("--rounds", type=int, default=3)
+    words.add_argument("--busy", type=int, default=0)
     words.add_argument("--stages", type=numbers, default=[1, 2, 3, 4])
     words.add_argument("--capacities", type=numbers, default=[2, 32])
     words.add_argument("lattices", nargs="*", default=LATTICES)
@@ -129,11 +143,13 @@ def main():
     with tempfile.TemporaryDirectory() as folder:
         room = pathlib.Path(folder)
         planes, level = build(room)
-        print(f"{os.cpu_count()} processors, built for {level}, best of {options.rounds}")
+        beside = f", beside {options.busy} busy programs" if options.busy else ""
+        print(f"{os.cpu_count()} processors, built for {level}, best of {options.rounds}{beside}")
         for lattice in options.lattices:
             bench = Bench(room, planes, lattice, options)
-            for _ in range(options.rounds):
-                bench.round()
+            with busy_programs(options.busy):
+                for _ in range(options.rounds):
+                    bench.round()
             bench.table()
 
 
