@@ -10,6 +10,7 @@ mod ring;
 mod shared;
 mod signals;
 mod start;
+mod watch;
 mod work;
 mod worker_loop;
 

@@ -3,7 +3,8 @@ ghost use Rattle.std.specs.Prelude.{◌≡◌, ℕ, List, IsTrue};
 ghost use Rattle.gas_rows.specs.Row.{RowModel};
 ghost use Rattle.gas_members.specs.Feeder.{HasFed};
 
-use crate::threads::signals::{Signals, Watch};
+use crate::threads::signals::Signals;
+use crate::threads::watch::Watch;
 use gas_belt::rx::Rx;
 use gas_belt::tx::Tx;
 use gas_geom::gas::Gas;

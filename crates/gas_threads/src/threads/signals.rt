@@ -1,36 +1,25 @@
-//! How the threads of a run wait for one another.
-
-ghost use Rattle.std.specs.Prelude.{◌≡◌};
+//! What the threads of a run tell one another while they wait.
 
 use crossbeam_utils::CachePadded;
-use gas_belt::tx::Tx;
-use gas_geom::gas::Gas;
 use std::alloc::{AllocError, Global};
 use std::sync::Wait;
 use std::sync::atomic::{AtomicBool, AtomicU64, Ordering};
 use std::time::Duration;
-use std::{hint, thread};
-
-// How often a member looks again at once, and then how often after it has left its processor to
-// others, before it sleeps. On four processors, with 3, 4 and 16 workers on small lattices, alone and
-// beside other work, fewer of either could make a run many times longer.
-const LOOKS: u32 = 32;
-
-const YIELDS: u32 = 128;
-
-// Looks after which it sleeps.
-const AWAKE_LOOKS: u32 = LOOKS + YIELDS;
 
 const AWAKE: u64 = 0;
 
 const ASLEEP: u64 = 1;
 
-/// The stop flag of a run, and a bell for each member of the line: member 0 is the feeder, and
-/// member k is worker k.
+// In so many waits no member gives way, once that was dear.
+const WAITS_WITHOUT_YIELDS: u64 = 16_384;
+
+/// The stop flag of a run, a bell for each member of the line, and the number of waits in which no
+/// member gives way: member 0 is the feeder, and member k is worker k.
 #[derive(Drop)]
 pub struct Signals {
     stop: AtomicBool,
     bells: Vec<CachePadded<AtomicU64>>,
+    waits_without_yields: CachePadded<AtomicU64>,
 }
 
 impl Signals {
@@ -43,6 +32,7 @@ impl Signals {
         Ok(Signals {
             stop: AtomicBool::new(false),
             bells,
+            waits_without_yields: CachePadded::new(AtomicU64::new(0)),
         })
     }
 
@@ -51,116 +41,63 @@ impl Signals {
         self.stop.store(true, Ordering::SeqCst);
     }
 
-    // Wakes a member that sleeps.
-    fn wake(&self, member: usize) {
+    /// Whether the stop flag is raised.
+    pub(crate) fn is_stopped(&self) -> bool {
+        self.stop.load(Ordering::SeqCst)
+    }
+
+    /// The number of members.
+    pub(crate) fn members(&self) -> usize {
+        self.bells.len()
+    }
+
+    /// Counts a wait, and says whether it is one in which no member gives way.
+    pub(crate) fn is_without_yields(&self) -> bool {
+        let left = self.waits_without_yields.load(Ordering::Relaxed);
+        if left > 0 {
+            // Members that count at the same time may count one wait for two.
+            self.waits_without_yields.store(left - 1, Ordering::Relaxed);
+        }
+        left > 0
+    }
+
+    /// Has no member give way for a while.
+    pub(crate) fn spare_yields(&self) {
+        self.waits_without_yields
+            .store(WAITS_WITHOUT_YIELDS, Ordering::Relaxed);
+    }
+
+    /// Lets a member be woken.
+    pub(crate) fn fall_asleep(&self, member: usize) {
+        if let Some(bell) = self.bells.get(member) {
+            bell.store(ASLEEP, Ordering::SeqCst);
+        }
+    }
+
+    /// Says that a member is awake.
+    pub(crate) fn stay_awake(&self, member: usize) {
+        if let Some(bell) = self.bells.get(member) {
+            bell.store(AWAKE, Ordering::SeqCst);
+        }
+    }
+
+    /// A member who fell asleep sleeps until it is woken, but not for long, so that it also sees the
+    /// stop flag. It says whether it was woken.
+    pub(crate) fn sleep<R: Wait>(&self, rt: &R, member: usize) -> bool {
+        let Some(bell) = self.bells.get(member) else {
+            return true;
+        };
+        bell.park_timeout(rt, ASLEEP as u32, Duration::from_millis(1));
+        bell.load(Ordering::SeqCst) == AWAKE
+    }
+
+    /// Wakes a member that sleeps.
+    pub(crate) fn wake(&self, member: usize) {
         if let Some(bell) = self.bells.get(member) {
             if bell.load(Ordering::SeqCst) == ASLEEP {
                 bell.store(AWAKE, Ordering::SeqCst);
                 bell.wake_one();
             }
         }
-    }
-}
-
-/// A member of the line who waits for its neighbours and wakes them.
-#[derive(Drop)]
-pub struct Watch<'a> {
-    signals: &'a Signals,
-    member: usize,
-    looks: u32,
-}
-
-impl<'a> Watch<'a> {
-    /// The watch of the feeder, 0, or of a worker.
-    pub(crate) fn new(signals: &'a Signals, member: u32) -> Self {
-        Watch {
-            signals,
-            member: member as usize,
-            looks: 0,
-        }
-    }
-
-    fn set(&self, state: u64) {
-        if let Some(bell) = self.signals.bells.get(self.member) {
-            bell.store(state, Ordering::SeqCst);
-        }
-    }
-
-    // Sleeps until a neighbour wakes it, but not for long, so that it also sees the stop flag.
-    fn sleep<R: Wait>(&self, rt: &R) {
-        if let Some(bell) = self.signals.bells.get(self.member) {
-            bell.park_timeout(rt, ASLEEP as u32, Duration::from_millis(1));
-        }
-    }
-
-    // Waits a little, and says whether to go on: not where the stop flag is raised. Between the word
-    // that it will sleep and the sleep it looks once more, so that it misses nobody who did not see
-    // that word.
-    fn wait<R: Wait>(&mut self, rt: &R) -> bool {
-        if self.signals.stop.load(Ordering::SeqCst) {
-            return false;
-        }
-        if self.looks < LOOKS {
-            self.looks += 1;
-            hint::spin_loop();
-        } else if self.looks < AWAKE_LOOKS {
-            self.looks += 1;
-            thread::yield_now();
-        } else if self.looks == AWAKE_LOOKS {
-            self.looks += 1;
-            self.set(ASLEEP);
-        } else {
-            self.looks = AWAKE_LOOKS;
-            self.sleep(rt);
-        }
-        true
-    }
-
-    // It goes on, and no longer sleeps.
-    fn go_on(&mut self) {
-        if self.looks > AWAKE_LOOKS {
-            self.set(AWAKE);
-        }
-        self.looks = 0;
-    }
-
-    /// A row was put: the member behind may wait for it.
-    pub(crate) fn put(&mut self) {
-        self.go_on();
-        let behind = self.member.wrapping_add(1);
-        let is_last = behind >= self.signals.bells.len();
-        self.signals.wake(if is_last { 0 } else { behind });
-    }
-
-    /// Shows the member behind rows that gathered on the belt, and says whether there were any.
-    pub(crate) fn publish<G: Gas>(&mut self, tx: &mut Tx<G>) -> bool
-        ensures { tx.new ≡ tx.old }
-    {
-        let any = tx.publish();
-        if any {
-            self.put();
-        }
-        any
-    }
-
-    /// After a turn in which nothing could be done: rows that gathered are shown first, since the
-    /// member behind may wait for them; where there are none it waits a little. It says whether to go
-    /// on.
-    pub(crate) fn rest<G: Gas, R: Wait>(&mut self, rt: &R, tx: &mut Tx<G>) -> bool
-        ensures { tx.new ≡ tx.old }
-    {
-        self.publish(tx) || self.wait(rt)
-    }
-
-    /// A row was taken: the member before may wait for its room.
-    pub(crate) fn took(&mut self) {
-        self.go_on();
-        let is_first = self.member == 0;
-        let before = if is_first {
-            self.signals.bells.len()
-        } else {
-            self.member
-        };
-        self.signals.wake(before.wrapping_sub(1));
     }
 }

@@ -6,7 +6,7 @@ ghost use Rattle.gas_threads.specs.Inner.Job.{OnePass, owes_until};
 
 use crate::threads::gate::Gate;
 use crate::threads::shared::Shared;
-use crate::threads::signals::Watch;
+use crate::threads::watch::Watch;
 use gas_belt::rx::Rx;
 use gas_belt::tx::Tx;
 use gas_geom::gas::Gas;
@@ -20,7 +20,7 @@ use std::sync::Wait;
 // raises the flag.
 fn make_pass<G: Gas, H, R: Wait>(
     shared: &Shared<'_, H, R>,
-    who: u32,
+    watch: &mut Watch<'_>,
     generation: Option<u64>,
     worker: &mut Worker<'_, G>,
     rx: &mut Rx<G>,
@@ -35,7 +35,6 @@ fn make_pass<G: Gas, H, R: Wait>(
     ensures whole { IsTrue result → OnePass G.rules worker.old generation rx.old.taken tx.old.put rx.new.taken tx.new.put }
 {
     worker.begin(generation);
-    let mut watch = Watch::new(shared.signals, who);
     for _ in shared.rt.forever() {
         match worker.turn(rx, tx) {
             Turned::Done => {
@@ -80,10 +79,11 @@ pub(crate) fn make_passes<G: Gas, H: Gate, R: Wait>(
         ≡ owes_until G.rules worker.old schedule.now.first schedule.now.plan who (passes_of schedule.now.plan.generations schedule.now.plan.stages) rx.new.taken }
 {
     let passes = schedule.passes();
+    let mut watch = Watch::new(shared.signals, who);
     for pass in 0..passes {
         shared.gate.enter(who);
         let generation = schedule.generation(pass, who);
-        let over = make_pass(shared, who, generation, worker, rx, tx);
+        let over = make_pass(shared, &mut watch, generation, worker, rx, tx);
         shared.gate.leave(who);
         if !over {
             return false;

@@ -1,0 +1,140 @@
+//! How a member of the line waits for its neighbours.
+
+ghost use Rattle.std.specs.Prelude.{◌≡◌};
+
+use crate::threads::signals::Signals;
+use gas_belt::tx::Tx;
+use gas_geom::gas::Gas;
+use std::sync::Wait;
+use std::{hint, thread};
+
+// How often a member that waits looks again at once, and then how often after it gave way to others
+// on its processor, before it sleeps. To give way costs much less than to sleep and be woken, where
+// members of the line share a processor. Where other programs keep all processors busy it costs
+// milliseconds, each time, and a sleeper that is woken gets a processor at once.
+const LOOKS: u32 = 32;
+
+const YIELDS: u32 = 32;
+
+// One wait in so many, the first among them, goes to sleep without giving way. If nobody wakes the
+// member for as long as it sleeps, a neighbour that gave way has no processor, so nobody gives way
+// for a while.
+const WAITS_A_TRIAL: u32 = 64;
+
+/// A member of the line who waits for its neighbours and wakes them.
+#[derive(Drop)]
+pub struct Watch<'a> {
+    signals: &'a Signals,
+    member: usize,
+    // The waits since one in which no member gave way.
+    waits: u32,
+    // How often it has looked in this wait, and how often it looks before it sleeps.
+    looks: u32,
+    awake_looks: u32,
+}
+
+impl<'a> Watch<'a> {
+    /// The watch of the feeder, 0, or of a worker.
+    pub(crate) fn new(signals: &'a Signals, member: u32) -> Self {
+        Watch {
+            signals,
+            member: member as usize,
+            waits: 0,
+            looks: 0,
+            awake_looks: LOOKS,
+        }
+    }
+
+    // Begins a wait, and chooses whether it gives way before it sleeps.
+    fn begin_wait(&mut self) {
+        if self.signals.is_without_yields() {
+            self.waits = 0;
+            self.awake_looks = LOOKS;
+            return;
+        }
+        let is_trial = self.waits % WAITS_A_TRIAL == 0;
+        self.waits = self.waits.wrapping_add(1);
+        self.awake_looks = if is_trial { LOOKS } else { LOOKS + YIELDS };
+    }
+
+    // Sleeps. Where nobody woke it, though others may give way, they do not for a while.
+    fn sleep<R: Wait>(&self, rt: &R) {
+        let was_woken = self.signals.sleep(rt, self.member);
+        if !was_woken && self.waits > 0 {
+            self.signals.spare_yields();
+        }
+    }
+
+    // Waits a little, and says whether to go on: not where the stop flag is raised. Between the word
+    // that it will sleep and the sleep it looks once more, so that it misses nobody who did not see
+    // that word.
+    fn wait<R: Wait>(&mut self, rt: &R) -> bool {
+        if self.signals.is_stopped() {
+            return false;
+        }
+        if self.looks == 0 {
+            self.begin_wait();
+        }
+        let look = self.looks;
+        self.looks = look.saturating_add(1);
+        if look < LOOKS {
+            hint::spin_loop();
+        } else if look < self.awake_looks {
+            thread::yield_now();
+        } else if look == self.awake_looks {
+            self.signals.fall_asleep(self.member);
+        } else {
+            self.sleep(rt);
+            self.looks = self.awake_looks;
+        }
+        true
+    }
+
+    // It goes on, and no longer sleeps.
+    fn go_on(&mut self) {
+        if self.looks > self.awake_looks {
+            self.signals.stay_awake(self.member);
+        }
+        self.looks = 0;
+    }
+
+    /// A row was put: the member behind may wait for it.
+    pub(crate) fn put(&mut self) {
+        self.go_on();
+        let behind = self.member.wrapping_add(1);
+        let is_last = behind >= self.signals.members();
+        self.signals.wake(if is_last { 0 } else { behind });
+    }
+
+    /// Shows the member behind rows that gathered on the belt, and says whether there were any.
+    pub(crate) fn publish<G: Gas>(&mut self, tx: &mut Tx<G>) -> bool
+        ensures { tx.new ≡ tx.old }
+    {
+        let any = tx.publish();
+        if any {
+            self.put();
+        }
+        any
+    }
+
+    /// After a turn in which nothing could be done: rows that gathered are shown first, since the
+    /// member behind may wait for them; where there are none it waits a little. It says whether to go
+    /// on.
+    pub(crate) fn rest<G: Gas, R: Wait>(&mut self, rt: &R, tx: &mut Tx<G>) -> bool
+        ensures { tx.new ≡ tx.old }
+    {
+        self.publish(tx) || self.wait(rt)
+    }
+
+    /// A row was taken: the member before may wait for its room.
+    pub(crate) fn took(&mut self) {
+        self.go_on();
+        let is_first = self.member == 0;
+        let before = if is_first {
+            self.signals.members()
+        } else {
+            self.member
+        };
+        self.signals.wake(before.wrapping_sub(1));
+    }
+}
