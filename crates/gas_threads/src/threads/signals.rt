@@ -10,11 +10,11 @@ const AWAKE: u64 = 0;
 
 const ASLEEP: u64 = 1;
 
-// In so many waits no member gives way, once that was dear.
+// In so many waits no member yields, once that was dear.
 const WAITS_WITHOUT_YIELDS: u64 = 16_384;
 
-/// The stop flag of a run, a bell for each member of the line, and the number of waits in which no
-/// member gives way: member 0 is the feeder, and member k is worker k.
+/// The stop flag of a run, a bell for each member of the line, and the number of waits to come in
+/// which no member yields: member 0 is the feeder, and member k is worker k.
 #[derive(Drop)]
 pub struct Signals {
     stop: AtomicBool,
@@ -51,7 +51,7 @@ impl Signals {
         self.bells.len()
     }
 
-    /// Counts a wait, and says whether it is one in which no member gives way.
+    /// Counts a wait, and says whether it is one in which no member yields.
     pub(crate) fn is_without_yields(&self) -> bool {
         let left = self.waits_without_yields.load(Ordering::Relaxed);
         if left > 0 {
@@ -61,7 +61,7 @@ impl Signals {
         left > 0
     }
 
-    /// Has no member give way for a while.
+    /// Has no member yield for a while.
     pub(crate) fn spare_yields(&self) {
         self.waits_without_yields
             .store(WAITS_WITHOUT_YIELDS, Ordering::Relaxed);

@@ -8,17 +8,17 @@ use gas_geom::gas::Gas;
 use std::sync::Wait;
 use std::{hint, thread};
 
-// How often a member that waits looks again at once, and then how often after it gave way to others
-// on its processor, before it sleeps. To give way costs much less than to sleep and be woken, where
-// members of the line share a processor. Where other programs keep all processors busy it costs
-// milliseconds, each time, and a sleeper that is woken gets a processor at once.
+// How often a member that waits looks again at once, and then how often after it yielded its
+// processor, before it sleeps. Where members of the line share a processor, to yield costs much less
+// than to sleep and be woken. Where other programs keep all processors busy, one that yields gets a
+// processor back after milliseconds, and one that sleeps soon after it is woken.
 const LOOKS: u32 = 32;
 
 const YIELDS: u32 = 32;
 
-// One wait in so many, the first among them, goes to sleep without giving way. If nobody wakes the
-// member for as long as it sleeps, a neighbour that gave way has no processor, so nobody gives way
-// for a while.
+// One wait in so many, the first among them, goes to sleep without a yield. If nobody wakes the
+// member for as long as it sleeps, a neighbour is taken to have yielded and to have no processor, and
+// no member yields for a while.
 const WAITS_A_TRIAL: u32 = 64;
 
 /// A member of the line who waits for its neighbours and wakes them.
@@ -26,7 +26,7 @@ const WAITS_A_TRIAL: u32 = 64;
 pub struct Watch<'a> {
     signals: &'a Signals,
     member: usize,
-    // The waits since one in which no member gave way.
+    // The waits since one in which no member yielded.
     waits: u32,
     // How often it has looked in this wait, and how often it looks before it sleeps.
     looks: u32,
@@ -45,7 +45,7 @@ impl<'a> Watch<'a> {
         }
     }
 
-    // Begins a wait, and chooses whether it gives way before it sleeps.
+    // Begins a wait, and chooses whether it yields before it sleeps.
     fn begin_wait(&mut self) {
         if self.signals.is_without_yields() {
             self.waits = 0;
@@ -57,7 +57,7 @@ impl<'a> Watch<'a> {
         self.awake_looks = if is_trial { LOOKS } else { LOOKS + YIELDS };
     }
 
-    // Sleeps. Where nobody woke it, though others may give way, they do not for a while.
+    // Sleeps. Where nobody woke it while others might yield, they do not for a while.
     fn sleep<R: Wait>(&self, rt: &R) {
         let was_woken = self.signals.sleep(rt, self.member);
         if !was_woken && self.waits > 0 {
