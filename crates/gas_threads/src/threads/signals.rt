@@ -52,7 +52,7 @@ impl Signals {
     }
 
     /// Counts a wait, and says whether it is one in which no member yields.
-    pub(crate) fn is_without_yields(&self) -> bool {
+    pub(crate) fn take_wait_without_yields(&self) -> bool {
         let left = self.waits_without_yields.load(Ordering::Relaxed);
         if left > 0 {
             // Members that count at the same time may count one wait for two.
@@ -62,23 +62,25 @@ impl Signals {
     }
 
     /// Has no member yield for a while.
-    pub(crate) fn spare_yields(&self) {
+    pub(crate) fn forbid_yields(&self) {
         self.waits_without_yields
             .store(WAITS_WITHOUT_YIELDS, Ordering::Relaxed);
     }
 
+    fn set(&self, member: usize, state: u64) {
+        if let Some(bell) = self.bells.get(member) {
+            bell.store(state, Ordering::SeqCst);
+        }
+    }
+
     /// Lets a member be woken.
     pub(crate) fn fall_asleep(&self, member: usize) {
-        if let Some(bell) = self.bells.get(member) {
-            bell.store(ASLEEP, Ordering::SeqCst);
-        }
+        self.set(member, ASLEEP);
     }
 
     /// Says that a member is awake.
     pub(crate) fn stay_awake(&self, member: usize) {
-        if let Some(bell) = self.bells.get(member) {
-            bell.store(AWAKE, Ordering::SeqCst);
-        }
+        self.set(member, AWAKE);
     }
 
     /// A member who fell asleep sleeps until it is woken, but not for long, so that it also sees the

@@ -47,7 +47,7 @@ impl<'a> Watch<'a> {
 
     // Begins a wait, and chooses whether it yields before it sleeps.
     fn begin_wait(&mut self) {
-        if self.signals.is_without_yields() {
+        if self.signals.take_wait_without_yields() {
             self.waits = 0;
             self.awake_looks = LOOKS;
             return;
@@ -61,7 +61,7 @@ impl<'a> Watch<'a> {
     fn sleep<R: Wait>(&self, rt: &R) {
         let was_woken = self.signals.sleep(rt, self.member);
         if !was_woken && self.waits > 0 {
-            self.signals.spare_yields();
+            self.signals.forbid_yields();
         }
     }
 
