@@ -1,7 +1,7 @@
 //! A line of progress on standard error, where that is a terminal.
 
 use crate::terminal::{ERRORS, is_terminal};
-use gas_pipe::threads::gate::Gate;
+use gas_threads::threads::gate::Gate;
 use gas_tool::request::Request;
 use std::sync::atomic::{AtomicU64, Ordering};
 use std::time::Instant;

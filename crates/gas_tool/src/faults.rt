@@ -5,8 +5,8 @@ ghost use Rattle.gas_tool.specs.declared.faults.ToolError.TheVariants.{Memory, P
 ghost use Rattle.gas_tool.specs.Outcome.{run_fault, scene_fault};
 ghost use Rattle.gas_tool.specs.Status.{tool_status};
 
-use gas_pipe::error::RunError;
-use gas_pipe::plan::PlanError;
+use gas_members::error::RunError;
+use gas_members::plan::PlanError;
 use gas_scene::error::SceneError;
 pub use gas_text::faults::{InputFault, WriteFault};
 pub use gas_words::faults::UsageFault;

@@ -8,7 +8,7 @@ ghost use Rattle.gas_cells.specs.Cells.{texts_below};
 ghost use Rattle.gas_tool.specs.Replayed.{belt_line, done_line, end_text, line_of_belt, replay_text};
 
 use gas_geom::gas::Gas;
-use gas_pipe::replay::answer::Replay;
+use gas_replay::replay::answer::Replay;
 use gas_text::faults::WriteFault;
 use gas_text::output::{Sink, put_line};
 use gas_text::text::put_cells;

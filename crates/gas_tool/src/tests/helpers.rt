@@ -4,7 +4,7 @@ ghost use Rattle.gas_words.specs.Requests.{IsAllowed};
 
 use crate::perform::perform;
 use crate::request::Request;
-use gas_pipe::threads::gate::NoGate;
+use gas_threads::threads::gate::NoGate;
 use std::alloc::Global;
 use std::io;
 use std::io::{ErrorKind, Write};

@@ -6,7 +6,7 @@ use super::helpers::{ALONG_A_ROW, CELLS, Page, SCENE, assert_answer};
 use crate::faults::ToolError;
 use crate::perform::perform;
 use crate::request::{Request, Turns};
-use gas_pipe::threads::gate::NoGate;
+use gas_threads::threads::gate::NoGate;
 use std::alloc::Global;
 use std::process::Abort;
 use std::sync::Wait;

@@ -1,7 +1,7 @@
 //! The line that each fault prints, and the program's exit status at it.
 
 use crate::faults::ToolError;
-use gas_pipe::plan::PlanError;
+use gas_members::plan::PlanError;
 use gas_scene::error::SceneError;
 use std::test::Fail;
 
