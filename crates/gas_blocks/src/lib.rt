@@ -2,5 +2,3 @@
 #![tactic(auto)]
 
 pub mod blocks;
-#[cfg(test)]
-mod tests;

@@ -2,5 +2,3 @@
 #![tactic(auto)]
 
 pub mod cells;
-#[cfg(test)]
-mod tests;

@@ -7,5 +7,3 @@ pub mod gas;
 pub mod hpp;
 pub mod law;
 pub mod size;
-#[cfg(test)]
-mod tests;

@@ -13,7 +13,5 @@ pub mod random_bits;
 pub mod row;
 mod shift;
 mod span;
-#[cfg(test)]
-mod tests;
 mod transpose;
 mod word;

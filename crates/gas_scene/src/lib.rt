@@ -14,6 +14,4 @@ mod map_form;
 mod ranges;
 mod rectangles;
 pub mod scene;
-#[cfg(test)]
-mod tests;
 mod version;

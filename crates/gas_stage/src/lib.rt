@@ -4,5 +4,3 @@
 pub mod advance;
 pub mod stage;
 pub mod stream;
-#[cfg(test)]
-mod tests;

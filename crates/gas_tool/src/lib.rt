@@ -6,8 +6,6 @@ pub mod faults;
 pub mod perform;
 mod replayed;
 pub mod resume;
-#[cfg(test)]
-mod tests;
 
 pub use gas_blocks::blocks;
 pub use gas_text::{input, table, text};

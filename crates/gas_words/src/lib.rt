@@ -3,6 +3,4 @@
 
 pub mod faults;
 pub mod request;
-#[cfg(test)]
-mod tests;
 pub mod words;

@@ -1,5 +1,0 @@
-mod checkpoints;
-mod errors;
-mod helpers;
-mod refusals;
-mod scenes;

@@ -1,6 +1,0 @@
-//! Tests of what no clause says.
-
-mod helpers;
-mod perform;
-mod replay;
-mod statuses;

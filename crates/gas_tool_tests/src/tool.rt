@@ -1,0 +1,4 @@
+mod helpers;
+mod perform;
+mod replay;
+mod statuses;

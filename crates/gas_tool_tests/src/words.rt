@@ -1,0 +1,2 @@
+mod statuses;
+mod words;
