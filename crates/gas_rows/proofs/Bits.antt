@@ -11,22 +11,22 @@ use Rattle.std.proofs.lemmas.Bool.Decides.{nat_tests}
 use Rattle.gas_geom.specs.Gas.{holds}
 use Rattle.gas_geom.proofs.Holds.{holds-and, holds-or, holds-above}
 
-pub holds-mod : (n i : ℕ) → i < 64 → holds (n % 2 ^ 64) i ≡ holds n i
-holds-mod n i h =
-    let m = 63 - i in
-    let e : m + 1 + i ≡ 64 = omega arith in
+pub holds-mod : (width n i : ℕ) → i < width → holds (n % 2 ^ width) i ≡ holds n i
+holds-mod width n i h =
+    let m = width - 1 - i in
+    let e : m + 1 + i ≡ width = omega arith in
     ap (λ x. x == 1) (subst (λ w. bit_at (n % 2 ^ w) i ≡ bit_at n i) e (ap (λ x. x % 2) (field n (m + 1) i) ∙ mod-mod-pow (n / 2 ^ i) m 1))
 
 -- `y << k`
 pub holds-shl_high : (k j y : ℕ) → k + j < 64 → holds (y * 2 ^ k % 2 ^ 64) (k + j) ≡ holds y j
-holds-shl_high k j y h = holds-mod (y * 2 ^ k) (k + j) h ∙ ap (λ x. x % 2 == 1) (sym (shr-shr (y * 2 ^ k) k j) ∙ ap (λ x. x / 2 ^ j) (shl-shr y k))
+holds-shl_high k j y h = holds-mod 64 (y * 2 ^ k) (k + j) h ∙ ap (λ x. x % 2 == 1) (sym (shr-shr (y * 2 ^ k) k j) ∙ ap (λ x. x / 2 ^ j) (shl-shr y k))
 
 pub holds-shl_low : (k i y : ℕ) → i < k → i < 64 → holds (y * 2 ^ k % 2 ^ 64) i ≡ false
 holds-shl_low k i y lt h =
     let m = k - i - 1 in
     let e : suc m + i ≡ k = omega arith in
     let moved : y * 2 ^ (suc m + i) / 2 ^ i ≡ y * 2 ^ suc m = ap (λ x. x / 2 ^ i) (ap (λ x. y * x) (pow-add 2 (suc m) i) ∙ sym (mul_assoc y (2 ^ suc m) (2 ^ i))) ∙ shl-shr (y * 2 ^ suc m) i in
-    holds-mod (y * 2 ^ k) i h ∙ ap (λ x. x == 1) (subst (λ w. bit_at (y * 2 ^ w) i ≡ 0) e (ap (λ x. x % 2) moved ∙ shifted_even y m))
+    holds-mod 64 (y * 2 ^ k) i h ∙ ap (λ x. x == 1) (subst (λ w. bit_at (y * 2 ^ w) i ≡ 0) e (ap (λ x. x % 2) moved ∙ shifted_even y m))
 
 -- `y >> k`
 pub holds-shr : (k i y : ℕ) → holds (y / 2 ^ k) i ≡ holds y (k + i)

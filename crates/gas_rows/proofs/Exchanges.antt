@@ -1,20 +1,17 @@
--- Eight rows of eight bits turned about their diagonal, and the bytes of a word.
-use Rattle.std.proofs.Common.{◌≡◌, ℕ, ◌+◌, ◌-◌, ◌*◌, ◌/◌, ◌%◌, ◌^◌, ◌<◌, Bool, true, false, not, ◌&&◌, ◌||◌, ◌==◌, if◌then◌else◌, refl, sym, ap, ap₂, ◌∙◌, arith, ◌≢◌, ◌⊎◌, inl, inr, eq-eqb, ne_eqb}
+-- Eight rows of eight bits turned about their diagonal, and eight words of eight bytes likewise.
+use Rattle.std.proofs.Common.{◌≡◌, ℕ, zero, suc, List, [], ◌∷◌, get_or, ◌+◌, ◌-◌, ◌*◌, ◌/◌, ◌%◌, ◌^◌, ◌<◌, ◌≤◌, Bool, true, false, not, ◌&&◌, ◌||◌, ◌==◌, if◌then◌else◌, refl, sym, ap, ap₂, ◌∙◌, subst, arith, w64, ◌≢◌, ◌⊎◌, inl, inr, eq-eqb, ne_eqb}
+use Rattle.std.specs.Int.{to_le_bytes, from_le_bytes}
+use Rattle.std.proofs.lemmas.Nat.{le_bytes_8}
 use Rattle.std.specs.Int.Bits.{bit_and, bit_or, or_lt}
 use Rattle.std.specs.Prelude.{nat_le, nat_lt}
-use mathlib.Core.Bool.{and-true}
 use Rattle.std.proofs.lemmas.Bool.{cases_eq, cases_lt, eqb-true, ltb-true, not-true}
 use Rattle.std.proofs.lemmas.Bool.Decides.{nat_tests}
+use Rattle.std.proofs.lemmas.List.{get_or_past}
 use Rattle.gas_geom.specs.Gas.{holds}
 use Rattle.gas_geom.specs.Laws.Finite.{each_below}
-use Rattle.gas_geom.proofs.Holds.{holds-and, holds-or, holds-not, holds-above}
-use Rattle.gas_rows.specs.Exchange.{is_above, partner}
-use Rattle.gas_rows.proofs.Bits.{holds-shl_high, holds-shl_low, holds-shr}
-
-none : (s t : Bool) → (s && (t && false)) ≡ false
-none true true = refl
-none true false = refl
-none false t = refl
+use Rattle.gas_geom.proofs.Holds.{holds-and, holds-or, holds-not}
+use Rattle.gas_rows.specs.Exchange.{is_above, partner, with_digit}
+use Rattle.gas_rows.proofs.Bits.{holds-mod, holds-shl_high, holds-shl_low, holds-shr}
 
 -- `y << k` at any bit
 pub holds-shl : (y k b : ℕ) → b < 64 → holds (y * 2 ^ k % 2 ^ 64) b ≡ (nat_le k b && holds y (b - k))
@@ -97,46 +94,168 @@ turned r c hr hc =
     let m : (8 * r + c) % 8 ≡ c = omega arith in
     all_turned (8 * r + c) (omega arith) ∙ ap₂ (λ x y. 8 * x + y) m q
 
--- ---- bytes
-low_byte : (word b : ℕ) → holds (bit_and word 255) b ≡ (holds word b && nat_lt b 8)
-low_byte word b = holds-and word 255 b ∙ ap (λ t. holds word b && t) (elim (cases_lt b 8) [
-  | inl lt ↦ each_below (holds 255) 8 b refl lt ∙ sym (let s : nat_lt b 8 ≡ true = grind (arith, nat_tests) in s)
-  | inr le ↦ holds-above 255 8 b (omega arith) le ∙ sym (let s : nat_lt b 8 ≡ false = grind (arith, nat_tests) in s)
-])
+-- ---- the bytes of a word
+byte_is : (n i : ℕ) → i < 8 → get_or (to_le_bytes w64 n) i 0 ≡ n / 2 ^ (8 * i) % 2 ^ 8
+byte_is n zero h = omega arith
+byte_is n (suc zero) h = refl
+byte_is n (suc (suc zero)) h = refl
+byte_is n (suc (suc (suc zero))) h = refl
+byte_is n (suc (suc (suc (suc zero)))) h = refl
+byte_is n (suc (suc (suc (suc (suc zero))))) h = refl
+byte_is n (suc (suc (suc (suc (suc (suc zero)))))) h = refl
+byte_is n (suc (suc (suc (suc (suc (suc (suc zero))))))) h = refl
+byte_is n (suc (suc (suc (suc (suc (suc (suc (suc i)))))))) h = absurd (omega arith)
 
-pub holds-with_byte : (word bits i b : ℕ) → i < 8 → b < 64 →
-    holds (bit_or word (bit_and bits 255 * 2 ^ (8 * i) % 2 ^ 64)) b ≡ (holds word b || ((b / 8 == i) && holds bits (b % 8)))
-holds-with_byte word bits i b hi hb =
-    holds-or word _ b ∙ ap (λ t. holds word b || t) (holds-shl (bit_and bits 255) (8 * i) b hb
-    ∙ ap (λ t. nat_le (8 * i) b && t) (low_byte bits (b - 8 * i)) ∙ here (cases_eq (b / 8) i))
+pub holds-byte : (n i b : ℕ) → i < 8 → b < 8 → holds (get_or (to_le_bytes w64 n) i 0) b ≡ holds n (8 * i + b)
+holds-byte n i b hi hb =
+    ap (λ x. holds x b) (byte_is n i hi) ∙ holds-mod 8 (n / 2 ^ (8 * i)) b hb ∙ holds-shr (8 * i) b n
+
+pub byte-lt : (n i : ℕ) → i < 8 → get_or (to_le_bytes w64 n) i 0 < 256
+byte-lt n i h = subst (λ x. x < 256) (sym (byte_is n i h)) (omega arith)
+
+-- the eight bytes from place `a` on
+abbrev pub eight_from : List ℕ → ℕ → List ℕ
+eight_from bytes a =
+    get_or bytes a 0 ∷ get_or bytes (a + 1) 0 ∷ get_or bytes (a + 2) 0 ∷ get_or bytes (a + 3) 0
+    ∷ get_or bytes (a + 4) 0 ∷ get_or bytes (a + 5) 0 ∷ get_or bytes (a + 6) 0 ∷ get_or bytes (a + 7) 0 ∷ []
+
+one_of : (bytes : List ℕ) (a i : ℕ) → i < 8 → get_or (eight_from bytes a) i 0 ≡ get_or bytes (a + i) 0
+one_of bytes a zero h = ap (λ j. get_or bytes j 0) (let e : a ≡ a + 0 = omega arith in e)
+one_of bytes a (suc zero) h = refl
+one_of bytes a (suc (suc zero)) h = refl
+one_of bytes a (suc (suc (suc zero))) h = refl
+one_of bytes a (suc (suc (suc (suc zero)))) h = refl
+one_of bytes a (suc (suc (suc (suc (suc zero))))) h = refl
+one_of bytes a (suc (suc (suc (suc (suc (suc zero)))))) h = refl
+one_of bytes a (suc (suc (suc (suc (suc (suc (suc zero))))))) h = refl
+one_of bytes a (suc (suc (suc (suc (suc (suc (suc (suc i)))))))) h = absurd (omega arith)
+
+pub holds-word : (bytes : List ℕ) (a n b : ℕ) → ((i : ℕ) → get_or bytes i 0 < 256) → n ≡ from_le_bytes w64 (eight_from bytes a) → b < 64 →
+    holds n b ≡ holds (get_or bytes (a + b / 8) 0) (b % 8)
+holds-word bytes a n b fits is hb =
+    let at : b ≡ 8 * (b / 8) + b % 8 = omega arith in
+    ap (holds n) at ∙ sym (holds-byte n (b / 8) (b % 8) (omega arith) (omega arith))
+    ∙ ap (λ bs. holds (get_or bs (b / 8) 0) (b % 8)) (le_bytes_8 (eight_from bytes a) n refl small is)
+    ∙ ap (λ x. holds x (b % 8)) (one_of bytes a (b / 8) (omega arith))
   where
-    here : (b / 8 ≡ i) ⊎ (b / 8 ≢ i) →
-        (nat_le (8 * i) b && (holds bits (b - 8 * i) && nat_lt (b - 8 * i) 8)) ≡ ((b / 8 == i) && holds bits (b % 8))
-    here (inl e) =
-        let m : b - 8 * i ≡ b % 8 = omega arith in
-        let l : nat_le (8 * i) b ≡ true = grind (arith, nat_tests) in
-        let s : nat_lt (b % 8) 8 ≡ true = grind (arith, nat_tests) in
-        ap (λ k. nat_le (8 * i) b && (holds bits k && nat_lt k 8)) m
-        ∙ ap₂ (λ s t. s && (holds bits (b % 8) && t)) l s ∙ and-true (holds bits (b % 8))
-        ∙ sym (ap (λ t. t && holds bits (b % 8)) (eq-eqb (b / 8) i e))
-    here (inr ne) = elim (cases_lt b (8 * i)) [
-      | inl lt ↦ ap (λ t. t && (holds bits (b - 8 * i) && nat_lt (b - 8 * i) 8)) (let l : nat_le (8 * i) b ≡ false = grind (arith, nat_tests) in l)
-          ∙ sym (ap (λ t. t && holds bits (b % 8)) (ne_eqb (b / 8) i ne))
-      | inr le ↦ ap (λ t. nat_le (8 * i) b && (holds bits (b - 8 * i) && t)) (let s : nat_lt (b - 8 * i) 8 ≡ false = grind (arith, nat_tests) in s)
-          ∙ none (nat_le (8 * i) b) (holds bits (b - 8 * i))
-          ∙ sym (ap (λ t. t && holds bits (b % 8)) (ne_eqb (b / 8) i ne))
+    small : (i : ℕ) → get_or (eight_from bytes a) i 0 < 256
+    small i = elim (cases_lt i 8) [
+      | inl h ↦ subst (λ x. x < 256) (sym (one_of bytes a i h)) (fits (a + i))
+      | inr le ↦ subst (λ x. x < 256) (sym (get_or_past (eight_from bytes a) i 0 le)) (omega arith)
     ]
 
-pub holds-byte : (word i b : ℕ) → b < 8 → holds (bit_and (word / 2 ^ (8 * i)) 255) b ≡ holds word (8 * i + b)
-holds-byte word i b h =
-    low_byte (word / 2 ^ (8 * i)) b
-    ∙ ap₂ (λ s t. s && t) (holds-shr (8 * i) b word) (let s : nat_lt b 8 ≡ true = grind (arith, nat_tests) in s)
-    ∙ and-true (holds word (8 * i + b))
+-- ---- the bytes that two words exchange
+picked : (m x y : Bool) → ((x && m) || (y && not m)) ≡ (if m then x else y)
+picked m x y = grind (arith, nat_tests)
 
--- ---- a word byte by byte, and states byte by byte
-pub byte_more : (q i : ℕ) (was said new : Bool) → was ≡ (nat_lt q i && said) → (q ≡ i → new ≡ said) →
-    (was || ((q == i) && new)) ≡ (nat_lt q (i + 1) && said)
-byte_more q i was said new e h = elim (cases_eq q i) [
-  | inl s ↦ let t = h s in grind (arith, nat_tests)
-  | inr ne ↦ grind (arith, nat_tests)
-]
+pub holds-merged : (a b mask p : ℕ) → mask < 2 ^ 64 → p < 64 →
+    holds (bit_or (bit_and a mask) (bit_and b (2 ^ 64 - 1 - mask))) p ≡ (if holds mask p then holds a p else holds b p)
+holds-merged a b mask p hm hp =
+    holds-or _ _ p
+    ∙ ap₂ (λ s t. s || t) (holds-and a mask p) (holds-and b _ p ∙ ap (λ t. holds b p && t) (holds-not mask p hm hp))
+    ∙ picked (holds mask p) (holds a p) (holds b p)
+
+picked-then : (m x y : Bool) → m ≡ true → (if m then x else y) ≡ x
+picked-then m x y e = ap (λ t. if t then x else y) e
+
+picked-else : (m x y : Bool) → m ≡ false → (if m then x else y) ≡ y
+picked-else m x y e = ap (λ t. if t then x else y) e
+
+abbrev pub IsApart : ℕ → Type 0
+IsApart d = (d ≡ 1) ⊎ ((d ≡ 2) ⊎ (d ≡ 4))
+
+digit-le : (d k : ℕ) → IsApart d → k < 8 → k / d % 2 ≢ 0 → d ≤ k
+digit-le d k (inl e) h = subst (λ d. k / d % 2 ≢ 0 → d ≤ k) (sym e) (λ ne. omega arith)
+digit-le d k (inr (inl e)) h = subst (λ d. k / d % 2 ≢ 0 → d ≤ k) (sym e) (λ ne. omega arith)
+digit-le d k (inr (inr e)) h = subst (λ d. k / d % 2 ≢ 0 → d ≤ k) (sym e) (λ ne. omega arith)
+
+odd : (t : ℕ) → t % 2 ≢ 0 → t % 2 ≡ 1
+odd t ne = omega arith
+
+with_digits : (d k i q r : ℕ) → k / d % 2 ≡ q → i / d % 2 ≡ r → with_digit d k i ≡ k - d * q + d * r
+unfolding with_digit
+with_digits d k i q r eq er = ap₂ (λ q r. k - d * q + d * r) eq er
+
+module _ (words : List ℕ) (d mask : ℕ) (apart : IsApart d) (marks : (p : ℕ) → p < 64 → holds mask p ≡ (p / 8 / d % 2 == 0))
+    (k i b : ℕ) (hk : k < 8) (hi : i < 8) (hb : b < 8) where
+  abbrev p : ℕ
+  p = 8 * i + b
+
+  abbrev bit : ℕ → ℕ → Bool
+  bit k i = holds (get_or words k 0) (8 * i + b)
+
+  marked : holds mask p ≡ (i / d % 2 == 0)
+  marked = let byte : p / 8 ≡ i = omega arith in marks p (omega arith) ∙ ap (λ i. i / d % 2 == 0) byte
+
+  few : d ≤ 4
+  few = elim apart [
+    | inl e ↦ omega arith
+    | inr (inl e) ↦ omega arith
+    | inr (inr e) ↦ omega arith
+  ]
+
+  pub holds-first : k / d % 2 ≡ 0 →
+      (if holds mask p then holds (get_or words k 0) p else holds (get_or words (k + d) 0 * 2 ^ (8 * d) % 2 ^ 64) p)
+      ≡ bit (with_digit d k i) (with_digit d i k)
+  holds-first even = elim (cases_eq (i / d % 2) 0) [
+    | inl z ↦
+        let here : k ≡ with_digit d k i = omega (arith, with_digits d k i 0 0 even z) in
+        let same : i ≡ with_digit d i k = omega (arith, with_digits d i k 0 0 z even) in
+        picked-then _ _ _ (marked ∙ eq-eqb _ _ z) ∙ ap₂ bit here same
+    | inr ne ↦
+        let le = digit-le d i apart hi ne in
+        let one = odd (i / d) ne in
+        let here : k + d ≡ with_digit d k i = omega (arith, with_digits d k i 0 1 even one) in
+        let other : i - d ≡ with_digit d i k = omega (arith, with_digits d i k 1 0 one even) in
+        let at : p ≡ 8 * d + (8 * (i - d) + b) = omega arith in
+        picked-else _ _ _ (marked ∙ ne_eqb _ _ ne)
+        ∙ ap (holds (get_or words (k + d) 0 * 2 ^ (8 * d) % 2 ^ 64)) at
+        ∙ holds-shl_high (8 * d) (8 * (i - d) + b) (get_or words (k + d) 0) (omega arith)
+        ∙ ap₂ bit here other
+  ]
+
+  pub holds-second : k / d % 2 ≢ 0 →
+      (if holds mask p then holds (get_or words (k - d) 0 / 2 ^ (8 * d)) p else holds (get_or words k 0) p)
+      ≡ bit (with_digit d k i) (with_digit d i k)
+  holds-second ne =
+      let le = digit-le d k apart hk ne in
+      let one = odd (k / d) ne in
+      elim (cases_eq (i / d % 2) 0) [
+        | inl z ↦
+            let here : k - d ≡ with_digit d k i = omega (arith, with_digits d k i 1 0 one z) in
+            let other : i + d ≡ with_digit d i k = omega (arith, with_digits d i k 0 1 z one) in
+            let at : 8 * d + p ≡ 8 * (i + d) + b = omega arith in
+            picked-then _ _ _ (marked ∙ eq-eqb _ _ z)
+            ∙ holds-shr (8 * d) p (get_or words (k - d) 0)
+            ∙ ap (holds (get_or words (k - d) 0)) at
+            ∙ ap₂ bit here other
+        | inr n ↦
+            let both = odd (i / d) n in
+            let le_i = digit-le d i apart hi n in
+            let here : k ≡ with_digit d k i = omega (arith, with_digits d k i 1 1 one both) in
+            let same : i ≡ with_digit d i k = omega (arith, with_digits d i k 1 1 both one) in
+            picked-else _ _ _ (marked ∙ ne_eqb _ _ n) ∙ ap₂ bit here same
+      ]
+
+-- ---- the three exchanges turn the words
+pub with_digit-lt : (d k i : ℕ) → IsApart d → k < 8 → i < 8 → with_digit d k i < 8
+unfolding with_digit
+with_digit-lt d k i (inl e) hk hi = subst (λ d. k - d * (k / d % 2) + d * (i / d % 2) < 8) (sym e) (omega arith)
+with_digit-lt d k i (inr (inl e)) hk hi = subst (λ d. k - d * (k / d % 2) + d * (i / d % 2) < 8) (sym e) (omega arith)
+with_digit-lt d k i (inr (inr e)) hk hi = subst (λ d. k - d * (k / d % 2) + d * (i / d % 2) < 8) (sym e) (omega arith)
+
+abbrev pub all_digits : ℕ → ℕ → ℕ
+all_digits k i =
+    let a = with_digit 1 k i in
+    let b = with_digit 1 i k in
+    with_digit 4 (with_digit 2 a b) (with_digit 2 b a)
+
+each_digits : (n : ℕ) → n < 64 → all_digits (n / 8) (n % 8) ≡ n % 8
+unfolding with_digit
+each_digits n h = eqb-true _ _ (each_below (λ n. all_digits (n / 8) (n % 8) == n % 8) 64 n refl h)
+
+pub digits : (k i : ℕ) → k < 8 → i < 8 → all_digits k i ≡ i
+digits k i hk hi =
+    let q : (8 * k + i) / 8 ≡ k = omega arith in
+    let m : (8 * k + i) % 8 ≡ i = omega arith in
+    sym (ap₂ all_digits q m) ∙ each_digits (8 * k + i) (omega arith) ∙ m

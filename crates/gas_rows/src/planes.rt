@@ -213,9 +213,7 @@ fn block(states: &[u8]) -> [u8; 64]
     ensures { (b : ℕ) → slice_index result b ≡ slice_index states.now b }
 {
     let mut block = [0; 64];
-    for b in 0..states.len() {
-        block[b] = states[b];
-    }
+    block[..states.len()].copy_from_slice(states);
     block
 }
 

@@ -1,7 +1,7 @@
 //! The sets of 64 cells as a byte for each cell, and as a word for each direction.
-ghost use Rattle.std.specs.Prelude.{◌≡◌, ◌+◌, ◌*◌, ◌/◌, ◌%◌, ◌^◌, ◌<◌, ◌≤◌, ◌==◌, ◌&&◌, ◌||◌, ℕ, false, nat_lt, not, if◌then◌else◌, length, slice_index};
+ghost use Rattle.std.specs.Prelude.{◌≡◌, ◌+◌, ◌*◌, ◌/◌, ◌%◌, ◌^◌, ◌<◌, ◌==◌, ◌&&◌, ◌⊎◌, ℕ, false, if◌then◌else◌, length, slice_index};
 ghost use Rattle.gas_geom.specs.Gas.{holds};
-ghost use Rattle.gas_rows.specs.Exchange.{is_above, partner};
+ghost use Rattle.gas_rows.specs.Exchange.{is_above, partner, with_digit};
 
 // The word in which the bits of the mask changed places with those above them.
 #[inline(always)]
@@ -24,35 +24,44 @@ fn transposed(word: u64) -> u64
     exchanged(fours, 0xf0f0_f0f0, 28)
 }
 
-// The word with these bits too, which stand for byte `i`.
+// The bits of `a` that the mask has, and those of `b` that it has not.
 #[inline(always)]
-fn with_byte(word: u64, bits: u64, i: u32) -> u64
-    requires { i < 8 }
-    ensures { (b : ℕ) → b < 64 → holds result b ≡ (holds word b || ((b / 8 == i) && holds bits (b % 8))) }
+fn merged(a: u64, b: u64, mask: u64) -> u64
+    ensures { (p : ℕ) → p < 64 → holds result p ≡ (if holds mask p then holds a p else holds b p) }
 {
-    word | ((bits & 0xff) << (8 * i))
+    (a & mask) | (b & !mask)
 }
 
-// One byte of a word.
+// Word `k` of those that `exchanged_bytes` makes.
 #[inline(always)]
-fn byte(word: u64, i: u32) -> u8
-    requires { i < 8 }
-    ensures { (b : ℕ) → b < 8 → holds result b ≡ holds word (8 * i + b) }
+fn word_exchanged(words: [u64; 8], k: usize, apart: usize, mask: u64) -> u64
+    requires within { k < 8 }
+    requires apart { (apart ≡ 1) ⊎ ((apart ≡ 2) ⊎ (apart ≡ 4)) }
+    requires mask { (p : ℕ) → p < 64 → holds mask p ≡ (p / 8 / apart % 2 == 0) }
+    ensures { (i b : ℕ) → i < 8 → b < 8 →
+        holds result (8 * i + b) ≡ holds (slice_index words (with_digit apart k i)) (8 * with_digit apart i k + b) }
 {
-    ((word >> (8 * i)) & 0xff) as u8
-}
-
-// Byte `k` of each word, that of word 0 first.
-#[inline(always)]
-fn bytes_of(words: [u64; 8], k: u32) -> u64
-    requires { k < 8 }
-    ensures { (i b : ℕ) → i < 8 → b < 8 → holds result (8 * i + b) ≡ holds (slice_index words i) (8 * k + b) }
-{
-    let mut bytes = 0;
-    for i in 0..8 {
-        bytes = with_byte(bytes, words[i as usize] >> (8 * k), i);
+    if k / apart % 2 == 0 {
+        merged(words[k], words[k + apart] << (8 * apart), mask)
+    } else {
+        merged(words[k - apart] >> (8 * apart), words[k], mask)
     }
-    bytes
+}
+
+// The words after each two that stand `apart` places from one another exchanged bytes: the first
+// gave its bytes outside the mask, and the second those in it.
+#[inline(always)]
+fn exchanged_bytes(words: [u64; 8], apart: usize, mask: u64) -> [u64; 8]
+    requires apart { (apart ≡ 1) ⊎ ((apart ≡ 2) ⊎ (apart ≡ 4)) }
+    requires mask { (p : ℕ) → p < 64 → holds mask p ≡ (p / 8 / apart % 2 == 0) }
+    ensures { (k i b : ℕ) → k < 8 → i < 8 → b < 8 → holds (slice_index result k) (8 * i + b)
+        ≡ holds (slice_index words (with_digit apart k i)) (8 * with_digit apart i k + b) }
+{
+    let mut out = [0; 8];
+    for k in 0..8 {
+        out[k] = word_exchanged(words, k, apart, mask);
+    }
+    out
 }
 
 // Byte `k` of each word as word `k`.
@@ -61,11 +70,9 @@ fn turned(words: [u64; 8]) -> [u64; 8]
     ensures { (k i b : ℕ) → k < 8 → i < 8 → b < 8 →
         holds (slice_index result k) (8 * i + b) ≡ holds (slice_index words i) (8 * k + b) }
 {
-    let mut bytes = [0; 8];
-    for k in 0..8 {
-        bytes[k as usize] = bytes_of(words, k);
-    }
-    bytes
+    let fours = exchanged_bytes(words, 4, 0x0000_0000_ffff_ffff);
+    let pairs = exchanged_bytes(fours, 2, 0x0000_ffff_0000_ffff);
+    exchanged_bytes(pairs, 1, 0x00ff_00ff_00ff_00ff)
 }
 
 // Each word as eight rows of eight bits turned about their diagonal.
@@ -88,10 +95,28 @@ pub(crate) fn states_of(planes: [u64; 8]) -> [u8; 64]
 {
     let words = each_transposed(turned(planes));
     let mut states = [0; 64];
-    for b in 0..64 {
-        states[b] = byte(words[b / 8], (b % 8) as u32);
+    for k in 0..8 {
+        states[8 * k..8 * k + 8].copy_from_slice(&words[k].to_le_bytes());
     }
     states
+}
+
+// Word `k` of those whose bytes are these. A compiler reads all eight at once where each is named.
+#[inline(always)]
+fn word_of(bytes: &[u8; 64], k: usize) -> u64
+    requires { k < 8 }
+    ensures { (b : ℕ) → b < 64 → holds result b ≡ holds (slice_index bytes.now (8 * k + b / 8)) (b % 8) }
+{
+    u64::from_le_bytes([
+        bytes[8 * k],
+        bytes[8 * k + 1],
+        bytes[8 * k + 2],
+        bytes[8 * k + 3],
+        bytes[8 * k + 4],
+        bytes[8 * k + 5],
+        bytes[8 * k + 6],
+        bytes[8 * k + 7],
+    ])
 }
 
 // The words whose bytes are these.
@@ -100,8 +125,8 @@ fn words_of(bytes: [u8; 64]) -> [u64; 8]
     ensures { (k b : ℕ) → k < 8 → b < 64 → holds (slice_index result k) b ≡ holds (slice_index bytes (8 * k + b / 8)) (b % 8) }
 {
     let mut words = [0; 8];
-    for at in 0..64 {
-        words[at / 8] = with_byte(words[at / 8], u64::from(bytes[at]), (at % 8) as u32);
+    for k in 0..8 {
+        words[k] = word_of(&bytes, k);
     }
     words
 }
