@@ -1,9 +1,10 @@
 //! The command line.
 
-ghost use Rattle.std.specs.Prelude.{◌≡◌, [], IfOk, IfErr, IfSome, map, false};
+ghost use Rattle.std.specs.Prelude.{◌≡◌, [], IfOk, IfErr, IfSome, map, false, true, codes};
 ghost use Rattle.clap.specs.declared.builder.command.Command.TheViews.{out-Command as fields_of};
-ghost use Rattle.clap.specs.Words.{app_of, fault_of, found_of, kind_of, new_app, rows_of, rule_of};
-ghost use Rattle.clap.specs.Words.{subcommand_of, subcommand_rows_of};
+ghost use Rattle.clap.specs.Simple.{on_top};
+ghost use Rattle.clap.specs.Words.{App, Rule, app_of, fault_of, found_of, kind_of, new_app, rows_of, rule_of};
+ghost use Rattle.clap.specs.Words.{subcommand_of, subcommand_rows_of, with_rule, with_subcommand};
 ghost use Rattle.gas_words.specs.Words.{program_app, check_app, coarse_app, replay_app, run_app, default_rule};
 ghost use Rattle.gas_words.specs.Words.{generations_rule, stages_rule, capacity_rule, with_plan};
 ghost use Rattle.gas_words.specs.Words.{block_height_rule, block_width_rule, required_rule, side, turns_rule};
@@ -154,16 +155,29 @@ fn described<'a>(
         .after_help(notes)
 }
 
+// The command with one more option, if it could be made so far.
+fn with_arg<'a>(
+    command: Result<Command<'a>, AllocError>,
+    arg: Arg<'a>,
+) -> Result<Command<'a>, AllocError>
+    requires local_command { IfOk command (λ c. (fields_of c).has_globals ≡ false) }
+    requires local_arg { arg.global ≡ false }
+    ensures app { (app : App) (rule : Rule) → IfOk command.entry (λ c. app_of c ≡ app) → rule_of arg.entry ≡ rule →
+        IfOk result (λ r. app_of r ≡ with_rule app rule) }
+    ensures local { IfOk result (λ r. (fields_of r).has_globals ≡ false) }
+{
+    command?.arg(arg)
+}
+
 // The command with the options of a plan.
 fn with_plan_args<'a>(alloc: Global, command: Command<'a>) -> Result<Command<'a>, AllocError>
     requires { (fields_of command).has_globals ≡ false }
     ensures app { IfOk result (λ r. app_of r ≡ with_plan (app_of command.entry)) }
     ensures local { IfOk result (λ r. (fields_of r).has_globals ≡ false) }
 {
-    let first = command.arg(generations_arg(alloc))?;
-    let second = first.arg(stages_arg(alloc))?;
-    let third = second.arg(capacity_arg(alloc))?;
-    Ok(third)
+    let first = with_arg(Ok(command), generations_arg(alloc));
+    let second = with_arg(first, stages_arg(alloc));
+    with_arg(second, capacity_arg(alloc))
 }
 
 fn run_command<'a>(alloc: Global) -> Result<Command<'a>, AllocError>
@@ -216,10 +230,9 @@ fn coarse_command<'a>(alloc: Global) -> Result<Command<'a>, AllocError>
     ensures local { IfOk result (λ r. (fields_of r).has_globals ≡ false) }
 {
     let command = described(alloc, "coarse", USAGE_COARSE, ABOUT_COARSE, BLOCKS);
-    let first = with_plan_args(alloc, command)?;
-    let second = first.arg(block_width_arg(alloc))?;
-    let third = second.arg(block_height_arg(alloc))?;
-    Ok(third)
+    let first = with_plan_args(alloc, command);
+    let second = with_arg(first, block_width_arg(alloc));
+    with_arg(second, block_height_arg(alloc))
 }
 
 fn turns_arg<'a>(alloc: Global) -> Arg<'a>
@@ -239,9 +252,8 @@ fn replay_command<'a>(alloc: Global) -> Result<Command<'a>, AllocError>
     ensures local { IfOk result (λ r. (fields_of r).has_globals ≡ false) }
 {
     let command = described(alloc, "replay", USAGE_REPLAY, ABOUT_REPLAY, TURNS);
-    let first = with_plan_args(alloc, command)?;
-    let second = first.arg(turns_arg(alloc))?;
-    Ok(second)
+    let first = with_plan_args(alloc, command);
+    with_arg(first, turns_arg(alloc))
 }
 
 fn check_command<'a>(alloc: Global) -> Command<'a>
@@ -251,20 +263,35 @@ fn check_command<'a>(alloc: Global) -> Command<'a>
     described(alloc, "check", USAGE_CHECK, ABOUT_CHECK, LINE)
 }
 
+// The program's command without its subcommands.
+fn top_command<'a>(alloc: Global) -> Command<'a>
+    ensures { app_of result ≡
+        on_top (λ s. record s { subcommand_required = true; has_version = true }) (new_app (codes "fhpgas")) }
+{
+    described(alloc, "fhpgas", USAGE, ABOUT, SCENES)
+        .version(VERSION)
+        .subcommand_required(true)
+}
+
+// The command with one more subcommand, if both could be made.
+fn with_command<'a>(
+    command: Result<Command<'a>, AllocError>,
+    added: Result<Command<'a>, AllocError>,
+) -> Result<Command<'a>, AllocError>
+    requires { IfOk added (λ a. (fields_of a).has_globals ≡ false) }
+    ensures { (app top : App) → IfOk command.entry (λ c. app_of c ≡ top) → IfOk added.entry (λ a. app_of a ≡ app) →
+        IfOk result (λ r. app_of r ≡ with_subcommand top app.top) }
+{
+    command?.subcommand(added?)
+}
+
 fn program_command<'a>(alloc: Global) -> Result<Command<'a>, AllocError>
     ensures { IfOk result (λ r. app_of r ≡ program_app) }
 {
-    let run = run_command(alloc)?;
-    let coarse = coarse_command(alloc)?;
-    let replay = replay_command(alloc)?;
-    let command = described(alloc, "fhpgas", USAGE, ABOUT, SCENES)
-        .version(VERSION)
-        .subcommand_required(true)
-        .subcommand(check_command(alloc))?
-        .subcommand(run)?
-        .subcommand(coarse)?
-        .subcommand(replay)?;
-    Ok(command)
+    let checks = with_command(Ok(top_command(alloc)), Ok(check_command(alloc)));
+    let runs = with_command(checks, run_command(alloc));
+    let tables = with_command(runs, coarse_command(alloc));
+    with_command(tables, replay_command(alloc))
 }
 
 // The fault of a parse that failed.
