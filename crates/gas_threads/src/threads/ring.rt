@@ -57,6 +57,62 @@ fn settle<G: Gas, R: Threads>(
     Some(Run::new(feeder.finish(), pass.schedule.plan, belts))
 }
 
+// Raises the flag, and joins the workers' threads.
+fn give_up<G: Gas, H: Gate, R: Threads + Wait>(
+    shared: &Shared<'_, H, R>,
+    handles: Vec<Started<'_, G>>,
+) {
+    shared.signals.stop();
+    for handle in handles {
+        drop(handle.join(shared.rt));
+    }
+}
+
+// Starts the workers' threads, makes the feeder's turns, and settles. None where memory or a start was
+// refused.
+fn run_line<'s, 'e: 's, G: Gas + Send + 'e, H: Gate + Sync, R: Threads + Wait + Sync>(
+    scope: &'s Scope<'s, &'e ()>,
+    shared: &'e Shared<'e, H, R>,
+    pass: &'e FirstPass<'e, G>,
+    mut feeder: Feeder<G>,
+    ends: Ends<'e, G>,
+    handles: Vec<Started<'e, G>>,
+    belts: Vec<Carried<G>>,
+) -> Option<Run<G>>
+    requires pass { IsPass G.rules pass.now }
+    requires some { 0 < pass.now.plan.generations }
+    requires stages { 0 < pass.now.plan.stages }
+    requires channel { feeder.channel ≡ pass.now.lattice.channel }
+    requires linked { Linked pass.now 0 ends.first.belt ends.jobs.items }
+    requires count { vec_len ends.jobs ≡ pass.now.plan.stages }
+    requires end { last_belt ends.first.belt ends.jobs.items ≡ ends.last.belt }
+    requires no_handle { handles.items ≡ [] }
+    requires empty { vec_len handles ≡ 0 }
+    requires no_belt { belts.items ≡ [] }
+    requires fed { HasFed feeder (passes_of pass.now.plan.generations pass.now.plan.stages) pass.now.lattice.rows ends.first.put ends.last.taken }
+    ensures { IfSome result (λ run. HasRun G.rules pass.now run) }
+{
+    let Ends {
+        mut first,
+        jobs,
+        mut last,
+    } = ends;
+    let (handles, all) = start(scope, shared, jobs, handles);
+    if all
+        && feed(
+            shared.rt,
+            shared.signals,
+            &mut feeder,
+            &mut last,
+            &mut first,
+        )
+    {
+        return settle(shared.rt, pass, first, last, feeder, handles, belts);
+    }
+    give_up(shared, handles);
+    None
+}
+
 // Makes all passes in a scope. None where memory or a start was refused.
 fn run_in_scope<'s, 'e: 's, G: Gas + Send + 'e, H: Gate + Sync, R: Threads + Wait + Sync>(
     scope: &'s Scope<'s, &'e ()>,
@@ -72,32 +128,12 @@ fn run_in_scope<'s, 'e: 's, G: Gas + Send + 'e, H: Gate + Sync, R: Threads + Wai
     requires rows { feeder.rows ≡ pass.now.lattice.rows }
     ensures { IfSome result (λ run. HasRun G.rules pass.now run) }
 {
-    let Ends {
-        mut first,
-        jobs,
-        mut last,
-    } = build(alloc, pass).ok()?;
     let stages = pass.schedule.plan.stages() as usize;
     let belts = Vec::with_capacity(alloc, stages + 1).ok()?;
     let handles = Vec::with_capacity(alloc, stages).ok()?;
+    let ends = build(alloc, pass).ok()?;
     feeder.begin_ring(pass.schedule.plan.passes());
-    let (handles, all) = start(scope, shared, jobs, handles);
-    if all
-        && feed(
-            shared.rt,
-            shared.signals,
-            &mut feeder,
-            &mut last,
-            &mut first,
-        )
-    {
-        return settle(shared.rt, pass, first, last, feeder, handles, belts);
-    }
-    shared.signals.stop();
-    for handle in handles {
-        drop(handle.join(shared.rt));
-    }
-    None
+    run_line(scope, shared, pass, feeder, ends, handles, belts)
 }
 
 /// Makes all passes of a plan over the rows that the feeder holds: a thread for each worker, and
