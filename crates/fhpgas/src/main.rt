@@ -9,11 +9,13 @@ ghost use Rattle.gas_words.specs.Requests.{IsAllowed};
 
 use crate::progress::Progress;
 use crate::terminal::{INPUT, is_terminal};
-use gas_tool::faults::{InputFault, ToolError, UsageFault};
-use gas_tool::input::slurp;
-use gas_tool::perform::perform;
-use gas_tool::request::Request;
-use gas_tool::words::parse_words;
+use gas_perform::faults::ToolError;
+use gas_perform::perform::perform;
+use gas_text::faults::InputFault;
+use gas_text::input::slurp;
+use gas_words::faults::UsageFault;
+use gas_words::request::Request;
+use gas_words::words::parse_words;
 use std::alloc::AllocError;
 use std::env;
 use std::io::ErrorKind;

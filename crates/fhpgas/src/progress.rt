@@ -2,7 +2,7 @@
 
 use crate::terminal::{ERRORS, is_terminal};
 use gas_threads::threads::gate::Gate;
-use gas_tool::request::Request;
+use gas_words::request::Request;
 use std::sync::atomic::{AtomicU64, Ordering};
 use std::time::Instant;
 

@@ -1,12 +1,10 @@
-//! The tool: performs a request on the text of a scene. The command line, the input, the blocks and
-//! the printed texts have crates of their own, whose modules are named here too.
+//! The tool: the command line, the input, requests and their answers, and the printed texts. Each has a
+//! crate of its own, whose modules are named here.
 #![tactic(auto)]
 
 pub mod faults;
-pub mod perform;
-mod replayed;
-pub mod resume;
 
 pub use gas_blocks::blocks;
+pub use gas_perform::{perform, resume};
 pub use gas_text::{input, table, text};
 pub use gas_words::{request, words};

@@ -2,9 +2,9 @@
 
 ghost use Rattle.gas_words.specs.Requests.{IsAllowed};
 
+use gas_perform::perform::perform;
 use gas_threads::threads::gate::NoGate;
-use gas_tool::perform::perform;
-use gas_tool::request::Request;
+use gas_words::request::Request;
 use std::alloc::Global;
 use std::io;
 use std::io::{ErrorKind, Write};

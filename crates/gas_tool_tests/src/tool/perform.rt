@@ -3,10 +3,10 @@
 ghost use Rattle.gas_words.specs.Requests.{IsAllowed};
 
 use super::helpers::{ALONG_A_ROW, CELLS, Page, SCENE, assert_answer};
+use gas_perform::faults::ToolError;
+use gas_perform::perform::perform;
 use gas_threads::threads::gate::NoGate;
-use gas_tool::faults::ToolError;
-use gas_tool::perform::perform;
-use gas_tool::request::{Request, Turns};
+use gas_words::request::{Request, Turns};
 use std::alloc::Global;
 use std::process::Abort;
 use std::sync::Wait;

@@ -1,7 +1,7 @@
 //! The printed text of a replay, by whole requests.
 
 use super::helpers::{ALONG_A_ROW, assert_answer};
-use gas_tool::request::{Request, Turns};
+use gas_words::request::{Request, Turns};
 use std::test::Fail;
 
 // The feeder, worker 1 and worker 2 in turn, nine times, and the feeder once more: one place on each

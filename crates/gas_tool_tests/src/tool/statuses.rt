@@ -1,8 +1,8 @@
 //! The line that each fault prints, and the program's exit status at it.
 
 use gas_members::plan::PlanError;
+use gas_perform::faults::ToolError;
 use gas_scene::error::SceneError;
-use gas_tool::faults::ToolError;
 use std::test::Fail;
 
 #[test]

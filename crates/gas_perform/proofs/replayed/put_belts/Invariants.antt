@@ -1,7 +1,7 @@
 use Rattle.gas_text.specs.Sink.{Adds}
 use Rattle.gas_cells.specs.Cells.{texts_below}
-use Rattle.gas_tool.specs.Replayed.{line_of_belt}
-use Rattle.gas_tool.proofs.replayed.put_belts.Given as goal
+use Rattle.gas_perform.specs.Replayed.{line_of_belt}
+use Rattle.gas_perform.proofs.replayed.put_belts.Given as goal
 
 -- the lines of the belts so far were added
 abbrev pub invariant-loop-belt : goal.invariant-loop-belt

@@ -5,7 +5,7 @@ ghost use Rattle.gas_geom.specs.Lattice.{LatticeModel};
 ghost use Rattle.gas_text.specs.Output.{Writes};
 ghost use Rattle.gas_text.specs.Sink.{Adds};
 ghost use Rattle.gas_cells.specs.Cells.{texts_below};
-ghost use Rattle.gas_tool.specs.Replayed.{belt_line, done_line, end_text, line_of_belt, replay_text};
+ghost use Rattle.gas_perform.specs.Replayed.{belt_line, done_line, end_text, line_of_belt, replay_text};
 
 use gas_geom::gas::Gas;
 use gas_replay::replay::answer::Replay;

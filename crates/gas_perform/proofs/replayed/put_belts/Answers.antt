@@ -1,6 +1,6 @@
-use Rattle.gas_tool.specs.Replayed.{line_of_belt}
+use Rattle.gas_perform.specs.Replayed.{line_of_belt}
 use Rattle.gas_text.proofs.Sinks.{Adds-next}
-use Rattle.gas_tool.proofs.replayed.put_belts.Goals as goal
+use Rattle.gas_perform.proofs.replayed.put_belts.Goals as goal
 
 pub loop-belt-preserved : goal.loop-belt-preserved
 loop-belt-preserved g c =

@@ -4,10 +4,10 @@ use Rattle.std.specs.Prelude.{ℕ, ◌≤◌, List, ⊤}
 use Rattle.gas_geom.specs.Gas.{Rules}
 use Rattle.gas_geom.specs.Lattice.{LatticeModel}
 use Rattle.gas_blocks.specs.Blocks.{blocks_of}
-use Rattle.gas_tool.specs.Outcome.{lattice_text}
+use Rattle.gas_perform.specs.Outcome.{lattice_text}
 use Rattle.gas_text.specs.Table.{table_text}
-use Rattle.gas_tool.specs.declared.perform.View.{View}
-use Rattle.gas_tool.specs.declared.perform.View.TheVariants.{Cells, Blocks}
+use Rattle.gas_perform.specs.declared.perform.View.{View}
+use Rattle.gas_perform.specs.declared.perform.View.TheVariants.{Cells, Blocks}
 
 -- a lattice's cells at a generation, or the table of its blocks
 abbrev pub view_text : View → Rules → LatticeModel → ℕ → List ℕ

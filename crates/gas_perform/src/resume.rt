@@ -3,7 +3,7 @@
 ghost use Rattle.std.specs.Prelude.{◌≡◌, ℕ, ◌+◌, List, None, Ok};
 ghost use Rattle.gas_members.specs.Plan.{plan_refusal};
 ghost use Rattle.gas_scene.specs.Scene.{SceneModel, scene_of_text};
-ghost use Rattle.gas_tool.specs.Outcome.{outcome, scene_after};
+ghost use Rattle.gas_perform.specs.Outcome.{outcome, scene_after};
 ghost use Rattle.gas_words.specs.declared.request.Request.TheVariants.{Run, Coarse};
 
 /// A run in two parts prints what one run prints, whatever the numbers of stages and the

@@ -18,9 +18,9 @@ use Rattle.gas_members.specs.declared.plan.PlanError.{PlanError}
 use Rattle.gas_text.specs.Text.{cells_text, check_text}
 use Rattle.gas_blocks.specs.Blocks.{blocks_of}
 use Rattle.gas_text.specs.Table.{table_text}
-use Rattle.gas_tool.specs.Replayed.{replay_text}
-use Rattle.gas_tool.specs.declared.faults.ToolError.{ToolError}
-use Rattle.gas_tool.specs.declared.faults.ToolError.TheVariants.{Memory, Scene, Plan, Write, MorePasses}
+use Rattle.gas_perform.specs.Replayed.{replay_text}
+use Rattle.gas_perform.specs.declared.faults.ToolError.{ToolError}
+use Rattle.gas_perform.specs.declared.faults.ToolError.TheVariants.{Memory, Scene, Plan, Write, MorePasses}
 use Rattle.gas_words.specs.declared.request.Request.{Request}
 use Rattle.gas_words.specs.declared.request.Request.TheVariants.{Check, Run, Coarse, Replay}
 

@@ -1,7 +1,7 @@
 -- The exit status of a request's fault: 1 where something was refused, 3 for memory, 4 for a writer that failed.
 use Rattle.std.specs.Prelude.{ℕ}
-use Rattle.gas_tool.specs.declared.faults.ToolError.{ToolError}
-use Rattle.gas_tool.specs.declared.faults.ToolError.TheVariants as tool
+use Rattle.gas_perform.specs.declared.faults.ToolError.{ToolError}
+use Rattle.gas_perform.specs.declared.faults.ToolError.TheVariants as tool
 use Rattle.gas_scene.specs.declared.error.SceneError.{SceneError}
 use Rattle.gas_scene.specs.declared.error.SceneError.TheVariants as scene
 

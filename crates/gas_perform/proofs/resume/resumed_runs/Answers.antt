@@ -8,9 +8,9 @@ use Rattle.gas_members.specs.declared.plan.PlanError.{PlanError}
 use Rattle.gas_scene.specs.declared.error.SceneError.{SceneError}
 use Rattle.gas_scene.specs.Gases.{rules_named}
 use Rattle.gas_scene.specs.Scene.{SceneModel}
-use Rattle.gas_tool.specs.Outcome.{lattice_text, unless_refused, scene_outcome}
+use Rattle.gas_perform.specs.Outcome.{lattice_text, unless_refused, scene_outcome}
 use Rattle.gas_words.specs.declared.request.Request.TheVariants.{Run, Coarse}
-use Rattle.gas_tool.proofs.resume.resumed_runs.Goals as goal
+use Rattle.gas_perform.proofs.resume.resumed_runs.Goals as goal
 
 pub returns-clause-cells : goal.returns-clause-cells
 returns-clause-cells c text later s m n stages capacity stages2 capacity2 here there accepted accepted2 =
