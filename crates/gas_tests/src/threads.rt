@@ -1,4 +1,5 @@
-// Runs by threads beside the stage on one thread.
+// Runs by threads beside the stage on one thread, with one place in each belt, two, and more than a low
+// lattice has rows, which then gather by four or by sixteen.
 use crate::tests::{assert_same, random_lattice};
 use gas_geom::fhp_rest::FhpRest;
 use gas_geom::fhp1::Fhp1;
@@ -53,34 +54,80 @@ fn compare<G: Gas + Send, R: Abort + Threads + Wait + Sync>(
     Ok(())
 }
 
-// So many rounds of random runs of all gases: through lines of all lengths up to 8, with one place in
-// each belt, two, and more than a low lattice has rows, which then gather by four or by sixteen. Each
-// comes to its end.
-fn soak<R: Abort + Threads + Wait + Sync>(
+// Random runs of a gas through lines of all lengths up to 8, a hundred rounds of low lattices and ten of
+// higher ones. Each comes to its end. Each gas and capacity is a test of its own, so that none takes long
+// where other programs keep the machine busy.
+fn soak<G: Gas + Send, R: Abort + Threads + Wait + Sync>(
     rt: &R,
     alloc: Global,
-    rounds: u32,
-    highest: u32,
+    capacity: u32,
 ) -> Result<(), Fail> {
-    let mut random = Pcg32::new(42, 54);
-    for _ in 0..rounds {
+    let mut random = Pcg32::new(42, u64::from(capacity));
+    for round in 0..110 {
+        let most_rows = if round < 100 { 3 } else { 20 };
         for stages in 1..=8 {
-            for capacity in [1, 2, 9, 33] {
-                compare::<Fhp1, _>(rt, alloc, stages, capacity, highest, &mut random)?;
-                compare::<Hpp, _>(rt, alloc, stages, capacity, highest, &mut random)?;
-                compare::<FhpRest, _>(rt, alloc, stages, capacity, highest, &mut random)?;
-            }
+            compare::<G, _>(rt, alloc, stages, capacity, most_rows, &mut random)?;
         }
     }
     Ok(())
 }
 
 #[test]
-fn runs_of_high_lattices(rt: HostRuntime) -> Result<(), Fail> {
-    soak(&rt, rt.alloc(), 10, 20)
+fn fhp1_through_one_place(rt: HostRuntime) -> Result<(), Fail> {
+    soak::<Fhp1, _>(&rt, rt.alloc(), 1)
 }
 
 #[test]
-fn runs_of_low_lattices(rt: HostRuntime) -> Result<(), Fail> {
-    soak(&rt, rt.alloc(), 100, 3)
+fn hpp_through_one_place(rt: HostRuntime) -> Result<(), Fail> {
+    soak::<Hpp, _>(&rt, rt.alloc(), 1)
+}
+
+#[test]
+fn fhp_rest_through_one_place(rt: HostRuntime) -> Result<(), Fail> {
+    soak::<FhpRest, _>(&rt, rt.alloc(), 1)
+}
+
+#[test]
+fn fhp1_through_two_places(rt: HostRuntime) -> Result<(), Fail> {
+    soak::<Fhp1, _>(&rt, rt.alloc(), 2)
+}
+
+#[test]
+fn hpp_through_two_places(rt: HostRuntime) -> Result<(), Fail> {
+    soak::<Hpp, _>(&rt, rt.alloc(), 2)
+}
+
+#[test]
+fn fhp_rest_through_two_places(rt: HostRuntime) -> Result<(), Fail> {
+    soak::<FhpRest, _>(&rt, rt.alloc(), 2)
+}
+
+#[test]
+fn fhp1_through_nine_places(rt: HostRuntime) -> Result<(), Fail> {
+    soak::<Fhp1, _>(&rt, rt.alloc(), 9)
+}
+
+#[test]
+fn hpp_through_nine_places(rt: HostRuntime) -> Result<(), Fail> {
+    soak::<Hpp, _>(&rt, rt.alloc(), 9)
+}
+
+#[test]
+fn fhp_rest_through_nine_places(rt: HostRuntime) -> Result<(), Fail> {
+    soak::<FhpRest, _>(&rt, rt.alloc(), 9)
+}
+
+#[test]
+fn fhp1_through_33_places(rt: HostRuntime) -> Result<(), Fail> {
+    soak::<Fhp1, _>(&rt, rt.alloc(), 33)
+}
+
+#[test]
+fn hpp_through_33_places(rt: HostRuntime) -> Result<(), Fail> {
+    soak::<Hpp, _>(&rt, rt.alloc(), 33)
+}
+
+#[test]
+fn fhp_rest_through_33_places(rt: HostRuntime) -> Result<(), Fail> {
+    soak::<FhpRest, _>(&rt, rt.alloc(), 33)
 }
