@@ -1,0 +1,5 @@
+use Rattle.std.proofs.Common.{◌≡◌}
+use Rattle.gas_belt.proofs.tests.play.Given as goal
+
+abbrev pub invariant-loop-step : goal.invariant-loop-step
+invariant-loop-step g l = (l.tx.belt ≡ l.initial.tx.belt) × (l.rx.belt ≡ l.initial.rx.belt)
