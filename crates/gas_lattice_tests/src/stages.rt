@@ -1,16 +1,23 @@
-ghost use Rattle.std.specs.Prelude.{◌≡◌, length, IfOk};
+ghost use Rattle.std.specs.Prelude.{◌≡◌, length, IfOk, IsOk, None};
 ghost use Rattle.gas_geom.specs.Channel.{free_channel};
 
 use gas_geom::fhp1::Fhp1;
 use gas_geom::size::Size;
 use gas_rows::channel::Channel;
+use gas_rows::chirality::Chirality;
 use gas_rows::row::Row;
+use gas_stage::stage::Stage;
 use std::alloc::Global;
+use std::process::Abort;
 use std::test::Fail;
 
 mod obstacles;
 mod seams;
 mod stages;
+
+// The only cell of a row that holds particles: its column and its state. Where the state is 0, the
+// row is empty.
+type OneCell = (u32, u8);
 
 fn channel_of(alloc: Global, width: u32, height: u32) -> Result<Channel, Fail>
     ensures { IfOk result (λ c. c ≡ free_channel width height) }
@@ -19,23 +26,82 @@ fn channel_of(alloc: Global, width: u32, height: u32) -> Result<Channel, Fail>
     Ok(Channel::free(alloc, size)?)
 }
 
-// A row of four cells.
-fn row_of(alloc: Global, states: [u8; 4]) -> Result<Row<Fhp1>, Fail>
-    ensures { IfOk result (λ r. length r ≡ 4) }
+// A row with particles in one cell, if it has such a cell.
+fn row_with(alloc: Global, size: Size, cell: OneCell) -> Result<Row<Fhp1>, Fail>
+    ensures { IfOk result (λ r. length r ≡ size.width) }
 {
-    let mut row = Row::blank(alloc, 4)?;
-    for x in 0..4 {
-        row.set(x, states[x as usize] % 64);
+    let (x, state) = cell;
+    let mut row = Row::blank(alloc, size.width())?;
+    if x >= size.width() || state >= 64 {
+        return Err("a cell of the row")?;
     }
+    row.set(x, state);
     Ok(row)
 }
 
-fn states_of(row: &Row<Fhp1>) -> [u8; 4] {
-    let mut states = [0; 4];
-    for x in 0..4 {
-        if x < row.width() {
-            states[x as usize] = row.get(x);
-        }
+// Whether the particles of a row are those of one cell.
+fn has_only(row: &Row<Fhp1>, (x, state): OneCell) -> bool {
+    x < row.width() && row.get(x) == state && row.count() == state.count_ones()
+}
+
+// Whether a row was given as wanted, or none was.
+fn is_given(row: Option<Row<Fhp1>>, wanted: Option<OneCell>) -> bool {
+    match (row, wanted) {
+        (Some(row), Some(cell)) => has_only(&row, cell),
+        (None, None) => true,
+        _ => false,
     }
-    states
+}
+
+// A pass of a stage: the rows that it is fed, each with the row that it has to give for it, and the
+// row that it has to give at the end.
+fn pass(
+    rt: &impl Abort,
+    alloc: Global,
+    stage: &mut Stage<'_, Fhp1>,
+    channel: &Channel,
+    generation: Option<u64>,
+    rows: &[(OneCell, Option<OneCell>)],
+    last: Option<OneCell>,
+) -> Result<(), Fail>
+    requires closed { stage.old.pass ≡ None }
+    requires channel { stage.old.channel ≡ channel.now }
+    ensures closed { IsOk result → stage.new.pass ≡ None }
+    ensures channel { IsOk result → stage.new.channel ≡ channel.now }
+{
+    let size = channel.size();
+    stage.begin(generation);
+    assert!(rt; stage.is_open());
+    for &(fed, given) in rows {
+        let row = row_with(alloc, size, fed)?;
+        let y = stage.fed();
+        assert!(rt; y < size.height());
+        assert!(rt; is_given(stage.feed(row), given), "row {y}");
+        assert!(rt; stage.fed() == y + 1);
+    }
+    assert!(rt; stage.fed() == size.height());
+    assert!(rt; is_given(stage.flush(), last), "the bottom row");
+    assert!(rt; !stage.is_open() && stage.fed() == 0);
+    Ok(())
+}
+
+// The same of a new stage, from a generation on.
+fn first_pass(
+    rt: &impl Abort,
+    alloc: Global,
+    channel: &Channel,
+    generation: u64,
+    rows: &[(OneCell, Option<OneCell>)],
+    last: OneCell,
+) -> Result<(), Fail> {
+    let mut stage = Stage::new(alloc, channel, Chirality::Left)?;
+    pass(
+        rt,
+        alloc,
+        &mut stage,
+        channel,
+        Some(generation),
+        rows,
+        Some(last),
+    )
 }

@@ -1,31 +1,34 @@
-use super::{channel_of, row_of, states_of};
-use gas_rows::chirality::Chirality;
-use gas_stage::stage::Stage;
+use super::{channel_of, first_pass, has_only};
+use gas_geom::fhp1::Fhp1;
+use gas_rows::row::Row;
 use gas_stage::stream::stream_row;
-use std::process::Abort;
 use std::test::Fail;
 
 // A particle that an obstacle sends back. What stands at the obstacle is not read.
 #[test]
-fn obstacle(rt: HostRuntime) -> Result<(), Fail> {
-    let alloc = rt.alloc();
-    let mut channel = channel_of(alloc, 4, 1)?;
+fn an_obstacle_sends_back(rt: HostRuntime) -> Result<(), Fail> {
+    let mut channel = channel_of(rt.alloc(), 4, 1)?;
     channel.make_solid(1, 0);
-    let mut out = row_of(alloc, [0x3f, 0x3f, 0x3f, 0x3f])?;
-    stream_row(
-        &channel,
-        0,
-        None,
-        &row_of(alloc, [0x01, 0x3f, 0, 0])?,
-        None,
-        &mut out,
-    );
-    assert!(rt; states_of(&out) == [0x08, 0, 0, 0]);
-
-    let mut stage = Stage::new(alloc, &channel, Chirality::Left)?;
-    stage.begin(Some(1));
-    assert!(rt; stage.feed(out).is_none());
-    let given = stage.flush().ok_or("the bottom row")?;
-    assert!(rt; states_of(&given) == [0, 0, 0, 0x08]);
+    let mut row = Row::<Fhp1>::blank(rt.alloc(), 4)?;
+    row.set(0, 0x01);
+    row.set(1, 0x3f);
+    let mut out = row.copy(rt.alloc())?;
+    stream_row(&channel, 0, None, &row, None, &mut out);
+    assert!(rt; has_only(&out, (0, 0x08)));
     Ok(())
+}
+
+// On it flies round the columns to the other side of the obstacle.
+#[test]
+fn round_to_an_obstacle(rt: HostRuntime) -> Result<(), Fail> {
+    let mut channel = channel_of(rt.alloc(), 4, 1)?;
+    channel.make_solid(1, 0);
+    first_pass(
+        &rt,
+        rt.alloc(),
+        &channel,
+        1,
+        &[((0, 0x08), None)],
+        (3, 0x08),
+    )
 }
