@@ -1,7 +1,9 @@
 //! The blocks of a lattice.
+ghost use Rattle.std.specs.Prelude.{◌≤◌};
 
 use gas_blocks::blocks::{Block, coarse};
 use gas_geom::fhp1::Fhp1;
+use gas_geom::gas::Gas;
 use gas_geom::hpp::Hpp;
 use gas_geom::size::Size;
 use gas_rows::channel::Channel;
@@ -19,6 +21,19 @@ fn block(place: (u32, u32), fluid: u64, particles: u64, momentum: (i64, i64)) ->
         px: momentum.0,
         py: momentum.1,
     }
+}
+
+/// The blocks of this size. It promises nothing, so that no test carries the promises of `coarse`.
+fn blocks<G: Gas>(
+    alloc: Global,
+    lattice: &Lattice<G>,
+    width: u32,
+    height: u32,
+) -> Result<Vec<Block>, AllocError>
+    requires some_columns { 1 ≤ width }
+    requires some_rows { 1 ≤ height }
+{
+    coarse(alloc, lattice, width, height)
 }
 
 /// The lattice with the states 01 and 02 in its first row, and in its second a solid cell and 3f.
@@ -41,18 +56,18 @@ fn of_each_size(rt: HostRuntime) -> Result<(), Fail> {
     let alloc = rt.alloc();
     let lattice = obstacle(alloc)?;
     let squares = [block((0, 0), 3, 8, (3, 1)), block((1, 0), 4, 0, (0, 0))];
-    assert!(rt; coarse(alloc, &lattice, 2, 2)?.as_slice() == squares.as_slice());
+    assert!(rt; blocks(alloc, &lattice, 2, 2)?.as_slice() == squares.as_slice());
     let uneven = [
         block((0, 0), 3, 2, (3, 1)),
         block((1, 0), 1, 0, (0, 0)),
         block((0, 1), 2, 6, (0, 0)),
         block((1, 1), 1, 0, (0, 0)),
     ];
-    assert!(rt; coarse(alloc, &lattice, 3, 1)?.as_slice() == uneven.as_slice());
+    assert!(rt; blocks(alloc, &lattice, 3, 1)?.as_slice() == uneven.as_slice());
     let whole = [block((0, 0), 7, 8, (3, 1))];
     for side in [4, 8, u32::MAX] {
         assert!(rt;
-            coarse(alloc, &lattice, side, side)?.as_slice() == whole.as_slice(),
+            blocks(alloc, &lattice, side, side)?.as_slice() == whole.as_slice(),
             "{side}"
         );
     }
@@ -62,7 +77,7 @@ fn of_each_size(rt: HostRuntime) -> Result<(), Fail> {
         block((2, 0), 2, 0, (0, 0)),
         block((3, 0), 2, 0, (0, 0)),
     ];
-    assert!(rt; coarse(alloc, &lattice, 1, 2)?.as_slice() == columns.as_slice());
+    assert!(rt; blocks(alloc, &lattice, 1, 2)?.as_slice() == columns.as_slice());
     Ok(())
 }
 
@@ -77,6 +92,6 @@ fn of_the_square_gas(rt: HostRuntime) -> Result<(), Fail> {
         lattice.set_cell(0, 0, 0x0c);
     }
     let want = [block((0, 0), 1, 2, (-1, -1))];
-    assert!(rt; coarse(alloc, &lattice, 1, 1)?.as_slice() == want.as_slice());
+    assert!(rt; blocks(alloc, &lattice, 1, 1)?.as_slice() == want.as_slice());
     Ok(())
 }

@@ -6,44 +6,114 @@ use gas_geom::hpp::Hpp;
 use gas_geom::size::Size;
 use gas_rows::channel::Channel;
 use gas_rows::lattice::Lattice;
-use std::alloc::Global;
+use std::alloc::{AllocError, Global};
 use std::process::Abort;
 use std::test::Fail;
 
-#[test]
-fn lattices(rt: HostRuntime) -> Result<(), Fail> {
+// How a solid cell stands in a list of cells; a gas has no such state.
+const SOLID: u8 = 0xff;
+
+// An empty lattice of four columns and three rows.
+fn blank(alloc: Global) -> Result<Lattice<Hpp>, Fail> {
     let size = Size::new(4, 3).ok_or("a size")?;
-    let channel = Channel::free(rt.alloc(), size)?;
-    let mut lattice = Lattice::<Hpp>::blank(rt.alloc(), channel.copy(rt.alloc())?)?;
-    let copy = lattice.copy(rt.alloc())?;
-    assert_eq!(rt; (lattice.count(), copy.count()), (0, 0));
-    let shape = lattice.channel().size();
-    assert_eq!(rt; (shape.width(), shape.height()), (4, 3));
-    for y in 0..3 {
-        for x in 0..4 {
-            assert!(rt;
-                !lattice.channel().is_solid(x, y) && !channel.is_solid(x, y),
-                "({x}, {y})"
-            );
+    Ok(Lattice::blank(alloc, Channel::free(alloc, size)?)?)
+}
+
+// Sets the cell (1, 2) or makes it solid, if the lattice has it and it is not solid.
+fn set(lattice: &mut Lattice<Hpp>, cell: u8) {
+    let size = lattice.channel().size();
+    if size.width() < 2 || size.height() < 3 || lattice.channel().is_solid(1, 2) {
+        return;
+    }
+    if cell == SOLID {
+        lattice.make_solid(1, 2);
+    } else if cell < 16 {
+        lattice.set_cell(1, 2, cell);
+    }
+}
+
+// The cells of a lattice, row by row. A solid cell that holds particles stands as they do. Its rows
+// and those of its channel say the same.
+fn seen(rt: &impl Abort, alloc: Global, lattice: &Lattice<Hpp>) -> Result<Vec<u8>, AllocError> {
+    let size = lattice.channel().size();
+    let mut cells = Vec::new(alloc);
+    for y in 0..size.height() {
+        for x in 0..size.width() {
+            let state = lattice.cell(x, y);
+            let solid = lattice.channel().is_solid(x, y);
+            assert!(rt; lattice.row(y).get(x) == state, "({x}, {y})");
+            assert!(rt; lattice.channel().mask(y).get(x) == solid, "({x}, {y})");
+            cells.push(if solid && state == 0 { SOLID } else { state })?;
         }
     }
-    lattice.set_cell(1, 2, 0x0d);
-    assert_eq!(rt; (lattice.cell(1, 2), lattice.row(2).get(1)), (0x0d, 0x0d));
-    assert_eq!(rt; lattice.count(), 3);
-    lattice.make_solid(1, 2);
-    assert!(rt; lattice.channel().is_solid(1, 2) && lattice.channel().mask(2).get(1));
-    assert_eq!(rt; (lattice.cell(1, 2), lattice.count()), (0, 0));
-    assert_eq!(rt; lattice.channel().count_solid(), 1);
-    lattice.set_row(0, &[true, false, false, true], &[0, 0x0d, 0x02, 0]);
-    assert!(rt; lattice.channel().is_solid(3, 0) && !lattice.channel().is_solid(1, 0));
-    assert_eq!(rt;
-        (lattice.cell(0, 0), lattice.cell(1, 0), lattice.cell(2, 0)),
-        (0, 0x0d, 0x02)
-    );
-    assert_eq!(rt; (lattice.count(), lattice.channel().count_solid()), (4, 3));
+    Ok(cells)
+}
+
+// The lattice has these cells, so many particles and so many solid cells.
+fn holds(
+    rt: &impl Abort,
+    alloc: Global,
+    lattice: &Lattice<Hpp>,
+    cells: [u8; 12],
+    particles: u64,
+    solid: u64,
+) -> Result<(), AllocError> {
+    assert!(rt; seen(rt, alloc, lattice)?.as_slice() == cells.as_slice());
+    assert_eq!(rt; lattice.count(), particles);
+    assert_eq!(rt; lattice.channel().count_solid(), solid);
+    Ok(())
+}
+
+#[test]
+fn a_cell_is_set_and_made_solid(rt: HostRuntime) -> Result<(), Fail> {
+    let mut lattice = blank(rt.alloc())?;
+    set(&mut lattice, 0x0d);
+    let state = [0, 0, 0, 0, 0, 0, 0, 0, 0, 0x0d, 0, 0];
+    holds(&rt, rt.alloc(), &lattice, state, 3, 0)?;
+    set(&mut lattice, SOLID);
+    let solid = [0, 0, 0, 0, 0, 0, 0, 0, 0, SOLID, 0, 0];
+    holds(&rt, rt.alloc(), &lattice, solid, 0, 1)?;
+    Ok(())
+}
+
+#[test]
+fn a_copy_is_a_lattice_of_its_own(rt: HostRuntime) -> Result<(), Fail> {
+    let mut lattice = blank(rt.alloc())?;
+    set(&mut lattice, 0x0d);
+    let copy = lattice.copy(rt.alloc())?;
+    set(&mut lattice, SOLID);
+    let state = [0, 0, 0, 0, 0, 0, 0, 0, 0, 0x0d, 0, 0];
+    holds(&rt, rt.alloc(), &copy, state, 3, 0)?;
+    Ok(())
+}
+
+#[test]
+fn a_copy_is_a_channel_of_its_own(rt: HostRuntime) -> Result<(), Fail> {
+    let mut lattice = blank(rt.alloc())?;
+    let copy = lattice.channel().copy(rt.alloc())?;
+    set(&mut lattice, SOLID);
+    assert_eq!(rt; copy.count_solid(), 0);
+    Ok(())
+}
+
+// Draws the first row, if it has four columns.
+fn draw(lattice: &mut Lattice<Hpp>) {
+    let size = lattice.channel().size();
+    if size.width() == 4 && size.height() > 0 {
+        lattice.set_row(0, &[true, false, false, true], &[0, 0x0d, 0x02, 0]);
+    }
+}
+
+#[test]
+fn a_row_is_drawn(rt: HostRuntime) -> Result<(), Fail> {
+    let mut lattice = blank(rt.alloc())?;
+    set(&mut lattice, 0x08);
+    draw(&mut lattice);
+    let drawn = [SOLID, 0x0d, 0x02, SOLID, 0, 0, 0, 0, 0, 0x08, 0, 0];
+    holds(&rt, rt.alloc(), &lattice, drawn, 5, 2)?;
     let (channel, rows) = lattice.into_rows();
     let back = Lattice::from_rows(channel, rows);
-    assert!(rt; back.channel().is_solid(1, 2));
+    holds(&rt, rt.alloc(), &back, drawn, 5, 2)?;
     Ok(())
 }
 
@@ -58,14 +128,14 @@ fn fill_states(states: &mut [u8])
 }
 
 // The cells that are solid, in, at and about the end of a word.
-const SOLID: [u32; 5] = [0, 31, 62, 63, 64];
+const SOLID_COLUMNS: [u32; 5] = [0, 31, 62, 63, 64];
 
 // The fluid cells of a row get their states, its solid cells stay empty, and so does the row beside.
 fn fluid_cells_get_states(rt: &impl Abort, alloc: Global, width: u32) -> Result<(), Fail> {
     assert!(rt; 1 <= width && width <= 65536);
     let size = Size::new(width, 2).ok_or("a size")?;
     let mut lattice = Lattice::<Fhp1>::blank(alloc, Channel::free(alloc, size)?)?;
-    for x in SOLID {
+    for x in SOLID_COLUMNS {
         let size = lattice.channel().size();
         if x < size.width() && 1 < size.height() {
             lattice.make_solid(x, 1);
@@ -79,7 +149,11 @@ fn fluid_cells_get_states(rt: &impl Abort, alloc: Global, width: u32) -> Result<
     for x in 0..width {
         let size = lattice.channel().size();
         assert!(rt; x < size.width() && size.height() == 2);
-        let wanted = if SOLID.contains(&x) { 0 } else { fhp1_state(x) };
+        let wanted = if SOLID_COLUMNS.contains(&x) {
+            0
+        } else {
+            fhp1_state(x)
+        };
         assert!(rt; lattice.cell(x, 1) == wanted, "cell {x} of {width}");
         assert!(rt; lattice.cell(x, 0) == 0, "beside cell {x} of {width}");
     }
