@@ -16,18 +16,27 @@ use std::test::Fail;
 
 // The helpers promise nothing, so that the test does not carry the promises of all its turns.
 
-// The ends of a worker.
+// Two belts of one place each, of rows of four cells, with a worker between them: it takes from the
+// first and puts on the last.
 #[derive(Drop)]
-struct Between {
+struct Belts {
+    feed: Tx<Fhp1>,
     take: Rx<Fhp1>,
     put: Tx<Fhp1>,
+    came: Rx<Fhp1>,
 }
 
-// Two belts of one place each: the end before, those of a worker between them, and that behind.
-fn belts(alloc: Global) -> Result<(Tx<Fhp1>, Between, Rx<Fhp1>), AllocError> {
-    let (feed, take) = belt(alloc, 1, 4)?;
-    let (put, came) = belt(alloc, 1, 4)?;
-    Ok((feed, Between { take, put }, came))
+impl Belts {
+    fn new(alloc: Global) -> Result<Belts, AllocError> {
+        let (feed, take) = belt(alloc, 1, 4)?;
+        let (put, came) = belt(alloc, 1, 4)?;
+        Ok(Belts {
+            feed,
+            take,
+            put,
+            came,
+        })
+    }
 }
 
 // A worker that has begun to pass rows on.
@@ -37,8 +46,8 @@ fn worker(alloc: Global, channel: &Channel) -> Result<Worker<'_, Fhp1>, AllocErr
     Ok(worker)
 }
 
-fn turn(rt: &impl Abort, worker: &mut Worker<'_, Fhp1>, ends: &mut Between, answer: Turned) {
-    assert!(rt; worker.turn(&mut ends.take, &mut ends.put) == answer);
+fn turn(rt: &impl Abort, worker: &mut Worker<'_, Fhp1>, belts: &mut Belts, answer: Turned) {
+    assert!(rt; worker.turn(&mut belts.take, &mut belts.put) == answer);
 }
 
 // Puts a row with this state, of a gas of six directions, in its first cell.
@@ -59,19 +68,29 @@ fn takes(rt: &impl Abort, came: &mut Rx<Fhp1>, state: u8) -> Result<(), Fail> {
     Ok(())
 }
 
+// A row goes from the belt before to that behind.
+fn passes_on(
+    rt: &impl Abort,
+    alloc: Global,
+    worker: &mut Worker<'_, Fhp1>,
+    belts: &mut Belts,
+    state: u8,
+) -> Result<(), Fail> {
+    put(rt, alloc, &mut belts.feed, state)?;
+    turn(rt, worker, belts, Took);
+    turn(rt, worker, belts, Put);
+    takes(rt, &mut belts.came, state)
+}
+
 #[test]
 fn a_worker_between_two_belts(rt: HostRuntime) -> Result<(), Fail> {
     let size = Size::new(4, 2).ok_or("a size")?;
     let channel = Channel::free(rt.alloc(), size)?;
     let mut worker = worker(rt.alloc(), &channel)?;
-    let (mut feed, mut ends, mut came) = belts(rt.alloc())?;
-    turn(&rt, &mut worker, &mut ends, Idle);
-    for state in [0x01, 0x02] {
-        put(&rt, rt.alloc(), &mut feed, state)?;
-        turn(&rt, &mut worker, &mut ends, Took);
-        turn(&rt, &mut worker, &mut ends, Put);
-        takes(&rt, &mut came, state)?;
-    }
-    turn(&rt, &mut worker, &mut ends, Done);
+    let mut belts = Belts::new(rt.alloc())?;
+    turn(&rt, &mut worker, &mut belts, Idle);
+    passes_on(&rt, rt.alloc(), &mut worker, &mut belts, 0x01)?;
+    passes_on(&rt, rt.alloc(), &mut worker, &mut belts, 0x02)?;
+    turn(&rt, &mut worker, &mut belts, Done);
     Ok(())
 }

@@ -195,6 +195,20 @@ fn gives(rt: &impl Abort, mut feeder: Feeder<Fhp1>, belts: &mut Belts, column: u
     }
 }
 
+// The turns of one pass of a line of one worker over one row.
+fn pass_of_one_row(
+    rt: &impl Abort,
+    feeder: &mut Feeder<Fhp1>,
+    worker: &mut Worker<'_, Fhp1>,
+    belts: &mut Belts,
+) {
+    turn_feeder(rt, feeder, belts, Put);
+    turn_worker(rt, worker, belts, Took);
+    turn_worker(rt, worker, belts, Put);
+    turn_feeder(rt, feeder, belts, Took);
+    turn_worker(rt, worker, belts, Done);
+}
+
 // One particle goes east through a line of one worker, of which each turn is made by hand.
 #[test]
 fn a_pass_by_hand(rt: HostRuntime) -> Result<(), Fail> {
@@ -202,11 +216,7 @@ fn a_pass_by_hand(rt: HostRuntime) -> Result<(), Fail> {
     let mut feeder = feeder(rt.alloc(), channel.copy(rt.alloc())?)?;
     let mut worker = worker(rt.alloc(), &channel, Some(0))?;
     let mut belts = Belts::new(rt.alloc(), 1)?;
-    turn_feeder(&rt, &mut feeder, &mut belts, Put);
-    turn_worker(&rt, &mut worker, &mut belts, Took);
-    turn_worker(&rt, &mut worker, &mut belts, Put);
-    turn_feeder(&rt, &mut feeder, &mut belts, Took);
-    turn_worker(&rt, &mut worker, &mut belts, Done);
+    pass_of_one_row(&rt, &mut feeder, &mut worker, &mut belts);
     gives(&rt, feeder, &mut belts, 1);
     Ok(())
 }
@@ -234,19 +244,29 @@ fn pass_of_two_rows(
     }
 }
 
-// Two passes as a ring: a row of the second is put as soon as it has come, while the first is still
-// under way.
+// The turns of two passes: a row of the second is put as soon as it has come, while the first is
+// still under way.
+fn two_passes_of_two_rows(
+    rt: &impl Abort,
+    feeder: &mut Feeder<Fhp1>,
+    worker: &mut Worker<'_, Fhp1>,
+    belts: &mut Belts,
+) {
+    turns_feeder(rt, feeder, belts, &[Put, Put, Idle]);
+    pass_of_two_rows(rt, worker, belts, 0);
+    turns_feeder(rt, feeder, belts, &[Took, Put, Took, Put, Idle]);
+    pass_of_two_rows(rt, worker, belts, 1);
+    turns_feeder(rt, feeder, belts, &[Took, Took]);
+}
+
+// Two passes as a ring.
 #[test]
 fn a_ring_by_hand(rt: HostRuntime) -> Result<(), Fail> {
     let channel = channel(rt.alloc(), 2)?;
     let mut feeder = ring_feeder(rt.alloc(), channel.copy(rt.alloc())?, 2)?;
     let mut worker = Worker::new(rt.alloc(), &channel, Chirality::Left)?;
     let mut belts = Belts::new(rt.alloc(), 4)?;
-    turns_feeder(&rt, &mut feeder, &mut belts, &[Put, Put, Idle]);
-    pass_of_two_rows(&rt, &mut worker, &mut belts, 0);
-    turns_feeder(&rt, &mut feeder, &mut belts, &[Took, Put, Took, Put, Idle]);
-    pass_of_two_rows(&rt, &mut worker, &mut belts, 1);
-    turns_feeder(&rt, &mut feeder, &mut belts, &[Took, Took]);
+    two_passes_of_two_rows(&rt, &mut feeder, &mut worker, &mut belts);
     gives(&rt, feeder, &mut belts, 2);
     Ok(())
 }
