@@ -21,7 +21,7 @@ use std::alloc::{AllocError, Global};
 const MOST_BLOCK_SIDE: u32 = 4096;
 
 /// The program's version, and the kit by which it is proved.
-const VERSION: &str = "0.1.0 (rattle-kit-13b logic dac8208d650f15bf)";
+const VERSION: &str = "0.1.0 (rattle-kit-13f logic dac8208d650f15bf)";
 
 const ABOUT: &str =
     "A lattice gas in a channel: particles move from cell to cell, collide, and are sent back by
