@@ -1,15 +1,16 @@
 //! Lattices written as scenes, and read again.
 
-use super::helpers::cells_of;
+use super::helpers::{chirality, generation, has_cells};
 use gas_geom::size::MOST_SIDE;
 use gas_rows::chirality::Chirality;
 use gas_scene::any_lattice::AnyLattice;
 use gas_scene::checkpoint::checkpoint;
 use gas_scene::error::SceneError;
-use gas_scene::scene::{Scene, read};
+use gas_scene::scene::read;
 use std::alloc::Global;
+use std::process::Abort;
 use std::test::Fail;
-use toml::Value;
+use toml::{Table, Value};
 
 // The three gases, each with its highest state, a solid cell and an empty one.
 const MAPS: [(&str, &str, &str); 3] = [
@@ -18,39 +19,68 @@ const MAPS: [(&str, &str, &str); 3] = [
     ("fhp-rest", "\"##..7f\", \"4a4000\"", "##..7f\n4a40..\n"),
 ];
 
-// The scene of a map of one of the gases.
-fn map(alloc: Global, gas: &str, rows: &str) -> Result<Scene, Fail> {
-    let text = format!(in alloc; "gas = \"{gas}\"\ncells = [{rows}]")?;
-    Ok(read(alloc, text.as_str().as_bytes())?)
+// The scene that the lattice of a scene is written as, at a generation and with another chirality.
+fn written(
+    alloc: Global,
+    scene: &str,
+    chirality: Chirality,
+    generation: u64,
+) -> Result<Result<String, SceneError>, Fail> {
+    let scene = read(alloc, scene.as_bytes())?;
+    Ok(checkpoint(alloc, scene.lattice(), chirality, generation))
 }
 
-// The number of the gas of a lattice among those of the maps.
-fn gas_of(lattice: &AnyLattice) -> usize {
-    match lattice {
+// The scene that a map of one of the gases is written as.
+fn written_map(
+    alloc: Global,
+    gas: &str,
+    rows: &str,
+    chirality: Chirality,
+    generation: u64,
+) -> Result<Result<String, SceneError>, Fail> {
+    let scene = format!(in alloc; "gas = \"{gas}\"\ncells = [{rows}]")?;
+    written(alloc, scene.as_str(), chirality, generation)
+}
+
+// The number of the gas of a scene among those of the maps.
+fn gas(alloc: Global, text: &str) -> Result<usize, Fail> {
+    let scene = read(alloc, text.as_bytes())?;
+    Ok(match scene.lattice() {
         AnyLattice::Fhp1(_) => 0,
         AnyLattice::Hpp(_) => 1,
         AnyLattice::FhpRest(_) => 2,
-    }
+    })
+}
+
+// The text is a scene of the gas with this number, of these cells, this chirality and this generation.
+fn tells(
+    rt: &impl Abort,
+    alloc: Global,
+    text: &str,
+    number: usize,
+    cells: &str,
+    turn: Chirality,
+    begin: u64,
+) -> Result<(), Fail> {
+    has_cells(rt, alloc, text, cells)?;
+    assert!(rt; gas(alloc, text)? == number, "{text}");
+    assert!(rt; chirality(alloc, text)? == turn, "{text}");
+    assert!(rt; generation(alloc, text)? == begin, "{text}");
+    Ok(())
 }
 
 #[test]
 fn read_again(rt: HostRuntime) -> Result<(), Fail> {
     for (number, (gas, rows, cells)) in MAPS.into_iter().enumerate() {
-        for (chirality, generation) in [
+        for (turn, begin) in [
             (Chirality::Left, 0),
             (Chirality::Right, 10),
             (Chirality::Seeded(0), 1),
             (Chirality::Seeded(5), 1000000000000),
             (Chirality::Seeded(9223372036854775807), 7),
         ] {
-            let scene = map(rt.alloc(), gas, rows)?;
-            let text = checkpoint(rt.alloc(), scene.lattice(), chirality, generation)?;
-            let again = read(rt.alloc(), text.as_str().as_bytes())?;
-            let shown = cells_of(rt.alloc(), &again)?;
-            assert_eq!(rt; shown.as_str(), cells);
-            assert!(rt; gas_of(again.lattice()) == number, "{gas}");
-            assert!(rt; again.chirality() == chirality, "{gas}");
-            assert!(rt; again.generation() == generation, "{gas}");
+            let text = written_map(rt.alloc(), gas, rows, turn, begin)??;
+            tells(&rt, rt.alloc(), text.as_str(), number, cells, turn, begin)?;
         }
     }
     Ok(())
@@ -80,11 +110,37 @@ fn limits(rt: HostRuntime) -> Result<(), Fail> {
         (Chirality::Seeded(3), 1000000000001, Some(SceneError::Range)),
     ] {
         for (gas, rows, _) in MAPS {
-            let scene = map(rt.alloc(), gas, rows)?;
-            let answer = checkpoint(rt.alloc(), scene.lattice(), chirality, generation);
+            let answer = written_map(rt.alloc(), gas, rows, chirality, generation)?;
             assert!(rt; answer.err() == wanted, "{gas} {generation}");
         }
     }
+    Ok(())
+}
+
+// Under these keys stand these integers, or nothing.
+fn has_integers(rt: &impl Abort, table: &Table, wanted: &[(&str, Option<i64>)]) {
+    for (key, value) in wanted {
+        let held = table.get(*key).and_then(Value::as_integer);
+        assert!(rt; held == *value, "{key}");
+    }
+}
+
+// Under these keys stand these texts.
+fn has_texts(rt: &impl Abort, table: &Table, wanted: &[(&str, &str)]) {
+    for (key, value) in wanted {
+        let held = table.get(*key).and_then(Value::as_str);
+        assert!(rt; held == Some(*value), "{key}");
+    }
+}
+
+// The cells are these two rows.
+fn has_rows(rt: &impl Abort, table: &Table, wanted: [&str; 2]) -> Result<(), Fail> {
+    let Some(Value::Array(rows)) = table.get("cells") else {
+        return Err(Fail::new("no rows"));
+    };
+    assert!(rt; rows.len() == 2);
+    assert!(rt; rows[0].as_str() == Some(wanted[0]));
+    assert!(rt; rows[1].as_str() == Some(wanted[1]));
     Ok(())
 }
 
@@ -97,29 +153,21 @@ fn keys(rt: HostRuntime) -> Result<(), Fail> {
         (Chirality::Seeded(0), "seeded", Some(0)),
         (Chirality::Seeded(12), "seeded", Some(12)),
     ] {
-        let scene = map(rt.alloc(), "hpp", "\"00##\", \"0f..\"")?;
-        let text = checkpoint(rt.alloc(), scene.lattice(), chirality, 34)?;
+        let text = written_map(rt.alloc(), "hpp", "\"00##\", \"0f..\"", chirality, 34)??;
         let table = toml::table_from_str(rt.alloc(), text.as_str())?;
         let keys = if seed.is_some() { 6 } else { 5 };
         assert!(rt; table.len() == keys, "{name}");
-        for (key, value) in [
-            ("version", Some(2)),
-            ("generation", Some(34)),
-            ("seed", seed),
-        ] {
-            let held = table.get(key).and_then(Value::as_integer);
-            assert!(rt; held == value, "{key} {name}");
-        }
-        for (key, value) in [("gas", "hpp"), ("chirality", name)] {
-            let held = table.get(key).and_then(Value::as_str);
-            assert!(rt; held == Some(value), "{key} {name}");
-        }
-        let Some(Value::Array(rows)) = table.get("cells") else {
-            return Err(Fail::new("no rows"));
-        };
-        assert!(rt; rows.len() == 2);
-        assert!(rt; rows[0].as_str() == Some("..##"));
-        assert!(rt; rows[1].as_str() == Some("0f.."));
+        has_integers(
+            &rt,
+            &table,
+            &[
+                ("version", Some(2)),
+                ("generation", Some(34)),
+                ("seed", seed),
+            ],
+        );
+        has_texts(&rt, &table, &[("gas", "hpp"), ("chirality", name)]);
+        has_rows(&rt, &table, ["..##", "0f.."])?;
     }
     Ok(())
 }
@@ -127,16 +175,36 @@ fn keys(rt: HostRuntime) -> Result<(), Fail> {
 // A line for each row.
 #[test]
 fn layout(rt: HostRuntime) -> Result<(), Fail> {
-    let scene = map(
+    let text = written_map(
         rt.alloc(),
         "fhp1",
         "\"........\", \"......01\", \"........\"",
-    )?;
-    let text = checkpoint(rt.alloc(), scene.lattice(), Chirality::Left, 10)?;
-    let rows = "cells = [\n    \"........\",\n    \"......01\",\n    \"........\",\n]\n";
-    let rest = "chirality = \"left\"\ngas = \"fhp1\"\ngeneration = 10\nversion = 2\n";
-    let want = format!(in rt.alloc(); "{rows}{rest}")?;
-    assert_eq!(rt; text.as_str(), want.as_str());
+        Chirality::Left,
+        10,
+    )??;
+    let wanted =
+        "cells = [\n    \"........\",\n    \"......01\",\n    \"........\",\n]\nchirality = \"left\"\ngas = \"fhp1\"\ngeneration = 10\nversion = 2\n";
+    assert_eq!(rt; text.as_str(), wanted);
+    Ok(())
+}
+
+// The lattice of a scene of FHP-I has these sides, and one particle, which is in its last cell.
+fn has_last_particle(
+    rt: &impl Abort,
+    alloc: Global,
+    text: &str,
+    width: u32,
+    height: u32,
+) -> Result<(), Fail> {
+    let scene = read(alloc, text.as_bytes())?;
+    let AnyLattice::Fhp1(lattice) = scene.lattice() else {
+        return Err(Fail::new("another gas"));
+    };
+    let size = lattice.channel().size();
+    assert!(rt; size.width() == width);
+    assert!(rt; size.height() == height);
+    assert!(rt; lattice.count() == 1);
+    assert!(rt; lattice.cell(width - 1, height - 1) == 1);
     Ok(())
 }
 
@@ -145,19 +213,11 @@ fn layout(rt: HostRuntime) -> Result<(), Fail> {
 fn wide_and_high(rt: HostRuntime) -> Result<(), Fail> {
     for (width, height) in [(MOST_SIDE, 1), (1, MOST_SIDE)] {
         let (x, y) = (width - 1, height - 1);
-        let text = format!(in rt.alloc();
+        let scene = format!(in rt.alloc();
             "version = 2\ngas = \"fhp1\"\nwidth = {width}\nheight = {height}\nparticles = [[{x}, {y}, 1]]"
         )?;
-        let scene = read(rt.alloc(), text.as_str().as_bytes())?;
-        let text = checkpoint(rt.alloc(), scene.lattice(), Chirality::Left, 3)?;
-        let again = read(rt.alloc(), text.as_str().as_bytes())?;
-        let AnyLattice::Fhp1(lattice) = again.lattice() else {
-            return Err(Fail::new("another gas"));
-        };
-        assert!(rt; lattice.channel().size().width() == width);
-        assert!(rt; lattice.channel().size().height() == height);
-        assert!(rt; lattice.count() == 1);
-        assert!(rt; lattice.cell(x, y) == 1);
+        let text = written(rt.alloc(), scene.as_str(), Chirality::Left, 3)??;
+        has_last_particle(&rt, rt.alloc(), text.as_str(), width, height)?;
     }
     Ok(())
 }

@@ -1,7 +1,8 @@
 //! Which texts are no scenes, and why.
 
-use super::helpers::refusal;
+use super::helpers::{are_refused, refusal};
 use gas_scene::error::SceneError;
+use std::alloc::{AllocError, Global};
 use std::test::Fail;
 
 #[test]
@@ -81,7 +82,7 @@ fn texts(rt: HostRuntime) {
 // The version decides whether there may be a generation. What is no version counts as 1.
 #[test]
 fn versions(rt: HostRuntime) -> Result<(), Fail> {
-    for (keys, wanted) in [
+    let cases = [
         ("version = 1", None),
         ("version = 2", None),
         ("version = 0", Some(SceneError::Range)),
@@ -108,14 +109,10 @@ fn versions(rt: HostRuntime) -> Result<(), Fail> {
             "generation = \"1\"\nversion = 2",
             Some(SceneError::WrongType),
         ),
-    ] {
-        for form in ["cells = [\"01\"]", "width = 3\nheight = 2"] {
-            let text = format!(in rt.alloc(); "gas = \"fhp1\"\n{form}\n{keys}")?;
-            assert!(rt;
-                refusal(rt.alloc(), text.as_str().as_bytes()) == wanted,
-                "{form} {keys}"
-            );
-        }
+    ];
+    for form in ["cells = [\"01\"]", "width = 3\nheight = 2"] {
+        let first = format!(in rt.alloc(); "gas = \"fhp1\"\n{form}")?;
+        are_refused(&rt, rt.alloc(), first.as_str(), &cases)?;
     }
     Ok(())
 }
@@ -123,95 +120,95 @@ fn versions(rt: HostRuntime) -> Result<(), Fail> {
 // The sides of an area: at most 4096 cells under version 1.
 #[test]
 fn sides(rt: HostRuntime) -> Result<(), Fail> {
-    for (keys, wanted) in [
-        ("width = 4096\nheight = 1", None),
-        ("width = 4097\nheight = 1", Some(SceneError::Range)),
-        ("width = 1\nheight = 4096", None),
-        ("width = 1\nheight = 4097", Some(SceneError::Range)),
-        (
-            "version = 1\nwidth = 4097\nheight = 1",
-            Some(SceneError::Range),
-        ),
-        (
-            "version = 2\nwidth = 65537\nheight = 1",
-            Some(SceneError::Range),
-        ),
-        (
-            "version = 2\nwidth = 1\nheight = 65537",
-            Some(SceneError::Range),
-        ),
-        (
-            "version = 2\nwidth = 0\nheight = 1",
-            Some(SceneError::Range),
-        ),
-    ] {
-        let text = format!(in rt.alloc(); "gas = \"fhp1\"\n{keys}")?;
-        assert!(rt;
-            refusal(rt.alloc(), text.as_str().as_bytes()) == wanted,
-            "{keys}"
-        );
-    }
-    Ok(())
+    are_refused(
+        &rt,
+        rt.alloc(),
+        "gas = \"fhp1\"",
+        &[
+            ("width = 4096\nheight = 1", None),
+            ("width = 4097\nheight = 1", Some(SceneError::Range)),
+            ("width = 1\nheight = 4096", None),
+            ("width = 1\nheight = 4097", Some(SceneError::Range)),
+            (
+                "version = 1\nwidth = 4097\nheight = 1",
+                Some(SceneError::Range),
+            ),
+            (
+                "version = 2\nwidth = 65537\nheight = 1",
+                Some(SceneError::Range),
+            ),
+            (
+                "version = 2\nwidth = 1\nheight = 65537",
+                Some(SceneError::Range),
+            ),
+            (
+                "version = 2\nwidth = 0\nheight = 1",
+                Some(SceneError::Range),
+            ),
+        ],
+    )
 }
 
 // Areas: the keys beside the gas and the size.
 #[test]
 fn areas(rt: HostRuntime) -> Result<(), Fail> {
-    for (keys, wanted) in [
-        ("solid = [[0, 0, 2, 1], [1, 0, 2, 2]]\nrate = 1000", None),
-        (
-            "solid = [[0, 0, 2, 1], [1, 0, 2, 2]]\nparticles = [[1, 0, 1]]",
-            Some(SceneError::Range),
-        ),
-        (
-            "solid = [[0, 0, 2, 1], [1, 0, 2, 2]]\nparticles = [[0, 1, 64]]",
-            Some(SceneError::Range),
-        ),
-        ("solid = [[3, 0, 2, 1]]", Some(SceneError::Range)),
-        (
-            "solid = [[0, 0, 9223372036854775807, 1]]",
-            Some(SceneError::Range),
-        ),
-        ("particles = [[-1, 0, 1]]", Some(SceneError::Range)),
-        ("seed = -1", Some(SceneError::Range)),
-        ("rate = 1.0", Some(SceneError::WrongType)),
-        ("rate = 1001", Some(SceneError::Range)),
-        ("[[solid]]", Some(SceneError::WrongType)),
-        ("[x]", Some(SceneError::UnknownKey)),
-        ("solid = [[0, 0, 1]]", Some(SceneError::WrongType)),
-        ("particles = [[0, 0, 1, 1]]", Some(SceneError::WrongType)),
-    ] {
-        let text = format!(in rt.alloc(); "gas = \"fhp1\"\nwidth = 4\nheight = 2\n{keys}")?;
-        assert!(rt;
-            refusal(rt.alloc(), text.as_str().as_bytes()) == wanted,
-            "{keys}"
-        );
+    are_refused(
+        &rt,
+        rt.alloc(),
+        "gas = \"fhp1\"\nwidth = 4\nheight = 2",
+        &[
+            ("solid = [[0, 0, 2, 1], [1, 0, 2, 2]]\nrate = 1000", None),
+            (
+                "solid = [[0, 0, 2, 1], [1, 0, 2, 2]]\nparticles = [[1, 0, 1]]",
+                Some(SceneError::Range),
+            ),
+            (
+                "solid = [[0, 0, 2, 1], [1, 0, 2, 2]]\nparticles = [[0, 1, 64]]",
+                Some(SceneError::Range),
+            ),
+            ("solid = [[3, 0, 2, 1]]", Some(SceneError::Range)),
+            (
+                "solid = [[0, 0, 9223372036854775807, 1]]",
+                Some(SceneError::Range),
+            ),
+            ("particles = [[-1, 0, 1]]", Some(SceneError::Range)),
+            ("seed = -1", Some(SceneError::Range)),
+            ("rate = 1.0", Some(SceneError::WrongType)),
+            ("rate = 1001", Some(SceneError::Range)),
+            ("[[solid]]", Some(SceneError::WrongType)),
+            ("[x]", Some(SceneError::UnknownKey)),
+            ("solid = [[0, 0, 1]]", Some(SceneError::WrongType)),
+            ("particles = [[0, 0, 1, 1]]", Some(SceneError::WrongType)),
+        ],
+    )
+}
+
+// A map of so many rows, of so many empty cells each.
+fn empty_map(alloc: Global, cells: u32, rows: u32) -> Result<String, AllocError> {
+    let mut text = String::from_str(alloc, "gas = \"fhp1\"\ncells = [")?;
+    for _ in 0..rows {
+        text.push_str("\"")?;
+        for _ in 0..cells {
+            text.push_str("..")?;
+        }
+        text.push_str("\", ")?;
     }
-    Ok(())
+    text.push_str("]")?;
+    Ok(text)
 }
 
 // The limits of a map under version 1: 4096 cells in a row, and 4096 rows.
 #[test]
 fn large_maps(rt: HostRuntime) -> Result<(), Fail> {
-    for (pairs, rows, wanted) in [
-        (4096u32, 1u32, None),
+    for (cells, rows, wanted) in [
+        (4096, 1, None),
         (4097, 1, Some(SceneError::RowLength(0))),
         (1, 4096, None),
         (1, 4097, Some(SceneError::Range)),
     ] {
-        let mut text = String::from_str(rt.alloc(), "gas = \"fhp1\"\ncells = [")?;
-        for _row in 0..rows {
-            text.push_str("\"")?;
-            for _pair in 0..pairs {
-                text.push_str("..")?;
-            }
-            text.push_str("\", ")?;
-        }
-        text.push_str("]")?;
-        assert!(rt;
-            refusal(rt.alloc(), text.as_str().as_bytes()) == wanted,
-            "{pairs} {rows}"
-        );
+        let text = empty_map(rt.alloc(), cells, rows)?;
+        let refusal = refusal(rt.alloc(), text.as_str().as_bytes());
+        assert!(rt; refusal == wanted, "{cells} {rows}");
     }
     Ok(())
 }
@@ -219,19 +216,17 @@ fn large_maps(rt: HostRuntime) -> Result<(), Fail> {
 // Two characters are a solid or an empty cell only where both are its mark.
 #[test]
 fn marks(rt: HostRuntime) -> Result<(), Fail> {
-    for (cells, wanted) in [
-        ("##", None),
-        ("..", None),
-        ("#.", Some(SceneError::BadCell(0, 0))),
-        (".#", Some(SceneError::BadCell(0, 0))),
-        ("..#0", Some(SceneError::BadCell(0, 1))),
-        ("##.0", Some(SceneError::BadCell(0, 1))),
-    ] {
-        let text = format!(in rt.alloc(); "gas = \"hpp\"\ncells = [\"{cells}\"]")?;
-        assert!(rt;
-            refusal(rt.alloc(), text.as_str().as_bytes()) == wanted,
-            "{cells}"
-        );
-    }
-    Ok(())
+    are_refused(
+        &rt,
+        rt.alloc(),
+        "gas = \"hpp\"",
+        &[
+            ("cells = [\"##\"]", None),
+            ("cells = [\"..\"]", None),
+            ("cells = [\"#.\"]", Some(SceneError::BadCell(0, 0))),
+            ("cells = [\".#\"]", Some(SceneError::BadCell(0, 0))),
+            ("cells = [\"..#0\"]", Some(SceneError::BadCell(0, 1))),
+            ("cells = [\"##.0\"]", Some(SceneError::BadCell(0, 1))),
+        ],
+    )
 }

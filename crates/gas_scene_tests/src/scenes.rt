@@ -1,9 +1,9 @@
 //! What texts that are scenes hold.
 
-use super::helpers::cells_of;
+use super::helpers::{chirality, generation, has_cells};
 use gas_rows::chirality::Chirality;
 use gas_rows::key::key_words;
-use gas_scene::scene::read;
+use std::alloc::Global;
 use std::fmt::Write;
 use std::test::Fail;
 
@@ -39,9 +39,7 @@ fn cells(rt: HostRuntime) -> Result<(), Fail> {
             "0e020808..\n060a##0208\n0809##0b0c\n0d04040504\n",
         ),
     ] {
-        let scene = read(rt.alloc(), text.as_bytes())?;
-        let cells = cells_of(rt.alloc(), &scene)?;
-        assert_eq!(rt; cells.as_str(), wanted, "{text}");
+        has_cells(&rt, rt.alloc(), text, wanted)?;
     }
     Ok(())
 }
@@ -59,8 +57,7 @@ fn chiralities(rt: HostRuntime) -> Result<(), Fail> {
         ("chirality = \"right\"", Chirality::Right),
     ] {
         let text = format!(in rt.alloc(); "gas = \"fhp1\"\ncells = [\"01\"]\n{keys}")?;
-        let scene = read(rt.alloc(), text.as_str().as_bytes())?;
-        assert!(rt; scene.chirality() == wanted, "{keys}");
+        assert!(rt; chirality(rt.alloc(), text.as_str())? == wanted, "{keys}");
     }
     Ok(())
 }
@@ -77,115 +74,145 @@ fn generations(rt: HostRuntime) -> Result<(), Fail> {
         let text = format!(in rt.alloc();
             "gas = \"fhp1\"\nchirality = \"left\"\ncells = [\"........\", \"......01\", \"........\"]\n{keys}"
         )?;
-        let scene = read(rt.alloc(), text.as_str().as_bytes())?;
-        assert!(rt; scene.generation() == wanted, "{keys}");
+        assert!(rt; generation(rt.alloc(), text.as_str())? == wanted, "{keys}");
     }
     Ok(())
 }
 
-// Filling, asked cell by cell of the key stream.
+// The state that filling at rate 500 under seed 3 gives a cell of FHP-I, asked of the key stream.
+fn filled(place: u32) -> u32 {
+    let mut state = 0;
+    for i in 0..6u64 {
+        let mut word = [0u32];
+        key_words(3, (1 << 63) + i, u64::from(place), &mut word);
+        if word[0] % 1000 < 500 {
+            state |= 1 << i;
+        }
+    }
+    state
+}
+
+// The cells of an area of 5 columns and 4 rows that is filled so.
+fn filled_cells(alloc: Global) -> Result<String, Fail> {
+    let mut cells = String::new(alloc);
+    for y in 0..4u32 {
+        for x in 0..5u32 {
+            let state = filled(y * 5 + x);
+            write!(cells, "{state:02x}")?;
+        }
+        cells.push_str("\n")?;
+    }
+    Ok(cells)
+}
+
 #[test]
 fn filling(rt: HostRuntime) -> Result<(), Fail> {
-    let scene = read(
+    let wanted = filled_cells(rt.alloc())?;
+    has_cells(
+        &rt,
         rt.alloc(),
-        b"gas = \"fhp1\"\nseed = 3\nwidth = 5\nheight = 4\nrate = 500",
-    )?;
-    let mut wanted = String::new(rt.alloc());
-    for y in 0..4u64 {
-        for x in 0..5u64 {
-            let mut state = 0u32;
-            for i in 0..6u64 {
-                let mut word = [0u32];
-                key_words(3, (1 << 63) + i, y * 5 + x, &mut word);
-                if word[0] % 1000 < 500 {
-                    state |= 1 << i;
-                }
-            }
-            write!(wanted, "{state:02x}")?;
+        "gas = \"fhp1\"\nseed = 3\nwidth = 5\nheight = 4\nrate = 500",
+        wanted.as_str(),
+    )
+}
+
+// The first column and row of a rectangle, and those behind its last.
+type Corners = (u32, u32, u32, u32);
+
+// Whether one of the rectangles covers the cell.
+fn is_covered(rectangles: &[Corners], x: u32, y: u32) -> bool {
+    rectangles.iter().any(|(left, top, right, bottom)| *left <= x
+        && x < *right
+        && *top <= y
+        && y < *bottom)
+}
+
+// The cells of an area of 6 rows in which nothing but these rectangles is.
+fn covered_cells(alloc: Global, width: u32, rectangles: &[Corners]) -> Result<String, Fail> {
+    let mut cells = String::new(alloc);
+    for y in 0..6 {
+        for x in 0..width {
+            cells.push_str(if is_covered(rectangles, x, y) {
+                "##"
+            } else {
+                ".."
+            })?;
         }
-        wanted.push_str("\n")?;
+        cells.push_str("\n")?;
     }
-    let cells = cells_of(rt.alloc(), &scene)?;
-    assert_eq!(rt; cells.as_str(), wanted.as_str());
-    Ok(())
+    Ok(cells)
 }
 
 // Rectangles that overlap, over whole blocks of 64 columns and parts of them: a cell is solid where one of them covers it.
 #[test]
 fn rectangles(rt: HostRuntime) -> Result<(), Fail> {
-    let scene = read(
+    let wanted = covered_cells(
         rt.alloc(),
-        b"gas = \"hpp\"\nwidth = 200\nheight = 6\nsolid = [[3, 1, 190, 2], [64, 0, 64, 4], [100, 2, 100, 3], [0, 4, 63, 1], [127, 0, 2, 1], [199, 0, 1, 6], [3, 1, 190, 1], [10, 3, 20, 1]]",
+        200,
+        &[
+            (3, 1, 193, 3),
+            (64, 0, 128, 4),
+            (100, 2, 200, 5),
+            (0, 4, 63, 5),
+            (127, 0, 129, 1),
+            (199, 0, 200, 6),
+            (3, 1, 193, 2),
+            (10, 3, 30, 4),
+        ],
     )?;
-    let mut wanted = String::new(rt.alloc());
-    for y in 0..6u32 {
-        for x in 0..200u32 {
-            let mut cell = "..";
-            for (left, top, right, bottom) in [
-                (3u32, 1u32, 193u32, 3u32),
-                (64, 0, 128, 4),
-                (100, 2, 200, 5),
-                (0, 4, 63, 5),
-                (127, 0, 129, 1),
-                (199, 0, 200, 6),
-                (3, 1, 193, 2),
-                (10, 3, 30, 4),
-            ] {
-                if left <= x && x < right && top <= y && y < bottom {
-                    cell = "##";
-                }
-            }
-            wanted.push_str(cell)?;
-        }
-        wanted.push_str("\n")?;
-    }
-    let cells = cells_of(rt.alloc(), &scene)?;
-    assert_eq!(rt; cells.as_str(), wanted.as_str());
-    Ok(())
+    has_cells(
+        &rt,
+        rt.alloc(),
+        "gas = \"hpp\"\nwidth = 200\nheight = 6\nsolid = [[3, 1, 190, 2], [64, 0, 64, 4], [100, 2, 100, 3], [0, 4, 63, 1], [127, 0, 2, 1], [199, 0, 1, 6], [3, 1, 190, 1], [10, 3, 20, 1]]",
+        wanted.as_str(),
+    )
 }
 
 // Rectangles in the widest rows, of one cell, of all columns, side by side, and at the seams of blocks of 64 columns and of
 // groups of 64 blocks.
 #[test]
 fn wide_rectangles(rt: HostRuntime) -> Result<(), Fail> {
-    let scene = read(
+    let wanted = covered_cells(
         rt.alloc(),
-        b"version = 2\ngas = \"hpp\"\nwidth = 65536\nheight = 6\nsolid = [[0, 0, 65536, 1], [63, 1, 1, 1], [65, 1, 1, 2], [128, 1, 64, 1], [256, 1, 65, 1], [447, 1, 65, 1], [4095, 1, 1, 1], [4097, 1, 4095, 1], [65535, 1, 1, 1], [4096, 2, 4096, 2], [8192, 2, 4096, 1], [12289, 2, 8190, 1], [32767, 2, 8194, 1], [61440, 2, 4096, 1], [1, 3, 65534, 1], [0, 5, 4096, 1], [4160, 5, 61376, 1]]",
+        65536,
+        &[
+            (0, 0, 65536, 1),
+            (63, 1, 64, 2),
+            (65, 1, 66, 3),
+            (128, 1, 192, 2),
+            (256, 1, 321, 2),
+            (447, 1, 512, 2),
+            (4095, 1, 4096, 2),
+            (4097, 1, 8192, 2),
+            (65535, 1, 65536, 2),
+            (4096, 2, 8192, 4),
+            (8192, 2, 12288, 3),
+            (12289, 2, 20479, 3),
+            (32767, 2, 40961, 3),
+            (61440, 2, 65536, 3),
+            (1, 3, 65535, 4),
+            (0, 5, 4096, 6),
+            (4160, 5, 65536, 6),
+        ],
     )?;
-    let mut wanted = String::new(rt.alloc());
-    for y in 0..6u32 {
-        for x in 0..65536u32 {
-            let mut covered = false;
-            for (left, top, right, bottom) in [
-                (0u32, 0u32, 65536u32, 1u32),
-                (63, 1, 64, 2),
-                (65, 1, 66, 3),
-                (128, 1, 192, 2),
-                (256, 1, 321, 2),
-                (447, 1, 512, 2),
-                (4095, 1, 4096, 2),
-                (4097, 1, 8192, 2),
-                (65535, 1, 65536, 2),
-                (4096, 2, 8192, 4),
-                (8192, 2, 12288, 3),
-                (12289, 2, 20479, 3),
-                (32767, 2, 40961, 3),
-                (61440, 2, 65536, 3),
-                (1, 3, 65535, 4),
-                (0, 5, 4096, 6),
-                (4160, 5, 65536, 6),
-            ] {
-                if left <= x && x < right && top <= y && y < bottom {
-                    covered = true;
-                }
-            }
-            wanted.push_str(if covered { "##" } else { ".." })?;
+    has_cells(
+        &rt,
+        rt.alloc(),
+        "version = 2\ngas = \"hpp\"\nwidth = 65536\nheight = 6\nsolid = [[0, 0, 65536, 1], [63, 1, 1, 1], [65, 1, 1, 2], [128, 1, 64, 1], [256, 1, 65, 1], [447, 1, 65, 1], [4095, 1, 1, 1], [4097, 1, 4095, 1], [65535, 1, 1, 1], [4096, 2, 4096, 2], [8192, 2, 4096, 1], [12289, 2, 8190, 1], [32767, 2, 8194, 1], [61440, 2, 4096, 1], [1, 3, 65534, 1], [0, 5, 4096, 1], [4160, 5, 61376, 1]]",
+        wanted.as_str(),
+    )
+}
+
+// The cells of two rows all of which are solid.
+fn solid_cells(alloc: Global, width: u32) -> Result<String, Fail> {
+    let mut cells = String::new(alloc);
+    for _ in 0..2 {
+        for _ in 0..width {
+            cells.push_str("##")?;
         }
-        wanted.push_str("\n")?;
+        cells.push_str("\n")?;
     }
-    let cells = cells_of(rt.alloc(), &scene)?;
-    assert!(rt; cells.as_str() == wanted.as_str());
-    Ok(())
+    Ok(cells)
 }
 
 // A rectangle of the whole area, whatever its width leaves of blocks of 64 columns and of groups of 64 blocks.
@@ -197,16 +224,8 @@ fn whole_areas(rt: HostRuntime) -> Result<(), Fail> {
         let text = format!(in rt.alloc();
             "version = 2\ngas = \"fhp1\"\nrate = 1000\nwidth = {width}\nheight = 2\nsolid = [[0, 0, {width}, 2]]"
         )?;
-        let scene = read(rt.alloc(), text.as_str().as_bytes())?;
-        let mut wanted = String::new(rt.alloc());
-        for _ in 0..2 {
-            for _ in 0..width {
-                wanted.push_str("##")?;
-            }
-            wanted.push_str("\n")?;
-        }
-        let cells = cells_of(rt.alloc(), &scene)?;
-        assert!(rt; cells.as_str() == wanted.as_str(), "{width}");
+        let wanted = solid_cells(rt.alloc(), width)?;
+        has_cells(&rt, rt.alloc(), text.as_str(), wanted.as_str())?;
     }
     Ok(())
 }
