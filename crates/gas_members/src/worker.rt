@@ -1,5 +1,5 @@
 //! A worker of the line, over any two ends.
-ghost use Rattle.std.specs.Prelude.{◌≡◌, ◌≢◌, ◌<◌, ◌≤◌, ◌++◌, ◌∷◌, ℕ, [], List, Option, None, Some, IfOk, IsNone, true, false, length};
+ghost use Rattle.std.specs.Prelude.{◌≡◌, ◌≢◌, ◌<◌, ◌≤◌, ◌++◌, ◌∷◌, ℕ, [], List, Option, None, Some, IfOk, IfSome, IsNone, IsSome, true, false, length};
 ghost use Rattle.gas_geom.specs.Gas.{Rules};
 ghost use Rattle.gas_rows.specs.Row.{RowModel};
 ghost use mathlib.Core.List.{IsPrefix};
@@ -83,6 +83,37 @@ impl<'a, G: Gas> Worker<'a, G> {
         }
     }
 
+    // The row that it has to put next: the one that waits or, where all rows of the pass were
+    // taken, the last one of its stage, whose pass this closes.
+    fn next_row(&mut self) -> Option<Row<G>>
+        requires no_stray { self.old.stray ≡ false }
+        ensures channel { self.new.stage.channel ≡ self.old.stage.channel }
+        ensures chirality { self.new.stage.chirality ≡ self.old.stage.chirality }
+        ensures no_stray { self.new.stray ≡ false }
+        ensures none_waits { self.new.waiting ≡ None }
+        ensures put { IfSome result (λ row. AfterPut G.rules self.old row self.new) }
+        ensures waits { IfSome result (λ row. AfterNone G.rules self.old (record self.new { waiting = Some row })) }
+        ensures owing { IsSome result → (e : Option ℕ) (took gave : List RowModel) →
+            HasDone G.rules self.old e took gave → gave ≡ owes G.rules self.old e took → ⊥ }
+        ensures none { IsNone result → AfterNone G.rules self.old self.new }
+        ensures put_all { IsNone result → HasPutAll G.rules self.old }
+        ensures taken_all { IsNone result → self.new.stage.pass ≡ None → HasTakenAll G.rules self.old }
+        ensures more { IsNone result → IsSome self.new.stage.pass →
+            (self.new ≡ self.old) × (self.new.stage.fed < self.new.stage.channel.height) × HasMoreToTake G.rules self.old }
+        ensures closed { IsClosed self.old → IsNone result × (self.new ≡ self.old) }
+    {
+        if let Some(row) = self.waiting.take() {
+            return Some(row);
+        }
+        if !self.stage.is_open() {
+            return None;
+        }
+        if self.stage.fed() < self.size.height() {
+            return None;
+        }
+        self.stage.flush()
+    }
+
     // Tries to put a row, which waits where it is handed back. The row of a put goes to the other
     // end as a spare one.
     fn offer<T: TakeEnd<Row<G>>, P: PutEnd<Row<G>>>(
@@ -107,6 +138,20 @@ impl<'a, G: Gas> Worker<'a, G> {
                 Turned::Idle
             }
         }
+    }
+
+    // Takes a row of the open pass. What its stage gives for it is the row to be put next.
+    fn accept(&mut self, row: Row<G>)
+        requires none_waits { self.old.waiting ≡ None }
+        requires open { IsSome self.old.stage.pass }
+        requires room { self.old.stage.fed < self.old.stage.channel.height }
+        requires wide { length row ≡ self.old.stage.channel.width }
+        ensures channel { self.new.stage.channel ≡ self.old.stage.channel }
+        ensures chirality { self.new.stage.chirality ≡ self.old.stage.chirality }
+        ensures stray { self.new.stray ≡ self.old.stray }
+        ensures took { AfterTake G.rules self.old row self.new }
+    {
+        self.waiting = self.stage.feed(row);
     }
 
     /// Makes at most one event: a put of the next row that it owes, or, where it has put all of
@@ -147,17 +192,11 @@ impl<'a, G: Gas> Worker<'a, G> {
         if self.stray {
             return Turned::Stray;
         }
-        if let Some(row) = self.waiting.take() {
+        if let Some(row) = self.next_row() {
             return self.offer(row, take, put);
         }
         if !self.stage.is_open() {
             return Turned::Done;
-        }
-        if self.stage.fed() == self.size.height() {
-            return match self.stage.flush() {
-                Some(row) => self.offer(row, take, put),
-                None => Turned::Done,
-            };
         }
         let Some(row) = take.try_take() else {
             return Turned::Idle;
@@ -166,7 +205,7 @@ impl<'a, G: Gas> Worker<'a, G> {
             self.stray = true;
             return Turned::Stray;
         }
-        self.waiting = self.stage.feed(row);
+        self.accept(row);
         Turned::Took
     }
 }
