@@ -113,6 +113,22 @@ fn run_line<'s, 'e: 's, G: Gas + Send + 'e, H: Gate + Sync, R: Threads + Wait + 
     None
 }
 
+// Takes the memory for the handles of that many workers, and for what the belts between them carry.
+// None where it was refused.
+fn make_lists<'e, G: Gas>(
+    alloc: Global,
+    stages: u32,
+) -> Option<(Vec<Started<'e, G>>, Vec<Carried<G>>)>
+    ensures no_handle { IfSome result (λ lists. lists.0.items ≡ []) }
+    ensures empty { IfSome result (λ lists. vec_len lists.0 ≡ 0) }
+    ensures no_belt { IfSome result (λ lists. lists.1.items ≡ []) }
+{
+    let stages = stages as usize;
+    let belts = Vec::with_capacity(alloc, stages + 1).ok()?;
+    let handles = Vec::with_capacity(alloc, stages).ok()?;
+    Some((handles, belts))
+}
+
 // Makes all passes in a scope. None where memory or a start was refused.
 fn run_in_scope<'s, 'e: 's, G: Gas + Send + 'e, H: Gate + Sync, R: Threads + Wait + Sync>(
     scope: &'s Scope<'s, &'e ()>,
@@ -128,9 +144,7 @@ fn run_in_scope<'s, 'e: 's, G: Gas + Send + 'e, H: Gate + Sync, R: Threads + Wai
     requires rows { feeder.rows ≡ pass.now.lattice.rows }
     ensures { IfSome result (λ run. HasRun G.rules pass.now run) }
 {
-    let stages = pass.schedule.plan.stages() as usize;
-    let belts = Vec::with_capacity(alloc, stages + 1).ok()?;
-    let handles = Vec::with_capacity(alloc, stages).ok()?;
+    let (handles, belts) = make_lists(alloc, pass.schedule.plan.stages())?;
     let ends = build(alloc, pass).ok()?;
     feeder.begin_ring(pass.schedule.plan.passes());
     run_line(scope, shared, pass, feeder, ends, handles, belts)
