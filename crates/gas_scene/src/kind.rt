@@ -1,10 +1,13 @@
 //! The keys of a scene, and the types of their values.
 
-ghost use Rattle.std.specs.Prelude.{◌≡◌, string_bytes};
+ghost use Rattle.std.specs.Prelude.{◌≡◌, true, false, drop, Some, string_bytes};
 ghost use Rattle.std.specs.BTreeMap.{keys};
 ghost use Rattle.std.specs.List.{list_all};
+ghost use Rattle.std.specs.Map.{lookup};
+ghost use Rattle.std.specs.Str.{bytes_eq};
 ghost use Rattle.toml.specs.View.{view};
-ghost use Rattle.gas_scene.specs.Kind.{kind_of, is_text, is_integer, is_tuple, is_of_kind, is_known, is_typed};
+ghost use Rattle.gas_scene.specs.declared.kind.Kind.TheVariants.{Integer};
+ghost use Rattle.gas_scene.specs.Kind.{key_kinds, kind_of, is_text, is_integer, is_tuple, is_of_kind, is_known, is_typed};
 
 use crate::fields::elements;
 use crate::version::Version;
@@ -26,13 +29,7 @@ impl Kind {
     fn of(key: &str) -> Option<Kind>
         ensures { result ≡ kind_of key.now }
     {
-        if key == "version"
-            || key == "generation"
-            || key == "seed"
-            || key == "width"
-            || key == "height"
-            || key == "rate"
-        {
+        if is_integer_key(key) {
             Some(Kind::Integer)
         } else if key == "gas" || key == "chirality" {
             Some(Kind::Text)
@@ -58,6 +55,20 @@ impl Kind {
             Kind::Tuples(n) => value.is_array() && are_tuples(elements(value), n),
         }
     }
+}
+
+// Whether the value at the key, where a scene has it, is an integer: these keys stand first in the
+// list of all.
+fn is_integer_key(key: &str) -> bool
+    ensures integer { result ≡ true → kind_of key.now ≡ Some Integer }
+    ensures other { result ≡ false → kind_of key.now ≡ lookup (bytes_eq key.now) (drop 6 key_kinds) }
+{
+    key == "version"
+        || key == "generation"
+        || key == "seed"
+        || key == "width"
+        || key == "height"
+        || key == "rate"
 }
 
 // Whether each value is a text.
