@@ -137,20 +137,36 @@ fn compare(
     Ok(replay.done())
 }
 
+// A replay of so many turns of a random line with so many workers over so many rows. It says whether the
+// line is done.
+fn compare_random(
+    rt: &impl Abort,
+    alloc: Global,
+    workers: u32,
+    height: u32,
+    count: usize,
+    random: &mut Pcg32,
+) -> Result<bool, Fail>
+    requires some { 1 ≤ workers }
+    requires few { workers ≤ 7 }
+{
+    let size = Size::new(5, height).ok_or("a size")?;
+    let lattice = random_lattice::<Fhp1>(alloc, size, random)?;
+    let capacity = random.next_word() % 3 + 1;
+    let generations = random.next_word() % workers + 1;
+    let plan = Plan::new(workers, capacity, u64::from(generations))?;
+    let turns = random_turns(alloc, count, workers, random)?;
+    compare(rt, alloc, &lattice, plan, &turns)
+}
+
 #[test]
 fn random_turns_of_small_lines(rt: HostRuntime) -> Result<(), Fail> {
     let mut random = Pcg32::new(42, 54);
     let mut done = 0u32;
-    for workers in 1..5u32 {
-        for height in 1..5u32 {
-            for count in [5usize, 20, 60, 400] {
-                let size = Size::new(5, height).ok_or("a size")?;
-                let lattice = random_lattice::<Fhp1>(rt.alloc(), size, &mut random)?;
-                let capacity = random.next_word() % 3 + 1;
-                let generations = random.next_word() % workers + 1;
-                let plan = Plan::new(workers, capacity, u64::from(generations))?;
-                let turns = random_turns(rt.alloc(), count, workers, &mut random)?;
-                if compare(&rt, rt.alloc(), &lattice, plan, &turns)? {
+    for workers in 1..5 {
+        for height in 1..5 {
+            for count in [5, 20, 60, 400] {
+                if compare_random(&rt, rt.alloc(), workers, height, count, &mut random)? {
                     done = done.wrapping_add(1);
                 }
             }

@@ -102,22 +102,40 @@ fn assert_prints<R: Abort + Threads + Wait + Sync>(
     Ok(())
 }
 
+// One particle on seven columns and three rows.
+fn drifting(alloc: Global) -> Result<Lattice<Fhp1>, Fail> {
+    let size = Size::new(7, 3).ok_or("a size")?;
+    let mut lattice = Lattice::blank(alloc, Channel::free(alloc, size)?)?;
+    lattice.set_cell(0, 1, 0x01);
+    Ok(lattice)
+}
+
+// A run of two passes through a gate leads where five generations cell by cell do.
+fn assert_leads_on<R: Abort + Threads + Wait + Sync>(
+    rt: &R,
+    alloc: Global,
+    lattice: &Lattice<Fhp1>,
+    capacity: u32,
+    gate: &Meeting,
+) -> Result<(), Fail> {
+    let plan = Plan::new(4, capacity, 5)?;
+    let run = run(rt, alloc, lattice, Chirality::Left, 0, plan, gate)?;
+    assert_eq!(rt; run.belts_made(), 5);
+    let wanted = lattice_after(alloc, lattice, Chirality::Left, 0, 5)?;
+    assert_same(rt, run.lattice(), &wanted);
+    Ok(())
+}
+
 // The workers of a run of two passes meet before each, however many rows gather on the belts.
 fn workers_meet<R: Abort + Threads + Wait + Sync>(
     rt: &R,
     alloc: Global,
     capacity: u32,
 ) -> Result<(), Fail> {
-    let size = Size::new(7, 3).ok_or("a size")?;
-    let mut lattice = Lattice::<Fhp1>::blank(alloc, Channel::free(alloc, size)?)?;
-    lattice.set_cell(0, 1, 0x01);
+    let lattice = drifting(alloc)?;
     let gate = Meeting::of(alloc, 4)?;
-    let plan = Plan::new(4, capacity, 5)?;
-    let run = run(rt, alloc, &lattice, Chirality::Left, 0, plan, &gate)?;
+    assert_leads_on(rt, alloc, &lattice, capacity, &gate)?;
     gate.was_kept(rt, 8);
-    assert_eq!(rt; run.belts_made(), 5);
-    let wanted = lattice_after(alloc, &lattice, Chirality::Left, 0, 5)?;
-    assert_same(rt, run.lattice(), &wanted);
     Ok(())
 }
 

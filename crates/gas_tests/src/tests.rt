@@ -140,6 +140,12 @@ fn the_fifth_generation(rt: HostRuntime) -> Result<(), Fail> {
     Ok(())
 }
 
+// Gives a lattice the cells of its next generation.
+fn step<G: Gas>(alloc: Global, lattice: &mut Lattice<G>, seed: u64) -> Result<(), AllocError> {
+    *lattice = advance::lattice_after(alloc, lattice, Chirality::Seeded(seed), 0, 1)?;
+    Ok(())
+}
+
 // Each of two thousand generations of a channel with obstacles has as many particles as the first,
 // at rest or moving.
 #[test]
@@ -150,7 +156,7 @@ fn no_particle_is_lost_at_rest(rt: HostRuntime) -> Result<(), Fail> {
     let particles = lattice.count();
     assert!(rt; particles > 500);
     for seed in 0..2000 {
-        lattice = advance::lattice_after(alloc, &lattice, Chirality::Seeded(seed), 0, 1)?;
+        step(alloc, &mut lattice, seed)?;
         assert_eq!(rt; lattice.count(), particles, "after {seed}");
     }
     Ok(())
