@@ -1,6 +1,6 @@
 //! Lattices written as scenes, and read again.
 
-use super::helpers::{chirality, generation, has_cells};
+use super::helpers::{chirality_of, generation_of, has_cells};
 use gas_geom::size::MOST_SIDE;
 use gas_rows::chirality::Chirality;
 use gas_scene::any_lattice::AnyLattice;
@@ -43,7 +43,7 @@ fn written_map(
 }
 
 // The number of the gas of a scene among those of the maps.
-fn gas(alloc: Global, text: &str) -> Result<usize, Fail> {
+fn gas_of(alloc: Global, text: &str) -> Result<usize, Fail> {
     let scene = read(alloc, text.as_bytes())?;
     Ok(match scene.lattice() {
         AnyLattice::Fhp1(_) => 0,
@@ -57,30 +57,38 @@ fn tells(
     rt: &impl Abort,
     alloc: Global,
     text: &str,
-    number: usize,
+    gas: usize,
     cells: &str,
-    turn: Chirality,
-    begin: u64,
+    chirality: Chirality,
+    generation: u64,
 ) -> Result<(), Fail> {
     has_cells(rt, alloc, text, cells)?;
-    assert!(rt; gas(alloc, text)? == number, "{text}");
-    assert!(rt; chirality(alloc, text)? == turn, "{text}");
-    assert!(rt; generation(alloc, text)? == begin, "{text}");
+    assert!(rt; gas_of(alloc, text)? == gas, "{text}");
+    assert!(rt; chirality_of(alloc, text)? == chirality, "{text}");
+    assert!(rt; generation_of(alloc, text)? == generation, "{text}");
     Ok(())
 }
 
 #[test]
 fn read_again(rt: HostRuntime) -> Result<(), Fail> {
     for (number, (gas, rows, cells)) in MAPS.into_iter().enumerate() {
-        for (turn, begin) in [
+        for (chirality, generation) in [
             (Chirality::Left, 0),
             (Chirality::Right, 10),
             (Chirality::Seeded(0), 1),
             (Chirality::Seeded(5), 1000000000000),
             (Chirality::Seeded(9223372036854775807), 7),
         ] {
-            let text = written_map(rt.alloc(), gas, rows, turn, begin)??;
-            tells(&rt, rt.alloc(), text.as_str(), number, cells, turn, begin)?;
+            let text = written_map(rt.alloc(), gas, rows, chirality, generation)??;
+            tells(
+                &rt,
+                rt.alloc(),
+                text.as_str(),
+                number,
+                cells,
+                chirality,
+                generation,
+            )?;
         }
     }
     Ok(())

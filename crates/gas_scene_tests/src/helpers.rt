@@ -17,8 +17,8 @@ pub(super) fn refusal(alloc: Global, text: &[u8]) -> Option<SceneError> {
     read(alloc, text).err()
 }
 
-// Each of the texts that begin with these lines and end with those of a case is refused as the case says.
-pub(super) fn are_refused(
+// The texts that begin with these lines and end with those of a case are refused as the case says, or are scenes.
+pub(super) fn have_refusals(
     rt: &impl Abort,
     alloc: Global,
     first: &str,
@@ -55,7 +55,7 @@ fn shown<G: Gas>(alloc: Global, lattice: &Lattice<G>) -> Result<String, Fail> {
 }
 
 // The cells of a scene as two characters each, a line for each row.
-fn cells_of(alloc: Global, scene: &Scene) -> Result<String, Fail> {
+fn cells_of_scene(alloc: Global, scene: &Scene) -> Result<String, Fail> {
     match scene.lattice() {
         AnyLattice::Fhp1(lattice) => shown(alloc, lattice),
         AnyLattice::Hpp(lattice) => shown(alloc, lattice),
@@ -64,9 +64,9 @@ fn cells_of(alloc: Global, scene: &Scene) -> Result<String, Fail> {
 }
 
 // The cells of the scene that a text is, as two characters each, a line for each row.
-fn cells(alloc: Global, text: &str) -> Result<String, Fail> {
+fn cells_of(alloc: Global, text: &str) -> Result<String, Fail> {
     let scene = read(alloc, text.as_bytes())?;
-    cells_of(alloc, &scene)
+    cells_of_scene(alloc, &scene)
 }
 
 // The scene that a text is has these cells.
@@ -76,17 +76,17 @@ pub(super) fn has_cells(
     text: &str,
     wanted: &str,
 ) -> Result<(), Fail> {
-    let cells = cells(alloc, text)?;
+    let cells = cells_of(alloc, text)?;
     assert!(rt; cells.as_str() == wanted, "{text}");
     Ok(())
 }
 
 // The chirality of the scene that a text is.
-pub(super) fn chirality(alloc: Global, text: &str) -> Result<Chirality, Fail> {
+pub(super) fn chirality_of(alloc: Global, text: &str) -> Result<Chirality, Fail> {
     Ok(read(alloc, text.as_bytes())?.chirality())
 }
 
 // The generation of the scene that a text is.
-pub(super) fn generation(alloc: Global, text: &str) -> Result<u64, Fail> {
+pub(super) fn generation_of(alloc: Global, text: &str) -> Result<u64, Fail> {
     Ok(read(alloc, text.as_bytes())?.generation())
 }

@@ -1,6 +1,6 @@
 //! Which texts are no scenes, and why.
 
-use super::helpers::{are_refused, refusal};
+use super::helpers::{have_refusals, refusal};
 use gas_scene::error::SceneError;
 use std::alloc::{AllocError, Global};
 use std::test::Fail;
@@ -112,7 +112,7 @@ fn versions(rt: HostRuntime) -> Result<(), Fail> {
     ];
     for form in ["cells = [\"01\"]", "width = 3\nheight = 2"] {
         let first = format!(in rt.alloc(); "gas = \"fhp1\"\n{form}")?;
-        are_refused(&rt, rt.alloc(), first.as_str(), &cases)?;
+        have_refusals(&rt, rt.alloc(), first.as_str(), &cases)?;
     }
     Ok(())
 }
@@ -120,7 +120,7 @@ fn versions(rt: HostRuntime) -> Result<(), Fail> {
 // The sides of an area: at most 4096 cells under version 1.
 #[test]
 fn sides(rt: HostRuntime) -> Result<(), Fail> {
-    are_refused(
+    have_refusals(
         &rt,
         rt.alloc(),
         "gas = \"fhp1\"",
@@ -152,7 +152,7 @@ fn sides(rt: HostRuntime) -> Result<(), Fail> {
 // Areas: the keys beside the gas and the size.
 #[test]
 fn areas(rt: HostRuntime) -> Result<(), Fail> {
-    are_refused(
+    have_refusals(
         &rt,
         rt.alloc(),
         "gas = \"fhp1\"\nwidth = 4\nheight = 2",
@@ -216,7 +216,7 @@ fn large_maps(rt: HostRuntime) -> Result<(), Fail> {
 // Two characters are a solid or an empty cell only where both are its mark.
 #[test]
 fn marks(rt: HostRuntime) -> Result<(), Fail> {
-    are_refused(
+    have_refusals(
         &rt,
         rt.alloc(),
         "gas = \"hpp\"",

@@ -1,6 +1,6 @@
 //! What texts that are scenes hold.
 
-use super::helpers::{chirality, generation, has_cells};
+use super::helpers::{chirality_of, generation_of, has_cells};
 use gas_rows::chirality::Chirality;
 use gas_rows::key::key_words;
 use std::alloc::Global;
@@ -57,7 +57,10 @@ fn chiralities(rt: HostRuntime) -> Result<(), Fail> {
         ("chirality = \"right\"", Chirality::Right),
     ] {
         let text = format!(in rt.alloc(); "gas = \"fhp1\"\ncells = [\"01\"]\n{keys}")?;
-        assert!(rt; chirality(rt.alloc(), text.as_str())? == wanted, "{keys}");
+        assert!(rt;
+            chirality_of(rt.alloc(), text.as_str())? == wanted,
+            "{keys}"
+        );
     }
     Ok(())
 }
@@ -74,7 +77,10 @@ fn generations(rt: HostRuntime) -> Result<(), Fail> {
         let text = format!(in rt.alloc();
             "gas = \"fhp1\"\nchirality = \"left\"\ncells = [\"........\", \"......01\", \"........\"]\n{keys}"
         )?;
-        assert!(rt; generation(rt.alloc(), text.as_str())? == wanted, "{keys}");
+        assert!(rt;
+            generation_of(rt.alloc(), text.as_str())? == wanted,
+            "{keys}"
+        );
     }
     Ok(())
 }
