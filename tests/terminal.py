@@ -8,6 +8,7 @@ import pty
 import re
 import subprocess
 import sys
+import threading
 
 PROGRAM = pathlib.Path(__file__).resolve().parent.parent / 'crates/fhpgas/out/fhpgas'
 # long enough on any machine that a line is due
@@ -16,25 +17,31 @@ WIPE = '\r\x1b[K'
 LINE = re.compile(re.escape(WIPE) + r'(\d+) of (\d+) generations \((\d+) %\)')
 
 
-def on_terminal(words):
-    """The status, what came on standard output, and what the terminal was told."""
-    ours, theirs = pty.openpty()
-    process = subprocess.Popen([PROGRAM, *words], stdin=subprocess.PIPE, stdout=subprocess.PIPE, stderr=theirs)
-    os.close(theirs)
-    process.stdin.write(SCENE)
-    process.stdin.close()
-    answer = process.stdout.read()
-    told = b''
+def read_terminal(ours, told):
+    """Adds what the terminal is told to the list, to the end."""
     while True:
         try:
             part = os.read(ours, 65536)
         except OSError:
-            break
+            return
         if not part:
-            break
-        told += part
+            return
+        told.append(part)
+
+
+def on_terminal(words):
+    """The status, what came on standard output, and what the terminal was told: it is read while the program runs, which would
+    wait for ever on a terminal that is full."""
+    ours, theirs = pty.openpty()
+    process = subprocess.Popen([PROGRAM, *words], stdin=subprocess.PIPE, stdout=subprocess.PIPE, stderr=theirs)
+    os.close(theirs)
+    told = []
+    reader = threading.Thread(target=read_terminal, args=(ours, told))
+    reader.start()
+    answer, _ = process.communicate(SCENE)
+    reader.join()
     os.close(ours)
-    return process.wait(), answer, told.decode()
+    return process.returncode, answer, b''.join(told).decode()
 
 
 def in_pipe(words):
@@ -56,8 +63,8 @@ def tells(told, generations):
 
 passed = failed = 0
 for name, words, generations in [
-    ('run', ['run', '--generations', '20000'], 20000),
-    ('coarse', ['coarse', '--generations', '20001', '--block-width', '512', '--block-height', '512'], 20001),
+    ('run', ['run', '--generations', '5000'], 5000),
+    ('coarse', ['coarse', '--generations', '5001', '--block-width', '512', '--block-height', '512'], 5001),
     ('check', ['check'], None),
     ('no generation', ['run', '--generations', '0'], None),
 ]:
