@@ -7,6 +7,7 @@ use crate::tx::Tx;
 use gas_geom::fhp1::Fhp1;
 use gas_rows::row::Row;
 use std::alloc::{AllocError, Global};
+use std::ops::Range;
 use std::process::Abort;
 
 mod buffers;
@@ -132,4 +133,36 @@ fn carried(
     let (mut tx, mut rx) = belt(alloc, places, width)?;
     play(rt, alloc, &mut tx, &mut rx, width, steps)?;
     Ok(meet(tx.close(), rx).ok().map(|carried| carried.len()))
+}
+
+// Takes a row with this number, which becomes a buffer, and says whether it was the next.
+fn is_next(rx: &mut Rx<Fhp1>, n: u32) -> bool
+    ensures { rx.new.belt ≡ rx.old.belt }
+{
+    let Some(row) = rx.try_take() else {
+        return false;
+    };
+    let is_next = number(&row) == n;
+    rx.give(row);
+    is_next
+}
+
+// Takes the rows with these numbers, which are the last ones.
+fn take_last(rt: &impl Abort, rx: &mut Rx<Fhp1>, numbers: Range<u32>)
+    ensures { rx.new.belt ≡ rx.old.belt }
+{
+    for n in numbers {
+        assert!(rt; is_next(rx, n), "row {n}");
+    }
+    assert!(rt; rx.try_take().is_none());
+}
+
+// Closes a belt on which the rows with these numbers are left, and takes them. It says how many rows
+// the belt carried, or None where none was left.
+fn carried_at_last(rt: &impl Abort, tx: Tx<Fhp1>, rx: Rx<Fhp1>, left: Range<u32>) -> Option<u64>
+    requires { tx.belt ≡ rx.belt }
+{
+    let (spent, mut rx) = meet(tx.close(), rx).err()?;
+    take_last(rt, &mut rx, left);
+    Some(meet(spent, rx).ok()?.len())
 }

@@ -40,57 +40,74 @@ fn send_and_take(
     Some(taken)
 }
 
+// Sends a row in three parts, of which some may be empty: it is taken behind the one that ends it.
+fn in_three_parts(
+    rt: &impl Abort,
+    alloc: Global,
+    ring: &mut Producer<u64>,
+    rx: &mut Rx<Fhp1>,
+    first: usize,
+    second: usize,
+) -> Result<(), Fail> {
+    assert!(rt; first <= second && second <= WORDS);
+    let n = 100 * first as u32 + second as u32;
+    let row = numbered(alloc, 65, n)?;
+    let words = row.as_words();
+    assert!(rt; words.len() == WORDS);
+    let taken = [
+        send_and_take(rt, ring, rx, &words[..first]),
+        send_and_take(rt, ring, rx, &words[first..second]),
+        send_and_take(rt, ring, rx, &words[second..]),
+    ];
+    let wanted = if first == WORDS {
+        [Some(n), None, None]
+    } else if second == WORDS {
+        [None, Some(n), None]
+    } else {
+        [None, None, Some(n)]
+    };
+    assert!(rt; taken == wanted, "{first} and {second}");
+    Ok(())
+}
+
 fn in_two_and_three_parts(rt: &impl Abort, alloc: Global, together: usize) -> Result<(), Fail> {
     let (mut ring, mut rx) = end_and_ring(alloc, together)?;
     for first in 0..=WORDS {
         for second in first..=WORDS {
-            let n = 100 * first as u32 + second as u32;
-            let row = numbered(alloc, 65, n)?;
-            let words = row.as_words();
-            assert!(rt; words.len() == WORDS);
-            let taken = [
-                send_and_take(rt, &mut ring, &mut rx, &words[..first]),
-                send_and_take(rt, &mut ring, &mut rx, &words[first..second]),
-                send_and_take(rt, &mut ring, &mut rx, &words[second..]),
-            ];
-            let wanted = if first == WORDS {
-                [Some(n), None, None]
-            } else if second == WORDS {
-                [None, Some(n), None]
-            } else {
-                [None, None, Some(n)]
-            };
-            assert!(rt;
-                taken == wanted,
-                "{first} and {second}, {together} words together"
-            );
+            in_three_parts(rt, alloc, &mut ring, &mut rx, first, second)?;
         }
     }
+    Ok(())
+}
+
+// Sends a row with so many words of the next one, which stay behind it until the others come.
+fn with_words_of_the_next(
+    rt: &impl Abort,
+    alloc: Global,
+    ring: &mut Producer<u64>,
+    rx: &mut Rx<Fhp1>,
+    part: usize,
+) -> Result<(), Fail> {
+    assert!(rt; part <= 6);
+    let first = numbered(alloc, 65, 2000 + part as u32)?;
+    let second = numbered(alloc, 65, 3000 + part as u32)?;
+    let words = second.as_words();
+    assert!(rt; words.len() == WORDS);
+    assert!(rt; ring.push_entire_slice(first.as_words()).is_ok());
+    let taken = [
+        send_and_take(rt, ring, rx, &words[..part]),
+        send_and_take(rt, ring, rx, &[]),
+        send_and_take(rt, ring, rx, &words[part..]),
+    ];
+    let wanted = [Some(2000 + part as u32), None, Some(3000 + part as u32)];
+    assert!(rt; taken == wanted, "{part}");
     Ok(())
 }
 
 fn with_a_part_of_the_next(rt: &impl Abort, alloc: Global, together: usize) -> Result<(), Fail> {
     let (mut ring, mut rx) = end_and_ring(alloc, together)?;
     for part in 0..=6 {
-        let first = numbered(alloc, 65, 2000 + part as u32)?;
-        let second = numbered(alloc, 65, 3000 + part as u32)?;
-        let words = second.as_words();
-        assert!(rt; words.len() == WORDS);
-        assert!(rt; ring.push_entire_slice(first.as_words()).is_ok());
-        let taken = send_and_take(rt, &mut ring, &mut rx, &words[..part]);
-        assert!(rt;
-            taken == Some(2000 + part as u32),
-            "{part}, {together} words together"
-        );
-        assert!(rt;
-            rx.try_take().is_none(),
-            "{part}, {together} words together"
-        );
-        let taken = send_and_take(rt, &mut ring, &mut rx, &words[part..]);
-        assert!(rt;
-            taken == Some(3000 + part as u32),
-            "{part}, {together} words together"
-        );
+        with_words_of_the_next(rt, alloc, &mut ring, &mut rx, part)?;
     }
     Ok(())
 }

@@ -1,7 +1,6 @@
 use super::Step::{Gathered, GatheredBack, Given, NothingShown, NothingTaken, Put, Shown, Taken};
-use super::{carried, number, play};
+use super::{carried, carried_at_last, play};
 use crate::belt::belt;
-use crate::carried::meet;
 use std::test::Fail;
 
 // On a belt with eight places four rows gather before they are shown.
@@ -61,17 +60,6 @@ fn rows_that_gathered_are_not_lost(rt: HostRuntime) -> Result<(), Fail> {
     for n in 0..13 {
         play(&rt, rt.alloc(), &mut tx, &mut rx, 130, &[Gathered(n)])?;
     }
-    let Err((spent, mut rx)) = meet(tx.close(), rx) else {
-        return Err("met with rows left")?;
-    };
-    for n in 0..13 {
-        let row = rx.try_take().ok_or("a row")?;
-        assert_eq!(rt; number(&row), n);
-        rx.give(row);
-    }
-    let Ok(carried) = meet(spent, rx) else {
-        return Err("no row is left")?;
-    };
-    assert_eq!(rt; carried.len(), 13);
+    assert_eq!(rt; carried_at_last(&rt, tx, rx, 0..13), Some(13));
     Ok(())
 }

@@ -7,6 +7,7 @@ use crate::tx::Tx;
 use gas_geom::fhp1::Fhp1;
 use gas_rows::row::Row;
 use std::alloc::{AllocError, Global};
+use std::process::Abort;
 use std::test::Fail;
 
 fn tells(row: Option<Row<Fhp1>>, width: u32, n: u32) -> bool {
@@ -31,15 +32,34 @@ fn held_after(alloc: Global, rx: &mut Rx<Fhp1>, width: u32) -> Result<u32, Alloc
 }
 
 #[test]
-fn rows_of_another_width(rt: HostRuntime) -> Result<(), Fail> {
+fn rows_of_another_width_are_put(rt: HostRuntime) -> Result<(), Fail> {
     let (mut tx, mut rx) = belt(rt.alloc(), 2, 65)?;
-    assert!(rt; comes_back(rt.alloc(), &mut tx, 64, 5)?);
-    assert!(rt; comes_back(rt.alloc(), &mut tx, 66, 6)?);
+    for width in [64, 66] {
+        assert!(rt; comes_back(rt.alloc(), &mut tx, width, 5)?, "{width}");
+    }
     assert!(rt; tx.spare().is_none());
-    assert!(rt; tx.try_put(numbered(rt.alloc(), 65, 7)?).is_ok());
-    assert!(rt; tells(rx.try_take(), 65, 7));
-    assert_eq!(rt; held_after(rt.alloc(), &mut rx, 64)?, 1);
-    assert_eq!(rt; held_after(rt.alloc(), &mut rx, 66)?, 1);
-    assert_eq!(rt; held_after(rt.alloc(), &mut rx, 65)?, 2);
+    assert!(rt; goes_through(rt.alloc(), &mut tx, &mut rx)?);
+    Ok(())
+}
+
+// Puts a row of the belt's width, and says whether it comes out as it went.
+fn goes_through(alloc: Global, tx: &mut Tx<Fhp1>, rx: &mut Rx<Fhp1>) -> Result<bool, AllocError> {
+    let row = numbered(alloc, 65, 7)?;
+    Ok(tx.try_put(row).is_ok() && tells(rx.try_take(), 65, 7))
+}
+
+// An end of a belt out of which one row came, so that it holds one buffer.
+fn end_with_one_buffer(rt: &impl Abort, alloc: Global) -> Result<Rx<Fhp1>, AllocError> {
+    let (mut tx, mut rx) = belt(alloc, 2, 65)?;
+    assert!(rt; goes_through(alloc, &mut tx, &mut rx)?);
+    Ok(rx)
+}
+
+#[test]
+fn rows_of_another_width_are_given(rt: HostRuntime) -> Result<(), Fail> {
+    let mut rx = end_with_one_buffer(&rt, rt.alloc())?;
+    for (width, held) in [(64, 1), (66, 1), (65, 2)] {
+        assert_eq!(rt; held_after(rt.alloc(), &mut rx, width)?, held, "{width}");
+    }
     Ok(())
 }

@@ -3,6 +3,3 @@ use Rattle.gas_belt.proofs.tests.together.rows_that_gathered_are_not_lost.Given 
 
 abbrev pub invariant-loop-n : goal.invariant-loop-n
 invariant-loop-n g l = l.tx.belt ≡ l.rx.belt
-
-abbrev pub invariant-loop-n-2 : goal.invariant-loop-n-2
-invariant-loop-n-2 g l = l.rx.belt ≡ l.initial.rx.belt
