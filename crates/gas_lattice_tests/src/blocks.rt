@@ -1,5 +1,4 @@
 //! The blocks of a lattice.
-ghost use Rattle.std.specs.Prelude.{◌≤◌};
 
 use gas_blocks::blocks::{Block, coarse};
 use gas_geom::fhp1::Fhp1;
@@ -9,6 +8,7 @@ use gas_geom::size::Size;
 use gas_rows::channel::Channel;
 use gas_rows::lattice::Lattice;
 use std::alloc::{AllocError, Global};
+use std::process::Abort;
 use std::test::Fail;
 
 /// The block at a place, with these numbers of fluid cells and particles and this momentum.
@@ -23,17 +23,19 @@ fn block(place: (u32, u32), fluid: u64, particles: u64, momentum: (i64, i64)) ->
     }
 }
 
-/// The blocks of this size. It promises nothing, so that no test carries the promises of `coarse`.
-fn blocks<G: Gas>(
+/// The lattice has these blocks, so many columns wide and so many rows high. It promises nothing, so
+/// that no test carries the promises of `coarse`.
+fn has_blocks<G: Gas>(
+    rt: &impl Abort,
     alloc: Global,
     lattice: &Lattice<G>,
-    width: u32,
-    height: u32,
-) -> Result<Vec<Block>, AllocError>
-    requires some_columns { 1 ≤ width }
-    requires some_rows { 1 ≤ height }
-{
-    coarse(alloc, lattice, width, height)
+    (width, height): (u32, u32),
+    wanted: &[Block],
+) -> Result<(), Fail> {
+    assert!(rt; 1 <= width && 1 <= height);
+    let blocks = coarse(alloc, lattice, width, height)?;
+    assert!(rt; blocks.as_slice() == wanted, "{width} x {height}");
+    Ok(())
 }
 
 /// The lattice with the states 01 and 02 in its first row, and in its second a solid cell and 3f.
@@ -53,45 +55,40 @@ fn obstacle(alloc: Global) -> Result<Lattice<Fhp1>, AllocError> {
 
 #[test]
 fn of_each_size(rt: HostRuntime) -> Result<(), Fail> {
-    let alloc = rt.alloc();
-    let lattice = obstacle(alloc)?;
+    let lattice = obstacle(rt.alloc())?;
     let squares = [block((0, 0), 3, 8, (3, 1)), block((1, 0), 4, 0, (0, 0))];
-    assert!(rt; blocks(alloc, &lattice, 2, 2)?.as_slice() == squares.as_slice());
     let uneven = [
         block((0, 0), 3, 2, (3, 1)),
         block((1, 0), 1, 0, (0, 0)),
         block((0, 1), 2, 6, (0, 0)),
         block((1, 1), 1, 0, (0, 0)),
     ];
-    assert!(rt; blocks(alloc, &lattice, 3, 1)?.as_slice() == uneven.as_slice());
     let whole = [block((0, 0), 7, 8, (3, 1))];
-    for side in [4, 8, u32::MAX] {
-        assert!(rt;
-            blocks(alloc, &lattice, side, side)?.as_slice() == whole.as_slice(),
-            "{side}"
-        );
-    }
     let columns = [
         block((0, 0), 1, 1, (2, 0)),
         block((1, 0), 2, 7, (1, 1)),
         block((2, 0), 2, 0, (0, 0)),
         block((3, 0), 2, 0, (0, 0)),
     ];
-    assert!(rt; blocks(alloc, &lattice, 1, 2)?.as_slice() == columns.as_slice());
+    let cases: [((u32, u32), &[Block]); 6] = [
+        ((2, 2), &squares),
+        ((3, 1), &uneven),
+        ((4, 4), &whole),
+        ((8, 8), &whole),
+        ((u32::MAX, u32::MAX), &whole),
+        ((1, 2), &columns),
+    ];
+    for (size, wanted) in cases {
+        has_blocks(&rt, rt.alloc(), &lattice, size, wanted)?;
+    }
     Ok(())
 }
 
 #[test]
 fn of_the_square_gas(rt: HostRuntime) -> Result<(), Fail> {
-    let alloc = rt.alloc();
-    let Some(size) = Size::new(1, 1) else {
-        return Err(Fail::from(AllocError));
-    };
-    let mut lattice = Lattice::<Hpp>::blank(alloc, Channel::free(alloc, size)?)?;
-    if !lattice.channel().is_solid(0, 0) {
-        lattice.set_cell(0, 0, 0x0c);
-    }
-    let want = [block((0, 0), 1, 2, (-1, -1))];
-    assert!(rt; blocks(alloc, &lattice, 1, 1)?.as_slice() == want.as_slice());
-    Ok(())
+    let size = Size::new(1, 1).ok_or("a size")?;
+    let mut lattice = Lattice::<Hpp>::blank(rt.alloc(), Channel::free(rt.alloc(), size)?)?;
+    lattice.set_cell(0, 0, 0x0c);
+    let wanted = [block((0, 0), 1, 2, (-1, -1))];
+    has_blocks(&rt, rt.alloc(), &lattice, (1, 1), &wanted)
 }
