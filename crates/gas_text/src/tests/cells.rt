@@ -3,6 +3,10 @@
 use super::helpers::{CELLS, End, Narrow, one_particle};
 use crate::output::Sink;
 use crate::text::{put_header, write_cells};
+use gas_geom::fhp1::Fhp1;
+use gas_rows::lattice::Lattice;
+use std::alloc::Global;
+use std::process::Abort;
 use std::test::Fail;
 
 #[test]
@@ -17,32 +21,45 @@ fn headers(rt: HostRuntime) -> Result<(), Fail> {
     Ok(())
 }
 
-#[test]
-fn to_each_writer(rt: HostRuntime) -> Result<(), Fail> {
-    let alloc = rt.alloc();
-    let lattice = one_particle(alloc)?;
-    for most in [1, 7, 52, 100] {
-        let mut out = Narrow::new(alloc, most, 52, End::Error);
-        write_cells(&lattice, 1, &mut out)?;
-        assert!(rt; out.taken.as_slice() == CELLS, "{most}");
-        assert_eq!(rt; out.flushes, 1, "{most}");
-    }
-    for room in 0..52 {
-        for end in [End::Error, End::Zero] {
-            let mut out = Narrow::new(alloc, 5, room, end);
-            let written = write_cells(&lattice, 1, &mut out)
-                .err()
-                .map(|fault| fault.written);
-            assert_eq!(rt; written, Some(room as u64), "{end:?}");
-            assert!(rt; out.taken.as_slice() == &CELLS[..room], "{room} {end:?}");
-            assert_eq!(rt; out.flushes, 0, "{room} {end:?}");
-        }
-    }
-    let mut out = Narrow::new(alloc, 100, 100, End::Flush);
-    let written = write_cells(&lattice, 1, &mut out)
+// A writer that takes so many bytes a write gets all of them, and is flushed once.
+fn gets_all(
+    rt: &impl Abort,
+    alloc: Global,
+    lattice: &Lattice<Fhp1>,
+    most: usize,
+) -> Result<(), Fail> {
+    let mut out = Narrow::new(alloc, most, CELLS.len(), End::Error);
+    write_cells(lattice, 1, &mut out)?;
+    assert!(rt; out.taken.as_slice() == CELLS && out.flushes == 1, "{most}");
+    Ok(())
+}
+
+// A writer that ends so after this many bytes got the first ones, as the fault tells.
+fn got(rt: &impl Abort, alloc: Global, lattice: &Lattice<Fhp1>, room: usize, end: End) {
+    let mut out = Narrow::new(alloc, 5, room, end);
+    let written = write_cells(lattice, 1, &mut out)
         .err()
         .map(|fault| fault.written);
-    assert_eq!(rt; written, Some(52));
-    assert!(rt; out.taken.as_slice() == CELLS);
+    let wanted = CELLS.get(..room).unwrap_or(CELLS);
+    assert_eq!(rt; written, Some(room as u64), "{end:?}");
+    assert!(rt; out.taken.as_slice() == wanted, "{room} {end:?}");
+    assert_eq!(rt;
+        out.flushes,
+        usize::from(end == End::Flush),
+        "{room} {end:?}"
+    );
+}
+
+#[test]
+fn to_each_writer(rt: HostRuntime) -> Result<(), Fail> {
+    let lattice = one_particle(rt.alloc())?;
+    for most in [1, 7, 52, 100] {
+        gets_all(&rt, rt.alloc(), &lattice, most)?;
+    }
+    for room in 0..52 {
+        got(&rt, rt.alloc(), &lattice, room, End::Error);
+        got(&rt, rt.alloc(), &lattice, room, End::Zero);
+    }
+    got(&rt, rt.alloc(), &lattice, 52, End::Flush);
     Ok(())
 }
