@@ -82,15 +82,26 @@ fn passes_on(
     takes(rt, &mut belts.came, state)
 }
 
+// Two rows go through a worker, one after the other.
+fn two_rows_pass(
+    rt: &impl Abort,
+    alloc: Global,
+    channel: &Channel,
+    belts: &mut Belts,
+) -> Result<(), Fail> {
+    let mut worker = worker(alloc, channel)?;
+    turn(rt, &mut worker, belts, Idle);
+    for state in [0x01, 0x02] {
+        passes_on(rt, alloc, &mut worker, belts, state)?;
+    }
+    turn(rt, &mut worker, belts, Done);
+    Ok(())
+}
+
 #[test]
 fn a_worker_between_two_belts(rt: HostRuntime) -> Result<(), Fail> {
     let size = Size::new(4, 2).ok_or("a size")?;
     let channel = Channel::free(rt.alloc(), size)?;
-    let mut worker = worker(rt.alloc(), &channel)?;
     let mut belts = Belts::new(rt.alloc())?;
-    turn(&rt, &mut worker, &mut belts, Idle);
-    passes_on(&rt, rt.alloc(), &mut worker, &mut belts, 0x01)?;
-    passes_on(&rt, rt.alloc(), &mut worker, &mut belts, 0x02)?;
-    turn(&rt, &mut worker, &mut belts, Done);
-    Ok(())
+    two_rows_pass(&rt, rt.alloc(), &channel, &mut belts)
 }
