@@ -7,9 +7,11 @@ use gas_geom::gas::Gas;
 use gas_geom::hpp::Hpp;
 use gas_geom::size::Size;
 use gas_pipe::plan::Plan;
+use gas_pipe::threads::answer::Run;
 use gas_pipe::threads::gate::NoGate;
 use gas_pipe::threads::run;
 use gas_rows::chirality::Chirality;
+use gas_rows::lattice::Lattice;
 use gas_stage::advance::lattice_after;
 use rand_core::Rng;
 use rand_core::utils::NextWord;
@@ -20,9 +22,61 @@ use std::sync::Wait;
 use std::test::Fail;
 use std::thread::Threads;
 
+// A run whose lattice is of a generation below 2^63. It promises nothing, so that no test carries the
+// promises of `run`.
+fn ran<G: Gas + Send, R: Threads + Wait + Sync>(
+    rt: &R,
+    alloc: Global,
+    lattice: &Lattice<G>,
+    chirality: Chirality,
+    first: u64,
+    plan: Plan,
+) -> Result<Run<G>, Fail> {
+    let first = first % (1 << 63);
+    Ok(run(rt, alloc, lattice, chirality, first, plan, &NoGate)?)
+}
+
+// The lattice that one stage comes to, in the same way.
+fn one_stage_after<G: Gas>(
+    alloc: Global,
+    lattice: &Lattice<G>,
+    chirality: Chirality,
+    first: u64,
+    plan: Plan,
+) -> Result<Lattice<G>, Fail> {
+    let first = first % (1 << 63);
+    let generations = plan.generations();
+    Ok(lattice_after(alloc, lattice, chirality, first, generations)?)
+}
+
+// A run comes to the lattice that one stage comes to, with as many particles, and each belt carried all
+// rows of all passes.
+fn compare<G: Gas + Send, R: Abort + Threads + Wait + Sync>(
+    rt: &R,
+    alloc: Global,
+    lattice: &Lattice<G>,
+    chirality: Chirality,
+    first: u64,
+    plan: Plan,
+) -> Result<(), Fail> {
+    let wanted = one_stage_after(alloc, lattice, chirality, first, plan)?;
+    let run = ran(rt, alloc, lattice, chirality, first, plan)?;
+    assert_same(rt, run.lattice(), &wanted);
+    assert_eq!(rt; run.lattice().count(), lattice.count());
+    let height = lattice.channel().size().height();
+    let rows = plan
+        .generations()
+        .div_ceil(u64::from(plan.stages().max(1)))
+        .wrapping_mul(u64::from(height));
+    for carried in run.belts() {
+        assert_eq!(rt; carried.len(), rows);
+    }
+    Ok(())
+}
+
 // A run of a random lattice of a random generation, of up to so many rows, for a random number of
 // generations.
-fn compare<G: Gas + Send, R: Abort + Threads + Wait + Sync>(
+fn compare_random<G: Gas + Send, R: Abort + Threads + Wait + Sync>(
     rt: &R,
     alloc: Global,
     stages: u32,
@@ -36,22 +90,9 @@ fn compare<G: Gas + Send, R: Abort + Threads + Wait + Sync>(
     let chirality = Chirality::Seeded(random.next_u64());
     let first = random.next_u64() % 1_000_000_000_000;
     let size = Size::new(width, height).ok_or("a size")?;
-    let lattice = random_lattice::<G>(alloc, size, random)?;
     let plan = Plan::new(stages, capacity, generations)?;
-    let run = run(rt, alloc, &lattice, chirality, first, plan, &NoGate)?;
-    assert_same(
-        rt,
-        run.lattice(),
-        &lattice_after(alloc, &lattice, chirality, first, generations)?,
-    );
-    assert_eq!(rt; run.lattice().count(), lattice.count());
-    let rows = generations
-        .div_ceil(u64::from(stages.max(1)))
-        .wrapping_mul(u64::from(height));
-    for carried in run.belts() {
-        assert_eq!(rt; carried.len(), rows);
-    }
-    Ok(())
+    let lattice = random_lattice::<G>(alloc, size, random)?;
+    compare(rt, alloc, &lattice, chirality, first, plan)
 }
 
 // Random runs of a gas through lines of all lengths up to 8, a hundred rounds of low lattices and ten of
@@ -66,7 +107,7 @@ fn soak<G: Gas + Send, R: Abort + Threads + Wait + Sync>(
     for round in 0..110 {
         let most_rows = if round < 100 { 3 } else { 20 };
         for stages in 1..=8 {
-            compare::<G, _>(rt, alloc, stages, capacity, most_rows, &mut random)?;
+            compare_random::<G, _>(rt, alloc, stages, capacity, most_rows, &mut random)?;
         }
     }
     Ok(())
