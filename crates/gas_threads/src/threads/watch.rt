@@ -8,18 +8,22 @@ use gas_geom::gas::Gas;
 use std::sync::Wait;
 use std::{hint, thread};
 
-// How often a member that waits looks again at once, and then how often after it yielded its
-// processor, before it sleeps. Where members of the line share a processor, to yield costs much less
-// than to sleep and be woken. Where other programs keep all processors busy, one that yields gets a
-// processor back after milliseconds, and one that sleeps soon after it is woken.
+// How often a member that waits looks again at once, and how often after it yielded its processor,
+// before it sleeps. Where processors are virtual, a sleeper may take a hundred microseconds to wake: if
+// its neighbour falls asleep before, each has to wake the other for every row. So the yields last
+// longer. Where members of the line share a processor, to yield costs much less than to sleep.
 const LOOKS: u32 = 32;
 
-const YIELDS: u32 = 32;
+const YIELDS: u32 = 1024;
 
-// One wait in so many, the first among them, goes to sleep without a yield. If nobody wakes the
-// member for as long as it sleeps, a neighbour is taken to have yielded and to have no processor, and
-// no member yields for a while.
+// Where other programs keep all processors busy, one that yields gets a processor back after
+// milliseconds, and one that sleeps soon after it is woken. So one wait in so many, the first among
+// them, is a trial: the member only looks where it would yield. If nobody wakes it for as long as it
+// sleeps then, the neighbour may have yielded and have no processor; the wait is missed, and the next
+// is a trial too. After so many that were missed one after another, no member yields for a while.
 const WAITS_A_TRIAL: u32 = 64;
+
+const MISSES: u32 = 3;
 
 /// A member of the line who waits for its neighbours and wakes them.
 #[derive(Drop)]
@@ -28,9 +32,14 @@ pub struct Watch<'a> {
     member: usize,
     // The waits since one in which no member yielded.
     waits: u32,
-    // How often it has looked in this wait, and how often it looks before it sleeps.
+    // How many waits before this one were missed one after another, and whether this one is.
+    misses: u32,
+    is_missed: bool,
+    // How often it has looked in this wait, how often it looks before it sleeps, and whether it yields
+    // after the first looks.
     looks: u32,
     awake_looks: u32,
+    yields: bool,
 }
 
 impl<'a> Watch<'a> {
@@ -40,29 +49,46 @@ impl<'a> Watch<'a> {
             signals,
             member: member as usize,
             waits: 0,
+            misses: 0,
+            is_missed: false,
             looks: 0,
             awake_looks: LOOKS,
+            yields: false,
         }
     }
 
-    // Begins a wait, and chooses whether it yields before it sleeps.
+    // Counts the last wait, if it was missed.
+    fn count_miss(&mut self) {
+        self.misses = if self.is_missed {
+            self.misses.saturating_add(1)
+        } else {
+            0
+        };
+        self.is_missed = false;
+        if self.misses >= MISSES {
+            self.signals.forbid_yields();
+        }
+    }
+
+    // Begins a wait, and chooses what it does before it sleeps.
     fn begin_wait(&mut self) {
+        self.count_miss();
         if self.signals.take_wait_without_yields() {
             self.waits = 0;
+            self.misses = 0;
             self.awake_looks = LOOKS;
             return;
         }
-        let is_trial = self.waits % WAITS_A_TRIAL == 0;
+        let is_trial = self.misses > 0 || self.waits % WAITS_A_TRIAL == 0;
         self.waits = self.waits.wrapping_add(1);
-        self.awake_looks = if is_trial { LOOKS } else { LOOKS + YIELDS };
+        self.awake_looks = LOOKS + YIELDS;
+        self.yields = !is_trial;
     }
 
-    // Sleeps. Where nobody woke it while others might yield, they do not for a while.
-    fn sleep<R: Wait>(&self, rt: &R) {
+    // Sleeps. The wait is missed if nobody woke it while others might yield.
+    fn sleep<R: Wait>(&mut self, rt: &R) {
         let was_woken = self.signals.sleep(rt, self.member);
-        if !was_woken && self.waits > 0 {
-            self.signals.forbid_yields();
-        }
+        self.is_missed |= !was_woken && self.waits > 0;
     }
 
     // Waits a little, and says whether to go on: not where the stop flag is raised. Between the word
@@ -77,7 +103,7 @@ impl<'a> Watch<'a> {
         }
         let look = self.looks;
         self.looks = look.saturating_add(1);
-        if look < LOOKS {
+        if look < LOOKS || (look < self.awake_looks && !self.yields) {
             hint::spin_loop();
         } else if look < self.awake_looks {
             thread::yield_now();
