@@ -13,5 +13,5 @@ pub fn collide_row<G: Gas>(row: &mut Row<G>, solid: &Mask, chi: &Mask)
     ensures wide { length row.new ≡ length row.old }
     ensures collided { row.new ≡ collided_row G.rules solid.now chi.now row.old }
 {
-    row.collide(solid.words(), chi.words());
+    row.collide(solid.is_blank(), solid.words(), chi.words());
 }

@@ -1,5 +1,5 @@
 //! The words of a row, cell by cell: each direction has `count` words, one after another.
-ghost use Rattle.std.specs.Prelude.{◌≡◌, ◌≢◌, ◌⊎◌, ◌+◌, ◌*◌, ◌/◌, ◌^◌, ◌<◌, ◌≤◌, ◌==◌, ◌&&◌, ℕ, ◌%◌, not, nat_lt, if◌then◌else◌, length, slice_index};
+ghost use Rattle.std.specs.Prelude.{◌≡◌, ◌≢◌, ◌⊎◌, ◌+◌, ◌*◌, ◌/◌, ◌^◌, ◌<◌, ◌≤◌, ◌==◌, ◌&&◌, ℕ, ◌%◌, not, false, IsTrue, nat_lt, if◌then◌else◌, length, slice_index};
 ghost use Rattle.gas_geom.specs.Gas.{holds};
 ghost use Rattle.gas_geom.specs.Planes.{ZeroFrom};
 ghost use Rattle.gas_geom.specs.declared.size.TheConstants.{MOST_SIDE};
@@ -54,10 +54,37 @@ pub(crate) fn write_cell(words: &mut [u64], count: usize, dirs: usize, x: u32, s
     }
 }
 
-/// Collides each cell by itself with its random bit, and empties the solid cells.
-pub(crate) fn collide<G: Gas>(words: &mut [u64], count: usize, solid: &[u64], chi: &[u64])
+/// Collides each cell by itself with its random bit, and empties the solid cells, of which there are
+/// none if `free` says so.
+pub(crate) fn collide<G: Gas>(
+    words: &mut [u64],
+    count: usize,
+    free: bool,
+    solid: &[u64],
+    chi: &[u64],
+)
     requires few_words { count ≤ words_in MOST_SIDE }
     requires long { length words.old ≡ G.rules.dirs * count }
+    requires free { IsTrue free → (y : ℕ) → bit solid.now y ≡ false }
+    requires solid { length solid.now ≡ count }
+    requires chi { length chi.now ≡ count }
+    ensures { (y : ℕ) → y / 64 < count →
+        state words.new count G.rules.dirs y
+        ≡ (if bit solid.now y then 0 else G.rules.collide (state words.old count G.rules.dirs y) (bit chi.now y)) }
+{
+    // Told apart here, so that a compiler leaves the solid cells out where there are none.
+    if free {
+        collide_words::<G>(words, count, true, solid, chi);
+    } else {
+        collide_words::<G>(words, count, false, solid, chi);
+    }
+}
+
+#[inline(always)]
+fn collide_words<G: Gas>(words: &mut [u64], count: usize, free: bool, solid: &[u64], chi: &[u64])
+    requires few_words { count ≤ words_in MOST_SIDE }
+    requires long { length words.old ≡ G.rules.dirs * count }
+    requires free { IsTrue free → (y : ℕ) → bit solid.now y ≡ false }
     requires solid { length solid.now ≡ count }
     requires chi { length chi.now ≡ count }
     ensures { (y : ℕ) → y / 64 < count →
@@ -65,19 +92,37 @@ pub(crate) fn collide<G: Gas>(words: &mut [u64], count: usize, solid: &[u64], ch
         ≡ (if bit solid.now y then 0 else G.rules.collide (state words.old count G.rules.dirs y) (bit chi.now y)) }
 {
     for k in 0..count / 2 {
-        collide_pair::<G>(words, count, 2 * k, solid, chi);
+        collide_pair::<G>(words, count, 2 * k, free, solid, chi);
     }
     if count % 2 == 1 {
-        collide_word::<G>(words, count, count - 1, solid, chi);
+        collide_word::<G>(words, count, count - 1, free, solid, chi);
     }
+}
+
+// The solid cells of word j.
+#[inline(always)]
+fn solid_word(free: bool, solid: &[u64], j: usize) -> u64
+    requires free { IsTrue free → (y : ℕ) → bit solid.now y ≡ false }
+    requires within { j < length solid.now }
+    ensures { (b : ℕ) → b < 64 → holds result b ≡ holds (slice_index solid.now j) b }
+{
+    if free { 0 } else { solid[j] }
 }
 
 // Collides the cells of words j and j + 1. It reads both before it writes, so that a compiler can
 // take the two at a time.
 #[inline(always)]
-fn collide_pair<G: Gas>(words: &mut [u64], count: usize, j: usize, solid: &[u64], chi: &[u64])
+fn collide_pair<G: Gas>(
+    words: &mut [u64],
+    count: usize,
+    j: usize,
+    free: bool,
+    solid: &[u64],
+    chi: &[u64],
+)
     requires few_words { count ≤ words_in MOST_SIDE }
     requires long { length words.old ≡ G.rules.dirs * count }
+    requires free { IsTrue free → (y : ℕ) → bit solid.now y ≡ false }
     requires solid { length solid.now ≡ count }
     requires chi { length chi.now ≡ count }
     requires within { j + 1 < count }
@@ -92,14 +137,24 @@ fn collide_pair<G: Gas>(words: &mut [u64], count: usize, j: usize, solid: &[u64]
     let planes_beside = gather(words, count, dirs, j + 1);
     let first = G::collide64(planes, chi[j]);
     let second = G::collide64(planes_beside, chi[j + 1]);
-    scatter_pair(words, count, dirs, j, first, second, solid[j], solid[j + 1]);
+    let own = solid_word(free, solid, j);
+    let own_beside = solid_word(free, solid, j + 1);
+    scatter_pair(words, count, dirs, j, first, second, own, own_beside);
 }
 
 // Collides the cells of word j.
 #[inline(always)]
-fn collide_word<G: Gas>(words: &mut [u64], count: usize, j: usize, solid: &[u64], chi: &[u64])
+fn collide_word<G: Gas>(
+    words: &mut [u64],
+    count: usize,
+    j: usize,
+    free: bool,
+    solid: &[u64],
+    chi: &[u64],
+)
     requires few_words { count ≤ words_in MOST_SIDE }
     requires long { length words.old ≡ G.rules.dirs * count }
+    requires free { IsTrue free → (y : ℕ) → bit solid.now y ≡ false }
     requires solid { length solid.now ≡ count }
     requires chi { length chi.now ≡ count }
     requires within { j < count }
@@ -112,7 +167,7 @@ fn collide_word<G: Gas>(words: &mut [u64], count: usize, j: usize, solid: &[u64]
     let dirs = directions::<G>();
     let planes = gather(words, count, dirs, j);
     let after = G::collide64(planes, chi[j]);
-    scatter(words, count, dirs, j, after, solid[j]);
+    scatter(words, count, dirs, j, after, solid_word(free, solid, j));
 }
 
 /// Empties the solid cells.

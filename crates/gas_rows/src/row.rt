@@ -1,4 +1,4 @@
-ghost use Rattle.std.specs.Prelude.{◌≡◌, ◌≢◌, ◌⊎◌, ◌+◌, ◌-◌, ◌*◌, ◌/◌, ◌<◌, ◌≤◌, ◌^◌, ℕ, List, length, replicate, slice_index, slice_index_or, slice_set, false, count_by, sum_by, if◌then◌else◌, vec_len, IfOk};
+ghost use Rattle.std.specs.Prelude.{◌≡◌, ◌≢◌, ◌⊎◌, ◌+◌, ◌-◌, ◌*◌, ◌/◌, ◌<◌, ◌≤◌, ◌^◌, ℕ, List, length, replicate, slice_index, slice_index_or, slice_set, false, IsTrue, count_by, sum_by, if◌then◌else◌, vec_len, IfOk};
 ghost use Rattle.std.specs.List.{range_with_len};
 ghost use Rattle.gas_geom.specs.Gas.{Move, amount, holds, particles};
 ghost use Rattle.gas_geom.specs.Lattice.{row_of};
@@ -166,6 +166,7 @@ impl<G: Gas> Row<G> {
 
     /// The words of one direction: bit `b` of word `j` says whether cell `64 * j + b` holds it, and
     /// bits past the width are zero.
+    #[inline(always)]
     pub fn plane(&self, i: u32) -> &[u64]
         requires { i < G.rules.dirs }
         ensures long { length result.now ≡ words_in (length self.now) }
@@ -220,15 +221,17 @@ impl<G: Gas> Row<G> {
         empty(&mut self.words, count, directions::<G>(), solid.words());
     }
 
-    /// Collides each fluid cell by itself with its random bit, and empties the solid cells.
-    pub(crate) fn collide(&mut self, solid: &[u64], chi: &[u64])
+    /// Collides each fluid cell by itself with its random bit, and empties the solid cells, of which
+    /// there are none if `free` says so.
+    pub(crate) fn collide(&mut self, free: bool, solid: &[u64], chi: &[u64])
+        requires free { IsTrue free → (x : ℕ) → bit solid.now x ≡ false }
         requires solid { length solid.now ≡ words_in (length self.old) }
         requires chi { length chi.now ≡ words_in (length self.old) }
         ensures { self.new ≡ row_of (length self.old) (λ x.
             if bit solid.now x then 0 else G.rules.collide (slice_index self.old x) (bit chi.now x)) }
     {
         let count = words_for(self.width);
-        collide::<G>(&mut self.words, count, solid, chi);
+        collide::<G>(&mut self.words, count, free, solid, chi);
     }
 
     /// Streams direction `i` into this row from the row that its particles come from: `along` is
@@ -271,6 +274,7 @@ impl<G: Gas> Row<G> {
     /// Streams direction `i` into this row where no cell is solid, from the row that its particles
     /// come from: `along` is the step along the row that leads there, and `from` the words of the
     /// direction in that row.
+    #[inline(always)]
     pub fn move_plane(&mut self, i: u32, along: i32, from: &[u64])
         requires direction { i < G.rules.dirs }
         requires from { length from.now ≡ words_in (length self.old) }

@@ -269,6 +269,7 @@ fn stream_along(
 
 // Streams one direction of a row along the row where no cell is solid, where `along` leads to where
 // its particles come from.
+#[inline(always)]
 fn move_along(along: i32, from: &[u64], out: &mut [u64], width: u32)
     requires some_cells { 1 ≤ width }
     requires few_cells { width ≤ MOST_SIDE }

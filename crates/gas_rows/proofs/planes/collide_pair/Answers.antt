@@ -1,4 +1,5 @@
-use Rattle.std.proofs.Common.{◌+◌, ◌/◌, inl, inr, ◌∙◌, arith}
+use Rattle.std.proofs.Common.{◌+◌, ◌/◌, ◌%◌, ◌&&◌, not, inl, inr, get_or, ap, ◌∙◌, arith}
+use Rattle.gas_geom.specs.Gas.{holds}
 use Rattle.std.proofs.lemmas.Bool.{cases_eq}
 use Rattle.gas_rows.proofs.Cells.{state-same}
 use Rattle.gas_rows.proofs.Collisions.{word-collided, first_of, second_of, neither_of}
@@ -12,11 +13,13 @@ returns-clause-collided g c y low high =
       | inl e ↦ word-collided gas.collide c.args.words.now c.scatter_pair.new.words c.args.count j gas.dirs
           c.directions-dirs.result c.gather-planes.result c.collide64-first.result c.args.chi.now c.args.solid.now
           c.directions-dirs.ensures.value c.gather-planes.ensures.planes c.collide64-first.ensures.cells
-          (λ i x hi here. c.scatter_pair.ensures i x hi (omega arith) ∙ first_of (x / 64) j _ _ _ here) y e
+          (λ i x hi here. c.scatter_pair.ensures i x hi (omega arith) ∙ first_of (x / 64) j _ _ _ here
+          ∙ ap (λ s. holds (get_or c.collide64-first.result i 0) (x % 64) && not s) (c.solid_word-own.ensures (x % 64) (omega arith))) y e
       | inr ne ↦ word-collided gas.collide c.args.words.now c.scatter_pair.new.words c.args.count (j + 1) gas.dirs
           c.directions-dirs.result c.gather-planes_beside.result c.collide64-second.result c.args.chi.now c.args.solid.now
           c.directions-dirs.ensures.value c.gather-planes_beside.ensures.planes c.collide64-second.ensures.cells
-          (λ i x hi here. c.scatter_pair.ensures i x hi (omega arith) ∙ second_of (x / 64) j _ _ _ here) y (omega arith)
+          (λ i x hi here. c.scatter_pair.ensures i x hi (omega arith) ∙ second_of (x / 64) j _ _ _ here
+          ∙ ap (λ s. holds (get_or c.collide64-second.result i 0) (x % 64) && not s) (c.solid_word-own_beside.ensures (x % 64) (omega arith))) y (omega arith)
     ]
 
 pub returns-clause-others : goal.returns-clause-others

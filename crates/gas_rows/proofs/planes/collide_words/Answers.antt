@@ -1,7 +1,7 @@
 use Rattle.std.proofs.Common.{◌*◌, ◌/◌, inl, inr, if◌then◌else◌, ap, ◌∙◌, arith}
 use Rattle.std.proofs.lemmas.Bool.{cases_lt}
 use Rattle.gas_rows.specs.Words.{bit}
-use Rattle.gas_rows.proofs.planes.collide.Goals as goal
+use Rattle.gas_rows.proofs.planes.collide_words.Goals as goal
 
 pub loop-k-preserved : goal.loop-k-preserved
 loop-k-preserved g c =
