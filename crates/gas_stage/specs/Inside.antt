@@ -1,6 +1,8 @@
 -- Inner words: what functions of this crate promise one another. No public contract cites them.
-use Rattle.std.specs.Prelude.{◌≡◌, ℕ, Option, Some, None, List, length}
+use Rattle.std.specs.Prelude.{◌≡◌, ℕ, ◌<◌, Option, Some, None, List, length, slice_index}
+use Rattle.gas_geom.specs.Gas.{Rules, holds}
 use Rattle.gas_geom.specs.Channel.{ChannelModel}
+use Rattle.gas_geom.specs.Lattice.{streamed}
 use Rattle.gas_stage.specs.declared.stage.Pass.{Pass}
 use Rattle.gas_stage.specs.declared.stage.Pass.TheVariants.{Closed, Passing, Computing}
 
@@ -15,3 +17,8 @@ pub record AreWide (channel : ChannelModel) (up mid down : List ℕ) : Type 0 wh
   pub up_wide : length up ≡ channel.width
   pub mid_wide : length mid ≡ channel.width
   pub down_wide : length down ≡ channel.width
+
+-- the directions below n of a row are those of row y of the streamed lattice `at`
+abbrev pub AreStreamed : Rules → ChannelModel → (ℕ → ℕ → ℕ) → ℕ → ℕ → List ℕ → Type 0
+AreStreamed gas channel at y n row = (k x : ℕ) → k < n → k < gas.dirs → x < channel.width
+    → holds (slice_index row x) k ≡ holds (streamed gas channel at x y) k

@@ -6,6 +6,7 @@ ghost use Rattle.gas_geom.specs.Gas.{holds};
 ghost use Rattle.gas_geom.specs.Channel.{is_solid};
 ghost use Rattle.gas_geom.specs.Lattice.{streamed, row_of};
 ghost use Rattle.gas_stage.specs.Streaming.{AreRowsAbout};
+ghost use Rattle.gas_stage.specs.Inside.{AreStreamed};
 
 use gas_geom::gas::Gas;
 use gas_geom::size::neighbour;
@@ -13,6 +14,7 @@ use gas_rows::channel::Channel;
 use gas_rows::row::Row;
 
 // Row v of the three rows about row y.
+#[inline(always)]
 fn row_at<'a, G: Gas>(
     v: u32,
     y: u32,
@@ -48,6 +50,7 @@ fn is_free(channel: &Channel, y: u32) -> bool
 }
 
 // Streams one direction of row y, where no cell near it is solid if `free` says so.
+#[inline(always)]
 fn stream_direction<G: Gas>(
     channel: &Channel,
     y: u32,
@@ -93,6 +96,41 @@ fn stream_direction<G: Gas>(
     out.stream_plane(i, along, from, met, back, own);
 }
 
+// Streams direction i of row y, if the gas has it, after those before it.
+#[inline(always)]
+fn stream_next<G: Gas>(
+    channel: &Channel,
+    y: u32,
+    free: bool,
+    up: Option<&Row<G>>,
+    mid: &Row<G>,
+    down: Option<&Row<G>>,
+    i: u32,
+    out: &mut Row<G>,
+)
+    requires row { y < channel.now.height }
+    requires free { IsTrue free → (x v : ℕ) → y ≤ v + 1 → v ≤ y + 1 → v < channel.now.height → is_solid channel.now x v ≡ false }
+    requires up_there { IsSome up ↔ (0 < y) }
+    requires down_there { IsSome down ↔ (y + 1 < channel.now.height) }
+    requires up_wide { ForSome (option_copied up) (λ r. length r ≡ channel.now.width) }
+    requires mid_wide { length mid.now ≡ channel.now.width }
+    requires down_wide { ForSome (option_copied down) (λ r. length r ≡ channel.now.width) }
+    requires direction { i < 8 }
+    requires out_wide { length out.old ≡ channel.now.width }
+    requires states { 0 < i → (x : ℕ) → slice_index out.old x < 2 ^ G.rules.dirs }
+    ensures wide { length out.new ≡ channel.now.width }
+    ensures states { (x : ℕ) → slice_index out.new x < 2 ^ G.rules.dirs }
+    ensures streamed { (at : ℕ → ℕ → ℕ) →
+        AreRowsAbout channel.now at y
+        (unwrap_or (option_copied up.entry) []) mid.now (unwrap_or (option_copied down.entry) []) →
+        AreStreamed G.rules channel.now at y i out.old →
+        AreStreamed G.rules channel.now at y (i + 1) out.new }
+{
+    if i < G::DIRS {
+        stream_direction(channel, y, free, up, mid, down, i, out);
+    }
+}
+
 /// Row `y` after streaming, from the collided rows above it, at it and below it. The first is None
 /// at the top, and the last at the bottom. What stands at solid cells is not read.
 pub fn stream_row<G: Gas>(
@@ -117,7 +155,13 @@ pub fn stream_row<G: Gas>(
         out.new ≡ row_of channel.now.width (λ x. streamed G.rules channel.now at x y) }
 {
     let free = is_free(channel, y);
-    for i in 0..G::DIRS {
-        stream_direction(channel, y, free, up, mid, down, i, out);
-    }
+    // Each by its number, so that a compiler knows the step of each.
+    stream_next(channel, y, free, up, mid, down, 0, out);
+    stream_next(channel, y, free, up, mid, down, 1, out);
+    stream_next(channel, y, free, up, mid, down, 2, out);
+    stream_next(channel, y, free, up, mid, down, 3, out);
+    stream_next(channel, y, free, up, mid, down, 4, out);
+    stream_next(channel, y, free, up, mid, down, 5, out);
+    stream_next(channel, y, free, up, mid, down, 6, out);
+    stream_next(channel, y, free, up, mid, down, 7, out);
 }

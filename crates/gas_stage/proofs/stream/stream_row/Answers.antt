@@ -5,6 +5,9 @@ use Rattle.gas_stage.proofs.stream.stream_row.Goals as goal
 pub returns-clause-streamed : goal.returns-clause-streamed
 returns-clause-streamed g c at rows =
     let laws = g.met.G.Gas.laws in
-    row_streamed g.G.Gas.rules c.args.channel.now at c.args.y c.loop-i.out c.loop-i.invariant.wide
-    (c.loop-i.invariant.states (omega (arith, g.met.G.Gas.dirs_are, laws.some_dirs, c.DIRS-i-end.ensures)))
-    (λ i x h lt. c.loop-i.invariant.done at rows i x (omega (arith, g.met.G.Gas.dirs_are, c.DIRS-i-end.ensures)) lt)
+    let two = c.stream_next-2.ensures.streamed at rows (c.stream_next.ensures.streamed at rows (λ k x none there within. absurd (omega arith))) in
+    let four = c.stream_next-4.ensures.streamed at rows (c.stream_next-3.ensures.streamed at rows two) in
+    let six = c.stream_next-6.ensures.streamed at rows (c.stream_next-5.ensures.streamed at rows four) in
+    let eight = c.stream_next-8.ensures.streamed at rows (c.stream_next-7.ensures.streamed at rows six) in
+    row_streamed g.G.Gas.rules c.args.channel.now at c.args.y c.stream_next-8.new.out c.stream_next-8.ensures.wide c.stream_next-8.ensures.states
+    (λ i x h lt. eight i x (omega (arith, laws.few_dirs)) h lt)
