@@ -218,7 +218,9 @@ impl<G: Gas> Row<G> {
         ensures states { (x : ℕ) → slice_index self.new x < 2 ^ G.rules.dirs }
     {
         let count = words_for(self.width);
-        empty(&mut self.words, count, directions::<G>(), solid.words());
+        if !solid.is_blank() {
+            empty(&mut self.words, count, directions::<G>(), solid.words());
+        }
     }
 
     /// Collides each fluid cell by itself with its random bit, and empties the solid cells, of which

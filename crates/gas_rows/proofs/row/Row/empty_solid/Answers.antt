@@ -1,5 +1,6 @@
-use Rattle.std.proofs.Common.{◌≡◌, ◌/◌, ◌^◌, ◌<◌, ℕ, Bool, if◌then◌else◌, List, length, get_or, refl, ap, ◌∙◌, sym, subst}
+use Rattle.std.proofs.Common.{◌≡◌, ◌/◌, ◌^◌, ◌<◌, ℕ, Bool, false, if◌then◌else◌, List, length, get_or, refl, ap, ◌∙◌, sym, subst}
 use Rattle.std.proofs.lemmas.List.{with_items_is}
+use Rattle.std.proofs.lemmas.List.FromFn.{fill_by_all}
 use Rattle.gas_rows.specs.Words.{words_in, bit}
 use Rattle.gas_rows.specs.Planes.{state, cells_of}
 use Rattle.gas_rows.specs.Inside.{ArePlanes}
@@ -30,9 +31,9 @@ invariant_of-self g c =
     (subst (λ e. Emptied new c.self.inside.words.items n e c.words.result.now) c.directions.ensures.value
     (subst (λ ws. Emptied new ws n c.directions.result c.words.result.now) c.deref_mut.ensures.value c.empty.ensures)))
 
-pub returns-clause-emptied : goal.returns-clause-emptied
+pub returns-then-not-is_blank-clause-emptied : goal.returns-then-not-is_blank-clause-emptied
 unfolding Emptied
-returns-clause-emptied g c =
+returns-then-not-is_blank-clause-emptied g c =
     let d = g.G.Gas.rules.dirs in
     let new = c.empty.new.words in
     let n = c.words_for-count.result in
@@ -44,9 +45,18 @@ returns-clause-emptied g c =
     (subst (λ ws. Emptied new ws n c.directions.result c.words.result.now) c.deref_mut.ensures.value c.empty.ensures))
     ∙ row_of-same (length c.args.self.now) _ _ (λ x h. ap (λ (s : Bool). if s then 0 else get_or c.args.self.now x 0) (c.words.ensures.bits x))
 
-pub returns-clause-states : goal.returns-clause-states
-returns-clause-states g c x =
+pub returns-then-not-is_blank-clause-states : goal.returns-then-not-is_blank-clause-states
+returns-then-not-is_blank-clause-states g c x =
     let new = c.empty.new.words in
     let same = with_items_is c.self.inside.words new (c.empty.auto.words ∙ c.deref_mut.ensures.len) in
     subst (λ ws. get_or (cells_of g.G.Gas.rules.dirs c.self.inside.width ws) x 0 < 2 ^ g.G.Gas.rules.dirs) (sym same)
     (cells-lt g.G.Gas.rules.dirs c.self.inside.width new x)
+
+pub returns-else-not-is_blank-clause-emptied : goal.returns-else-not-is_blank-clause-emptied
+returns-else-not-is_blank-clause-emptied g c =
+    fill_by_all (λ x. if get_or c.args.solid.now x false then 0 else get_or c.args.self.now x 0) c.args.self.now (length c.args.self.now) 0 refl
+    (λ x h. sym (ap (λ (s : Bool). if s then 0 else get_or c.args.self.now x 0) (c.is_blank.ensures c.if-not-is_blank.false x)))
+
+pub returns-else-not-is_blank-clause-states : goal.returns-else-not-is_blank-clause-states
+returns-else-not-is_blank-clause-states g c x =
+    subst (λ row. get_or row x 0 < 2 ^ g.G.Gas.rules.dirs) c.self.view_is (cells-lt g.G.Gas.rules.dirs c.self.inside.width c.self.inside.words.items x)
