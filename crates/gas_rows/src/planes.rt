@@ -56,6 +56,7 @@ pub(crate) fn write_cell(words: &mut [u64], count: usize, dirs: usize, x: u32, s
 
 /// Collides each cell by itself with its random bit, and empties the solid cells, of which there are
 /// none if `free` says so.
+#[inline(never)]
 pub(crate) fn collide<G: Gas>(
     words: &mut [u64],
     count: usize,
