@@ -1,5 +1,6 @@
 /* FHP-I in plain C, on bit planes, to compare the speed and the answers of fhpgas with: a word holds a direction in 64 cells. The
-   lattice is cut into bands of rows, one for each thread, which meet after each generation. It reads the cells that
+   lattice is cut into bands of rows, one for each thread, which meet after each generation; each keeps three collided rows, and
+   writes the streamed ones in the places that they had. It reads the cells that
    `fhpgas run --generations 0` prints, computes G generations under chirality "left", or "seeded" where a seed is given, and prints
    the cells. Usage: planes G THREADS [SEED] < CELLS. On standard error: the seconds that the generations took. */
 #include <pthread.h>
@@ -11,24 +12,39 @@
 #include <string.h>
 #include <time.h>
 
-enum { DIRECTIONS = 6, MOST_SIDE = 65536, MOST_WORDS = MOST_SIDE / 64, MOST_THREADS = 64, LOOKS = 1000 };
+enum { DIRECTIONS = 6, MOST_SIDE = 65536, MOST_WORDS = MOST_SIDE / 64, MOST_THREADS = 64, LOOKS = 1000, EDGE = 8, WINDOW = 3 };
 typedef uint64_t Word;
+#define INLINED static inline __attribute__((always_inline))
 
 static int width, height, words, threads;
 static long first, generations;
 static int seeded;
 static uint64_t seed;
-static Word *collided, *streamed, *solid; /* rows of six planes, and a row of the mask for each */
-static unsigned char *near_solid;         /* whether a row, the one above or the one below has a solid cell */
+static Word *cells;               /* rows of six planes */
+static Word *solid;               /* a row of the mask for each, with edges */
+static Word *ends;                /* the first and the last collided row of each band, with edges */
+static unsigned char *near_solid; /* whether a row, the one above or the one below has a solid cell */
 static char line[2 * MOST_SIDE + 64];
 
-/* the column steps from even and odd rows, and the row steps, of E, NE, NW, W, SW, SE */
-static const int across[2][DIRECTIONS] = {{1, 0, -1, -1, -1, 0}, {1, 1, 0, -1, 0, 1}};
-static const int down[DIRECTIONS] = {0, -1, -1, 0, 1, 1};
+/* A plane with edges has words before and behind it, where the columns close. */
+static int stride(void) { return words + 2 * EDGE; }
 
-static Word *plane(Word *rows, int y, int i) { return rows + ((size_t)y * DIRECTIONS + i) * words; }
+static size_t row_size(void) { return (size_t)DIRECTIONS * stride(); }
 
-static Word *mask(int y) { return solid + (size_t)y * words; }
+static Word *row_of(int y) { return cells + (size_t)y * DIRECTIONS * words; }
+
+static Word *mask(int y) { return solid + (size_t)y * stride() + EDGE; }
+
+static Word tail(void) { return UINT64_MAX >> (63 - (width - 1) % 64); }
+
+/* lets the last cell stand before the first one, and the first behind the last */
+static void close_columns(Word *plane) {
+    int last = (width - 1) % 64;
+    Word begin = plane[0] & 1;
+    plane[-1] = plane[words - 1] >> last << 63;
+    plane[words] = begin;
+    if (last < 63) plane[words - 1] |= begin << (last + 1);
+}
 
 /* The key stream of ChaCha20 (the block function of RFC 8439 with a counter and a stream number of 64 bits each, the seed before 24
    zero bytes as the key), a block in each lane. The bits of a step are those of the generation's stream, a row from a word of 32 bits on. */
@@ -80,72 +96,107 @@ static void random_row(long generation, int y, Word *bits) {
     }
 }
 
+/* the six planes of a row, some words apart, by names of their own, so that a compiler knows them apart */
+#define PLANES(kind, name, row, apart) \
+    kind *restrict name##0 = (row), *restrict name##1 = name##0 + (apart), *restrict name##2 = name##1 + (apart), \
+         *restrict name##3 = name##2 + (apart), *restrict name##4 = name##3 + (apart), *restrict name##5 = name##4 + (apart)
+
 /* pairs turn to the left, or to the right where the random bit is 0, and triples turn about; solid cells are emptied */
-static inline __attribute__((always_inline)) void collide_by(int y, int left, const Word *restrict bits) {
-    Word *restrict p0 = plane(streamed, y, 0), *restrict p1 = p0 + words, *restrict p2 = p1 + words;
-    Word *restrict p3 = p2 + words, *restrict p4 = p3 + words, *restrict p5 = p4 + words;
-    Word *restrict q = plane(collided, y, 0);
-    const Word *restrict walls = mask(y);
-    for (int j = 0; j < words; j++) {
+INLINED void collide_by(const Word *restrict row, Word *restrict out, const Word *restrict bits, const Word *restrict walls) {
+    PLANES(const Word, p, row, words);
+    PLANES(Word, q, out, stride());
+    int count = words;
+#pragma GCC ivdep
+    for (int j = 0; j < count; j++) {
         Word e = p0[j], ne = p1[j], nw = p2[j], w = p3[j], sw = p4[j], se = p5[j];
-        Word single = (e ^ w) | (ne ^ sw) | (nw ^ se), all = (e ^ w) & (ne ^ sw) & (nw ^ se);
-        Word triple = all & (e ^ ne) & (ne ^ nw);
-        Word pair_e = e & ~(ne | nw | single), pair_ne = ne & ~(e | nw | single), pair_nw = nw & ~(e | ne | single);
-        Word chosen = left ? UINT64_MAX : bits[j];
-        Word turn_e = triple | pair_e | (chosen & pair_nw) | (~chosen & pair_ne);
-        Word turn_ne = triple | pair_ne | (chosen & pair_e) | (~chosen & pair_nw);
-        Word turn_nw = triple | pair_nw | (chosen & pair_ne) | (~chosen & pair_e);
-        Word fluid = ~walls[j];
-        q[j] = (e ^ turn_e) & fluid;
-        q[j + words] = (ne ^ turn_ne) & fluid;
-        q[j + 2 * words] = (nw ^ turn_nw) & fluid;
-        q[j + 3 * words] = (w ^ turn_e) & fluid;
-        q[j + 4 * words] = (sw ^ turn_ne) & fluid;
-        q[j + 5 * words] = (se ^ turn_nw) & fluid;
+        Word one_e = e ^ w, one_ne = ne ^ sw, one_nw = nw ^ se, unlike = e ^ ne;
+        Word triple = one_e & one_ne & one_nw & unlike & (ne ^ nw);
+        Word pair = (unlike ^ nw) & ~((e & ne) | one_e | one_ne | one_nw), right = bits ? ~bits[j] : 0;
+        Word pair_e = pair & (e | (nw ^ right)), pair_ne = pair & (ne | (e ^ right));
+        Word turn_e = triple | pair_e, turn_ne = triple | pair_ne, turn_nw = triple | (pair_e ^ pair_ne);
+        Word fluid = walls ? ~walls[j] : UINT64_MAX;
+        q0[j] = (e ^ turn_e) & fluid, q1[j] = (ne ^ turn_ne) & fluid, q2[j] = (nw ^ turn_nw) & fluid;
+        q3[j] = (w ^ turn_e) & fluid, q4[j] = (sw ^ turn_ne) & fluid, q5[j] = (se ^ turn_nw) & fluid;
     }
 }
 
-static void collide(int y, long generation) {
+/* row y into a row with edges */
+static void collide(int y, long generation, Word *out) {
     Word bits[MOST_WORDS];
-    if (seeded) {
-        random_row(generation, y, bits);
-        collide_by(y, 0, bits);
-    } else {
-        collide_by(y, 1, NULL);
+    Word *q = out + EDGE;
+    if (seeded) random_row(generation, y, bits);
+    if (near_solid[y])
+        collide_by(row_of(y), q, seeded ? bits : NULL, mask(y));
+    else if (seeded)
+        collide_by(row_of(y), q, bits, NULL);
+    else
+        collide_by(row_of(y), q, NULL, NULL);
+    for (int i = 0; i < DIRECTIONS; i++) close_columns(q + (size_t)i * stride());
+}
+
+/* what a word gets from the cells to the west, here or to the east of its own */
+#define WEST(p, j) ((p)[j] << 1 | (p)[(j) - 1] >> 63)
+#define EAST(p, j) ((p)[j] >> 1 | (p)[(j) + 1] << 63)
+
+/* a row far from solid cells and walls */
+INLINED void move_row(Word *restrict row, const Word *restrict up, const Word *restrict mid, const Word *restrict down, int odd) {
+    PLANES(Word, out, row, words);
+    int count = words, m = stride();
+    const Word *restrict ne = down + m, *restrict nw = down + 2 * m, *restrict w = mid + 3 * m, *restrict sw = up + 4 * m,
+                *restrict se = up + 5 * m;
+#pragma GCC ivdep
+    for (int j = 0; j < count; j++) {
+        out0[j] = WEST(mid, j);
+        out1[j] = odd ? ne[j] : WEST(ne, j);
+        out2[j] = odd ? EAST(nw, j) : nw[j];
+        out3[j] = EAST(w, j);
+        out4[j] = odd ? EAST(sw, j) : sw[j];
+        out5[j] = odd ? se[j] : WEST(se, j);
     }
 }
 
-/* out(x) = in(x - step), where the columns close */
-static void move(Word *restrict out, const Word *restrict in, int step) {
-    int last = (width - 1) % 64;
-    if (step == 1) {
-        out[0] = in[0] << 1 | (in[words - 1] >> last & 1);
-        for (int j = 1; j < words; j++) out[j] = in[j] << 1 | in[j - 1] >> 63;
-        out[words - 1] &= UINT64_MAX >> (63 - last);
-    } else if (step == -1) {
-        for (int j = 0; j < words - 1; j++) out[j] = in[j] >> 1 | in[j + 1] << 63;
-        out[words - 1] = in[words - 1] >> 1 | (in[0] & 1) << last;
-    } else {
-        memcpy(out, in, words * sizeof *out);
+/* One direction of a row. A particle that would come from a solid cell is the one that was sent back. */
+INLINED void stream_from(Word *restrict out, const Word *restrict from, const Word *restrict met, const Word *restrict back,
+                         const Word *restrict own, int side) {
+    for (int j = 0; j < words; j++) {
+        Word came = side < 0 ? WEST(from, j) : side > 0 ? EAST(from, j) : from[j];
+        Word turned = side < 0 ? WEST(met, j) : side > 0 ? EAST(met, j) : met[j];
+        out[j] = ((came & ~turned) | (back[j] & turned)) & ~own[j];
     }
 }
 
-/* a particle that would come from a solid cell or through a wall is the one that was sent back */
-static void stream(int y) {
-    Word met[MOST_WORDS];
+/* the sides that the particles of E, NE, NW, W, SW, SE come from in even and odd rows, and the rows */
+static const int side_of[2][DIRECTIONS] = {{-1, -1, 0, 1, 0, -1}, {-1, 0, 1, 1, 1, 0}};
+static const int row_from[DIRECTIONS] = {0, 1, 1, 0, -1, -1};
+
+static void stream_near(int y, const Word *up, const Word *mid, const Word *down) {
     for (int i = 0; i < DIRECTIONS; i++) {
-        Word *restrict out = plane(streamed, y, i);
-        const Word *restrict back = plane(collided, y, (i + 3) % DIRECTIONS), *restrict own = mask(y);
-        int from = y - down[i];
-        if (from < 0 || from >= height) {
+        int m = stride(), from = y + row_from[i], side = side_of[y % 2][i];
+        Word *out = row_of(y) + (size_t)i * words;
+        const Word *back = mid + (size_t)((i + 3) % DIRECTIONS) * m, *own = mask(y);
+        const Word *row = (row_from[i] < 0 ? up : row_from[i] > 0 ? down : mid) + (size_t)i * m;
+        if (from < 0 || from >= height)
             for (int j = 0; j < words; j++) out[j] = back[j] & ~own[j];
-            continue;
-        }
-        move(out, plane(collided, from, i), across[from % 2][i]);
-        if (!near_solid[y]) continue;
-        move(met, mask(from), across[from % 2][i]);
-        for (int j = 0; j < words; j++) out[j] = ((out[j] & ~met[j]) | (back[j] & met[j])) & ~own[j];
+        else if (side < 0)
+            stream_from(out, row, mask(from), back, own, -1);
+        else if (side > 0)
+            stream_from(out, row, mask(from), back, own, 1);
+        else
+            stream_from(out, row, mask(from), back, own, 0);
     }
+}
+
+/* row y of the lattice from the collided rows above it, at it and below it */
+static void stream(int y, const Word *above, const Word *here, const Word *below) {
+    Word *out = row_of(y);
+    const Word *up = above + EDGE, *mid = here + EDGE, *down = below + EDGE;
+    if (near_solid[y] || y == 0 || y + 1 == height)
+        stream_near(y, up, mid, down);
+    else if (y % 2)
+        move_row(out, up, mid, down, 1);
+    else
+        move_row(out, up, mid, down, 0);
+    for (int i = 0; i < DIRECTIONS; i++) out[(size_t)(i + 1) * words - 1] &= tail();
 }
 
 /* where the threads meet: each waits until all have come */
@@ -163,27 +214,39 @@ static void meet(void) {
         if (looks > LOOKS) sched_yield();
 }
 
-/* A band is read by its neighbours once it was collided, and streamed once it was read. */
+/* the first collided row of a band, or the last */
+static Word *end_of(int band, int last) { return ends + (size_t)(2 * band + last) * row_size(); }
+
+/* The ends of a band are read by its neighbours; its other rows are collided as they are needed. Past the walls nothing is read. */
+static void make_band(int band, int from, int to, long generation, Word *window) {
+    const Word *up = end_of(band ? band - 1 : 0, 1), *here = end_of(band, 0), *down = NULL;
+    for (int y = from; y < to; y++) {
+        if (y + 1 == to)
+            down = end_of(band + 1 < threads ? band + 1 : band, 0);
+        else if (y + 2 == to)
+            down = end_of(band, 1);
+        else {
+            Word *next = window + (y + 1) % WINDOW * row_size();
+            collide(y + 1, generation, next);
+            down = next;
+        }
+        stream(y, up, here, down);
+        up = here, here = down;
+    }
+}
+
 static void *work(void *given) {
     int band = (int)(intptr_t)given, from = (int)((long)height * band / threads), to = (int)((long)height * (band + 1) / threads);
+    Word *window = calloc(WINDOW * row_size(), sizeof(Word));
+    if (!window) exit(1);
     for (long g = first; g < first + generations; g++) {
-        if (threads == 1) {
-            collide(0, g);
-            for (int y = 0; y < height; y++) {
-                if (y + 1 < height) collide(y + 1, g);
-                stream(y);
-            }
-            continue;
-        }
-        if (from < to) collide(from, g);
-        if (from + 1 < to) collide(to - 1, g);
-        meet();
-        for (int y = from; y < to; y++) {
-            if (y + 1 < to - 1) collide(y + 1, g);
-            stream(y);
-        }
-        meet();
+        collide(from, g, end_of(band, 0));
+        collide(to - 1, g, end_of(band, 1));
+        if (threads > 1) meet();
+        make_band(band, from, to, g, window);
+        if (threads > 1) meet();
     }
+    free(window);
     return NULL;
 }
 
@@ -196,31 +259,32 @@ static void read_row(const char *text, int y) {
         if (text[2 * x] == '#' || text[2 * x] == '.') continue;
         int state = 16 * digit(text[2 * x]) + digit(text[2 * x + 1]);
         for (int i = 0; i < DIRECTIONS; i++)
-            if (state >> i & 1) plane(streamed, y, i)[x / 64] |= bit;
+            if (state >> i & 1) row_of(y)[(size_t)i * words + x / 64] |= bit;
     }
 }
 
 /* the rows one after another, since only the last line tells how many there are */
 static int read_cells(void) {
-    size_t row;
     while (height < MOST_SIDE && fgets(line, sizeof line, stdin)) {
         width = (int)strcspn(line, "\n") / 2;
         words = (width + 63) / 64;
-        row = (size_t)words * sizeof(Word);
-        streamed = realloc(streamed, (height + 1) * DIRECTIONS * row);
-        solid = realloc(solid, (height + 1) * row);
-        if (!streamed || !solid) return 0;
-        memset(plane(streamed, height, 0), 0, DIRECTIONS * row);
-        memset(mask(height), 0, row);
+        size_t row = DIRECTIONS * words * sizeof(Word), mask_row = stride() * sizeof(Word);
+        cells = realloc(cells, (height + 1) * row);
+        solid = realloc(solid, (height + 1) * mask_row);
+        if (!cells || !solid) return 0;
+        memset(row_of(height), 0, row);
+        memset(mask(height) - EDGE, 0, mask_row);
         read_row(line, height++);
     }
-    collided = calloc((size_t)height * DIRECTIONS * words, sizeof(Word));
+    if (threads > height) threads = height;
+    ends = calloc(2 * threads * row_size(), sizeof(Word));
     near_solid = calloc(height, 1);
-    if (!collided || !near_solid) return 0;
+    if (!ends || !near_solid) return 0;
     for (int y = 0; y < height; y++)
         for (int j = 0; j < words; j++)
             if (mask(y)[j])
                 for (int near = y ? y - 1 : 0; near <= y + 1 && near < height; near++) near_solid[near] = 1;
+    for (int y = 0; y < height; y++) close_columns(mask(y));
     return 1;
 }
 
@@ -228,7 +292,7 @@ static void print_row(int y) {
     static const char digits[] = "0123456789abcdef";
     for (int x = 0; x < width; x++) {
         int state = 0;
-        for (int i = 0; i < DIRECTIONS; i++) state |= (int)(plane(streamed, y, i)[x / 64] >> x % 64 & 1) << i;
+        for (int i = 0; i < DIRECTIONS; i++) state |= (int)(row_of(y)[(size_t)i * words + x / 64] >> x % 64 & 1) << i;
         line[2 * x] = state ? digits[state / 16] : '.';
         line[2 * x + 1] = state ? digits[state % 16] : '.';
         if (mask(y)[x / 64] >> x % 64 & 1) line[2 * x] = line[2 * x + 1] = '#';
