@@ -292,6 +292,7 @@ impl<G: Gas> Row<G> {
     /// Streams direction `i` into this row where its particles would come from past the wall, which
     /// sends back those of the opposite direction: `back` holds it, and `own` the solid cells, of
     /// the row that is streamed.
+    #[inline(always)]
     pub fn reflect_plane(&mut self, i: u32, back: &[u64], own: &[u64])
         requires direction { i < G.rules.dirs }
         requires back { length back.now ≡ words_in (length self.old) }

@@ -7,7 +7,7 @@ ghost use Rattle.gas_stage.specs.Inside.{AreWide};
 ghost use Rattle.gas_stage.specs.Streaming.{AreRowsAbout};
 ghost use Rattle.gas_stage.specs.Stage.{StageModel, Fits, owed, given};
 
-use crate::stream::stream_row;
+use crate::stream::streamed_row;
 use gas_geom::gas::Gas;
 use gas_rows::channel::Channel;
 use gas_rows::chirality::Chirality;
@@ -18,27 +18,27 @@ use std::alloc::{AllocError, Global};
 use std::marker::Model;
 use std::mem;
 
-// Row y after streaming. The row above is not read at the top, nor the row below at the bottom.
+// Row y after streaming, in the row `out`. The row above is not read at the top, nor the row below at the bottom.
 fn stream_between<G: Gas>(
     channel: &Channel,
     y: u32,
     above: &Row<G>,
     middle: &Row<G>,
     below: &Row<G>,
-    out: &mut Row<G>,
-)
+    out: Row<G>,
+) -> Row<G>
     requires row { y < channel.now.height }
     requires wide { AreWide channel.now above.now middle.now below.now }
-    requires out_wide { length out.old ≡ channel.now.width }
-    ensures wide { length out.new ≡ channel.now.width }
+    requires out_wide { length out ≡ channel.now.width }
+    ensures wide { length result ≡ channel.now.width }
     ensures streamed { (at : ℕ → ℕ → ℕ) →
         AreRowsAbout channel.now at y above.now middle.now below.now →
-        out.new ≡ row_of channel.now.width (λ x. streamed G.rules channel.now at x y) }
+        result ≡ row_of channel.now.width (λ x. streamed G.rules channel.now at x y) }
 {
     let height = channel.size().height();
     let up = (y > 0).then_some(above);
     let down = (y + 1 < height).then_some(below);
-    stream_row(channel, y, up, middle, down, out);
+    streamed_row(channel, y, up, middle, down, out)
 }
 
 // What a stage does with the rows that it is fed.
@@ -167,17 +167,18 @@ impl<'a, G: Gas> Stage<'a, G> {
             self.last = Some(row);
             return None;
         };
-        stream_between(
+        let oldest = mem::replace(&mut self.before_last, last);
+        let out = mem::replace(&mut self.spare, oldest);
+        let given = stream_between(
             self.channel,
             y - 1,
+            &self.spare,
             &self.before_last,
-            &last,
             &row,
-            &mut self.spare,
+            out,
         );
-        let oldest = mem::replace(&mut self.before_last, last);
         self.last = Some(row);
-        Some(mem::replace(&mut self.spare, oldest))
+        Some(given)
     }
 
     /// Closes the open pass, in which all rows were fed. A computing pass gives the last row of the
@@ -199,16 +200,16 @@ impl<'a, G: Gas> Stage<'a, G> {
         self.fed = 0;
         self.pass = Pass::Closed;
         let last = self.last.take()?;
+        let out = mem::replace(&mut self.spare, last);
         // No row is below the bottom one, and none is read.
-        stream_between(
+        Some(stream_between(
             self.channel,
             y - 1,
             &self.before_last,
-            &last,
-            &last,
-            &mut self.spare,
-        );
-        Some(mem::replace(&mut self.spare, last))
+            &self.spare,
+            &self.spare,
+            out,
+        ))
     }
 
     /// The rows fed in the open pass, 0 where none is open.

@@ -49,12 +49,11 @@ fn is_free(channel: &Channel, y: u32) -> bool
         && (y + 1 == height || channel.mask(y + 1).is_blank())
 }
 
-// Streams one direction of row y, where no cell near it is solid if `free` says so.
+// Streams one direction of row y.
 #[inline(always)]
 fn stream_direction<G: Gas>(
     channel: &Channel,
     y: u32,
-    free: bool,
     up: Option<&Row<G>>,
     mid: &Row<G>,
     down: Option<&Row<G>>,
@@ -62,7 +61,6 @@ fn stream_direction<G: Gas>(
     out: &mut Row<G>,
 )
     requires row { y < channel.now.height }
-    requires free { IsTrue free → (x v : ℕ) → y ≤ v + 1 → v ≤ y + 1 → v < channel.now.height → is_solid channel.now x v ≡ false }
     requires up_there { IsSome up ↔ (0 < y) }
     requires down_there { IsSome down ↔ (y + 1 < channel.now.height) }
     requires up_wide { ForSome (option_copied up) (λ r. length r ≡ channel.now.width) }
@@ -81,27 +79,22 @@ fn stream_direction<G: Gas>(
 {
     let opposite = G::opposite(i);
     let (along, _) = G::step(opposite, y % 2 == 1);
+    let own = channel.mask(y).words();
+    let back = mid.plane(opposite);
     let Some((_, v)) = neighbour::<G>(channel.size(), 0, y, opposite) else {
-        out.reflect_plane(i, mid.plane(opposite), channel.mask(y).words());
+        out.reflect_plane(i, back, own);
         return;
     };
     let from = row_at(v, y, up, mid, down).plane(i);
-    if free {
-        out.move_plane(i, along, from);
-        return;
-    }
-    let back = mid.plane(opposite);
     let met = channel.mask(v).words();
-    let own = channel.mask(y).words();
     out.stream_plane(i, along, from, met, back, own);
 }
 
-// Streams direction i of row y, if the gas has it, after those before it.
+// Streams one direction of row y, where no cell near it is solid.
 #[inline(always)]
-fn stream_next<G: Gas>(
+fn move_direction<G: Gas>(
     channel: &Channel,
     y: u32,
-    free: bool,
     up: Option<&Row<G>>,
     mid: &Row<G>,
     down: Option<&Row<G>>,
@@ -109,7 +102,44 @@ fn stream_next<G: Gas>(
     out: &mut Row<G>,
 )
     requires row { y < channel.now.height }
-    requires free { IsTrue free → (x v : ℕ) → y ≤ v + 1 → v ≤ y + 1 → v < channel.now.height → is_solid channel.now x v ≡ false }
+    requires free { (x v : ℕ) → y ≤ v + 1 → v ≤ y + 1 → v < channel.now.height → is_solid channel.now x v ≡ false }
+    requires up_there { IsSome up ↔ (0 < y) }
+    requires down_there { IsSome down ↔ (y + 1 < channel.now.height) }
+    requires up_wide { ForSome (option_copied up) (λ r. length r ≡ channel.now.width) }
+    requires mid_wide { length mid.now ≡ channel.now.width }
+    requires down_wide { ForSome (option_copied down) (λ r. length r ≡ channel.now.width) }
+    requires direction { i < G.rules.dirs }
+    requires out_wide { length out.old ≡ channel.now.width }
+    ensures wide { length out.new ≡ channel.now.width }
+    ensures states { (x : ℕ) → slice_index out.new x < 2 ^ G.rules.dirs }
+    ensures streamed { (at : ℕ → ℕ → ℕ) →
+        AreRowsAbout channel.now at y
+        (unwrap_or (option_copied up.entry) []) mid.now (unwrap_or (option_copied down.entry) []) →
+        (x : ℕ) → x < channel.now.width →
+        holds (slice_index out.new x) i ≡ holds (streamed G.rules channel.now at x y) i }
+    ensures others { (x k : ℕ) → k ≢ i → holds (slice_index out.new x) k ≡ holds (slice_index out.old x) k }
+{
+    let opposite = G::opposite(i);
+    let along = G::step(opposite, y % 2 == 1).0;
+    let Some((_, v)) = neighbour::<G>(channel.size(), 0, y, opposite) else {
+        out.reflect_plane(i, mid.plane(opposite), channel.mask(y).words());
+        return;
+    };
+    out.move_plane(i, along, row_at(v, y, up, mid, down).plane(i));
+}
+
+// Streams direction i of row y, if the gas has it, after those before it.
+#[inline(always)]
+fn stream_next<G: Gas>(
+    channel: &Channel,
+    y: u32,
+    up: Option<&Row<G>>,
+    mid: &Row<G>,
+    down: Option<&Row<G>>,
+    i: u32,
+    out: &mut Row<G>,
+)
+    requires row { y < channel.now.height }
     requires up_there { IsSome up ↔ (0 < y) }
     requires down_there { IsSome down ↔ (y + 1 < channel.now.height) }
     requires up_wide { ForSome (option_copied up) (λ r. length r ≡ channel.now.width) }
@@ -127,8 +157,107 @@ fn stream_next<G: Gas>(
         AreStreamed G.rules channel.now at y (i + 1) out.new }
 {
     if i < G::DIRS {
-        stream_direction(channel, y, free, up, mid, down, i, out);
+        stream_direction(channel, y, up, mid, down, i, out);
     }
+}
+
+// Streams direction i of row y, where no cell near it is solid, if the gas has it, after those before it.
+#[inline(always)]
+fn move_next<G: Gas>(
+    channel: &Channel,
+    y: u32,
+    up: Option<&Row<G>>,
+    mid: &Row<G>,
+    down: Option<&Row<G>>,
+    i: u32,
+    out: &mut Row<G>,
+)
+    requires row { y < channel.now.height }
+    requires free { (x v : ℕ) → y ≤ v + 1 → v ≤ y + 1 → v < channel.now.height → is_solid channel.now x v ≡ false }
+    requires up_there { IsSome up ↔ (0 < y) }
+    requires down_there { IsSome down ↔ (y + 1 < channel.now.height) }
+    requires up_wide { ForSome (option_copied up) (λ r. length r ≡ channel.now.width) }
+    requires mid_wide { length mid.now ≡ channel.now.width }
+    requires down_wide { ForSome (option_copied down) (λ r. length r ≡ channel.now.width) }
+    requires direction { i < 8 }
+    requires out_wide { length out.old ≡ channel.now.width }
+    requires states { 0 < i → (x : ℕ) → slice_index out.old x < 2 ^ G.rules.dirs }
+    ensures wide { length out.new ≡ channel.now.width }
+    ensures states { (x : ℕ) → slice_index out.new x < 2 ^ G.rules.dirs }
+    ensures streamed { (at : ℕ → ℕ → ℕ) →
+        AreRowsAbout channel.now at y
+        (unwrap_or (option_copied up.entry) []) mid.now (unwrap_or (option_copied down.entry) []) →
+        AreStreamed G.rules channel.now at y i out.old →
+        AreStreamed G.rules channel.now at y (i + 1) out.new }
+{
+    if i < G::DIRS {
+        move_direction(channel, y, up, mid, down, i, out);
+    }
+}
+
+// Row y after streaming, where no cell near it is solid. It has the row `out` by value, so that a
+// compiler keeps in registers where its words lie.
+fn moved_row<G: Gas>(
+    channel: &Channel,
+    y: u32,
+    up: Option<&Row<G>>,
+    mid: &Row<G>,
+    down: Option<&Row<G>>,
+    mut out: Row<G>,
+) -> Row<G>
+    requires row { y < channel.now.height }
+    requires free { (x v : ℕ) → y ≤ v + 1 → v ≤ y + 1 → v < channel.now.height → is_solid channel.now x v ≡ false }
+    requires up_there { IsSome up ↔ (0 < y) }
+    requires down_there { IsSome down ↔ (y + 1 < channel.now.height) }
+    requires up_wide { ForSome (option_copied up) (λ r. length r ≡ channel.now.width) }
+    requires mid_wide { length mid.now ≡ channel.now.width }
+    requires down_wide { ForSome (option_copied down) (λ r. length r ≡ channel.now.width) }
+    requires out_wide { length out ≡ channel.now.width }
+    ensures wide { length result ≡ channel.now.width }
+    ensures streamed { (at : ℕ → ℕ → ℕ) →
+        AreRowsAbout channel.now at y
+        (unwrap_or (option_copied up.entry) []) mid.now (unwrap_or (option_copied down.entry) []) →
+        result ≡ row_of channel.now.width (λ x. streamed G.rules channel.now at x y) }
+{
+    // Each by its number, so that a compiler knows the step of each.
+    move_next(channel, y, up, mid, down, 0, &mut out);
+    move_next(channel, y, up, mid, down, 1, &mut out);
+    move_next(channel, y, up, mid, down, 2, &mut out);
+    move_next(channel, y, up, mid, down, 3, &mut out);
+    move_next(channel, y, up, mid, down, 4, &mut out);
+    move_next(channel, y, up, mid, down, 5, &mut out);
+    move_next(channel, y, up, mid, down, 6, &mut out);
+    move_next(channel, y, up, mid, down, 7, &mut out);
+    out
+}
+
+/// Row `y` after streaming, as `stream_row` has it, in the row `out`.
+pub(crate) fn streamed_row<G: Gas>(
+    channel: &Channel,
+    y: u32,
+    up: Option<&Row<G>>,
+    mid: &Row<G>,
+    down: Option<&Row<G>>,
+    mut out: Row<G>,
+) -> Row<G>
+    requires row { y < channel.now.height }
+    requires up_there { IsSome up ↔ (0 < y) }
+    requires down_there { IsSome down ↔ (y + 1 < channel.now.height) }
+    requires up_wide { ForSome (option_copied up) (λ r. length r ≡ channel.now.width) }
+    requires mid_wide { length mid.now ≡ channel.now.width }
+    requires down_wide { ForSome (option_copied down) (λ r. length r ≡ channel.now.width) }
+    requires out_wide { length out ≡ channel.now.width }
+    ensures wide { length result ≡ channel.now.width }
+    ensures streamed { (at : ℕ → ℕ → ℕ) →
+        AreRowsAbout channel.now at y
+        (unwrap_or (option_copied up.entry) []) mid.now (unwrap_or (option_copied down.entry) []) →
+        result ≡ row_of channel.now.width (λ x. streamed G.rules channel.now at x y) }
+{
+    if is_free(channel, y) {
+        return moved_row(channel, y, up, mid, down, out);
+    }
+    stream_row(channel, y, up, mid, down, &mut out);
+    out
 }
 
 /// Row `y` after streaming, from the collided rows above it, at it and below it. The first is None
@@ -154,14 +283,13 @@ pub fn stream_row<G: Gas>(
         (unwrap_or (option_copied up.entry) []) mid.now (unwrap_or (option_copied down.entry) []) →
         out.new ≡ row_of channel.now.width (λ x. streamed G.rules channel.now at x y) }
 {
-    let free = is_free(channel, y);
     // Each by its number, so that a compiler knows the step of each.
-    stream_next(channel, y, free, up, mid, down, 0, out);
-    stream_next(channel, y, free, up, mid, down, 1, out);
-    stream_next(channel, y, free, up, mid, down, 2, out);
-    stream_next(channel, y, free, up, mid, down, 3, out);
-    stream_next(channel, y, free, up, mid, down, 4, out);
-    stream_next(channel, y, free, up, mid, down, 5, out);
-    stream_next(channel, y, free, up, mid, down, 6, out);
-    stream_next(channel, y, free, up, mid, down, 7, out);
+    stream_next(channel, y, up, mid, down, 0, out);
+    stream_next(channel, y, up, mid, down, 1, out);
+    stream_next(channel, y, up, mid, down, 2, out);
+    stream_next(channel, y, up, mid, down, 3, out);
+    stream_next(channel, y, up, mid, down, 4, out);
+    stream_next(channel, y, up, mid, down, 5, out);
+    stream_next(channel, y, up, mid, down, 6, out);
+    stream_next(channel, y, up, mid, down, 7, out);
 }
