@@ -48,8 +48,8 @@ fn receiver<G: Gas>(
     let mut spares = Spares::new(alloc, width)?;
     spares.keep(row);
     spares.keep(Row::blank(alloc, width)?);
-    let inlet = Inlet::new(ring, vec![in alloc; 0; together]?);
-    Ok(Rx::new(inlet, words, spares))
+    let inlet = Inlet::new(ring, words, vec![in alloc; 0; together]?);
+    Ok(Rx::new(inlet, spares))
 }
 
 /// A belt for rows of `width` cells, 1 to 65536, with places for the words of `capacity` rows,

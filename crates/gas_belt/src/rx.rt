@@ -13,8 +13,6 @@ use std::marker::Model;
 pub struct Rx<G: Gas> {
     pub(crate) inlet: Inlet,
     pub(crate) count: u64,
-    // Places for the words of a row.
-    words: Vec<u64>,
     spares: Spares<G>,
 }
 
@@ -33,23 +31,22 @@ impl<G: Gas> Model for Rx<G> {
 
     ghost invariant = { λ r. record {
       counted : length (taken_words r.inlet) ≡ row_words G.rules.dirs r.spares.width * r.count;
-      long : vec_len r.words ≡ row_words G.rules.dirs r.spares.width;
-      some : 0 < vec_len r.words;
+      long : vec_len r.inlet.row ≡ row_words G.rules.dirs r.spares.width;
+      some : 0 < vec_len r.inlet.row;
     } };
 }
 
 impl<G: Gas> Rx<G> {
     #[tactic(auto, using(crate::proofs::Parts::parts_none))]
-    pub(crate) fn new(inlet: Inlet, words: Vec<u64>, spares: Spares<G>) -> Self
+    pub(crate) fn new(inlet: Inlet, spares: Spares<G>) -> Self
         requires nothing { taken_words inlet ≡ [] }
-        requires some_words { 0 < vec_len words }
-        requires long { vec_len words ≡ row_words G.rules.dirs spares.width }
+        requires some_words { 0 < vec_len inlet.row }
+        requires long { vec_len inlet.row ≡ row_words G.rules.dirs spares.width }
         ensures { result ≡ record { belt = belt_of spares.width inlet.ring.end; taken = []; held = spares.count } }
     {
         Rx {
             inlet,
             count: 0,
-            words,
             spares,
         }
     }
@@ -69,13 +66,13 @@ impl<G: Gas> Rx<G> {
         if self.count == u64::MAX || self.spares.count() == 0 {
             return None;
         }
-        if !self.inlet.take(&mut self.words) {
+        if !self.inlet.take() {
             return None;
         }
         let Some(mut row) = self.spares.take() else {
             unreachable!()
         };
-        row.exchange_words(&mut self.words);
+        row.exchange_words(&mut self.inlet.row);
         self.count += 1;
         Some(row)
     }

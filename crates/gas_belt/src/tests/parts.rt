@@ -19,8 +19,8 @@ fn end_and_ring(alloc: Global, together: usize) -> Result<(Producer<u64>, Rx<Fhp
     let words = vec![in alloc; 0; WORDS]?;
     let mut spares = Spares::new(alloc, 65)?;
     spares.keep(Row::blank(alloc, 65)?);
-    let inlet = Inlet::new(consumer, vec![in alloc; 0; together]?);
-    Ok((ring, Rx::new(inlet, words, spares)))
+    let inlet = Inlet::new(consumer, words, vec![in alloc; 0; together]?);
+    Ok((ring, Rx::new(inlet, spares)))
 }
 
 // Sends words, and takes the row that is whole by then.

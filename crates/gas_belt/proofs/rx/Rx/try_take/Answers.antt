@@ -1,5 +1,5 @@
-use Rattle.std.proofs.Common.{◌≡◌, ◌+◌, ◌*◌, ◌++◌, ◌∷◌, [], ℕ, List, length, sym, ap, ap₂, ◌∙◌, arith}
-use Rattle.std.proofs.lemmas.List.{length-append, with_items_is}
+use Rattle.std.proofs.Common.{◌≡◌, ◌+◌, ◌*◌, ◌++◌, ◌∷◌, [], ℕ, List, length, sym, ap, ◌∙◌, arith}
+use Rattle.std.proofs.lemmas.List.{length-append}
 use Rattle.gas_rows.specs.Planes.{cells_of}
 use Rattle.gas_rows.specs.Row.{RowModel}
 use Rattle.gas_belt.specs.Belt.{Receiver}
@@ -13,8 +13,8 @@ invariant_of-self-2 g c =
     let s = c.self.inside in
     let dirs = g.G.Gas.rules.dirs in
     let w = row_words dirs s.spares.width in
-    let words = c.take.new.words in
-    let long : length words ≡ w = c.take.auto.words ∙ c.deref_mut.ensures.len ∙ c.self.invariant.long in
+    let words = c.take.new.self.row.items in
+    let long : length words ≡ w = c.take.ensures.words ∙ c.self.invariant.long in
     let same : c.take-2.new.self.width ≡ s.spares.width = ap (λ k. k.width) (sym c.in-Some.ensures.one_less) in
     let longer : length (taken_words c.take.new.self) ≡ length (taken_words s.inlet) + length words =
     ap (λ (xs : List ℕ). length xs) (c.take.ensures.taken c.if-not-take.false) ∙ length-append (taken_words s.inlet) words in
@@ -22,8 +22,8 @@ invariant_of-self-2 g c =
     let counted : length (taken_words c.take.new.self) ≡ w * (s.count + 1) = omega (arith, longer, next, long, c.self.invariant.counted) in
     record {
       counted = counted ∙ ap (λ k. row_words dirs k * (s.count + 1)) (sym same);
-      long = c.exchange_words.ensures.long ∙ c.self.invariant.long ∙ ap (row_words dirs) (sym same);
-      some = omega (arith, c.exchange_words.ensures.long, c.self.invariant.some);
+      long = c.exchange_words.ensures.long ∙ c.take.ensures.places ∙ c.self.invariant.long ∙ ap (row_words dirs) (sym same);
+      some = omega (arith, c.exchange_words.ensures.long, c.take.ensures.places, c.self.invariant.some);
     }
 
 pub returns-clause-taken : goal.returns-clause-taken
@@ -31,11 +31,10 @@ returns-clause-taken g c =
     let s = c.self.inside in
     let dirs = g.G.Gas.rules.dirs in
     let w = row_words dirs s.spares.width in
-    let words = c.take.new.words in
-    let long : length words ≡ w = c.take.auto.words ∙ c.deref_mut.ensures.len ∙ c.self.invariant.long in
+    let words = c.take.new.self.row.items in
+    let long : length words ≡ w = c.take.ensures.words ∙ c.self.invariant.long in
     let same : c.take-2.new.self.width ≡ s.spares.width = ap (λ k. k.width) (sym c.in-Some.ensures.one_less) in
-    let items = with_items_is s.words words (c.take.auto.words ∙ c.deref_mut.ensures.len) in
-    let cells : c.exchange_words.new.self ≡ cells_of dirs s.spares.width words = c.exchange_words.ensures.cells ∙ ap₂ (cells_of dirs) c.in-Some.ensures.row items in
+    let cells : c.exchange_words.new.self ≡ cells_of dirs s.spares.width words = c.exchange_words.ensures.cells ∙ ap (λ k. cells_of dirs k words) c.in-Some.ensures.row in
     let taken : rows_in dirs s.spares.width (s.count + 1) (taken_words c.take.new.self)
     ≡ rows_in dirs s.spares.width s.count (taken_words s.inlet) ++ c.exchange_words.new.self ∷ [] =
     ap (rows_in dirs s.spares.width (s.count + 1)) (c.take.ensures.taken c.if-not-take.false)
