@@ -1,5 +1,5 @@
 -- One bit of a word that is shifted or joined with others.
-use Rattle.std.proofs.Common.{◌≡◌, ℕ, zero, suc, ◌+◌, ◌-◌, ◌*◌, ◌/◌, ◌%◌, ◌^◌, ◌<◌, ◌≤◌, Bool, true, false, not, ◌&&◌, ◌||◌, ◌==◌, if◌then◌else◌, refl, sym, ap, ap₂, ◌∙◌, subst, arith, inl, inr}
+use Rattle.std.proofs.Common.{◌≡◌, ℕ, zero, suc, ◌+◌, ◌-◌, ◌*◌, ◌/◌, ◌%◌, ◌^◌, ◌<◌, ◌≤◌, Bool, true, false, not, ◌&&◌, ◌||◌, ◌==◌, nat_le, if◌then◌else◌, refl, sym, ap, ap₂, ◌∙◌, subst, arith, inl, inr}
 use mathlib.Core.Bool.{or-false}
 use lib.Bits.{bit_and, bit_or}
 use Rattle.std.proofs.lemmas.Bool.{cases_lt}
@@ -7,7 +7,7 @@ use Rattle.std.proofs.lemmas.Bool.Decides.{nat_tests}
 use Rattle.std.proofs.Math.Dec.{eqb-suc-zero}
 use Rattle.gas_geom.specs.Gas.{Back, On, holds}
 use Rattle.gas_geom.proofs.Holds.{holds-and, holds-or, holds-not, holds-above}
-use Rattle.gas_rows.specs.Moved.{moved_bit}
+use Rattle.gas_rows.specs.Moved.{moved_bit, moved_last_bit}
 use Rattle.gas_rows.specs.Shift.{streamed_bit}
 use Rattle.gas_rows.proofs.Bits.{holds-shl_high, holds-shl_low, holds-shr}
 
@@ -44,27 +44,31 @@ holds-to_top y last h =
     let e : 63 - last + last ≡ 63 = omega arith in
     subst (λ k. holds (y * 2 ^ (63 - last) % 2 ^ 64) k ≡ holds y last) e (holds-shl_high (63 - last) last y (omega arith))
 
--- `(next << 1) << last`
-joined-low : (next last b : ℕ) → last < 64 → b ≤ last → holds (next * 2 ^ 1 % 2 ^ 64 * 2 ^ last % 2 ^ 64) b ≡ false
-joined-low next last b h le =
-    elim (cases_lt b last) [
-      | inl lt ↦ holds-shl_low last b (next * 2 ^ 1 % 2 ^ 64) lt (omega arith)
-      | inr ge ↦ (let e : last + 0 ≡ b = omega arith in
-          subst (λ k. holds (next * 2 ^ 1 % 2 ^ 64 * 2 ^ last % 2 ^ 64) k ≡ false) e
-          (holds-shl_high last 0 (next * 2 ^ 1 % 2 ^ 64) (omega arith) ∙ holds-shl_low 1 0 next (omega arith) (omega arith)))
+-- `(cut >> 1) | (first << last)`, where `cut` is the word up to `last`
+pub holds-last_from_east : (before word cut first last b : ℕ) → last < 64 → b ≤ last → cut < 2 ^ 64
+    → ((k : ℕ) → k < 64 → holds cut k ≡ (nat_le k last && holds word k))
+    → holds (bit_or (cut / 2 ^ 1) (first * 2 ^ last % 2 ^ 64)) b ≡ moved_last_bit On last before word first b
+holds-last_from_east before word cut first last b h le fits is =
+    holds-or (cut / 2 ^ 1) (first * 2 ^ last % 2 ^ 64) b
+    ∙ elim (cases_lt b last) [
+      | inl below ↦ ap₂ (λ p q. p || q) (holds-shr 1 b cut) (holds-shl_low last b first below (omega arith)) ∙ or-false (holds cut (1 + b))
+          ∙ ap (holds cut) (let e : 1 + b ≡ b + 1 = omega arith in e)
+          ∙ is (b + 1) (omega arith) ∙ ap (λ t. t && holds word (b + 1)) (let inside : nat_le (b + 1) last ≡ true = grind (arith, nat_tests) in inside)
+          ∙ sym (ap (λ t. if t then holds first 0 else holds word (b + 1)) (let no : (b == last) ≡ false = grind (arith, nat_tests) in no))
+      | inr at ↦ (let top : b ≡ last = omega arith in
+          let next : 1 + last ≡ last + 1 = omega arith in
+          let none : last + 0 ≡ last = omega arith in
+          ap (λ i. holds (cut / 2 ^ 1) i || holds (first * 2 ^ last % 2 ^ 64) i) top
+          ∙ ap₂ (λ p q. p || q) (holds-shr 1 last cut ∙ ap (holds cut) next ∙ past)
+          (subst (λ k. holds (first * 2 ^ last % 2 ^ 64) k ≡ holds first 0) none (holds-shl_high last 0 first (omega arith)))
+          ∙ sym (ap (λ t. if t then holds first 0 else holds word (b + 1)) (let yes' : (b == last) ≡ true = grind (arith, nat_tests) in yes')))
     ]
-
-joined-high : (next last : ℕ) → last < 63 → holds (next * 2 ^ 1 % 2 ^ 64 * 2 ^ last % 2 ^ 64) (last + 1) ≡ holds next 0
-joined-high next last h = holds-shl_high last 1 (next * 2 ^ 1 % 2 ^ 64) (omega arith) ∙ holds-shl_high 1 0 next (omega arith)
-
--- `word | ((next << 1) << last)`
-pub holds-continued : (word next last b : ℕ) → last < 64 → b ≤ last → holds (bit_or word (next * 2 ^ 1 % 2 ^ 64 * 2 ^ last % 2 ^ 64)) b ≡ holds word b
-holds-continued word next last b h le =
-    holds-or word (next * 2 ^ 1 % 2 ^ 64 * 2 ^ last % 2 ^ 64) b ∙ ap (λ t. holds word b || t) (joined-low next last b h le) ∙ or-false (holds word b)
-
-pub holds-continued_next : (word next last : ℕ) → last < 63 → holds word (last + 1) ≡ false → holds (bit_or word (next * 2 ^ 1 % 2 ^ 64 * 2 ^ last % 2 ^ 64)) (last + 1) ≡ holds next 0
-holds-continued_next word next last h clear =
-    holds-or word (next * 2 ^ 1 % 2 ^ 64 * 2 ^ last % 2 ^ 64) (last + 1) ∙ ap₂ (λ p q. p || q) clear (joined-high next last h)
+  where
+    past : holds cut (last + 1) ≡ false
+    past = elim (cases_lt (last + 1) 64) [
+      | inl inside ↦ is (last + 1) inside ∙ ap (λ t. t && holds word (last + 1)) (let no : nat_le (last + 1) last ≡ false = grind (arith, nat_tests) in no)
+      | inr above ↦ holds-above cut 64 (last + 1) fits above
+    ]
 
 -- `((came & !met) | (met & back)) & !own`
 pub holds-streamed : (came met back own b : ℕ) → met < 2 ^ 64 → own < 2 ^ 64 → b < 64

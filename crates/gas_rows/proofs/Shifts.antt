@@ -1,13 +1,13 @@
 -- The cells of one direction as they are shifted word by word, where the columns are periodic.
-use Rattle.std.proofs.Common.{◌≡◌, ℕ, zero, suc, ◌+◌, ◌-◌, ◌*◌, ◌/◌, ◌%◌, ◌<◌, ◌≤◌, Bool, true, false, ◌&&◌, nat_le, if◌then◌else◌, cond, List, length, get_or, set, sym, ap, ap₂, ◌∙◌, arith, inl, inr, eq-eqb, ne_eqb}
-use Rattle.std.proofs.lemmas.Bool.{cases_eq, cases_lt}
+use Rattle.std.proofs.Common.{◌≡◌, ℕ, zero, suc, ◌+◌, ◌-◌, ◌*◌, ◌/◌, ◌%◌, ◌<◌, ◌≤◌, Bool, true, false, ◌&&◌, nat_le, if◌then◌else◌, cond, List, length, get_or, set, sym, ap, ap₂, ◌∙◌, subst, arith, inl, inr, eq-eqb, ne_eqb}
+use Rattle.std.proofs.lemmas.Bool.{cases_eq}
 use Rattle.std.proofs.lemmas.Bool.Decides.{nat_tests}
 use Rattle.std.proofs.Math.Nat.{mod-eq_of_lt, add-mod_right}
 use Rattle.std.proofs.Math.Dec.{eqb-suc-zero}
 use Rattle.gas_geom.specs.Gas.{Move, Back, Stay, On, holds}
 use Rattle.gas_geom.specs.Neighbour.{column_after}
 use Rattle.gas_rows.specs.Words.{words_in, bit}
-use Rattle.gas_rows.specs.Moved.{moved_bit}
+use Rattle.gas_rows.specs.Moved.{moved_bit, moved_last_bit, IsBefore, AreMoved}
 use Rattle.gas_rows.specs.Shift.{streamed_bit}
 use Rattle.gas_rows.proofs.Masks.{bit-at, bit-set}
 
@@ -79,19 +79,27 @@ module _ (plane : List ℕ) (width : ℕ) (least : 1 ≤ width) where
         within (j + 1) 0 (omega arith) (omega arith) ∙ ap (λ k. bit plane (k % width)) none);
   }
 
-  pub final_word : (last before word : ℕ) → last ≡ (width - 1) / 64 → holds before 63 ≡ bit plane ((64 * last + width - 1) % width)
-      → ((b : ℕ) → b ≤ (width - 1) % 64 → holds word b ≡ holds (get_or plane last 0) b)
-      → ((width - 1) % 64 < 63 → holds word ((width - 1) % 64 + 1) ≡ holds (get_or plane 0 0) 0)
-      → IsWord (bit plane) width last before word (get_or plane 0 0)
-  final_word last before word e before_is here next = record {
-    before_is = before_is;
-    here = λ b lt le. elim (cases_lt (64 * last + b) width) [
-      | inl inside ↦ here b (omega arith) ∙ within last b lt inside
-      | inr past ↦ (let top : b ≡ (width - 1) % 64 + 1 = omega arith in
-          ap (holds word) top ∙ next (omega arith) ∙ around (64 * last + b) (omega arith))
-    ];
-    after_is = λ le. around (64 * (last + 1)) (omega arith);
-  }
+  -- the last word
+  pub moved_last-is : (last before : ℕ) (m : Move) → last ≡ (width - 1) / 64 → IsBefore plane width last before
+      → (b : ℕ) → b < 64 → 64 * last + b < width
+      → moved_last_bit m ((width - 1) % 64) before (get_or plane last 0) (get_or plane 0 0) b ≡ bit plane (column_after width (64 * last + b) m)
+  moved_last-is last before Back e before_is zero h lt =
+      before_is ∙ ap (λ k. bit plane ((k + width - 1) % width)) (let e0 : 64 * last ≡ 64 * last + 0 = omega arith in e0)
+  moved_last-is last before Back e before_is (suc b) h lt =
+      let same : suc b - 1 ≡ b = omega arith in
+      let back : 64 * last + suc b + width - 1 ≡ 64 * last + b + width = omega arith in
+      ap (λ t. if t then holds before 63 else holds (get_or plane last 0) (suc b - 1)) (eqb-suc-zero b)
+      ∙ ap (holds (get_or plane last 0)) same ∙ within last b (omega arith) (omega arith)
+      ∙ ap (bit plane) (sym (ap (λ k. k % width) back ∙ add-mod_right (64 * last + b) width))
+  moved_last-is last before Stay e before_is b h lt = within last b h lt
+  moved_last-is last before On e before_is b h lt =
+      elim (cases_eq b ((width - 1) % 64)) [
+        | inl top ↦ ap (λ t. if t then holds (get_or plane 0 0) 0 else holds (get_or plane last 0) (b + 1)) (eq-eqb b ((width - 1) % 64) top)
+            ∙ around (64 * last + b + 1) (omega arith)
+        | inr ne ↦ (let next : 64 * last + (b + 1) ≡ 64 * last + b + 1 = omega arith in
+            ap (λ t. if t then holds (get_or plane 0 0) 0 else holds (get_or plane last 0) (b + 1)) (ne_eqb b ((width - 1) % 64) ne)
+            ∙ within last (b + 1) (omega arith) (omega arith) ∙ ap (λ k. bit plane (k % width)) next)
+      ]
 
 -- ---- what is said of each cell of the new words
 module _ (Q : ℕ → Bool) (out : List ℕ) (width j v : ℕ) (there : j < length out)
@@ -104,6 +112,21 @@ module _ (Q : ℕ → Bool) (out : List ℕ) (width j v : ℕ) (there : j < leng
             ∙ (let whole : 64 * j + x % 64 ≡ x = omega arith in here (x % 64) (omega arith) (omega arith) ∙ ap Q whole)
         | inr ne ↦ ap (λ b. cond b (holds v (x % 64)) (bit out x)) (ne_eqb (x / 64) j ne) ∙ below x (omega arith) lt
       ]
+
+-- ---- words that are moved one after another, none of them the last
+pub before_after : (plane : List ℕ) (width j k : ℕ) → k ≡ j + 1 → 64 * k < width → IsBefore plane width k (get_or plane j 0)
+before_after plane width j k e inner =
+    subst (λ (n : ℕ). IsBefore plane width n (get_or plane j 0)) (sym e) (before_next plane width (omega arith) j (omega arith))
+
+pub one_moved : (m : Move) (plane out : List ℕ) (width j k v before : ℕ) → k ≡ j + 1 → j < length out → 64 * k < width → IsBefore plane width j before
+    → ((b : ℕ) → b < 64 → holds v b ≡ moved_bit m before (get_or plane j 0) (get_or plane k 0) b)
+    → AreMoved m plane width j out → AreMoved m plane width k (set out j v)
+one_moved m plane out width j k v before e there inner before_is is below =
+    subst (λ (n : ℕ). AreMoved m plane width n (set out j v)) (sym e)
+    (one_more_word (λ y. bit plane (column_after width y m)) out width j v there
+    (λ b h inside. is b h ∙ ap (λ n. moved_bit m before (get_or plane j 0) (get_or plane n 0) b) e
+    ∙ moved_bit-is (bit plane) width j _ _ _ m (inner_word plane width (omega arith) j before (omega arith) before_is) b h inside)
+    below)
 
 -- the last word is cut at the width
 pub cut_inside : (v w width b : ℕ) → b ≤ (width - 1) % 64 → holds v b ≡ (nat_le b ((width - 1) % 64) && holds w b) → holds v b ≡ holds w b

@@ -5,7 +5,7 @@ ghost use Rattle.gas_geom.specs.Neighbour.{column_after};
 ghost use Rattle.gas_geom.specs.declared.size.TheConstants.{MOST_SIDE};
 ghost use Rattle.gas_rows.specs.Words.{words_in, bit};
 ghost use Rattle.gas_rows.specs.Planes.{has};
-ghost use Rattle.gas_rows.specs.Moved.{moved_bit};
+ghost use Rattle.gas_rows.specs.Moved.{moved_bit, moved_last_bit, IsBefore, AreMoved};
 ghost use Rattle.gas_rows.specs.Shift.{streamed_bit};
 
 use crate::word::{up_to, without, words_for};
@@ -18,6 +18,12 @@ pub(crate) trait Source {
     /// and after it.
     fn moved(before: u64, word: u64, after: u64) -> u64
         ensures { (b : ℕ) → b < 64 → holds result b ≡ moved_bit source before word after b };
+
+    /// Likewise of the last word of a row, in which the last cell is bit `last`. After it comes the
+    /// first cell, the first bit of `first`.
+    fn moved_last(before: u64, word: u64, last: u32, first: u64) -> u64
+        requires { last < 64 }
+        ensures { (b : ℕ) → b ≤ last → holds result b ≡ moved_last_bit source last before word first b };
 }
 
 /// The cell to the west.
@@ -36,6 +42,11 @@ impl Source for West {
     fn moved(before: u64, word: u64, _after: u64) -> u64 {
         (word << 1) | (before >> 63)
     }
+
+    #[inline(always)]
+    fn moved_last(before: u64, word: u64, _last: u32, first: u64) -> u64 {
+        Self::moved(before, word, first)
+    }
 }
 
 impl Source for Here {
@@ -43,6 +54,11 @@ impl Source for Here {
 
     #[inline(always)]
     fn moved(_before: u64, word: u64, _after: u64) -> u64 {
+        word
+    }
+
+    #[inline(always)]
+    fn moved_last(_before: u64, word: u64, _last: u32, _first: u64) -> u64 {
         word
     }
 }
@@ -54,6 +70,11 @@ impl Source for East {
     fn moved(_before: u64, word: u64, after: u64) -> u64 {
         (word >> 1) | (after << 63)
     }
+
+    #[inline(always)]
+    fn moved_last(_before: u64, word: u64, last: u32, first: u64) -> u64 {
+        (up_to(word, last) >> 1) | (first << last)
+    }
 }
 
 // Bit `last` moved to the last place.
@@ -63,16 +84,6 @@ fn to_top(word: u64, last: u32) -> u64
     ensures { holds result 63 ≡ holds word last }
 {
     word << (63 - last)
-}
-
-// The bits of `word` up to `last`, which the first bit of `next` follows.
-#[inline(always)]
-fn continued(word: u64, last: u32, next: u64) -> u64
-    requires { last < 64 }
-    ensures here { (b : ℕ) → b ≤ last → holds result b ≡ holds word b }
-    ensures next { last < 63 → holds result (last + 1) ≡ holds next 0 }
-{
-    up_to(word, last) | ((next << 1) << last)
 }
 
 // What 64 cells hold after streaming.
@@ -164,37 +175,109 @@ pub(crate) fn stream_words<S: Source>(
     let top = (width - 1) % 64;
     let before = before_last(from, width);
     let before_met = before_last(met, width);
-    let came = S::moved(before, continued(from[last], top, from[0]), from[0]);
-    let turned = S::moved(before_met, continued(met[last], top, met[0]), met[0]);
+    let came = S::moved_last(before, from[last], top, from[0]);
+    let turned = S::moved_last(before_met, met[last], top, met[0]);
     out[last] = up_to(streamed(came, turned, back[last], own[last]), top);
 }
 
-// Moves the words of a row before the last one, as `move_words` does, two at a time: both are read
-// before they are written, so that a compiler can take them side by side.
+// Moves word `j` of a row, which is not the last one. The answer is the word before the next one.
 #[inline(always)]
-fn move_front<S: Source>(from: &[u64], out: &mut [u64], width: u32)
+fn move_one<S: Source>(from: &[u64], j: usize, before: u64, out: &mut [u64], width: u32) -> u64
+    requires from { length from.now ≡ words_in width }
+    requires out { length out.old ≡ words_in width }
+    requires inner { 64 * (j + 1) < width }
+    requires before { IsBefore from.now width j before }
+    ensures before { IsBefore from.now width (j + 1) result }
+    ensures moved { AreMoved S.source from.now width j out.old → AreMoved S.source from.now width (j + 1) out.new }
+{
+    let word = from[j];
+    out[j] = S::moved(before, word, from[j + 1]);
+    word
+}
+
+// Moves words `j` and `j + 1`, neither of which is the last one. All are read before one is
+// written, so that a compiler need not read them again.
+#[inline(always)]
+fn move_two<S: Source>(from: &[u64], j: usize, before: u64, out: &mut [u64], width: u32) -> u64
+    requires from { length from.now ≡ words_in width }
+    requires out { length out.old ≡ words_in width }
+    requires inner { 64 * (j + 2) < width }
+    requires before { IsBefore from.now width j before }
+    ensures before { IsBefore from.now width (j + 2) result }
+    ensures moved { AreMoved S.source from.now width j out.old → AreMoved S.source from.now width (j + 2) out.new }
+{
+    let word = from[j];
+    let second = from[j + 1];
+    let after = from[j + 2];
+    out[j] = S::moved(before, word, second);
+    out[j + 1] = S::moved(word, second, after);
+    second
+}
+
+// Moves the words from `j` to `j + 3`, as `move_two` does.
+#[inline(always)]
+fn move_four<S: Source>(from: &[u64], j: usize, before: u64, out: &mut [u64], width: u32) -> u64
+    requires from { length from.now ≡ words_in width }
+    requires out { length out.old ≡ words_in width }
+    requires inner { 64 * (j + 4) < width }
+    requires before { IsBefore from.now width j before }
+    ensures before { IsBefore from.now width (j + 4) result }
+    ensures moved { AreMoved S.source from.now width j out.old → AreMoved S.source from.now width (j + 4) out.new }
+{
+    let word = from[j];
+    let second = from[j + 1];
+    let third = from[j + 2];
+    let fourth = from[j + 3];
+    let after = from[j + 4];
+    out[j] = S::moved(before, word, second);
+    out[j + 1] = S::moved(word, second, third);
+    out[j + 2] = S::moved(second, third, fourth);
+    out[j + 3] = S::moved(third, fourth, after);
+    fourth
+}
+
+// Moves the words from `j` on before the last one, of which there are three at most. The answer is
+// the word before the last one.
+#[inline(always)]
+fn move_rest<S: Source>(from: &[u64], j: usize, before: u64, out: &mut [u64], width: u32) -> u64
     requires some_cells { 1 ≤ width }
     requires few_cells { width ≤ MOST_SIDE }
     requires from { length from.now ≡ words_in width }
     requires out { length out.old ≡ words_in width }
-    ensures { (x : ℕ) → x < 64 * (words_in width - 1) → bit out.new x ≡ bit from.now (column_after width x S.source) }
+    requires order { j ≤ words_in width - 1 }
+    requires few { words_in width - 1 < j + 4 }
+    requires before { IsBefore from.now width j before }
+    ensures before { IsBefore from.now width (words_in width - 1) result }
+    ensures moved { AreMoved S.source from.now width j out.old → AreMoved S.source from.now width (words_in width - 1) out.new }
+{
+    match out.len() - 1 - j {
+        0 => before,
+        1 => move_one::<S>(from, j, before, out, width),
+        2 => move_two::<S>(from, j, before, out, width),
+        _ => {
+            let second = move_two::<S>(from, j, before, out, width);
+            move_one::<S>(from, j + 2, second, out, width)
+        }
+    }
+}
+
+// Moves the words of a row before the last one. The answer is the word before the last one, whose
+// last bit is the row's last cell where it has one word.
+#[inline(always)]
+fn move_front<S: Source>(from: &[u64], out: &mut [u64], width: u32) -> u64
+    requires some_cells { 1 ≤ width }
+    requires few_cells { width ≤ MOST_SIDE }
+    requires from { length from.now ≡ words_in width }
+    requires out { length out.old ≡ words_in width }
+    ensures before { IsBefore from.now width (words_in width - 1) result }
+    ensures moved { AreMoved S.source from.now width (words_in width - 1) out.new }
 {
     let last = out.len() - 1;
-    if last == 0 {
-        return;
+    let mut before = to_top(from[last], (width - 1) % 64);
+    for k in 0..last / 4 {
+        before = move_four::<S>(from, 4 * k, before, out, width);
     }
-    out[0] = S::moved(to_top(from[last], (width - 1) % 64), from[0], from[1]);
-    for k in 0..(last - 1) / 2 {
-        let j = 2 * k + 1;
-        let first = S::moved(from[j - 1], from[j], from[j + 1]);
-        let second = S::moved(from[j], from[j + 1], from[j + 1 + 1]);
-        out[j] = first;
-        out[j + 1] = second;
-    }
-    if last % 2 == 0 {
-        let j = last - 1;
-        out[j] = S::moved(from[j - 1], from[j], from[j + 1]);
-    }
+    move_rest::<S>(from, last / 4 * 4, before, out, width)
 }
 
 /// Streams one direction of a row where no cell is solid: `from` holds the direction in the row that
@@ -208,11 +291,10 @@ pub(crate) fn move_words<S: Source>(from: &[u64], out: &mut [u64], width: u32)
     ensures moved { (x : ℕ) → x < width → bit out.new x ≡ bit from.now (column_after width x S.source) }
     ensures clear { (x : ℕ) → width ≤ x → x < 64 * words_in width → bit out.new x ≡ false }
 {
-    move_front::<S>(from, out, width);
+    let before = move_front::<S>(from, out, width);
     let last = out.len() - 1;
     let top = (width - 1) % 64;
-    let before = before_last(from, width);
-    let came = S::moved(before, continued(from[last], top, from[0]), from[0]);
+    let came = S::moved_last(before, from[last], top, from[0]);
     out[last] = up_to(came, top);
 }
 

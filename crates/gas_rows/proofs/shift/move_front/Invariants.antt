@@ -1,9 +1,10 @@
-use Rattle.std.proofs.Common.{◌≡◌, ℕ, ◌+◌, ◌*◌, ◌<◌}
-use Rattle.gas_geom.specs.Neighbour.{column_after}
-use Rattle.gas_rows.specs.Words.{bit}
+use Rattle.std.proofs.Common.{◌*◌}
+use Rattle.gas_rows.specs.Moved.{IsBefore, AreMoved}
 use Rattle.gas_rows.proofs.shift.move_front.Given as goal
 
--- the words before 2 * k + 1 are written
+-- the words before 4 * k are moved
 abbrev pub invariant-loop-k : goal.invariant-loop-k
-invariant-loop-k g l = (x : ℕ) → x < 64 * (2 * l.k + 1) → x < l.width →
-    bit l.out x ≡ bit l.from (column_after l.width x g.S.Source.source)
+invariant-loop-k g l = record {
+  before : IsBefore l.from l.width (4 * l.k) l.before;
+  moved : AreMoved g.S.Source.source l.from l.width (4 * l.k) l.out;
+}

@@ -4,7 +4,7 @@ use Rattle.gas_geom.specs.Neighbour.{column_after}
 use Rattle.gas_rows.specs.Words.{words_in, bit}
 use Rattle.gas_rows.specs.Shift.{streamed_bit}
 use Rattle.gas_rows.proofs.Masks.{bit-at}
-use Rattle.gas_rows.proofs.Shifts.{moved_bit-is, final_word, one_more_word, cut_inside, cut_past, streamed_bit-at}
+use Rattle.gas_rows.proofs.Shifts.{moved_last-is, one_more_word, cut_inside, cut_past, streamed_bit-at}
 use Rattle.gas_rows.proofs.shift.stream_words.Goals as goal
 
 pub returns-clause-streamed : goal.returns-clause-streamed
@@ -22,10 +22,8 @@ returns-clause-streamed g c x lt =
     (λ b h inside.
     cut_inside c.up_to.result c.streamed.result width b (omega arith) (c.up_to.ensures b h)
     ∙ c.streamed.ensures b h ∙ streamed_bit-at
-    (c.moved-came.ensures b h ∙ moved_bit-is (bit c.args.from.now) width last _ _ _ source
-    (final_word c.args.from.now width c.requires.some_cells last c.before_last-before.result c.continued.result last_is before_is c.continued.ensures.here c.continued.ensures.next) b h inside)
-    (c.moved-turned.ensures b h ∙ moved_bit-is (bit c.args.met.now) width last _ _ _ source
-    (final_word c.args.met.now width c.requires.some_cells last c.before_last-before_met.result c.continued-2.result last_is before_met_is c.continued-2.ensures.here c.continued-2.ensures.next) b h inside)
+    (c.moved_last-came.ensures b (omega (arith, last_is)) ∙ moved_last-is c.args.from.now width c.requires.some_cells last c.before_last-before.result source last_is before_is b h inside)
+    (c.moved_last-turned.ensures b (omega (arith, last_is)) ∙ moved_last-is c.args.met.now width c.requires.some_cells last c.before_last-before_met.result source last_is before_met_is b h inside)
     (bit-at c.args.back.now last b h)
     (bit-at c.args.own.now last b h))
     (λ y below inside. c.stream_front.ensures y (omega arith))
