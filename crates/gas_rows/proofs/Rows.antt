@@ -40,6 +40,12 @@ part_get xs a n j h le = search (rules, places)
 pub part_length : (xs : List ℕ) (a n : ℕ) → a + n ≤ length xs → length (take n (drop a xs)) ≡ n
 part_length xs a n le = grind (arith, places)
 
+-- one direction, at a start and a length as the code computes them
+pub has-part_at : (xs : List ℕ) (n i x a m : ℕ) → a ≡ i * n → m ≡ n → x / 64 < n → i * n + n ≤ length xs → bit (take m (drop a xs)) x ≡ has xs n i x
+unfolding bit has
+has-part_at xs n i x a m ea em h le =
+    ap₂ (λ b k. holds (get_or (take k (drop b xs)) (x / 64) 0) (x % 64)) ea em ∙ ap (λ w. holds w (x % 64)) (part_get xs (i * n) n (x / 64) h le)
+
 either : (t a b : Bool) → a ≡ false → b ≡ false → (if t then a else b) ≡ false
 either true a b p q = p
 either false a b p q = q

@@ -274,19 +274,18 @@ impl<G: Gas> Row<G> {
     }
 
     /// Streams direction `i` into this row where no cell is solid, from the row that its particles
-    /// come from: `along` is the step along the row that leads there, and `from` the words of the
-    /// direction in that row.
+    /// come from: `along` is the step along the row that leads there.
     #[inline(always)]
-    pub fn move_plane(&mut self, i: u32, along: i32, from: &[u64])
+    pub fn move_plane(&mut self, i: u32, along: i32, from: &Row<G>)
         requires direction { i < G.rules.dirs }
-        requires from { length from.now ≡ words_in (length self.old) }
+        requires from { length from.now ≡ length self.old }
         ensures wide { length self.new ≡ length self.old }
         ensures states { (x : ℕ) → slice_index self.new x < 2 ^ G.rules.dirs }
         ensures moved { (m : Move) → along ≡ amount m → (x : ℕ) → x < length self.old →
-            holds (slice_index self.new x) i ≡ bit from.now (column_after (length self.old) x m) }
+            holds (slice_index self.new x) i ≡ holds (slice_index from.now (column_after (length self.old) x m)) i }
         ensures others { (x k : ℕ) → k ≢ i → holds (slice_index self.new x) k ≡ holds (slice_index self.old x) k }
     {
-        move_part(&mut self.words, i as usize, along, from, self.width);
+        move_part(&mut self.words, i as usize, along, &from.words, self.width);
     }
 
     /// Streams direction `i` into this row where its particles would come from past the wall, which

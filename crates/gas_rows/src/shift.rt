@@ -399,21 +399,24 @@ pub(crate) fn stream_part(
     stream_along(along, from, met, back, own, out, width);
 }
 
-/// Streams direction `i` of the words of a row where no cell is solid.
+/// Streams direction `i` of the words of a row where no cell is solid, from the words of the row that
+/// its particles come from.
 #[inline(always)]
 pub(crate) fn move_part(words: &mut [u64], i: usize, along: i32, from: &[u64], width: u32)
     requires some_cells { 1 ≤ width }
     requires few_cells { width ≤ MOST_SIDE }
     requires direction { i < 8 }
     requires within { i * words_in width + words_in width ≤ length words.old }
-    requires from { length from.now ≡ words_in width }
-    ensures moved { (m : Move) → along ≡ amount m → (x : ℕ) → x < width → has words.new (words_in width) i x ≡ bit from.now (column_after width x m) }
+    requires from { i * words_in width + words_in width ≤ length from.now }
+    ensures moved { (m : Move) → along ≡ amount m → (x : ℕ) → x < width →
+        has words.new (words_in width) i x ≡ has from.now (words_in width) i (column_after width x m) }
     ensures clear { (x : ℕ) → width ≤ x → x < 64 * words_in width → has words.new (words_in width) i x ≡ false }
     ensures others { (k x : ℕ) → k ≢ i → x / 64 < words_in width → has words.new (words_in width) k x ≡ has words.old (words_in width) k x }
 {
     let count = words_for(width);
-    let out = &mut words[i * count..i * count + count];
-    move_along(along, from, out, width);
+    let start = i * count;
+    let out = &mut words[start..start + count];
+    move_along(along, &from[start..start + count], out, width);
 }
 
 /// Streams direction `i` of the words of a row whose particles the wall sends back.

@@ -1,18 +1,19 @@
 -- One direction of a streamed cell, by the row that its particles come from, and a row whose directions are all streamed.
-use Rattle.std.proofs.Common.{◌≡◌, ℕ, ◌+◌, ◌-◌, ◌^◌, ◌<◌, ◌≤◌, inl, inr, subst, option_map, Bool, true, false, if◌then◌else◌, Option, Some, None, List, length, get_or, ap, ◌∙◌, sym, arith, refl}
-use Rattle.std.proofs.lemmas.Bool.{cases_order}
+use Rattle.std.proofs.Common.{◌≡◌, ℕ, ◌+◌, ◌-◌, ◌^◌, ◌<◌, ◌≤◌, ◌==◌, ne_eqb, inl, inr, subst, option_map, Bool, true, false, if◌then◌else◌, Option, Some, None, List, length, get_or, ap, ◌∙◌, sym, arith, refl}
+use Rattle.std.proofs.lemmas.Bool.{cases_order, lt-ltb}
 use Rattle.std.proofs.lemmas.Bool.Decides.{nat_tests}
 use Rattle.std.proofs.lemmas.List.FromFn.{fill_by_all}
 use Rattle.std.proofs.lemmas.Nat.{pow_pos}
 use Rattle.gas_geom.specs.Gas.{Rules, Move, Back, Stay, On, holds}
 use Rattle.gas_geom.specs.Neighbour.{neighbour_of, row_after, column_after, is_odd}
-use Rattle.gas_geom.proofs.Steps.{neighbour-parts, row_after-lt}
+use Rattle.gas_geom.proofs.Steps.{neighbour-parts, row_after-lt, column_after-lt}
 use Rattle.gas_geom.specs.Channel.{ChannelModel, is_solid}
 use Rattle.gas_geom.specs.Lattice.{arriving, arrives_from, streamed, set_of, row_of}
 use Rattle.gas_geom.proofs.Holds.{set_of-lt, holds-set_of, holds-zero}
 use Rattle.gas_rows.specs.Shift.{streamed_bit}
 use Rattle.gas_rows.proofs.Sets.{set_of-holds, set_from}
 use Rattle.gas_stage.specs.Streaming.{AreRowsAbout, IsRowAt}
+use Rattle.gas_stage.specs.Inside.{IsFar, row_about}
 
 -- what a streamed cell holds
 holds-streamed : (gas : Rules) (c : ChannelModel) (at : ℕ → ℕ → ℕ) (x y i : ℕ) → i < gas.dirs
@@ -77,12 +78,6 @@ row_after-near h y v Back there = (grind (arith, nat_tests), grind (arith, nat_t
 row_after-near h y v Stay there = (grind (arith, nat_tests), grind (arith, nat_tests))
 row_after-near h y v On there = (grind (arith, nat_tests), grind (arith, nat_tests))
 
-pub neighbour-near : (gas : Rules) (w h y d u v : ℕ) → y < h → neighbour_of gas w h 0 y d ≡ Some (u, v) → (y ≤ v + 1) × (v ≤ y + 1) × (v < h)
-neighbour-near gas w h y d u v within there =
-    let parts = neighbour-parts gas w h 0 y d u v there in
-    let near = row_after-near h y v (gas.step d (is_odd y)).1 parts.1 in
-    (near.0, near.1, row_after-lt h y v (gas.step d (is_odd y)).1 within parts.1)
-
 -- all cells of a row have their neighbours in one row
 pub neighbour-same_row : (gas : Rules) (w h x y d u v : ℕ) → neighbour_of gas w h 0 y d ≡ Some (u, v)
     → neighbour_of gas w h x y d ≡ Some (column_after w x (gas.step d (is_odd y)).0, v)
@@ -113,3 +108,49 @@ rows_at gas c at y d u v up mid down row within there rows above here below =
       | inr (inr more) ↦ (let e : y + 1 ≡ v = omega arith in
           subst (IsRowAt c at v) (sym (below more lt)) (subst (λ k. IsRowAt c at k down) e (rows.down_is (omega arith))))
     ]
+
+-- ---- far from walls and solid cells
+-- the row after a move across the rows
+abbrev beside : ℕ → Move → ℕ
+beside y Back = y - 1
+beside y Stay = y
+beside y On = y + 1
+
+-- a move leads from row y to row v of the channel, which is that row of the lattice `at`
+record LeadsTo (c : ChannelModel) (at : ℕ → ℕ → ℕ) (y v : ℕ) (m : Move) (row : List ℕ) : Type 0 where
+  there : row_after c.height y m ≡ Some v
+  below : y ≤ v + 1
+  above : v ≤ y + 1
+  is : IsRowAt c at v row
+
+leads_to : (c : ChannelModel) (at : ℕ → ℕ → ℕ) (y : ℕ) (up mid down : List ℕ) (m : Move) → IsFar c y → AreRowsAbout c at y up mid down
+    → LeadsTo c at y (beside y m) m (row_about m up mid down)
+leads_to c at y up mid down Back far rows = record {
+  there = (let no : (y == 0) ≡ false = ne_eqb y 0 (λ e. absurd (omega (arith, far.above, e))) in ap (λ t. if t then None else Some (y - 1)) no);
+  below = omega arith;
+  above = omega arith;
+  is = rows.up_is far.above;
+}
+leads_to c at y up mid down Stay far rows = record { there = refl; below = omega arith; above = omega arith; is = rows.mid_is }
+leads_to c at y up mid down On far rows = record {
+  there = ap (λ t. if t then Some (y + 1) else None) (lt-ltb (y + 1) c.height far.below);
+  below = omega arith;
+  above = omega arith;
+  is = rows.down_is far.below;
+}
+
+-- a particle comes from the cell that its opposite leads to
+pub streamed_far : (gas : Rules) (c : ChannelModel) (at : ℕ → ℕ → ℕ) (x y i : ℕ) (up mid down : List ℕ) → i < gas.dirs → x < c.width → IsFar c y
+    → AreRowsAbout c at y up mid down → (m : Move × Move) → gas.step (gas.opposite i) (is_odd y) ≡ m
+    → holds (get_or (row_about m.1 up mid down) (column_after c.width x m.0) 0) i ≡ holds (streamed gas c at x y) i
+streamed_far gas c at x y i up mid down direction inside far rows m step =
+    let lead = leads_to c at y up mid down m.1 far rows in
+    let u : ℕ = column_after c.width x m.0 in
+    let v : ℕ = beside y m.1 in
+    streamed_from_cell gas c at x y i direction u v (holds (get_or (row_about m.1 up mid down) u 0) i) false (holds (at x y) (gas.opposite i)) false
+    (ap (λ (n : Move × Move). option_map {U = ℕ × ℕ} (λ (y' : ℕ). (column_after c.width x n.0, y')) (row_after c.height y n.1)) step
+    ∙ ap (option_map {U = ℕ × ℕ} (λ (y' : ℕ). (u, y'))) lead.there)
+    (sym (far.free x y (omega arith) (omega arith)))
+    (sym (far.free u v lead.below lead.above))
+    (λ fluid. refl)
+    (λ fluid. ap (λ s. holds s i) (lead.is u (column_after-lt c.width x m.0 inside) fluid))

@@ -2,5 +2,6 @@
 #![tactic(auto)]
 
 pub mod advance;
+mod moving;
 pub mod stage;
 pub mod stream;

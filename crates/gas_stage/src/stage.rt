@@ -7,7 +7,8 @@ ghost use Rattle.gas_stage.specs.Inside.{AreWide};
 ghost use Rattle.gas_stage.specs.Streaming.{AreRowsAbout};
 ghost use Rattle.gas_stage.specs.Stage.{StageModel, Fits, owed, given};
 
-use crate::stream::streamed_row;
+use crate::moving::{is_far, moved_row};
+use crate::stream::stream_row;
 use gas_geom::gas::Gas;
 use gas_rows::channel::Channel;
 use gas_rows::chirality::Chirality;
@@ -25,7 +26,7 @@ fn stream_between<G: Gas>(
     above: &Row<G>,
     middle: &Row<G>,
     below: &Row<G>,
-    out: Row<G>,
+    mut out: Row<G>,
 ) -> Row<G>
     requires row { y < channel.now.height }
     requires wide { AreWide channel.now above.now middle.now below.now }
@@ -35,10 +36,14 @@ fn stream_between<G: Gas>(
         AreRowsAbout channel.now at y above.now middle.now below.now →
         result ≡ row_of channel.now.width (λ x. streamed G.rules channel.now at x y) }
 {
+    if is_far(channel, y) {
+        return moved_row(channel, y, above, middle, below, out);
+    }
     let height = channel.size().height();
     let up = (y > 0).then_some(above);
     let down = (y + 1 < height).then_some(below);
-    streamed_row(channel, y, up, middle, down, out)
+    stream_row(channel, y, up, middle, down, &mut out);
+    out
 }
 
 // What a stage does with the rows that it is fed.

@@ -1,9 +1,8 @@
 //! Streaming: every particle moves along its link, or is sent back where the link ends at a solid
 //! cell or the wall.
-ghost use Rattle.std.specs.Prelude.{◌≡◌, ◌≢◌, ◌+◌, ◌<◌, ◌≤◌, ◌^◌, ◌↔◌, ℕ, false, IsTrue, List, [], length, slice_index, unwrap_or, IsSome};
+ghost use Rattle.std.specs.Prelude.{◌≡◌, ◌≢◌, ◌+◌, ◌<◌, ◌^◌, ◌↔◌, ℕ, [], length, slice_index, unwrap_or, IsSome};
 ghost use Rattle.std.specs.Option.{option_copied, ForSome};
 ghost use Rattle.gas_geom.specs.Gas.{holds};
-ghost use Rattle.gas_geom.specs.Channel.{is_solid};
 ghost use Rattle.gas_geom.specs.Lattice.{streamed, row_of};
 ghost use Rattle.gas_stage.specs.Streaming.{AreRowsAbout};
 ghost use Rattle.gas_stage.specs.Inside.{AreStreamed};
@@ -36,17 +35,6 @@ fn row_at<'a, G: Gas>(
     } else {
         mid
     }
-}
-
-// Whether it is known that no cell of row y and of the rows beside it is solid.
-fn is_free(channel: &Channel, y: u32) -> bool
-    requires row { y < channel.now.height }
-    ensures { IsTrue result → (x v : ℕ) → y ≤ v + 1 → v ≤ y + 1 → v < channel.now.height → is_solid channel.now x v ≡ false }
-{
-    let height = channel.size().height();
-    channel.mask(y).is_blank()
-        && (y == 0 || channel.mask(y - 1).is_blank())
-        && (y + 1 == height || channel.mask(y + 1).is_blank())
 }
 
 // Streams one direction of row y.
@@ -90,44 +78,6 @@ fn stream_direction<G: Gas>(
     out.stream_plane(i, along, from, met, back, own);
 }
 
-// Streams one direction of row y, where no cell near it is solid.
-#[inline(always)]
-fn move_direction<G: Gas>(
-    channel: &Channel,
-    y: u32,
-    up: Option<&Row<G>>,
-    mid: &Row<G>,
-    down: Option<&Row<G>>,
-    i: u32,
-    out: &mut Row<G>,
-)
-    requires row { y < channel.now.height }
-    requires free { (x v : ℕ) → y ≤ v + 1 → v ≤ y + 1 → v < channel.now.height → is_solid channel.now x v ≡ false }
-    requires up_there { IsSome up ↔ (0 < y) }
-    requires down_there { IsSome down ↔ (y + 1 < channel.now.height) }
-    requires up_wide { ForSome (option_copied up) (λ r. length r ≡ channel.now.width) }
-    requires mid_wide { length mid.now ≡ channel.now.width }
-    requires down_wide { ForSome (option_copied down) (λ r. length r ≡ channel.now.width) }
-    requires direction { i < G.rules.dirs }
-    requires out_wide { length out.old ≡ channel.now.width }
-    ensures wide { length out.new ≡ channel.now.width }
-    ensures states { (x : ℕ) → slice_index out.new x < 2 ^ G.rules.dirs }
-    ensures streamed { (at : ℕ → ℕ → ℕ) →
-        AreRowsAbout channel.now at y
-        (unwrap_or (option_copied up.entry) []) mid.now (unwrap_or (option_copied down.entry) []) →
-        (x : ℕ) → x < channel.now.width →
-        holds (slice_index out.new x) i ≡ holds (streamed G.rules channel.now at x y) i }
-    ensures others { (x k : ℕ) → k ≢ i → holds (slice_index out.new x) k ≡ holds (slice_index out.old x) k }
-{
-    let opposite = G::opposite(i);
-    let along = G::step(opposite, y % 2 == 1).0;
-    let Some((_, v)) = neighbour::<G>(channel.size(), 0, y, opposite) else {
-        out.reflect_plane(i, mid.plane(opposite), channel.mask(y).words());
-        return;
-    };
-    out.move_plane(i, along, row_at(v, y, up, mid, down).plane(i));
-}
-
 // Streams direction i of row y, if the gas has it, after those before it.
 #[inline(always)]
 fn stream_next<G: Gas>(
@@ -159,105 +109,6 @@ fn stream_next<G: Gas>(
     if i < G::DIRS {
         stream_direction(channel, y, up, mid, down, i, out);
     }
-}
-
-// Streams direction i of row y, where no cell near it is solid, if the gas has it, after those before it.
-#[inline(always)]
-fn move_next<G: Gas>(
-    channel: &Channel,
-    y: u32,
-    up: Option<&Row<G>>,
-    mid: &Row<G>,
-    down: Option<&Row<G>>,
-    i: u32,
-    out: &mut Row<G>,
-)
-    requires row { y < channel.now.height }
-    requires free { (x v : ℕ) → y ≤ v + 1 → v ≤ y + 1 → v < channel.now.height → is_solid channel.now x v ≡ false }
-    requires up_there { IsSome up ↔ (0 < y) }
-    requires down_there { IsSome down ↔ (y + 1 < channel.now.height) }
-    requires up_wide { ForSome (option_copied up) (λ r. length r ≡ channel.now.width) }
-    requires mid_wide { length mid.now ≡ channel.now.width }
-    requires down_wide { ForSome (option_copied down) (λ r. length r ≡ channel.now.width) }
-    requires direction { i < 8 }
-    requires out_wide { length out.old ≡ channel.now.width }
-    requires states { 0 < i → (x : ℕ) → slice_index out.old x < 2 ^ G.rules.dirs }
-    ensures wide { length out.new ≡ channel.now.width }
-    ensures states { (x : ℕ) → slice_index out.new x < 2 ^ G.rules.dirs }
-    ensures streamed { (at : ℕ → ℕ → ℕ) →
-        AreRowsAbout channel.now at y
-        (unwrap_or (option_copied up.entry) []) mid.now (unwrap_or (option_copied down.entry) []) →
-        AreStreamed G.rules channel.now at y i out.old →
-        AreStreamed G.rules channel.now at y (i + 1) out.new }
-{
-    if i < G::DIRS {
-        move_direction(channel, y, up, mid, down, i, out);
-    }
-}
-
-// Row y after streaming, where no cell near it is solid. It has the row `out` by value, so that a
-// compiler keeps in registers where its words lie.
-fn moved_row<G: Gas>(
-    channel: &Channel,
-    y: u32,
-    up: Option<&Row<G>>,
-    mid: &Row<G>,
-    down: Option<&Row<G>>,
-    mut out: Row<G>,
-) -> Row<G>
-    requires row { y < channel.now.height }
-    requires free { (x v : ℕ) → y ≤ v + 1 → v ≤ y + 1 → v < channel.now.height → is_solid channel.now x v ≡ false }
-    requires up_there { IsSome up ↔ (0 < y) }
-    requires down_there { IsSome down ↔ (y + 1 < channel.now.height) }
-    requires up_wide { ForSome (option_copied up) (λ r. length r ≡ channel.now.width) }
-    requires mid_wide { length mid.now ≡ channel.now.width }
-    requires down_wide { ForSome (option_copied down) (λ r. length r ≡ channel.now.width) }
-    requires out_wide { length out ≡ channel.now.width }
-    ensures wide { length result ≡ channel.now.width }
-    ensures streamed { (at : ℕ → ℕ → ℕ) →
-        AreRowsAbout channel.now at y
-        (unwrap_or (option_copied up.entry) []) mid.now (unwrap_or (option_copied down.entry) []) →
-        result ≡ row_of channel.now.width (λ x. streamed G.rules channel.now at x y) }
-{
-    // Each by its number, so that a compiler knows the step of each.
-    move_next(channel, y, up, mid, down, 0, &mut out);
-    move_next(channel, y, up, mid, down, 1, &mut out);
-    move_next(channel, y, up, mid, down, 2, &mut out);
-    move_next(channel, y, up, mid, down, 3, &mut out);
-    move_next(channel, y, up, mid, down, 4, &mut out);
-    move_next(channel, y, up, mid, down, 5, &mut out);
-    move_next(channel, y, up, mid, down, 6, &mut out);
-    move_next(channel, y, up, mid, down, 7, &mut out);
-    out
-}
-
-/// Row `y` after streaming, as `stream_row` has it, in the row `out`.
-pub(crate) fn streamed_row<G: Gas>(
-    channel: &Channel,
-    y: u32,
-    up: Option<&Row<G>>,
-    mid: &Row<G>,
-    down: Option<&Row<G>>,
-    mut out: Row<G>,
-) -> Row<G>
-    requires row { y < channel.now.height }
-    requires up_there { IsSome up ↔ (0 < y) }
-    requires down_there { IsSome down ↔ (y + 1 < channel.now.height) }
-    requires up_wide { ForSome (option_copied up) (λ r. length r ≡ channel.now.width) }
-    requires mid_wide { length mid.now ≡ channel.now.width }
-    requires down_wide { ForSome (option_copied down) (λ r. length r ≡ channel.now.width) }
-    requires out_wide { length out ≡ channel.now.width }
-    ensures wide { length result ≡ channel.now.width }
-    ensures streamed { (at : ℕ → ℕ → ℕ) →
-        AreRowsAbout channel.now at y
-        (unwrap_or (option_copied up.entry) []) mid.now (unwrap_or (option_copied down.entry) []) →
-        result ≡ row_of channel.now.width (λ x. streamed G.rules channel.now at x y) }
-{
-    if is_free(channel, y) {
-        return moved_row(channel, y, up, mid, down, out);
-    }
-    stream_row(channel, y, up, mid, down, &mut out);
-    out
 }
 
 /// Row `y` after streaming, from the collided rows above it, at it and below it. The first is None

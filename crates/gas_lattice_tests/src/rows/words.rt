@@ -166,8 +166,8 @@ fn cell_along(x: u32, along: i32, width: u32) -> u32 {
     }
 }
 
-// Direction i moved from words with anything past the width: each cell holds it where the cell along
-// does, and the words of the other directions stay.
+// Direction i moved from another row: each cell holds it where the cell along does in that row, and
+// the words of the other directions stay.
 fn direction_is_moved(
     rt: &impl Abort,
     alloc: Global,
@@ -182,11 +182,14 @@ fn direction_is_moved(
     assert!(rt; own.len() == directions::<Fhp1>() * words_for(row.width()));
     row.load_words(&own);
     let before = row.copy(alloc)?;
-    let from = mixed_words(alloc, 1, count)?;
-    assert!(rt; from.len() == words_for(row.width()));
+    let words = mixed_words(alloc, 1, directions::<Fhp1>() * count)?;
+    let mut from = Row::<Fhp1>::blank(alloc, width)?;
+    assert!(rt; words.len() == directions::<Fhp1>() * words_for(from.width()));
+    from.load_words(&words);
+    assert!(rt; from.width() == row.width());
     row.move_plane(i, along, &from);
     for x in 0..64 * count as u32 {
-        let came = x < width && says(&from, count, 0, cell_along(x, along, width));
+        let came = x < width && says(&words, count, i as usize, cell_along(x, along, width));
         assert!(rt;
             says(row.plane(i), count, 0, x) == came,
             "direction {i} of cell {x} of {width}, from {along}"

@@ -6,7 +6,7 @@ use Rattle.gas_stage.proofs.stage.stream_between.Goals as goal
 
 pub returns-clause-streamed : goal.returns-clause-streamed
 returns-clause-streamed g c = λ at rows.
-    c.streamed_row.ensures.streamed at (record {
+    c.stream_row.ensures.streamed at (record {
       up_is = λ above x h fluid.
           ap (λ (o : Option (Bor (List ℕ))). get_or (unwrap_or (option_copied o) []) x 0)
           (c.then_some-up.ensures ∙ ap (λ b. then_some b c.args.above) (lt-ltb 0 c.args.y above))

@@ -1,6 +1,6 @@
 use Rattle.std.proofs.Common.{arith}
 use Rattle.gas_stage.proofs.Directions.{row_streamed}
-use Rattle.gas_stage.proofs.stream.moved_row.Goals as goal
+use Rattle.gas_stage.proofs.moving.moved_row.Goals as goal
 
 pub returns-clause-streamed : goal.returns-clause-streamed
 returns-clause-streamed g c at rows =
