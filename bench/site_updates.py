@@ -21,6 +21,7 @@ import time
 
 ROOT = pathlib.Path(__file__).resolve().parent.parent
 PROGRAM = ROOT / "crates/fhpgas/out/fhpgas"
+LEVEL = ROOT / "crates/fhpgas/out/level"
 SINGLE = ROOT / "crates/single_stage/out/single_stage"
 KEY_STREAM = ROOT / "crates/key_stream/out/key_stream"
 CELLS_OF_KEY_ROW = 4096 * 32
@@ -33,10 +34,18 @@ def numbers(text):
     return [int(word) for word in text.split(",")]
 
 
+def level_of_program():
+    """The level that the program was built for. The tests build it too, and do not write the level down."""
+    subprocess.run([ROOT / "fhpgas", "--help"], check=True, stdout=subprocess.DEVNULL)
+    if not LEVEL.exists() or LEVEL.stat().st_mtime < PROGRAM.stat().st_mtime:
+        subprocess.run([ROOT / "build.sh"], check=True)
+    return LEVEL.read_text().strip()
+
+
 def build(room):
     """The C program's path and the level, where all are built."""
-    subprocess.run([ROOT / "fhpgas", "--help"], check=True, stdout=subprocess.DEVNULL)
-    level = (ROOT / "crates/fhpgas/out/level").read_text().strip()
+    level = level_of_program()
+    print("building what is measured beside the program: some minutes where it was not built before", file=sys.stderr, flush=True)
     for program in SINGLE, KEY_STREAM:
         subprocess.run(["rt", "run", "--cpu", level, "--", "0"], cwd=program.parent.parent, input=SMALL_SCENE, check=True,
                        stdout=subprocess.DEVNULL, stderr=subprocess.DEVNULL)
@@ -136,8 +145,8 @@ def main():
     words = argparse.ArgumentParser(description=__doc__, formatter_class=argparse.RawDescriptionHelpFormatter)
     words.add_argument("--rounds", type=int, default=3)
     words.add_argument("--busy", type=int, default=0)
-    words.add_argument("--stages", type=numbers, default=[1, 2, 3, 4])
-    words.add_argument("--capacities", type=numbers, default=[2, 32])
+    words.add_argument("--stages", type=numbers, default=[1, 2, 3, 4, 8, 16, 32])
+    words.add_argument("--capacities", type=numbers, default=[2, 32, 128])
     words.add_argument("lattices", nargs="*", default=LATTICES)
     options = words.parse_args()
     with tempfile.TemporaryDirectory() as folder:
