@@ -35,7 +35,7 @@ def numbers(text):
 
 
 def level_of_program():
-    """The level that the program was built for. The tests build it too, and do not write the level down."""
+    """The level that the program was built for. Where it was built by `rt ci` alone, which writes no level down, it is built again."""
     subprocess.run([ROOT / "fhpgas", "--help"], check=True, stdout=subprocess.DEVNULL)
     if not LEVEL.exists() or LEVEL.stat().st_mtime < PROGRAM.stat().st_mtime:
         subprocess.run([ROOT / "build.sh"], check=True)

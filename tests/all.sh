@@ -12,4 +12,5 @@ if grep 'only because a proof file names what the edit took away' "$log"; then
     echo 'tests: these edits say little of a contract: let them change a value and keep the names'
     exit 1
 fi
+echo x86-64-v2 > crates/fhpgas/out/level # the kit's own, for which rt ci builds
 tests/command_line.sh && tests/terminal.py && tests/documents.py && tests/drawn_scenes.py && tests/mutated_scenes.py 5000 && tests/large_scenes.py 1 && tests/refusals.py
