@@ -5,17 +5,17 @@ mod progress;
 mod terminal;
 
 ghost use Rattle.std.specs.Prelude.{IfOk};
-ghost use Rattle.gas_words.specs.Requests.{IsAllowed};
+ghost use Rattle.gas_tool_cli.specs.Requests.{IsAllowed};
 
 use crate::progress::Progress;
 use crate::terminal::{INPUT, is_terminal};
-use gas_perform::faults::ToolError;
-use gas_perform::perform::perform;
-use gas_text::faults::InputFault;
-use gas_text::input::slurp;
-use gas_words::faults::UsageFault;
-use gas_words::request::Request;
-use gas_words::words::parse_words;
+use gas_tool_cli::faults::UsageFault;
+use gas_tool_cli::request::Request;
+use gas_tool_cli::words::parse_words;
+use gas_tool_io::faults::InputFault;
+use gas_tool_io::input::slurp;
+use gas_tool_perform::faults::ToolError;
+use gas_tool_perform::perform;
 use std::alloc::AllocError;
 use std::env;
 use std::io::ErrorKind;

@@ -1,8 +1,8 @@
 //! A line of progress on standard error, where that is a terminal.
 
 use crate::terminal::{ERRORS, is_terminal};
-use gas_threads::threads::gate::Gate;
-use gas_words::request::Request;
+use gas_pipe_run::gate::Gate;
+use gas_tool_cli::request::Request;
 use std::sync::atomic::{AtomicU64, Ordering};
 use std::time::Instant;
 

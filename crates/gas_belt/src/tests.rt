@@ -1,7 +1,7 @@
 ghost use Rattle.std.specs.Prelude.{◌≡◌, ◌≤◌};
 
-use crate::belt::belt;
 use crate::carried::meet;
+use crate::pair::belt;
 use crate::rx::Rx;
 use crate::tx::Tx;
 use gas_geom::fhp1::Fhp1;

@@ -4,7 +4,7 @@
 
 pub mod faults;
 
-pub use gas_blocks::blocks;
-pub use gas_perform::{perform, resume};
-pub use gas_text::{input, table, text};
-pub use gas_words::{request, words};
+pub use gas_tool_cli::{request, words};
+pub use gas_tool_coarse::blocks;
+pub use gas_tool_io::{input, table, text};
+pub use gas_tool_perform::{perform, resume};

@@ -2,15 +2,14 @@
 
 use crate::outcome::Outcome;
 use crate::rows::{are_same_lattices, lattice_with_obstacle, row_of_words};
-use gas_belt::belt::belt;
+use gas_belt::belt;
 use gas_geom::fhp1::Fhp1;
 use gas_pipe::feeder::Feeder;
+use gas_pipe::gate::Gate;
 use gas_pipe::plain_belt::PlainBelt;
 use gas_pipe::plan::Plan;
-use gas_pipe::replay::replay;
-use gas_pipe::threads::gate::Gate;
-use gas_pipe::threads::run;
 use gas_pipe::worker::Worker;
+use gas_pipe::{replay, run};
 use gas_rows::chirality::Chirality;
 use gas_stage::advance::lattice_after;
 use gas_stage::stage::Stage;

@@ -1,6 +1,6 @@
 //! Scenes, words, input and whole requests.
 
-ghost use Rattle.gas_words.specs.Requests.{IsAllowed};
+ghost use Rattle.gas_tool_cli.specs.Requests.{IsAllowed};
 
 use crate::line::Register;
 use crate::outcome::Outcome;
@@ -13,7 +13,7 @@ use gas_scene::scene::read;
 use gas_tool::blocks::{Block, coarse};
 use gas_tool::faults::{InputFault, UsageFault};
 use gas_tool::input::slurp;
-use gas_tool::perform::perform;
+use gas_tool::perform;
 use gas_tool::request::{Request, Turns};
 use gas_tool::words::parse_words;
 use std::alloc::{AllocError, Global};

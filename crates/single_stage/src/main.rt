@@ -8,8 +8,8 @@ use gas_rows::lattice::Lattice;
 use gas_scene::any_lattice::AnyLattice;
 use gas_scene::scene::{Scene, read};
 use gas_stage::advance::lattice_after;
-use gas_text::input::slurp;
-use gas_text::text::write_cells;
+use gas_tool_io::input::slurp;
+use gas_tool_io::text::write_cells;
 use std::env;
 use std::process::ExitCode;
 

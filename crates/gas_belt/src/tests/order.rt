@@ -1,6 +1,6 @@
 use super::Step::{Given, NothingTaken, Put, PutBack, Taken};
 use super::{carried, carried_at_last, play};
-use crate::belt::belt;
+use crate::pair::belt;
 use std::test::Fail;
 
 #[test]

@@ -1,8 +1,8 @@
 ghost use Rattle.std.specs.Prelude.{◌≡◌, ◌<◌, IfOk};
 
 use super::{number, numbered};
-use crate::belt::belt;
 use crate::carried::meet;
+use crate::pair::belt;
 use crate::rx::Rx;
 use crate::tx::{Spent, Tx};
 use gas_geom::fhp1::Fhp1;

@@ -1,6 +1,6 @@
 use super::Step::{Gathered, GatheredBack, Given, NothingShown, NothingTaken, Put, Shown, Taken};
 use super::{carried, carried_at_last, play};
-use crate::belt::belt;
+use crate::pair::belt;
 use std::test::Fail;
 
 // On a belt with eight places four rows gather before they are shown.

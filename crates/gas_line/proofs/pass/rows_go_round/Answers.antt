@@ -1,5 +1,0 @@
-use Rattle.gas_line.proofs.Rings.{round}
-use Rattle.gas_line.proofs.pass.rows_go_round.Goals as goal
-
-pub returns : goal.returns
-returns c gas p n is = round gas p is n

@@ -1,9 +1,0 @@
-use Rattle.gas_text.proofs.Sinks.{Adds-then}
-use Rattle.gas_perform.proofs.replayed.write_replay.Goals as goal
-
-pub returns : goal.returns
-returns g c =
-    let done = c.put_done.ensures c.args.replay.now.lattice c.done.ensures in
-    let above = Adds-then _ _ _ _ _ _ _ _ done c.put_belts.ensures in
-    let all = Adds-then _ _ _ _ _ _ _ _ above c.put_end.ensures in
-    c.finish.ensures _ _ (all.adds _ _ (c.new-sink.ensures.empty _))

@@ -1,0 +1,44 @@
+-- What a worker has done, seen from its two lists.
+use Rattle.std.proofs.Common.{◌≡◌, ℕ, ◌-◌, ◌≤◌, ◌++◌, Option, Some, None, IsSome, List, [], length, drop, ap, ◌∙◌, sym, refl, subst, append_assoc, append-nil, arith}
+use Rattle.std.proofs.lemmas.List.{take-append-drop}
+use Rattle.std.specs.Option.{option_to_list}
+use Rattle.gas_geom.specs.Gas.{Rules}
+use Rattle.gas_geom.specs.Channel.{ChannelModel}
+use Rattle.gas_rows.specs.declared.chirality.Chirality.{Chirality}
+use Rattle.gas_stage.specs.Stage.{owed, given}
+use Rattle.gas_rows.specs.Row.{RowModel}
+use mathlib.Core.List.{IsPrefix}
+use Rattle.gas_pipe_members.specs.Worker.{WorkerModel, IsClosed, HasDone, owes}
+
+-- what a stage gave before the flush is the beginning of what it owes
+given_prefix : (gas : Rules) (c : ChannelModel) (h : Chirality) (e : Option ℕ) (q : List RowModel) → IsPrefix (given gas c h e q) (owed gas c h e q)
+given_prefix gas c h None q = ([], append-nil q)
+given_prefix gas c h (Some g) q = (
+  drop (length q - 1) (owed gas c h (Some g) q),
+  take-append-drop (length q - 1) (owed gas c h (Some g) q),
+)
+
+pub done_prefix : (gas : Rules) (w : WorkerModel) (e : Option ℕ) (took gave : List RowModel) → HasDone gas w e took gave → IsPrefix gave (owes gas w e took)
+done_prefix gas w e took gave done = by w.stage.pass refl
+  where
+    by : (p : Option (Option ℕ)) → w.stage.pass ≡ p → IsPrefix gave (owes gas w e took)
+    by None is = (option_to_list w.waiting, (done.once_closed is).put)
+    by (Some q) is =
+        let before = given_prefix gas w.stage.channel w.stage.chirality e took in (
+          option_to_list w.waiting ++ before.0,
+          sym (append_assoc gave (option_to_list w.waiting) before.0)
+              ∙ ap (λ (l : List RowModel). l ++ before.0) (done.while_open (subst IsSome (sym is) refl)).put ∙ before.1,
+        )
+
+-- no more rows were taken than a lattice has
+pub done_few : (gas : Rules) (w : WorkerModel) (e : Option ℕ) (took gave : List RowModel) → HasDone gas w e took gave → length took ≤ w.stage.channel.height
+done_few gas w e took gave done = by w.stage.pass refl
+  where
+    by : (p : Option (Option ℕ)) → w.stage.pass ≡ p → length took ≤ w.stage.channel.height
+    by None is = omega (arith, (done.once_closed is).all)
+    by (Some q) is = (done.while_open (subst IsSome (sym is) refl)).few
+
+-- where no pass is open nothing is left to put
+pub closed_all : (gas : Rules) (w : WorkerModel) → IsClosed w → (e : Option ℕ) (took gave : List RowModel) → HasDone gas w e took gave → gave ≡ owes gas w e took
+closed_all gas w closed e took gave done =
+    sym (append-nil gave) ∙ ap (λ (o : Option RowModel). gave ++ option_to_list o) (sym closed.waiting) ∙ (done.once_closed closed.stage).put

@@ -1,0 +1,264 @@
+//! The feeder of the line, over any two ends.
+ghost use Rattle.std.specs.Prelude.{◌≡◌, ◌≢◌, ◌<◌, ◌≤◌, ◌↔◌, ◌+◌, ◌*◌, ◌%◌, ◌++◌, ◌∷◌, ◌^◌, ℕ, [], List, IfOk, IsTrue, IsFalse, true, false, length, slice_index, drop};
+ghost use Rattle.gas_geom.specs.Lattice.{IsLattice};
+ghost use Rattle.gas_rows.specs.Row.{RowModel};
+ghost use mathlib.Core.List.{IsPrefix};
+ghost use Rattle.gas_pipe_members.specs.Feeder.{FeederModel, HasFed, AfterTake, AfterPut, emptied_row, emptied};
+
+use crate::ends::{PutEnd, TakeEnd, Turned};
+use crate::reserve::Reserve;
+use gas_geom::gas::Gas;
+use gas_geom::size::Size;
+use gas_rows::channel::Channel;
+use gas_rows::lattice::Lattice;
+use gas_rows::row::Row;
+use std::alloc::{AllocError, Global};
+use std::collections::VecDeque;
+use std::marker::Model;
+
+// Empties the solid cells of row y.
+fn empty_solid<G: Gas>(channel: &Channel, y: u32, row: &mut Row<G>)
+    requires row { y < channel.now.height }
+    requires wide { length row.old ≡ channel.now.width }
+    ensures emptied { row.new ≡ emptied_row channel.now y row.old }
+    ensures states { (x : ℕ) → slice_index row.new x < 2 ^ G.rules.dirs }
+{
+    row.empty_solid(channel.mask(y));
+}
+
+/// The feeder of the line. It holds the rows to be put in order, and those that came back behind
+/// them. The spare rows of its puts wait in a reserve, until the end that it takes from gets them.
+#[derive(Drop)]
+pub struct Feeder<G: Gas> {
+    channel: Channel,
+    size: Size,
+    rows: VecDeque<Row<G>>,
+    reserve: Reserve<G>,
+    to_put: u64,
+    to_take: u64,
+    next: u32,
+    stray: bool,
+}
+
+impl<G: Gas> Model for Feeder<G> {
+    ghost use Rattle.std.specs.Prelude.{◌≡◌, ◌+◌, ◌≤◌, ◌<◌, true};
+    ghost use Rattle.std.specs.VecDeque.{deque_capacity, deque_len};
+    ghost use Rattle.gas_geom.specs.declared.size.TheConstants.{MOST_SIDE};
+    ghost use Rattle.gas_pipe_members.specs.Feeder.{FeederModel};
+    ghost use Rattle.gas_pipe_members.specs.Inner.Queue.{IsQueue};
+
+    ghost Value = { FeederModel };
+
+    ghost view = { λ f. record {
+      channel = f.channel;
+      rows = f.rows.items;
+      to_put = f.to_put;
+      to_take = f.to_take;
+      next = f.next;
+      stray = f.stray;
+    } };
+
+    ghost invariant = { λ f. record {
+      room : deque_len f.rows + f.to_take ≤ deque_capacity f.rows + f.to_put;
+      put_first : f.to_put ≤ f.to_take;
+      next_within : f.next < f.channel.height;
+      width : f.size.width ≡ f.channel.width;
+      height : f.size.height ≡ f.channel.height;
+      few_rows : f.channel.height ≤ MOST_SIDE;
+      stray_in_pass : f.stray ≡ true → 0 < f.to_take;
+      queue : IsQueue G.rules f.channel f.rows.items f.to_put f.to_take f.next;
+    } };
+}
+
+impl<G: Gas> Feeder<G> {
+    /// A feeder of an equal lattice, with no open pass.
+    pub fn new(alloc: Global, lattice: &Lattice<G>) -> Result<Self, AllocError>
+        ensures channel { IfOk result (λ f. f.channel ≡ lattice.now.channel) }
+        ensures rows { IfOk result (λ f. f.rows ≡ lattice.now.rows) }
+        ensures whole { IfOk result (λ f. IsLattice G.rules f.channel f.rows) }
+        ensures closed { IfOk result (λ f. f.to_take ≡ 0) }
+        ensures no_stray { IfOk result (λ f. f.stray ≡ false) }
+    {
+        let (channel, rows) = lattice.copy(alloc)?.into_rows();
+        let size = channel.size();
+        Ok(Feeder {
+            channel,
+            size,
+            rows: VecDeque::from(rows),
+            reserve: Reserve::new(alloc, size.height())?,
+            to_put: 0,
+            to_take: 0,
+            next: 0,
+            stray: false,
+        })
+    }
+
+    /// Opens a pass over the rows that it holds.
+    pub fn begin(&mut self)
+        requires closed { self.old.to_take ≡ 0 }
+        ensures channel { self.new.channel ≡ self.old.channel }
+        ensures nothing_done { HasFed self.new 1 self.old.rows [] [] }
+    {
+        self.begin_ring(1);
+    }
+
+    /// Opens as many passes, 1 to 1,000,000, one after another: each row that comes back is left to
+    /// put again as soon as it has come, until all rows of all passes were put.
+    pub fn begin_ring(&mut self, passes: u64)
+        requires closed { self.old.to_take ≡ 0 }
+        requires some { 1 ≤ passes }
+        requires few { passes ≤ 1000000 }
+        ensures channel { self.new.channel ≡ self.old.channel }
+        ensures nothing_done { HasFed self.new passes self.old.rows [] [] }
+    {
+        let total = passes * u64::from(self.size.height());
+        self.to_put = total;
+        self.to_take = total;
+        self.next = 0;
+    }
+
+    /// Whether no pass is open.
+    pub fn is_closed(&self) -> bool
+        ensures { IsTrue result ↔ self.now.to_take ≡ 0 }
+    {
+        self.to_take == 0
+    }
+
+    /// The number of rows that it took of the lattice under way, or, where no pass is open, of the
+    /// last one.
+    pub fn taken(&self) -> u32
+        ensures value { (rows gave took : List RowModel) → HasFed self.now 1 rows gave took → result ≡ length took }
+        ensures few { result ≤ 65536 }
+    {
+        if self.to_take == 0 {
+            self.size.height()
+        } else {
+            self.next
+        }
+    }
+
+    // Puts the next row, if one is left to put and the end takes it.
+    fn put_next<P: PutEnd<Row<G>>>(&mut self, put: &mut P) -> bool
+        ensures put { IsTrue result → (row : RowModel) × P.puts put.old row put.new
+            × (self.old ≡ record self.new { rows = row ∷ self.new.rows; to_put = self.new.to_put + 1 }) }
+        ensures rests { IsFalse result → P.rests put.old put.new × (self.new ≡ self.old) }
+        ensures ready { IsFalse result → 0 < self.old.to_put → 0 < length self.old.rows → P.ready put.old → ⊥ }
+    {
+        if self.to_put == 0 {
+            return false;
+        }
+        let Some(row) = self.rows.pop_front() else {
+            return false;
+        };
+        match put.try_put(row) {
+            Ok(()) => {
+                self.to_put -= 1;
+                self.reserve.keep_spare(put);
+                true
+            }
+            Err(row) => {
+                self.rows.push_front_reserved(row);
+                false
+            }
+        }
+    }
+
+    // Takes a row of the lattice: the next one, of which the solid cells are taken as empty.
+    fn accept(&mut self, mut row: Row<G>)
+        requires owed { self.old.to_put < self.old.to_take }
+        requires no_stray { self.old.stray ≡ false }
+        requires wide { length row ≡ self.old.channel.width }
+        ensures channel { self.new.channel ≡ self.old.channel }
+        ensures rows { self.new.rows ≡ self.old.rows ++ emptied_row self.old.channel self.old.next row ∷ [] }
+        ensures to_put { self.new.to_put ≡ self.old.to_put }
+        ensures to_take { self.new.to_take + 1 ≡ self.old.to_take }
+        ensures next { self.new.next ≡ (self.old.next + 1) % self.old.channel.height }
+        ensures stray { self.new.stray ≡ self.old.stray }
+        ensures whole { self.new.to_take ≡ 0 → IsLattice G.rules self.new.channel self.new.rows }
+    {
+        empty_solid(&self.channel, self.next, &mut row);
+        self.next = (self.next + 1) % self.size.height();
+        self.to_take -= 1;
+        self.rows.push_back_reserved(row);
+    }
+
+    /// Makes at most one event: a put of the next row, or, where none is left to put or the end
+    /// hands it back, a take, if fewer rows were taken than put. It answers Done where no pass is
+    /// open. A taken row of another width than the channel's is dropped, and the answer is Stray,
+    /// then and ever after.
+    #[tactic(auto, using(crate::proofs::Feeds::feeds))]
+    pub fn turn<P: PutEnd<Row<G>>, T: TakeEnd<Row<G>>>(
+        &mut self,
+        put: &mut P,
+        take: &mut T,
+    ) -> Turned
+        ensures channel { self.new.channel ≡ self.old.channel }
+        ensures put { result ≡ Turned.Put →
+            (row : RowModel) × P.puts put.old row put.new × T.rests take.old take.new × AfterPut self.old row self.new }
+        ensures took { result ≡ Turned.Took →
+            (row : RowModel) × T.takes take.old row take.new × P.rests put.old put.new × AfterTake self.old row self.new }
+        ensures took_when { result ≡ Turned.Took → self.old.to_put < self.old.to_take }
+        ensures took_after_put { result ≡ Turned.Took → 0 < self.old.to_put → 0 < length self.old.rows → P.ready put.old → ⊥ }
+        ensures idle { result ≡ Turned.Idle → T.rests take.old take.new × P.rests put.old put.new × (self.new ≡ self.old) }
+        ensures idle_putting { result ≡ Turned.Idle → 0 < self.old.to_put → 0 < length self.old.rows → P.ready put.old → ⊥ }
+        ensures idle_taking { result ≡ Turned.Idle → self.old.to_put < self.old.to_take → T.ready take.old → ⊥ }
+        ensures done { result ≡ Turned.Done → T.rests take.old take.new × P.rests put.old put.new × (self.new ≡ self.old) }
+        ensures done_when { result ≡ Turned.Done → self.old.to_take ≡ 0 }
+        ensures done_if { self.old.to_take ≡ 0 → result ≡ Turned.Done }
+        ensures stray { result ≡ Turned.Stray → self.new.stray ≡ true }
+        ensures stray_at { result ≡ Turned.Stray → self.old.stray ≡ false →
+            (row : RowModel) × T.takes take.old row take.new × P.rests put.old put.new × (length row ≢ self.old.channel.width) }
+        ensures stray_ever { self.old.stray ≡ true →
+            (result ≡ Turned.Stray) × T.rests take.old take.new × P.rests put.old put.new × (self.new ≡ self.old) }
+        ensures whole { self.new.to_take ≡ 0 → IsLattice G.rules self.new.channel self.new.rows }
+    {
+        if self.stray {
+            return Turned::Stray;
+        }
+        if self.to_take == 0 {
+            return Turned::Done;
+        }
+        if self.put_next(put) {
+            return Turned::Put;
+        }
+        if self.to_take == self.to_put {
+            return Turned::Idle;
+        }
+        let Some(row) = take.try_take() else {
+            return Turned::Idle;
+        };
+        if row.width() != self.size.width() {
+            self.stray = true;
+            return Turned::Stray;
+        }
+        self.accept(row);
+        self.reserve.give_spare(take);
+        Turned::Took
+    }
+
+    /// The lattice of the rows that it holds, where no pass is open.
+    pub fn finish(self) -> Lattice<G>
+        requires closed { self.to_take ≡ 0 }
+        ensures channel { result.channel ≡ self.channel }
+        ensures rows { result.rows ≡ self.rows }
+    {
+        Lattice::from_rows(self.channel, Vec::from(self.rows))
+    }
+}
+
+/// What a feeder put is the beginning of the rows that it began with and, behind them, those that it
+/// took, solid cells emptied: in so many passes over a lattice at most as many times the height.
+/// Where the passes are closed it has put and taken just as many, and holds the last rows that it
+/// took, as many as a lattice has, solid cells emptied.
+pub fn a_feeder_in_order()
+    ensures prefix { (f : FeederModel) (passes : ℕ) (rows gave took : List RowModel) → HasFed f passes rows gave took →
+        IsPrefix gave (rows ++ emptied f.channel took) }
+    ensures few { (f : FeederModel) (passes : ℕ) (rows gave took : List RowModel) → HasFed f passes rows gave took →
+        length gave ≤ passes * f.channel.height }
+    ensures put_all { (f : FeederModel) (passes : ℕ) (rows gave took : List RowModel) → HasFed f passes rows gave took →
+        f.to_take ≡ 0 → length gave ≡ passes * f.channel.height }
+    ensures taken_all { (f : FeederModel) (passes : ℕ) (rows gave took : List RowModel) → HasFed f passes rows gave took →
+        f.to_take ≡ 0 → length took ≡ passes * f.channel.height }
+    ensures holds { (f : FeederModel) (n : ℕ) (rows gave took : List RowModel) → HasFed f (n + 1) rows gave took →
+        length rows ≡ f.channel.height → f.to_take ≡ 0 → f.rows ≡ emptied f.channel (drop (n * f.channel.height) took) }
+{}

@@ -1,0 +1,117 @@
+//! The plan of a run: the stages of its line, the rows that a belt holds, the generations to compute.
+
+ghost use Rattle.std.specs.Prelude.{◌≡◌, ◌≤◌, ◌<◌, ◌*◌, IfOk, IfErr, None, Some};
+ghost use Rattle.gas_pipe_model.specs.Plan.{passes_of};
+ghost use Rattle.gas_pipe_members.specs.Plan.{plan_refusal};
+
+use std::marker::Model;
+use thiserror::Error;
+
+/// Why a plan was refused. Its `Display` text is the line that the program prints.
+#[derive(Debug, Drop, Error, PartialEq, Eq)]
+pub enum PlanError {
+    #[error("plan: stages must be 1 to 64")]
+    Stages,
+    #[error("plan: capacity must be 1 to 1024")]
+    Capacity,
+    #[error("plan: generations must be 0 to 1000000")]
+    Generations,
+}
+
+/// The number of stages, 1 to 64, the capacity of a belt, 1 to 1024 rows, and the number of
+/// generations to compute, 0 to 1,000,000.
+#[derive(Clone, Copy)]
+pub struct Plan {
+    stages: u32,
+    capacity: u32,
+    generations: u64,
+}
+
+impl Model for Plan {
+    ghost use Rattle.gas_pipe_model.specs.Plan.{PlanModel};
+    ghost use Rattle.std.specs.Prelude.{◌≤◌};
+
+    ghost Value = { PlanModel };
+
+    ghost view = { λ p. record {
+      stages = p.stages;
+      capacity = p.capacity;
+      generations = p.generations;
+    } };
+
+    ghost invariant = { λ p. record {
+      some_stages : 1 ≤ p.stages;
+      few_stages : p.stages ≤ 64;
+      some_capacity : 1 ≤ p.capacity;
+      few_rows : p.capacity ≤ 1024;
+      few_generations : p.generations ≤ 1000000;
+    } };
+
+    ghost inverse = { λ v. record {
+      stages = v.stages;
+      capacity = v.capacity;
+      generations = v.generations;
+    } };
+}
+
+impl Plan {
+    /// A plan, or the first refusal: of the stages, then of the capacity, then of the generations.
+    pub fn new(stages: u32, capacity: u32, generations: u64) -> Result<Plan, PlanError>
+        ensures refused { IfErr result (λ e. plan_refusal stages capacity generations ≡ Some e) }
+        ensures accepted { IfOk result (λ _. plan_refusal stages capacity generations ≡ None) }
+        ensures made { IfOk result (λ plan.
+            plan ≡ record { stages = stages; capacity = capacity; generations = generations }) }
+    {
+        if stages < 1 || stages > 64 {
+            Err(PlanError::Stages)
+        } else if capacity < 1 || capacity > 1024 {
+            Err(PlanError::Capacity)
+        } else if generations > 1_000_000 {
+            Err(PlanError::Generations)
+        } else {
+            Ok(Plan {
+                stages,
+                capacity,
+                generations,
+            })
+        }
+    }
+
+    /// The number of stages of the line.
+    pub fn stages(self) -> u32
+        ensures value { result ≡ self.stages }
+        ensures some { 1 ≤ result }
+        ensures few { result ≤ 64 }
+        ensures accepted { plan_refusal self.stages self.capacity self.generations ≡ None }
+    {
+        self.stages
+    }
+
+    /// The number of rows that a belt holds.
+    pub fn capacity(self) -> u32
+        ensures value { result ≡ self.capacity }
+        ensures some { 1 ≤ result }
+        ensures few { result ≤ 1024 }
+        ensures accepted { plan_refusal self.stages self.capacity self.generations ≡ None }
+    {
+        self.capacity
+    }
+
+    /// The number of generations to compute.
+    pub fn generations(self) -> u64
+        ensures value { result ≡ self.generations }
+        ensures few { result ≤ 1000000 }
+        ensures accepted { plan_refusal self.stages self.capacity self.generations ≡ None }
+    {
+        self.generations
+    }
+
+    /// The number of passes through the line. A pass computes at most one generation a stage.
+    pub fn passes(self) -> u64
+        ensures value { result ≡ passes_of self.generations self.stages }
+        ensures few { result ≤ self.generations }
+        ensures most { result ≤ 1000000 }
+    {
+        self.generations.div_ceil(u64::from(self.stages))
+    }
+}

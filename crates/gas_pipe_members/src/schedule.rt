@@ -1,0 +1,41 @@
+//! When each worker of a plan computes what.
+
+ghost use Rattle.std.specs.Prelude.{◌≡◌, ◌≤◌, ◌<◌, ◌+◌, ◌*◌, ◌^◌};
+ghost use Rattle.gas_pipe_model.specs.Pass.{computes_from};
+ghost use Rattle.gas_pipe_model.specs.Plan.{passes_of};
+
+use crate::plan::Plan;
+
+/// A plan over a lattice of generation `first`.
+#[derive(Clone, Copy)]
+pub struct Schedule {
+    pub first: u64,
+    pub plan: Plan,
+    ghost room: { first + plan.generations < 2 ^ 64 },
+}
+
+impl Schedule {
+    /// The number of passes through the line.
+    pub fn passes(&self) -> u64
+        ensures value { result ≡ passes_of self.now.plan.generations self.now.plan.stages }
+        ensures few { result ≤ self.now.plan.generations }
+    {
+        self.plan.passes()
+    }
+
+    /// The generation that worker `who`, counted from 1, computes the step from in a pass, counted
+    /// from 0, or None where it passes rows on.
+    pub fn generation(&self, pass: u64, who: u32) -> Option<u64>
+        requires pass { pass * self.now.plan.stages < self.now.plan.generations }
+        requires some { 1 ≤ who }
+        requires one_of { who ≤ self.now.plan.stages }
+        ensures { result ≡ computes_from self.now.first self.now.plan pass who }
+    {
+        let before = pass * u64::from(self.plan.stages()) + u64::from(who - 1);
+        if before < self.plan.generations() {
+            Some(self.first + before)
+        } else {
+            None
+        }
+    }
+}

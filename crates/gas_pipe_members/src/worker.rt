@@ -1,0 +1,222 @@
+//! A worker of the line, over any two ends.
+ghost use Rattle.std.specs.Prelude.{◌≡◌, ◌≢◌, ◌<◌, ◌≤◌, ◌++◌, ◌∷◌, ℕ, [], List, Option, None, Some, IfOk, IfSome, IsNone, IsSome, true, false, length};
+ghost use Rattle.gas_geom.specs.Gas.{Rules};
+ghost use Rattle.gas_rows.specs.Row.{RowModel};
+ghost use mathlib.Core.List.{IsPrefix};
+ghost use Rattle.gas_pipe_members.specs.Worker.{WorkerModel, IsClosed, HasDone, owes, AfterTake, AfterPut, AfterNone, HasPutAll, HasTakenAll, HasMoreToTake};
+
+use crate::ends::{PutEnd, TakeEnd, Turned, return_spare};
+use gas_geom::gas::Gas;
+use gas_geom::size::Size;
+use gas_rows::channel::Channel;
+use gas_rows::chirality::Chirality;
+use gas_rows::row::Row;
+use gas_stage::stage::Stage;
+use std::alloc::{AllocError, Global};
+use std::marker::Model;
+
+/// A worker of the line. In each of its passes it takes the rows of a lattice from the top, and
+/// puts the rows that its stage gives for them.
+#[derive(Drop)]
+pub struct Worker<'a, G: Gas> {
+    stage: Stage<'a, G>,
+    size: Size,
+    waiting: Option<Row<G>>,
+    stray: bool,
+}
+
+impl<'a, G: Gas> Model for Worker<'a, G> {
+    ghost use Rattle.std.specs.Prelude.{◌≡◌, true, IsSome};
+    ghost use Rattle.gas_pipe_members.specs.Worker.{WorkerModel};
+
+    ghost Value = { WorkerModel };
+
+    ghost view = { λ w. record { stage = w.stage; waiting = w.waiting; stray = w.stray } };
+
+    ghost invariant = { λ w. record {
+      width : w.size.width ≡ w.stage.channel.width;
+      height : w.size.height ≡ w.stage.channel.height;
+      stray_in_pass : w.stray ≡ true → IsSome w.stage.pass;
+    } };
+}
+
+impl<'a, G: Gas> Worker<'a, G> {
+    /// A worker with no open pass. It takes its memory here.
+    pub fn new(
+        alloc: Global,
+        channel: &'a Channel,
+        chirality: Chirality,
+    ) -> Result<Self, AllocError>
+        ensures channel { IfOk result (λ w. w.stage.channel ≡ channel.now) }
+        ensures chirality { IfOk result (λ w. w.stage.chirality ≡ chirality) }
+        ensures closed { IfOk result (λ w. IsClosed w) }
+    {
+        Ok(Worker {
+            stage: Stage::new(alloc, channel, chirality)?,
+            size: channel.size(),
+            waiting: None,
+            stray: false,
+        })
+    }
+
+    /// Opens a pass that computes the step from a generation, or, with None, one that passes rows
+    /// on.
+    pub fn begin(&mut self, generation: Option<u64>)
+        requires closed { IsClosed self.old }
+        ensures channel { self.new.stage.channel ≡ self.old.stage.channel }
+        ensures chirality { self.new.stage.chirality ≡ self.old.stage.chirality }
+        ensures nothing_done { HasDone G.rules self.new generation [] [] }
+    {
+        self.stage.begin(generation);
+    }
+
+    /// The number of rows that it took in its pass, or in the pass that it closed last.
+    pub fn taken(&self) -> u32
+        ensures value { (e : Option ℕ) (took gave : List RowModel) → HasDone G.rules self.now e took gave → result ≡ length took }
+        ensures few { result ≤ 65536 }
+    {
+        let height = self.size.height();
+        if self.stage.is_open() {
+            self.stage.fed()
+        } else {
+            height
+        }
+    }
+
+    // The row that it has to put next: the one that waits or, where all rows of the pass were
+    // taken, the last one of its stage, whose pass this closes.
+    fn next_row(&mut self) -> Option<Row<G>>
+        requires no_stray { self.old.stray ≡ false }
+        ensures channel { self.new.stage.channel ≡ self.old.stage.channel }
+        ensures chirality { self.new.stage.chirality ≡ self.old.stage.chirality }
+        ensures no_stray { self.new.stray ≡ false }
+        ensures none_waits { self.new.waiting ≡ None }
+        ensures put { IfSome result (λ row. AfterPut G.rules self.old row self.new) }
+        ensures waits { IfSome result (λ row. AfterNone G.rules self.old (record self.new { waiting = Some row })) }
+        ensures owing { IsSome result → (e : Option ℕ) (took gave : List RowModel) →
+            HasDone G.rules self.old e took gave → gave ≡ owes G.rules self.old e took → ⊥ }
+        ensures none { IsNone result → AfterNone G.rules self.old self.new }
+        ensures put_all { IsNone result → HasPutAll G.rules self.old }
+        ensures taken_all { IsNone result → self.new.stage.pass ≡ None → HasTakenAll G.rules self.old }
+        ensures more { IsNone result → IsSome self.new.stage.pass →
+            (self.new ≡ self.old) × (self.new.stage.fed < self.new.stage.channel.height) × HasMoreToTake G.rules self.old }
+        ensures closed { IsClosed self.old → IsNone result × (self.new ≡ self.old) }
+    {
+        if let Some(row) = self.waiting.take() {
+            return Some(row);
+        }
+        if !self.stage.is_open() {
+            return None;
+        }
+        if self.stage.fed() < self.size.height() {
+            return None;
+        }
+        self.stage.flush()
+    }
+
+    // Tries to put a row, which waits where it is handed back. The row of a put goes to the other
+    // end as a spare one.
+    fn offer<T: TakeEnd<Row<G>>, P: PutEnd<Row<G>>>(
+        &mut self,
+        row: Row<G>,
+        take: &mut T,
+        put: &mut P,
+    ) -> Turned
+        requires none { self.old.waiting ≡ None }
+        ensures take { T.rests take.old take.new }
+        ensures put_or_idle { result ≢ Turned.Put → result ≡ Turned.Idle }
+        ensures put { result ≡ Turned.Put → P.puts put.old row put.new × (self.new ≡ self.old) }
+        ensures idle { result ≡ Turned.Idle → P.rests put.old put.new × (P.ready put.old → ⊥) × (self.new ≡ record self.old { waiting = Some row }) }
+    {
+        match put.try_put(row) {
+            Ok(()) => {
+                return_spare(put, take);
+                Turned::Put
+            }
+            Err(row) => {
+                self.waiting = Some(row);
+                Turned::Idle
+            }
+        }
+    }
+
+    // Takes a row of the open pass. What its stage gives for it is the row to be put next.
+    fn accept(&mut self, row: Row<G>)
+        requires none_waits { self.old.waiting ≡ None }
+        requires open { IsSome self.old.stage.pass }
+        requires room { self.old.stage.fed < self.old.stage.channel.height }
+        requires wide { length row ≡ self.old.stage.channel.width }
+        ensures channel { self.new.stage.channel ≡ self.old.stage.channel }
+        ensures chirality { self.new.stage.chirality ≡ self.old.stage.chirality }
+        ensures stray { self.new.stray ≡ self.old.stray }
+        ensures took { AfterTake G.rules self.old row self.new }
+    {
+        self.waiting = self.stage.feed(row);
+    }
+
+    /// Makes at most one event: a put of the next row that it owes, or, where it has put all of
+    /// them, a take. It answers Done where no pass is open, or where all rows of the pass were
+    /// taken and put before. A taken row of another width than the channel's is dropped, and the
+    /// answer is Stray, then and ever after.
+    pub fn turn<T: TakeEnd<Row<G>>, P: PutEnd<Row<G>>>(
+        &mut self,
+        take: &mut T,
+        put: &mut P,
+    ) -> Turned
+        ensures channel { self.new.stage.channel ≡ self.old.stage.channel }
+        ensures chirality { self.new.stage.chirality ≡ self.old.stage.chirality }
+        ensures took { result ≡ Turned.Took →
+            (row : RowModel) × T.takes take.old row take.new × P.rests put.old put.new × AfterTake G.rules self.old row self.new }
+        ensures took_when { result ≡ Turned.Took → HasPutAll G.rules self.old × HasMoreToTake G.rules self.old }
+        ensures put { result ≡ Turned.Put →
+            (row : RowModel) × P.puts put.old row put.new × T.rests take.old take.new × AfterPut G.rules self.old row self.new }
+        ensures idle { result ≡ Turned.Idle →
+            T.rests take.old take.new × P.rests put.old put.new × AfterNone G.rules self.old self.new }
+        ensures idle_owing { result ≡ Turned.Idle → (e : Option ℕ) (took gave : List RowModel) →
+            HasDone G.rules self.old e took gave → length gave < length (owes G.rules self.old e took) → P.ready put.old → ⊥ }
+        ensures idle_taking { result ≡ Turned.Idle → (e : Option ℕ) (took gave : List RowModel) →
+            HasDone G.rules self.old e took gave → gave ≡ owes G.rules self.old e took → T.ready take.old → ⊥ }
+        ensures done { result ≡ Turned.Done →
+            T.rests take.old take.new × P.rests put.old put.new × AfterNone G.rules self.old self.new × IsClosed self.new }
+        ensures done_when { result ≡ Turned.Done → HasTakenAll G.rules self.old × HasPutAll G.rules self.old }
+        ensures done_if_closed { IsClosed self.old → result ≡ Turned.Done }
+        ensures done_if_all { (e : Option ℕ) (took gave : List RowModel) → HasDone G.rules self.old e took gave →
+            length took ≡ self.old.stage.channel.height → gave ≡ owes G.rules self.old e took → result ≡ Turned.Done }
+        ensures stray { result ≡ Turned.Stray → self.new.stray ≡ true }
+        ensures stray_at { result ≡ Turned.Stray → self.old.stray ≡ false →
+            (row : RowModel) × T.takes take.old row take.new × P.rests put.old put.new × (length row ≢ self.old.stage.channel.width) }
+        ensures stray_when { result ≡ Turned.Stray → HasPutAll G.rules self.old × HasMoreToTake G.rules self.old }
+        ensures stray_ever { self.old.stray ≡ true →
+            (result ≡ Turned.Stray) × T.rests take.old take.new × P.rests put.old put.new × (self.new ≡ self.old) }
+    {
+        if self.stray {
+            return Turned::Stray;
+        }
+        if let Some(row) = self.next_row() {
+            return self.offer(row, take, put);
+        }
+        if !self.stage.is_open() {
+            return Turned::Done;
+        }
+        let Some(row) = take.try_take() else {
+            return Turned::Idle;
+        };
+        if row.width() != self.size.width() {
+            self.stray = true;
+            return Turned::Stray;
+        }
+        self.accept(row);
+        Turned::Took
+    }
+}
+
+/// What a worker put in its pass is the beginning of what it owes for the rows that it took, of
+/// which there are never more than the lattice has. A pass is closed only where all rows were
+/// taken, and all that is owed for them was put.
+pub fn a_pass_in_order()
+    ensures prefix { (gas : Rules) (w : WorkerModel) (e : Option ℕ) (took gave : List RowModel) →
+        HasDone gas w e took gave → IsPrefix gave (owes gas w e took) }
+    ensures few { (gas : Rules) (w : WorkerModel) (e : Option ℕ) (took gave : List RowModel) →
+        HasDone gas w e took gave → length took ≤ w.stage.channel.height }
+    ensures closed { (gas : Rules) (w : WorkerModel) → IsClosed w → HasTakenAll gas w × HasPutAll gas w }
+{}

@@ -1,0 +1,7 @@
+use Rattle.gas_pipe_model.specs.Pass.{line_of}
+use Rattle.gas_pipe_model.proofs.Kept.{fits}
+use Rattle.gas_pipe_model.proofs.Generations.{pass_is_line}
+use Rattle.gas_pipe_model.proofs.pass.pass_under_way.Goals as goal
+
+pub returns : goal.returns
+returns c gas p turns k is = (fits (line_of gas p) (pass_is_line gas p is) turns).under_way k

@@ -1,0 +1,202 @@
+-- A turn of the feeder brings a line to where the same turn brings its histories.
+use Rattle.std.proofs.Common.{◌≡◌, ◌≢◌, ℕ, zero, suc, ◌+◌, ◌≤◌, ◌<◌, inl, inr, true, false, List, [], ◌∷◌, ◌++◌, length, set, refl, ap, sym, ◌∙◌, subst, arith, length-append, append_assoc, length-set}
+use Rattle.std.proofs.lemmas.Bool.{cases_lt, le-ltb}
+use Rattle.gas_geom.specs.Gas.{Rules, IsGas}
+use Rattle.gas_rows.specs.Row.{RowModel}
+use Rattle.gas_pipe_model.specs.Line.{Line, State, grown, put_open, take_open, after_put, after_take, turn, IsLine}
+use Rattle.gas_pipe_model.specs.Pass.{PassModel, line_of, rows_on}
+use Rattle.gas_pipe_members.specs.Belt.{BeltModel}
+use Rattle.gas_pipe_members.specs.Worker.{WorkerModel}
+use Rattle.gas_pipe_members.specs.Feeder.{FeederModel, HasFed, AfterTake, AfterPut, emptied}
+use Rattle.gas_pipe_replay.specs.Inner.LocalLine.{belt, Shows}
+use Rattle.gas_pipe_members.specs.declared.ends.Turned.{Turned}
+use Rattle.gas_pipe_members.specs.declared.ends.Turned.TheVariants.{Took, Put, Idle, Done, Stray}
+use Rattle.gas_pipe_model.proofs.Prefixes.{prefix_length}
+use Rattle.gas_pipe_model.proofs.Turns.{Fits, grown_other, turn_put, turn_take, turn_idle, put_short}
+use Rattle.gas_pipe_model.proofs.Generations.{pass_is_line, rows_high}
+use Rattle.gas_pipe_members.proofs.Feeds.{one_pass_prefix}
+use Rattle.gas_pipe_replay.proofs.Slots.{at_two}
+use Rattle.gas_pipe_model.proofs.Opens.{put_shut, put_opened, take_opened, take_shut, grown_by, longer}
+use Rattle.gas_pipe_model.proofs.Wide.{under_way_is_wide}
+
+-- what a feeder's turn between two belts of one thread did
+pub record FeederTurned (r : Turned) (f v : FeederModel) (to to2 from from2 : BeltModel) : Type 0 where
+  pub channel : v.channel ≡ f.channel
+  pub gave : r ≡ Put → (row : RowModel) × ((length to.rows < to.capacity) × (to2 ≡ record to { rows = to.rows ++ row ∷ [] })) × (from2 ≡ from) × AfterPut f row v
+  pub took : r ≡ Took → (row : RowModel) × (from ≡ record from2 { rows = row ∷ from2.rows }) × (to2 ≡ to) × AfterTake f row v
+  pub took_when : r ≡ Took → f.to_put < f.to_take
+  pub took_after_put : r ≡ Took → 0 < f.to_put → 0 < length f.rows → length to.rows < to.capacity → ⊥
+  pub idle : r ≡ Idle → (from2 ≡ from) × (to2 ≡ to) × (v ≡ f)
+  pub idle_putting : r ≡ Idle → 0 < f.to_put → 0 < length f.rows → length to.rows < to.capacity → ⊥
+  pub idle_taking : r ≡ Idle → f.to_put < f.to_take → 0 < length from.rows → ⊥
+  pub done : r ≡ Done → (from2 ≡ from) × (to2 ≡ to) × (v ≡ f)
+  pub done_when : r ≡ Done → f.to_take ≡ 0
+  pub stray_at : r ≡ Stray → f.stray ≡ false → (row : RowModel) × (from ≡ record from2 { rows = row ∷ from2.rows }) × (to2 ≡ to) × (length row ≢ f.channel.width)
+
+-- no belt has more rows put on it than the first
+put_below : (l : Line) → IsLine l → (s : State) → Fits l s → (k : ℕ) → k ≤ l.workers → length (s.put k) ≤ length (s.put 0)
+put_below l is s f zero h = omega arith
+put_below l is s f (suc k) h =
+    omega (arith, put_below l is s f k (omega arith), prefix_length _ _ (f.put (suc k) h), is.no_more (suc k) (s.taken k), prefix_length _ _ (f.taken k))
+
+module _ (gas : Rules) (p : PassModel) (f v : FeederModel) (ws : List WorkerModel) (bs : List BeltModel) (s : State) (q t : BeltModel)
+    (laws : IsGas gas) (fits : Fits (line_of gas p) s) (sh : Shows gas p f ws bs s) where
+  abbrev line : Line
+  line = line_of gas p
+
+  is_line : IsLine line
+  is_line = pass_is_line gas p sh.pass
+
+  abbrev last : ℕ
+  last = p.plan.stages
+
+  holds_to : s.taken 0 ++ (belt bs 0).rows ≡ s.put 0
+  holds_to = sh.holds 0 (omega arith)
+
+  holds_from : s.taken last ++ (belt bs last).rows ≡ s.put last
+  holds_from = sh.holds last (omega arith)
+
+  cap_to : (belt bs 0).capacity ≡ p.plan.capacity
+  cap_to = sh.capacity 0 (omega arith)
+
+  cap_from : (belt bs last).capacity ≡ p.plan.capacity
+  cap_from = sh.capacity last (omega arith)
+
+  length_to : length (s.put 0) ≡ length (s.taken 0) + length (belt bs 0).rows
+  length_to = sym (ap length holds_to) ∙ length-append (s.taken 0) (belt bs 0).rows
+
+  length_from : length (s.put last) ≡ length (s.taken last) + length (belt bs last).rows
+  length_from = sym (ap length holds_from) ∙ length-append (s.taken last) (belt bs last).rows
+
+  high : length (rows_on gas p 0) ≡ f.channel.height
+  high = rows_high gas p sh.pass 0 ∙ ap (λ c. c.height) (sym sh.channel)
+
+  -- the line after a change of the feeder and its two belts
+  shows_feeder : (s2 : State) → ((j : ℕ) → (j ≡ 0 → ⊥) → s2.put j ≡ s.put j) → ((j : ℕ) → (j ≡ last → ⊥) → s2.taken j ≡ s.taken j) →
+      v.channel ≡ f.channel → HasFed v 1 (rows_on gas p 0) (s2.put 0) (s2.taken last) →
+      s2.taken 0 ++ q.rows ≡ s2.put 0 → s2.taken last ++ t.rows ≡ s2.put last → q.capacity ≡ p.plan.capacity → t.capacity ≡ p.plan.capacity →
+      Shows gas p v ws (set (set bs 0 q) last t) s2
+  shows_feeder s2 puts takens same_channel fed holds_q holds_t cap_q cap_t =
+      let low : 0 < last = sh.some in
+      let top : last < length bs = let a = sh.belts_are in omega arith in
+      let none : BeltModel = record { rows = []; capacity = 0 } in
+      record {
+        pass = sh.pass;
+        some = sh.some;
+        workers_are = sh.workers_are;
+        belts_are = length-set (set bs 0 q) last t ∙ length-set bs 0 q ∙ sh.belts_are;
+        channel = same_channel ∙ sh.channel;
+        fed = fed;
+        done = λ j d h. rw (takens j (λ e. absurd (omega arith)), puts (suc j) (λ e. absurd (omega arith))) (sh.done j d h);
+        holds = λ j h. at_two bs 0 last j q t none low top (λ b. s2.taken j ++ b.rows ≡ s2.put j)
+            (λ e. subst (λ i. s2.taken i ++ t.rows ≡ s2.put i) (sym e) holds_t)
+            (λ e. subst (λ i. s2.taken i ++ q.rows ≡ s2.put i) (sym e) holds_q)
+            (λ a b. rw (takens j a, puts j b) (sh.holds j h));
+        capacity = λ j h. at_two bs 0 last j q t none low top (λ b. b.capacity ≡ p.plan.capacity) (λ e. cap_t) (λ e. cap_q) (λ a b. sh.capacity j h);
+      }
+
+  abbrev Shown : Type 0
+  Shown = Shows gas p v ws (set (set bs 0 q) last t) (turn line s 0)
+
+  -- where a row is left and the belt has room, the feeder has a row to put
+  has_row : length (s.put 0) < length (rows_on gas p 0) → (0 < f.to_put) × (0 < length f.rows)
+  has_row more =
+      let fed = sh.fed in (
+        omega (arith, more, fed.puts, high),
+        omega (arith, more, ap length fed.queue, length-append (s.put 0) f.rows, length-append (rows_on gas p 0) (emptied f.channel (s.taken last))),
+      )
+
+  shut_put : (0 < f.to_put → 0 < length f.rows → length (belt bs 0).rows < (belt bs 0).capacity → ⊥) → put_open line s 0 ≡ false
+  shut_put full =
+      put_shut line s 0 (λ more. elim (cases_lt (length (belt bs 0).rows) (belt bs 0).capacity) [
+        | inl room ↦ absurd (full (has_row more).0 (has_row more).1 room)
+        | inr no_room ↦ omega (arith, no_room, length_to, cap_to)
+      ])
+
+  gave_step : (row : RowModel) → q ≡ record (belt bs 0) { rows = (belt bs 0).rows ++ row ∷ [] } → length (belt bs 0).rows < (belt bs 0).capacity → t ≡ belt bs last →
+      v.channel ≡ f.channel → HasFed v 1 (rows_on gas p 0) (s.put 0 ++ row ∷ []) (s.taken last) → Shown
+  gave_step row put room same same_channel fed =
+      let pre = one_pass_prefix v (rows_on gas p 0) (s.put 0 ++ row ∷ []) (s.taken last) fed (high ∙ ap (λ c. c.height) (sym same_channel)) in
+      let comes : s.put 0 ++ row ∷ pre.0 ≡ (rows_on gas p 0) = sym (append_assoc (s.put 0) (row ∷ []) pre.0) ∙ pre.1 in
+      let low = sh.some in
+      let opens : put_open line s 0 ≡ true = put_opened line s 0 (longer (s.put 0) row pre.0 (rows_on gas p 0) comes) (omega (arith, length_to, cap_to, room)) in
+      let e : turn line s 0 ≡ after_put line s 0 = (turn_put line s 0 (le-ltb last 0 (omega arith)) opens).1 in
+      let now : grown s.put 0 (rows_on gas p 0) 0 ≡ s.put 0 ++ row ∷ [] = grown_by s.put 0 row pre.0 (rows_on gas p 0) comes in
+      let behind : grown s.put 0 (rows_on gas p 0) last ≡ s.put last = grown_other s.put 0 (rows_on gas p 0) last (λ z. absurd (omega arith)) in
+      let rows : q.rows ≡ (belt bs 0).rows ++ row ∷ [] = ap (λ (b : BeltModel). b.rows) put in
+      subst (λ u. Shows gas p v ws (set (set bs 0 q) last t) u) (sym e)
+      (shows_feeder (after_put line s 0) (λ j ne. grown_other s.put 0 (rows_on gas p 0) j ne) (λ j ne. refl) same_channel
+      (rw now fed)
+      (rw (now, rows) (sym (append_assoc (s.taken 0) (belt bs 0).rows (row ∷ [])) ∙ ap (λ u. u ++ row ∷ []) holds_to))
+      (rw (behind, same) holds_from)
+      (ap (λ (b : BeltModel). b.capacity) put ∙ cap_to)
+      (ap (λ (b : BeltModel). b.capacity) same ∙ cap_from))
+
+  took_step : (row : RowModel) → belt bs last ≡ record t { rows = row ∷ t.rows } → q ≡ belt bs 0 → v.channel ≡ f.channel →
+      HasFed v 1 (rows_on gas p 0) (s.put 0) (s.taken last ++ row ∷ []) → (0 < f.to_put → 0 < length f.rows → length (belt bs 0).rows < (belt bs 0).capacity → ⊥) → Shown
+  took_step row taken same same_channel fed full =
+      let holds_t : s.taken last ++ row ∷ t.rows ≡ s.put last = rw (ap (λ (b : BeltModel). b.rows) taken) at holds_from in
+      let low = sh.some in
+      let opens : take_open line s last ≡ true = take_opened line s last (longer (s.taken last) row t.rows (s.put last) holds_t) (inl refl) in
+      let e : turn line s 0 ≡ after_take s last = (turn_take line s 0 (le-ltb last 0 (omega arith)) (shut_put full) opens).1 in
+      let now : grown s.taken last (s.put last) last ≡ s.taken last ++ row ∷ [] = grown_by s.taken last row t.rows (s.put last) holds_t in
+      let first : grown s.taken last (s.put last) 0 ≡ s.taken 0 = grown_other s.taken last (s.put last) 0 (λ z. absurd (omega arith)) in
+      subst (λ u. Shows gas p v ws (set (set bs 0 q) last t) u) (sym e)
+      (shows_feeder (after_take s last) (λ j ne. refl) (λ j ne. grown_other s.taken last (s.put last) j ne) same_channel
+      (rw now fed)
+      (rw (first, same) holds_to)
+      (rw now (append_assoc (s.taken last) (row ∷ []) t.rows ∙ holds_t))
+      (ap (λ (b : BeltModel). b.capacity) same ∙ cap_to)
+      (sym (ap (λ (b : BeltModel). b.capacity) taken) ∙ cap_from))
+
+  still_step : t ≡ belt bs last → q ≡ belt bs 0 → v ≡ f → (0 < f.to_put → 0 < length f.rows → length (belt bs 0).rows < (belt bs 0).capacity → ⊥) →
+      (length (s.taken last) < length (s.put last) → ⊥) → Shown
+  still_step same_t same_q same full none =
+      let no_take : take_open line s last ≡ false = take_shut line s last (λ more. absurd (none more)) in
+      let e : turn line s 0 ≡ s = (turn_idle line s 0 (le-ltb last 0 (omega arith)) (shut_put full) no_take).1 in
+      subst (λ u. Shows gas p v ws (set (set bs 0 q) last t) u) (sym e)
+      (shows_feeder s (λ j ne. refl) (λ j ne. refl) (ap (λ (u : FeederModel). u.channel) same)
+      (subst (λ u. HasFed u 1 (rows_on gas p 0) (s.put 0) (s.taken last)) (sym same) sh.fed)
+      (rw same_q holds_to)
+      (rw same_t holds_from)
+      (ap (λ (b : BeltModel). b.capacity) same_q ∙ cap_to)
+      (ap (λ (b : BeltModel). b.capacity) same_t ∙ cap_from))
+
+  idle_step : t ≡ belt bs last → q ≡ belt bs 0 → v ≡ f → (0 < f.to_put → 0 < length f.rows → length (belt bs 0).rows < (belt bs 0).capacity → ⊥) →
+      (f.to_put < f.to_take → 0 < length (belt bs last).rows → ⊥) → Shown
+  idle_step same_t same_q same full none =
+      let below = put_below line is_line s fits last (omega arith) in
+      let fed = sh.fed in
+      still_step same_t same_q same full (λ more. none (omega (arith, more, below, fed.puts, fed.takes)) (omega (arith, more, length_from)))
+
+  done_step : t ≡ belt bs last → q ≡ belt bs 0 → v ≡ f → f.to_take ≡ 0 → Shown
+  done_step same_t same_q same closed =
+      let few = put_short line is_line s fits last (omega arith) in
+      let fed = sh.fed in
+      still_step same_t same_q same (λ left held room. (absurd (omega (arith, left, closed, fed.puts, fed.takes, fed.behind))))
+      (λ more. absurd (omega (arith, more, few, closed, fed.takes, high)))
+
+  stray_step : (row : RowModel) → belt bs last ≡ record t { rows = row ∷ t.rows } → length row ≢ f.channel.width → ⊥
+  stray_step row taken ne =
+      let holds_t : s.taken last ++ row ∷ t.rows ≡ s.put last = rw (ap (λ (b : BeltModel). b.rows) taken) at holds_from in
+      ne (under_way_is_wide gas p laws sh.pass s fits last (omega arith) row t.rows holds_t ∙ sym (ap (λ c. c.width) sh.channel))
+
+  feeder_step : (r : Turned) → FeederTurned r f v (belt bs 0) q (belt bs last) t → Shown
+  feeder_step Took h =
+      let c = h.took refl in
+      took_step c.0 c.1 c.2 h.channel (c.3 1 (rows_on gas p 0) (s.put 0) (s.taken last) sh.fed) (h.took_after_put refl)
+  feeder_step Put h =
+      let c = h.gave refl in
+      gave_step c.0 c.1.1 c.1.0 c.2 h.channel (c.3 1 (rows_on gas p 0) (s.put 0) (s.taken last) sh.fed)
+  feeder_step Idle h =
+      let c = h.idle refl in
+      idle_step c.0 c.1 c.2 (h.idle_putting refl) (h.idle_taking refl)
+  feeder_step Done h =
+      let c = h.done refl in
+      done_step c.0 c.1 c.2 (h.done_when refl)
+  feeder_step Stray h =
+      let c = h.stray_at refl sh.fed.no_stray in
+      absurd (stray_step c.0 c.1 c.3)
+
+  pub feeder_step_at : (r : Turned) (x y : BeltModel) → x ≡ belt bs 0 → y ≡ belt bs last → FeederTurned r f v x q y t → Shown
+  feeder_step_at r x y ex ey h = feeder_step r (rw (← ex, ← ey) h)

@@ -1,0 +1,20 @@
+use Rattle.std.proofs.Common.{◌∙◌}
+use Rattle.gas_pipe_run.proofs.feeder_loop.feed.Goals as goal
+
+pub loop-preserved-in-Took : goal.loop-preserved-in-Took
+loop-preserved-in-Took g c =
+    let h = c.turn.ensures.took c.in-Took.is in let was = c.loop.invariant in record {
+      fed = λ passes rows begun. rw (h.1.1, h.2.1) (h.3 passes rows _ _ (was.fed passes rows begun));
+      channel = c.turn.ensures.channel ∙ was.channel;
+      rx = h.1.0 ∙ was.rx;
+      tx = h.2.0 ∙ was.tx;
+    }
+
+pub loop-preserved : goal.loop-preserved
+loop-preserved g c =
+    let h = c.turn.ensures.put c.in-Put.is in let was = c.loop.invariant in record {
+      fed = λ passes rows begun. rw (h.1.1, h.2.1) (h.3 passes rows _ _ (was.fed passes rows begun));
+      channel = c.turn.ensures.channel ∙ was.channel;
+      rx = h.2.0 ∙ was.rx;
+      tx = h.1.0 ∙ was.tx;
+    }

@@ -1,0 +1,43 @@
+use Rattle.std.proofs.Common.{◌+◌, ◌∙◌, ap, sym, subst, length, List, map, ℕ}
+use Rattle.gas_geom.specs.Channel.{ChannelModel}
+use Rattle.gas_geom.specs.Lattice.{IsLattice}
+use Rattle.gas_geom.proofs.Runs.{count-generation}
+use Rattle.gas_rows.specs.Chirality.{chirality_bit}
+use Rattle.gas_rows.specs.Row.{RowModel}
+use Rattle.gas_belt.specs.Belt.{CarriedModel}
+use Rattle.gas_pipe_model.specs.Pass.{first_pass}
+use Rattle.gas_pipe_run.proofs.Settled.{all_put, all_taken, rings_made}
+use Rattle.gas_pipe_run.proofs.run.Goals as goal
+
+pub returns-clause-put : goal.returns-clause-put
+returns-clause-put g c = ap (map (λ (b : CarriedModel). b.put)) c.in_ok-run_ring.ensures.belts ∙ all_put _
+
+pub returns-clause-taken : goal.returns-clause-taken
+returns-clause-taken g c = ap (map (λ (b : CarriedModel). b.taken)) c.in_ok-run_ring.ensures.belts ∙ all_taken _
+
+pub returns-clause-belts_made : goal.returns-clause-belts_made
+returns-clause-belts_made g c more =
+    let ran = c.in_ok-run_ring.ensures in
+    ap (λ (l : List CarriedModel). length l) ran.belts
+    ∙ rings_made g.G.Gas.rules (first_pass c.args.chirality c.args.first c.args.lattice.now c.args.plan) more
+    ∙ ap (λ (n : ℕ). n + 1) (sym ran.stages)
+
+pub returns-clause-number : goal.returns-clause-number
+returns-clause-number g c n few =
+    let bound = g.met.G.Gas g.world.𝓛 g.world.𝓜 g.world.𝓡 ((λ s x. x), (λ x. x), (λ x. x), λ x. x) in
+    let from = c.in_ok-feeder.ensures in
+    let is : IsLattice g.G.Gas.rules c.args.lattice.now.channel c.args.lattice.now.rows =
+    subst (λ (r : List RowModel). IsLattice g.G.Gas.rules c.args.lattice.now.channel r) from.rows
+    (subst (λ (x : ChannelModel). IsLattice g.G.Gas.rules x c.in_ok-feeder.feeder.rows) from.channel from.whole) in
+    count-generation g.G.Gas.rules bound.laws c.args.lattice.now.channel
+    (chirality_bit c.args.chirality c.args.lattice.now.channel.width) c.args.first c.args.lattice.now.rows is n
+
+pub returns-then-generations-eq0-clause-number : goal.returns-then-generations-eq0-clause-number
+returns-then-generations-eq0-clause-number g c n few =
+    let bound = g.met.G.Gas g.world.𝓛 g.world.𝓜 g.world.𝓡 ((λ s x. x), (λ x. x), (λ x. x), λ x. x) in
+    let from = c.in_ok-feeder.ensures in
+    let is : IsLattice g.G.Gas.rules c.args.lattice.now.channel c.args.lattice.now.rows =
+    subst (λ (r : List RowModel). IsLattice g.G.Gas.rules c.args.lattice.now.channel r) from.rows
+    (subst (λ (x : ChannelModel). IsLattice g.G.Gas.rules x c.in_ok-feeder.feeder.rows) from.channel from.whole) in
+    count-generation g.G.Gas.rules bound.laws c.args.lattice.now.channel
+    (chirality_bit c.args.chirality c.args.lattice.now.channel.width) c.args.first c.args.lattice.now.rows is n

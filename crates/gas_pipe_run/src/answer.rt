@@ -1,0 +1,85 @@
+//! What a run gives: the lattice, and what the belts carried.
+ghost use Rattle.std.specs.Prelude.{◌≡◌, ◌≤◌, ◌<◌, IfSome, IfNone, length};
+ghost use Rattle.gas_pipe_model.specs.Plan.{passes_of};
+
+use gas_belt::carried::Carried;
+use gas_geom::gas::Gas;
+use gas_pipe_members::plan::Plan;
+use gas_rows::lattice::Lattice;
+use std::marker::Model;
+
+/// The lattice that a run gives, and what each belt carried in all passes.
+#[derive(Drop)]
+pub struct Run<G: Gas> {
+    lattice: Lattice<G>,
+    plan: Plan,
+    belts: Vec<Carried<G>>,
+}
+
+impl<G: Gas> Model for Run<G> {
+    ghost use Rattle.gas_pipe_model.specs.Plan.{passes_of};
+    ghost use Rattle.gas_pipe_run.specs.Run.{RunModel};
+
+    ghost Value = { RunModel };
+
+    ghost view = { λ r. record {
+      lattice = r.lattice;
+      stages = r.plan.stages;
+      passes = passes_of r.plan.generations r.plan.stages;
+      belts = r.belts.items;
+    } };
+}
+
+impl<G: Gas> Run<G> {
+    pub(crate) fn new(lattice: Lattice<G>, plan: Plan, belts: Vec<Carried<G>>) -> Self
+        ensures lattice { result.lattice ≡ lattice }
+        ensures stages { result.stages ≡ plan.stages }
+        ensures passes { result.passes ≡ passes_of plan.generations plan.stages }
+        ensures belts { result.belts ≡ belts.items }
+    {
+        Run {
+            lattice,
+            plan,
+            belts,
+        }
+    }
+
+    /// The lattice after the generations of the plan.
+    pub fn lattice(&self) -> &Lattice<G>
+        ensures { result.now ≡ self.now.lattice }
+    {
+        &self.lattice
+    }
+
+    /// The number of passes.
+    pub fn passes(&self) -> u64
+        ensures { result ≡ self.now.passes }
+    {
+        self.plan.passes()
+    }
+
+    /// What each belt carried in all passes, one after another: from the belt that the feeder puts on
+    /// to the one that it takes from. There is none where no generation was to be computed.
+    pub fn belts(&self) -> &[Carried<G>]
+        ensures { result.now ≡ self.now.belts }
+    {
+        &self.belts
+    }
+
+    /// The number of belts that were made.
+    pub fn belts_made(&self) -> u64
+        ensures { result ≡ length self.now.belts }
+    {
+        self.belts.len() as u64
+    }
+
+    /// How many rows went through a belt in a pass, both counted from 0, if there were such a pass
+    /// and such a belt: the height of the lattice.
+    pub fn rows_through(&self, pass: u64, belt: u32) -> Option<u32>
+        ensures some { IfSome result (λ rows. (pass < self.now.passes) × (belt ≤ self.now.stages) × (rows ≡ self.now.lattice.channel.height)) }
+        ensures none { IfNone result ((pass < self.now.passes) × (belt ≤ self.now.stages) → ⊥) }
+    {
+        let is_there = pass < self.passes() && belt <= self.plan.stages();
+        is_there.then_some(self.lattice.channel().size().height())
+    }
+}

@@ -1,0 +1,46 @@
+//! What the caller's thread does while the workers run.
+ghost use Rattle.std.specs.Prelude.{◌≡◌, ℕ, List, IsTrue};
+ghost use Rattle.gas_rows.specs.Row.{RowModel};
+ghost use Rattle.gas_pipe_members.specs.Feeder.{HasFed};
+
+use crate::signals::Signals;
+use crate::watch::Watch;
+use gas_belt::rx::Rx;
+use gas_belt::tx::Tx;
+use gas_geom::gas::Gas;
+use gas_pipe_members::ends::Turned;
+use gas_pipe_members::feeder::Feeder;
+use std::sync::Wait;
+
+/// Makes the feeder's turns, and says whether its passes are over. It is not where the flag is raised,
+/// or a row of another width came.
+pub(crate) fn feed<G: Gas, R: Wait>(
+    rt: &R,
+    signals: &Signals,
+    feeder: &mut Feeder<G>,
+    rx: &mut Rx<G>,
+    tx: &mut Tx<G>,
+) -> bool
+    ensures rx { rx.new.belt ≡ rx.old.belt }
+    ensures tx { tx.new.belt ≡ tx.old.belt }
+    ensures channel { feeder.new.channel ≡ feeder.old.channel }
+    ensures closed { IsTrue result → feeder.new.to_take ≡ 0 }
+    ensures fed { IsTrue result → (passes : ℕ) (rows : List RowModel) →
+        HasFed feeder.old passes rows tx.old.put rx.old.taken → HasFed feeder.new passes rows tx.new.put rx.new.taken }
+{
+    let mut watch = Watch::new(signals, 0);
+    for _ in rt.forever() {
+        match feeder.turn(tx, rx) {
+            Turned::Done => return true,
+            Turned::Idle => {
+                if !watch.rest(rt, tx) {
+                    return false;
+                }
+            }
+            Turned::Took => watch.took(),
+            Turned::Put => watch.put(),
+            Turned::Stray => return false,
+        }
+    }
+    unreachable!()
+}

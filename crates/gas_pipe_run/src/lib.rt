@@ -1,0 +1,77 @@
+//! Runs of the line by threads, one for each worker, which live through all passes of a plan.
+#![tactic(auto)]
+
+pub mod answer;
+mod build;
+mod feeder_loop;
+pub mod gate;
+mod gather;
+mod job;
+mod ring;
+mod shared;
+mod signals;
+mod start;
+mod watch;
+mod work;
+mod worker_loop;
+
+ghost use Rattle.std.specs.Prelude.{◌≡◌, ◌+◌, ◌≤◌, ◌<◌, ◌^◌, ℕ, [], length, map, IfOk, IfErr};
+ghost use Rattle.gas_geom.specs.Lattice.{count};
+ghost use Rattle.gas_stage.specs.Evolution.{lattice_after};
+ghost use Rattle.gas_pipe_model.specs.Plan.{passes_of};
+ghost use Rattle.gas_pipe_model.specs.Pass.{first_pass, rings};
+
+use crate::answer::Run;
+use crate::gate::Gate;
+use crate::ring::run_ring;
+use gas_geom::gas::Gas;
+use gas_pipe_members::error::RunError;
+use gas_pipe_members::feeder::Feeder;
+use gas_pipe_members::pass::FirstPass;
+use gas_pipe_members::plan::Plan;
+use gas_pipe_members::schedule::Schedule;
+use gas_rows::chirality::Chirality;
+use gas_rows::lattice::Lattice;
+use std::alloc::Global;
+use std::sync::Wait;
+use std::thread::Threads;
+
+/// Advances a lattice of generation `first` by the generations of a plan. It blocks until all passes are
+/// over: it makes the belts, starts a thread for each worker, which calls the gate round each of
+/// its passes, makes the feeder's turns on the caller's thread, and joins all threads. The rows of
+/// a pass follow those of the pass before on the same belts. Each belt carries one list of rows,
+/// which is both all that was put on it and all that was taken from it. No memory is taken while
+/// the threads run. It is refused only where a request for memory, or the start of a thread, was
+/// refused.
+pub fn run<G: Gas + Send, H: Gate + Sync, R: Threads + Wait + Sync>(
+    rt: &R,
+    alloc: Global,
+    lattice: &Lattice<G>,
+    chirality: Chirality,
+    first: u64,
+    plan: Plan,
+    gate: &H,
+) -> Result<Run<G>, RunError>
+    requires room { first + plan.generations < 2 ^ 64 }
+    ensures put { IfOk result (λ r. map (λ b. b.put) r.belts ≡ rings G.rules (first_pass chirality first lattice.now plan)) }
+    ensures taken { IfOk result (λ r. map (λ b. b.taken) r.belts ≡ rings G.rules (first_pass chirality first lattice.now plan)) }
+    ensures belts_made { 0 < plan.generations → IfOk result (λ r. length r.belts ≡ r.stages + 1) }
+    ensures lattice { IfOk result (λ r. r.lattice ≡ lattice_after G.rules chirality first lattice.now plan.generations) }
+    ensures number { IfOk result (λ _. (n : ℕ) → n ≤ plan.generations →
+        count G.rules (lattice_after G.rules chirality first lattice.now n).rows ≡ count G.rules lattice.now.rows) }
+    ensures stages { IfOk result (λ r. r.stages ≡ plan.stages) }
+    ensures passes { IfOk result (λ r. r.passes ≡ passes_of plan.generations plan.stages) }
+    ensures no_generation { plan.generations ≡ 0 → IfOk result (λ r. (r.lattice ≡ lattice.now) × (r.belts ≡ [])) }
+    ensures refused { IfErr result (λ e. e ≡ RunError.Memory) }
+{
+    let feeder = Feeder::new(alloc, lattice)?;
+    if plan.generations() == 0 {
+        return Ok(Run::new(feeder.finish(), plan, Vec::new(alloc)));
+    }
+    let pass = FirstPass {
+        lattice,
+        chirality,
+        schedule: Schedule { first, plan },
+    };
+    Ok(run_ring(rt, alloc, gate, &pass, feeder)?)
+}

@@ -1,0 +1,93 @@
+//! What a worker's thread does.
+ghost use Rattle.std.specs.Prelude.{◌≡◌, ◌≤◌, ◌*◌, [], length, IsTrue};
+ghost use Rattle.gas_pipe_model.specs.Plan.{passes_of};
+ghost use Rattle.gas_pipe_members.specs.Worker.{IsClosed};
+ghost use Rattle.gas_pipe_run.specs.Inner.Job.{OnePass, owes_until};
+
+use crate::gate::Gate;
+use crate::shared::Shared;
+use crate::watch::Watch;
+use gas_belt::rx::Rx;
+use gas_belt::tx::Tx;
+use gas_geom::gas::Gas;
+use gas_pipe_members::ends::Turned;
+use gas_pipe_members::schedule::Schedule;
+use gas_pipe_members::worker::Worker;
+use std::sync::Wait;
+
+// Makes one pass of a worker, and says whether it is over. It is not where the worker stopped
+// early: because the flag is raised, or because a row of another width came, and then the worker
+// raises the flag.
+fn make_pass<G: Gas, H, R: Wait>(
+    shared: &Shared<'_, H, R>,
+    watch: &mut Watch<'_>,
+    generation: Option<u64>,
+    worker: &mut Worker<'_, G>,
+    rx: &mut Rx<G>,
+    tx: &mut Tx<G>,
+) -> bool
+    requires closed { IsClosed worker.old }
+    ensures rx { rx.new.belt ≡ rx.old.belt }
+    ensures tx { tx.new.belt ≡ tx.old.belt }
+    ensures channel { worker.new.stage.channel ≡ worker.old.stage.channel }
+    ensures chirality { worker.new.stage.chirality ≡ worker.old.stage.chirality }
+    ensures closed { IsTrue result → IsClosed worker.new }
+    ensures whole { IsTrue result → OnePass G.rules worker.old generation rx.old.taken tx.old.put rx.new.taken tx.new.put }
+{
+    worker.begin(generation);
+    for _ in shared.rt.forever() {
+        match worker.turn(rx, tx) {
+            Turned::Done => {
+                watch.publish(tx);
+                return true;
+            }
+            Turned::Idle => {
+                if !watch.rest(shared.rt, tx) {
+                    return false;
+                }
+            }
+            Turned::Took => watch.took(),
+            Turned::Put => watch.put(),
+            Turned::Stray => {
+                shared.signals.stop();
+                return false;
+            }
+        }
+    }
+    unreachable!()
+}
+
+/// Makes all passes of a plan's worker, counted from 1, between fresh ends, and says whether all
+/// are over. It calls the gate before and after each, also where it stops early.
+pub(crate) fn make_passes<G: Gas, H: Gate, R: Wait>(
+    shared: &Shared<'_, H, R>,
+    who: u32,
+    schedule: &Schedule,
+    worker: &mut Worker<'_, G>,
+    rx: &mut Rx<G>,
+    tx: &mut Tx<G>,
+) -> bool
+    requires some { 1 ≤ who }
+    requires one_of { who ≤ schedule.now.plan.stages }
+    requires closed { IsClosed worker.old }
+    requires nothing_taken { rx.old.taken ≡ [] }
+    requires nothing_put { tx.old.put ≡ [] }
+    ensures rx { rx.new.belt ≡ rx.old.belt }
+    ensures tx { tx.new.belt ≡ tx.old.belt }
+    ensures whole { IsTrue result → length rx.new.taken ≡ passes_of schedule.now.plan.generations schedule.now.plan.stages * worker.old.stage.channel.height }
+    ensures owes { IsTrue result → tx.new.put
+        ≡ owes_until G.rules worker.old schedule.now.first schedule.now.plan who (passes_of schedule.now.plan.generations schedule.now.plan.stages) rx.new.taken }
+{
+    let passes = schedule.passes();
+    let mut watch = Watch::new(shared.signals, who);
+    for pass in 0..passes {
+        shared.gate.enter(who);
+        let generation = schedule.generation(pass, who);
+        let over = make_pass(shared, &mut watch, generation, worker, rx, tx);
+        shared.gate.leave(who);
+        if !over {
+            return false;
+        }
+    }
+    true
+}

@@ -1,9 +1,0 @@
-use Rattle.std.proofs.Common.{◌≡◌}
-use Rattle.gas_tests.proofs.tests.scatter.Given as goal
-
--- the channel keeps its size
-abbrev pub invariant-loop-x : goal.invariant-loop-x
-invariant-loop-x g l = record {
-  width : l.lattice.channel.width ≡ l.initial.lattice.channel.width;
-  height : l.lattice.channel.height ≡ l.initial.lattice.channel.height;
-}

@@ -1,4 +1,0 @@
-use Rattle.gas_text.proofs.text.write_cells.Goals as goal
-
-pub returns : goal.returns
-returns g c = c.finish.ensures _ _ (c.put_cells.ensures.adds _ _ (c.new-sink.ensures.empty _))

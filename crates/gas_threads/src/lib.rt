@@ -1,4 +1,0 @@
-//! Runs of the line by threads.
-#![tactic(auto)]
-
-pub mod threads;

@@ -1,0 +1,12 @@
+use Rattle.clap.specs.Words.{found_of}
+use Rattle.gas_tool_cli.proofs.Matches.{number_at}
+use Rattle.gas_tool_cli.proofs.words.plan_of.Goals as goal
+
+pub returns : goal.returns
+returns c =
+    let f = found_of c.args.matches.now in
+    record {
+      stages_at = number_at 32 f _ c.in_ok-stages.stages c.in_ok-stages.ensures.none c.in_ok-stages.ensures.value;
+      capacity_at = number_at 32 f _ c.in_ok-capacity.capacity c.in_ok-capacity.ensures.none c.in_ok-capacity.ensures.value;
+      generations_at = number_at 64 f _ c.in_ok-generations.generations c.in_ok-generations.ensures.none c.in_ok-generations.ensures.value;
+    }

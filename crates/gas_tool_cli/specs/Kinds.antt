@@ -1,0 +1,13 @@
+-- Inner words: what functions of this crate promise one another. No public contract cites them.
+-- What a fault of the words says of the error that it comes from.
+use Rattle.std.specs.Prelude.{◌≡◌, ◌≢◌, ◌⊎◌, ⊤}
+use Rattle.clap.specs.declared.error.kind.ErrorKind.{ErrorKind}
+use Rattle.clap.specs.declared.error.kind.ErrorKind.TheVariants.{DisplayHelp, DisplayVersion, OutOfMemory}
+use Rattle.gas_tool_cli.specs.declared.faults.UsageFault.{UsageFault}
+use Rattle.gas_tool_cli.specs.declared.faults.UsageFault.TheVariants as fault
+
+-- the fault of an error of this kind
+abbrev pub TellsKind : ErrorKind → UsageFault → Type 0
+TellsKind kind fault.Memory = ⊤
+TellsKind kind (fault.Help text) = (kind ≡ DisplayHelp) ⊎ (kind ≡ DisplayVersion)
+TellsKind kind (fault.Usage text) = (kind ≢ DisplayHelp) × (kind ≢ DisplayVersion) × (kind ≢ OutOfMemory)

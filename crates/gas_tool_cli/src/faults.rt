@@ -1,0 +1,31 @@
+//! Why words give no request.
+
+ghost use Rattle.std.specs.Prelude.{◌≡◌};
+ghost use Rattle.gas_tool_cli.specs.Status.{usage_status};
+
+use thiserror::Error;
+
+/// Why the words gave no request. `Usage` and `Help` hold the text to print, with its last line feed;
+/// the version is a help too.
+#[derive(Debug, Drop, Error)]
+pub enum UsageFault {
+    #[error("memory refused")]
+    Memory,
+    #[error("{0}")]
+    Usage(String),
+    #[error("{0}")]
+    Help(String),
+}
+
+impl UsageFault {
+    /// The program's exit status.
+    pub fn status(&self) -> u8
+        ensures { result ≡ usage_status self.now }
+    {
+        match self {
+            UsageFault::Memory => 3,
+            UsageFault::Usage(_) => 2,
+            UsageFault::Help(_) => 0,
+        }
+    }
+}

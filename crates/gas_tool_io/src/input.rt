@@ -1,0 +1,44 @@
+//! Reading a whole input, up to a limit.
+
+ghost use Rattle.std.specs.Prelude.{◌≡◌, ◌≤◌, ◌<◌, IfOk, IfSome, length, vec_len, IsErrOf};
+ghost use Rattle.std.specs.Io.KnownBytes.{IsAtEnd};
+ghost use Rattle.gas_tool_io.specs.Input.{longest_input};
+ghost use Rattle.gas_tool_io.specs.declared.faults.InputFault.TheVariants as fault;
+
+use crate::faults::InputFault;
+use std::alloc::Global;
+use std::io::Read;
+
+/// The most bytes that an input may have.
+const LONGEST_INPUT: usize = 67_108_864;
+
+const BLOCK: usize = 16_384;
+
+/// All bytes up to the end of `reader`. A read gives at least one byte or is the last, so there is
+/// at most one read more than the longest input has bytes. Any error of the reader is `Read`, and a
+/// byte past the longest input is `TooLong`.
+pub fn slurp<R: Read>(alloc: Global, reader: &mut R) -> Result<Vec<u8>, InputFault>
+    ensures bytes { IfOk result (λ text. IfSome (R.remaining reader.old) (λ xs. text.items ≡ xs)) }
+    ensures at_end { IfOk result (λ _. IsAtEnd (R.remaining reader.new)) }
+    ensures short { IfOk result (λ text. vec_len text ≤ longest_input) }
+    ensures too_long { IsErrOf result fault.TooLong →
+        IfSome (R.remaining reader.old) (λ xs. longest_input < length xs) }
+{
+    let mut text = Vec::new(alloc);
+    let mut block = [0u8; BLOCK];
+    for reads in 0..LONGEST_INPUT + 1 {
+        let Ok(count) = reader.read(&mut block) else {
+            return Err(InputFault::Read);
+        };
+        if count == 0 {
+            return Ok(text);
+        }
+        if count > LONGEST_INPUT - text.len() {
+            return Err(InputFault::TooLong);
+        }
+        if text.extend_from_slice(&block[..count]).is_err() {
+            return Err(InputFault::Memory);
+        }
+    }
+    unreachable!()
+}

@@ -1,0 +1,131 @@
+//! Printing in blocks, with the exact count of the bytes that went out.
+
+ghost use Rattle.std.specs.Prelude.{◌≡◌, ◌≤◌, ℕ, List, [], length, take, false, Option, IfSome};
+ghost use Rattle.std.specs.Io.KnownBytes.{Appends};
+ghost use Rattle.std.specs.Fmt.{with_newline};
+ghost use Rattle.gas_tool_io.specs.Output.{Writes};
+ghost use Rattle.gas_tool_io.specs.Sink.{HasSent, Adds};
+
+use crate::faults::WriteFault;
+use arrayvec::{ArrayString, ArrayVec};
+use std::fmt::{Display, Write as _};
+use std::io::Write;
+use std::marker::Model;
+
+/// The most bytes that a sink gathers before it hands them to its writer.
+pub const BLOCK: usize = 8192;
+
+/// The most bytes of a line that `put_line` prints.
+const LINE: usize = 128;
+
+/// Gathers a text in blocks, hands each full block to a writer, and counts the bytes that went out.
+/// After a failure nothing more goes out. It takes no memory.
+#[derive(Drop)]
+pub struct Sink {
+    block: ArrayVec<u8, BLOCK>,
+    written: u64,
+    failed: bool,
+}
+
+impl Model for Sink {
+    ghost use Rattle.gas_tool_io.specs.Sink.{SinkModel};
+
+    ghost Value = { SinkModel };
+
+    ghost view = { λ s. record {
+      waiting = s.block.items;
+      written = s.written;
+      failed = s.failed;
+    } };
+}
+
+impl Sink {
+    pub fn new() -> Sink
+        ensures empty { (start : Option (List ℕ)) → HasSent start start result [] }
+        ensures fresh { result.failed ≡ false }
+    {
+        Sink {
+            block: ArrayVec::new(),
+            written: 0,
+            failed: false,
+        }
+    }
+
+    /// Adds bytes to the text, at most 8192 of them, a block.
+    #[inline]
+    pub fn push<W: Write>(&mut self, out: &mut W, bytes: &[u8])
+        requires short { length bytes.now ≤ 8192 }
+        ensures { Adds (W.contents out.old) (W.contents out.new) self.old self.new bytes.now }
+    {
+        if self.block.remaining_capacity() < bytes.len() {
+            self.hand_over(out);
+        }
+        let _ = self.block.try_extend_from_slice(bytes);
+    }
+
+    // Hands the block to the writer and empties it. A count that could pass `u64::MAX` is a failure
+    // too, found before a byte of the block goes out.
+    fn hand_over<W: Write>(&mut self, out: &mut W)
+        ensures adds { Adds (W.contents out.old) (W.contents out.new) self.old self.new [] }
+        ensures empty { self.new.waiting ≡ [] }
+    {
+        if self.failed || u64::MAX - self.written < BLOCK as u64 {
+            self.failed = true;
+        } else {
+            let sent = send(out, self.block.as_slice());
+            self.failed = sent < self.block.len();
+            self.written += sent as u64;
+        }
+        self.block.clear();
+    }
+
+    /// Counts the text from here on as failed.
+    pub fn fail(&mut self)
+        ensures { (now : Option (List ℕ)) (bytes : List ℕ) → Adds now now self.old self.new bytes }
+    {
+        self.failed = true;
+    }
+
+    /// Hands over what is left and flushes the writer once. A flush that fails is a fault after the
+    /// whole text.
+    pub fn finish<W: Write>(mut self, out: &mut W) -> Result<(), WriteFault>
+        ensures { (start : Option (List ℕ)) (text : List ℕ) →
+            HasSent start (W.contents out.old) self text →
+            Writes start (W.contents out.new) text result }
+    {
+        self.hand_over(out);
+        if self.failed || out.flush().is_err() {
+            return Err(WriteFault {
+                written: self.written,
+            });
+        }
+        Ok(())
+    }
+}
+
+// Writes bytes until all went out or the writer fails, and says how many went out.
+fn send<W: Write>(out: &mut W, bytes: &[u8]) -> usize
+    ensures within { result ≤ length bytes.now }
+    ensures sent { Appends (W.contents out.old) (W.contents out.new) (take result bytes.now) }
+{
+    let mut sent = 0;
+    while sent < bytes.len() {
+        match out.write(&bytes[sent..]) {
+            Ok(count) if count > 0 => sent += count,
+            _ => return sent,
+        }
+    }
+    sent
+}
+
+/// Adds a line. One that is longer than `LINE`, which no line of ours is, counts as failed.
+pub fn put_line<W: Write, D: Display + Drop>(sink: &mut Sink, out: &mut W, line: D)
+    ensures { IfSome (with_newline (D.output line))
+        (Adds (W.contents out.old) (W.contents out.new) sink.old sink.new) }
+{
+    let mut text = ArrayString::<LINE>::new();
+    match text.writeln(line) {
+        Ok(()) => sink.push(out, text.as_str().as_bytes()),
+        Err(_) => sink.fail(),
+    }
+}

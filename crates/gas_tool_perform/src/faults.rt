@@ -1,0 +1,88 @@
+//! What can go wrong, and the exit status that each fault has.
+
+ghost use Rattle.std.specs.Prelude.{◌≡◌};
+ghost use Rattle.gas_tool_perform.specs.declared.faults.ToolError.TheVariants.{Memory, Plan, Write};
+ghost use Rattle.gas_tool_perform.specs.Outcome.{run_fault, scene_fault};
+ghost use Rattle.gas_tool_perform.specs.Status.{tool_status};
+
+use gas_pipe_members::error::RunError;
+use gas_pipe_members::plan::PlanError;
+use gas_scene::error::SceneError;
+use gas_tool_io::faults::WriteFault;
+use std::alloc::AllocError;
+use thiserror::Error;
+
+/// Why a request was not answered whole. Its `Display` text is the line that the program prints.
+/// `Write` holds the number of bytes that went out before the writer failed.
+#[derive(Debug, Drop, Error)]
+pub enum ToolError {
+    #[error("memory refused")]
+    Memory,
+    #[error("{0}")]
+    Scene(SceneError),
+    #[error("{0}")]
+    Plan(PlanError),
+    #[error("{line}", line = WriteFault {written: *.0})]
+    Write(u64),
+    #[error("{line}", line = RunError::MorePasses)]
+    MorePasses,
+}
+
+impl ToolError {
+    /// The program's exit status.
+    pub fn status(&self) -> u8
+        ensures { result ≡ tool_status self.now }
+    {
+        match self {
+            ToolError::Memory | ToolError::Scene(SceneError::Memory) => 3,
+            ToolError::Scene(_) | ToolError::Plan(_) | ToolError::MorePasses => 1,
+            ToolError::Write(_) => 4,
+        }
+    }
+}
+
+impl From<AllocError> for ToolError {
+    ghost from_gives = { λ _ fault. fault ≡ Memory };
+
+    fn from(_error: AllocError) -> ToolError {
+        ToolError::Memory
+    }
+}
+
+impl From<SceneError> for ToolError {
+    ghost from_gives = { λ error fault. fault ≡ scene_fault error };
+
+    fn from(error: SceneError) -> ToolError {
+        match error {
+            SceneError::Memory => ToolError::Memory,
+            _ => ToolError::Scene(error),
+        }
+    }
+}
+
+impl From<PlanError> for ToolError {
+    ghost from_gives = { λ error fault. fault ≡ Plan error };
+
+    fn from(error: PlanError) -> ToolError {
+        ToolError::Plan(error)
+    }
+}
+
+impl From<RunError> for ToolError {
+    ghost from_gives = { λ error fault. fault ≡ run_fault error };
+
+    fn from(error: RunError) -> ToolError {
+        match error {
+            RunError::Memory => ToolError::Memory,
+            RunError::MorePasses => ToolError::MorePasses,
+        }
+    }
+}
+
+impl From<WriteFault> for ToolError {
+    ghost from_gives = { λ error fault. fault ≡ Write error.written };
+
+    fn from(error: WriteFault) -> ToolError {
+        ToolError::Write(error.written)
+    }
+}

@@ -1,0 +1,9 @@
+//! Performs a request on the text of a scene.
+#![tactic(auto)]
+
+pub mod faults;
+mod replayed;
+mod requests;
+pub mod resume;
+
+pub use requests::perform;

@@ -1,0 +1,201 @@
+//! The answer to a request on a scene.
+
+ghost use Rattle.std.specs.Prelude.{◌≡◌, ◌+◌, ◌<◌, ◌≤◌, ◌^◌, Ok};
+ghost use Rattle.gas_geom.specs.Lattice.{count};
+ghost use Rattle.gas_stage.specs.Evolution.{lattice_after};
+ghost use Rattle.gas_scene.specs.declared.ranges.TheConstants.{LAST_GENERATION};
+ghost use Rattle.gas_tool_perform.specs.Outcome.{Performs, gas_outcome, outcome, replay_outcome};
+ghost use Rattle.gas_tool_cli.specs.Requests.{IsAllowed};
+ghost use Rattle.gas_tool_perform.specs.View.{HasSomeCells, view_text};
+
+use crate::faults::ToolError;
+use crate::replayed::write_replay;
+use gas_geom::gas::Gas;
+use gas_pipe_members::plan::Plan;
+use gas_pipe_replay::replay;
+use gas_pipe_run::gate::Gate;
+use gas_pipe_run::run;
+use gas_rows::chirality::Chirality;
+use gas_rows::lattice::Lattice;
+use gas_scene::any_lattice::AnyLattice;
+use gas_scene::scene::read;
+use gas_tool_cli::request::Request;
+use gas_tool_coarse::blocks::coarse;
+use gas_tool_io::table::write_table;
+use gas_tool_io::text::{write_cells, write_check};
+use std::alloc::Global;
+use std::io::Write;
+use std::sync::Wait;
+use std::thread::Threads;
+
+/// Where threads and memory come from, and the gate that each worker's thread goes through.
+#[derive(Clone, Copy)]
+struct Means<'a, H, R> {
+    rt: &'a R,
+    alloc: Global,
+    gate: &'a H,
+}
+
+/// Where the random bits of a scene's lattice come from, and its generation.
+#[derive(Clone, Copy)]
+struct Start {
+    chirality: Chirality,
+    generation: u64,
+}
+
+/// What is printed of a lattice.
+#[derive(Clone, Copy)]
+enum View {
+    /// Its cells.
+    Cells,
+    /// The table of its blocks, so many columns wide and so many rows high.
+    Blocks { width: u32, height: u32 },
+}
+
+/// Writes the answer to a request on the scene that a text holds. It is refused in this order: the
+/// scene, the plan, the passes of a replay, the work. Nothing is written before the answer is whole,
+/// and the writer is flushed once after the last byte. Want of memory is `Memory`, also while the
+/// scene is read, and so is a thread that cannot be had. Each worker's thread goes through the gate.
+#[tactic(auto, unfolding(gas_scene::specs::Gases::rules_named))]
+pub fn perform<W: Write, H: Gate + Sync, R: Threads + Wait + Sync>(
+    rt: &R,
+    alloc: Global,
+    text: &[u8],
+    request: &Request,
+    gate: &H,
+    out: &mut W,
+) -> Result<(), ToolError>
+    requires { IsAllowed request.now }
+    ensures { Performs (outcome text.now request.now) (W.contents out.old) (W.contents out.new) result }
+{
+    let scene = read(alloc, text)?;
+    let means = Means { rt, alloc, gate };
+    let start = Start {
+        chirality: scene.chirality(),
+        generation: scene.generation(),
+    };
+    match scene.lattice() {
+        AnyLattice::Fhp1(lattice) => perform_on(&means, lattice, start, request, out),
+        AnyLattice::Hpp(lattice) => perform_on(&means, lattice, start, request, out),
+        AnyLattice::FhpRest(lattice) => perform_on(&means, lattice, start, request, out),
+    }
+}
+
+// Writes the answer to a request on a lattice.
+fn perform_on<G: Gas + Send, W: Write, H: Gate + Sync, R: Threads + Wait + Sync>(
+    means: &Means<H, R>,
+    lattice: &Lattice<G>,
+    start: Start,
+    request: &Request,
+    out: &mut W,
+) -> Result<(), ToolError>
+    requires allowed { IsAllowed request.now }
+    requires generation { start.generation ≤ LAST_GENERATION }
+    ensures { Performs (gas_outcome G.rules lattice.now start.chirality start.generation request.now)
+        (W.contents out.old) (W.contents out.new) result }
+{
+    match request {
+        Request::Check => Ok(write_check(lattice, out)?),
+        Request::Run {
+            stages,
+            capacity,
+            generations,
+        } => {
+            let plan = Plan::new(*stages, *capacity, *generations)?;
+            print_run(means, lattice, start, plan, View::Cells, out)
+        }
+        Request::Coarse {
+            stages,
+            capacity,
+            generations,
+            block_width,
+            block_height,
+        } => {
+            let plan = Plan::new(*stages, *capacity, *generations)?;
+            let view = View::Blocks {
+                width: *block_width,
+                height: *block_height,
+            };
+            print_run(means, lattice, start, plan, view, out)
+        }
+        Request::Replay {
+            stages,
+            capacity,
+            generations,
+            turns,
+        } => {
+            let plan = Plan::new(*stages, *capacity, *generations)?;
+            print_replay(means.alloc, lattice, start, plan, turns.as_slice(), out)
+        }
+    }
+}
+
+// Computes the generations of a plan over a lattice, by the line of threads, and prints the one that
+// they lead to.
+fn print_run<G: Gas + Send, W: Write, H: Gate + Sync, R: Threads + Wait + Sync>(
+    means: &Means<H, R>,
+    lattice: &Lattice<G>,
+    start: Start,
+    plan: Plan,
+    view: View,
+    out: &mut W,
+) -> Result<(), ToolError>
+    requires some_cells { HasSomeCells view }
+    requires generation { start.generation ≤ LAST_GENERATION }
+    ensures { Performs
+        (Ok (view_text view G.rules (lattice_after G.rules start.chirality start.generation lattice.now plan.generations) (start.generation + plan.generations)))
+        (W.contents out.old) (W.contents out.new) result }
+{
+    let Means { rt, alloc, gate } = means;
+    let Start {
+        chirality,
+        generation,
+    } = start;
+    let last = generation + plan.generations();
+    let run = run(*rt, *alloc, lattice, chirality, generation, plan, *gate)?;
+    print(*alloc, run.lattice(), last, view, out)
+}
+
+// Prints a lattice at a generation.
+fn print<G: Gas, W: Write>(
+    alloc: Global,
+    lattice: &Lattice<G>,
+    generation: u64,
+    view: View,
+    out: &mut W,
+) -> Result<(), ToolError>
+    requires { HasSomeCells view }
+    ensures { Performs (Ok (view_text view G.rules lattice.now generation)) (W.contents out.old) (W.contents out.new) result }
+{
+    match view {
+        View::Cells => write_cells(lattice, generation, out)?,
+        View::Blocks { width, height } => {
+            let blocks = coarse(alloc, lattice, width, height)?;
+            write_table(blocks.as_slice(), out)?;
+        }
+    }
+    Ok(())
+}
+
+// Lets the members of a line over a lattice make these turns, and prints where they stand.
+fn print_replay<G: Gas, W: Write>(
+    alloc: Global,
+    lattice: &Lattice<G>,
+    start: Start,
+    plan: Plan,
+    turns: &[u32],
+    out: &mut W,
+) -> Result<(), ToolError>
+    requires generation { start.generation ≤ LAST_GENERATION }
+    ensures { Performs (replay_outcome G.rules lattice.now start.chirality start.generation plan turns.now)
+        (W.contents out.old) (W.contents out.new) result }
+{
+    let Start {
+        chirality,
+        generation,
+    } = start;
+    let last = generation + plan.generations();
+    let replay = replay(alloc, lattice, chirality, generation, plan, turns)?;
+    write_replay(&replay, last, out)?;
+    Ok(())
+}

@@ -1,0 +1,172 @@
+// A gate in which the workers of a run wait for one another: that they run at the same time.
+ghost use Rattle.gas_tool_cli.specs.Requests.{IsAllowed};
+
+use crate::plain::lattice_after;
+use crate::tests::assert_same;
+use gas_geom::fhp1::Fhp1;
+use gas_geom::size::Size;
+use gas_pipe::gate::Gate;
+use gas_pipe::plan::Plan;
+use gas_pipe::run;
+use gas_rows::channel::Channel;
+use gas_rows::chirality::Chirality;
+use gas_rows::lattice::Lattice;
+use gas_tool_cli::request::Request;
+use gas_tool_perform::perform;
+use std::alloc::{AllocError, Global};
+use std::process::Abort;
+use std::sync::Wait;
+use std::sync::atomic::{AtomicU64, Ordering};
+use std::test::Fail;
+use std::thread;
+use std::thread::Threads;
+
+// A gate in which each worker waits until all have entered as often as it has. It counts those for
+// whom the others never came.
+#[derive(Drop)]
+struct Meeting {
+    entered: Vec<AtomicU64>,
+    left: AtomicU64,
+    missed: AtomicU64,
+}
+
+impl Meeting {
+    fn of(alloc: Global, workers: usize) -> Result<Meeting, AllocError> {
+        let mut entered = Vec::with_capacity(alloc, workers)?;
+        for _ in 0..workers {
+            entered.push(AtomicU64::new(0))?;
+        }
+        Ok(Meeting {
+            entered,
+            left: AtomicU64::new(0),
+            missed: AtomicU64::new(0),
+        })
+    }
+
+    fn have_all_entered(&self, times: u64) -> bool {
+        self.entered
+            .iter()
+            .all(|others| others.load(Ordering::SeqCst) >= times)
+    }
+
+    fn waits(&self, who: u32) -> bool {
+        let Some(mine) = self.entered.get(who.wrapping_sub(1) as usize) else {
+            return false;
+        };
+        let times = mine.fetch_add(1, Ordering::SeqCst).wrapping_add(1);
+        for _ in 0..10_000_000 {
+            if self.have_all_entered(times) {
+                return true;
+            }
+            thread::yield_now();
+        }
+        false
+    }
+
+    // Nobody waited in vain, and so many threads ended.
+    fn was_kept(&self, rt: &impl Abort, threads: u64) {
+        assert_eq!(rt; self.missed.load(Ordering::SeqCst), 0);
+        assert_eq!(rt; self.left.load(Ordering::SeqCst), threads);
+    }
+}
+
+impl Gate for Meeting {
+    fn enter(&self, who: u32) {
+        if !self.waits(who) {
+            self.missed.fetch_add(1, Ordering::SeqCst);
+        }
+    }
+
+    fn leave(&self, _who: u32) {
+        self.left.fetch_add(1, Ordering::SeqCst);
+    }
+}
+
+const SCENE: &[u8] =
+    b"gas = \"fhp1\"\nchirality = \"left\"\nwidth = 7\nheight = 3\nparticles = [[0, 1, 1]]\n";
+
+// What a request on the scene prints, with four workers in two passes.
+fn assert_prints<R: Abort + Threads + Wait + Sync>(
+    rt: &R,
+    alloc: Global,
+    request: &Request,
+    wanted: &str,
+) -> Result<(), Fail>
+    requires { IsAllowed request.now }
+{
+    let gate = Meeting::of(alloc, 4)?;
+    let mut out = Vec::new(alloc);
+    perform(rt, alloc, SCENE, request, &gate, &mut out)?;
+    assert!(rt; out.as_slice() == wanted.as_bytes());
+    gate.was_kept(rt, 8);
+    Ok(())
+}
+
+// One particle on seven columns and three rows.
+fn drifting(alloc: Global) -> Result<Lattice<Fhp1>, Fail> {
+    let size = Size::new(7, 3).ok_or("a size")?;
+    let mut lattice = Lattice::blank(alloc, Channel::free(alloc, size)?)?;
+    lattice.set_cell(0, 1, 0x01);
+    Ok(lattice)
+}
+
+// A run of two passes through a gate leads where five generations cell by cell do.
+fn assert_leads_on<R: Abort + Threads + Wait + Sync>(
+    rt: &R,
+    alloc: Global,
+    lattice: &Lattice<Fhp1>,
+    capacity: u32,
+    gate: &Meeting,
+) -> Result<(), Fail> {
+    let plan = Plan::new(4, capacity, 5)?;
+    let run = run(rt, alloc, lattice, Chirality::Left, 0, plan, gate)?;
+    assert_eq!(rt; run.belts_made(), 5);
+    let wanted = lattice_after(alloc, lattice, Chirality::Left, 0, 5)?;
+    assert_same(rt, run.lattice(), &wanted);
+    Ok(())
+}
+
+// The workers of a run of two passes meet before each, however many rows gather on the belts.
+fn workers_meet<R: Abort + Threads + Wait + Sync>(
+    rt: &R,
+    alloc: Global,
+    capacity: u32,
+) -> Result<(), Fail> {
+    let lattice = drifting(alloc)?;
+    let gate = Meeting::of(alloc, 4)?;
+    assert_leads_on(rt, alloc, &lattice, capacity, &gate)?;
+    gate.was_kept(rt, 8);
+    Ok(())
+}
+
+#[test]
+fn all_workers_of_a_run_meet(rt: HostRuntime) -> Result<(), Fail> {
+    workers_meet(&rt, rt.alloc(), 1)?;
+    workers_meet(&rt, rt.alloc(), 32)
+}
+
+#[test]
+fn all_workers_of_a_request_meet(rt: HostRuntime) -> Result<(), Fail> {
+    let request = Request::Run {
+        stages: 4,
+        capacity: 1,
+        generations: 5,
+    };
+    let cells = "generation 5 particles 1
+..............
+..........01..
+..............
+";
+    assert_prints(&rt, rt.alloc(), &request, cells)?;
+    let request = Request::Coarse {
+        stages: 4,
+        capacity: 1,
+        generations: 5,
+        block_width: 8,
+        block_height: 8,
+    };
+    let table = "  col   row    fluid particles         px         py
+    0     0       21         1          2          0
+";
+    assert_prints(&rt, rt.alloc(), &request, table)
+}

@@ -1,0 +1,174 @@
+// Runs by threads beside the stage on one thread, with one place in each belt, two, and more than a low
+// lattice has rows, which then gather by four or by sixteen.
+use crate::tests::{assert_same, random_lattice};
+use gas_geom::fhp_rest::FhpRest;
+use gas_geom::fhp1::Fhp1;
+use gas_geom::gas::Gas;
+use gas_geom::hpp::Hpp;
+use gas_geom::size::Size;
+use gas_pipe::answers::Run;
+use gas_pipe::gate::NoGate;
+use gas_pipe::plan::Plan;
+use gas_pipe::run;
+use gas_rows::chirality::Chirality;
+use gas_rows::lattice::Lattice;
+use gas_stage::advance::lattice_after;
+use rand_core::Rng;
+use rand_core::utils::NextWord;
+use rand_pcg::Pcg32;
+use std::alloc::Global;
+use std::process::Abort;
+use std::sync::Wait;
+use std::test::Fail;
+use std::thread::Threads;
+
+// A run whose lattice is of a generation below 2^63. It promises nothing, so that no test carries the
+// promises of `run`.
+fn ran<G: Gas + Send, R: Threads + Wait + Sync>(
+    rt: &R,
+    alloc: Global,
+    lattice: &Lattice<G>,
+    chirality: Chirality,
+    first: u64,
+    plan: Plan,
+) -> Result<Run<G>, Fail> {
+    let first = first % (1 << 63);
+    Ok(run(rt, alloc, lattice, chirality, first, plan, &NoGate)?)
+}
+
+// The lattice that one stage comes to, in the same way.
+fn one_stage_after<G: Gas>(
+    alloc: Global,
+    lattice: &Lattice<G>,
+    chirality: Chirality,
+    first: u64,
+    plan: Plan,
+) -> Result<Lattice<G>, Fail> {
+    let first = first % (1 << 63);
+    let generations = plan.generations();
+    Ok(lattice_after(alloc, lattice, chirality, first, generations)?)
+}
+
+// A run comes to the lattice that one stage comes to, with as many particles, and each belt carried all
+// rows of all passes.
+fn compare<G: Gas + Send, R: Abort + Threads + Wait + Sync>(
+    rt: &R,
+    alloc: Global,
+    lattice: &Lattice<G>,
+    chirality: Chirality,
+    first: u64,
+    plan: Plan,
+) -> Result<(), Fail> {
+    let wanted = one_stage_after(alloc, lattice, chirality, first, plan)?;
+    let run = ran(rt, alloc, lattice, chirality, first, plan)?;
+    assert_same(rt, run.lattice(), &wanted);
+    assert_eq!(rt; run.lattice().count(), lattice.count());
+    let height = lattice.channel().size().height();
+    let rows = plan
+        .generations()
+        .div_ceil(u64::from(plan.stages().max(1)))
+        .wrapping_mul(u64::from(height));
+    for carried in run.belts() {
+        assert_eq!(rt; carried.len(), rows);
+    }
+    Ok(())
+}
+
+// A run of a random lattice of a random generation, of up to so many rows, for a random number of
+// generations.
+fn compare_random<G: Gas + Send, R: Abort + Threads + Wait + Sync>(
+    rt: &R,
+    alloc: Global,
+    stages: u32,
+    capacity: u32,
+    most_rows: u32,
+    random: &mut Pcg32,
+) -> Result<(), Fail> {
+    let width = random.next_word() % 70 + 1;
+    let height = random.next_word() % most_rows.max(1) + 1;
+    let generations = u64::from(random.next_word() % 41);
+    let chirality = Chirality::Seeded(random.next_u64());
+    let first = random.next_u64() % 1_000_000_000_000;
+    let size = Size::new(width, height).ok_or("a size")?;
+    let plan = Plan::new(stages, capacity, generations)?;
+    let lattice = random_lattice::<G>(alloc, size, random)?;
+    compare(rt, alloc, &lattice, chirality, first, plan)
+}
+
+// Random runs of a gas through lines of all lengths up to 8, a hundred rounds of low lattices and ten of
+// higher ones. Each comes to its end. Each gas and capacity is a test of its own, so that none takes long
+// where other programs keep the machine busy.
+fn soak<G: Gas + Send, R: Abort + Threads + Wait + Sync>(
+    rt: &R,
+    alloc: Global,
+    capacity: u32,
+) -> Result<(), Fail> {
+    let mut random = Pcg32::new(42, u64::from(capacity));
+    for round in 0..110 {
+        let most_rows = if round < 100 { 3 } else { 20 };
+        for stages in 1..=8 {
+            compare_random::<G, _>(rt, alloc, stages, capacity, most_rows, &mut random)?;
+        }
+    }
+    Ok(())
+}
+
+#[test]
+fn fhp1_through_one_place(rt: HostRuntime) -> Result<(), Fail> {
+    soak::<Fhp1, _>(&rt, rt.alloc(), 1)
+}
+
+#[test]
+fn hpp_through_one_place(rt: HostRuntime) -> Result<(), Fail> {
+    soak::<Hpp, _>(&rt, rt.alloc(), 1)
+}
+
+#[test]
+fn fhp_rest_through_one_place(rt: HostRuntime) -> Result<(), Fail> {
+    soak::<FhpRest, _>(&rt, rt.alloc(), 1)
+}
+
+#[test]
+fn fhp1_through_two_places(rt: HostRuntime) -> Result<(), Fail> {
+    soak::<Fhp1, _>(&rt, rt.alloc(), 2)
+}
+
+#[test]
+fn hpp_through_two_places(rt: HostRuntime) -> Result<(), Fail> {
+    soak::<Hpp, _>(&rt, rt.alloc(), 2)
+}
+
+#[test]
+fn fhp_rest_through_two_places(rt: HostRuntime) -> Result<(), Fail> {
+    soak::<FhpRest, _>(&rt, rt.alloc(), 2)
+}
+
+#[test]
+fn fhp1_through_nine_places(rt: HostRuntime) -> Result<(), Fail> {
+    soak::<Fhp1, _>(&rt, rt.alloc(), 9)
+}
+
+#[test]
+fn hpp_through_nine_places(rt: HostRuntime) -> Result<(), Fail> {
+    soak::<Hpp, _>(&rt, rt.alloc(), 9)
+}
+
+#[test]
+fn fhp_rest_through_nine_places(rt: HostRuntime) -> Result<(), Fail> {
+    soak::<FhpRest, _>(&rt, rt.alloc(), 9)
+}
+
+#[test]
+fn fhp1_through_33_places(rt: HostRuntime) -> Result<(), Fail> {
+    soak::<Fhp1, _>(&rt, rt.alloc(), 33)
+}
+
+#[test]
+fn hpp_through_33_places(rt: HostRuntime) -> Result<(), Fail> {
+    soak::<Hpp, _>(&rt, rt.alloc(), 33)
+}
+
+#[test]
+fn fhp_rest_through_33_places(rt: HostRuntime) -> Result<(), Fail> {
+    soak::<FhpRest, _>(&rt, rt.alloc(), 33)
+}
