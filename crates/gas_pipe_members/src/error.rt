@@ -9,9 +9,9 @@ use thiserror::Error;
 #[derive(Debug, Drop, Error, PartialEq, Eq)]
 pub enum RunError {
     #[error("memory refused")]
-    Memory,
+    Memory = 1,
     #[error("replay: the plan needs more than one pass")]
-    MorePasses,
+    MorePasses = 2,
 }
 
 impl From<AllocError> for RunError {
