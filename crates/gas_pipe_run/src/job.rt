@@ -54,12 +54,12 @@ impl<'a, G: Gas> Model for Job<'a, G> {
     } };
 }
 
-impl<'a, G: Gas> Work<Ended<G>> for Job<'a, G> {
-    ghost fresh = { λ j. IsReady j };
-
-    ghost kept = { λ j e. Ran G.rules j e };
-
-    fn do_work<H: Gate, R: Wait>(self, shared: &Shared<'_, H, R>) -> Option<Ended<G>> {
+impl<'a, G: Gas> Job<'a, G> {
+    // Makes all passes, and closes the end that the worker put on. None where it stopped early.
+    fn make_passes<H: Gate, R: Wait>(self, shared: &Shared<'_, H, R>) -> Option<Ended<G>>
+        requires { IsReady self }
+        ensures { IfSome result (λ e. Ran G.rules self e) }
+    {
         let Job {
             who,
             schedule,
@@ -75,5 +75,18 @@ impl<'a, G: Gas> Work<Ended<G>> for Job<'a, G> {
         } else {
             None
         }
+    }
+}
+
+impl<'a, G: Gas> Work<Ended<G>> for Job<'a, G> {
+    ghost fresh = { λ j. IsReady j };
+
+    ghost kept = { λ j e. Ran G.rules j e };
+
+    fn do_work<H: Gate, R: Wait>(self, shared: &Shared<'_, H, R>) -> Option<Ended<G>> {
+        let who = self.who;
+        let ended = self.make_passes(shared);
+        shared.gate.leave(who);
+        ended
     }
 }

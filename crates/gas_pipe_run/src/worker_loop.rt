@@ -57,8 +57,8 @@ fn make_pass<G: Gas, H, R: Wait>(
     unreachable!()
 }
 
-/// Makes all passes of a plan's worker, counted from 1, between fresh ends, and says whether all
-/// are over. It calls the gate before and after each, also where it stops early.
+/// Makes all passes of a plan's worker, counted from 1, between fresh ends, and returns whether all
+/// are over. It enters the gate before the first turn of each.
 pub(crate) fn make_passes<G: Gas, H: Gate, R: Wait>(
     shared: &Shared<'_, H, R>,
     who: u32,
@@ -83,9 +83,7 @@ pub(crate) fn make_passes<G: Gas, H: Gate, R: Wait>(
     for pass in 0..passes {
         shared.gate.enter(who);
         let generation = schedule.generation(pass, who);
-        let over = make_pass(shared, &mut watch, generation, worker, rx, tx);
-        shared.gate.leave(who);
-        if !over {
+        if !make_pass(shared, &mut watch, generation, worker, rx, tx) {
             return false;
         }
     }
