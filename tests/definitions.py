@@ -96,7 +96,7 @@ def items(crate, file, text):
 
 
 def public_files(crate):
-    """The source files of a crate that its root makes public, module by module."""
+    """The source files of a crate that its root makes public, module by module, or names an item of."""
     source = os.path.join(TOP, "crates", crate, "src")
     root = os.path.join(source, "lib.rt")
     if not os.path.exists(root):
@@ -106,7 +106,9 @@ def public_files(crate):
         path, folder = waiting.pop()
         text = read(path)
         yield path, text
-        for module in re.findall(r"^pub mod (\w+);", text, re.M):
+        for module in re.findall(r"^pub (?:mod|use) (\w+)(?:;|::)", text, re.M):
+            if not re.search(rf"^(?:pub )?mod {module};", text, re.M):
+                continue
             flat, nested = os.path.join(folder, module + ".rt"), os.path.join(folder, module, "mod.rt")
             waiting.append((flat if os.path.exists(flat) else nested, os.path.join(folder, module)))
 

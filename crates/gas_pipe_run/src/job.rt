@@ -58,7 +58,7 @@ impl<'a, G: Gas> Job<'a, G> {
     // Makes all passes, and closes the end that the worker put on. None where it stopped early.
     fn make_passes<H: Gate, R: Wait>(self, shared: &Shared<'_, H, R>) -> Option<Ended<G>>
         requires { IsReady self }
-        ensures { IfSome result (λ e. Ran G.rules self e) }
+        ensures { IfSome result (λ e. Ran G.rules self.entry e) }
     {
         let Job {
             who,

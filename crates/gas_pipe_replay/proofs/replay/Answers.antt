@@ -8,7 +8,7 @@ use Rattle.gas_pipe_replay.specs.Replay.{ReplayModel, after}
 use Rattle.gas_pipe_replay.proofs.Finished.{one_pass, stands, done_is_some}
 use Rattle.gas_pipe_model.proofs.Generations.{pass_is_line, rows_high}
 use Rattle.gas_pipe_model.proofs.Rounds.{done_after}
-use Rattle.gas_pipe_replay.proofs.replay.replay.Goals as goal
+use Rattle.gas_pipe_replay.proofs.replay.Goals as goal
 
 pub returns-clause-state : goal.returns-clause-state
 returns-clause-state g c =

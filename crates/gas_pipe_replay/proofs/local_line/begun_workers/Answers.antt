@@ -1,7 +1,7 @@
 use Rattle.std.proofs.Common.{◌∙◌, ◌+◌, ap}
 use Rattle.gas_pipe_model.specs.Pass.{PassModel, computes_from}
 use Rattle.gas_pipe_replay.proofs.Begun.{begun_more}
-use Rattle.gas_pipe_replay.proofs.replay.local_line.begun_workers.Goals as goal
+use Rattle.gas_pipe_replay.proofs.local_line.begun_workers.Goals as goal
 
 pub loop-k-preserved : goal.loop-k-preserved
 loop-k-preserved g c =

@@ -10,7 +10,7 @@ use Rattle.gas_pipe_model.proofs.Kept.{fits}
 use Rattle.gas_pipe_model.proofs.Rounds.{run_append}
 use Rattle.gas_pipe_replay.proofs.Slots.{two_writes, read_before, read_behind}
 use Rattle.gas_pipe_replay.proofs.WorkerSteps.{WorkerTurned, worker_step_at}
-use Rattle.gas_pipe_replay.proofs.replay.local_line.turn_worker.Goals as goal
+use Rattle.gas_pipe_replay.proofs.local_line.turn_worker.Goals as goal
 
 pub returns-clause-shows : goal.returns-clause-shows
 returns-clause-shows g c p f turns sh =

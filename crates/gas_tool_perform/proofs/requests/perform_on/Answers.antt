@@ -1,4 +1,4 @@
-use Rattle.gas_tool_perform.proofs.perform.perform_on.Goals as goal
+use Rattle.gas_tool_perform.proofs.requests.perform_on.Goals as goal
 
 pub returns-in_ok-plan-in-Run : goal.returns-in_ok-plan-in-Run
 returns-in_ok-plan-in-Run g c =

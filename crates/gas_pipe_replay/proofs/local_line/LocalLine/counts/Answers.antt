@@ -5,7 +5,7 @@ use Rattle.std.proofs.lemmas.List.{get_or_read, length_push}
 use Rattle.gas_pipe_members.specs.Belt.{BeltModel}
 use Rattle.gas_pipe_replay.specs.Inner.LocalLine.{belt}
 use Rattle.gas_pipe_replay.proofs.Counted.{counts_more}
-use Rattle.gas_pipe_replay.proofs.replay.local_line.LocalLine.counts.Goals as goal
+use Rattle.gas_pipe_replay.proofs.local_line.LocalLine.counts.Goals as goal
 
 pub loop-k-preserved : goal.loop-k-preserved
 loop-k-preserved g c = (

@@ -4,7 +4,7 @@ use Rattle.gas_pipe_model.specs.Line.{State}
 use Rattle.gas_pipe_model.specs.Pass.{PassModel}
 use Rattle.gas_pipe_replay.specs.Replay.{counts_of}
 use Rattle.gas_pipe_replay.specs.Inner.LocalLine.{Shows}
-use Rattle.gas_pipe_replay.proofs.replay.local_line.LocalLine.counts.Given as goal
+use Rattle.gas_pipe_replay.proofs.local_line.LocalLine.counts.Given as goal
 
 abbrev pub invariant-loop-k : goal.invariant-loop-k
 invariant-loop-k g l = (length l.counts.items ≡ l.k) × ((p : PassModel) (s : State) →

@@ -4,7 +4,7 @@ use Rattle.gas_geom.specs.Lattice.{LatticeModel}
 use Rattle.gas_pipe_model.specs.Pass.{rows_on}
 use Rattle.gas_pipe_model.proofs.Generations.{same_lattice}
 use Rattle.gas_pipe_replay.proofs.Finished.{finished, unfinished}
-use Rattle.gas_pipe_replay.proofs.replay.local_line.LocalLine.finish.Goals as goal
+use Rattle.gas_pipe_replay.proofs.local_line.LocalLine.finish.Goals as goal
 
 pub returns-then-is_closed : goal.returns-then-is_closed
 returns-then-is_closed g c p turns sh =

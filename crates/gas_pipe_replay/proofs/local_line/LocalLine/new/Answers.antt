@@ -7,7 +7,7 @@ use Rattle.gas_pipe_model.proofs.Generations.{begins_first}
 use Rattle.gas_pipe_members.specs.Feeder.{HasFed}
 use Rattle.gas_pipe_replay.specs.Inner.LocalLine.{AreUnused}
 use Rattle.gas_pipe_replay.proofs.Begun.{begun_shows}
-use Rattle.gas_pipe_replay.proofs.replay.local_line.LocalLine.new.Goals as goal
+use Rattle.gas_pipe_replay.proofs.local_line.LocalLine.new.Goals as goal
 
 pub returns : goal.returns
 returns g c =

@@ -2,7 +2,7 @@ use Rattle.std.proofs.Common.{take, []}
 use Rattle.gas_pipe_model.specs.Pass.{PassModel}
 use Rattle.gas_pipe_replay.specs.Replay.{after}
 use Rattle.gas_pipe_replay.specs.Inner.LocalLine.{Shows}
-use Rattle.gas_pipe_replay.proofs.replay.local_line.LocalLine.run.Given as goal
+use Rattle.gas_pipe_replay.proofs.local_line.LocalLine.run.Given as goal
 
 abbrev pub invariant-loop-who : goal.invariant-loop-who
 invariant-loop-who g l = (p : PassModel) →

@@ -7,7 +7,7 @@ use Rattle.gas_pipe_replay.specs.Replay.{after}
 use Rattle.gas_pipe_replay.specs.Inner.LocalLine.{Shows}
 use Rattle.gas_pipe_model.proofs.Turns.{turn_out}
 use Rattle.gas_pipe_model.proofs.Rounds.{run_append}
-use Rattle.gas_pipe_replay.proofs.replay.local_line.LocalLine.turn.Goals as goal
+use Rattle.gas_pipe_replay.proofs.local_line.LocalLine.turn.Goals as goal
 
 pub returns-then-who-eq0 : goal.returns-then-who-eq0
 returns-then-who-eq0 g c p turns sh =
