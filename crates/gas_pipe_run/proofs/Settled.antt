@@ -1,9 +1,10 @@
 -- A run that is over: what its belts carried, and the rows that the feeder holds.
 use Rattle.std.proofs.Common.{◌≡◌, ℕ, suc, ◌+◌, ◌-◌, ◌*◌, ◌≤◌, ◌<◌, ◌++◌, List, [], ◌∷◌, length, map, take, drop, refl, ap, sym, subst, ◌∙◌, arith}
+use Rattle.std.specs.Prelude.{get_or}
 use Rattle.std.specs.List.{range_with_len}
 use Rattle.std.proofs.lemmas.Bool.{ne_eqb}
 use Rattle.std.proofs.lemmas.List.{length-map, map-id}
-use Rattle.std.proofs.lemmas.List.FromFn.{length-map-range_with_len}
+use Rattle.std.proofs.lemmas.List.FromFn.{length-map-range_with_len, get_or-map-range_with_len}
 use Rattle.gas_geom.specs.Gas.{Rules, IsGas}
 use Rattle.gas_geom.specs.Channel.{ChannelModel}
 use Rattle.gas_geom.specs.Lattice.{LatticeModel}
@@ -16,10 +17,11 @@ use Rattle.gas_pipe_model.specs.Inner.Ring.{joined, IsRing, owes_in, rows_in}
 use Rattle.gas_pipe_model.proofs.Boundaries.{enough_passes, some_passes}
 use Rattle.gas_pipe_model.proofs.Generations.{begins_first, ends_last, same_lattice}
 use Rattle.gas_pipe_model.proofs.Ring.{joined_high, ring_law, left_over}
-use Rattle.gas_pipe_model.proofs.Rings.{is_ring, joined_is}
+use Rattle.gas_pipe_model.proofs.Rings.{is_ring, joined_is, round}
 use Rattle.gas_pipe_model.proofs.Wide.{after_is_lattice}
 use Rattle.gas_pipe_members.specs.Feeder.{FeederModel, HasFed, emptied}
-use Rattle.gas_pipe_run.specs.Inner.Links.{whole, on, on_first, Reached}
+use Rattle.gas_pipe_run.specs.Run.{RunModel, put_on, taken_on}
+use Rattle.gas_pipe_run.specs.Inner.Links.{whole, on, on_first, HasRun, Reached}
 use Rattle.gas_pipe_members.proofs.Emptied.{take-emptied, emptied_joined}
 use Rattle.gas_pipe_members.proofs.Feeds.{fed_gave, fed_given, fed_taken, fed_holds}
 use Rattle.gas_pipe_run.proofs.Meetings.{on_more, on_long}
@@ -45,6 +47,36 @@ rings_made gas p more =
     length-map (rings gas p) whole
     ∙ rw (ne_eqb p.plan.generations 0 (λ none. absurd (omega (arith, none, more))))
     (length-map-range_with_len (ring gas p (passes_of p.plan.generations p.plan.stages)) 0 (p.plan.stages + 1))
+
+-- what the belts of a run carry, the rows that come back on the last but for the last pass's those of the later passes on the first
+module _ (gas : Rules) (p : PassModel) (is : IsPass gas p) (some : 0 < p.plan.stages) (more : 0 < p.plan.generations) where
+  abbrev passes_made : ℕ
+  passes_made = passes_of p.plan.generations p.plan.stages
+
+  carried_on : (k : ℕ) → k ≤ p.plan.stages → get_or (rings gas p) k [] ≡ ring gas p passes_made k
+  carried_on k le =
+      rw (ne_eqb p.plan.generations 0 (λ none. absurd (omega (arith, none, more))))
+      (get_or-map-range_with_len (ring gas p passes_made) 0 (p.plan.stages + 1) k k [] (omega (arith, le)) (omega arith))
+
+  round_of : (n : ℕ) → 0 < n → take ((n - 1) * p.lattice.channel.height) (ring gas p n p.plan.stages) ≡ drop p.lattice.channel.height (ring gas p n 0)
+  round_of n h =
+      let e : n ≡ n - 1 + 1 = omega (arith, h) in
+      ap (λ (m : ℕ). take ((n - 1) * p.lattice.channel.height) (ring gas p m p.plan.stages)) e
+      ∙ round gas p is (n - 1)
+      ∙ ap (λ (m : ℕ). drop p.lattice.channel.height (ring gas p m 0)) (sym e)
+
+  pub go_round : (r : RunModel) → HasRun gas p r →
+      take ((r.passes - 1) * p.lattice.channel.height) (taken_on r.belts r.stages) ≡ drop p.lattice.channel.height (put_on r.belts 0)
+  go_round r ran =
+      ap (λ (n : ℕ). take ((n - 1) * p.lattice.channel.height) (taken_on r.belts r.stages)) ran.passes
+      ∙ ap (λ (k : ℕ). take ((passes_made - 1) * p.lattice.channel.height) (taken_on r.belts k)) ran.stages
+      ∙ ap (λ (l : List CarriedModel). take ((passes_made - 1) * p.lattice.channel.height) (taken_on l p.plan.stages)) ran.belts
+      ∙ ap (λ (l : List (List RowModel)). take ((passes_made - 1) * p.lattice.channel.height) (get_or l p.plan.stages [])) (all_taken (rings gas p))
+      ∙ ap (take ((passes_made - 1) * p.lattice.channel.height)) (carried_on p.plan.stages (omega arith))
+      ∙ round_of passes_made (some_passes p.plan.generations p.plan.stages some more)
+      ∙ ap (drop p.lattice.channel.height) (sym (carried_on 0 (omega arith)))
+      ∙ ap (λ (l : List (List RowModel)). drop p.lattice.channel.height (get_or l 0 [])) (sym (all_put (rings gas p)))
+      ∙ ap (λ (l : List CarriedModel). drop p.lattice.channel.height (put_on l 0)) (sym ran.belts)
 
 -- the last belt, whose ends meet when all workers are over
 module _ (gas : Rules) (p : PassModel) (is : IsPass gas p) (b : List RowModel) (k : ℕ) (put : List RowModel) (now : List CarriedModel)

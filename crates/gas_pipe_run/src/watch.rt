@@ -144,12 +144,16 @@ impl<'a> Watch<'a> {
     }
 
     /// After a turn in which nothing could be done: rows that gathered are shown first, since the
-    /// member behind may wait for them; where there are none it waits a little. It says whether to go
-    /// on.
+    /// member behind may wait for them; where there are none it waits a little. Returns whether to go
+    /// on: not where the stop flag is raised.
     pub(crate) fn rest<G: Gas, R: Wait>(&mut self, rt: &R, tx: &mut Tx<G>) -> bool
         ensures { tx.new ≡ tx.old }
     {
-        self.publish(tx) || self.wait(rt)
+        if self.publish(tx) {
+            !self.signals.is_stopped()
+        } else {
+            self.wait(rt)
+        }
     }
 
     /// A row was taken: the member before may wait for its room.

@@ -1,4 +1,4 @@
-use Rattle.std.proofs.Common.{◌+◌, ◌∙◌, ap, sym, subst, length, List, map, ℕ}
+use Rattle.std.proofs.Common.{rules, ◌+◌, ◌<◌, ◌∙◌, ap, sym, subst, length, List, map, ℕ, arith}
 use Rattle.gas_geom.specs.Channel.{ChannelModel}
 use Rattle.gas_geom.specs.Lattice.{IsLattice}
 use Rattle.gas_geom.proofs.Runs.{count-generation}
@@ -6,7 +6,7 @@ use Rattle.gas_rows.specs.Chirality.{chirality_bit}
 use Rattle.gas_rows.specs.Row.{RowModel}
 use Rattle.gas_belt.specs.Belt.{CarriedModel}
 use Rattle.gas_pipe_model.specs.Pass.{first_pass}
-use Rattle.gas_pipe_run.proofs.Settled.{all_put, all_taken, rings_made}
+use Rattle.gas_pipe_run.proofs.Settled.{all_put, all_taken, rings_made, go_round}
 use Rattle.gas_pipe_run.proofs.run.Goals as goal
 
 pub returns-clause-put : goal.returns-clause-put
@@ -14,6 +14,17 @@ returns-clause-put g c = ap (map (λ (b : CarriedModel). b.put)) c.in_ok-run_rin
 
 pub returns-clause-taken : goal.returns-clause-taken
 returns-clause-taken g c = ap (map (λ (b : CarriedModel). b.taken)) c.in_ok-run_ring.ensures.belts ∙ all_taken _
+
+pub returns-clause-go_round : goal.returns-clause-go_round
+returns-clause-go_round g c =
+    let from = c.in_ok-feeder.ensures in
+    let is : IsLattice g.G.Gas.rules c.args.lattice.now.channel c.args.lattice.now.rows =
+    subst (λ (r : List RowModel). IsLattice g.G.Gas.rules c.args.lattice.now.channel r) from.rows
+    (subst (λ (x : ChannelModel). IsLattice g.G.Gas.rules x c.in_ok-feeder.feeder.rows) from.channel from.whole) in
+    let plan = c.generations.ensures.accepted in
+    let some : 0 < c.args.plan.generations = omega (arith, c.if-generations-eq0.false, c.generations.ensures.value) in
+    go_round g.G.Gas.rules (first_pass c.args.chirality c.args.first c.args.lattice.now c.args.plan)
+    (record { lattice = is; room = search rules }) (search rules) some c.in_ok-run_ring.field-0 c.in_ok-run_ring.ensures
 
 pub returns-clause-belts_made : goal.returns-clause-belts_made
 returns-clause-belts_made g c more =

@@ -25,15 +25,15 @@ loop-pass-init g c =
 pub loop-pass-preserved : goal.loop-pass-preserved
 loop-pass-preserved g c =
     let was = c.loop-pass.invariant in
-    let now = c.make_pass-over in
+    let now = c.make_pass in
     let pass : OnePass g.G.Gas.rules c.loop-pass.worker (computes_from c.args.schedule.now.first c.args.schedule.now.plan c.loop-pass.pass c.args.who) c.loop-pass.rx.taken c.loop-pass.tx.put now.new.rx.taken now.new.tx.put =
     subst (λ (e : Option ℕ). OnePass g.G.Gas.rules c.loop-pass.worker e c.loop-pass.rx.taken c.loop-pass.tx.put now.new.rx.taken now.new.tx.put) c.generation-generation.ensures
-    (c.if-not-over.ensures.whole refl) in
+    (c.if-not-make_pass.ensures.whole refl) in
     let more =
     one_pass_more g.G.Gas.rules c.args.worker.now c.loop-pass.worker c.args.schedule.now.first c.args.schedule.now.plan c.args.who c.loop-pass.pass c.loop-pass.rx.taken c.loop-pass.tx.put now.new.rx.taken now.new.tx.put
     was.channel was.chirality was.whole was.owes pass in
     record {
-      closed = c.if-not-over.ensures.closed refl;
+      closed = c.if-not-make_pass.ensures.closed refl;
       channel = now.ensures.channel ∙ was.channel;
       chirality = now.ensures.chirality ∙ was.chirality;
       rx = now.ensures.rx ∙ was.rx;
