@@ -1,4 +1,3 @@
 pub mod Status
-pub mod Replayed
 pub mod Outcome
 pub mod View

@@ -18,7 +18,7 @@ use Rattle.gas_pipe_members.specs.declared.plan.PlanError.{PlanError}
 use Rattle.gas_tool_io.specs.Text.{cells_text, check_text}
 use Rattle.gas_tool_coarse.specs.Blocks.{blocks_of}
 use Rattle.gas_tool_io.specs.Table.{table_text}
-use Rattle.gas_tool_perform.specs.Replayed.{replay_text}
+use Rattle.gas_tool_replay.specs.Text.{replay_text}
 use Rattle.gas_tool_perform.specs.declared.faults.ToolError.{ToolError}
 use Rattle.gas_tool_perform.specs.declared.faults.ToolError.TheVariants.{Memory, Scene, Plan, Write, MorePasses}
 use Rattle.gas_tool_cli.specs.declared.request.Request.{Request}

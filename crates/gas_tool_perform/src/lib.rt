@@ -2,7 +2,6 @@
 #![tactic(auto)]
 
 pub mod faults;
-mod replayed;
 mod requests;
 pub mod resume;
 

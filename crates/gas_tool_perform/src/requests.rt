@@ -9,7 +9,6 @@ ghost use Rattle.gas_tool_cli.specs.Requests.{IsAllowed};
 ghost use Rattle.gas_tool_perform.specs.View.{HasSomeCells, view_text};
 
 use crate::faults::ToolError;
-use crate::replayed::write_replay;
 use gas_geom::gas::Gas;
 use gas_pipe_members::plan::Plan;
 use gas_pipe_replay::replay;
@@ -23,6 +22,7 @@ use gas_tool_cli::request::Request;
 use gas_tool_coarse::blocks::coarse;
 use gas_tool_io::table::write_table;
 use gas_tool_io::text::{write_cells, write_check};
+use gas_tool_replay::write_replay;
 use std::alloc::Global;
 use std::io::Write;
 use std::sync::Wait;

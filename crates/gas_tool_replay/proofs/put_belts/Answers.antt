@@ -1,6 +1,6 @@
-use Rattle.gas_tool_perform.specs.Replayed.{line_of_belt}
+use Rattle.gas_tool_replay.specs.Text.{line_of_belt}
 use Rattle.gas_tool_io.proofs.Sinks.{Adds-next}
-use Rattle.gas_tool_perform.proofs.replayed.put_belts.Goals as goal
+use Rattle.gas_tool_replay.proofs.put_belts.Goals as goal
 
 pub loop-belt-preserved : goal.loop-belt-preserved
 loop-belt-preserved g c =

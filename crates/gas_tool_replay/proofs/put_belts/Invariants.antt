@@ -1,7 +1,7 @@
 use Rattle.gas_tool_io.specs.Sink.{Adds}
 use Rattle.gas_cells.specs.Cells.{texts_below}
-use Rattle.gas_tool_perform.specs.Replayed.{line_of_belt}
-use Rattle.gas_tool_perform.proofs.replayed.put_belts.Given as goal
+use Rattle.gas_tool_replay.specs.Text.{line_of_belt}
+use Rattle.gas_tool_replay.proofs.put_belts.Given as goal
 
 -- the lines of the belts so far were added
 abbrev pub invariant-loop-belt : goal.invariant-loop-belt

@@ -1,11 +1,12 @@
 //! The printed text of a replay.
+#![tactic(auto)]
 
 ghost use Rattle.std.specs.Prelude.{◌≡◌, ◌<◌, length, IsTrue, ◌↔◌, IsSome, Option};
 ghost use Rattle.gas_geom.specs.Lattice.{LatticeModel};
 ghost use Rattle.gas_tool_io.specs.Output.{Writes};
 ghost use Rattle.gas_tool_io.specs.Sink.{Adds};
 ghost use Rattle.gas_cells.specs.Cells.{texts_below};
-ghost use Rattle.gas_tool_perform.specs.Replayed.{belt_line, done_line, end_text, line_of_belt, replay_text};
+ghost use Rattle.gas_tool_replay.specs.Text.{belt_line, done_line, end_text, line_of_belt, replay_text};
 
 use gas_geom::gas::Gas;
 use gas_pipe_replay::answer::Replay;
@@ -72,7 +73,7 @@ fn put_end<G: Gas, W: Write>(sink: &mut Sink, out: &mut W, replay: &Replay<G>, g
 /// Writes where a replayed pass stands: `done` or `not done`, a line a belt, and, where it is done, the
 /// cells of its lattice, which is of that generation. Then the writer is flushed once, with the faults
 /// of `write_cells`. It takes no memory.
-pub(crate) fn write_replay<G: Gas, W: Write>(
+pub fn write_replay<G: Gas, W: Write>(
     replay: &Replay<G>,
     generation: u64,
     out: &mut W,

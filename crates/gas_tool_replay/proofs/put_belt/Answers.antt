@@ -1,6 +1,6 @@
 use Rattle.std.proofs.Common.{append_assoc}
-use Rattle.gas_tool_perform.specs.Replayed.{belt_line}
-use Rattle.gas_tool_perform.proofs.replayed.put_belt.Goals as goal
+use Rattle.gas_tool_replay.specs.Text.{belt_line}
+use Rattle.gas_tool_replay.proofs.put_belt.Goals as goal
 
 pub returns : goal.returns
 unfolding belt_line
