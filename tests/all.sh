@@ -1,16 +1,20 @@
 #!/bin/bash
 # The test command: the definitions are compared with the document that lists them; the gate proves every crate from nothing,
-# tries the must-fail edits, and runs the tests and the stored run of the program; then the built program is tried from
-# outside. A must-fail edit that says little of a contract fails the tests.
+# tries the wrong bodies of must-fail/ one by one, and runs the tests and the stored runs of the programs; then the wrong bodies of
+# wrong/ are tried in groups, and the built program is tried from outside. A wrong body that is refused by name alone, and so says
+# little of a contract, fails the tests.
 cd "$(dirname "$0")/.." || exit 1
 set -o pipefail
 tests/definitions.py || exit 1
-log=$(mktemp) || exit 1
-trap 'rm -f "$log"' EXIT
+log=$(mktemp) && mark=$(mktemp) || exit 1
+trap 'rm -f "$log" "$mark"' EXIT
 rt ci 2>&1 | tee "$log" || exit 1
 if grep 'only because a proof file names what the edit took away' "$log"; then
     echo 'tests: these edits say little of a contract: let them change a value and keep the names'
     exit 1
 fi
+if ! tests/wrong_bodies_test.py || ! tests/wrong_bodies.py; then exit 1; fi
+./build.sh --proved "$mark" # so that a build after the tests has nothing to prove
 echo x86-64-v2 > crates/fhpgas/out/level # the kit's own, for which rt ci builds
-tests/command_line.sh && tests/terminal.py && tests/documents.py && tests/drawn_scenes.py && tests/mutated_scenes.py 5000 && tests/large_scenes.py 1 && tests/refusals.py
+tests/command_line.sh && tests/refused_scenes.py && tests/terminal.py && tests/documents.py && tests/archive.sh \
+    && tests/drawn_scenes.py && tests/mutated_scenes.py 5000 && tests/large_scenes.py 1 && tests/refusals.py
