@@ -134,12 +134,14 @@ def extent(lines, first, indent):
     """The line in which the body of a function begins, and its last line."""
     if lines[first].rstrip().endswith("}"):
         return first, first
+    depth = 0
     for number in range(first, len(lines)):
         line = lines[number].rstrip()
-        if line.startswith(indent) and line.endswith("{") and not line[len(indent) :].startswith((" ", "\t")):
+        if line.startswith(indent) and line.endswith("{") and line[len(indent) :][:1] not in (" ", "\t"):
             ends = (at for at in range(number, len(lines)) if lines[at].rstrip() in (f"{indent}}}", f"{indent}}};"))
             return number, next(ends, number)
-        if number > first and line.endswith(";"):
+        depth += sum((it in "{([") - (it in "})]") for it in line)
+        if line.endswith(";") and depth <= 0:
             break
     # (a trait's method with no body)
     return number, number
@@ -201,6 +203,7 @@ class Edit:
         self.functions, self.is_outside, self.is_open = {}, False, False
         for path, line in self.lines:
             self.find(crate, path, line)
+        self.is_outside |= not self.functions
 
     def pairs(self):
         path = old = None
@@ -224,16 +227,18 @@ class Edit:
     def find(self, crate, path, line):
         """Notes the function in which a changed line stands, and whether others may read what it changes."""
         text = self.source(crate, path)
+        old, new = text.split("\n")[line - 1], self.lines[path, line]
         inside = [it for it in functions_of(crate.name, path, text) if it.first <= line <= it.last]
         if not path.startswith("src/") or not inside:
-            self.is_outside = True
+            # (a name more in a `use` is read by what the edit changes beside it, and by nothing else)
+            is_import = old.startswith("use ") and {*re.findall(r"\w+", old)} <= {*re.findall(r"\w+", new)}
+            self.is_outside |= not is_import
             return
         function = inside[-1]
         self.functions[function.symbol] = (path, function)
         if line <= function.body:
             # (on the line of a brace the body may be changed, and no more)
-            heads = [it.partition("{")[0] for it in (text.split("\n")[line - 1], self.lines[path, line])]
-            self.is_open |= line < function.body or heads[0] != heads[1]
+            self.is_open |= line < function.body or old.partition("{")[0] != new.partition("{")[0]
 
     def is_alone(self):
         return self.is_outside or self.is_open or self.tries > 1
@@ -442,9 +447,9 @@ class Trial:
             return edits[:1]
         group, taken = [], set()
         for it in edits:
-            if not it.is_alone() and not taken & {*it.functions}:
+            if not it.is_alone() and not taken & {*it.functions, *it.lines}:
                 group.append(it)
-                taken.update(it.functions)
+                taken.update([*it.functions, *it.lines])
         return group
 
     def groups(self):
