@@ -3,20 +3,21 @@
 
 usage: tests/wrong_bodies.py [CRATE ..] [--jobs N] [--edits FOLDER]
 
-A wrong body is an edit, crates/NAME/wrong/*.edit: lines 'file: src/FILE', 'old: TEXT' (which stands in that file once) and
-'new: TEXT', each text one line; further pairs apply to what the earlier ones made.
+A wrong body is an edit, crates/NAME/wrong/*.edit: lines 'file: src/FILE', 'old: TEXT' (which stands in that file
+once) and 'new: TEXT', each text one line; further pairs apply to what the earlier ones made.
 
-The rule. A function's proof rests on its own body, on the clauses of what it calls, and on its proof files. So a copy of the
-crate may have a wrong body in many functions at once, one in each, and what fails of a function is the doing of its edit alone.
-An edit is refused where a function that it changes has a failure of its own: an error in its folder of proofs/, a goal
-that `search` did not prove, or a place in its body at which something is not proved. That a callee is not proved does not
-count, nor that a proof file names what the edit took away. What stays open is tried again beside others and at last alone.
-What others may read, as a clause or a constant, is changed alone; outside functions any function's own failure counts then.
-In each check every other function must be proved, unless it calls one that is not; else the copy is not what was proved.
+The rule. A function's proof rests on its body, on the clauses of what it calls, and on its proof files. So a copy of
+the crate may have a wrong body in many functions at once, one in each, and what fails of a function is the doing of its
+edit alone. An edit is refused where a function that it changes has a failure of its own: an error in its folder of
+proofs/, a goal that `search` did not prove, or a place in its body at which something is not proved. That a callee is
+not proved does not count, nor that a proof file names what the edit took away. What stays open is tried again beside
+others and at last alone. What others may read, as a clause or a constant, is changed alone; outside functions any
+function's own failure counts then. In each check every other function must be proved, unless it calls one that is not;
+else the copy is not what was proved.
 
-The first check of a crate begins from nothing, and the others with what it kept; each looks only at the functions that it
-changes and those that they call. What was refused is kept in crates/NAME/out/wrong.json, by the sum of all that it rests on.
-Fails if an edit is not refused, is refused by a name alone, cannot be applied or does not compile.
+The first check of a crate begins from nothing, and the others with what it kept; each looks only at the functions that
+it changes and those that they call. What was refused is kept in crates/NAME/out/wrong.json, by the sum of all that it
+rests on. Fails if an edit is not refused, is refused by a name alone, cannot be applied or does not compile.
 """
 import argparse
 import collections
@@ -29,11 +30,13 @@ import json
 import os
 import pathlib
 import re
+import resource
 import shutil
 import subprocess
 import sys
 import tempfile
 import threading
+import traceback
 
 TOP = pathlib.Path(__file__).resolve().parent.parent
 PARTS = ("src", "specs", "proofs")
@@ -428,8 +431,8 @@ class Trial:
     def __init__(self, kit, slots, crate, folder):
         self.kit, self.slots, self.crate = kit, slots, crate
         self.kept, self.failed, self.edits = Kept(kit, crate), [], []
-        # the tries so far, and whether one kept its work
-        self.number, self.has_work, self.is_told = 0, False, set()
+        # how many checks there were, and whether one kept its work
+        self.checks, self.has_work = 0, False
         for file in sorted(folder.glob("*.edit")):
             try:
                 self.edits.append(Edit(file, crate))
@@ -460,19 +463,18 @@ class Trial:
             left = [it for it in left if it not in groups[-1]]
         return groups
 
-    def run(self):
+    def run(self, room):
         """Tries what is left: one group after the other until there is work to begin with, and then side by side."""
-        with tempfile.TemporaryDirectory(prefix="wrong-bodies-") as room:
-            room = pathlib.Path(room)
-            (room / "work").mkdir()
-            while self.left and not self.has_work:
-                self.attempt(self.group(self.left), room, room / "work")
-                self.settle()
-            while self.left:
-                groups = self.groups()
-                with concurrent.futures.ThreadPoolExecutor(len(groups)) as pool:
-                    list(pool.map(lambda it: self.attempt(it, room), groups))
-                self.settle()
+        (room / "work").mkdir(parents=True)
+        while self.left and not self.has_work:
+            self.attempt(self.group(self.left), room, room / "work")
+            self.settle()
+        while self.left:
+            groups = self.groups()
+            with concurrent.futures.ThreadPoolExecutor(len(groups)) as pool:
+                list(pool.map(lambda it: self.attempt(it, room), groups))
+            self.settle()
+        shutil.rmtree(room)
 
     def attempt(self, edits, room, work=None):
         """Tries some edits in one check, over a copy of what the first one kept unless that is given."""
@@ -525,6 +527,7 @@ class Trial:
                 over = str(work or copy / f"work-{is_alone}")
                 if not work:
                     linked(room / "work", over)
+                self.checks += 1
                 ran = self.kit.check(self.crate, copy, only, over)
             if ran.returncode not in Kit.KILLED:
                 return Output(ran)
@@ -545,7 +548,7 @@ class Trial:
         for it in self.failed:
             print(it)
         if self.old:
-            print(f"{self.crate.name}: {len(self.old)} of {len(self.edits)} were refused by an earlier run, and are kept")
+            print(f"{self.crate.name}: {len(self.old)} of {len(self.edits)} were refused by an earlier run")
         return len([it for it in self.edits if it.refused]), len(self.failed)
 
 
@@ -559,11 +562,27 @@ def libraries_or_stop(crates):
             stop(f"{at} was built of other sources: run ./build.sh first")
 
 
+def run(trials):
+    """Tries the crates side by side; where one comes to an end that is not known, or at Ctrl-C, ends at once."""
+    room = tempfile.mkdtemp(prefix="wrong-bodies-")
+    pool = concurrent.futures.ThreadPoolExecutor(len(trials))
+    try:
+        for it in [pool.submit(it.run, pathlib.Path(room) / it.crate.name) for it in trials]:
+            it.result()
+    except BaseException:
+        traceback.print_exc()
+        # (the guard before each check ends it with this process)
+        shutil.rmtree(room, ignore_errors=True)
+        sys.stdout.flush()
+        os._exit(2)
+    shutil.rmtree(room)
+
+
 def main():
     parser = argparse.ArgumentParser(description="Tries each crate's wrong bodies, which the prover must refuse.")
     parser.add_argument("crates", nargs="*", metavar="CRATE")
     parser.add_argument("--jobs", type=int, default=os.cpu_count(), help="the most checks at once")
-    parser.add_argument("--edits", default="wrong", metavar="FOLDER", help="the folder of a crate that has them (wrong)")
+    parser.add_argument("--edits", default="wrong", metavar="FOLDER", help="where a crate has them (wrong)")
     options = parser.parse_args()
     folders = {it.parent.name: it for it in sorted(TOP.glob(f"crates/*/{options.edits}")) if any(it.glob("*.edit"))}
     lacking = [it for it in options.crates if it not in folders]
@@ -575,10 +594,10 @@ def main():
     libraries_or_stop(crates)
     trials = [Trial(kit, slots, it, folders[it.name]) for it in crates]
     trials.sort(key=lambda it: -len(it.left))
-    with concurrent.futures.ThreadPoolExecutor(len(trials)) as pool:
-        list(pool.map(Trial.run, trials))
-    counts = [it.report() for it in trials]
-    refused, failed = (sum(it) for it in zip(*counts))
+    run(trials)
+    refused, failed = (sum(it) for it in zip(*[it.report() for it in trials]))
+    used = resource.getrusage(resource.RUSAGE_CHILDREN)
+    print(f"{sum(it.checks for it in trials)} checks took {used.ru_utime + used.ru_stime:.0f} processor seconds")
     print(f"{refused} refused, {failed} failed")
     return 1 if failed or not refused else 0
 
