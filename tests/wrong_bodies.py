@@ -282,8 +282,9 @@ class Output:
         searched = Kit.GOALS.search(self.functions.get(name, ""))
         for goal in re.findall(r"`([^`]+)`", searched[1]) if searched else []:
             goals.setdefault(goal, "")
-        found = [told(goal, words) for goal, words in goals.items()]
-        return found + [told_error(it) for it in errors], by_name
+        found = [told(goal, words) for goal, words in goals.items()] + [told_error(it) for it in errors]
+        # (what a contract promises tells the most)
+        return sorted(found, key=lambda it: "ensures" not in it), by_name
 
     def unread(self):
         """An error at a clause or a spec that could not be read, so that nothing was tried."""
