@@ -3,6 +3,8 @@
 # counts.
 cd "$(dirname "$0")/.." || exit 1
 program=$PWD/crates/fhpgas/out/fhpgas
+if [ ! -x "$program" ]; then echo "tests/command_line.sh: crates/fhpgas/out/fhpgas is missing: run ./build.sh first" >&2; exit 2; fi
+if ! command -v rt > /dev/null; then echo "tests/command_line.sh: rt is not on the PATH: see README.md" >&2; exit 2; fi
 room=$(mktemp -d) || exit 1
 trap 'rm -rf "$room"' EXIT
 passed=0

@@ -8,8 +8,9 @@ import subprocess
 import sys
 import tempfile
 
-TOP = pathlib.Path(__file__).resolve().parent.parent
-PROGRAM = TOP / "crates/fhpgas/out/fhpgas"
+import needs
+
+PROGRAM = needs.built_program()
 DOCUMENTS = ["README.md", "docs/FORMATS.md", "docs/GUIDE.md"]
 BLOCK = re.compile(r"^```(\w*)\n(.*?)^```$", re.M | re.S)
 
@@ -30,10 +31,10 @@ def is_well(commands, wanted, room):
 def main():
     passed = failed = 0
     with tempfile.TemporaryDirectory() as room:
-        (pathlib.Path(room) / "scenes").symlink_to(TOP / "scenes")
+        (pathlib.Path(room) / "scenes").symlink_to(needs.ROOT / "scenes")
         (pathlib.Path(room) / "fhpgas").symlink_to(PROGRAM)
         for name in DOCUMENTS:
-            blocks = BLOCK.findall((TOP / name).read_text())
+            blocks = BLOCK.findall((needs.ROOT / name).read_text())
             for (kind, commands), (after, text) in zip(blocks, blocks[1:] + [("", "")]):
                 if kind != "sh":
                     continue

@@ -2,15 +2,14 @@
 """Draws scenes by scenes/draw.py: the program's `check` must accept each and count as many solid cells and particles as a second
 reading of the text (scene_reader.py), and each must hold what was asked for. Ends with the counts."""
 
-import pathlib
 import subprocess
 import sys
 
+import needs
 import scene_reader
 
-ROOT = pathlib.Path(__file__).resolve().parent.parent
-PROGRAM = ROOT / "crates/fhpgas/out/fhpgas"
-DRAW = ROOT / "scenes/draw.py"
+PROGRAM = needs.built_program()
+DRAW = needs.ROOT / "scenes/draw.py"
 MOST_CELLS = 10_000
 
 

@@ -5,14 +5,15 @@ Fails where the answer is not the one that docs/FORMATS.md says; the times and s
 tests/large_scenes.py [MEBIBYTES], 1 if it is left out; the program reads at most 64.
 """
 import os
-import pathlib
 import random
 import subprocess
 import sys
 import tempfile
 import time
 
-PROGRAM = pathlib.Path(__file__).resolve().parent.parent / "crates/fhpgas/out/fhpgas"
+import needs
+
+PROGRAM = needs.built_program()
 STACK = 256  # KiB
 BLOCK = 1 << 16
 SIDE = 4096

@@ -5,16 +5,15 @@
 Where only one of the two readers takes a text for a TOML document, the text is counted and kept in a file beside the program.
 Ends with the counts. Usage: tests/mutated_scenes.py [HOW_MANY [SEED]]
 """
-import pathlib
 import random
 import re
 import subprocess
 import sys
 
+import needs
 import scene_reader
 
-ROOT = pathlib.Path(__file__).resolve().parent.parent
-PROGRAM = ROOT / "crates/fhpgas/out/fhpgas"
+PROGRAM = needs.built_program()
 KEPT = PROGRAM.parent / "disagreements.txt"
 MOST_CELLS = 1000
 NUMBERS = ["0", "1", "-1", "4", "63", "64", "1000", "1001", "4096", "4097", "9223372036854775807", "9223372036854775808",
@@ -166,7 +165,7 @@ def given_texts():
     """Every prefix of three scenes; each integer at the edges of 64 bits and of its range, past them and as another value, in both
     versions; a generation beside each kind of version; letters in a map; maps at the limits of both versions."""
     for name in ("drift", "obstacle", "square"):
-        text = (ROOT / f"scenes/{name}.toml").read_bytes()
+        text = (needs.ROOT / f"scenes/{name}.toml").read_bytes()
         yield from (text[:length] for length in range(len(text) + 1))
     keys = {"version": "%s", "generation": "%s", "seed": "%s", "width": "%s", "height": "%s", "rate": "%s"}
     keys |= {f"solid {k}": "[[" + ", ".join("%s" if i == k else "1" for i in range(4)) + "]]" for k in range(4)}
@@ -211,7 +210,7 @@ def main():
     for kind in sorted(counts.kinds):
         print(f"{counts.kinds[kind]:6} {kind}")
     KEPT.write_text("".join(f"{text!r}: {came} came and {wanted} was expected\n" for text, wanted, came in counts.kept))
-    print(f"{len(counts.kept):6} taken for a document by one reader alone, kept in {KEPT.relative_to(ROOT)}")
+    print(f"{len(counts.kept):6} taken for a document by one reader alone, kept in {KEPT.relative_to(needs.ROOT)}")
     print(f"{counts.large:6} read, of more cells than the second reading takes")
     missing = 9 - len(counts.kinds)
     if missing:

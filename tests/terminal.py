@@ -3,14 +3,15 @@
 before the program ends; standard output has the bytes that it has without a terminal, where standard error stays empty. Then
 with standard input on one, where it says that it awaits a scene. Ends with the counts."""
 import os
-import pathlib
 import pty
 import re
 import subprocess
 import sys
 import threading
 
-PROGRAM = pathlib.Path(__file__).resolve().parent.parent / 'crates/fhpgas/out/fhpgas'
+import needs
+
+PROGRAM = needs.built_program()
 # long enough on any machine that a line is due
 SCENE = b'gas = "fhp1"\nwidth = 512\nheight = 512\nrate = 300\n'
 WIPE = '\r\x1b[K'
