@@ -2,7 +2,6 @@
 //! carries it through each of its paths.
 
 use gas_geom::gas::Gas;
-use gas_rows::chirality::Chirality;
 use gas_rows::lattice::Lattice;
 use gas_scene::any_lattice::AnyLattice;
 use gas_scene::error::SceneError;
@@ -12,50 +11,47 @@ use std::fmt::Write;
 use std::process::Abort;
 use std::test::Fail;
 
+// A scene of one particle `01` at (3, 1), on four columns and three rows.
+pub(super) const DRIFT: &str =
+    "gas = \"fhp1\"\nchirality = \"left\"\ncells = [\"........\", \"......01\", \"........\"]\n";
+
 // What refuses a text, if anything does.
 pub(super) fn refusal(alloc: Global, text: &[u8]) -> Option<SceneError> {
     read(alloc, text).err()
 }
 
-// The texts that begin with these lines and end with those of a case are refused as the case says, or are scenes.
-pub(super) fn have_refusals(
-    rt: &impl Abort,
-    alloc: Global,
-    first: &str,
-    cases: &[(&str, Option<SceneError>)],
-) -> Result<(), Fail> {
-    for (last, wanted) in cases {
-        let text = format!(in alloc; "{first}\n{last}")?;
-        assert!(rt;
-            refusal(alloc, text.as_str().as_bytes()) == *wanted,
-            "{first} {last}"
-        );
+// The cell as two characters.
+fn push_cell<G: Gas>(text: &mut String, lattice: &Lattice<G>, x: u32, y: u32) -> Result<(), Fail> {
+    let size = lattice.channel().size();
+    if x >= size.width() || y >= size.height() {
+        return Ok(());
+    }
+    let state = lattice.cell(x, y);
+    if lattice.channel().is_solid(x, y) {
+        text.push_str("##")?;
+    } else if state == 0 {
+        text.push_str("..")?;
+    } else {
+        write!(text, "{state:02x}")?;
     }
     Ok(())
 }
 
-// The cells as two characters each.
+// The name of the gas, and then the cells as two characters each, a line for each row.
 fn shown<G: Gas>(alloc: Global, lattice: &Lattice<G>) -> Result<String, Fail> {
     let size = lattice.channel().size();
     let mut text = String::new(alloc);
+    text.push_str(G::name())?;
     for y in 0..size.height() {
-        for x in 0..size.width() {
-            let state = lattice.cell(x, y);
-            if lattice.channel().is_solid(x, y) {
-                text.push_str("##")?;
-            } else if state == 0 {
-                text.push_str("..")?;
-            } else {
-                write!(text, "{state:02x}")?;
-            }
-        }
         text.push_str("\n")?;
+        for x in 0..size.width() {
+            push_cell(&mut text, lattice, x, y)?;
+        }
     }
     Ok(text)
 }
 
-// The cells of a scene as two characters each, a line for each row.
-fn cells_of_scene(alloc: Global, scene: &Scene) -> Result<String, Fail> {
+fn shown_scene(alloc: Global, scene: &Scene) -> Result<String, Fail> {
     match scene.lattice() {
         AnyLattice::Fhp1(lattice) => shown(alloc, lattice),
         AnyLattice::Hpp(lattice) => shown(alloc, lattice),
@@ -63,30 +59,18 @@ fn cells_of_scene(alloc: Global, scene: &Scene) -> Result<String, Fail> {
     }
 }
 
-// The cells of the scene that a text is, as two characters each, a line for each row.
-fn cells_of(alloc: Global, text: &str) -> Result<String, Fail> {
+// What the scene that a text is holds, as one text: its chirality and its generation, the name of its gas, and its cells.
+fn told(alloc: Global, text: &str) -> Result<String, Fail> {
     let scene = read(alloc, text.as_bytes())?;
-    cells_of_scene(alloc, &scene)
+    let cells = shown_scene(alloc, &scene)?;
+    let chirality = scene.chirality();
+    let generation = scene.generation();
+    Ok(format!(in alloc; "{chirality:?} {generation} {cells}")?)
 }
 
-// The scene that a text is has these cells.
-pub(super) fn has_cells(
-    rt: &impl Abort,
-    alloc: Global,
-    text: &str,
-    wanted: &str,
-) -> Result<(), Fail> {
-    let cells = cells_of(alloc, text)?;
-    assert!(rt; cells.as_str() == wanted, "{text}");
+// The text is a scene that holds this.
+pub(super) fn holds(rt: &impl Abort, alloc: Global, text: &str, wanted: &str) -> Result<(), Fail> {
+    let told = told(alloc, text)?;
+    assert!(rt; told.as_str() == wanted, "{text}");
     Ok(())
-}
-
-// The chirality of the scene that a text is.
-pub(super) fn chirality_of(alloc: Global, text: &str) -> Result<Chirality, Fail> {
-    Ok(read(alloc, text.as_bytes())?.chirality())
-}
-
-// The generation of the scene that a text is.
-pub(super) fn generation_of(alloc: Global, text: &str) -> Result<u64, Fail> {
-    Ok(read(alloc, text.as_bytes())?.generation())
 }

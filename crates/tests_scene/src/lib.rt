@@ -1,10 +1,8 @@
-//! Tests of scenes, of their refusals and of checkpoints on worked examples.
+//! Tests of reading scenes and of writing them, on worked examples.
 #![tactic(auto)]
 
 #[cfg(test)]
 mod checkpoints;
-#[cfg(test)]
-mod errors;
 #[cfg(test)]
 mod helpers;
 #[cfg(test)]

@@ -1,232 +1,193 @@
 //! Which texts are no scenes, and why.
 
-use super::helpers::{have_refusals, refusal};
+use super::helpers::{DRIFT, refusal};
 use gas_scene::error::SceneError;
 use std::alloc::{AllocError, Global};
+use std::process::Abort;
 use std::test::Fail;
 
-#[test]
-fn texts(rt: HostRuntime) {
-    for (text, wanted) in [
-        ("", Some(SceneError::Missing)),
-        ("gas = ", Some(SceneError::Syntax)),
-        ("gas = \"fhp1\"\ngas = \"fhp1\"", Some(SceneError::Syntax)),
-        ("gas = \"fhp1\"", Some(SceneError::Missing)),
-        (
-            "gas = \"fhp1\"\nchirality = \"left\"",
-            Some(SceneError::Missing),
-        ),
-        (
-            "gas = \"fhp1\"\nchirality = \"left\"\ncells = [\"01\"",
-            Some(SceneError::Syntax),
-        ),
-        ("gas = \"fhp1\"\ncells = [\"01\"]", None),
-        (
-            "gas = \"fhp1\"\ncells = [\"01\"]\ncolour = 1",
-            Some(SceneError::UnknownKey),
-        ),
-        (
-            "gas = \"fhp1\"\ncells = [\"01\"]\nwidth = 4",
-            Some(SceneError::BothForms),
-        ),
-        ("cells = [\"01\"]", Some(SceneError::Missing)),
-        ("gas = 1\ncells = [\"01\"]", Some(SceneError::WrongType)),
-        ("gas = \"fhp2\"\ncells = [\"01\"]", Some(SceneError::Range)),
-        ("gas = \"fhp1\"\ncells = []", Some(SceneError::Range)),
-        (
-            "gas = \"fhp1\"\nwidth = 4\nheight = 3\nparticles = [[4, 0, 1]]",
-            Some(SceneError::Range),
-        ),
-        (
-            "gas = \"fhp1\"\ncells = [\"010\"]",
-            Some(SceneError::RowLength(0)),
-        ),
-        (
-            "gas = \"fhp1\"\ncells = [\"01\", \"0g\"]",
-            Some(SceneError::BadCell(1, 0)),
-        ),
-        (
-            "gas = \"fhp1\"\nchirality = \"left\"\ncells = [\"0101\", \"0g\"]",
-            Some(SceneError::RowLength(1)),
-        ),
-        (
-            "gas = \"fhp1\"\nchirality = \"left\"\ncells = [\"40\"]",
-            Some(SceneError::BadCell(0, 0)),
-        ),
-        (
-            "gas = \"hpp\"\nchirality = \"left\"\ncells = [\"10\"]",
-            Some(SceneError::BadCell(0, 0)),
-        ),
-        (
-            "gas = \"fhp1\"\ncells = [\"0A\"]",
-            Some(SceneError::BadCell(0, 0)),
-        ),
-        (
-            "gas = \"fhp1\"\nseed = true\ncells = [\"01\"]",
-            Some(SceneError::WrongType),
-        ),
-        (
-            "gas = \"fhp1\"\ncells = [\"é.\"]",
-            Some(SceneError::RowLength(0)),
-        ),
-        (
-            "gas = \"fhp1\"\ncells = [\"é\"]",
-            Some(SceneError::BadCell(0, 0)),
-        ),
-    ] {
-        assert!(rt; refusal(rt.alloc(), text.as_bytes()) == wanted, "{text}");
+// The texts that begin with these lines and end with those of a case are refused as the case says, or are scenes.
+fn have_refusals(
+    rt: &impl Abort,
+    alloc: Global,
+    first: &str,
+    cases: &[(&str, Option<SceneError>)],
+) -> Result<(), Fail> {
+    for (last, wanted) in cases {
+        let text = format!(in alloc; "{first}{last}")?;
+        assert!(rt;
+            refusal(alloc, text.as_str().as_bytes()) == *wanted,
+            "{first} {last}"
+        );
     }
-    assert!(rt; refusal(rt.alloc(), &[0xff]) == Some(SceneError::Syntax));
+    Ok(())
+}
+
+// Keys, the gas and the map.
+#[test]
+fn maps(rt: HostRuntime) -> Result<(), Fail> {
+    have_refusals(
+        &rt,
+        rt.alloc(),
+        "",
+        &[
+            ("", Some(SceneError::Missing)),
+            ("gas = ", Some(SceneError::Syntax)),
+            ("gas = \"fhp1\"\ngas = \"fhp1\"", Some(SceneError::Syntax)),
+            ("cells = [\"01\"]", Some(SceneError::Missing)),
+            ("gas = 1\ncells = [\"01\"]", Some(SceneError::WrongType)),
+            ("gas = \"fhp2\"\ncells = [\"01\"]", Some(SceneError::Range)),
+            (
+                "gas = \"hpp\"\nchirality = \"left\"\ncells = [\"10\"]",
+                Some(SceneError::BadCell(0, 0)),
+            ),
+            (
+                "gas = \"fhp-rest\"\ncells = [\"80\"]",
+                Some(SceneError::BadCell(0, 0)),
+            ),
+            (
+                "gas = \"fhp1\"\nchirality = \"left\"\ncells = [\"0101\", \"0g\"]",
+                Some(SceneError::RowLength(1)),
+            ),
+            (
+                "gas = \"fhp1\"\nchirality = \"left\"\ncells = [\"40\"]",
+                Some(SceneError::BadCell(0, 0)),
+            ),
+        ],
+    )?;
+    have_refusals(
+        &rt,
+        rt.alloc(),
+        "gas = \"fhp1\"\ncells = ",
+        &[
+            ("[]", Some(SceneError::Range)),
+            ("[\"01\"]", None),
+            ("[\"01\"]\ncolour = 1", Some(SceneError::UnknownKey)),
+            ("[\"01\"]\nwidth = 4", Some(SceneError::BothForms)),
+            ("[\"010\"]", Some(SceneError::RowLength(0))),
+            ("[\"01\", \"0g\"]", Some(SceneError::BadCell(1, 0))),
+            ("[\"é.\"]", Some(SceneError::RowLength(0))),
+            ("[\"é\"]", Some(SceneError::BadCell(0, 0))),
+        ],
+    )
 }
 
 // The version decides whether there may be a generation. What is no version counts as 1.
 #[test]
 fn versions(rt: HostRuntime) -> Result<(), Fail> {
-    let cases = [
-        ("version = 1", None),
-        ("version = 2", None),
-        ("version = 0", Some(SceneError::Range)),
-        ("version = 3", Some(SceneError::Range)),
-        ("version = -2", Some(SceneError::Range)),
-        ("version = \"1\"", Some(SceneError::WrongType)),
-        ("version = \"2\"", Some(SceneError::WrongType)),
-        ("version = 2.0", Some(SceneError::WrongType)),
-        ("generation = 3", Some(SceneError::UnknownKey)),
-        ("generation = 3\nversion = 1", Some(SceneError::UnknownKey)),
-        ("generation = 3\nversion = 3", Some(SceneError::UnknownKey)),
-        (
-            "generation = 3\nversion = \"2\"",
-            Some(SceneError::UnknownKey),
-        ),
-        ("generation = 3\nversion = 2", None),
-        ("generation = -1\nversion = 2", Some(SceneError::Range)),
-        ("generation = 1000000000000\nversion = 2", None),
-        (
-            "generation = 1000000000001\nversion = 2",
-            Some(SceneError::Range),
-        ),
-        (
-            "generation = \"1\"\nversion = 2",
-            Some(SceneError::WrongType),
-        ),
-    ];
-    for form in ["cells = [\"01\"]", "width = 3\nheight = 2"] {
-        let first = format!(in rt.alloc(); "gas = \"fhp1\"\n{form}")?;
-        have_refusals(&rt, rt.alloc(), first.as_str(), &cases)?;
-    }
-    Ok(())
-}
-
-// The sides of an area: at most 4096 cells under version 1.
-#[test]
-fn sides(rt: HostRuntime) -> Result<(), Fail> {
     have_refusals(
         &rt,
         rt.alloc(),
-        "gas = \"fhp1\"",
+        "gas = \"fhp1\"\ncells = [\"01\"]\n",
         &[
-            ("width = 4096\nheight = 1", None),
-            ("width = 4097\nheight = 1", Some(SceneError::Range)),
-            ("width = 1\nheight = 4096", None),
-            ("width = 1\nheight = 4097", Some(SceneError::Range)),
+            ("version = 3", Some(SceneError::Range)),
+            ("version = \"1\"", Some(SceneError::WrongType)),
+            ("version = \"2\"", Some(SceneError::WrongType)),
+            ("generation = 3", Some(SceneError::UnknownKey)),
+            ("generation = 3\nversion = 1", Some(SceneError::UnknownKey)),
+            ("generation = 3\nversion = 3", Some(SceneError::UnknownKey)),
             (
-                "version = 1\nwidth = 4097\nheight = 1",
+                "generation = 3\nversion = \"2\"",
+                Some(SceneError::UnknownKey),
+            ),
+            ("version = 2\ngeneration = -1", Some(SceneError::Range)),
+            (
+                "version = 2\ngeneration = 1000000000001",
                 Some(SceneError::Range),
             ),
             (
-                "version = 2\nwidth = 65537\nheight = 1",
-                Some(SceneError::Range),
-            ),
-            (
-                "version = 2\nwidth = 1\nheight = 65537",
-                Some(SceneError::Range),
-            ),
-            (
-                "version = 2\nwidth = 0\nheight = 1",
-                Some(SceneError::Range),
+                "version = 2\ngeneration = \"1\"",
+                Some(SceneError::WrongType),
             ),
         ],
     )
 }
 
-// Areas: the keys beside the gas and the size.
+// The keys beside the gas and the size, and the sides of an area.
 #[test]
 fn areas(rt: HostRuntime) -> Result<(), Fail> {
     have_refusals(
         &rt,
         rt.alloc(),
-        "gas = \"fhp1\"\nwidth = 4\nheight = 2",
+        "gas = \"fhp1\"\n",
         &[
-            ("solid = [[0, 0, 2, 1], [1, 0, 2, 2]]\nrate = 1000", None),
             (
-                "solid = [[0, 0, 2, 1], [1, 0, 2, 2]]\nparticles = [[1, 0, 1]]",
+                "width = 4\nheight = 3\nparticles = [[4, 0, 1]]",
                 Some(SceneError::Range),
             ),
             (
-                "solid = [[0, 0, 2, 1], [1, 0, 2, 2]]\nparticles = [[0, 1, 64]]",
+                "width = 4\nheight = 3\nsolid = [[0, 0, 9223372036854775807, 1]]",
                 Some(SceneError::Range),
             ),
-            ("solid = [[3, 0, 2, 1]]", Some(SceneError::Range)),
             (
-                "solid = [[0, 0, 9223372036854775807, 1]]",
+                "width = 4\nheight = 3\nparticles = [[-1, 0, 1]]",
                 Some(SceneError::Range),
             ),
-            ("particles = [[-1, 0, 1]]", Some(SceneError::Range)),
-            ("seed = -1", Some(SceneError::Range)),
-            ("rate = 1.0", Some(SceneError::WrongType)),
-            ("rate = 1001", Some(SceneError::Range)),
-            ("[[solid]]", Some(SceneError::WrongType)),
-            ("[x]", Some(SceneError::UnknownKey)),
-            ("solid = [[0, 0, 1]]", Some(SceneError::WrongType)),
-            ("particles = [[0, 0, 1, 1]]", Some(SceneError::WrongType)),
+            ("width = 4\nheight = 3\nseed = -1", Some(SceneError::Range)),
+            (
+                "width = 4\nheight = 3\nrate = 1.0",
+                Some(SceneError::WrongType),
+            ),
+            (
+                "width = 4\nheight = 2\nsolid = [[0, 0, 2, 1], [1, 0, 2, 2]]\nparticles = [[1, 0, 1]]",
+                Some(SceneError::Range),
+            ),
+            (
+                "width = 4\nheight = 2\nsolid = [[0, 0, 2, 1], [1, 0, 2, 2]]\nparticles = [[0, 1, 64]]",
+                Some(SceneError::Range),
+            ),
+            (
+                "width = 4\nheight = 2\nsolid = [[3, 0, 2, 1]]",
+                Some(SceneError::Range),
+            ),
+            ("width = 4097\nheight = 1", Some(SceneError::Range)),
+            (
+                "version = 2\nwidth = 65537\nheight = 1",
+                Some(SceneError::Range),
+            ),
         ],
     )
 }
 
+// Each text with which a scene begins: it lacks a key where it ends with a line or with the line's value, and is a scene once the
+// map is whole. A byte that no text has is refused too.
+#[test]
+fn cut_short(rt: HostRuntime) {
+    for length in 0..DRIFT.len() + 1 {
+        let wanted = match length {
+            0 | 12 | 13 | 31 | 32 => Some(SceneError::Missing),
+            76 | 77 => None,
+            _ => Some(SceneError::Syntax),
+        };
+        let refusal = refusal(rt.alloc(), &DRIFT.as_bytes()[..length]);
+        assert!(rt; refusal == wanted, "{length}");
+    }
+    assert!(rt; refusal(rt.alloc(), &[0xff]) == Some(SceneError::Syntax));
+}
+
 // A map of so many rows, of so many empty cells each.
-fn empty_map(alloc: Global, cells: u32, rows: u32) -> Result<String, AllocError> {
+fn empty_map(alloc: Global, cells: usize, rows: usize) -> Result<String, AllocError> {
+    let row = "..".repeat(alloc, cells)?;
     let mut text = String::from_str(alloc, "gas = \"fhp1\"\ncells = [")?;
     for _ in 0..rows {
         text.push_str("\"")?;
-        for _ in 0..cells {
-            text.push_str("..")?;
-        }
+        text.push_str(row.as_str())?;
         text.push_str("\", ")?;
     }
     text.push_str("]")?;
     Ok(text)
 }
 
-// The limits of a map under version 1: 4096 cells in a row, and 4096 rows.
+// A row of 8194 points, and 4097 rows.
 #[test]
 fn large_maps(rt: HostRuntime) -> Result<(), Fail> {
     for (cells, rows, wanted) in [
-        (4096, 1, None),
-        (4097, 1, Some(SceneError::RowLength(0))),
-        (1, 4096, None),
-        (1, 4097, Some(SceneError::Range)),
+        (4097, 1, SceneError::RowLength(0)),
+        (1, 4097, SceneError::Range),
     ] {
         let text = empty_map(rt.alloc(), cells, rows)?;
         let refusal = refusal(rt.alloc(), text.as_str().as_bytes());
-        assert!(rt; refusal == wanted, "{cells} {rows}");
+        assert!(rt; refusal == Some(wanted), "{cells} {rows}");
     }
     Ok(())
-}
-
-// Two characters are a solid or an empty cell only where both are its mark.
-#[test]
-fn marks(rt: HostRuntime) -> Result<(), Fail> {
-    have_refusals(
-        &rt,
-        rt.alloc(),
-        "gas = \"hpp\"",
-        &[
-            ("cells = [\"##\"]", None),
-            ("cells = [\"..\"]", None),
-            ("cells = [\"#.\"]", Some(SceneError::BadCell(0, 0))),
-            ("cells = [\".#\"]", Some(SceneError::BadCell(0, 0))),
-            ("cells = [\"..#0\"]", Some(SceneError::BadCell(0, 1))),
-            ("cells = [\"##.0\"]", Some(SceneError::BadCell(0, 1))),
-        ],
-    )
 }
