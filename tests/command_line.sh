@@ -193,6 +193,9 @@ printf 'gas = "fhp1"\nwidth = 4096\nheight = 512\n' > "$room/wide"
 } | head -c 10 > /dev/null
 [ "$(cat "$room/status")" = 4 ] && grep -qx 'write: failed after [0-9]* bytes' "$room/err"
 count "a reader that leaves is a failed write, and no signal"
+(trap '' XFSZ; ulimit -f 1; exec "$program" run --generations 0 < "$room/wide" > "$room/out" 2> "$room/err")
+[ $? = 4 ] && [ "$(cat "$room/err")" = "write: failed after 1024 bytes" ] && [ "$(wc -c < "$room/out")" = 1024 ]
+count "a write that fails in mid-stream tells how many bytes went out"
 "$program" run --generations x < . > "$room/out" 2> "$room/err"
 [ $? = 2 ] && [ ! -s "$room/out" ]
 count "the words are refused before the input is read"

@@ -5,6 +5,4 @@ pub mod faults;
 pub mod input;
 pub mod output;
 pub mod table;
-#[cfg(test)]
-mod tests;
 pub mod text;

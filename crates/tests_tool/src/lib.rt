@@ -1,7 +1,15 @@
-//! Tests of the command line's words, and of what the tool sends for them, on worked examples.
+//! Tests of the words of the command line, of what comes in and of what goes out, on worked examples.
 #![tactic(auto)]
 
 #[cfg(test)]
-mod tool;
+mod helpers;
+#[cfg(test)]
+mod input;
+#[cfg(test)]
+mod memory;
+#[cfg(test)]
+mod output;
+#[cfg(test)]
+mod perform;
 #[cfg(test)]
 mod words;

@@ -1,8 +1,0 @@
-//! Tests of what no clause says.
-
-mod cells;
-mod faults;
-mod helpers;
-mod input;
-mod output;
-mod table;

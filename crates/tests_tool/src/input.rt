@@ -1,0 +1,107 @@
+//! Reading the whole input, and how often it reads.
+
+use super::helpers::DRIFT;
+use gas_tool_io::input::slurp;
+use std::alloc::Global;
+use std::io;
+use std::io::{ErrorKind, Read};
+use std::process::Abort;
+use std::test::Fail;
+
+/// Gives `left` bytes, at most `most` a read: those of a text, and then what stands in the buffer. It counts its reads, of which the
+/// one with the number `fails_at` fails.
+#[derive(Drop)]
+struct Given<'a> {
+    text: &'a [u8],
+    left: usize,
+    most: usize,
+    reads: usize,
+    fails_at: usize,
+}
+
+impl Read for Given<'_> {
+    fn read(&mut self, buf: &mut [u8]) -> io::Result<usize> {
+        self.reads = self.reads.wrapping_add(1);
+        if self.reads == self.fails_at {
+            return Err(io::Error::from(ErrorKind::Other));
+        }
+        let count = buf.len().min(self.most).min(self.left);
+        let (now, later) = self.text.split_at(count.min(self.text.len()));
+        buf[..now.len()].copy_from_slice(now);
+        self.text = later;
+        self.left -= count;
+        Ok(count)
+    }
+}
+
+// A reader of the scene, a byte a read.
+fn scene(fails_at: usize) -> Given<'static> {
+    let text = DRIFT.as_bytes();
+    Given {
+        text,
+        left: text.len(),
+        most: 1,
+        reads: 0,
+        fails_at,
+    }
+}
+
+#[test]
+fn byte_by_byte(rt: HostRuntime) -> Result<(), Fail> {
+    let mut reader = scene(usize::MAX);
+    assert!(rt; slurp(rt.alloc(), &mut reader)?.as_slice() == DRIFT.as_bytes());
+    assert_eq!(rt; reader.reads, DRIFT.len() + 1);
+    Ok(())
+}
+
+// How many bytes come, or the fault's line.
+fn answer(alloc: Global, reader: &mut Given<'_>) -> Result<String, Fail> {
+    Ok(match slurp(alloc, reader) {
+        Ok(text) => format!(in alloc; "{count} bytes", count = text.len())?,
+        Err(fault) => format!(in alloc; "{fault}")?,
+    })
+}
+
+#[test]
+fn second_read_fails(rt: HostRuntime) -> Result<(), Fail> {
+    let mut reader = scene(2);
+    let answer = answer(rt.alloc(), &mut reader)?;
+    assert_eq!(rt; answer.as_str(), "input: read failed");
+    assert_eq!(rt; reader.reads, 2);
+    Ok(())
+}
+
+// A reader of so many bytes, so many a read, is answered so, in so many reads at most.
+fn answers(
+    rt: &impl Abort,
+    alloc: Global,
+    left: usize,
+    most: usize,
+    wanted: &str,
+) -> Result<(), Fail> {
+    let mut reader = Given {
+        text: &[],
+        left,
+        most,
+        reads: 0,
+        fails_at: usize::MAX,
+    };
+    let answer = answer(alloc, &mut reader)?;
+    assert_eq!(rt; answer.as_str(), wanted, "{left} {most}");
+    assert!(rt; reader.reads <= 67_108_865, "{left} {most}");
+    Ok(())
+}
+
+#[test]
+fn longest_input(rt: HostRuntime) -> Result<(), Fail> {
+    for most in [1, usize::MAX] {
+        for (left, wanted) in [
+            (67_108_864, "67108864 bytes"),
+            (67_108_865, "input: too long"),
+            (usize::MAX, "input: too long"),
+        ] {
+            answers(&rt, rt.alloc(), left, most, wanted)?;
+        }
+    }
+    Ok(())
+}

@@ -1,4 +1,0 @@
-mod helpers;
-mod perform;
-mod replay;
-mod statuses;
