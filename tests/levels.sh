@@ -11,8 +11,7 @@ failed=0
 levels=(x86-64-v2)
 if /lib64/ld-linux-x86-64.so.2 --help 2> /dev/null | grep -q 'x86-64-v3 (supported'; then levels+=(x86-64-v3); fi
 for level in "${levels[@]}"; do
-    (cd crates/fhpgas && rt run --cpu "$level" -- --help) > "$room/log" 2>&1 || { tail -n 20 "$room/log"; exit 1; }
-    echo "$level" > crates/fhpgas/out/level
+    FHPGAS_CPU=$level ./build.sh > "$room/log" 2>&1 || { tail -n 20 "$room/log"; exit 1; }
     cp crates/fhpgas/out/fhpgas "$room/$level"
 done
 
