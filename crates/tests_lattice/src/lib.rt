@@ -1,4 +1,4 @@
-//! Tests of the gases' tables, of rows, masks, lattices and channels, of cells as text, blocks and stages on worked examples.
+//! Tests of the gases' tables, of rows, random bits, cells as text, blocks and stages on worked examples.
 #![tactic(auto)]
 
 #[cfg(test)]
@@ -6,7 +6,11 @@ mod blocks;
 #[cfg(test)]
 mod cells;
 #[cfg(test)]
-mod gases;
+mod collisions;
+#[cfg(test)]
+mod directions;
+#[cfg(test)]
+mod random_bits;
 #[cfg(test)]
 mod rows;
 #[cfg(test)]

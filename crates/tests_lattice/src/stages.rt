@@ -1,3 +1,4 @@
+// Passes of a stage, and rows that are streamed by themselves.
 ghost use Rattle.std.specs.Prelude.{◌≡◌, length, IfOk, IsOk, None};
 ghost use Rattle.gas_geom.specs.Channel.{free_channel};
 
@@ -7,13 +8,10 @@ use gas_rows::channel::Channel;
 use gas_rows::chirality::Chirality;
 use gas_rows::row::Row;
 use gas_stage::stage::Stage;
+use gas_stage::stream::stream_row;
 use std::alloc::Global;
 use std::process::Abort;
 use std::test::Fail;
-
-mod obstacles;
-mod seams;
-mod stages;
 
 // The only cell of a row that holds particles: its column and its state. Where the state is 0, the
 // row is empty.
@@ -104,4 +102,71 @@ fn first_pass(
         rows,
         Some(last),
     )
+}
+
+// A pass that computes, and one of the same stage that passes rows on.
+#[test]
+fn one_row(rt: HostRuntime) -> Result<(), Fail> {
+    let alloc = rt.alloc();
+    let channel = channel_of(alloc, 4, 1)?;
+    let mut stage = Stage::new(alloc, &channel, Chirality::Left)?;
+    let computed = [((0, 0x01), None)];
+    pass(
+        &rt,
+        alloc,
+        &mut stage,
+        &channel,
+        Some(0),
+        &computed,
+        Some((1, 0x01)),
+    )?;
+    let passed_on = [((0, 0x01), Some((0, 0x01)))];
+    pass(&rt, alloc, &mut stage, &channel, None, &passed_on, None)
+}
+
+#[test]
+fn two_rows(rt: HostRuntime) -> Result<(), Fail> {
+    let channel = channel_of(rt.alloc(), 4, 2)?;
+    let rows = [((0, 0x20), None), ((2, 0x02), Some((3, 0x02)))];
+    first_pass(&rt, rt.alloc(), &channel, 0, &rows, (0, 0x20))
+}
+
+// From the first column to the last of the widest channel.
+#[test]
+fn west_across_the_seam(rt: HostRuntime) -> Result<(), Fail> {
+    let channel = channel_of(rt.alloc(), 65536, 1)?;
+    let west = [((0, 0x08), None)];
+    first_pass(&rt, rt.alloc(), &channel, 0, &west, (65535, 0x08))
+}
+
+// Round the columns to the other side of an obstacle.
+#[test]
+fn round_to_an_obstacle(rt: HostRuntime) -> Result<(), Fail> {
+    let mut channel = channel_of(rt.alloc(), 4, 1)?;
+    channel.make_solid(1, 0);
+    let west = [((0, 0x08), None)];
+    first_pass(&rt, rt.alloc(), &channel, 1, &west, (3, 0x08))
+}
+
+#[test]
+fn east_across_the_seam(rt: HostRuntime) -> Result<(), Fail> {
+    let channel = channel_of(rt.alloc(), 63, 1)?;
+    let row = row_with(rt.alloc(), channel.size(), (62, 0x01))?;
+    let mut out = row_with(rt.alloc(), channel.size(), (5, 0x3f))?;
+    stream_row(&channel, 0, None, &row, None, &mut out);
+    assert!(rt; out.as_words() == [1, 0, 0, 0, 0, 0].as_slice());
+    Ok(())
+}
+
+// An obstacle in the last column sends back what would come round to it, and what stands there is not read.
+#[test]
+fn an_obstacle_at_the_seam(rt: HostRuntime) -> Result<(), Fail> {
+    let mut channel = channel_of(rt.alloc(), 65, 1)?;
+    channel.make_solid(64, 0);
+    let mut row = row_with(rt.alloc(), channel.size(), (0, 0x08))?;
+    row.set(64, 0x3f);
+    let mut out = Row::blank(rt.alloc(), 65)?;
+    stream_row(&channel, 0, None, &row, None, &mut out);
+    assert!(rt; has_only(&out, (0, 0x01)));
+    Ok(())
 }

@@ -1,4 +1,0 @@
-mod collide64;
-mod collisions;
-mod size;
-mod tables;
