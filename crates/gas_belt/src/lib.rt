@@ -7,8 +7,6 @@ mod outlet;
 mod pair;
 pub mod rx;
 mod spares;
-#[cfg(test)]
-mod tests;
 pub mod tx;
 
 pub use pair::belt;

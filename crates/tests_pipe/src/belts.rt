@@ -1,107 +1,149 @@
-// A worker between two belts of threads.
+// Belts between threads.
+ghost use Rattle.std.specs.Prelude.{◌≡◌};
+
 use gas_belt::belt;
+use gas_belt::carried::meet;
 use gas_belt::rx::Rx;
 use gas_belt::tx::Tx;
 use gas_geom::fhp1::Fhp1;
-use gas_geom::size::Size;
-use gas_pipe::ends::Turned::{Done, Idle, Put, Took};
-use gas_pipe::ends::{PutEnd, TakeEnd, Turned};
-use gas_pipe::worker::Worker;
-use gas_rows::channel::Channel;
-use gas_rows::chirality::Chirality;
 use gas_rows::row::Row;
 use std::alloc::{AllocError, Global};
 use std::process::Abort;
-use std::test::Fail;
 
-// The helpers promise nothing, so that the test does not carry the promises of all its turns.
+mod steps;
+mod threads;
 
-// Two belts of one place each, of rows of four cells, with a worker between them: it takes from the
-// first and puts on the last.
-#[derive(Drop)]
-struct Belts {
-    feed: Tx<Fhp1>,
-    take: Rx<Fhp1>,
-    put: Tx<Fhp1>,
-    came: Rx<Fhp1>,
+// A row that tells a number below 4096 by its first cell and its last, of at least two cells.
+fn numbered(alloc: Global, width: u32, number: u32) -> Result<Row<Fhp1>, AllocError> {
+    let width = width.clamp(2, 65536);
+    let mut row = Row::blank(alloc, width)?;
+    row.set(0, (number % 64) as u8);
+    row.set(width - 1, (number / 64 % 64) as u8);
+    Ok(row)
 }
 
-impl Belts {
-    fn new(alloc: Global) -> Result<Belts, AllocError> {
-        let (feed, take) = belt(alloc, 1, 4)?;
-        let (put, came) = belt(alloc, 1, 4)?;
-        Ok(Belts {
-            feed,
-            take,
-            put,
-            came,
-        })
-    }
+fn number(row: &Row<Fhp1>) -> u32 {
+    let last = row.width() - 1;
+    u32::from(row.get(0)) + 64 * u32::from(row.get(last))
 }
 
-// A worker that has begun to pass rows on.
-fn worker(alloc: Global, channel: &Channel) -> Result<Worker<'_, Fhp1>, AllocError> {
-    let mut worker = Worker::new(alloc, channel, Chirality::Left)?;
-    worker.begin(None);
-    Ok(worker)
+// What is done with a belt, and what has to come of it. Rows are told by their numbers.
+#[derive(Clone, Copy, Debug)]
+enum Step {
+    // A row is put, put where rows may gather, or handed back.
+    Put(u32),
+    Gathered(u32),
+    PutBack(u32),
+    GatheredBack(u32),
+    // A row of another width, so many cells, is handed back.
+    OtherBack(u32),
+    // Rows that gathered are shown, or there were none.
+    Shown,
+    NothingShown,
+    Spare(u32),
+    NoSpare,
+    Taken(u32),
+    NothingTaken,
+    // A buffer of so many cells is given. So many are held.
+    Given(u32),
+    Held(u32),
 }
 
-fn turn(rt: &impl Abort, worker: &mut Worker<'_, Fhp1>, belts: &mut Belts, answer: Turned) {
-    assert!(rt; worker.turn(&mut belts.take, &mut belts.put) == answer);
+// Whether there is a row of so many cells, with that number.
+fn is_numbered(row: Option<Row<Fhp1>>, width: u32, n: u32) -> bool {
+    row.is_some_and(|row| row.width() == width && number(&row) == n)
 }
 
-// Puts a row with this state, of a gas of six directions, in its first cell.
-fn put(rt: &impl Abort, alloc: Global, feed: &mut Tx<Fhp1>, state: u8) -> Result<(), Fail> {
-    if state >= 64 {
-        return Err("a state")?;
-    }
-    let mut row = Row::blank(alloc, 4)?;
-    row.set(0, state);
-    assert!(rt; PutEnd::try_put(feed, row).is_ok());
-    Ok(())
+// Does a step with the end that rows are put on, and says whether it came as it has to.
+fn send(alloc: Global, tx: &mut Tx<Fhp1>, width: u32, step: Step) -> Result<bool, AllocError>
+    ensures { tx.new.belt ≡ tx.old.belt }
+{
+    Ok(match step {
+        Step::Put(n) => tx.try_put(numbered(alloc, width, n)?).is_ok(),
+        Step::Gathered(n) => tx.try_gather(numbered(alloc, width, n)?).is_ok(),
+        Step::PutBack(n) => is_numbered(tx.try_put(numbered(alloc, width, n)?).err(), width, n),
+        Step::GatheredBack(n) => {
+            is_numbered(tx.try_gather(numbered(alloc, width, n)?).err(), width, n)
+        }
+        Step::OtherBack(cells) => is_numbered(
+            tx.try_put(numbered(alloc, cells, 5)?).err(),
+            cells,
+            5,
+        ),
+        Step::Shown => tx.publish(),
+        Step::NothingShown => !tx.publish(),
+        Step::Spare(n) => is_numbered(tx.spare(), width, n),
+        Step::NoSpare => tx.spare().is_none(),
+        _ => true,
+    })
 }
 
-fn takes(rt: &impl Abort, came: &mut Rx<Fhp1>, state: u8) -> Result<(), Fail> {
-    let row = TakeEnd::try_take(came).ok_or("a row")?;
-    assert!(rt; row.width() == 4);
-    assert!(rt; row.get(0) == state);
-    Ok(())
+// Does a step with the end that rows are taken from, and says whether it came as it has to.
+fn receive(alloc: Global, rx: &mut Rx<Fhp1>, width: u32, step: Step) -> Result<bool, AllocError>
+    ensures { rx.new.belt ≡ rx.old.belt }
+{
+    Ok(match step {
+        Step::Taken(n) => is_numbered(rx.try_take(), width, n),
+        Step::NothingTaken => rx.try_take().is_none(),
+        Step::Given(cells) => {
+            rx.give(numbered(alloc, cells, 0)?);
+            true
+        }
+        Step::Held(n) => rx.held() == n,
+        _ => true,
+    })
 }
 
-// A row goes from the belt before to that behind.
-fn passes_on(
+// Does the steps one after another, each of which has to come so.
+fn play(
     rt: &impl Abort,
     alloc: Global,
-    worker: &mut Worker<'_, Fhp1>,
-    belts: &mut Belts,
-    state: u8,
-) -> Result<(), Fail> {
-    put(rt, alloc, &mut belts.feed, state)?;
-    turn(rt, worker, belts, Took);
-    turn(rt, worker, belts, Put);
-    takes(rt, &mut belts.came, state)
-}
-
-// Two rows go through a worker, one after the other.
-fn two_rows_pass(
-    rt: &impl Abort,
-    alloc: Global,
-    channel: &Channel,
-    belts: &mut Belts,
-) -> Result<(), Fail> {
-    let mut worker = worker(alloc, channel)?;
-    turn(rt, &mut worker, belts, Idle);
-    for state in [0x01, 0x02] {
-        passes_on(rt, alloc, &mut worker, belts, state)?;
+    tx: &mut Tx<Fhp1>,
+    rx: &mut Rx<Fhp1>,
+    width: u32,
+    steps: &[Step],
+) -> Result<(), AllocError>
+    ensures sent { tx.new.belt ≡ tx.old.belt }
+    ensures received { rx.new.belt ≡ rx.old.belt }
+{
+    for &step in steps {
+        assert!(rt; send(alloc, tx, width, step)?, "{step:?}");
+        assert!(rt; receive(alloc, rx, width, step)?, "{step:?}");
     }
-    turn(rt, &mut worker, belts, Done);
     Ok(())
 }
 
-#[test]
-fn a_worker_between_two_belts(rt: HostRuntime) -> Result<(), Fail> {
-    let size = Size::new(4, 2).ok_or("a size")?;
-    let channel = Channel::free(rt.alloc(), size)?;
-    let mut belts = Belts::new(rt.alloc())?;
-    two_rows_pass(&rt, rt.alloc(), &channel, &mut belts)
+// Takes the next row, which becomes a buffer, and says whether it has this number.
+fn is_next(rx: &mut Rx<Fhp1>, n: u32) -> bool
+    ensures { rx.new.belt ≡ rx.old.belt }
+{
+    let Some(row) = rx.try_take() else {
+        return false;
+    };
+    let is_next = number(&row) == n;
+    rx.give(row);
+    is_next
+}
+
+// Takes the rows with these numbers, which are the last ones.
+fn take_last(rt: &impl Abort, rx: &mut Rx<Fhp1>, numbers: &[u32])
+    ensures { rx.new.belt ≡ rx.old.belt }
+{
+    for &n in numbers {
+        assert!(rt; is_next(rx, n), "row {n}");
+    }
+    assert!(rt; rx.try_take().is_none());
+}
+
+// Closes a belt on which the rows with these numbers are left. Its ends meet once these are taken and not
+// before. It says how many rows the belt carried, or None where they met otherwise.
+fn carried(rt: &impl Abort, tx: Tx<Fhp1>, rx: Rx<Fhp1>, left: &[u32]) -> Option<u64>
+    requires { tx.belt ≡ rx.belt }
+{
+    if left.is_empty() {
+        return Some(meet(tx.close(), rx).ok()?.len());
+    }
+    let (spent, mut rx) = meet(tx.close(), rx).err()?;
+    take_last(rt, &mut rx, left);
+    Some(meet(spent, rx).ok()?.len())
 }

@@ -2,7 +2,7 @@
 use gas_geom::fhp1::Fhp1;
 use gas_geom::size::Size;
 use gas_pipe::ends::Turned::{Done, Idle, Put, Stray, Took};
-use gas_pipe::ends::{PutEnd, TakeEnd, Turned};
+use gas_pipe::ends::{PutEnd, Turned};
 use gas_pipe::feeder::Feeder;
 use gas_pipe::plain_belt::PlainBelt;
 use gas_pipe::plan::{Plan, PlanError};
@@ -21,16 +21,6 @@ use std::test::Fail;
 fn channel(alloc: Global, height: u32) -> Result<Channel, Fail> {
     let size = Size::new(4, height).ok_or("a size")?;
     Ok(Channel::free(alloc, size)?)
-}
-
-// A row with this state in its first cell, and none in the others.
-fn row(alloc: Global, width: u32, first: u8) -> Result<Row<Fhp1>, Fail> {
-    if width < 1 || width > 5 || first >= 64 {
-        return Err("a row")?;
-    }
-    let mut row = Row::blank(alloc, width)?;
-    row.set(0, first);
-    Ok(row)
 }
 
 // The row has one particle, which goes east in this column, or, where it has no such column, none.
@@ -101,88 +91,37 @@ fn turn_feeder(rt: &impl Abort, feeder: &mut Feeder<Fhp1>, belts: &mut Belts, an
     assert!(rt; feeder.turn(&mut belts.first, &mut belts.last) == answer);
 }
 
-fn put(rt: &impl Abort, belt: &mut PlainBelt<Fhp1>, row: Row<Fhp1>) {
-    assert!(rt; belt.try_put(row).is_ok());
-}
-
-fn take(belt: &mut PlainBelt<Fhp1>) -> Option<Row<Fhp1>> {
-    belt.try_take()
-}
-
-// Three rows come, and in the middle one a particle goes east from its first cell.
-fn three_rows_come(rt: &impl Abort, alloc: Global, belts: &mut Belts) -> Result<(), Fail> {
-    for state in [0x00, 0x01, 0x00] {
-        put(rt, &mut belts.first, row(alloc, 4, state)?);
-    }
-    Ok(())
-}
-
-// Three rows went, and no more, and in the middle one the particle is in this column.
-fn three_rows_went(rt: &impl Abort, belts: &mut Belts, column: u32) -> Result<(), Fail> {
-    for particle in [4, column, 4] {
-        let row = take(&mut belts.last).ok_or("a row")?;
-        row_is(rt, &row, particle);
-    }
-    assert!(rt; take(&mut belts.last).is_none());
-    Ok(())
-}
-
-// One pass over a lattice of four columns and three rows, in which one particle goes east from
-// (0, 1): the answers to the turns of one worker, and the column to which the particle came.
-fn pass(
+// Puts an empty row that is wider than the channel, and one that is as wide.
+fn put_strays(
     rt: &impl Abort,
     alloc: Global,
-    generation: Option<u64>,
-    answers: &[Turned],
-    column: u32,
-) -> Result<(), Fail> {
-    let channel = channel(alloc, 3)?;
-    let mut belts = Belts::new(alloc, 3)?;
-    let mut worker = worker(alloc, &channel, generation)?;
-    turn_worker(rt, &mut worker, &mut belts, Idle);
-    three_rows_come(rt, alloc, &mut belts)?;
-    for answer in answers {
-        turn_worker(rt, &mut worker, &mut belts, *answer);
+    belt: &mut PlainBelt<Fhp1>,
+) -> Result<(), AllocError> {
+    for width in [5, 4] {
+        assert!(rt; belt.try_put(Row::blank(alloc, width)?).is_ok());
     }
-    three_rows_went(rt, &mut belts, column)
-}
-
-#[test]
-fn a_worker_computes(rt: HostRuntime) -> Result<(), Fail> {
-    let answers = [Took, Took, Put, Took, Put, Put, Done, Done];
-    pass(&rt, rt.alloc(), Some(0), &answers, 1)
-}
-
-#[test]
-fn a_worker_passes_on(rt: HostRuntime) -> Result<(), Fail> {
-    let answers = [Took, Put, Took, Put, Took, Put, Done, Done];
-    pass(&rt, rt.alloc(), None, &answers, 0)
-}
-
-#[test]
-fn a_row_of_another_width_is_a_stray(rt: HostRuntime) -> Result<(), Fail> {
-    let channel = channel(rt.alloc(), 3)?;
-    let mut belts = Belts::new(rt.alloc(), 1)?;
-    let mut worker = worker(rt.alloc(), &channel, Some(0))?;
-    put(&rt, &mut belts.first, row(rt.alloc(), 5, 0x00)?);
-    turn_worker(&rt, &mut worker, &mut belts, Stray);
-    turn_worker(&rt, &mut worker, &mut belts, Stray);
     Ok(())
 }
 
-// Over belts of one place each row is put, passed on by hand, and taken.
+// A row of another width is a stray, and whoever met one answers so from then on.
 #[test]
-fn a_feeder_over_two_belts(rt: HostRuntime) -> Result<(), Fail> {
-    let mut feeder = feeder(rt.alloc(), channel(rt.alloc(), 3)?)?;
-    let mut belts = Belts::new(rt.alloc(), 1)?;
-    for answer in [Idle, Took, Took] {
-        turn_feeder(&rt, &mut feeder, &mut belts, Put);
-        turn_feeder(&rt, &mut feeder, &mut belts, answer);
-        let row = take(&mut belts.first).ok_or("a row")?;
-        put(&rt, &mut belts.last, row);
+fn a_worker_meets_a_stray(rt: HostRuntime) -> Result<(), Fail> {
+    let channel = channel(rt.alloc(), 1)?;
+    let mut belts = Belts::new(rt.alloc(), 2)?;
+    let mut worker = worker(rt.alloc(), &channel, Some(0))?;
+    put_strays(&rt, rt.alloc(), &mut belts.first)?;
+    for _ in 0..3 {
+        turn_worker(&rt, &mut worker, &mut belts, Stray);
     }
-    turn_feeder(&rt, &mut feeder, &mut belts, Took);
-    turn_feeder(&rt, &mut feeder, &mut belts, Done);
+    Ok(())
+}
+
+#[test]
+fn a_feeder_meets_a_stray(rt: HostRuntime) -> Result<(), Fail> {
+    let mut feeder = feeder(rt.alloc(), channel(rt.alloc(), 1)?)?;
+    let mut belts = Belts::new(rt.alloc(), 2)?;
+    put_strays(&rt, rt.alloc(), &mut belts.last)?;
+    turns_feeder(&rt, &mut feeder, &mut belts, &[Put, Stray, Stray, Stray]);
     Ok(())
 }
 

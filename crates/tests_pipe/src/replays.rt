@@ -167,12 +167,15 @@ fn a_worker_puts_before_it_takes(rt: HostRuntime) -> Result<(), Fail> {
     Ok(())
 }
 
+// Turns of numbers that no member has.
 #[test]
 fn nobody_moves(rt: HostRuntime) -> Result<(), Fail> {
     let lattice = lattice(rt.alloc(), 3, 1)?;
-    let replay = replayed(rt.alloc(), &lattice, 2, 2, &[9, 9])?;
-    not_done(&rt, &replay);
-    belts_are(&rt, &replay, &[(0, 0), (0, 0), (0, 0)]);
+    for nobody in [9, u32::MAX] {
+        let replay = replayed(rt.alloc(), &lattice, 2, 1, &[nobody, nobody])?;
+        not_done(&rt, &replay);
+        belts_are(&rt, &replay, &[(0, 0), (0, 0), (0, 0)]);
+    }
     Ok(())
 }
 

@@ -1,4 +1,5 @@
 // Runs by threads on worked examples.
+use gas_geom::fhp_rest::FhpRest;
 use gas_geom::fhp1::Fhp1;
 use gas_geom::gas::Gas;
 use gas_geom::hpp::Hpp;
@@ -9,6 +10,7 @@ use gas_pipe::plan::Plan;
 use gas_pipe::run;
 use gas_rows::channel::Channel;
 use gas_rows::chirality::Chirality;
+use gas_rows::chirality::Chirality::{Left, Right, Seeded};
 use gas_rows::lattice::Lattice;
 use std::alloc::{AllocError, Global};
 use std::process::Abort;
@@ -17,33 +19,24 @@ use std::sync::atomic::{AtomicU64, Ordering};
 use std::test::Fail;
 use std::thread::Threads;
 
-// How a solid cell stands in a list of cells; a gas has no such state.
+// The helpers promise nothing, so that no test carries the promises of `run`.
+
+// A column, a row, and the state of the cell there, or SOLID, which is no state of a gas.
+type Cell = (u32, u32, u8);
+
 const SOLID: u8 = 0xff;
 
-// The cells of a picture, row by row: each in two hexadecimal digits, or `##` where it is solid.
-fn drawn(alloc: Global, picture: &str) -> Result<Vec<u8>, Fail> {
-    let mut cells = Vec::new(alloc);
-    for word in picture.split_whitespace() {
-        let cell = match word {
-            "##" => SOLID,
-            _ => u8::from_str_radix(word, 16)?,
-        };
-        cells.push(cell)?;
-    }
-    Ok(cells)
-}
-
-// One row that is empty but for this cell.
-fn one_in_a_row(alloc: Global, width: u32, column: u32, state: u8) -> Result<Vec<u8>, AllocError> {
-    let mut cells = Vec::new(alloc);
-    for x in 0..width {
-        cells.push(if x == column { state } else { 0x00 })?;
-    }
-    Ok(cells)
+// A lattice of so many columns and rows, in which all other cells are empty, and the cells that are not
+// empty after so many generations, row by row.
+struct Example {
+    size: (u32, u32),
+    chirality: Chirality,
+    before: &'static [Cell],
+    after: &'static [(u64, &'static [Cell])],
 }
 
 // Sets a cell or makes it solid, if the lattice has it and it is not solid.
-fn set<G: Gas>(lattice: &mut Lattice<G>, x: u32, y: u32, cell: u8) {
+fn set<G: Gas>(lattice: &mut Lattice<G>, (x, y, cell): Cell) {
     let size = lattice.channel().size();
     if x >= size.width() || y >= size.height() || lattice.channel().is_solid(x, y) {
         return;
@@ -55,45 +48,53 @@ fn set<G: Gas>(lattice: &mut Lattice<G>, x: u32, y: u32, cell: u8) {
     }
 }
 
-// The lattice of these cells.
-fn lattice<G: Gas>(alloc: Global, size: Size, cells: &[u8]) -> Result<Lattice<G>, AllocError> {
+// The lattice with these cells.
+fn lattice<G: Gas>(alloc: Global, size: Size, cells: &[Cell]) -> Result<Lattice<G>, AllocError> {
     let mut lattice = Lattice::blank(alloc, Channel::free(alloc, size)?)?;
-    let mut cells = cells.iter();
-    for y in 0..size.height() {
-        for x in 0..size.width() {
-            if let Some(cell) = cells.next() {
-                set(&mut lattice, x, y, *cell);
-            }
-        }
+    for cell in cells {
+        set(&mut lattice, *cell);
     }
     Ok(lattice)
 }
 
-// The cells of a lattice. A solid cell that holds particles stands as they do.
-fn seen<G: Gas>(alloc: Global, lattice: &Lattice<G>) -> Result<Vec<u8>, AllocError> {
+// A cell of a lattice. One that is solid and holds particles stands as they do.
+fn cell<G: Gas>(lattice: &Lattice<G>, x: u32, y: u32) -> u8 {
+    let size = lattice.channel().size();
+    if x >= size.width() || y >= size.height() {
+        return 0x00;
+    }
+    match lattice.cell(x, y) {
+        0x00 if lattice.channel().is_solid(x, y) => SOLID,
+        state => state,
+    }
+}
+
+// The cells of a lattice that are not empty, row by row.
+fn seen<G: Gas>(alloc: Global, lattice: &Lattice<G>) -> Result<Vec<Cell>, AllocError> {
     let size = lattice.channel().size();
     let mut cells = Vec::new(alloc);
     for y in 0..size.height() {
         for x in 0..size.width() {
-            let state = lattice.cell(x, y);
-            let solid = lattice.channel().is_solid(x, y) && state == 0x00;
-            cells.push(if solid { SOLID } else { state })?;
+            let cell = cell(lattice, x, y);
+            if cell != 0x00 {
+                cells.push((x, y, cell))?;
+            }
         }
     }
     Ok(cells)
 }
 
-// A run over belts of one place. It promises nothing, so that no test carries the promises of `run`.
-fn ran<G: Gas + Send, R: Threads + Wait + Sync>(
+fn ran<G: Gas + Send, R: Threads + Wait + Sync, T: Gate + Sync>(
     rt: &R,
     alloc: Global,
     lattice: &Lattice<G>,
     chirality: Chirality,
-    stages: u32,
-    generations: u64,
+    first: u64,
+    plan: Plan,
+    gate: &T,
 ) -> Result<Run<G>, Fail> {
-    let plan = Plan::new(stages, 1, generations)?;
-    Ok(run(rt, alloc, lattice, chirality, 0, plan, &NoGate)?)
+    let first = first % (1 << 63);
+    Ok(run(rt, alloc, lattice, chirality, first, plan, gate)?)
 }
 
 // Each belt of a pass was gone through by this number of rows, and there is no further belt.
@@ -127,193 +128,340 @@ fn went_through<G: Gas>(rt: &impl Abort, run: &Run<G>, passes: u64, belts: u32, 
     assert!(rt; run.rows_through(passes, 0).is_none());
 }
 
-// A run of two stages over these cells gives those.
-fn run_gives<G: Gas + Send, R: Abort + Threads + Wait + Sync>(
+// A run of so many stages comes to these cells.
+fn comes_to<G: Gas + Send, R: Abort + Threads + Wait + Sync>(
     rt: &R,
     alloc: Global,
-    (width, height): (u32, u32),
-    before: &[u8],
+    lattice: &Lattice<G>,
     chirality: Chirality,
-    generations: u64,
-    after: &[u8],
+    stages: u32,
+    (generations, after): (u64, &[Cell]),
 ) -> Result<(), Fail> {
-    let size = Size::new(width, height).ok_or("a size")?;
-    let lattice = lattice::<G>(alloc, size, before)?;
-    let run = ran(rt, alloc, &lattice, chirality, 2, generations)?;
+    let plan = Plan::new(stages, 1, generations)?;
+    let run = ran(rt, alloc, lattice, chirality, 0, plan, &NoGate)?;
     assert!(rt;
         seen(alloc, run.lattice())?.as_slice() == after,
         "{generations} generations"
     );
-    assert!(rt; run.lattice().count() == lattice.count());
-    went_through(rt, &run, generations.div_ceil(2), 3, height);
+    let passes = generations.div_ceil(u64::from(stages.max(1)));
+    let height = lattice.channel().size().height();
+    went_through(rt, &run, passes, stages.wrapping_add(1), height);
     Ok(())
 }
 
-// The same of pictures.
-fn run_draws<G: Gas + Send, R: Abort + Threads + Wait + Sync>(
+fn plays<G: Gas + Send, R: Abort + Threads + Wait + Sync>(
     rt: &R,
     alloc: Global,
-    size: (u32, u32),
-    before: &str,
-    chirality: Chirality,
-    generations: u64,
-    after: &str,
+    stages: u32,
+    example: &Example,
 ) -> Result<(), Fail> {
-    let before = drawn(alloc, before)?;
-    let after = drawn(alloc, after)?;
-    run_gives::<G, R>(rt, alloc, size, &before, chirality, generations, &after)
+    let size = Size::new(example.size.0, example.size.1).ok_or("a size")?;
+    let lattice = lattice::<G>(alloc, size, example.before)?;
+    for after in example.after {
+        comes_to(rt, alloc, &lattice, example.chirality, stages, *after)?;
+    }
+    Ok(())
 }
 
-// A particle in the last column of a row of this width comes to the first.
-fn goes_round<R: Abort + Threads + Wait + Sync>(
+fn play<G: Gas + Send, R: Abort + Threads + Wait + Sync>(
     rt: &R,
     alloc: Global,
-    width: u32,
+    examples: &[Example],
 ) -> Result<(), Fail> {
-    let before = one_in_a_row(alloc, width, width.saturating_sub(1), 0x01)?;
-    let after = one_in_a_row(alloc, width, 0, 0x01)?;
-    run_gives::<Fhp1, R>(rt, alloc, (width, 1), &before, Chirality::Left, 1, &after)
+    for example in examples {
+        plays::<G, R>(rt, alloc, 2, example)?;
+    }
+    Ok(())
 }
+
+// From the last column to the first, or back.
+const ROUND_THE_COLUMNS: [Example; 8] = [
+    Example {
+        size: (4, 3),
+        chirality: Left,
+        before: &[(3, 1, 0x01)],
+        after: &[(1, &[(0, 1, 0x01)])],
+    },
+    Example {
+        size: (63, 1),
+        chirality: Left,
+        before: &[(62, 0, 0x01)],
+        after: &[(1, &[(0, 0, 0x01)])],
+    },
+    Example {
+        size: (64, 1),
+        chirality: Left,
+        before: &[(63, 0, 0x01)],
+        after: &[(1, &[(0, 0, 0x01)])],
+    },
+    Example {
+        size: (65, 1),
+        chirality: Left,
+        before: &[(64, 0, 0x01)],
+        after: &[(1, &[(0, 0, 0x01)])],
+    },
+    Example {
+        size: (65, 1),
+        chirality: Left,
+        before: &[(0, 0, 0x08)],
+        after: &[(1, &[(64, 0, 0x08)])],
+    },
+    Example {
+        size: (64, 2),
+        chirality: Left,
+        before: &[(63, 1, 0x02)],
+        after: &[(1, &[(0, 0, 0x02)])],
+    },
+    Example {
+        size: (65, 2),
+        chirality: Left,
+        before: &[(0, 0, 0x10)],
+        after: &[(1, &[(64, 1, 0x10)])],
+    },
+    Example {
+        size: (65536, 1),
+        chirality: Left,
+        before: &[(65535, 0, 0x01)],
+        after: &[(1, &[(0, 0, 0x01)])],
+    },
+];
 
 #[test]
 fn round_the_columns(rt: HostRuntime) -> Result<(), Fail> {
-    let before = "00 00 00 00  00 00 00 01  00 00 00 00";
-    let after = "00 00 00 00  01 00 00 00  00 00 00 00";
-    run_draws::<Fhp1, _>(&rt, rt.alloc(), (4, 3), before, Chirality::Left, 1, after)?;
-    goes_round(&rt, rt.alloc(), 63)?;
-    goes_round(&rt, rt.alloc(), 64)?;
-    goes_round(&rt, rt.alloc(), 65)
+    play::<Fhp1, _>(&rt, rt.alloc(), &ROUND_THE_COLUMNS)
 }
 
-// Up to the wall, and back: the particle's cell after each number of generations.
+// No step in no generation, and five columns east in five.
+const NOWHERE_AND_EAST: [Example; 2] = [
+    Example {
+        size: (4, 3),
+        chirality: Left,
+        before: &[(1, 1, 0x09)],
+        after: &[(0, &[(1, 1, 0x09)])],
+    },
+    Example {
+        size: (7, 3),
+        chirality: Left,
+        before: &[(0, 1, 0x01)],
+        after: &[(5, &[(5, 1, 0x01)])],
+    },
+];
+
 #[test]
-fn up_to_the_wall(rt: HostRuntime) -> Result<(), Fail> {
-    let pictures = [
-        "00 00 00 00  00 00 00 00  02 00 00 00",
-        "00 00 00 00  02 00 00 00  00 00 00 00",
-        "00 02 00 00  00 00 00 00  00 00 00 00",
-        "00 10 00 00  00 00 00 00  00 00 00 00",
-        "00 00 00 00  10 00 00 00  00 00 00 00",
-        "00 00 00 00  00 00 00 00  10 00 00 00",
-    ];
-    let mut generations = 0;
-    for after in pictures {
-        let before = "00 00 00 00  00 00 00 00  02 00 00 00";
-        run_draws::<Fhp1, _>(
-            &rt,
-            rt.alloc(),
-            (4, 3),
-            before,
-            Chirality::Left,
-            generations,
-            after,
-        )?;
-        generations = generations.wrapping_add(1);
-    }
+fn nowhere_and_east(rt: HostRuntime) -> Result<(), Fail> {
+    play::<Fhp1, _>(&rt, rt.alloc(), &NOWHERE_AND_EAST)
+}
+
+// Up to the wall and back, between both walls of one cell, and back from an obstacle.
+const WALLS: [Example; 3] = [
+    Example {
+        size: (4, 3),
+        chirality: Left,
+        before: &[(0, 2, 0x02)],
+        after: &[
+            (1, &[(0, 1, 0x02)]),
+            (2, &[(1, 0, 0x02)]),
+            (3, &[(1, 0, 0x10)]),
+            (4, &[(0, 1, 0x10)]),
+            (5, &[(0, 2, 0x10)]),
+        ],
+    },
+    Example {
+        size: (1, 1),
+        chirality: Left,
+        before: &[(0, 0, 0x12)],
+        after: &[
+            (1, &[(0, 0, 0x24)]),
+            (2, &[(0, 0, 0x09)]),
+            (3, &[(0, 0, 0x12)]),
+        ],
+    },
+    Example {
+        size: (4, 1),
+        chirality: Left,
+        before: &[(0, 0, 0x01), (1, 0, SOLID)],
+        after: &[
+            (1, &[(0, 0, 0x08), (1, 0, SOLID)]),
+            (2, &[(1, 0, SOLID), (3, 0, 0x08)]),
+        ],
+    },
+];
+
+#[test]
+fn walls_and_an_obstacle(rt: HostRuntime) -> Result<(), Fail> {
+    play::<Fhp1, _>(&rt, rt.alloc(), &WALLS)
+}
+
+// Pairs turned by either bit or by those of a seed, a triple, and a pair that a spectator keeps from turning.
+const COLLISIONS: [Example; 6] = [
+    Example {
+        size: (4, 3),
+        chirality: Left,
+        before: &[(1, 1, 0x09)],
+        after: &[(1, &[(2, 0, 0x02), (1, 2, 0x10)])],
+    },
+    Example {
+        size: (4, 3),
+        chirality: Right,
+        before: &[(1, 1, 0x09)],
+        after: &[(1, &[(1, 0, 0x04), (2, 2, 0x20)])],
+    },
+    Example {
+        size: (8, 3),
+        chirality: Seeded(0),
+        before: &[(1, 1, 0x09), (5, 1, 0x09)],
+        after: &[(1, &[(1, 0, 0x04), (6, 0, 0x02), (2, 2, 0x20), (5, 2, 0x10)])],
+    },
+    Example {
+        size: (33, 2),
+        chirality: Seeded(0),
+        before: &[(32, 1, 0x09)],
+        after: &[(1, &[(0, 0, 0x02), (32, 1, 0x02)])],
+    },
+    Example {
+        size: (4, 3),
+        chirality: Left,
+        before: &[(1, 1, 0x15)],
+        after: &[(1, &[(2, 0, 0x02), (0, 1, 0x08), (2, 2, 0x20)])],
+    },
+    Example {
+        size: (4, 3),
+        chirality: Left,
+        before: &[(1, 1, 0x0b)],
+        after: &[(1, &[(2, 0, 0x02), (0, 1, 0x08), (2, 1, 0x01)])],
+    },
+];
+
+#[test]
+fn collisions(rt: HostRuntime) -> Result<(), Fail> {
+    play::<Fhp1, _>(&rt, rt.alloc(), &COLLISIONS)
+}
+
+// A pair, a particle that the top wall sends back, and a triple, which passes.
+const SQUARE_GAS: [Example; 3] = [
+    Example {
+        size: (4, 3),
+        chirality: Left,
+        before: &[(1, 1, 0x05)],
+        after: &[(1, &[(1, 0, 0x02), (1, 2, 0x08)])],
+    },
+    Example {
+        size: (4, 3),
+        chirality: Left,
+        before: &[(0, 0, 0x02)],
+        after: &[(1, &[(0, 0, 0x08)]), (2, &[(0, 1, 0x08)])],
+    },
+    Example {
+        size: (4, 3),
+        chirality: Left,
+        before: &[(1, 1, 0x07)],
+        after: &[(1, &[(1, 0, 0x02), (0, 1, 0x04), (2, 1, 0x01)])],
+    },
+];
+
+#[test]
+fn the_square_gas(rt: HostRuntime) -> Result<(), Fail> {
+    play::<Hpp, _>(&rt, rt.alloc(), &SQUARE_GAS)
+}
+
+// A particle meets one at rest and later another particle, and a pair turns beside one at rest by either bit.
+const REST: [Example; 3] = [
+    Example {
+        size: (4, 3),
+        chirality: Left,
+        before: &[(1, 1, 0x41)],
+        after: &[
+            (1, &[(2, 0, 0x02), (2, 2, 0x20)]),
+            (2, &[(2, 0, 0x10), (2, 2, 0x04)]),
+            (3, &[(1, 1, 0x14)]),
+            (4, &[(0, 1, 0x08), (1, 1, 0x40)]),
+        ],
+    },
+    Example {
+        size: (4, 3),
+        chirality: Left,
+        before: &[(1, 1, 0x49)],
+        after: &[(1, &[(2, 0, 0x02), (1, 1, 0x40), (1, 2, 0x10)])],
+    },
+    Example {
+        size: (4, 3),
+        chirality: Right,
+        before: &[(1, 1, 0x49)],
+        after: &[(1, &[(1, 0, 0x04), (1, 1, 0x40), (2, 2, 0x20)])],
+    },
+];
+
+#[test]
+fn particles_at_rest(rt: HostRuntime) -> Result<(), Fail> {
+    play::<FhpRest, _>(&rt, rt.alloc(), &REST)
+}
+
+// A line of 64 workers: in the last of two passes 36 compute, and 28 pass rows on.
+const ONE_CELL: Example = Example {
+    size: (1, 1),
+    chirality: Left,
+    before: &[(0, 0, 0x12)],
+    after: &[(64, &[(0, 0, 0x24)]), (100, &[(0, 0, 0x24)])],
+};
+
+#[test]
+fn the_longest_line(rt: HostRuntime) -> Result<(), Fail> {
+    plays::<Fhp1, _>(&rt, rt.alloc(), 64, &ONE_CELL)
+}
+
+// The generation from which a run starts is no part of its length.
+#[test]
+fn from_generation_ten(rt: HostRuntime) -> Result<(), Fail> {
+    let alloc = rt.alloc();
+    let size = Size::new(4, 3).ok_or("a size")?;
+    let lattice = lattice::<Fhp1>(alloc, size, &[(3, 1, 0x01)])?;
+    let plan = Plan::new(2, 1, 1)?;
+    let run = ran(&rt, alloc, &lattice, Left, 10, plan, &NoGate)?;
+    assert!(rt; seen(alloc, run.lattice())?.as_slice() == [(0, 1, 0x01)].as_slice());
     Ok(())
 }
 
-// Collisions of two, turned by either bit or by those of a seed.
-#[test]
-fn collisions_of_two(rt: HostRuntime) -> Result<(), Fail> {
-    let before = "00 00 00 00  00 09 00 00  00 00 00 00";
-    let after = "00 00 02 00  00 00 00 00  00 10 00 00";
-    run_draws::<Fhp1, _>(&rt, rt.alloc(), (4, 3), before, Chirality::Left, 1, after)?;
-    let after = "00 04 00 00  00 00 00 00  00 00 20 00";
-    run_draws::<Fhp1, _>(&rt, rt.alloc(), (4, 3), before, Chirality::Right, 1, after)?;
-    let before = "00 00 00 00 00 00 00 00  00 09 00 00 00 09 00 00  00 00 00 00 00 00 00 00";
-    let after = "00 04 00 00 00 00 02 00  00 00 00 00 00 00 00 00  00 00 20 00 00 10 00 00";
-    run_draws::<Fhp1, _>(
-        &rt,
-        rt.alloc(),
-        (8, 3),
-        before,
-        Chirality::Seeded(0),
-        1,
-        after,
-    )
-}
-
-// A collision of three, none beside a spectator, and one of the square gas.
-#[test]
-fn other_collisions(rt: HostRuntime) -> Result<(), Fail> {
-    let before = "00 00 00 00  00 15 00 00  00 00 00 00";
-    let after = "00 00 02 00  08 00 00 00  00 00 20 00";
-    run_draws::<Fhp1, _>(&rt, rt.alloc(), (4, 3), before, Chirality::Left, 1, after)?;
-    let before = "00 00 00 00  00 0b 00 00  00 00 00 00";
-    let after = "00 00 02 00  08 00 01 00  00 00 00 00";
-    run_draws::<Fhp1, _>(&rt, rt.alloc(), (4, 3), before, Chirality::Left, 1, after)?;
-    let before = "00 00 00 00  00 05 00 00  00 00 00 00";
-    let after = "00 02 00 00  00 00 00 00  00 08 00 00";
-    run_draws::<Hpp, _>(&rt, rt.alloc(), (4, 3), before, Chirality::Left, 1, after)
-}
-
-// One cell, in which a pair meets the walls and itself.
-#[test]
-fn one_cell(rt: HostRuntime) -> Result<(), Fail> {
-    let mut generations = 0;
-    for after in ["12", "24", "09", "12"] {
-        run_draws::<Fhp1, _>(
-            &rt,
-            rt.alloc(),
-            (1, 1),
-            "12",
-            Chirality::Left,
-            generations,
-            after,
-        )?;
-        generations = generations.wrapping_add(1);
-    }
-    Ok(())
-}
-
-// A row with an obstacle, from which a particle comes back.
-#[test]
-fn one_row(rt: HostRuntime) -> Result<(), Fail> {
-    let before = "01 ## 00 00";
-    let after = "08 ## 00 00";
-    run_draws::<Fhp1, _>(&rt, rt.alloc(), (4, 1), before, Chirality::Left, 1, after)?;
-    let after = "00 ## 00 08";
-    run_draws::<Fhp1, _>(&rt, rt.alloc(), (4, 1), before, Chirality::Left, 2, after)
-}
-
-// Five columns east in five generations, and no step in none.
-#[test]
-fn east(rt: HostRuntime) -> Result<(), Fail> {
-    let before = "00 00 00 00 00 00 00  01 00 00 00 00 00 00  00 00 00 00 00 00 00";
-    let after = "00 00 00 00 00 00 00  00 00 00 00 00 01 00  00 00 00 00 00 00 00";
-    run_draws::<Fhp1, _>(&rt, rt.alloc(), (7, 3), before, Chirality::Left, 0, before)?;
-    run_draws::<Fhp1, _>(&rt, rt.alloc(), (7, 3), before, Chirality::Left, 5, after)
-}
-
-// The belts of three passes of three stages over four rows.
-fn four_belts(rt: &impl Abort, run: &Run<Fhp1>) {
-    assert!(rt; run.belts_made() == 4);
-    assert!(rt; run.rows_through(2, 3) == Some(4));
-    assert!(rt; run.rows_through(3, 0).is_none());
-    assert!(rt; run.rows_through(0, 4).is_none());
-    went_through(rt, run, 3, 4, 4);
-}
-
-// Full but for an obstacle, it stays as it is.
-#[test]
-fn a_full_lattice_in_three_passes(rt: HostRuntime) -> Result<(), Fail> {
-    let picture = "3f 3f 3f 3f 3f  3f 3f ## 3f 3f  3f 3f 3f 3f 3f  3f 3f 3f 3f 3f";
-    let cells = drawn(rt.alloc(), picture)?;
+// Five columns and four rows of this state, with an obstacle at (2, 1).
+fn full<G: Gas>(alloc: Global, state: u8) -> Result<Lattice<G>, Fail> {
     let size = Size::new(5, 4).ok_or("a size")?;
-    let full = lattice::<Fhp1>(rt.alloc(), size, &cells)?;
-    let run = ran(&rt, rt.alloc(), &full, Chirality::Left, 3, 7)?;
-    assert!(rt; seen(rt.alloc(), run.lattice())? == cells);
-    assert!(rt; run.lattice().count() == 114);
-    four_belts(&rt, &run);
+    let mut lattice = lattice(alloc, size, &[(2, 1, SOLID)])?;
+    for y in 0..4 {
+        for x in 0..5 {
+            set(&mut lattice, (x, y, state));
+        }
+    }
+    Ok(lattice)
+}
+
+// Full but for an obstacle, a lattice with so many particles stays as it is in three passes of three stages.
+fn stays_full<G: Gas + Send, R: Abort + Threads + Wait + Sync>(
+    rt: &R,
+    alloc: Global,
+    state: u8,
+    particles: u64,
+) -> Result<(), Fail> {
+    let full = full::<G>(alloc, state)?;
+    let plan = Plan::new(3, 1, 7)?;
+    let run = ran(rt, alloc, &full, Left, 0, plan, &NoGate)?;
+    assert!(rt; seen(alloc, run.lattice())? == seen(alloc, &full)?);
+    assert!(rt; run.lattice().count() == particles);
+    went_through(rt, &run, 3, 4, 4);
     Ok(())
 }
 
-// Adds up who entered and who left: worker k counts 256^(k - 1), for up to 4 workers.
+#[test]
+fn full_lattices_in_three_passes(rt: HostRuntime) -> Result<(), Fail> {
+    stays_full::<Fhp1, _>(&rt, rt.alloc(), 0x3f, 114)?;
+    stays_full::<FhpRest, _>(&rt, rt.alloc(), 0x7f, 133)
+}
+
+// Adds up who entered, who left, and how often those who left had entered by then: worker k counts
+// 256^(k - 1), for up to 4 workers.
 #[derive(Drop)]
 struct Counts {
     entered: AtomicU64,
     left: AtomicU64,
+    entered_before: AtomicU64,
 }
 
 fn place(who: u32) -> u64 {
@@ -332,37 +480,38 @@ impl Gate for Counts {
     }
 
     fn leave(&self, who: u32) {
-        self.left.fetch_add(place(who), Ordering::SeqCst);
+        let place = place(who);
+        let entered = self.entered.load(Ordering::SeqCst) & place.wrapping_mul(0xff);
+        self.left.fetch_add(place, Ordering::SeqCst);
+        self.entered_before.fetch_add(entered, Ordering::SeqCst);
     }
 }
 
-// In a run of so many workers and five generations they enter and leave so often.
+// In a run of so many workers and five generations they enter so often and leave once, after that.
 fn counts_are<R: Abort + Threads + Wait + Sync>(
     rt: &R,
     alloc: Global,
     stages: u32,
-    times: u64,
+    entered: u64,
+    left: u64,
 ) -> Result<(), Fail> {
     let gate = Counts {
         entered: AtomicU64::new(0),
         left: AtomicU64::new(0),
+        entered_before: AtomicU64::new(0),
     };
-    let size = Size::new(5, 4).ok_or("a size")?;
-    let cells = drawn(
-        alloc,
-        "09 3f 00 00 00  00 00 12 00 00  ## 00 00 2a 00  24 00 00 00 01",
-    )?;
-    let lattice = lattice::<Fhp1>(alloc, size, &cells)?;
+    let lattice = full::<Fhp1>(alloc, 0x09)?;
     let plan = Plan::new(stages, 2, 5)?;
-    run(rt, alloc, &lattice, Chirality::Seeded(7), 0, plan, &gate)?;
-    assert!(rt; gate.entered.load(Ordering::SeqCst) == times);
-    assert!(rt; gate.left.load(Ordering::SeqCst) == times);
+    ran(rt, alloc, &lattice, Seeded(7), 0, plan, &gate)?;
+    assert!(rt; gate.entered.load(Ordering::SeqCst) == entered);
+    assert!(rt; gate.left.load(Ordering::SeqCst) == left);
+    assert!(rt; gate.entered_before.load(Ordering::SeqCst) == entered);
     Ok(())
 }
 
 #[test]
-fn each_worker_enters_and_leaves_each_pass(rt: HostRuntime) -> Result<(), Fail> {
-    counts_are(&rt, rt.alloc(), 1, 0x5)?;
-    counts_are(&rt, rt.alloc(), 2, 0x303)?;
-    counts_are(&rt, rt.alloc(), 4, 0x202_0202)
+fn each_worker_enters_each_pass_and_leaves_at_last(rt: HostRuntime) -> Result<(), Fail> {
+    counts_are(&rt, rt.alloc(), 1, 0x5, 0x1)?;
+    counts_are(&rt, rt.alloc(), 2, 0x303, 0x101)?;
+    counts_are(&rt, rt.alloc(), 4, 0x202_0202, 0x101_0101)
 }

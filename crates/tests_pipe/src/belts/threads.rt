@@ -1,10 +1,10 @@
 ghost use Rattle.std.specs.Prelude.{◌≡◌, ◌<◌, IfOk};
 
 use super::{number, numbered};
-use crate::carried::meet;
-use crate::pair::belt;
-use crate::rx::Rx;
-use crate::tx::{Spent, Tx};
+use gas_belt::belt;
+use gas_belt::carried::meet;
+use gas_belt::rx::Rx;
+use gas_belt::tx::{Spent, Tx};
 use gas_geom::fhp1::Fhp1;
 use gas_rows::row::Row;
 use std::alloc::{AllocError, Global};
