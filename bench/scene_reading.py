@@ -59,8 +59,8 @@ with tempfile.TemporaryDirectory() as room:
         with open(path, "w") as scene:
             scene.write(f'gas = "fhp1"\nwidth = {side}\nheight = {side}\nrate = {rate}\n')
         jobs[f"area at rate {rate}: check"] = path, PROGRAM, "check"
-    jobs["key stream: as many words"] = path, KEY_STREAM, str(words_of_filling // 4096)
-    jobs["key stream: none"] = path, KEY_STREAM, "0"
+    jobs["key stream: as many words"] = path, *KEY_STREAM, str(words_of_filling // 4096)
+    jobs["key stream: none"] = path, *KEY_STREAM, "0"
     best = {job: min(times) for job, times in zip(jobs, zip(*([seconds(*words) for words in jobs.values()] for _ in range(runs))))}
     for job, time_taken in best.items():
         print(f"{job}: {time_taken:.3f} s")

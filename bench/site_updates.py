@@ -22,10 +22,10 @@ import time
 ROOT = pathlib.Path(__file__).resolve().parent.parent
 PROGRAM = ROOT / "crates/fhpgas/out/fhpgas"
 LEVEL = ROOT / "crates/fhpgas/out/level"
-SINGLE = ROOT / "crates/single_stage/out/single_stage"
-KEY_STREAM = ROOT / "crates/key_stream/out/key_stream"
+PROBES = ROOT / "crates/probes/out/probes"
+SINGLE = [PROBES, "single_stage"]
+KEY_STREAM = [PROBES, "key_stream"]
 CELLS_OF_KEY_ROW = 4096 * 32
-SMALL_SCENE = b'gas = "fhp1"\nwidth = 1\nheight = 1\n'
 LATTICES = ["256x256x8000:left", "256x256x8000:seeded", "1024x1024x1500:left", "1024x1024x1000:seeded", "4096x1024x600:left",
             "4096x1024x300:seeded"]
 
@@ -46,9 +46,8 @@ def build(room):
     """The C program's path and the level, where all are built."""
     level = level_of_program()
     print("building what is measured beside the program: some minutes where it was not built before", file=sys.stderr, flush=True)
-    for program in SINGLE, KEY_STREAM:
-        subprocess.run(["rt", "run", "--cpu", level, "--", "0"], cwd=program.parent.parent, input=SMALL_SCENE, check=True,
-                       stdout=subprocess.DEVNULL, stderr=subprocess.DEVNULL)
+    subprocess.run(["rt", "run", "--cpu", level, "--", "key_stream", "0"], cwd=PROBES.parent.parent, check=True,
+                   stdout=subprocess.DEVNULL, stderr=subprocess.DEVNULL)
     planes = room / "planes"
     subprocess.run(["cc", "-O3", "-march=" + level, "-pthread", "-o", planes, ROOT / "bench/planes.c"], check=True)
     return planes, level
@@ -104,10 +103,9 @@ class Bench:
             sys.exit(f"{name} prints another lattice")
 
     def ours(self, name, words):
-        """The generations' time alone: the whole run's less that of a run of none."""
-        none = timed([*words, "0"] if words[0] == SINGLE else [*words, "--generations", "0"], self.scene, self.start)
-        last = str(self.generations)
-        whole = timed([*words, last] if words[0] == SINGLE else [*words, "--generations", last], self.scene, self.out)
+        """The generations' time alone, by a program that is told last how many: the whole run's less that of a run of none."""
+        none = timed([*words, "0"], self.scene, self.start)
+        whole = timed([*words, str(self.generations)], self.scene, self.out)
         self.check(name)
         self.seconds.setdefault(name, []).append(whole - none)
 
@@ -118,20 +116,20 @@ class Bench:
 
     def random_bits(self, name):
         rows = self.width * self.height * self.generations // CELLS_OF_KEY_ROW
-        none, whole = (timed([KEY_STREAM, str(count)], self.scene, self.room / "word") for count in (0, rows))
+        none, whole = (timed([*KEY_STREAM, str(count)], self.scene, self.room / "word") for count in (0, rows))
         self.seconds.setdefault(name, []).append(whole - none)
 
     def round(self):
         processors = os.cpu_count() or 1
         if self.chirality == "seeded":
             self.random_bits("random bits alone")
-        self.ours("one stage", [SINGLE])
+        self.ours("one stage", SINGLE)
         self.plain("C, 1 thread", 1)
         self.plain(f"C, {processors} threads", processors)
         for capacity in self.options.capacities:
             for stages in self.options.stages:
                 self.ours(f"N = {stages}, C = {capacity}",
-                          [PROGRAM, "run", "--stages", str(stages), "--capacity", str(capacity)])
+                          [PROGRAM, "run", "--stages", str(stages), "--capacity", str(capacity), "--generations"])
 
     def table(self):
         print(f"\n{self.width} x {self.height}, {self.chirality}, {self.generations} generations\n")

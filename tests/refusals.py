@@ -1,12 +1,13 @@
 #!/usr/bin/env python3
 """Refuses requests for memory, starts of threads among them, of the built program and of each call that takes memory, which
-the program `refusals` makes by itself: each request alone, all from each one on, and each with probability 1/8. A refused run
+the program `probes` makes by itself: each request alone, all from each one on, and each with probability 1/8. A refused run
 must end with its status and line, with every thread joined and every byte given back, and print nothing; where nothing is
 refused it must end with 0. Then the program runs under limits of its address space. Ends with the counts."""
 
 import concurrent.futures
 import os
 import pathlib
+import re
 import resource
 import subprocess
 import sys
@@ -15,7 +16,7 @@ import tempfile
 HERE = pathlib.Path(__file__).resolve().parent
 TOP = HERE.parent
 PROGRAM = TOP / "crates/fhpgas/out/fhpgas"
-CALLS = TOP / "crates/refusals/out/refusals"
+PROBES = TOP / "crates/probes/out/probes"
 SECONDS = 60  # a hundred times what the slowest run takes
 SEEDS = 1000
 
@@ -131,9 +132,8 @@ def main():
         library = f"{room}/refuse.so"
         made = ["cc", "-shared", "-fPIC", "-O1", "-Wall", "-o", library, HERE / "refusal/refuse.c", "-ldl"]
         subprocess.run(made, check=True)
-        calls = (TOP / "crates/refusals/stdout").read_text().split()[::2]
-        for call in calls:
-            sweep(pool, library, call, [CALLS, call], os.devnull, b"")
+        for call in re.findall(r"^(\w+) Answered$", (TOP / "crates/probes/stdout").read_text(), re.MULTILINE):
+            sweep(pool, library, call, [PROBES, call], os.devnull, b"")
         for scene, words in REQUESTS:
             path = TOP / f"scenes/{scene}.toml"
             sweep(pool, library, f"{scene} {words}", [PROGRAM, *words.split()], path, b"memory refused\n")
@@ -142,7 +142,7 @@ def main():
         drift = TOP / "scenes/drift.toml"
         words = ["run", "--stages", "2", "--generations"]
         as_many(library, "5, 50 and 5000 generations", [([PROGRAM, *words, str(many)], drift) for many in (5, 50, 5000)])
-        as_many(library, "run_2 and run_2_long", [([CALLS, call], os.devnull) for call in ("run_2", "run_2_long")])
+        as_many(library, "run_2 and run_2_long", [([PROBES, call], os.devnull) for call in ("run_2", "run_2_long")])
     limits()
     print(f"{passed} passed, {failed} failed")
     return 1 if failed else 0

@@ -3,7 +3,7 @@
 use std::process::ExitCode;
 
 /// How a call ended.
-#[derive(Clone, Copy, Debug, PartialEq, Eq)]
+#[derive(Clone, Copy, Debug)]
 pub enum Outcome {
     /// With the usual answer.
     Answered,
@@ -23,13 +23,9 @@ impl Outcome {
         }
     }
 
-    /// The outcome of a refusal.
-    pub fn of_refusal(is_unchanged: bool) -> Outcome {
-        if is_unchanged {
-            Outcome::Refused
-        } else {
-            Outcome::Wrong
-        }
+    /// This outcome of a call, if what the call was lent is as it was before.
+    pub fn if_unchanged(self, is_unchanged: bool) -> Outcome {
+        if is_unchanged { self } else { Outcome::Wrong }
     }
 
     /// The status that tells it.
