@@ -18,7 +18,7 @@ TOP = HERE.parent
 PROGRAM = TOP / "crates/fhpgas/out/fhpgas"
 PROBES = TOP / "crates/probes/out/probes"
 SECONDS = 60  # a hundred times what the slowest run takes
-SEEDS = 1000
+SEEDS = 100
 
 REQUESTS = [
     ("drift", "run --generations 1"),
@@ -113,7 +113,7 @@ def run_within(limit, words, text):
 
 def limits():
     """Runs the program on a large area in address spaces from too small to large enough."""
-    text = b'gas = "fhp1"\nwidth = 4096\nheight = 4096\nrate = 300\n'
+    text = b'gas = "fhp1"\nwidth = 4096\nheight = 4096\nparticles = [[0, 0, 1], [4095, 4095, 5]]\n'
     words = ["coarse", "--generations", "1", "--stages", "2", "--block-width", "4096", "--block-height", "4096"]
     usual = run_within(resource.RLIM_INFINITY, words, text)
     count(usual.returncode == 0, "a large area without a limit")
@@ -128,6 +128,10 @@ def limits():
 
 
 def main():
+    for built, build in (PROGRAM, "./build.sh"), (PROBES, "./build.sh probes"):
+        if not built.exists():
+            print(f"tests/refusals.py: {built.relative_to(TOP)} is missing: run rt ci or {build} first", file=sys.stderr)
+            return 2
     with tempfile.TemporaryDirectory() as room, concurrent.futures.ThreadPoolExecutor(os.cpu_count()) as pool:
         library = f"{room}/refuse.so"
         made = ["cc", "-shared", "-fPIC", "-O1", "-Wall", "-o", library, HERE / "refusal/refuse.c", "-ldl"]
