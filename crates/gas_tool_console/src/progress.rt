@@ -1,8 +1,9 @@
 //! A line of progress on standard error, where that is a terminal.
 
-use crate::terminal::{ERRORS, is_terminal};
+use crate::terminal::are_errors_shown;
 use gas_pipe_run::gate::Gate;
 use gas_tool_cli::request::Request;
+use std::rt::{Clock, Files};
 use std::sync::atomic::{AtomicU64, Ordering};
 use std::time::Instant;
 
@@ -12,7 +13,7 @@ const LINE_MILLISECONDS: u64 = 100;
 // Back to the start of the line, which is wiped.
 const WIPE: &str = "\r\x1b[K";
 
-// A run whose last worker's passes are counted.
+// A run whose last worker's passes are counted: a pass that it begins tells that those before are over.
 #[derive(Drop)]
 struct Work {
     stages: u32,
@@ -24,7 +25,7 @@ struct Work {
 }
 
 impl Work {
-    fn new(rt: &HostRuntime, stages: u32, generations: u64) -> Option<Work> {
+    fn new<R: Clock>(rt: &R, stages: u32, generations: u64) -> Option<Work> {
         Some(Work {
             stages,
             generations,
@@ -35,7 +36,7 @@ impl Work {
     }
 
     // The work of a request that computes generations by threads.
-    fn of(rt: &HostRuntime, request: &Request) -> Option<Work> {
+    fn of<R: Clock>(rt: &R, request: &Request) -> Option<Work> {
         match request {
             Request::Run {
                 stages,
@@ -47,79 +48,82 @@ impl Work {
                 generations,
                 ..
             } => Work::new(rt, *stages, *generations),
-            _ => None,
+            Request::Check | Request::Replay { .. } => None,
         }
     }
 
     // How many milliseconds it has taken so far.
-    fn milliseconds(&self, rt: &HostRuntime) -> Option<u64> {
+    fn milliseconds<R: Clock>(&self, rt: &R) -> Option<u64> {
         let elapsed = self.begun.elapsed(rt).ok()?;
         u64::try_from(elapsed.as_millis()).ok()
     }
 
-    // Counts a pass, and writes the line anew where its time has come.
-    fn count_pass(&self, rt: &HostRuntime) {
-        let passes = self
-            .passes
-            .fetch_add(1, Ordering::Relaxed)
-            .saturating_add(1);
-        let done = passes.saturating_mul(u64::from(self.stages));
-        if done >= self.generations {
-            self.wipe(rt);
-            return;
-        }
+    // Counts a pass that begins, and writes the line anew where its time has come.
+    fn begin_pass<R: Clock + Eprint>(&self, rt: &R) {
+        let passes = self.passes.fetch_add(1, Ordering::Relaxed);
         let now = self.milliseconds(rt).unwrap_or(0);
         let written = self.written.load(Ordering::Relaxed);
         if now >= written.saturating_add(LINE_MILLISECONDS) {
             self.written.store(now, Ordering::Relaxed);
-            let generations = self.generations;
-            let share = u128::from(done) * 100 / u128::from(generations);
-            let _ = eprint!(rt; "{WIPE}{done} of {generations} generations ({share} %)");
+            self.write(rt, passes.saturating_mul(u64::from(self.stages)));
         }
     }
 
+    // Writes the line, with so many generations done.
+    fn write<R: Eprint>(&self, rt: &R, done: u64) {
+        let generations = self.generations;
+        let share = u128::from(done) * 100 / u128::from(generations.max(1));
+        let _ = eprint!(rt; "{WIPE}{done} of {generations} generations ({share} %)");
+    }
+
     // Wipes the line, where there is one.
-    fn wipe(&self, rt: &HostRuntime) {
+    fn wipe<R: Eprint>(&self, rt: &R) {
         if self.written.load(Ordering::Relaxed) > 0 {
-            self.written.store(0, Ordering::Relaxed);
             let _ = eprint!(rt; "{WIPE}");
         }
     }
 }
 
 /// A gate that tells how many generations of a run are computed, and what share of all, on standard
-/// error: nothing where that is no terminal. Nothing tells of a printing that failed.
+/// error: nothing where that is no terminal. When the last worker leaves, its line is wiped. Nothing
+/// tells of a printing that failed.
 #[derive(Drop)]
-pub struct Progress<'a> {
-    rt: &'a HostRuntime,
+pub struct Progress<'a, R> {
+    rt: &'a R,
     work: Option<Work>,
 }
 
-impl<'a> Progress<'a> {
-    pub(crate) fn new(rt: &'a HostRuntime, request: &Request) -> Self {
-        let work = if is_terminal(rt, ERRORS) {
+impl<'a, R: Files + Clock> Progress<'a, R> {
+    pub fn new(rt: &'a R, request: &Request) -> Self {
+        let work = if are_errors_shown(rt) {
             Work::of(rt, request)
         } else {
             None
         };
         Progress { rt, work }
     }
+}
 
-    /// Wipes the line of a run that is over or was given up.
-    pub(crate) fn wipe(&self) {
-        if let Some(work) = &self.work {
-            work.wipe(self.rt);
+impl<R> Progress<'_, R> {
+    // The work, to its last worker.
+    fn work_of(&self, who: u32) -> Option<&Work> {
+        match &self.work {
+            Some(work) if who == work.stages => Some(work),
+            _ => None,
         }
     }
 }
 
-impl<'a> Gate for Progress<'a> {
-    fn enter(&self, _who: u32) {}
+impl<R: Clock + Eprint> Gate for Progress<'_, R> {
+    fn enter(&self, who: u32) {
+        if let Some(work) = self.work_of(who) {
+            work.begin_pass(self.rt);
+        }
+    }
 
     fn leave(&self, who: u32) {
-        match &self.work {
-            Some(work) if who == work.stages => work.count_pass(self.rt),
-            _ => {}
+        if let Some(work) = self.work_of(who) {
+            work.wipe(self.rt);
         }
     }
 }
