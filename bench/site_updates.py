@@ -46,8 +46,7 @@ def build(room):
     """The C program's path and the level, where all are built."""
     level = level_of_program()
     print("building what is measured beside the program: some minutes where it was not built before", file=sys.stderr, flush=True)
-    subprocess.run(["rt", "run", "--cpu", level, "--", "key_stream", "0"], cwd=PROBES.parent.parent, check=True,
-                   stdout=subprocess.DEVNULL, stderr=subprocess.DEVNULL)
+    subprocess.run([ROOT / "build.sh", "probes"], env={**os.environ, "FHPGAS_CPU": level}, check=True)
     planes = room / "planes"
     subprocess.run(["cc", "-O3", "-march=" + level, "-pthread", "-o", planes, ROOT / "bench/planes.c"], check=True)
     return planes, level
