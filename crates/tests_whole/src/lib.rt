@@ -1,11 +1,10 @@
-//! Tests that cross crates, and the plain next lattice that they compare with.
+//! Tests that cross crates.
 #![tactic(auto)]
 
 #[cfg(test)]
 mod lines;
 #[cfg(test)]
 mod meeting;
-pub mod plain;
 #[cfg(test)]
 mod resumed;
 #[cfg(test)]

@@ -1,7 +1,6 @@
 // Replayed turns beside a plain machine: the line as the lengths of its histories.
 ghost use Rattle.std.specs.Prelude.{◌≡◌, ◌≤◌};
 
-use crate::plain::lattice_after;
 use crate::tests::{assert_same, random_lattice};
 use gas_geom::fhp1::Fhp1;
 use gas_geom::size::Size;
@@ -15,6 +14,7 @@ use rand_pcg::Pcg32;
 use std::alloc::{AllocError, Global};
 use std::process::Abort;
 use std::test::Fail;
+use tests_reference::plain::lattice_after;
 
 // How many rows were put on each belt and taken from it. The feeder is member 0 and owes all rows;
 // a worker that computes owes one row fewer than came, and all of them once all came; behind the
@@ -107,6 +107,30 @@ fn random_turns(
     Ok(turns)
 }
 
+// The generation from which all replays start, and their random bits.
+const FIRST: u64 = 1_000_000;
+
+const CHIRALITY: Chirality = Chirality::Seeded(11);
+
+// It promises nothing, so that no test carries the promises of `replay`.
+fn replayed(
+    alloc: Global,
+    lattice: &Lattice<Fhp1>,
+    plan: Plan,
+    turns: &[u32],
+) -> Result<Replay<Fhp1>, Fail> {
+    Ok(replay(alloc, lattice, CHIRALITY, FIRST, plan, turns)?)
+}
+
+// Where the plan leads, cell by cell.
+fn plain_lattice(
+    alloc: Global,
+    lattice: &Lattice<Fhp1>,
+    plan: Plan,
+) -> Result<Lattice<Fhp1>, Fail> {
+    Ok(lattice_after(alloc, lattice, CHIRALITY, FIRST, plan.generations())?)
+}
+
 // A replay of random turns beside the plain machine, and beside the plain lattice where it is done.
 fn compare(
     rt: &impl Abort,
@@ -126,13 +150,10 @@ fn compare(
     for member in turns {
         lengths.turn(*member);
     }
-    let chirality = Chirality::Seeded(11);
-    let first = 1_000_000;
-    let replay = replay(alloc, lattice, chirality, first, plan, turns)?;
+    let replay = replayed(alloc, lattice, plan, turns)?;
     assert_stands(rt, &replay, &lengths);
     if let Some(found) = replay.lattice() {
-        let wanted = lattice_after(alloc, lattice, chirality, first, plan.generations())?;
-        assert_same(rt, found, &wanted);
+        assert_same(rt, found, &plain_lattice(alloc, lattice, plan)?);
     }
     Ok(replay.done())
 }

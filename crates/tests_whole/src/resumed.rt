@@ -26,6 +26,14 @@ particles = [[3, 1, 5], [31, 1, 5], [32, 1, 5]]\n";
 const FHP_REST: &str = "gas = \"fhp-rest\"\nwidth = 33\nheight = 2\n\
 particles = [[3, 1, 9], [31, 1, 0x49], [32, 1, 9]]\n";
 
+// Two particles in one cell at the seam.
+const FHP1_CELL: &str = "gas = \"fhp1\"\nwidth = 33\nheight = 2\nparticles = [[32, 1, 9]]\n";
+
+const HPP_CELL: &str = "gas = \"hpp\"\nwidth = 33\nheight = 2\nparticles = [[32, 1, 9]]\n";
+
+const FHP_REST_CELL: &str =
+    "gas = \"fhp-rest\"\nwidth = 33\nheight = 2\nparticles = [[32, 1, 9]]\n";
+
 // A lattice of the scene after the generations of a plan, and its generation.
 fn lattice_after<G: Gas + Send, R: Threads + Wait + Sync>(
     rt: &R,
@@ -102,7 +110,7 @@ fn turned(alloc: Global, text: &str, chirality: Chirality) -> Result<String, Fai
 #[test]
 fn every_split_of_seven_generations(rt: HostRuntime) -> Result<(), Fail> {
     let alloc = rt.alloc();
-    for text in [FHP1, HPP, FHP_REST] {
+    for text in [FHP1, HPP, FHP_REST, FHP1_CELL, HPP_CELL, FHP_REST_CELL] {
         for chirality in [Chirality::Seeded(0), Chirality::Left, Chirality::Right] {
             let scene = turned(alloc, text, chirality)?;
             split(&rt, alloc, scene.as_str())?;

@@ -1,6 +1,5 @@
 ghost use Rattle.std.specs.Prelude.{◌≡◌, ◌<◌, ◌^◌};
 
-use crate::plain::lattice_after;
 use gas_geom::fhp_rest::FhpRest;
 use gas_geom::fhp1::Fhp1;
 use gas_geom::gas::Gas;
@@ -16,6 +15,7 @@ use rand_pcg::Pcg32;
 use std::alloc::{AllocError, Global};
 use std::process::Abort;
 use std::test::Fail;
+use tests_reference::plain::lattice_after;
 
 // A set of the gas's directions.
 fn random_state<G: Gas>(random: &mut Pcg32) -> u8
@@ -103,15 +103,26 @@ fn compare_random<G: Gas>(
     compare_steps(rt, alloc, &lattice, seed)
 }
 
+// The same of each gas.
+fn compare_gases(
+    rt: &impl Abort,
+    alloc: Global,
+    (width, height): (u32, u32),
+    random: &mut Pcg32,
+) -> Result<(), Fail> {
+    let size = Size::new(width, height).ok_or("a size")?;
+    compare_random::<Fhp1>(rt, alloc, size, random)?;
+    compare_random::<Hpp>(rt, alloc, size, random)?;
+    compare_random::<FhpRest>(rt, alloc, size, random)?;
+    Ok(())
+}
+
 #[test]
 fn a_stage_gives_the_next_lattices(rt: HostRuntime) -> Result<(), Fail> {
     let mut random = Pcg32::new(42, 54);
     for width in [1, 2, 3, 62, 63, 64, 65, 66, 127, 128, 129, 191, 192, 193] {
         for height in [1, 2, 3, 4] {
-            let size = Size::new(width, height).ok_or("a size")?;
-            compare_random::<Fhp1>(&rt, rt.alloc(), size, &mut random)?;
-            compare_random::<Hpp>(&rt, rt.alloc(), size, &mut random)?;
-            compare_random::<FhpRest>(&rt, rt.alloc(), size, &mut random)?;
+            compare_gases(&rt, rt.alloc(), (width, height), &mut random)?;
         }
     }
     Ok(())
@@ -119,12 +130,7 @@ fn a_stage_gives_the_next_lattices(rt: HostRuntime) -> Result<(), Fail> {
 
 #[test]
 fn a_stage_gives_the_next_wide_lattices(rt: HostRuntime) -> Result<(), Fail> {
-    let mut random = Pcg32::new(42, 55);
-    let size = Size::new(4095, 3).ok_or("a size")?;
-    compare_random::<Fhp1>(&rt, rt.alloc(), size, &mut random)?;
-    compare_random::<Hpp>(&rt, rt.alloc(), size, &mut random)?;
-    compare_random::<FhpRest>(&rt, rt.alloc(), size, &mut random)?;
-    Ok(())
+    compare_gases(&rt, rt.alloc(), (4095, 3), &mut Pcg32::new(42, 55))
 }
 
 #[test]
@@ -137,27 +143,5 @@ fn the_fifth_generation(rt: HostRuntime) -> Result<(), Fail> {
     let by_cells = lattice_after(alloc, &start, chirality, 0, 5)?;
     assert_same(&rt, &by_stage, &by_cells);
     assert_eq!(rt; by_stage.count(), start.count());
-    Ok(())
-}
-
-// Gives a lattice the cells of its next generation.
-fn step<G: Gas>(alloc: Global, lattice: &mut Lattice<G>, seed: u64) -> Result<(), AllocError> {
-    *lattice = advance::lattice_after(alloc, lattice, Chirality::Seeded(seed), 0, 1)?;
-    Ok(())
-}
-
-// Each of two thousand generations of a channel with obstacles has as many particles as the first,
-// at rest or moving.
-#[test]
-fn no_particle_is_lost_at_rest(rt: HostRuntime) -> Result<(), Fail> {
-    let alloc = rt.alloc();
-    let size = Size::new(24, 12).ok_or("a size")?;
-    let mut lattice = random_lattice::<FhpRest>(alloc, size, &mut Pcg32::new(42, 56))?;
-    let particles = lattice.count();
-    assert!(rt; particles > 500);
-    for seed in 0..2000 {
-        step(alloc, &mut lattice, seed)?;
-        assert_eq!(rt; lattice.count(), particles, "after {seed}");
-    }
     Ok(())
 }

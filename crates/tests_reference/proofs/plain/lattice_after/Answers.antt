@@ -1,8 +1,8 @@
 use Rattle.std.proofs.Common.{◌≡◌, ◌+◌, ℕ, ap, ◌∙◌, sym, add-one}
 use Rattle.gas_geom.specs.Lattice.{LatticeModel}
 use Rattle.gas_stage.specs.Evolution.{lattice_after}
-use Rattle.tests_whole.specs.Plain.{next_lattice}
-use Rattle.tests_whole.proofs.plain.lattice_after.Goals as goal
+use Rattle.tests_reference.specs.Plain.{next_lattice}
+use Rattle.tests_reference.proofs.plain.lattice_after.Goals as goal
 
 pub loop-passed-preserved : goal.loop-passed-preserved
 loop-passed-preserved g c =

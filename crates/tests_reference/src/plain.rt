@@ -1,12 +1,12 @@
-//! The next lattice, cell by cell: plain and slow, for tests to compare with.
+//! The next lattice, computed cell by cell.
 ghost use Rattle.std.specs.Prelude.{◌+◌, ◌≡◌, ◌<◌, ◌≤◌, ◌^◌, IfOk};
 ghost use Rattle.gas_geom.specs.Gas.{holds};
 ghost use Rattle.gas_geom.specs.declared.size.TheConstants.{MOST_SIDE};
 ghost use Rattle.gas_geom.specs.Lattice.{arriving, streamed, row_of};
 ghost use Rattle.gas_rows.specs.Chirality.{chirality_bit};
 ghost use Rattle.gas_stage.specs.Evolution.{lattice_after};
-ghost use Rattle.tests_whole.specs.Inside.{collided_cells};
-ghost use Rattle.tests_whole.specs.Plain.{next_lattice};
+ghost use Rattle.tests_reference.specs.Inside.{collided_cells};
+ghost use Rattle.tests_reference.specs.Plain.{next_lattice};
 
 use gas_geom::gas::Gas;
 use gas_geom::size::neighbour;
