@@ -23,17 +23,14 @@ fn lattice(alloc: Global, height: u32, y: u32) -> Result<Lattice<Fhp1>, Fail> {
     Ok(lattice)
 }
 
-// A line of so many workers over belts of one place. It promises nothing, so that no test carries
-// the promises of `replay`.
+// It promises nothing, so that no test carries the promises of `replay`.
 fn replayed(
     alloc: Global,
     lattice: &Lattice<Fhp1>,
-    stages: u32,
-    generations: u64,
+    plan: Plan,
     turns: &[u32],
-) -> Result<Replay<Fhp1>, Fail> {
-    let plan = Plan::new(stages, 1, generations)?;
-    Ok(replay(alloc, lattice, Chirality::Left, 0, plan, turns)?)
+) -> Result<Replay<Fhp1>, RunError> {
+    replay(alloc, lattice, Chirality::Left, 0, plan, turns)
 }
 
 // So many turns, round after round.
@@ -97,101 +94,179 @@ fn done_at(rt: &impl Abort, replay: &Replay<Fhp1>, column: u32, y: u32) -> Resul
     Ok(())
 }
 
-#[test]
-fn a_belt_holds_no_more_than_its_capacity(rt: HostRuntime) -> Result<(), Fail> {
-    let lattice = lattice(rt.alloc(), 3, 1)?;
-    let replay = replayed(rt.alloc(), &lattice, 2, 2, &[0, 0, 2, 0])?;
-    not_done(&rt, &replay);
-    belts_are(&rt, &replay, &[(1, 0), (0, 0), (0, 0)]);
-    Ok(())
-}
-
-// Two workers in turn are done after one turn more than this number, and the particle has come to
-// that column.
-fn in_turn(
-    rt: &impl Abort,
-    alloc: Global,
+// Four columns and so many rows with a particle in column 0 of row `y`, if there is such a row, a line over
+// belts of one place, and so many turns of its members, round after round. What was put on each belt and
+// taken from it by then, and where the pass is done the column of the particle.
+struct Case {
+    rows: u32,
+    y: u32,
+    stages: u32,
     generations: u64,
-    count: usize,
-    column: u32,
-) -> Result<(), Fail> {
-    let lattice = lattice(alloc, 3, 1)?;
-    let early = turns(alloc, &[0, 1, 2], count)?;
-    let under_way = replayed(alloc, &lattice, 2, generations, &early)?;
-    not_done(rt, &under_way);
-    belt_is(rt, &under_way, 2, 3, 2);
-    let late = turns(alloc, &[0, 1, 2], count.saturating_add(1))?;
-    let done = replayed(alloc, &lattice, 2, generations, &late)?;
-    belts_are(rt, &done, &[(3, 3), (3, 3), (3, 3)]);
-    done_at(rt, &done, column, 1)
+    round: &'static [u32],
+    turns: usize,
+    belts: &'static [(u32, u32)],
+    came_to: Option<u32>,
+}
+
+const CASES: [Case; 12] = [
+    // A belt holds no more than its capacity.
+    Case {
+        rows: 3,
+        y: 1,
+        stages: 2,
+        generations: 2,
+        round: &[0, 0, 2, 0],
+        turns: 4,
+        belts: &[(1, 0), (0, 0), (0, 0)],
+        came_to: None,
+    },
+    // Two workers in turn, one turn before the last and after it.
+    Case {
+        rows: 3,
+        y: 1,
+        stages: 2,
+        generations: 2,
+        round: &[0, 1, 2],
+        turns: 27,
+        belts: &[(3, 3), (3, 3), (3, 2)],
+        came_to: None,
+    },
+    Case {
+        rows: 3,
+        y: 1,
+        stages: 2,
+        generations: 2,
+        round: &[0, 1, 2],
+        turns: 28,
+        belts: &[(3, 3), (3, 3), (3, 3)],
+        came_to: Some(2),
+    },
+    // The same where the second worker passes rows on.
+    Case {
+        rows: 3,
+        y: 1,
+        stages: 2,
+        generations: 1,
+        round: &[0, 1, 2],
+        turns: 24,
+        belts: &[(3, 3), (3, 3), (3, 2)],
+        came_to: None,
+    },
+    Case {
+        rows: 3,
+        y: 1,
+        stages: 2,
+        generations: 1,
+        round: &[0, 1, 2],
+        turns: 25,
+        belts: &[(3, 3), (3, 3), (3, 3)],
+        came_to: Some(1),
+    },
+    // Two workers against their order.
+    Case {
+        rows: 3,
+        y: 1,
+        stages: 2,
+        generations: 2,
+        round: &[2, 1, 0],
+        turns: 54,
+        belts: &[(3, 3), (3, 3), (3, 3)],
+        came_to: Some(2),
+    },
+    // One worker and one row.
+    Case {
+        rows: 1,
+        y: 0,
+        stages: 1,
+        generations: 1,
+        round: &[0, 1, 1, 0],
+        turns: 4,
+        belts: &[(1, 1), (1, 1)],
+        came_to: Some(1),
+    },
+    // A full line does not stick.
+    Case {
+        rows: 20,
+        y: 20,
+        stages: 1,
+        generations: 1,
+        round: &[0, 1],
+        turns: 160,
+        belts: &[(20, 20), (20, 20)],
+        came_to: Some(0),
+    },
+    // A worker puts before it takes.
+    Case {
+        rows: 4,
+        y: 1,
+        stages: 2,
+        generations: 2,
+        round: &[0, 1, 0, 1, 1, 0, 1, 0, 1],
+        turns: 9,
+        belts: &[(4, 3), (1, 0), (0, 0)],
+        came_to: None,
+    },
+    // Numbers that no member has.
+    Case {
+        rows: 3,
+        y: 1,
+        stages: 2,
+        generations: 1,
+        round: &[9],
+        turns: 2,
+        belts: &[(0, 0), (0, 0), (0, 0)],
+        came_to: None,
+    },
+    Case {
+        rows: 3,
+        y: 1,
+        stages: 2,
+        generations: 1,
+        round: &[4294967295],
+        turns: 1,
+        belts: &[(0, 0), (0, 0), (0, 0)],
+        came_to: None,
+    },
+    // No generation needs no belt.
+    Case {
+        rows: 3,
+        y: 1,
+        stages: 2,
+        generations: 0,
+        round: &[],
+        turns: 0,
+        belts: &[],
+        came_to: Some(0),
+    },
+];
+
+fn plays(rt: &impl Abort, alloc: Global, case: &Case) -> Result<(), Fail> {
+    let lattice = lattice(alloc, case.rows, case.y)?;
+    let turns = turns(alloc, case.round, case.turns)?;
+    let plan = Plan::new(case.stages, 1, case.generations)?;
+    let replay = replayed(alloc, &lattice, plan, &turns)?;
+    belts_are(rt, &replay, case.belts);
+    match case.came_to {
+        Some(column) => done_at(rt, &replay, column, case.y),
+        None => {
+            not_done(rt, &replay);
+            Ok(())
+        }
+    }
 }
 
 #[test]
-fn two_workers_in_turn(rt: HostRuntime) -> Result<(), Fail> {
-    in_turn(&rt, rt.alloc(), 2, 27, 2)?;
-    in_turn(&rt, rt.alloc(), 1, 24, 1)
-}
-
-#[test]
-fn two_workers_against_the_order(rt: HostRuntime) -> Result<(), Fail> {
-    let lattice = lattice(rt.alloc(), 3, 1)?;
-    let turns = turns(rt.alloc(), &[2, 1, 0], 54)?;
-    let replay = replayed(rt.alloc(), &lattice, 2, 2, &turns)?;
-    belts_are(&rt, &replay, &[(3, 3), (3, 3), (3, 3)]);
-    done_at(&rt, &replay, 2, 1)
-}
-
-#[test]
-fn one_worker(rt: HostRuntime) -> Result<(), Fail> {
-    let lattice = lattice(rt.alloc(), 1, 0)?;
-    let replay = replayed(rt.alloc(), &lattice, 1, 1, &[0, 1, 1, 0])?;
-    belts_are(&rt, &replay, &[(1, 1), (1, 1)]);
-    done_at(&rt, &replay, 1, 0)
-}
-
-#[test]
-fn a_full_line_does_not_stick(rt: HostRuntime) -> Result<(), Fail> {
-    let lattice = lattice(rt.alloc(), 20, 20)?;
-    let turns = turns(rt.alloc(), &[0, 1], 160)?;
-    let replay = replayed(rt.alloc(), &lattice, 1, 1, &turns)?;
-    belts_are(&rt, &replay, &[(20, 20), (20, 20)]);
-    done_at(&rt, &replay, 0, 20)
-}
-
-#[test]
-fn a_worker_puts_before_it_takes(rt: HostRuntime) -> Result<(), Fail> {
-    let lattice = lattice(rt.alloc(), 4, 1)?;
-    let replay = replayed(rt.alloc(), &lattice, 2, 2, &[0, 1, 0, 1, 1, 0, 1, 0, 1])?;
-    not_done(&rt, &replay);
-    belts_are(&rt, &replay, &[(4, 3), (1, 0), (0, 0)]);
-    Ok(())
-}
-
-// Turns of numbers that no member has.
-#[test]
-fn nobody_moves(rt: HostRuntime) -> Result<(), Fail> {
-    let lattice = lattice(rt.alloc(), 3, 1)?;
-    for nobody in [9, u32::MAX] {
-        let replay = replayed(rt.alloc(), &lattice, 2, 1, &[nobody, nobody])?;
-        not_done(&rt, &replay);
-        belts_are(&rt, &replay, &[(0, 0), (0, 0), (0, 0)]);
+fn turns_of_each_line(rt: HostRuntime) -> Result<(), Fail> {
+    for case in &CASES {
+        plays(&rt, rt.alloc(), case)?;
     }
     Ok(())
 }
 
 #[test]
-fn no_generation_needs_no_belt(rt: HostRuntime) -> Result<(), Fail> {
-    let lattice = lattice(rt.alloc(), 3, 1)?;
-    let replay = replayed(rt.alloc(), &lattice, 2, 0, &[])?;
-    belts_are(&rt, &replay, &[]);
-    done_at(&rt, &replay, 0, 1)
-}
-
-#[test]
 fn two_passes_are_refused(rt: HostRuntime) -> Result<(), Fail> {
     let lattice = lattice(rt.alloc(), 3, 1)?;
-    let plan = Plan::new(1, 1, 2)?;
-    match replay(rt.alloc(), &lattice, Chirality::Left, 0, plan, &[]) {
+    match replayed(rt.alloc(), &lattice, Plan::new(1, 1, 2)?, &[]) {
         Ok(_) => assert!(rt; false),
         Err(error) => assert!(rt; error == RunError::MorePasses),
     }

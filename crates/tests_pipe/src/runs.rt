@@ -128,23 +128,24 @@ fn went_through<G: Gas>(rt: &impl Abort, run: &Run<G>, passes: u64, belts: u32, 
     assert!(rt; run.rows_through(passes, 0).is_none());
 }
 
-// A run of so many stages comes to these cells.
+// A run of so many stages from a generation on comes to these cells.
 fn comes_to<G: Gas + Send, R: Abort + Threads + Wait + Sync>(
     rt: &R,
     alloc: Global,
     lattice: &Lattice<G>,
     chirality: Chirality,
-    stages: u32,
+    (stages, first): (u32, u64),
     (generations, after): (u64, &[Cell]),
 ) -> Result<(), Fail> {
+    let size = lattice.channel().size();
     let plan = Plan::new(stages, 1, generations)?;
-    let run = ran(rt, alloc, lattice, chirality, 0, plan, &NoGate)?;
+    let run = ran(rt, alloc, lattice, chirality, first, plan, &NoGate)?;
+    let (width, height) = (size.width(), size.height());
     assert!(rt;
         seen(alloc, run.lattice())?.as_slice() == after,
-        "{generations} generations"
+        "{generations} generations of {width} x {height}"
     );
     let passes = generations.div_ceil(u64::from(stages.max(1)));
-    let height = lattice.channel().size().height();
     went_through(rt, &run, passes, stages.wrapping_add(1), height);
     Ok(())
 }
@@ -152,13 +153,13 @@ fn comes_to<G: Gas + Send, R: Abort + Threads + Wait + Sync>(
 fn plays<G: Gas + Send, R: Abort + Threads + Wait + Sync>(
     rt: &R,
     alloc: Global,
-    stages: u32,
+    line: (u32, u64),
     example: &Example,
 ) -> Result<(), Fail> {
     let size = Size::new(example.size.0, example.size.1).ok_or("a size")?;
     let lattice = lattice::<G>(alloc, size, example.before)?;
     for after in example.after {
-        comes_to(rt, alloc, &lattice, example.chirality, stages, *after)?;
+        comes_to(rt, alloc, &lattice, example.chirality, line, *after)?;
     }
     Ok(())
 }
@@ -169,13 +170,13 @@ fn play<G: Gas + Send, R: Abort + Threads + Wait + Sync>(
     examples: &[Example],
 ) -> Result<(), Fail> {
     for example in examples {
-        plays::<G, R>(rt, alloc, 2, example)?;
+        plays::<G, R>(rt, alloc, (2, 0), example)?;
     }
     Ok(())
 }
 
-// From the last column to the first, or back.
-const ROUND_THE_COLUMNS: [Example; 8] = [
+const FHP1: [Example; 19] = [
+    // From the last column to the first, or back.
     Example {
         size: (4, 3),
         chirality: Left,
@@ -224,15 +225,7 @@ const ROUND_THE_COLUMNS: [Example; 8] = [
         before: &[(65535, 0, 0x01)],
         after: &[(1, &[(0, 0, 0x01)])],
     },
-];
-
-#[test]
-fn round_the_columns(rt: HostRuntime) -> Result<(), Fail> {
-    play::<Fhp1, _>(&rt, rt.alloc(), &ROUND_THE_COLUMNS)
-}
-
-// No step in no generation, and five columns east in five.
-const NOWHERE_AND_EAST: [Example; 2] = [
+    // No step in no generation, and five columns east in five.
     Example {
         size: (4, 3),
         chirality: Left,
@@ -245,15 +238,7 @@ const NOWHERE_AND_EAST: [Example; 2] = [
         before: &[(0, 1, 0x01)],
         after: &[(5, &[(5, 1, 0x01)])],
     },
-];
-
-#[test]
-fn nowhere_and_east(rt: HostRuntime) -> Result<(), Fail> {
-    play::<Fhp1, _>(&rt, rt.alloc(), &NOWHERE_AND_EAST)
-}
-
-// Up to the wall and back, between both walls of one cell, and back from an obstacle.
-const WALLS: [Example; 3] = [
+    // Up to the wall and back, between both walls of one cell, and back from an obstacle.
     Example {
         size: (4, 3),
         chirality: Left,
@@ -285,15 +270,7 @@ const WALLS: [Example; 3] = [
             (2, &[(1, 0, SOLID), (3, 0, 0x08)]),
         ],
     },
-];
-
-#[test]
-fn walls_and_an_obstacle(rt: HostRuntime) -> Result<(), Fail> {
-    play::<Fhp1, _>(&rt, rt.alloc(), &WALLS)
-}
-
-// Pairs turned by either bit or by those of a seed, a triple, and a pair that a spectator keeps from turning.
-const COLLISIONS: [Example; 6] = [
+    // Pairs turned by either bit or by those of a seed, a triple, and a pair that a spectator keeps from turning.
     Example {
         size: (4, 3),
         chirality: Left,
@@ -333,12 +310,12 @@ const COLLISIONS: [Example; 6] = [
 ];
 
 #[test]
-fn collisions(rt: HostRuntime) -> Result<(), Fail> {
-    play::<Fhp1, _>(&rt, rt.alloc(), &COLLISIONS)
+fn of_fhp1(rt: HostRuntime) -> Result<(), Fail> {
+    play::<Fhp1, _>(&rt, rt.alloc(), &FHP1)
 }
 
 // A pair, a particle that the top wall sends back, and a triple, which passes.
-const SQUARE_GAS: [Example; 3] = [
+const HPP: [Example; 3] = [
     Example {
         size: (4, 3),
         chirality: Left,
@@ -360,12 +337,12 @@ const SQUARE_GAS: [Example; 3] = [
 ];
 
 #[test]
-fn the_square_gas(rt: HostRuntime) -> Result<(), Fail> {
-    play::<Hpp, _>(&rt, rt.alloc(), &SQUARE_GAS)
+fn of_hpp(rt: HostRuntime) -> Result<(), Fail> {
+    play::<Hpp, _>(&rt, rt.alloc(), &HPP)
 }
 
 // A particle meets one at rest and later another particle, and a pair turns beside one at rest by either bit.
-const REST: [Example; 3] = [
+const FHP_REST: [Example; 3] = [
     Example {
         size: (4, 3),
         chirality: Left,
@@ -392,8 +369,8 @@ const REST: [Example; 3] = [
 ];
 
 #[test]
-fn particles_at_rest(rt: HostRuntime) -> Result<(), Fail> {
-    play::<FhpRest, _>(&rt, rt.alloc(), &REST)
+fn of_fhp_rest(rt: HostRuntime) -> Result<(), Fail> {
+    play::<FhpRest, _>(&rt, rt.alloc(), &FHP_REST)
 }
 
 // A line of 64 workers: in the last of two passes 36 compute, and 28 pass rows on.
@@ -404,21 +381,18 @@ const ONE_CELL: Example = Example {
     after: &[(64, &[(0, 0, 0x24)]), (100, &[(0, 0, 0x24)])],
 };
 
-#[test]
-fn the_longest_line(rt: HostRuntime) -> Result<(), Fail> {
-    plays::<Fhp1, _>(&rt, rt.alloc(), 64, &ONE_CELL)
-}
+// A line of two workers that starts from generation 10.
+const DRIFT: Example = Example {
+    size: (4, 3),
+    chirality: Left,
+    before: &[(3, 1, 0x01)],
+    after: &[(1, &[(0, 1, 0x01)])],
+};
 
-// The generation from which a run starts is no part of its length.
 #[test]
-fn from_generation_ten(rt: HostRuntime) -> Result<(), Fail> {
-    let alloc = rt.alloc();
-    let size = Size::new(4, 3).ok_or("a size")?;
-    let lattice = lattice::<Fhp1>(alloc, size, &[(3, 1, 0x01)])?;
-    let plan = Plan::new(2, 1, 1)?;
-    let run = ran(&rt, alloc, &lattice, Left, 10, plan, &NoGate)?;
-    assert!(rt; seen(alloc, run.lattice())?.as_slice() == [(0, 1, 0x01)].as_slice());
-    Ok(())
+fn of_other_lines(rt: HostRuntime) -> Result<(), Fail> {
+    plays::<Fhp1, _>(&rt, rt.alloc(), (64, 0), &ONE_CELL)?;
+    plays::<Fhp1, _>(&rt, rt.alloc(), (2, 10), &DRIFT)
 }
 
 // Five columns and four rows of this state, with an obstacle at (2, 1).
@@ -433,6 +407,14 @@ fn full<G: Gas>(alloc: Global, state: u8) -> Result<Lattice<G>, Fail> {
     Ok(lattice)
 }
 
+fn have_same_cells<G: Gas>(
+    alloc: Global,
+    one: &Lattice<G>,
+    other: &Lattice<G>,
+) -> Result<bool, AllocError> {
+    Ok(seen(alloc, one)? == seen(alloc, other)?)
+}
+
 // Full but for an obstacle, a lattice with so many particles stays as it is in three passes of three stages.
 fn stays_full<G: Gas + Send, R: Abort + Threads + Wait + Sync>(
     rt: &R,
@@ -443,7 +425,7 @@ fn stays_full<G: Gas + Send, R: Abort + Threads + Wait + Sync>(
     let full = full::<G>(alloc, state)?;
     let plan = Plan::new(3, 1, 7)?;
     let run = ran(rt, alloc, &full, Left, 0, plan, &NoGate)?;
-    assert!(rt; seen(alloc, run.lattice())? == seen(alloc, &full)?);
+    assert!(rt; have_same_cells(alloc, run.lattice(), &full)?);
     assert!(rt; run.lattice().count() == particles);
     went_through(rt, &run, 3, 4, 4);
     Ok(())
