@@ -52,7 +52,8 @@ class Kit:
     LAST = re.compile(r"only=\d+ proved=\d+$|logic=(?:proved|not-proved)\b|rattle: no verdict")
     # what was found of a function
     FUNCTION = re.compile(r"fn (\S+): (.*)$")
-    PROVED = re.compile(r"proved$")
+    # (a function that may wait is told so)
+    PROVED = re.compile(r"proved(?:$|, may | where its callers )")
     NOT_PROVED = re.compile(r"(?:not proved|no proof)\b")
     NO_ANSWER = re.compile(r"could not tell\b")
     GOALS = re.compile(r"`search` did not prove ((?:`[^`]+`(?:, | and )?)+)")
