@@ -1,0 +1,96 @@
+-- Filling: the states that it gives, and a lattice whose rows before one are filled.
+use Rattle.std.proofs.Common.{◌≡◌, ℕ, zero, suc, ◌+◌, ◌^◌, ◌<◌, Bool, true, false, List, get_or, set, nat_lt, ap, sym, ◌∙◌, refl, arith, if◌then◌else◌}
+use Rattle.std.proofs.lemmas.Bool.Decides.{nat_tests}
+use Rattle.std.proofs.lemmas.List.FromFn.{get_or-map-range_with_len, length-map-range_with_len}
+use Rattle.gas_geom.specs.Gas.{Rules}
+use Rattle.gas_geom.specs.Lattice.{LatticeModel, set_of, row_of}
+use Rattle.gas_geom.proofs.Holds.{set_of-lt}
+use Rattle.gas_rows.proofs.Lattices.{fluid_state}
+use Rattle.gas_layout.specs.Layout.{lattice_of, filled, filling}
+use Rattle.gas_layout.specs.Inner.Steps.{filled_before}
+use Rattle.gas_layout.proofs.Grids.{value-rows_of, rows_of-set_row, lattice_of-same, if_same}
+use Rattle.gas_layout.proofs.Steps.{before-here, before-other, before-none, before-all}
+
+pub set_of-filled-below : (n seed rate width x y : ℕ) → set_of n (filled seed rate width x y) < 2 ^ n
+set_of-filled-below n seed rate width x y = set_of-lt n (filled seed rate width x y)
+
+pub filling-below : (gas : Rules) (seed rate width x y : ℕ) → filling gas seed rate width x y < 2 ^ gas.dirs
+unfolding filling
+filling-below gas seed rate width x y = set_of-filled-below gas.dirs seed rate width x y
+
+pub filling-is : (gas : Rules) (n seed rate width x y : ℕ) → n ≡ gas.dirs
+    → set_of n (filled seed rate width x y) ≡ filling gas seed rate width x y
+unfolding filling
+filling-is gas n seed rate width x y same = ap (λ m. set_of m (filled seed rate width x y)) same
+
+none-below : (n : ℕ) (f : ℕ → Bool) → ((i : ℕ) → f i ≡ false) → set_of n f ≡ 0
+none-below zero f none = refl
+none-below (suc n) f none = omega (arith, none-below n f none, ap (λ (b : Bool). if b then 2 ^ n else 0) (none n))
+
+-- filling at the rate 0 puts no particle anywhere
+filled-never : (seed width x y i : ℕ) → filled seed 0 width x y i ≡ false
+filled-never seed width x y i = grind (arith, nat_tests)
+
+filling-never : (gas : Rules) (seed rate width x y : ℕ) → rate ≡ 0 → filling gas seed rate width x y ≡ 0
+unfolding filling
+filling-never gas seed rate width x y none =
+    rw none (none-below gas.dirs (filled seed 0 width x y) (filled-never seed width x y))
+
+nothing : (b : Bool) (n : ℕ) → n ≡ 0 → 0 ≡ (if b then 0 else n)
+nothing true n none = refl
+nothing false n none = sym none
+
+-- the lattice with states for the fluid cells of row y
+abbrev pub with_states : LatticeModel → ℕ → List ℕ → LatticeModel
+with_states l y states = record l { rows = set l.rows y (row_of l.channel.width (fluid_state l.channel y states)) }
+
+module _ (gas : Rules) (seed rate w h : ℕ) (solid : ℕ → ℕ → Bool) where
+  abbrev state : ℕ → ℕ → ℕ
+  state u v = if solid u v then 0 else filling gas seed rate w u v
+
+  abbrev at_before : ℕ → ℕ → ℕ → ℕ
+  at_before y u v = if nat_lt v y then state u v else 0
+
+  pub set_states-filled_before : (y : ℕ) (states : List ℕ) → y < h
+      → ((x : ℕ) → x < w → get_or states x 0 ≡ filling gas seed rate w x y)
+      → with_states (filled_before gas seed rate w h solid y) y states ≡ filled_before gas seed rate w h solid (y + 1)
+  unfolding filled_before
+  set_states-filled_before y states in_rows same =
+      let l = lattice_of w h solid (at_before y) in
+      let row = row_of w (fluid_state l.channel y states) in
+      ap (λ rs. record l { rows = rs })
+      (rows_of-set_row w h (at_before y) (at_before (y + 1)) y row 0 in_rows (length-map-range_with_len (fluid_state l.channel y states) 0 w)
+      (λ u in_row. get_or-map-range_with_len (fluid_state l.channel y states) 0 w u u 0 in_row (omega arith)
+      ∙ ap (λ (b : Bool). if b then 0 else get_or states u 0) (value-rows_of w h solid u y false in_row in_rows)
+      ∙ ap (λ s. if solid u y then 0 else s) (same u in_row)
+      ∙ sym (if_same (nat_lt y (y + 1)) true (state u y) 0 (before-here y)))
+      (λ u k other. if_same (nat_lt k y) (nat_lt k (y + 1)) (state u k) 0 (before-other y k other)))
+
+  filled_before-none : lattice_of w h solid (λ _ _. 0) ≡ filled_before gas seed rate w h solid 0
+  unfolding filled_before
+  filled_before-none = lattice_of-same w h solid solid (λ _ _. 0) (at_before 0) (λ u k _ _. refl)
+      (λ u k _ _. sym (if_same (nat_lt k 0) false (state u k) 0 (before-none k)))
+
+  filled_before-all : filled_before gas seed rate w h solid h ≡ lattice_of w h solid state
+  unfolding filled_before
+  filled_before-all = lattice_of-same w h solid solid (at_before h) state (λ u k _ _. refl)
+      (λ u k _ in_column. if_same (nat_lt k h) true (state u k) 0 (before-all h k in_column))
+
+  pub width-filled_before : (y : ℕ) → (filled_before gas seed rate w h solid y).channel.width ≡ w
+  unfolding filled_before
+  width-filled_before y = refl
+
+  pub height-filled_before : (y : ℕ) → (filled_before gas seed rate w h solid y).channel.height ≡ h
+  unfolding filled_before
+  height-filled_before y = refl
+
+  -- a lattice with no particles that is filled row by row, and one that is filled at the rate 0
+  pub filled-from_empty : (before after : LatticeModel) → before ≡ lattice_of w h solid (λ _ _. 0)
+      → (before ≡ filled_before gas seed rate w h solid 0 → after ≡ filled_before gas seed rate w h solid h)
+      → after ≡ lattice_of w h solid state
+  filled-from_empty before after is fills = fills (is ∙ filled_before-none) ∙ filled_before-all
+
+  pub filled-never_at_0 : (l : LatticeModel) → rate ≡ 0 → l ≡ lattice_of w h solid (λ _ _. 0) → l ≡ lattice_of w h solid state
+  filled-never_at_0 l none is =
+      is ∙ lattice_of-same w h solid solid (λ _ _. 0) state (λ u k _ _. refl)
+      (λ u k _ _. nothing (solid u k) (filling gas seed rate w u k) (filling-never gas seed rate w u k none))

@@ -1,0 +1,5 @@
+pub mod Grids
+pub mod Steps
+pub mod Filled
+pub mod Strips
+pub mod Placed

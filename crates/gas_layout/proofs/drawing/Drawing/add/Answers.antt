@@ -1,0 +1,37 @@
+use Rattle.std.proofs.Common.{◌∙◌, ◌++◌, ◌∷◌, [], Vec, Global, ap}
+use Rattle.gas_layout.specs.declared.strip.Strip.{Strip}
+use Rattle.gas_layout.proofs.Strips.{row-within, AreStrips-added, drawn-added, AreStrips-same, drawn-same, OnErr-always}
+use Rattle.gas_layout.proofs.drawing.Drawing.add.Goals as goal
+
+pub invariant_of-self : goal.invariant_of-self
+invariant_of-self c =
+    let w = c.self.inside.size.width in
+    let h = c.self.inside.size.height in
+    let rows = c.self.inside.rows.items in
+    let within = row-within w h rows c.push.new.self c.index_mut-row.result.now c.args.rectangle c.args.self.now c.first_row.result c.of.result
+    c.self.view_is c.requires c.self.invariant c.first_row.ensures c.of.ensures in
+    AreStrips-same rows c.first_row.result c.push.new.self c.index_mut-row.result.now within
+    (c.in_err-push.ensures.items ∙ ap (λ (v : Vec Strip Global). v.items) c.index_mut-row.ensures.value) w h c.self.invariant
+
+pub returns-in_err-push-clause-refused : goal.returns-in_err-push-clause-refused
+returns-in_err-push-clause-refused c =
+    let w = c.self.inside.size.width in
+    let h = c.self.inside.size.height in
+    let rows = c.self.inside.rows.items in
+    let within = row-within w h rows c.push.new.self c.index_mut-row.result.now c.args.rectangle c.args.self.now c.first_row.result c.of.result
+    c.self.view_is c.requires c.self.invariant c.first_row.ensures c.of.ensures in
+    OnErr-always c.from_residual.result
+    (drawn-same rows c.first_row.result c.push.new.self c.index_mut-row.result.now within
+    (c.in_err-push.ensures.items ∙ ap (λ (v : Vec Strip Global). v.items) c.index_mut-row.ensures.value) w h ∙ c.self.view_is)
+
+pub invariant_of-self-2 : goal.invariant_of-self-2
+invariant_of-self-2 c =
+    AreStrips-added c.self.inside.size.width c.self.inside.size.height c.self.inside.rows.items c.push.new.self c.index_mut-row.result.now c.args.rectangle
+    c.args.self.now c.first_row.result c.of.result c.self.view_is c.requires c.self.invariant c.first_row.ensures c.of.ensures
+    (c.in_ok-push.ensures.items ∙ ap (λ (v : Vec Strip Global). v.items ++ c.of.result ∷ []) c.index_mut-row.ensures.value)
+
+pub returns-clause-added : goal.returns-clause-added
+returns-clause-added c = λ w h rs e.
+    drawn-added c.self.inside.size.width c.self.inside.size.height c.self.inside.rows.items c.push.new.self c.index_mut-row.result.now c.args.rectangle
+    c.args.self.now c.first_row.result c.of.result c.self.view_is c.requires c.self.invariant c.first_row.ensures c.of.ensures
+    (c.in_ok-push.ensures.items ∙ ap (λ (v : Vec Strip Global). v.items ++ c.of.result ∷ []) c.index_mut-row.ensures.value) w h rs e

@@ -1,0 +1,54 @@
+-- Inner words: what functions of this crate promise one another. No public contract cites them.
+-- Here: rectangles by the rows in which they start.
+use Rattle.std.specs.Global.{Global}
+use Rattle.std.specs.Prelude.{◌≡◌, ℕ, zero, suc, ◌+◌, ◌*◌, ◌/◌, ◌<◌, ◌≤◌, ◌&&◌, ◌||◌, Bool, false, List, [], All, length, map, Vec, nat_le, nat_lt, nat_abs, slice_index, slice_index_or, ◌+ℤ◌}
+use Rattle.std.specs.List.{list_any}
+use Rattle.gas_layout.specs.declared.rectangle.Rectangle.{Rectangle}
+use Rattle.gas_layout.specs.declared.strip.Strip.{Strip}
+use Rattle.gas_layout.specs.declared.skyline.Skyline.{Skyline}
+
+-- columns of a row of this width
+pub record IsStrip (width : ℕ) (s : Strip) : Type 0 where
+  pub ordered : s.start ≤ s.end
+  pub within : s.end ≤ width
+
+-- the strip of a rectangle, and the row in which it starts
+abbrev pub strip_of : Rectangle → Strip
+strip_of r = record { start = nat_abs r.x; end = nat_abs (r.x +ℤ r.width); bottom = nat_abs (r.y +ℤ r.height) }
+
+abbrev pub first_row : Rectangle → ℕ
+first_row r = nat_abs r.y
+
+-- whether a strip that starts above the cell (x, y), or in its row, covers it
+abbrev pub reaches : Strip → ℕ → ℕ → Bool
+reaches s x y = (nat_le s.start x && nat_lt x s.end) && nat_lt y s.bottom
+
+-- whether the skyline of column x is below row y
+abbrev pub passes : Skyline → ℕ → ℕ → Bool
+passes s x y =
+    nat_lt y (slice_index s.columns.items x)
+    || (nat_lt y (slice_index s.blocks.items (x / 64)) || nat_lt y (slice_index s.groups.items (x / 64 / 64)))
+
+-- a number for each of so many columns, for each of their blocks, and for each of their groups
+pub record IsSkyline (width : ℕ) (s : Skyline) : Type 0 where
+  pub columns : length s.columns.items ≡ width
+  pub blocks : width ≤ 64 * length s.blocks.items
+  pub groups : length s.blocks.items ≤ 64 * length s.groups.items
+
+-- the strips of row y
+abbrev pub strips_at : List (Vec Strip Global) → ℕ → List Strip
+strips_at rows y = slice_index_or (map (λ v. v.items) rows) y []
+
+-- for each row of an area of this size some strips
+pub record AreStrips (width height : ℕ) (rows : List (Vec Strip Global)) : Type 0 where
+  pub high : length rows ≡ height
+  pub columns : (y : ℕ) → y < height → All (λ s. IsStrip width s) (strips_at rows y)
+
+-- whether one of the strips that start in the first n rows reaches the cell (x, y)
+abbrev pub is_reached : List (Vec Strip Global) → ℕ → ℕ → ℕ → Bool
+is_reached rows zero x y = false
+is_reached rows (suc n) x y = is_reached rows n x y || list_any (λ s. reaches s x y) (strips_at rows n)
+
+-- whether one of the strips covers the cell (x, y)
+abbrev pub is_drawn : List (Vec Strip Global) → ℕ → ℕ → Bool
+is_drawn rows x y = is_reached rows (y + 1) x y

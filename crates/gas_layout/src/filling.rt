@@ -1,0 +1,160 @@
+//! Filling: particles put into the fluid cells of a lattice at a rate, as the key stream of a seed
+//! tells.
+
+ghost use Rattle.std.specs.Prelude.{◌≡◌, ℕ, ◌+◌, ◌*◌, ◌%◌, ◌<◌, ◌≤◌, ◌^◌, Bool, length, slice_index, OnOk, OnErr, nat_lt, if◌then◌else◌};
+ghost use Rattle.gas_geom.specs.Size.{IsSize};
+ghost use Rattle.gas_geom.specs.declared.size.TheConstants.{MOST_SIDE};
+ghost use Rattle.gas_layout.specs.Layout.{lattice_of, filled, filling};
+ghost use Rattle.gas_layout.specs.Inner.Steps.{filled_before};
+
+use gas_geom::gas::Gas;
+use gas_rows::key::key_words;
+use gas_rows::lattice::Lattice;
+use std::alloc::{AllocError, Global};
+
+// The number of the key stream that fills direction 0.
+const FIRST_STREAM: u64 = 1 << 63;
+
+// Just above 2^64 / 1000.
+const SCALE: u64 = u64::MAX / 1000 + 1;
+
+// Whether a word is a particle at the rate, by one multiplication: SCALE takes the word 1000 q + r
+// to 384 q + SCALE r modulo 2^64, and 384 q is below SCALE.
+fn is_particle(word: u32, rate: u32) -> bool
+    ensures { result ≡ nat_lt (word % 1000) rate }
+{
+    u64::from(word).wrapping_mul(SCALE) < u64::from(rate).saturating_mul(SCALE)
+}
+
+// The bit of direction `i` where a word is a particle at the rate, and else 0. There is no branch:
+// the processor would guess it wrong for random words.
+fn particle(word: u32, rate: u32, i: u32) -> u8
+    requires { i < 8 }
+    ensures { result ≡ (if nat_lt (word % 1000) rate then 2 ^ i else 0) }
+{
+    u8::from(is_particle(word, rate)) << i
+}
+
+// Adds direction `i` to the states of row `y` where filling puts a particle into it, by way of a
+// buffer for the words of the row.
+fn add_direction(
+    states: &mut [u8],
+    words: &mut [u32],
+    width: u32,
+    seed: u64,
+    rate: u32,
+    y: u32,
+    i: u32,
+)
+    requires wide { length states.old ≡ width }
+    requires as_wide { length words.old ≡ width }
+    requires few { width ≤ MOST_SIDE }
+    requires row { y < MOST_SIDE }
+    requires direction { i < 8 }
+    requires below { (x : ℕ) → x < width → slice_index states.old x < 2 ^ i }
+    ensures { (x : ℕ) → x < width
+        → slice_index states.new x ≡ slice_index states.old x + (if filled seed rate width x y i then 2 ^ i else 0) }
+{
+    let first = u64::from(y) * u64::from(width);
+    key_words(seed, FIRST_STREAM + u64::from(i), first, words);
+    for x in 0..width as usize {
+        states[x] += particle(words[x], rate, i);
+    }
+}
+
+// Sets the states of row `y` to what filling gives.
+fn fill_states<G: Gas>(
+    states: &mut [u8],
+    words: &mut [u32],
+    width: u32,
+    seed: u64,
+    rate: u32,
+    y: u32,
+)
+    requires wide { length states.old ≡ width }
+    requires as_wide { length words.old ≡ width }
+    requires few { width ≤ MOST_SIDE }
+    requires row { y < MOST_SIDE }
+    ensures { (x : ℕ) → x < width → slice_index states.new x ≡ filling G.rules seed rate width x y }
+{
+    states.fill(0);
+    for i in 0..G::DIRS {
+        add_direction(states, words, width, seed, rate, y, i);
+    }
+}
+
+// Fills the fluid cells of row `y`, by way of a buffer for its states and one for words.
+fn fill_row<G: Gas>(
+    lattice: &mut Lattice<G>,
+    states: &mut [u8],
+    words: &mut [u32],
+    seed: u64,
+    rate: u32,
+    y: u32,
+)
+    requires size { IsSize lattice.old.channel.width lattice.old.channel.height }
+    requires wide { length states.old ≡ lattice.old.channel.width }
+    requires as_wide { length words.old ≡ lattice.old.channel.width }
+    requires row { y < lattice.old.channel.height }
+    ensures channel { lattice.new.channel ≡ lattice.old.channel }
+    ensures cells { (w h : ℕ) (solid : ℕ → ℕ → Bool)
+        → lattice.old ≡ filled_before G.rules seed rate w h solid y
+        → lattice.new ≡ filled_before G.rules seed rate w h solid (y + 1) }
+{
+    let width = lattice.channel().size().width();
+    fill_states::<G>(states, words, width, seed, rate, y);
+    lattice.set_states(y, states);
+}
+
+// Fills the fluid cells, by way of buffers for a row.
+fn fill_rows<G: Gas>(
+    lattice: &mut Lattice<G>,
+    states: &mut [u8],
+    words: &mut [u32],
+    seed: u64,
+    rate: u32,
+)
+    requires size { IsSize lattice.old.channel.width lattice.old.channel.height }
+    requires wide { length states.old ≡ lattice.old.channel.width }
+    requires as_wide { length words.old ≡ lattice.old.channel.width }
+    ensures channel { lattice.new.channel ≡ lattice.old.channel }
+    ensures cells { (w h : ℕ) (solid : ℕ → ℕ → Bool)
+        → lattice.old ≡ filled_before G.rules seed rate w h solid 0
+        → lattice.new ≡ filled_before G.rules seed rate w h solid h }
+{
+    for y in 0..lattice.channel().size().height() {
+        fill_row(lattice, states, words, seed, rate, y);
+    }
+}
+
+/// Fills the fluid cells of a lattice with no particles at a rate, in thousandths: direction `i` of
+/// the cell `(x, y)` gets a particle where the word at place `y * width + x` of stream `2^63 + i` of
+/// the seed's key stream, modulo 1000, is below the rate. Where memory is refused the lattice is as
+/// it was.
+pub fn fill<G: Gas>(
+    alloc: Global,
+    lattice: &mut Lattice<G>,
+    seed: u64,
+    rate: u32,
+) -> Result<(), AllocError>
+    requires size { IsSize lattice.old.channel.width lattice.old.channel.height }
+    ensures channel { lattice.new.channel ≡ lattice.old.channel }
+    ensures cells { OnOk result ((w h : ℕ) (solid : ℕ → ℕ → Bool) → lattice.old ≡ lattice_of w h solid (λ _ _. 0)
+        → lattice.new ≡ lattice_of w h solid (λ x y. if solid x y then 0 else filling G.rules seed rate w x y)) }
+    ensures refused { OnErr result (lattice.new ≡ lattice.old) }
+{
+    if rate == 0 {
+        return Ok(());
+    }
+    let width = lattice.channel().size().width() as usize;
+    let mut states = vec![in alloc; 0u8; width]?;
+    let mut words = vec![in alloc; 0u32; width]?;
+    fill_rows(
+        lattice,
+        states.as_mut_slice(),
+        words.as_mut_slice(),
+        seed,
+        rate,
+    );
+    Ok(())
+}

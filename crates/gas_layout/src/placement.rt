@@ -1,0 +1,61 @@
+//! Particles placed one cell at a time.
+
+ghost use Rattle.std.specs.Prelude.{◌≡◌, ◌&&◌, ◌^◌, ℕ, Bool, [], ◌∷◌, true, not, nat_abs};
+ghost use Rattle.gas_geom.specs.Size.{IsSize};
+ghost use Rattle.gas_geom.specs.Channel.{is_solid};
+
+use crate::sides::is_index;
+use gas_geom::gas::Gas;
+use gas_rows::channel::Channel;
+use gas_rows::lattice::Lattice;
+
+/// A cell and the state that it gets: its column and its row, counted from 0, and the state as a
+/// number whose bit `i` is a particle in direction `i`. Any numbers may stand here:
+/// [`Placement::can_stand`] tells whether they are a placement in a channel.
+#[derive(Clone, Copy, Debug, PartialEq, Eq)]
+pub struct Placement {
+    pub x: i64,
+    pub y: i64,
+    pub state: i64,
+}
+
+impl Placement {
+    ghost use Rattle.gas_layout.specs.Layout.{is_index, can_place, lattice_of, placed};
+
+    // Whether the cell lies in the channel.
+    fn is_in(self, channel: &Channel) -> bool
+        ensures value { result ≡ (is_index channel.now.width self.x && is_index channel.now.height self.y) }
+        ensures size { IsSize channel.now.width channel.now.height }
+    {
+        let size = channel.size();
+        is_index(size.width(), self.x) && is_index(size.height(), self.y)
+    }
+
+    // Whether the cell is fluid.
+    fn is_fluid(self, channel: &Channel) -> bool
+        requires size { IsSize channel.now.width channel.now.height }
+        requires inside { (is_index channel.now.width self.x && is_index channel.now.height self.y) ≡ true }
+        ensures { result ≡ not (is_solid channel.now (nat_abs self.x) (nat_abs self.y)) }
+    {
+        !channel.is_solid(self.x as u32, self.y as u32)
+    }
+
+    /// Whether the cell lies in the channel and is fluid, and its state is one of so many.
+    pub fn can_stand(self, channel: &Channel, states: u16) -> bool
+        ensures { result ≡ can_place states channel.now.width channel.now.height (λ x y. is_solid channel.now (nat_abs x) (nat_abs y)) self }
+    {
+        self.is_in(channel) && (is_index(u32::from(states), self.state) && self.is_fluid(channel))
+    }
+
+    /// Sets the state of the cell.
+    pub fn put<G: Gas>(self, lattice: &mut Lattice<G>)
+        requires size { IsSize lattice.old.channel.width lattice.old.channel.height }
+        requires can { can_place (2 ^ G.rules.dirs) lattice.old.channel.width lattice.old.channel.height
+            (λ x y. is_solid lattice.old.channel (nat_abs x) (nat_abs y)) self ≡ true }
+        ensures channel { lattice.new.channel ≡ lattice.old.channel }
+        ensures cells { (w h : ℕ) (solid : ℕ → ℕ → Bool) (at : ℕ → ℕ → ℕ) → lattice.old ≡ lattice_of w h solid at
+            → lattice.new ≡ lattice_of w h solid (λ x y. placed (self ∷ []) x y (at x y)) }
+    {
+        lattice.set_cell(self.x as u32, self.y as u32, self.state as u8);
+    }
+}

@@ -1,0 +1,151 @@
+//! How far down each column of a channel is solid, as strips are added from the top.
+//!
+//! A strip sets one number for each whole group of 64 blocks that it crosses, one for each whole
+//! block of 64 columns beside these, and one for each column of what is left at its two ends.
+
+ghost use Rattle.std.specs.Prelude.{◌≡◌, ℕ, ◌+◌, ◌*◌, ◌/◌, ◌<◌, ◌≤◌, ◌&&◌, ◌||◌, false, length, slice_index, slice_index_or, IfOk, All, nat_le, nat_lt, if◌then◌else◌};
+ghost use Rattle.std.specs.List.{list_any};
+ghost use Rattle.gas_geom.specs.declared.size.TheConstants.{MOST_SIDE};
+ghost use Rattle.gas_layout.specs.Inner.Strips.{reaches, IsStrip};
+
+use crate::strip::Strip;
+use std::alloc::{AllocError, Global};
+
+// Lets the columns of a strip be solid at least up to its bottom.
+fn extend(depths: &mut [u32], strip: Strip)
+    requires { IsStrip (length depths.old) strip }
+    ensures { (x y : ℕ) → nat_lt y (slice_index depths.new x) ≡ (nat_lt y (slice_index depths.old x) || reaches strip x y) }
+{
+    for x in strip.start as usize..strip.end as usize {
+        depths[x] = depths[x].max(strip.bottom);
+    }
+}
+
+// Does so at the two ends of a strip, before and after the whole blocks of 64 columns that it
+// crosses, and gives these blocks as a strip. Where it crosses none, all of it is ends.
+fn extend_ends(depths: &mut [u32], strip: Strip) -> Strip
+    requires { IsStrip (length depths.old) strip }
+    ensures within { (n : ℕ) → length depths.old ≤ 64 * n → IsStrip n result }
+    ensures cells { (x y : ℕ) → (nat_lt y (slice_index depths.new x) || reaches result (x / 64) y)
+        ≡ (nat_lt y (slice_index depths.old x) || reaches strip x y) }
+{
+    let first = strip.start / 64 + 1;
+    let last = strip.end / 64;
+    if last <= first {
+        extend(depths, strip);
+        return Strip {
+            start: 0,
+            end: 0,
+            ..strip
+        };
+    }
+    extend(
+        depths,
+        Strip {
+            end: 64 * first,
+            ..strip
+        },
+    );
+    extend(
+        depths,
+        Strip {
+            start: 64 * last,
+            ..strip
+        },
+    );
+    Strip {
+        start: first,
+        end: last,
+        ..strip
+    }
+}
+
+// Whether the columns of a block are all solid up to a later row, by its number or that of its
+// group.
+fn is_whole(y: u32, block: u32, group: u32) -> bool
+    ensures { result ≡ (nat_lt y block || nat_lt y group) }
+{
+    y < block || y < group
+}
+
+// Tells of the columns `from` up to `to` which are solid up to a later row: by their own numbers,
+// or all of them where their block is. There is no branch, so that a compiler can take many at a
+// time.
+fn mark_block(solid: &mut [bool], depths: &[u32], from: usize, to: usize, y: u32, whole: bool)
+    requires long { length solid.old ≡ length depths.now }
+    requires order { from ≤ to }
+    requires within { to ≤ length depths.now }
+    ensures { (x : ℕ) → slice_index_or solid.new x false
+        ≡ (if nat_le from x && nat_lt x to then nat_lt y (slice_index depths.now x) || whole else slice_index_or solid.old x false) }
+{
+    for x in from..to {
+        solid[x] = (y < depths[x]) | whole;
+    }
+}
+
+/// How far down columns are solid: up to the greatest of the numbers of a column, of its block of
+/// 64 columns and of its group of 64 blocks.
+#[derive(Drop)]
+pub struct Skyline {
+    pub columns: Vec<u32>,
+    pub blocks: Vec<u32>,
+    pub groups: Vec<u32>,
+}
+
+impl Skyline {
+    ghost use Rattle.gas_layout.specs.Inner.Strips.{IsSkyline, passes};
+
+    /// No column of so many is solid.
+    pub(crate) fn flat(alloc: Global, width: usize) -> Result<Skyline, AllocError>
+        requires { width ≤ MOST_SIDE }
+        ensures sized { IfOk result (λ s. IsSkyline width s) }
+        ensures cells { IfOk result (λ s. (x y : ℕ) → passes s x y ≡ false) }
+    {
+        Ok(Skyline {
+            columns: vec![in alloc; 0; width]?,
+            blocks: vec![in alloc; 0; width / 64 + 1]?,
+            groups: vec![in alloc; 0; width / 64 / 64 + 1]?,
+        })
+    }
+
+    // Lets the columns of a strip be solid at least up to its bottom.
+    fn extend(&mut self, strip: Strip)
+        requires columns { IsStrip (length self.old.columns.items) strip }
+        requires sized { IsSkyline (length self.old.columns.items) self.old }
+        ensures sized { IsSkyline (length self.old.columns.items) self.new }
+        ensures cells { (x y : ℕ) → passes self.new x y ≡ (passes self.old x y || reaches strip x y) }
+    {
+        let in_blocks = extend_ends(self.columns.as_mut_slice(), strip);
+        let in_groups = extend_ends(self.blocks.as_mut_slice(), in_blocks);
+        extend(self.groups.as_mut_slice(), in_groups);
+    }
+
+    /// Lets the columns of each of the strips be solid at least up to its bottom.
+    pub(crate) fn extend_all(&mut self, strips: &[Strip])
+        requires columns { All (λ s. IsStrip (length self.old.columns.items) s) strips.now }
+        requires sized { IsSkyline (length self.old.columns.items) self.old }
+        ensures sized { IsSkyline (length self.old.columns.items) self.new }
+        ensures cells { (x y : ℕ) → passes self.new x y ≡ (passes self.old x y || list_any (λ s. reaches s x y) strips.now) }
+    {
+        for strip in strips {
+            self.extend(*strip);
+        }
+    }
+
+    /// Tells of all columns which are solid up to a row below row `y`.
+    pub(crate) fn mark(&self, solid: &mut [bool], y: u32)
+        requires sized { IsSkyline (length solid.old) self.now }
+        requires few { length solid.old ≤ MOST_SIDE }
+        ensures { (x : ℕ) → x < length solid.old → slice_index_or solid.new x false ≡ passes self.now x y }
+    {
+        let columns = self.columns.as_slice();
+        let blocks = self.blocks.as_slice();
+        let groups = self.groups.as_slice();
+        let width = columns.len();
+        for block in 0..width.div_ceil(64) {
+            let whole = is_whole(y, blocks[block], groups[block / 64]);
+            let to = width.min(64 * block + 64);
+            mark_block(solid, columns, 64 * block, to, y, whole);
+        }
+    }
+}

@@ -1,0 +1,39 @@
+//! Rectangles as strips of columns that are solid from the row where they start.
+
+ghost use Rattle.std.specs.Prelude.{◌≡◌, nat_abs, pos, ◌≤ℤ◌};
+ghost use Rattle.gas_geom.specs.declared.size.TheConstants.{MOST_SIDE};
+ghost use Rattle.gas_layout.specs.Inner.Inside.{IsInside};
+
+use crate::rectangle::Rectangle;
+
+/// Columns `start` up to `end` that are solid from some row up to row `bottom`.
+#[derive(Clone, Copy)]
+pub struct Strip {
+    pub start: u32,
+    pub end: u32,
+    pub bottom: u32,
+}
+
+impl Strip {
+    ghost use Rattle.gas_layout.specs.Inner.Strips.{strip_of, first_row};
+
+    /// The columns of a rectangle, and where it ends.
+    pub(crate) fn of(rectangle: Rectangle) -> Strip
+        requires { IsInside MOST_SIDE MOST_SIDE rectangle }
+        ensures { result ≡ strip_of rectangle }
+    {
+        Strip {
+            start: rectangle.x as u32,
+            end: (rectangle.x + rectangle.width) as u32,
+            bottom: (rectangle.y + rectangle.height) as u32,
+        }
+    }
+
+    /// The row in which the strip of a rectangle starts.
+    pub(crate) fn first_row(rectangle: Rectangle) -> u32
+        requires { IsInside MOST_SIDE MOST_SIDE rectangle }
+        ensures { result ≡ first_row rectangle }
+    {
+        rectangle.y as u32
+    }
+}
