@@ -2,4 +2,5 @@ pub mod Grids
 pub mod Steps
 pub mod Filled
 pub mod Strips
+pub mod Drawn
 pub mod Placed

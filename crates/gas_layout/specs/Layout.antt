@@ -1,4 +1,5 @@
--- Lattices laid out from numbers: rectangles of solid cells, fluid cells filled at a rate, and placements of particles.
+-- Lattices laid out from numbers: rectangles of solid cells, fluid cells filled at a rate, and
+-- placements of particles.
 use Rattle.std.specs.Prelude.{ℕ, ◌+◌, ◌*◌, ◌%◌, ◌^◌, ◌&&◌, not, Bool, List, [], ◌∷◌, if◌then◌else◌, nat_lt, nat_abs, ℤ, pos, ◌+ℤ◌, int_le, int_lt}
 use Rattle.std.specs.List.{list_any}
 use Rattle.std.specs.Ordering.{int_eq}
@@ -18,37 +19,47 @@ is_index limit n = int_le (pos 0) n && int_lt n (pos limit)
 
 -- whether a rectangle covers the cell (x, y), and whether one of some does
 abbrev pub covers : Rectangle → ℤ → ℤ → Bool
-covers r x y = (int_le r.x x && int_lt x (r.x +ℤ r.width)) && (int_le r.y y && int_lt y (r.y +ℤ r.height))
+covers r x y =
+    (int_le r.x x && int_lt x (r.x +ℤ r.width)) && (int_le r.y y && int_lt y (r.y +ℤ r.height))
 
 abbrev pub is_covered : List Rectangle → ℤ → ℤ → Bool
 is_covered rs x y = list_any (λ r. covers r x y) rs
 
 -- whether n places from `start` on, at least one, are below a length
 abbrev pub fits_along : ℕ → ℤ → ℤ → Bool
-fits_along length start n = int_le (pos 0) start && (int_le (pos 1) n && int_le (start +ℤ n) (pos length))
+fits_along length start n =
+    int_le (pos 0) start && (int_le (pos 1) n && int_le (start +ℤ n) (pos length))
 
 -- whether a rectangle has cells, all of them in an area of this size
 abbrev pub fits : ℕ → ℕ → Rectangle → Bool
 fits width height r = fits_along width r.x r.width && fits_along height r.y r.height
 
--- whether the cell of a placement lies in an area and is not solid, and its state is one of so many
+-- whether the cell of a placement lies in an area of this size and is not solid, and its state is
+-- one of so many
 abbrev pub can_place : ℕ → ℕ → ℕ → (ℤ → ℤ → Bool) → Placement → Bool
 can_place states width height solid p =
     (is_index width p.x && is_index height p.y) && (is_index states p.state && not (solid p.x p.y))
 
 -- a channel by its solid cells, and a lattice by its solid cells and its states
 abbrev pub channel_of : ℕ → ℕ → (ℕ → ℕ → Bool) → ChannelModel
-channel_of width height solid = record { width = width; height = height; solid = rows_of width height solid }
+channel_of width height solid = record {
+  width = width;
+  height = height;
+  solid = rows_of width height solid;
+}
 
 abbrev pub lattice_of : ℕ → ℕ → (ℕ → ℕ → Bool) → (ℕ → ℕ → ℕ) → LatticeModel
-lattice_of width height solid at = record { channel = channel_of width height solid; rows = rows_of width height at }
+lattice_of width height solid at = record {
+  channel = channel_of width height solid;
+  rows = rows_of width height at;
+}
 
 -- the channel of this size in which the cells are solid that some rectangles cover
 abbrev pub drawn : ℕ → ℕ → List Rectangle → ChannelModel
 drawn width height rs = channel_of width height (λ x y. is_covered rs (pos x) (pos y))
 
--- whether filling at the rate, in thousandths, puts a particle into direction i of the cell (x, y): a word of the key stream
--- decides
+-- whether filling at the rate, in thousandths, puts a particle into direction i of the cell (x, y):
+-- a word of the key stream decides
 abbrev pub filled : ℕ → ℕ → ℕ → ℕ → ℕ → ℕ → Bool
 filled seed rate width x y i = nat_lt (key_word seed (2 ^ 63 + i) (y * width + x) % 1000) rate
 
@@ -59,4 +70,5 @@ filling gas seed rate width x y = set_of gas.dirs (filled seed rate width x y)
 -- the state of the cell (x, y) after some placements, the first of them first
 abbrev pub placed : List Placement → ℕ → ℕ → ℕ → ℕ
 placed [] x y state = state
-placed (p ∷ ps) x y state = placed ps x y (if int_eq p.x (pos x) && int_eq p.y (pos y) then nat_abs p.state else state)
+placed (p ∷ ps) x y state =
+    placed ps x y (if int_eq p.x (pos x) && int_eq p.y (pos y) then nat_abs p.state else state)

@@ -45,7 +45,8 @@ fn make_solid(channel: &mut Channel, rows: &[Vec<Strip>], skyline: &mut Skyline,
     requires sized { IsSkyline channel.old.width skyline.old }
     requires flat { (x y : ℕ) → passes skyline.old x y ≡ false }
     requires strips { AreStrips channel.old.width channel.old.height rows.now }
-    ensures { (w h : ℕ) → channel.old ≡ free_channel w h → channel.new ≡ channel_of w h (is_drawn rows.now) }
+    ensures { (w h : ℕ) → channel.old ≡ free_channel w h
+        → channel.new ≡ channel_of w h (is_drawn rows.now) }
 {
     for y in 0..channel.size().height() {
         skyline.extend_all(rows[y as usize].as_slice());

@@ -53,7 +53,8 @@ fn add_direction(
     requires direction { i < 8 }
     requires below { (x : ℕ) → x < width → slice_index states.old x < 2 ^ i }
     ensures { (x : ℕ) → x < width
-        → slice_index states.new x ≡ slice_index states.old x + (if filled seed rate width x y i then 2 ^ i else 0) }
+        → slice_index states.new x
+        ≡ slice_index states.old x + (if filled seed rate width x y i then 2 ^ i else 0) }
 {
     let first = u64::from(y) * u64::from(width);
     key_words(seed, FIRST_STREAM + u64::from(i), first, words);
@@ -75,7 +76,8 @@ fn fill_states<G: Gas>(
     requires as_wide { length words.old ≡ width }
     requires few { width ≤ MOST_SIDE }
     requires row { y < MOST_SIDE }
-    ensures { (x : ℕ) → x < width → slice_index states.new x ≡ filling G.rules seed rate width x y }
+    ensures { (x : ℕ) → x < width
+        → slice_index states.new x ≡ filling G.rules seed rate width x y }
 {
     states.fill(0);
     for i in 0..G::DIRS {
@@ -127,10 +129,10 @@ fn fill_rows<G: Gas>(
     }
 }
 
-/// Fills the fluid cells of a lattice with no particles at a rate, in thousandths: direction `i` of
-/// the cell `(x, y)` gets a particle where the word at place `y * width + x` of stream `2^63 + i` of
-/// the seed's key stream, modulo 1000, is below the rate. Where memory is refused the lattice is as
-/// it was.
+/// Fills the fluid cells of a lattice with no particles at a rate in thousandths, 0 to 1000:
+/// direction `i` of the cell `(x, y)` gets a particle where the word at place `y * width + x` of
+/// stream `2^63 + i` of the seed's key stream, modulo 1000, is below the rate. Where memory is
+/// refused the lattice is as it was.
 pub fn fill<G: Gas>(
     alloc: Global,
     lattice: &mut Lattice<G>,
@@ -139,8 +141,10 @@ pub fn fill<G: Gas>(
 ) -> Result<(), AllocError>
     requires size { IsSize lattice.old.channel.width lattice.old.channel.height }
     ensures channel { lattice.new.channel ≡ lattice.old.channel }
-    ensures cells { OnOk result ((w h : ℕ) (solid : ℕ → ℕ → Bool) → lattice.old ≡ lattice_of w h solid (λ _ _. 0)
-        → lattice.new ≡ lattice_of w h solid (λ x y. if solid x y then 0 else filling G.rules seed rate w x y)) }
+    ensures cells { OnOk result ((w h : ℕ) (solid : ℕ → ℕ → Bool)
+        → lattice.old ≡ lattice_of w h solid (λ _ _. 0)
+        → lattice.new
+        ≡ lattice_of w h solid (λ x y. if solid x y then 0 else filling G.rules seed rate w x y)) }
     ensures refused { OnErr result (lattice.new ≡ lattice.old) }
 {
     if rate == 0 {

@@ -24,7 +24,8 @@ impl Placement {
 
     // Whether the cell lies in the channel.
     fn is_in(self, channel: &Channel) -> bool
-        ensures value { result ≡ (is_index channel.now.width self.x && is_index channel.now.height self.y) }
+        ensures value { result
+            ≡ (is_index channel.now.width self.x && is_index channel.now.height self.y) }
         ensures size { IsSize channel.now.width channel.now.height }
     {
         let size = channel.size();
@@ -34,7 +35,8 @@ impl Placement {
     // Whether the cell is fluid.
     fn is_fluid(self, channel: &Channel) -> bool
         requires size { IsSize channel.now.width channel.now.height }
-        requires inside { (is_index channel.now.width self.x && is_index channel.now.height self.y) ≡ true }
+        requires inside { (is_index channel.now.width self.x && is_index channel.now.height self.y)
+            ≡ true }
         ensures { result ≡ not (is_solid channel.now (nat_abs self.x) (nat_abs self.y)) }
     {
         !channel.is_solid(self.x as u32, self.y as u32)
@@ -42,7 +44,8 @@ impl Placement {
 
     /// Whether the cell lies in the channel and is fluid, and its state is one of so many.
     pub fn can_stand(self, channel: &Channel, states: u16) -> bool
-        ensures { result ≡ can_place states channel.now.width channel.now.height (λ x y. is_solid channel.now (nat_abs x) (nat_abs y)) self }
+        ensures { result ≡ can_place states channel.now.width channel.now.height
+            (λ x y. is_solid channel.now (nat_abs x) (nat_abs y)) self }
     {
         self.is_in(channel) && (is_index(u32::from(states), self.state) && self.is_fluid(channel))
     }
@@ -53,7 +56,8 @@ impl Placement {
         requires can { can_place (2 ^ G.rules.dirs) lattice.old.channel.width lattice.old.channel.height
             (λ x y. is_solid lattice.old.channel (nat_abs x) (nat_abs y)) self ≡ true }
         ensures channel { lattice.new.channel ≡ lattice.old.channel }
-        ensures cells { (w h : ℕ) (solid : ℕ → ℕ → Bool) (at : ℕ → ℕ → ℕ) → lattice.old ≡ lattice_of w h solid at
+        ensures cells { (w h : ℕ) (solid : ℕ → ℕ → Bool) (at : ℕ → ℕ → ℕ)
+            → lattice.old ≡ lattice_of w h solid at
             → lattice.new ≡ lattice_of w h solid (λ x y. placed (self ∷ []) x y (at x y)) }
     {
         lattice.set_cell(self.x as u32, self.y as u32, self.state as u8);

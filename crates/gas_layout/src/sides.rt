@@ -24,8 +24,10 @@ pub(crate) fn is_index(limit: u32, n: i64) -> bool
 /// to `most`, which is at most 65536.
 pub fn size_within(most: u32, width: i64, height: i64) -> Option<Size>
     requires { most ≤ MOST_SIDE }
-    ensures within { is_some result ≡ (between (pos 1) (pos most) width && between (pos 1) (pos most) height) }
-    ensures made { IfSome result (λ s. s ≡ record { width = nat_abs width; height = nat_abs height }) }
+    ensures within { is_some result
+        ≡ (between (pos 1) (pos most) width && between (pos 1) (pos most) height) }
+    ensures made { IfSome result (λ s.
+        s ≡ record { width = nat_abs width; height = nat_abs height }) }
 {
     let most = i64::from(most);
     if is_between(1, most, width) && is_between(1, most, height) {

@@ -14,7 +14,8 @@ use std::alloc::{AllocError, Global};
 // Lets the columns of a strip be solid at least up to its bottom.
 fn extend(depths: &mut [u32], strip: Strip)
     requires { IsStrip (length depths.old) strip }
-    ensures { (x y : ℕ) → nat_lt y (slice_index depths.new x) ≡ (nat_lt y (slice_index depths.old x) || reaches strip x y) }
+    ensures { (x y : ℕ) → nat_lt y (slice_index depths.new x)
+        ≡ (nat_lt y (slice_index depths.old x) || reaches strip x y) }
 {
     for x in strip.start as usize..strip.end as usize {
         depths[x] = depths[x].max(strip.bottom);
@@ -26,7 +27,8 @@ fn extend(depths: &mut [u32], strip: Strip)
 fn extend_ends(depths: &mut [u32], strip: Strip) -> Strip
     requires { IsStrip (length depths.old) strip }
     ensures within { (n : ℕ) → length depths.old ≤ 64 * n → IsStrip n result }
-    ensures cells { (x y : ℕ) → (nat_lt y (slice_index depths.new x) || reaches result (x / 64) y)
+    ensures cells { (x y : ℕ)
+        → (nat_lt y (slice_index depths.new x) || reaches result (x / 64) y)
         ≡ (nat_lt y (slice_index depths.old x) || reaches strip x y) }
 {
     let first = strip.start / 64 + 1;
@@ -76,7 +78,8 @@ fn mark_block(solid: &mut [bool], depths: &[u32], from: usize, to: usize, y: u32
     requires order { from ≤ to }
     requires within { to ≤ length depths.now }
     ensures { (x : ℕ) → slice_index_or solid.new x false
-        ≡ (if nat_le from x && nat_lt x to then nat_lt y (slice_index depths.now x) || whole else slice_index_or solid.old x false) }
+        ≡ (if nat_le from x && nat_lt x to then nat_lt y (slice_index depths.now x) || whole
+        else slice_index_or solid.old x false) }
 {
     for x in from..to {
         solid[x] = (y < depths[x]) | whole;
@@ -113,7 +116,8 @@ impl Skyline {
         requires columns { IsStrip (length self.old.columns.items) strip }
         requires sized { IsSkyline (length self.old.columns.items) self.old }
         ensures sized { IsSkyline (length self.old.columns.items) self.new }
-        ensures cells { (x y : ℕ) → passes self.new x y ≡ (passes self.old x y || reaches strip x y) }
+        ensures cells { (x y : ℕ)
+            → passes self.new x y ≡ (passes self.old x y || reaches strip x y) }
     {
         let in_blocks = extend_ends(self.columns.as_mut_slice(), strip);
         let in_groups = extend_ends(self.blocks.as_mut_slice(), in_blocks);
@@ -125,7 +129,8 @@ impl Skyline {
         requires columns { All (λ s. IsStrip (length self.old.columns.items) s) strips.now }
         requires sized { IsSkyline (length self.old.columns.items) self.old }
         ensures sized { IsSkyline (length self.old.columns.items) self.new }
-        ensures cells { (x y : ℕ) → passes self.new x y ≡ (passes self.old x y || list_any (λ s. reaches s x y) strips.now) }
+        ensures cells { (x y : ℕ) → passes self.new x y
+            ≡ (passes self.old x y || list_any (λ s. reaches s x y) strips.now) }
     {
         for strip in strips {
             self.extend(*strip);
@@ -136,7 +141,8 @@ impl Skyline {
     pub(crate) fn mark(&self, solid: &mut [bool], y: u32)
         requires sized { IsSkyline (length solid.old) self.now }
         requires few { length solid.old ≤ MOST_SIDE }
-        ensures { (x : ℕ) → x < length solid.old → slice_index_or solid.new x false ≡ passes self.now x y }
+        ensures { (x : ℕ) → x < length solid.old
+            → slice_index_or solid.new x false ≡ passes self.now x y }
     {
         let columns = self.columns.as_slice();
         let blocks = self.blocks.as_slice();

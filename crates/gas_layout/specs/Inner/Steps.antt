@@ -8,7 +8,8 @@ use Rattle.gas_layout.specs.Layout.{channel_of, lattice_of, filling}
 
 -- the channel up to row y, fluid from there on
 abbrev pub channel_before : ℕ → ℕ → (ℕ → ℕ → Bool) → ℕ → ChannelModel
-channel_before width height solid y = channel_of width height (λ u v. if nat_lt v y then solid u v else false)
+channel_before width height solid y =
+    channel_of width height (λ u v. if nat_lt v y then solid u v else false)
 
 -- the fluid cells of the rows before row y are filled, and the others are empty
 unfoldable pub filled_before : Rules → ℕ → ℕ → ℕ → ℕ → (ℕ → ℕ → Bool) → ℕ → LatticeModel

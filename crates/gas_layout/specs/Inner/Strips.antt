@@ -14,7 +14,11 @@ pub record IsStrip (width : ℕ) (s : Strip) : Type 0 where
 
 -- the strip of a rectangle, and the row in which it starts
 abbrev pub strip_of : Rectangle → Strip
-strip_of r = record { start = nat_abs r.x; end = nat_abs (r.x +ℤ r.width); bottom = nat_abs (r.y +ℤ r.height) }
+strip_of r = record {
+  start = nat_abs r.x;
+  end = nat_abs (r.x +ℤ r.width);
+  bottom = nat_abs (r.y +ℤ r.height);
+}
 
 abbrev pub first_row : Rectangle → ℕ
 first_row r = nat_abs r.y
@@ -27,7 +31,8 @@ reaches s x y = (nat_le s.start x && nat_lt x s.end) && nat_lt y s.bottom
 abbrev pub passes : Skyline → ℕ → ℕ → Bool
 passes s x y =
     nat_lt y (slice_index s.columns.items x)
-    || (nat_lt y (slice_index s.blocks.items (x / 64)) || nat_lt y (slice_index s.groups.items (x / 64 / 64)))
+    || (nat_lt y (slice_index s.blocks.items (x / 64))
+    || nat_lt y (slice_index s.groups.items (x / 64 / 64)))
 
 -- a number for each of so many columns, for each of their blocks, and for each of their groups
 pub record IsSkyline (width : ℕ) (s : Skyline) : Type 0 where
@@ -47,7 +52,8 @@ pub record AreStrips (width height : ℕ) (rows : List (Vec Strip Global)) : Typ
 -- whether one of the strips that start in the first n rows reaches the cell (x, y)
 abbrev pub is_reached : List (Vec Strip Global) → ℕ → ℕ → ℕ → Bool
 is_reached rows zero x y = false
-is_reached rows (suc n) x y = is_reached rows n x y || list_any (λ s. reaches s x y) (strips_at rows n)
+is_reached rows (suc n) x y =
+    is_reached rows n x y || list_any (λ s. reaches s x y) (strips_at rows n)
 
 -- whether one of the strips covers the cell (x, y)
 abbrev pub is_drawn : List (Vec Strip Global) → ℕ → ℕ → Bool
