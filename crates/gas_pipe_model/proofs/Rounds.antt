@@ -1,7 +1,8 @@
 -- A round with a turn of every member brings the line at least one event on, until it is done.
 use Rattle.std.proofs.Common.{◌≡◌, ℕ, zero, suc, ◌+◌, ◌≤◌, ◌<◌, true, false, cond, List, [], ◌∷◌, ◌++◌, ◌⊎◌, inl, inr, refl, ap, sym, ◌∙◌, arith}
 use Rattle.std.proofs.lemmas.Bool.{cases_Bool, cases_lt}
-use Rattle.gas_pipe_model.specs.Line.{Line, State, start, turn, moves, after_turns, events, is_done, IsLine, HasEach, HasRounds}
+use Rattle.gas_pipe_model.specs.Line.{Line, State, start, turn, moves, after_turns, events, is_done, HasEach, HasRounds}
+use Rattle.gas_pipe_model.specs.Inner.Line.{IsLine}
 use Rattle.gas_pipe_model.proofs.Turns.{puts, takes, idles, turn_cases, Fits, fits_start}
 use Rattle.gas_pipe_model.proofs.Kept.{fits_turn, fits_run}
 use Rattle.gas_pipe_model.proofs.Progress.{progress}

@@ -15,7 +15,7 @@ use crate::answer::Replay;
 use crate::local_line::LocalLine;
 use gas_geom::gas::Gas;
 use gas_pipe_members::error::RunError;
-use gas_pipe_members::pass::FirstPass;
+use gas_pipe_members::input::RunInput;
 use gas_pipe_members::plan::Plan;
 use gas_pipe_members::schedule::Schedule;
 use gas_rows::chirality::Chirality;
@@ -46,12 +46,12 @@ pub fn replay<G: Gas>(
     if plan.generations() == 0 {
         return Ok(Replay::new(Some(lattice.copy(alloc)?), Vec::new(alloc)));
     }
-    let pass = FirstPass {
+    let input = RunInput {
         lattice,
         chirality,
         schedule: Schedule { first, plan },
     };
-    let mut line = LocalLine::new(alloc, &pass)?;
+    let mut line = LocalLine::new(alloc, &input)?;
     line.run(turns);
     let belts = line.counts(alloc)?;
     Ok(Replay::new(line.finish(), belts))

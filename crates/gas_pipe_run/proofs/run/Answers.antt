@@ -5,7 +5,6 @@ use Rattle.gas_geom.proofs.Runs.{count-generation}
 use Rattle.gas_rows.specs.Chirality.{chirality_bit}
 use Rattle.gas_rows.specs.Row.{RowModel}
 use Rattle.gas_belt.specs.Belt.{CarriedModel}
-use Rattle.gas_pipe_model.specs.Pass.{first_pass}
 use Rattle.gas_pipe_run.proofs.Settled.{all_put, all_taken, rings_made, go_round}
 use Rattle.gas_pipe_run.proofs.run.Goals as goal
 
@@ -23,14 +22,14 @@ returns-clause-go_round g c =
     (subst (λ (x : ChannelModel). IsLattice g.G.Gas.rules x c.in_ok-feeder.feeder.rows) from.channel from.whole) in
     let plan = c.generations.ensures.accepted in
     let some : 0 < c.args.plan.generations = omega (arith, c.if-generations-eq0.false, c.generations.ensures.value) in
-    go_round g.G.Gas.rules (first_pass c.args.chirality c.args.first c.args.lattice.now c.args.plan)
+    go_round g.G.Gas.rules (record { chirality = c.args.chirality; first = c.args.first; lattice = c.args.lattice.now; plan = c.args.plan })
     (record { lattice = is; room = search rules }) (search rules) some c.in_ok-run_ring.field-0 c.in_ok-run_ring.ensures
 
 pub returns-clause-belts_made : goal.returns-clause-belts_made
 returns-clause-belts_made g c more =
     let ran = c.in_ok-run_ring.ensures in
     ap (λ (l : List CarriedModel). length l) ran.belts
-    ∙ rings_made g.G.Gas.rules (first_pass c.args.chirality c.args.first c.args.lattice.now c.args.plan) more
+    ∙ rings_made g.G.Gas.rules (record { chirality = c.args.chirality; first = c.args.first; lattice = c.args.lattice.now; plan = c.args.plan }) more
     ∙ ap (λ (n : ℕ). n + 1) (sym ran.stages)
 
 pub returns-clause-number : goal.returns-clause-number
