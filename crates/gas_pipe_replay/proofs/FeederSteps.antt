@@ -1,5 +1,5 @@
 -- A turn of the feeder brings a line to where the same turn brings its histories.
-use Rattle.std.proofs.Common.{◌≡◌, ◌≢◌, ℕ, zero, suc, ◌+◌, ◌≤◌, ◌<◌, inl, inr, true, false, List, [], ◌∷◌, ◌++◌, length, set, refl, ap, sym, ◌∙◌, subst, arith, length-append, append_assoc, length-set}
+use Rattle.std.proofs.Common.{◌≡◌, ◌≢◌, ℕ, zero, suc, ◌+◌, ◌≤◌, ◌<◌, inl, inr, true, false, List, [], ◌∷◌, ◌++◌, length, set, refl, ap, sym, ◌∙◌, subst, arith, length-append, append_assoc, length-set, append-nil}
 use Rattle.std.proofs.lemmas.Bool.{cases_lt, le-ltb}
 use Rattle.gas_geom.specs.Gas.{Rules, IsGas}
 use Rattle.gas_rows.specs.Row.{RowModel}
@@ -8,7 +8,8 @@ use Rattle.gas_pipe_model.specs.Inner.Line.{after_put, after_take, IsLine}
 use Rattle.gas_pipe_model.specs.Pass.{RunInputModel, line_of, rows_on}
 use Rattle.gas_pipe_members.specs.Belt.{BeltModel}
 use Rattle.gas_pipe_members.specs.Worker.{WorkerModel}
-use Rattle.gas_pipe_members.specs.Feeder.{FeederModel, HasFed, AfterTake, AfterPut, emptied}
+use Rattle.gas_pipe_members.specs.Feeder.{FeederModel, HasFed, Feeds}
+use Rattle.gas_pipe_members.specs.Inner.Steps.{emptied}
 use Rattle.gas_pipe_replay.specs.Inner.LocalLine.{belt, Shows}
 use Rattle.gas_pipe_members.specs.declared.ends.Turned.{Turned}
 use Rattle.gas_pipe_members.specs.declared.ends.Turned.TheVariants.{Took, Put, Idle, Done, Stray}
@@ -23,8 +24,8 @@ use Rattle.gas_pipe_model.proofs.Wide.{under_way_is_wide}
 -- what a feeder's turn between two belts of one thread did
 pub record FeederTurned (r : Turned) (f v : FeederModel) (to to2 from from2 : BeltModel) : Type 0 where
   pub channel : v.channel ≡ f.channel
-  pub gave : r ≡ Put → (row : RowModel) × ((length to.rows < to.capacity) × (to2 ≡ record to { rows = to.rows ++ row ∷ [] })) × (from2 ≡ from) × AfterPut f row v
-  pub took : r ≡ Took → (row : RowModel) × (from ≡ record from2 { rows = row ∷ from2.rows }) × (to2 ≡ to) × AfterTake f row v
+  pub gave : r ≡ Put → (row : RowModel) × ((length to.rows < to.capacity) × (to2 ≡ record to { rows = to.rows ++ row ∷ [] })) × (from2 ≡ from) × Feeds f (row ∷ []) [] v
+  pub took : r ≡ Took → (row : RowModel) × (from ≡ record from2 { rows = row ∷ from2.rows }) × (to2 ≡ to) × Feeds f [] (row ∷ []) v
   pub took_when : r ≡ Took → f.to_put < f.to_take
   pub took_after_put : r ≡ Took → 0 < f.to_put → 0 < length f.rows → length to.rows < to.capacity → ⊥
   pub idle : r ≡ Idle → (from2 ≡ from) × (to2 ≡ to) × (v ≡ f)
@@ -185,10 +186,10 @@ module _ (gas : Rules) (input : RunInputModel) (f v : FeederModel) (ws : List Wo
   feeder_step : (r : Turned) → FeederTurned r f v (belt bs 0) q (belt bs last) t → Shown
   feeder_step Took h =
       let c = h.took refl in
-      took_step c.0 c.1 c.2 h.channel (c.3 1 (rows_on gas input 0 0) (s.put 0) (s.taken last) sh.fed) (h.took_after_put refl)
+      took_step c.0 c.1 c.2 h.channel (rw (append-nil (s.put 0)) at (c.3 1 (rows_on gas input 0 0) (s.put 0) (s.taken last) sh.fed)) (h.took_after_put refl)
   feeder_step Put h =
       let c = h.gave refl in
-      gave_step c.0 c.1.1 c.1.0 c.2 h.channel (c.3 1 (rows_on gas input 0 0) (s.put 0) (s.taken last) sh.fed)
+      gave_step c.0 c.1.1 c.1.0 c.2 h.channel (rw (append-nil (s.taken last)) at (c.3 1 (rows_on gas input 0 0) (s.put 0) (s.taken last) sh.fed))
   feeder_step Idle h =
       let c = h.idle refl in
       idle_step c.0 c.1 c.2 (h.idle_putting refl) (h.idle_taking refl)

@@ -12,7 +12,8 @@ use Rattle.gas_pipe_model.specs.Line.{State, is_done}
 use Rattle.gas_pipe_model.specs.Pass.{RunInputModel, line_of, rows_on}
 use Rattle.gas_pipe_members.specs.Belt.{BeltModel}
 use Rattle.gas_pipe_members.specs.Worker.{WorkerModel}
-use Rattle.gas_pipe_members.specs.Feeder.{FeederModel, emptied}
+use Rattle.gas_pipe_members.specs.Feeder.{FeederModel}
+use Rattle.gas_pipe_members.specs.Inner.Steps.{emptied}
 use Rattle.gas_pipe_model.specs.Plan.{passes_of}
 use Rattle.gas_pipe_replay.specs.Replay.{ReplayModel, counts_of, replay_of}
 use Rattle.gas_pipe_replay.specs.declared.answer.Counts.{Counts}

@@ -7,7 +7,7 @@ use Rattle.std.proofs.lemmas.List.{length-map, map-id}
 use Rattle.std.proofs.lemmas.List.FromFn.{length-map-range_with_len, get_or-map-range_with_len}
 use Rattle.gas_geom.specs.Gas.{Rules, IsGas}
 use Rattle.gas_geom.specs.Channel.{ChannelModel}
-use Rattle.gas_geom.specs.Lattice.{LatticeModel}
+use Rattle.gas_geom.specs.Lattice.{LatticeModel, IsLattice}
 use Rattle.gas_stage.specs.Evolution.{lattice_after}
 use Rattle.gas_belt.specs.Belt.{CarriedModel}
 use Rattle.gas_rows.specs.Row.{RowModel}
@@ -20,8 +20,10 @@ use Rattle.gas_pipe_model.proofs.Generations.{begins_first, ends_last, same_latt
 use Rattle.gas_pipe_model.proofs.Ring.{joined_high, ring_law, left_over}
 use Rattle.gas_pipe_model.proofs.Rings.{is_ring, joined_is, round}
 use Rattle.gas_pipe_model.proofs.Wide.{after_is_lattice}
-use Rattle.gas_pipe_members.specs.Feeder.{FeederModel, HasFed, emptied}
-use Rattle.gas_pipe_run.specs.Run.{RunModel, put_on, taken_on}
+use Rattle.gas_pipe_members.specs.Feeder.{FeederModel, HasFed}
+use Rattle.gas_pipe_members.specs.Inner.Steps.{emptied}
+use Rattle.gas_pipe_run.specs.Run.{RunModel}
+use Rattle.gas_pipe_run.specs.Inner.Links.{put_on, taken_on}
 use Rattle.gas_pipe_run.specs.Inner.Links.{whole, on, on_first, HasRun, Reached}
 use Rattle.gas_pipe_members.proofs.Emptied.{take-emptied, emptied_joined}
 use Rattle.gas_pipe_members.proofs.Feeds.{fed_gave, fed_given, fed_taken, fed_holds}
@@ -96,6 +98,11 @@ module _ (gas : Rules) (input : RunInputModel) (is : IsRunInput gas input) (b : 
       ∙ ap (λ (rows : List RowModel). on_first gas input b k ++ whole rows ∷ []) reached.put_is
       ∙ sym (on_more gas input b k)
       ∙ ap (on_first gas input b) (let e : suc k ≡ input.plan.stages + 1 = omega (arith, last) in e)
+
+-- a lattice of which a feeder holds the rows
+pub is_lattice : (gas : Rules) (l : LatticeModel) (f : FeederModel) → f.channel ≡ l.channel → f.rows ≡ l.rows → IsLattice gas f.channel f.rows → IsLattice gas l.channel l.rows
+is_lattice gas l f channel rows is =
+    subst (λ (r : List RowModel). IsLattice gas l.channel r) rows (subst (λ (c : ChannelModel). IsLattice gas c f.rows) channel is)
 
 -- a feeder whose passes are closed put and took all rows
 module _ (input : RunInputModel) (f : FeederModel) (b took : List RowModel) (channel : f.channel ≡ input.lattice.channel) (over : f.to_take ≡ 0)

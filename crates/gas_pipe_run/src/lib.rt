@@ -15,12 +15,11 @@ mod watch;
 mod work;
 mod worker_loop;
 
-ghost use Rattle.std.specs.Prelude.{◌≡◌, ◌+◌, ◌-◌, ◌*◌, ◌≤◌, ◌<◌, ◌^◌, ℕ, [], length, map, take, drop, IfOk, IfErr};
+ghost use Rattle.std.specs.Prelude.{◌≡◌, ◌+◌, ◌-◌, ◌*◌, ◌≤◌, ◌<◌, ◌^◌, ℕ, [], length, map, get_or, take, drop, IfOk, IfErr};
 ghost use Rattle.gas_geom.specs.Lattice.{count};
 ghost use Rattle.gas_stage.specs.Evolution.{lattice_after};
 ghost use Rattle.gas_pipe_model.specs.Plan.{passes_of};
 ghost use Rattle.gas_pipe_model.specs.Pass.{rings};
-ghost use Rattle.gas_pipe_run.specs.Run.{put_on, taken_on};
 
 use crate::answer::Run;
 use crate::gate::Gate;
@@ -56,7 +55,8 @@ pub fn run<G: Gas + Send, H: Gate + Sync, R: Threads + Wait + Sync>(
     requires room { first + plan.generations < 2 ^ 64 }
     ensures put { IfOk result (λ r. map (λ b. b.put) r.belts ≡ rings G.rules (record { chirality = chirality; first = first; lattice = lattice.now; plan = plan })) }
     ensures taken { IfOk result (λ r. map (λ b. b.taken) r.belts ≡ rings G.rules (record { chirality = chirality; first = first; lattice = lattice.now; plan = plan })) }
-    ensures go_round { IfOk result (λ r. take ((r.passes - 1) * lattice.now.channel.height) (taken_on r.belts r.stages) ≡ drop lattice.now.channel.height (put_on r.belts 0)) }
+    ensures go_round { IfOk result (λ r. take ((r.passes - 1) * lattice.now.channel.height) (get_or (map (λ b. b.taken) r.belts) r.stages [])
+        ≡ drop lattice.now.channel.height (get_or (map (λ b. b.put) r.belts) 0 [])) }
     ensures belts_made { 0 < plan.generations → IfOk result (λ r. length r.belts ≡ r.stages + 1) }
     ensures lattice { IfOk result (λ r. r.lattice ≡ lattice_after G.rules chirality first lattice.now plan.generations) }
     ensures number { IfOk result (λ _. (n : ℕ) → n ≤ plan.generations →

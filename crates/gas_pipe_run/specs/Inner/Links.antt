@@ -1,6 +1,6 @@
 -- Inner words: what functions of this crate promise one another. No public contract cites them.
 -- How the belts of a run are linked, and what they have carried when it is over.
-use Rattle.std.specs.Prelude.{◌≡◌, ℕ, suc, ◌++◌, List, [], ◌∷◌, map, Option, Some}
+use Rattle.std.specs.Prelude.{◌≡◌, ℕ, suc, ◌++◌, List, [], ◌∷◌, map, Option, Some, get_or}
 use Rattle.std.specs.List.{range_with_len}
 use Rattle.std.specs.declared.thread.PromisedHandle.{PromisedHandle}
 use Rattle.gas_geom.specs.Gas.{Rules}
@@ -42,6 +42,13 @@ AllReady (j ∷ js) = IsReady j × AllReady js
 -- the job that a thread was given
 abbrev pub job_of : PromisedHandle (Option EndedModel) (WorkPromise JobModel) → JobModel
 job_of h = h.promise.0.value
+
+-- the rows that were put on belt k, and those that were taken from it; none where there is no such belt
+abbrev pub put_on : List CarriedModel → ℕ → List RowModel
+put_on belts k = get_or (map (λ (b : CarriedModel). b.put) belts) k []
+
+abbrev pub taken_on : List CarriedModel → ℕ → List RowModel
+taken_on belts k = get_or (map (λ (b : CarriedModel). b.taken) belts) k []
 
 -- a belt from which these rows were taken, and no others were put on it
 abbrev pub whole : List RowModel → CarriedModel
