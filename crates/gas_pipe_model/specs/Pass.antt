@@ -1,5 +1,6 @@
 -- The passes of a plan over a lattice: the line of each, and what the belts carry in it and in all of them.
 use Rattle.std.specs.Prelude.{ℕ, ◌+◌, ◌-◌, ◌*◌, eqb, ltb, min, if◌then◌else◌, Option, Some, None, List, [], map, flat_map}
+use Rattle.std.specs.Int.{div_ceil}
 use Rattle.std.specs.List.{range_with_len}
 use Rattle.gas_geom.specs.Gas.{Rules}
 use Rattle.gas_geom.specs.Lattice.{LatticeModel}
@@ -8,7 +9,7 @@ use Rattle.gas_rows.specs.declared.chirality.Chirality.{Chirality}
 use Rattle.gas_stage.specs.Evolution.{lattice_after}
 use Rattle.gas_stage.specs.Stage.{owed}
 use Rattle.gas_pipe_model.specs.Line.{Line}
-use Rattle.gas_pipe_model.specs.Plan.{PlanModel, passes_of}
+use Rattle.gas_pipe_model.specs.Plan.{PlanModel}
 
 -- the input of a run: a lattice of generation `first`, its chirality, and the plan to carry out
 pub record RunInputModel : Type 0 where
@@ -42,8 +43,9 @@ line_of gas input n = record {
 abbrev pub ring : Rules → RunInputModel → ℕ → ℕ → List RowModel
 ring gas input n k = flat_map (λ i. rows_on gas input i k) (range_with_len 0 n)
 
--- what the belts of a run carry, from belt 0; where no generation is to be computed there is no belt
+-- what the belts of a run carry, from belt 0, in all passes, as many as the generations divided by the stages, rounded up; where no
+-- generation is to be computed there is no belt
 abbrev pub rings : Rules → RunInputModel → List (List RowModel)
 rings gas input =
     if eqb input.plan.generations 0 then []
-    else map (ring gas input (passes_of input.plan.generations input.plan.stages)) (range_with_len 0 (input.plan.stages + 1))
+    else map (ring gas input (div_ceil input.plan.generations input.plan.stages)) (range_with_len 0 (input.plan.stages + 1))

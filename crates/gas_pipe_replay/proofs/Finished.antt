@@ -1,6 +1,7 @@
 -- Where the feeder's pass is closed the line is done, and the feeder holds the rows of the last generation.
 use Rattle.std.proofs.Common.{rules, ◌≡◌, ℕ, ◌+◌, ◌*◌, ◌≤◌, ◌<◌, Bool, true, false, eqb, if◌then◌else◌, Option, Some, None, List, length, map, ap, sym, ◌∙◌, subst, arith}
 use Rattle.std.specs.Prelude.{IsSome}
+use Rattle.std.specs.Int.{div_ceil}
 use Rattle.std.specs.List.{range_with_len}
 use Rattle.std.proofs.lemmas.Bool.{eq-eqb, ne_eqb, and_from, and_right}
 use Rattle.std.proofs.Math.Nat.{mul-le-mul_right}
@@ -14,7 +15,6 @@ use Rattle.gas_pipe_members.specs.Belt.{BeltModel}
 use Rattle.gas_pipe_members.specs.Worker.{WorkerModel}
 use Rattle.gas_pipe_members.specs.Feeder.{FeederModel}
 use Rattle.gas_pipe_members.specs.Inner.Steps.{emptied}
-use Rattle.gas_pipe_model.specs.Plan.{passes_of}
 use Rattle.gas_pipe_replay.specs.Replay.{ReplayModel, counts_of, replay_of}
 use Rattle.gas_pipe_replay.specs.declared.answer.Counts.{Counts}
 use Rattle.gas_pipe_replay.specs.Inner.LocalLine.{after, Shows}
@@ -64,10 +64,10 @@ module _ (gas : Rules) (input : RunInputModel) (f : FeederModel) (ws : List Work
   finished over = (closed_done over, holds_last over)
 
 -- a plan that needs no more than one pass has a stage for each generation
-pub one_pass : (generations stages : ℕ) → 0 < stages → passes_of generations stages ≤ 1 → generations ≤ stages
+pub one_pass : (generations stages : ℕ) → 0 < stages → div_ceil generations stages ≤ 1 → generations ≤ stages
 one_pass generations stages some few =
-    let enough : generations ≤ passes_of generations stages * stages = (div_ceil_times generations stages some).0 in
-    let one : passes_of generations stages * stages ≤ 1 * stages = mul-le-mul_right stages few in
+    let enough : generations ≤ div_ceil generations stages * stages = (div_ceil_times generations stages some).0 in
+    let one : div_ceil generations stages * stages ≤ 1 * stages = mul-le-mul_right stages few in
     omega arith
 
 -- how the only pass of a plan stands, where it has generations to compute

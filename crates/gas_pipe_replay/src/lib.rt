@@ -5,10 +5,10 @@ pub mod answer;
 mod local_line;
 
 ghost use Rattle.std.specs.Prelude.{◌≡◌, ◌≤◌, ◌<◌, ◌+◌, ◌*◌, ◌^◌, ℕ, Err, IfOk, IsSome, ◌↔◌};
+ghost use Rattle.std.specs.Int.{div_ceil};
 ghost use Rattle.gas_geom.specs.Lattice.{count};
 ghost use Rattle.gas_stage.specs.Evolution.{lattice_after};
 ghost use Rattle.gas_pipe_model.specs.Line.{HasRounds};
-ghost use Rattle.gas_pipe_model.specs.Plan.{passes_of};
 ghost use Rattle.gas_pipe_replay.specs.Replay.{replay_of};
 
 use crate::answer::Replay;
@@ -34,7 +34,7 @@ pub fn replay<G: Gas>(
     turns: &[u32],
 ) -> Result<Replay<G>, RunError>
     requires room { first + plan.generations < 2 ^ 64 }
-    ensures more_passes { 1 < passes_of plan.generations plan.stages ↔ result ≡ Err RunError.MorePasses }
+    ensures more_passes { 1 < div_ceil plan.generations plan.stages ↔ result ≡ Err RunError.MorePasses }
     ensures state { IfOk result (λ r. r ≡ replay_of G.rules chirality first lattice.now plan turns.now) }
     ensures done { IfOk result (λ r. HasRounds plan.stages (2 * lattice.now.channel.height * (plan.stages + 1)) turns.now → IsSome r.lattice) }
     ensures number { IfOk result (λ _. (n : ℕ) → n ≤ plan.generations →

@@ -2,6 +2,7 @@
 use Rattle.std.proofs.Common.{◌≡◌, ℕ, suc, ◌+◌, ◌*◌, ◌++◌, List, [], ◌∷◌, length, map, refl, ap, sym, subst, ◌∙◌, arith, Option, Some, None, IfSome}
 use Rattle.std.proofs.lemmas.List.FromFn.{map-range_with_len_more}
 use Rattle.std.specs.declared.thread.PromisedHandle.{PromisedHandle}
+use Rattle.std.specs.Int.{div_ceil}
 use Rattle.gas_geom.specs.Gas.{Rules}
 use Rattle.gas_geom.specs.Channel.{ChannelModel}
 use Rattle.gas_rows.specs.declared.chirality.Chirality.{Chirality}
@@ -9,7 +10,7 @@ use Rattle.gas_stage.specs.Stage.{owed}
 use Rattle.gas_belt.specs.Belt.{Belt, Sender, CarriedModel}
 use Rattle.gas_pipe_run.specs.declared.work.WorkPromise.{WorkPromise}
 use Rattle.gas_rows.specs.Row.{RowModel}
-use Rattle.gas_pipe_model.specs.Plan.{PlanModel, passes_of}
+use Rattle.gas_pipe_model.specs.Plan.{PlanModel}
 use Rattle.gas_pipe_model.specs.Pass.{RunInputModel, computes_from, rows_on}
 use Rattle.gas_pipe_model.specs.Inner.Input.{IsRunInput}
 use Rattle.gas_pipe_model.specs.Inner.Ring.{owed_in, owes_in}
@@ -23,7 +24,7 @@ Handle = PromisedHandle (Option EndedModel) (WorkPromise JobModel)
 
 -- how many rows go over each belt
 abbrev pub all_rows : RunInputModel → ℕ
-all_rows input = passes_of input.plan.generations input.plan.stages * input.lattice.channel.height
+all_rows input = div_ceil input.plan.generations input.plan.stages * input.lattice.channel.height
 
 -- one belt more
 pub on_more : (gas : Rules) (input : RunInputModel) (b : List RowModel) (k : ℕ) → on_first gas input b (suc k) ≡ on_first gas input b k ++ whole (on gas input b k) ∷ []
@@ -35,7 +36,7 @@ module _ (gas : Rules) (input : RunInputModel) (is : IsRunInput gas input) (b : 
   pub on_long : (k : ℕ) → length (on gas input b k) ≡ all_rows input
   on_long k =
       on_high input.lattice.channel.height input.plan.stages (owes_in gas input) (λ q. q) (rows_on gas input) (is_ring gas input is (λ q. q) (λ m q. refl) (λ n. refl))
-      (passes_of input.plan.generations input.plan.stages) b long k
+      (div_ceil input.plan.generations input.plan.stages) b long k
 
   module _ (k : ℕ) (s : Sender) (j : JobModel) (e : EndedModel) (now : List CarriedModel)
       (takes : Takes input k s.belt j) (reached : Reached gas input b k s.put now) (ran : Ran gas j e) where
@@ -46,21 +47,21 @@ module _ (gas : Rules) (input : RunInputModel) (is : IsRunInput gas input) (b : 
     pub as_many : length s.put ≡ length e.rx.taken
     as_many =
         ap length reached.put_is ∙ on_long k
-        ∙ ap (λ (c : ChannelModel). passes_of input.plan.generations input.plan.stages * c.height) (sym takes.channel)
-        ∙ ap (λ (q : PlanModel). passes_of q.generations q.stages * j.worker.stage.channel.height) (sym takes.plan)
+        ∙ ap (λ (c : ChannelModel). div_ceil input.plan.generations input.plan.stages * c.height) (sym takes.channel)
+        ∙ ap (λ (q : PlanModel). div_ceil q.generations q.stages * j.worker.stage.channel.height) (sym takes.plan)
         ∙ sym ran.whole
 
     -- that worker put the rows of the next belt
     pub puts_next : e.rx.taken ≡ s.put → e.spent.put ≡ on gas input b (suc k)
     puts_next same =
         ran.owes_is
-        ∙ ap (λ (c : ChannelModel). owed_in c.height (λ i. owed gas c j.worker.stage.chirality (computes_from j.first j.plan i j.who)) (passes_of j.plan.generations j.plan.stages) e.rx.taken) takes.channel
-        ∙ ap (λ (h : Chirality). owed_in input.lattice.channel.height (λ i. owed gas input.lattice.channel h (computes_from j.first j.plan i j.who)) (passes_of j.plan.generations j.plan.stages) e.rx.taken) takes.chirality
-        ∙ ap (λ (g : ℕ). owed_in input.lattice.channel.height (λ i. owed gas input.lattice.channel input.chirality (computes_from g j.plan i j.who)) (passes_of j.plan.generations j.plan.stages) e.rx.taken) takes.first
-        ∙ ap (λ (q : PlanModel). owed_in input.lattice.channel.height (λ i. owed gas input.lattice.channel input.chirality (computes_from input.first q i j.who)) (passes_of q.generations q.stages) e.rx.taken) takes.plan
-        ∙ ap (λ (w : ℕ). owed_in input.lattice.channel.height (λ i. owed gas input.lattice.channel input.chirality (computes_from input.first input.plan i w)) (passes_of input.plan.generations input.plan.stages) e.rx.taken) takes.who
-        ∙ ap (owed_in input.lattice.channel.height (owes_in gas input k) (passes_of input.plan.generations input.plan.stages)) (same ∙ reached.put_is)
-        ∙ sym (on_next input.lattice.channel.height (owes_in gas input) (passes_of input.plan.generations input.plan.stages) b k)
+        ∙ ap (λ (c : ChannelModel). owed_in c.height (λ i. owed gas c j.worker.stage.chirality (computes_from j.first j.plan i j.who)) (div_ceil j.plan.generations j.plan.stages) e.rx.taken) takes.channel
+        ∙ ap (λ (h : Chirality). owed_in input.lattice.channel.height (λ i. owed gas input.lattice.channel h (computes_from j.first j.plan i j.who)) (div_ceil j.plan.generations j.plan.stages) e.rx.taken) takes.chirality
+        ∙ ap (λ (g : ℕ). owed_in input.lattice.channel.height (λ i. owed gas input.lattice.channel input.chirality (computes_from g j.plan i j.who)) (div_ceil j.plan.generations j.plan.stages) e.rx.taken) takes.first
+        ∙ ap (λ (q : PlanModel). owed_in input.lattice.channel.height (λ i. owed gas input.lattice.channel input.chirality (computes_from input.first q i j.who)) (div_ceil q.generations q.stages) e.rx.taken) takes.plan
+        ∙ ap (λ (w : ℕ). owed_in input.lattice.channel.height (λ i. owed gas input.lattice.channel input.chirality (computes_from input.first input.plan i w)) (div_ceil input.plan.generations input.plan.stages) e.rx.taken) takes.who
+        ∙ ap (owed_in input.lattice.channel.height (owes_in gas input k) (div_ceil input.plan.generations input.plan.stages)) (same ∙ reached.put_is)
+        ∙ sym (on_next input.lattice.channel.height (owes_in gas input) (div_ceil input.plan.generations input.plan.stages) b k)
 
     pub met : (now2 : List CarriedModel) → e.rx.taken ≡ s.put → now2 ≡ now ++ whole s.put ∷ [] → Reached gas input b (suc k) e.spent.put now2
     met now2 same grown = record {

@@ -1,6 +1,7 @@
 -- A run that is over: what its belts carried, and the rows that the feeder holds.
 use Rattle.std.proofs.Common.{◌≡◌, ℕ, suc, ◌+◌, ◌-◌, ◌*◌, ◌≤◌, ◌<◌, ◌++◌, List, [], ◌∷◌, length, map, take, drop, refl, ap, sym, subst, ◌∙◌, arith}
 use Rattle.std.specs.Prelude.{get_or}
+use Rattle.std.specs.Int.{div_ceil}
 use Rattle.std.specs.List.{range_with_len}
 use Rattle.std.proofs.lemmas.Bool.{ne_eqb}
 use Rattle.std.proofs.lemmas.List.{length-map, map-id}
@@ -11,7 +12,6 @@ use Rattle.gas_geom.specs.Lattice.{LatticeModel, IsLattice}
 use Rattle.gas_stage.specs.Evolution.{lattice_after}
 use Rattle.gas_belt.specs.Belt.{CarriedModel}
 use Rattle.gas_rows.specs.Row.{RowModel}
-use Rattle.gas_pipe_model.specs.Plan.{passes_of}
 use Rattle.gas_pipe_model.specs.Pass.{RunInputModel, ring, rings, rows_on}
 use Rattle.gas_pipe_model.specs.Inner.Input.{IsRunInput}
 use Rattle.gas_pipe_model.specs.Inner.Ring.{joined, IsRing, owes_in}
@@ -49,12 +49,12 @@ pub rings_made : (gas : Rules) (input : RunInputModel) → 0 < input.plan.genera
 rings_made gas input more =
     length-map (rings gas input) whole
     ∙ rw (ne_eqb input.plan.generations 0 (λ none. absurd (omega (arith, none, more))))
-    (length-map-range_with_len (ring gas input (passes_of input.plan.generations input.plan.stages)) 0 (input.plan.stages + 1))
+    (length-map-range_with_len (ring gas input (div_ceil input.plan.generations input.plan.stages)) 0 (input.plan.stages + 1))
 
 -- what the belts of a run carry, the rows that come back on the last but for the last pass's those of the later passes on the first
 module _ (gas : Rules) (input : RunInputModel) (is : IsRunInput gas input) (some : 0 < input.plan.stages) (more : 0 < input.plan.generations) where
   abbrev passes_made : ℕ
-  passes_made = passes_of input.plan.generations input.plan.stages
+  passes_made = div_ceil input.plan.generations input.plan.stages
 
   carried_on : (k : ℕ) → k ≤ input.plan.stages → get_or (rings gas input) k [] ≡ ring gas input passes_made k
   carried_on k le =
@@ -87,8 +87,8 @@ module _ (gas : Rules) (input : RunInputModel) (is : IsRunInput gas input) (b : 
   pub last_on : put ≡ on gas input b input.plan.stages
   last_on = reached.put_is ∙ ap (on gas input b) last
 
-  pub last_whole : length b ≡ passes_of input.plan.generations input.plan.stages * input.lattice.channel.height →
-      length put ≡ passes_of input.plan.generations input.plan.stages * input.lattice.channel.height
+  pub last_whole : length b ≡ div_ceil input.plan.generations input.plan.stages * input.lattice.channel.height →
+      length put ≡ div_ceil input.plan.generations input.plan.stages * input.lattice.channel.height
   last_whole long = ap length reached.put_is ∙ on_long gas input is b long k
 
   pub all_belts : (now2 : List CarriedModel) → now2 ≡ now ++ whole put ∷ [] → now2 ≡ on_first gas input b (input.plan.stages + 1)
@@ -106,14 +106,14 @@ is_lattice gas l f channel rows is =
 
 -- a feeder whose passes are closed put and took all rows
 module _ (input : RunInputModel) (f : FeederModel) (b took : List RowModel) (channel : f.channel ≡ input.lattice.channel) (over : f.to_take ≡ 0)
-    (fed : HasFed f (passes_of input.plan.generations input.plan.stages) input.lattice.rows b took) where
-  as_high : passes_of input.plan.generations input.plan.stages * f.channel.height ≡ passes_of input.plan.generations input.plan.stages * input.lattice.channel.height
-  as_high = ap (λ (c : ChannelModel). passes_of input.plan.generations input.plan.stages * c.height) channel
+    (fed : HasFed f (div_ceil input.plan.generations input.plan.stages) input.lattice.rows b took) where
+  as_high : div_ceil input.plan.generations input.plan.stages * f.channel.height ≡ div_ceil input.plan.generations input.plan.stages * input.lattice.channel.height
+  as_high = ap (λ (c : ChannelModel). div_ceil input.plan.generations input.plan.stages * c.height) channel
 
-  pub long : length b ≡ passes_of input.plan.generations input.plan.stages * input.lattice.channel.height
+  pub long : length b ≡ div_ceil input.plan.generations input.plan.stages * input.lattice.channel.height
   long = fed_given f _ input.lattice.rows b took fed over ∙ as_high
 
-  pub taken_long : length took ≡ passes_of input.plan.generations input.plan.stages * input.lattice.channel.height
+  pub taken_long : length took ≡ div_ceil input.plan.generations input.plan.stages * input.lattice.channel.height
   taken_long = fed_taken f _ input.lattice.rows b took fed over ∙ as_high
 
 -- the workers' ring, of which the feeder empties the solid cells
@@ -122,7 +122,7 @@ module _ (gas : Rules) (laws : IsGas gas) (input : RunInputModel) (is : IsRunInp
   high = input.lattice.channel.height
 
   abbrev passes : ℕ
-  passes = passes_of input.plan.generations input.plan.stages
+  passes = div_ceil input.plan.generations input.plan.stages
 
   abbrev last_rows : ℕ → List RowModel
   last_rows = λ i. rows_on gas input i input.plan.stages

@@ -1,7 +1,7 @@
 //! Joining the workers' threads, and bringing the two ends of each belt together.
 ghost use Rattle.std.specs.Prelude.{◌≡◌, ◌*◌, [], length, map, IfSome, vec_len};
+ghost use Rattle.std.specs.Int.{div_ceil};
 ghost use Rattle.gas_pipe_model.specs.Inner.Input.{IsRunInput};
-ghost use Rattle.gas_pipe_model.specs.Plan.{passes_of};
 ghost use Rattle.gas_pipe_run.specs.Inner.Links.{Linked, Advanced, Reached, job_of, last_belt};
 
 use crate::job::Ended;
@@ -43,7 +43,7 @@ pub(crate) fn gather<G: Gas, R: Threads>(
     belts: &mut Vec<Carried<G>>,
 ) -> Option<Spent<G>>
     requires input { IsRunInput G.rules input.now }
-    requires whole { length spent.put ≡ passes_of input.now.plan.generations input.now.plan.stages * input.now.lattice.channel.height }
+    requires whole { length spent.put ≡ div_ceil input.now.plan.generations input.now.plan.stages * input.now.lattice.channel.height }
     requires linked { Linked input.now 0 spent.belt (map job_of handles.items) }
     requires none { belts.old.items ≡ [] }
     ensures next { IfSome result (λ s. s.belt ≡ last_belt spent.belt (map job_of handles.entry.items)) }

@@ -16,9 +16,9 @@ mod work;
 mod worker_loop;
 
 ghost use Rattle.std.specs.Prelude.{◌≡◌, ◌+◌, ◌-◌, ◌*◌, ◌≤◌, ◌<◌, ◌^◌, ℕ, [], length, map, get_or, take, drop, IfOk, IfErr};
+ghost use Rattle.std.specs.Int.{div_ceil};
 ghost use Rattle.gas_geom.specs.Lattice.{count};
 ghost use Rattle.gas_stage.specs.Evolution.{lattice_after};
-ghost use Rattle.gas_pipe_model.specs.Plan.{passes_of};
 ghost use Rattle.gas_pipe_model.specs.Pass.{rings};
 
 use crate::answer::Run;
@@ -62,7 +62,7 @@ pub fn run<G: Gas + Send, H: Gate + Sync, R: Threads + Wait + Sync>(
     ensures number { IfOk result (λ _. (n : ℕ) → n ≤ plan.generations →
         count G.rules (lattice_after G.rules chirality first lattice.now n).rows ≡ count G.rules lattice.now.rows) }
     ensures stages { IfOk result (λ r. r.stages ≡ plan.stages) }
-    ensures passes { IfOk result (λ r. r.passes ≡ passes_of plan.generations plan.stages) }
+    ensures passes { IfOk result (λ r. r.passes ≡ div_ceil plan.generations plan.stages) }
     ensures no_generation { plan.generations ≡ 0 → IfOk result (λ r. (r.lattice ≡ lattice.now) × (r.belts ≡ [])) }
     ensures refused { IfErr result (λ e. e ≡ RunError.Memory) }
 {

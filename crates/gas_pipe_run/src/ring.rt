@@ -1,7 +1,7 @@
 //! The line as a ring: a thread for each worker and the caller's for the feeder, through all passes.
 ghost use Rattle.std.specs.Prelude.{◌≡◌, ◌<◌, ◌*◌, [], length, map, IfOk, IfSome, vec_len};
+ghost use Rattle.std.specs.Int.{div_ceil};
 ghost use Rattle.gas_pipe_model.specs.Inner.Input.{IsRunInput};
-ghost use Rattle.gas_pipe_model.specs.Plan.{passes_of};
 ghost use Rattle.gas_pipe_members.specs.Feeder.{HasFed};
 ghost use Rattle.gas_pipe_run.specs.Inner.Links.{HasRun, Linked, job_of, last_belt};
 
@@ -44,7 +44,7 @@ fn settle<G: Gas, R: Threads>(
     requires none { belts.items ≡ [] }
     requires closed { feeder.to_take ≡ 0 }
     requires channel { feeder.channel ≡ input.now.lattice.channel }
-    requires fed { HasFed feeder (passes_of input.now.plan.generations input.now.plan.stages) input.now.lattice.rows first.put last.taken }
+    requires fed { HasFed feeder (div_ceil input.now.plan.generations input.now.plan.stages) input.now.lattice.rows first.put last.taken }
     ensures { IfSome result (λ run. HasRun G.rules input.now run) }
 {
     let spent = gather(rt, input, first.close(), handles, &mut belts)?;
@@ -89,7 +89,7 @@ fn run_line<'s, 'e: 's, G: Gas + Send + 'e, H: Gate + Sync, R: Threads + Wait + 
     requires no_handle { handles.items ≡ [] }
     requires empty { vec_len handles ≡ 0 }
     requires no_belt { belts.items ≡ [] }
-    requires fed { HasFed feeder (passes_of input.now.plan.generations input.now.plan.stages) input.now.lattice.rows ends.first.put ends.last.taken }
+    requires fed { HasFed feeder (div_ceil input.now.plan.generations input.now.plan.stages) input.now.lattice.rows ends.first.put ends.last.taken }
     ensures { IfSome result (λ run. HasRun G.rules input.now run) }
 {
     let Ends {

@@ -1,6 +1,7 @@
 -- Inner words: what functions of this crate promise one another. No public contract cites them.
 -- How the belts of a run are linked, and what they have carried when it is over.
 use Rattle.std.specs.Prelude.{◌≡◌, ℕ, suc, ◌++◌, List, [], ◌∷◌, map, Option, Some, get_or}
+use Rattle.std.specs.Int.{div_ceil}
 use Rattle.std.specs.List.{range_with_len}
 use Rattle.std.specs.declared.thread.PromisedHandle.{PromisedHandle}
 use Rattle.gas_geom.specs.Gas.{Rules}
@@ -8,7 +9,6 @@ use Rattle.gas_belt.specs.Belt.{Belt, Sender, CarriedModel}
 use Rattle.gas_pipe_run.specs.declared.work.WorkPromise.{WorkPromise}
 use Rattle.gas_rows.specs.Row.{RowModel}
 use Rattle.gas_stage.specs.Evolution.{lattice_after}
-use Rattle.gas_pipe_model.specs.Plan.{passes_of}
 use Rattle.gas_pipe_model.specs.Pass.{RunInputModel, rings}
 use Rattle.gas_pipe_model.specs.Inner.Ring.{on_belt, owes_in}
 use Rattle.gas_pipe_run.specs.Run.{RunModel}
@@ -56,7 +56,7 @@ whole rows = record { put = rows; taken = rows }
 
 -- what is on belt k after all passes of the input's plan, where the rows b are on belt 0 and each worker puts what it owes
 abbrev pub on : Rules → RunInputModel → List RowModel → ℕ → List RowModel
-on gas input b k = on_belt input.lattice.channel.height (owes_in gas input) (passes_of input.plan.generations input.plan.stages) b k
+on gas input b k = on_belt input.lattice.channel.height (owes_in gas input) (div_ceil input.plan.generations input.plan.stages) b k
 
 -- what is on the first n belts
 abbrev pub on_first : Rules → RunInputModel → List RowModel → ℕ → List CarriedModel
@@ -66,7 +66,7 @@ on_first gas input b n = map (λ k. whole (on gas input b k)) (range_with_len 0 
 pub record HasRun (gas : Rules) (input : RunInputModel) (r : RunModel) : Type 0 where
   pub lattice : r.lattice ≡ lattice_after gas input.chirality input.first input.lattice input.plan.generations
   pub stages : r.stages ≡ input.plan.stages
-  pub passes : r.passes ≡ passes_of input.plan.generations input.plan.stages
+  pub passes : r.passes ≡ div_ceil input.plan.generations input.plan.stages
   pub belts : r.belts ≡ map whole (rings gas input)
 
 -- the ends of a belt have met, and the rest of the line goes on with `next`

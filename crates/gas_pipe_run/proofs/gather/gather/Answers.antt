@@ -1,6 +1,6 @@
 use Rattle.std.proofs.Common.{rules, refl, sym, zero-add}
 use Rattle.std.specs.Vec.Iter.{into_iter_items, into_iter_len}
-use Rattle.gas_pipe_model.specs.Plan.{passes_of}
+use Rattle.std.specs.Int.{div_ceil}
 use Rattle.gas_pipe_model.specs.Inner.Ring.{owes_in}
 use Rattle.gas_pipe_model.proofs.Ring.{on_first}
 use Rattle.gas_pipe_run.proofs.Meetings.{asks_belt, asks_many, goes}
@@ -12,7 +12,7 @@ loop-handle-init g c =
     record {
       k = 0;
       reached = record {
-        put_is = sym (on_first input.lattice.channel.height (owes_in g.G.Gas.rules input) (passes_of input.plan.generations input.plan.stages) c.args.spent.put);
+        put_is = sym (on_first input.lattice.channel.height (owes_in g.G.Gas.rules input) (div_ceil input.plan.generations input.plan.stages) c.args.spent.put);
         belts = c.requires.none;
       };
       linked = rw c.into_iter-handle-iterator.ensures.into_iter_gives.0 c.requires.linked;
