@@ -1,6 +1,7 @@
 -- A line of workers and one feeder, as the histories of its belts alone. The feeder is member 0 and puts rows on belt 0; worker
 -- k takes from belt k - 1 and puts on belt k; the feeder takes from the last belt.
 use Rattle.std.specs.Prelude.{◌≡◌, ℕ, zero, suc, ◌+◌, ◌≤◌, Bool, ◌&&◌, ◌||◌, not, eqb, ltb, if◌then◌else◌, List, [], ◌∷◌, ◌++◌, length, take, drop}
+use Rattle.std.specs.List.{Contains}
 use Rattle.gas_rows.specs.Row.{RowModel}
 
 -- The rows that the feeder holds, what worker k owes for the rows that it took, the number of workers, and how many rows a belt
@@ -70,12 +71,8 @@ events l (m ∷ ms) s = (if moves l s m then 1 else 0) + events l ms (turn l s m
 unfoldable pub is_done : Line → State → Bool
 is_done l s = eqb (length (s.put 0)) (length l.rows) && eqb (length (s.taken l.workers)) (length l.rows)
 
--- among these turns is one of every member
-abbrev pub HasEach : ℕ → List ℕ → Type 0
-HasEach workers turns = (m : ℕ) → m ≤ workers → (before : List ℕ) × ((after : List ℕ) × (before ++ m ∷ after ≡ turns))
-
 -- the turns can be cut into n rounds, each with a turn of every member
 abbrev pub HasRounds : ℕ → ℕ → List ℕ → Type 0
 HasRounds workers zero turns = Unit {0}
 HasRounds workers (suc n) turns =
-    (round : List ℕ) × ((rest : List ℕ) × ((round ++ rest ≡ turns) × (HasEach workers round × HasRounds workers n rest)))
+    (round : List ℕ) × ((rest : List ℕ) × ((round ++ rest ≡ turns) × (((m : ℕ) → m ≤ workers → Contains round m) × HasRounds workers n rest)))
