@@ -10,7 +10,8 @@ use Rattle.gas_geom.specs.Lattice.{IsLattice, cell, row_of}
 use Rattle.gas_stage.proofs.Local.{range-cong}
 use Rattle.gas_rows.specs.Row.{RowModel}
 use Rattle.gas_pipe_model.specs.Inner.Ring.{joined}
-use Rattle.gas_pipe_members.specs.Feeder.{emptied_row, emptied_from, emptied}
+use Rattle.gas_pipe_members.specs.Feeder.{emptied_row, emptied_from}
+use Rattle.gas_pipe_members.specs.Inner.Steps.{emptied}
 
 row_same : (row : RowModel) → row_of (length row) (λ x. get_or row x 0) ≡ row
 row_same row = sym (fill_by_all (λ x. get_or row x 0) row (length row) 0 refl (λ _ _. refl))

@@ -1,4 +1,5 @@
 pub mod Workers
 pub mod Emptied
 pub mod Feeds
+pub mod Steps
 pub mod Queues

@@ -24,22 +24,17 @@ abbrev pub emptied_from : ChannelModel → ℕ → List RowModel → List RowMod
 emptied_from channel n [] = []
 emptied_from channel n (row ∷ rows) = emptied_row channel (n % channel.height) row ∷ emptied_from channel (n + 1) rows
 
-abbrev pub emptied : ChannelModel → List RowModel → List RowModel
-emptied channel rows = emptied_from channel 0 rows
-
 -- The feeder may have come to its state, in so many passes from the rows `rows`, by putting the rows `gave` and taking the rows
 -- `took`: what it put and holds is what it began with and took, solid cells emptied.
 pub record HasFed (f : FeederModel) (passes : ℕ) (rows gave took : List RowModel) : Type 0 where
   pub no_stray : f.stray ≡ false
-  pub queue : gave ++ f.rows ≡ rows ++ emptied f.channel took
+  pub queue : gave ++ f.rows ≡ rows ++ emptied_from f.channel 0 took
   pub puts : length gave + f.to_put ≡ passes * f.channel.height
   pub takes : length took + f.to_take ≡ passes * f.channel.height
   pub behind : length took ≤ length gave
   pub place : f.next ≡ length took % f.channel.height
 
--- what a step does to all rows that the feeder may have put and taken: one more was taken, one more was put, or none
-abbrev pub AfterTake : FeederModel → RowModel → FeederModel → Type 0
-AfterTake old row new = (passes : ℕ) (rows gave took : List RowModel) → HasFed old passes rows gave took → HasFed new passes rows gave (took ++ row ∷ [])
-
-abbrev pub AfterPut : FeederModel → RowModel → FeederModel → Type 0
-AfterPut old row new = (passes : ℕ) (rows gave took : List RowModel) → HasFed old passes rows gave took → HasFed new passes rows (gave ++ row ∷ []) took
+-- by a step from one state to another the feeder puts the rows `puts` and takes the rows `takes`, behind all that it did before
+abbrev pub Feeds : FeederModel → List RowModel → List RowModel → FeederModel → Type 0
+Feeds old puts takes new =
+    (passes : ℕ) (rows gave took : List RowModel) → HasFed old passes rows gave took → HasFed new passes rows (gave ++ puts) (took ++ takes)

@@ -1,5 +1,5 @@
 -- A worker: what it owes and what it has done in its open pass.
-use Rattle.std.specs.Prelude.{◌≡◌, ℕ, ◌<◌, ◌≤◌, ◌++◌, ◌∷◌, [], Bool, false, Option, None, List, length, IsSome}
+use Rattle.std.specs.Prelude.{◌≡◌, ℕ, ◌<◌, ◌≤◌, ◌++◌, Bool, false, Option, None, List, length, IsSome}
 use Rattle.std.specs.Option.{option_to_list}
 use Rattle.gas_geom.specs.Gas.{Rules}
 use Rattle.gas_stage.specs.Stage.{StageModel, Fits, owed, given}
@@ -39,15 +39,9 @@ pub record HasDone (gas : Rules) (w : WorkerModel) (e : Option ℕ) (took gave :
   pub while_open : IsSome w.stage.pass → IsUnderWay gas w e took gave
   pub once_closed : w.stage.pass ≡ None → IsFlushed gas w e took gave
 
--- what a step does to all rows that the worker may have taken and put: one more was taken, one more was put, or none
-abbrev pub AfterTake : Rules → WorkerModel → RowModel → WorkerModel → Type 0
-AfterTake gas old row new = (e : Option ℕ) (took gave : List RowModel) → HasDone gas old e took gave → HasDone gas new e (took ++ row ∷ []) gave
-
-abbrev pub AfterPut : Rules → WorkerModel → RowModel → WorkerModel → Type 0
-AfterPut gas old row new = (e : Option ℕ) (took gave : List RowModel) → HasDone gas old e took gave → HasDone gas new e took (gave ++ row ∷ [])
-
-abbrev pub AfterNone : Rules → WorkerModel → WorkerModel → Type 0
-AfterNone gas old new = (e : Option ℕ) (took gave : List RowModel) → HasDone gas old e took gave → HasDone gas new e took gave
+-- by a step from one state to another the worker takes the rows `takes` and puts the rows `puts`, behind all that it did before
+abbrev pub Does : Rules → WorkerModel → List RowModel → List RowModel → WorkerModel → Type 0
+Does gas old takes puts new = (e : Option ℕ) (took gave : List RowModel) → HasDone gas old e took gave → HasDone gas new e (took ++ takes) (gave ++ puts)
 
 -- it has put all that it owes for the rows that it took; all rows were taken; rows are still to come
 abbrev pub HasPutAll : Rules → WorkerModel → Type 0

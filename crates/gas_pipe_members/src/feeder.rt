@@ -3,7 +3,7 @@ ghost use Rattle.std.specs.Prelude.{◌≡◌, ◌≢◌, ◌<◌, ◌≤◌, �
 ghost use Rattle.gas_geom.specs.Lattice.{IsLattice};
 ghost use Rattle.gas_rows.specs.Row.{RowModel};
 ghost use mathlib.Core.List.{IsPrefix};
-ghost use Rattle.gas_pipe_members.specs.Feeder.{FeederModel, HasFed, AfterTake, AfterPut, emptied_row, emptied};
+ghost use Rattle.gas_pipe_members.specs.Feeder.{FeederModel, HasFed, Feeds, emptied_row, emptied_from};
 
 use crate::ends::{PutEnd, TakeEnd, Turned};
 use crate::reserve::Reserve;
@@ -194,9 +194,9 @@ impl<G: Gas> Feeder<G> {
     ) -> Turned
         ensures channel { self.new.channel ≡ self.old.channel }
         ensures put { result ≡ Turned.Put →
-            (row : RowModel) × P.puts put.old row put.new × T.rests take.old take.new × AfterPut self.old row self.new }
+            (row : RowModel) × P.puts put.old row put.new × T.rests take.old take.new × Feeds self.old (row ∷ []) [] self.new }
         ensures took { result ≡ Turned.Took →
-            (row : RowModel) × T.takes take.old row take.new × P.rests put.old put.new × AfterTake self.old row self.new }
+            (row : RowModel) × T.takes take.old row take.new × P.rests put.old put.new × Feeds self.old [] (row ∷ []) self.new }
         ensures took_when { result ≡ Turned.Took → self.old.to_put < self.old.to_take }
         ensures took_after_put { result ≡ Turned.Took → 0 < self.old.to_put → 0 < length self.old.rows → P.ready put.old → ⊥ }
         ensures idle { result ≡ Turned.Idle → T.rests take.old take.new × P.rests put.old put.new × (self.new ≡ self.old) }
@@ -252,7 +252,7 @@ impl<G: Gas> Feeder<G> {
 /// took, as many as a lattice has, solid cells emptied.
 pub fn a_feeder_in_order()
     ensures prefix { (f : FeederModel) (passes : ℕ) (rows gave took : List RowModel) → HasFed f passes rows gave took →
-        IsPrefix gave (rows ++ emptied f.channel took) }
+        IsPrefix gave (rows ++ emptied_from f.channel 0 took) }
     ensures few { (f : FeederModel) (passes : ℕ) (rows gave took : List RowModel) → HasFed f passes rows gave took →
         length gave ≤ passes * f.channel.height }
     ensures put_all { (f : FeederModel) (passes : ℕ) (rows gave took : List RowModel) → HasFed f passes rows gave took →
@@ -260,5 +260,5 @@ pub fn a_feeder_in_order()
     ensures taken_all { (f : FeederModel) (passes : ℕ) (rows gave took : List RowModel) → HasFed f passes rows gave took →
         f.to_take ≡ 0 → length took ≡ passes * f.channel.height }
     ensures holds { (f : FeederModel) (n : ℕ) (rows gave took : List RowModel) → HasFed f (n + 1) rows gave took →
-        length rows ≡ f.channel.height → f.to_take ≡ 0 → f.rows ≡ emptied f.channel (drop (n * f.channel.height) took) }
+        length rows ≡ f.channel.height → f.to_take ≡ 0 → f.rows ≡ emptied_from f.channel 0 (drop (n * f.channel.height) took) }
 {}

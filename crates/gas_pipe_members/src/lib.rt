@@ -6,7 +6,7 @@ mod belt_ends;
 pub mod ends;
 pub mod error;
 pub mod feeder;
-pub mod pass;
+pub mod input;
 pub mod plain_belt;
 pub mod plan;
 mod reserve;

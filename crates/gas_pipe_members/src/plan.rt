@@ -1,7 +1,7 @@
 //! The plan of a run: the stages of its line, the rows that a belt holds, the generations to compute.
 
 ghost use Rattle.std.specs.Prelude.{◌≡◌, ◌≤◌, ◌<◌, ◌*◌, IfOk, IfErr, None, Some};
-ghost use Rattle.gas_pipe_model.specs.Plan.{passes_of};
+ghost use Rattle.std.specs.Int.{div_ceil};
 ghost use Rattle.gas_pipe_members.specs.Plan.{plan_refusal};
 
 use std::marker::Model;
@@ -28,6 +28,7 @@ pub struct Plan {
 }
 
 impl Model for Plan {
+    ghost use Rattle.std.specs.Int.{div_ceil};
     ghost use Rattle.gas_pipe_model.specs.Plan.{PlanModel};
     ghost use Rattle.std.specs.Prelude.{◌≤◌};
 
@@ -108,7 +109,7 @@ impl Plan {
 
     /// The number of passes through the line. A pass computes at most one generation a stage.
     pub fn passes(self) -> u64
-        ensures value { result ≡ passes_of self.generations self.stages }
+        ensures value { result ≡ div_ceil self.generations self.stages }
         ensures few { result ≤ self.generations }
         ensures most { result ≤ 1000000 }
     {

@@ -1,8 +1,8 @@
 //! When each worker of a plan computes what.
 
 ghost use Rattle.std.specs.Prelude.{◌≡◌, ◌≤◌, ◌<◌, ◌+◌, ◌*◌, ◌^◌};
+ghost use Rattle.std.specs.Int.{div_ceil};
 ghost use Rattle.gas_pipe_model.specs.Pass.{computes_from};
-ghost use Rattle.gas_pipe_model.specs.Plan.{passes_of};
 
 use crate::plan::Plan;
 
@@ -17,7 +17,7 @@ pub struct Schedule {
 impl Schedule {
     /// The number of passes through the line.
     pub fn passes(&self) -> u64
-        ensures value { result ≡ passes_of self.now.plan.generations self.now.plan.stages }
+        ensures value { result ≡ div_ceil self.now.plan.generations self.now.plan.stages }
         ensures few { result ≤ self.now.plan.generations }
     {
         self.plan.passes()

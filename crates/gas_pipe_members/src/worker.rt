@@ -3,7 +3,8 @@ ghost use Rattle.std.specs.Prelude.{◌≡◌, ◌≢◌, ◌<◌, ◌≤◌, �
 ghost use Rattle.gas_geom.specs.Gas.{Rules};
 ghost use Rattle.gas_rows.specs.Row.{RowModel};
 ghost use mathlib.Core.List.{IsPrefix};
-ghost use Rattle.gas_pipe_members.specs.Worker.{WorkerModel, IsClosed, HasDone, owes, AfterTake, AfterPut, AfterNone, HasPutAll, HasTakenAll, HasMoreToTake};
+ghost use Rattle.gas_pipe_members.specs.Worker.{WorkerModel, IsClosed, HasDone, Does, owes, HasPutAll, HasTakenAll, HasMoreToTake};
+ghost use Rattle.gas_pipe_members.specs.Inner.Steps.{AfterTake, AfterPut, AfterNone};
 
 use crate::ends::{PutEnd, TakeEnd, Turned, return_spare};
 use gas_geom::gas::Gas;
@@ -158,6 +159,7 @@ impl<'a, G: Gas> Worker<'a, G> {
     /// them, a take. It answers Done where no pass is open, or where all rows of the pass were
     /// taken and put before. A taken row of another width than the channel's is dropped, and the
     /// answer is Stray, then and ever after.
+    #[tactic(auto, using(crate::proofs::Steps::does))]
     pub fn turn<T: TakeEnd<Row<G>>, P: PutEnd<Row<G>>>(
         &mut self,
         take: &mut T,
@@ -166,18 +168,18 @@ impl<'a, G: Gas> Worker<'a, G> {
         ensures channel { self.new.stage.channel ≡ self.old.stage.channel }
         ensures chirality { self.new.stage.chirality ≡ self.old.stage.chirality }
         ensures took { result ≡ Turned.Took →
-            (row : RowModel) × T.takes take.old row take.new × P.rests put.old put.new × AfterTake G.rules self.old row self.new }
+            (row : RowModel) × T.takes take.old row take.new × P.rests put.old put.new × Does G.rules self.old (row ∷ []) [] self.new }
         ensures took_when { result ≡ Turned.Took → HasPutAll G.rules self.old × HasMoreToTake G.rules self.old }
         ensures put { result ≡ Turned.Put →
-            (row : RowModel) × P.puts put.old row put.new × T.rests take.old take.new × AfterPut G.rules self.old row self.new }
+            (row : RowModel) × P.puts put.old row put.new × T.rests take.old take.new × Does G.rules self.old [] (row ∷ []) self.new }
         ensures idle { result ≡ Turned.Idle →
-            T.rests take.old take.new × P.rests put.old put.new × AfterNone G.rules self.old self.new }
+            T.rests take.old take.new × P.rests put.old put.new × Does G.rules self.old [] [] self.new }
         ensures idle_owing { result ≡ Turned.Idle → (e : Option ℕ) (took gave : List RowModel) →
             HasDone G.rules self.old e took gave → length gave < length (owes G.rules self.old e took) → P.ready put.old → ⊥ }
         ensures idle_taking { result ≡ Turned.Idle → (e : Option ℕ) (took gave : List RowModel) →
             HasDone G.rules self.old e took gave → gave ≡ owes G.rules self.old e took → T.ready take.old → ⊥ }
         ensures done { result ≡ Turned.Done →
-            T.rests take.old take.new × P.rests put.old put.new × AfterNone G.rules self.old self.new × IsClosed self.new }
+            T.rests take.old take.new × P.rests put.old put.new × Does G.rules self.old [] [] self.new × IsClosed self.new }
         ensures done_when { result ≡ Turned.Done → HasTakenAll G.rules self.old × HasPutAll G.rules self.old }
         ensures done_if_closed { IsClosed self.old → result ≡ Turned.Done }
         ensures done_if_all { (e : Option ℕ) (took gave : List RowModel) → HasDone G.rules self.old e took gave →

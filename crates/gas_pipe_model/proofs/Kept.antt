@@ -3,7 +3,8 @@ use Rattle.std.proofs.Common.{◌≡◌, ℕ, zero, suc, ◌+◌, ◌≤◌, ◌
 use Rattle.std.proofs.lemmas.Bool.{cases_eq}
 use Rattle.gas_rows.specs.Row.{RowModel}
 use mathlib.Core.List.{IsPrefix}
-use Rattle.gas_pipe_model.specs.Line.{Line, State, start, owed_on, grown, source, after_put, after_take, turn, after_turns, IsLine}
+use Rattle.gas_pipe_model.specs.Line.{Line, State, start, owed_on, grown, source, turn, after_turns}
+use Rattle.gas_pipe_model.specs.Inner.Line.{after_put, after_take, IsLine}
 use Rattle.gas_pipe_model.proofs.Prefixes.{next, same_prefix, trans_prefix, prefix_length, next_prefix, next_length}
 use Rattle.gas_pipe_model.proofs.Turns.{puts, takes, idles, turn_cases, grown_same, grown_other, Fits, owe_prefix, put_short, fits_start}
 

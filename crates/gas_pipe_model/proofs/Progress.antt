@@ -1,7 +1,8 @@
 -- Where the line is not done, some member's turn is an event.
 use Rattle.std.proofs.Common.{◌≡◌, ℕ, zero, suc, ◌+◌, ◌≤◌, true, false, ◌||◌, eqb, ltb, length, ◌⊎◌, inl, inr, refl, sym, ◌∙◌, subst, arith}
 use Rattle.std.proofs.lemmas.Bool.{cases_Bool, ltb-false, eq-eqb, le-ltb, and_cases, and_from, or_left, or_right, both_ways, cases_lt}
-use Rattle.gas_pipe_model.specs.Line.{Line, State, owed_on, put_open, take_open, source, moves, is_done, IsLine}
+use Rattle.gas_pipe_model.specs.Line.{Line, State, owed_on, put_open, take_open, source, moves, is_done}
+use Rattle.gas_pipe_model.specs.Inner.Line.{IsLine}
 use Rattle.gas_pipe_model.proofs.Prefixes.{prefix_length}
 use Rattle.gas_pipe_model.proofs.Turns.{Fits}
 

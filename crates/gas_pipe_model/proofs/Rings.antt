@@ -1,13 +1,14 @@
 -- The workers of a plan are a ring, and its belts carry the rows of one pass after another.
-use Rattle.std.proofs.Common.{◌≡◌, ℕ, zero, suc, ◌+◌, ◌*◌, List, [], ◌∷◌, ◌++◌, length, take, drop, refl, sym, ap, ◌∙◌, arith, append-nil}
+use Rattle.std.proofs.Common.{◌≡◌, ℕ, zero, suc, ◌+◌, ◌*◌, List, [], ◌∷◌, ◌++◌, take, drop, refl, sym, ap, ◌∙◌, arith, append-nil}
 use Rattle.std.specs.Prelude.{flat_map}
 use Rattle.std.specs.List.{range_with_len}
 use Rattle.std.proofs.lemmas.List.Concat.{flat_map-append}
 use Rattle.gas_geom.specs.Gas.{Rules}
 use Rattle.gas_rows.specs.Row.{RowModel}
 use Rattle.gas_stage.proofs.Owed.{owed-all}
-use Rattle.gas_pipe_model.specs.Pass.{PassModel, IsPass, computes_from, ring}
-use Rattle.gas_pipe_model.specs.Inner.Ring.{joined, IsRing, owes_in, rows_in}
+use Rattle.gas_pipe_model.specs.Pass.{RunInputModel, computes_from, rows_on, ring}
+use Rattle.gas_pipe_model.specs.Inner.Input.{IsRunInput}
+use Rattle.gas_pipe_model.specs.Inner.Ring.{joined, IsRing, owes_in}
 use Rattle.gas_pipe_model.proofs.Generations.{rows_high, owes_next, begins_next}
 use Rattle.gas_pipe_model.proofs.Ring.{goes_round}
 
@@ -26,33 +27,27 @@ joined_is rows (suc n) =
     ∙ sym (flat_map-append rows (range_with_len 0 n) ((0 + n) ∷ []))
     ∙ ap (flat_map rows) (sym (range_more 0 n))
 
-module _ (gas : Rules) (p : PassModel) (is : IsPass gas p) where
-  in_pass : (n : ℕ) → IsPass gas (record p { number = n })
-  in_pass n = record { lattice = is.lattice; room = is.room }
-
-  pub rows_in_high : (n k : ℕ) → length (rows_in gas p n k) ≡ p.lattice.channel.height
-  rows_in_high n k = rows_high gas (record p { number = n }) (in_pass n) k
-
-  again : (n : ℕ) → rows_in gas p (suc n) 0 ≡ rows_in gas p n p.plan.stages
-  again n = sym (begins_next gas (record p { number = n }) ∙ ap (λ (m : ℕ). rows_in gas p m 0) (let e : n + 1 ≡ suc n = omega arith in e))
+module _ (gas : Rules) (input : RunInputModel) (is : IsRunInput gas input) where
+  again : (n : ℕ) → rows_on gas input (suc n) 0 ≡ rows_on gas input n input.plan.stages
+  again n = sym (begins_next gas input n ∙ ap (λ (m : ℕ). rows_on gas input m 0) (let e : n + 1 ≡ suc n = omega arith in e))
 
   pub is_ring : (back : List RowModel → List RowModel) → ((m : ℕ) (q : List RowModel) → take m (back q) ≡ back (take m q)) →
-      ((n : ℕ) → back (joined (λ i. rows_in gas p i p.plan.stages) n) ≡ joined (λ i. rows_in gas p i p.plan.stages) n) →
-      IsRing p.lattice.channel.height p.plan.stages (owes_in gas p) back (rows_in gas p)
+      ((n : ℕ) → back (joined (λ i. rows_on gas input i input.plan.stages) n) ≡ joined (λ i. rows_on gas input i input.plan.stages) n) →
+      IsRing input.lattice.channel.height input.plan.stages (owes_in gas input) back (rows_on gas input)
   is_ring back front kept = record {
-    whole = λ k n q h. owed-all gas p.lattice.channel p.chirality (computes_from p.first p.plan n (suc k)) q h;
-    high = rows_in_high;
-    on = λ n k. owes_next gas (record p { number = n }) (in_pass n) k;
+    whole = λ k n q h. owed-all gas input.lattice.channel input.chirality (computes_from input.first input.plan n (suc k)) q h;
+    high = rows_high gas input is;
+    on = λ n k. owes_next gas input is n k;
     again = again;
     front = front;
     kept = kept;
   }
 
-  pub round : (n : ℕ) → take (n * p.lattice.channel.height) (ring gas p (n + 1) p.plan.stages) ≡ drop p.lattice.channel.height (ring gas p (n + 1) 0)
+  pub round : (n : ℕ) → take (n * input.lattice.channel.height) (ring gas input (n + 1) input.plan.stages) ≡ drop input.lattice.channel.height (ring gas input (n + 1) 0)
   round n =
       let e : n + 1 ≡ suc n = omega arith in
-      ap (λ (m : ℕ). take (n * p.lattice.channel.height) (ring gas p m p.plan.stages)) e
-      ∙ ap (take (n * p.lattice.channel.height)) (sym (joined_is (λ i. rows_in gas p i p.plan.stages) (suc n)))
-      ∙ goes_round p.lattice.channel.height p.plan.stages (owes_in gas p) (λ q. q) (rows_in gas p) (is_ring (λ q. q) (λ m q. refl) (λ m. refl)) n
-      ∙ ap (drop p.lattice.channel.height) (joined_is (λ i. rows_in gas p i 0) (suc n))
-      ∙ ap (λ (m : ℕ). drop p.lattice.channel.height (ring gas p m 0)) (sym e)
+      ap (λ (m : ℕ). take (n * input.lattice.channel.height) (ring gas input m input.plan.stages)) e
+      ∙ ap (take (n * input.lattice.channel.height)) (sym (joined_is (λ i. rows_on gas input i input.plan.stages) (suc n)))
+      ∙ goes_round input.lattice.channel.height input.plan.stages (owes_in gas input) (λ q. q) (rows_on gas input) (is_ring (λ q. q) (λ m q. refl) (λ m. refl)) n
+      ∙ ap (drop input.lattice.channel.height) (joined_is (λ i. rows_on gas input i 0) (suc n))
+      ∙ ap (λ (m : ℕ). drop input.lattice.channel.height (ring gas input m 0)) (sym e)

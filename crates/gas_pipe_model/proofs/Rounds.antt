@@ -1,7 +1,9 @@
 -- A round with a turn of every member brings the line at least one event on, until it is done.
-use Rattle.std.proofs.Common.{◌≡◌, ℕ, zero, suc, ◌+◌, ◌≤◌, ◌<◌, true, false, cond, List, [], ◌∷◌, ◌++◌, ◌⊎◌, inl, inr, refl, ap, sym, ◌∙◌, arith}
+use Rattle.std.proofs.Common.{◌≡◌, ℕ, zero, suc, ◌+◌, ◌≤◌, ◌<◌, true, false, cond, List, [], ◌∷◌, ◌++◌, ◌⊎◌, inl, inr, refl, ap, sym, ◌∙◌, arith, length, get_or}
+use Rattle.std.specs.List.{Contains}
 use Rattle.std.proofs.lemmas.Bool.{cases_Bool, cases_lt}
-use Rattle.gas_pipe_model.specs.Line.{Line, State, start, turn, moves, after_turns, events, is_done, IsLine, HasEach, HasRounds}
+use Rattle.gas_pipe_model.specs.Line.{Line, State, start, turn, moves, after_turns, events, is_done, HasRounds}
+use Rattle.gas_pipe_model.specs.Inner.Line.{IsLine}
 use Rattle.gas_pipe_model.proofs.Turns.{puts, takes, idles, turn_cases, Fits, fits_start}
 use Rattle.gas_pipe_model.proofs.Kept.{fits_turn, fits_run}
 use Rattle.gas_pipe_model.proofs.Progress.{progress}
@@ -48,10 +50,17 @@ round_more l is s f m before after event =
           omega arith)
     ])
 
-round_on : (l : Line) → IsLine l → (s : State) → Fits l s → (round : List ℕ) → HasEach l.workers round → is_done l s ≡ false → total l.workers s < total l.workers (after_turns l round s)
+-- a list that contains x is what stands before it, x and what stands behind it
+split_at : (xs : List ℕ) (x k : ℕ) → k < length xs → get_or xs k x ≡ x → (before : List ℕ) × ((after : List ℕ) × (before ++ x ∷ after ≡ xs))
+split_at [] x k h e = absurd (omega arith)
+split_at (y ∷ ys) x zero h e = ([], (ys, ap (λ z. z ∷ ys) (sym e)))
+split_at (y ∷ ys) x (suc k) h e = let rest = split_at ys x k (omega arith) e in (y ∷ rest.0, (rest.1.0, ap (λ zs. y ∷ zs) rest.1.1))
+
+round_on : (l : Line) → IsLine l → (s : State) → Fits l s → (round : List ℕ) → ((m : ℕ) → m ≤ l.workers → Contains round m) → is_done l s ≡ false → total l.workers s < total l.workers (after_turns l round s)
 round_on l is s f round each not_done =
     let p = progress l s is f not_done in
-    let w = each p.who p.in_line in
+    let there = each p.who p.in_line in
+    let w = split_at round p.who there.0 there.1 there.2 in
     rw (← w.1.1) (round_more l is s f p.who w.0 w.1.0 p.moves)
 
 rounds_on : (l : Line) → IsLine l → (n : ℕ) (turns : List ℕ) (s : State) → Fits l s → HasRounds l.workers n turns → (most l ≤ total l.workers (after_turns l turns s)) ⊎ (n + total l.workers s ≤ total l.workers (after_turns l turns s))

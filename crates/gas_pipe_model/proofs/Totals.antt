@@ -1,7 +1,8 @@
 -- How many rows were put and taken in all: one more with every event, and at most 2 * H * (N + 1).
 use Rattle.std.proofs.Common.{◌≡◌, ℕ, zero, suc, ◌+◌, ◌*◌, ◌≤◌, ◌<◌, true, cond, eqb, List, [], ◌∷◌, inl, inr, length, ap, sym, ◌∙◌, subst, arith, mul-suc, add-one}
 use Rattle.std.proofs.lemmas.Bool.{cases_eq, cases_lt, eqb-true, eq-eqb, and_parts, and_from}
-use Rattle.gas_pipe_model.specs.Line.{Line, State, start, owed_on, grown, source, after_put, after_take, turn, moves, after_turns, events, is_done, carried, IsLine}
+use Rattle.gas_pipe_model.specs.Line.{Line, State, start, owed_on, grown, source, turn, moves, after_turns, events, is_done}
+use Rattle.gas_pipe_model.specs.Inner.Line.{after_put, after_take, carried, IsLine}
 use Rattle.std.proofs.Math.Nat.{mul_assoc}
 use Rattle.gas_pipe_model.proofs.Prefixes.{prefix_length, prefix_all, trans_prefix}
 use Rattle.gas_pipe_model.proofs.Turns.{puts, takes, idles, turn_cases, grown_other, Fits, put_short, put_carried, carried_length}

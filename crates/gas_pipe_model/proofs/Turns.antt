@@ -3,7 +3,8 @@ use Rattle.std.proofs.Common.{◌≡◌, ℕ, zero, suc, ◌+◌, ◌≤◌, ◌
 use Rattle.std.proofs.lemmas.Bool.{cases_Bool, ltb-true, ltb-false, eq-eqb, ne_eqb, cond-true, cond-false, and_parts}
 use Rattle.gas_rows.specs.Row.{RowModel}
 use mathlib.Core.List.{IsPrefix}
-use Rattle.gas_pipe_model.specs.Line.{Line, State, start, owed_on, grown, put_open, take_open, source, after_put, after_take, turn, moves, carried, IsLine}
+use Rattle.gas_pipe_model.specs.Line.{Line, State, start, owed_on, grown, put_open, take_open, source, turn, moves}
+use Rattle.gas_pipe_model.specs.Inner.Line.{after_put, after_take, carried, IsLine}
 use Rattle.gas_pipe_model.proofs.Prefixes.{next, nil_prefix, trans_prefix, prefix_length}
 
 pub grown_same : (f : ℕ → List RowModel) (k : ℕ) (rows : List RowModel) → grown f k rows k ≡ f k ++ next (f k) rows

@@ -1,2 +1,4 @@
--- Inner words: what proofs of the crates above say of workers in a ring. No public contract cites them.
+-- Inner words: what proofs say of lines, and of what is computed. No public contract cites them.
+pub mod Line
+pub mod Input
 pub mod Ring

@@ -1,7 +1,7 @@
 -- A line of workers and one feeder, as the histories of its belts alone. The feeder is member 0 and puts rows on belt 0; worker
 -- k takes from belt k - 1 and puts on belt k; the feeder takes from the last belt.
-use Rattle.std.specs.Prelude.{◌≡◌, ℕ, zero, suc, ◌+◌, ◌≤◌, ◌<◌, Bool, ◌&&◌, ◌||◌, not, eqb, ltb, if◌then◌else◌, List, [], ◌∷◌, ◌++◌, length, take, drop}
-use mathlib.Core.List.{IsPrefix}
+use Rattle.std.specs.Prelude.{◌≡◌, ℕ, zero, suc, ◌+◌, ◌≤◌, Bool, ◌&&◌, ◌||◌, not, eqb, ltb, if◌then◌else◌, List, [], ◌∷◌, ◌++◌, length, take, drop}
+use Rattle.std.specs.List.{Contains}
 use Rattle.gas_rows.specs.Row.{RowModel}
 
 -- The rows that the feeder holds, what worker k owes for the rows that it took, the number of workers, and how many rows a belt
@@ -45,19 +45,13 @@ source l (suc k) = k
 unfoldable pub grown : (ℕ → List RowModel) → ℕ → List RowModel → ℕ → List RowModel
 grown f k rows j = if eqb j k then f k ++ take 1 (drop (length (f k)) rows) else f j
 
--- a put on belt k is of the next row owed, a take from it of the next row put
-abbrev pub after_put : Line → State → ℕ → State
-after_put l s k = record { put = grown s.put k (owed_on l s k); taken = s.taken }
-
-abbrev pub after_take : State → ℕ → State
-after_take s k = record { put = s.put; taken = grown s.taken k (s.put k) }
-
--- a turn of member m: its put where open, else its take where open, else nothing; a number above the workers' names nobody
+-- A turn of member m: where its put is open, the next row owed on its belt is put; else, where its take is open, the next row put on
+-- the belt that it takes from is taken; else nothing. A number above the workers' names nobody.
 unfoldable pub turn : Line → State → ℕ → State
 turn l s m =
     if ltb l.workers m then s
-    else (if put_open l s m then after_put l s m
-    else (if take_open l s (source l m) then after_take s (source l m) else s))
+    else (if put_open l s m then record s { put = grown s.put m (owed_on l s m) }
+    else (if take_open l s (source l m) then record s { taken = grown s.taken (source l m) (s.put (source l m)) } else s))
 
 -- whether that turn is an event, a put or a take
 unfoldable pub moves : Line → State → ℕ → Bool
@@ -77,25 +71,8 @@ events l (m ∷ ms) s = (if moves l s m then 1 else 0) + events l ms (turn l s m
 unfoldable pub is_done : Line → State → Bool
 is_done l s = eqb (length (s.put 0)) (length l.rows) && eqb (length (s.taken l.workers)) (length l.rows)
 
--- the rows that belt k carries in the end: each worker's are what it owes for those of the belt before
-abbrev pub carried : Line → ℕ → List RowModel
-carried l zero = l.rows
-carried l (suc k) = l.owe (suc k) (carried l k)
-
--- What makes it a line: what a worker owes only grows at its end as rows come, is all when all have come, and is never more
--- than came; and a belt has room for a row.
-pub record IsLine (l : Line) : Type 0 where
-  pub grows : (k : ℕ) (xs ys : List RowModel) → length (xs ++ ys) ≤ length l.rows → IsPrefix (l.owe k xs) (l.owe k (xs ++ ys))
-  pub all : (k : ℕ) (xs : List RowModel) → length xs ≡ length l.rows → length (l.owe k xs) ≡ length l.rows
-  pub no_more : (k : ℕ) (xs : List RowModel) → length (l.owe k xs) ≤ length xs
-  pub room : 0 < l.capacity
-
--- among these turns is one of every member
-abbrev pub HasEach : ℕ → List ℕ → Type 0
-HasEach workers turns = (m : ℕ) → m ≤ workers → (before : List ℕ) × ((after : List ℕ) × (before ++ m ∷ after ≡ turns))
-
 -- the turns can be cut into n rounds, each with a turn of every member
 abbrev pub HasRounds : ℕ → ℕ → List ℕ → Type 0
 HasRounds workers zero turns = Unit {0}
 HasRounds workers (suc n) turns =
-    (round : List ℕ) × ((rest : List ℕ) × ((round ++ rest ≡ turns) × (HasEach workers round × HasRounds workers n rest)))
+    (round : List ℕ) × ((rest : List ℕ) × ((round ++ rest ≡ turns) × (((m : ℕ) → m ≤ workers → Contains round m) × HasRounds workers n rest)))

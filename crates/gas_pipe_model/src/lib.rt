@@ -1,6 +1,5 @@
-//! The line as the histories of its belts alone: its laws for every list of turns, and those of a
-//! pass over a lattice and of the passes of a plan.
+//! The line as the histories of its belts alone: the laws of a pass of a plan over a lattice, for
+//! every list of turns, and of all its passes.
 #![tactic(auto)]
 
-pub mod line;
 pub mod pass;

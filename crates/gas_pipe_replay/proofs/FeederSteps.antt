@@ -1,13 +1,15 @@
 -- A turn of the feeder brings a line to where the same turn brings its histories.
-use Rattle.std.proofs.Common.{◌≡◌, ◌≢◌, ℕ, zero, suc, ◌+◌, ◌≤◌, ◌<◌, inl, inr, true, false, List, [], ◌∷◌, ◌++◌, length, set, refl, ap, sym, ◌∙◌, subst, arith, length-append, append_assoc, length-set}
+use Rattle.std.proofs.Common.{◌≡◌, ◌≢◌, ℕ, zero, suc, ◌+◌, ◌≤◌, ◌<◌, inl, inr, true, false, List, [], ◌∷◌, ◌++◌, length, set, refl, ap, sym, ◌∙◌, subst, arith, length-append, append_assoc, length-set, append-nil}
 use Rattle.std.proofs.lemmas.Bool.{cases_lt, le-ltb}
 use Rattle.gas_geom.specs.Gas.{Rules, IsGas}
 use Rattle.gas_rows.specs.Row.{RowModel}
-use Rattle.gas_pipe_model.specs.Line.{Line, State, grown, put_open, take_open, after_put, after_take, turn, IsLine}
-use Rattle.gas_pipe_model.specs.Pass.{PassModel, line_of, rows_on}
+use Rattle.gas_pipe_model.specs.Line.{Line, State, grown, put_open, take_open, turn}
+use Rattle.gas_pipe_model.specs.Inner.Line.{after_put, after_take, IsLine}
+use Rattle.gas_pipe_model.specs.Pass.{RunInputModel, line_of, rows_on}
 use Rattle.gas_pipe_members.specs.Belt.{BeltModel}
 use Rattle.gas_pipe_members.specs.Worker.{WorkerModel}
-use Rattle.gas_pipe_members.specs.Feeder.{FeederModel, HasFed, AfterTake, AfterPut, emptied}
+use Rattle.gas_pipe_members.specs.Feeder.{FeederModel, HasFed, Feeds}
+use Rattle.gas_pipe_members.specs.Inner.Steps.{emptied}
 use Rattle.gas_pipe_replay.specs.Inner.LocalLine.{belt, Shows}
 use Rattle.gas_pipe_members.specs.declared.ends.Turned.{Turned}
 use Rattle.gas_pipe_members.specs.declared.ends.Turned.TheVariants.{Took, Put, Idle, Done, Stray}
@@ -22,8 +24,8 @@ use Rattle.gas_pipe_model.proofs.Wide.{under_way_is_wide}
 -- what a feeder's turn between two belts of one thread did
 pub record FeederTurned (r : Turned) (f v : FeederModel) (to to2 from from2 : BeltModel) : Type 0 where
   pub channel : v.channel ≡ f.channel
-  pub gave : r ≡ Put → (row : RowModel) × ((length to.rows < to.capacity) × (to2 ≡ record to { rows = to.rows ++ row ∷ [] })) × (from2 ≡ from) × AfterPut f row v
-  pub took : r ≡ Took → (row : RowModel) × (from ≡ record from2 { rows = row ∷ from2.rows }) × (to2 ≡ to) × AfterTake f row v
+  pub gave : r ≡ Put → (row : RowModel) × ((length to.rows < to.capacity) × (to2 ≡ record to { rows = to.rows ++ row ∷ [] })) × (from2 ≡ from) × Feeds f (row ∷ []) [] v
+  pub took : r ≡ Took → (row : RowModel) × (from ≡ record from2 { rows = row ∷ from2.rows }) × (to2 ≡ to) × Feeds f [] (row ∷ []) v
   pub took_when : r ≡ Took → f.to_put < f.to_take
   pub took_after_put : r ≡ Took → 0 < f.to_put → 0 < length f.rows → length to.rows < to.capacity → ⊥
   pub idle : r ≡ Idle → (from2 ≡ from) × (to2 ≡ to) × (v ≡ f)
@@ -39,16 +41,16 @@ put_below l is s f zero h = omega arith
 put_below l is s f (suc k) h =
     omega (arith, put_below l is s f k (omega arith), prefix_length _ _ (f.put (suc k) h), is.no_more (suc k) (s.taken k), prefix_length _ _ (f.taken k))
 
-module _ (gas : Rules) (p : PassModel) (f v : FeederModel) (ws : List WorkerModel) (bs : List BeltModel) (s : State) (q t : BeltModel)
-    (laws : IsGas gas) (fits : Fits (line_of gas p) s) (sh : Shows gas p f ws bs s) where
+module _ (gas : Rules) (input : RunInputModel) (f v : FeederModel) (ws : List WorkerModel) (bs : List BeltModel) (s : State) (q t : BeltModel)
+    (laws : IsGas gas) (fits : Fits (line_of gas input 0) s) (sh : Shows gas input f ws bs s) where
   abbrev line : Line
-  line = line_of gas p
+  line = line_of gas input 0
 
   is_line : IsLine line
-  is_line = pass_is_line gas p sh.pass
+  is_line = pass_is_line gas input sh.is_input 0
 
   abbrev last : ℕ
-  last = p.plan.stages
+  last = input.plan.stages
 
   holds_to : s.taken 0 ++ (belt bs 0).rows ≡ s.put 0
   holds_to = sh.holds 0 (omega arith)
@@ -56,10 +58,10 @@ module _ (gas : Rules) (p : PassModel) (f v : FeederModel) (ws : List WorkerMode
   holds_from : s.taken last ++ (belt bs last).rows ≡ s.put last
   holds_from = sh.holds last (omega arith)
 
-  cap_to : (belt bs 0).capacity ≡ p.plan.capacity
+  cap_to : (belt bs 0).capacity ≡ input.plan.capacity
   cap_to = sh.capacity 0 (omega arith)
 
-  cap_from : (belt bs last).capacity ≡ p.plan.capacity
+  cap_from : (belt bs last).capacity ≡ input.plan.capacity
   cap_from = sh.capacity last (omega arith)
 
   length_to : length (s.put 0) ≡ length (s.taken 0) + length (belt bs 0).rows
@@ -68,20 +70,20 @@ module _ (gas : Rules) (p : PassModel) (f v : FeederModel) (ws : List WorkerMode
   length_from : length (s.put last) ≡ length (s.taken last) + length (belt bs last).rows
   length_from = sym (ap length holds_from) ∙ length-append (s.taken last) (belt bs last).rows
 
-  high : length (rows_on gas p 0) ≡ f.channel.height
-  high = rows_high gas p sh.pass 0 ∙ ap (λ c. c.height) (sym sh.channel)
+  high : length (rows_on gas input 0 0) ≡ f.channel.height
+  high = rows_high gas input sh.is_input 0 0 ∙ ap (λ c. c.height) (sym sh.channel)
 
   -- the line after a change of the feeder and its two belts
   shows_feeder : (s2 : State) → ((j : ℕ) → (j ≡ 0 → ⊥) → s2.put j ≡ s.put j) → ((j : ℕ) → (j ≡ last → ⊥) → s2.taken j ≡ s.taken j) →
-      v.channel ≡ f.channel → HasFed v 1 (rows_on gas p 0) (s2.put 0) (s2.taken last) →
-      s2.taken 0 ++ q.rows ≡ s2.put 0 → s2.taken last ++ t.rows ≡ s2.put last → q.capacity ≡ p.plan.capacity → t.capacity ≡ p.plan.capacity →
-      Shows gas p v ws (set (set bs 0 q) last t) s2
+      v.channel ≡ f.channel → HasFed v 1 (rows_on gas input 0 0) (s2.put 0) (s2.taken last) →
+      s2.taken 0 ++ q.rows ≡ s2.put 0 → s2.taken last ++ t.rows ≡ s2.put last → q.capacity ≡ input.plan.capacity → t.capacity ≡ input.plan.capacity →
+      Shows gas input v ws (set (set bs 0 q) last t) s2
   shows_feeder s2 puts takens same_channel fed holds_q holds_t cap_q cap_t =
       let low : 0 < last = sh.some in
       let top : last < length bs = let a = sh.belts_are in omega arith in
       let none : BeltModel = record { rows = []; capacity = 0 } in
       record {
-        pass = sh.pass;
+        is_input = sh.is_input;
         some = sh.some;
         workers_are = sh.workers_are;
         belts_are = length-set (set bs 0 q) last t ∙ length-set bs 0 q ∙ sh.belts_are;
@@ -92,18 +94,18 @@ module _ (gas : Rules) (p : PassModel) (f v : FeederModel) (ws : List WorkerMode
             (λ e. subst (λ i. s2.taken i ++ t.rows ≡ s2.put i) (sym e) holds_t)
             (λ e. subst (λ i. s2.taken i ++ q.rows ≡ s2.put i) (sym e) holds_q)
             (λ a b. rw (takens j a, puts j b) (sh.holds j h));
-        capacity = λ j h. at_two bs 0 last j q t none low top (λ b. b.capacity ≡ p.plan.capacity) (λ e. cap_t) (λ e. cap_q) (λ a b. sh.capacity j h);
+        capacity = λ j h. at_two bs 0 last j q t none low top (λ b. b.capacity ≡ input.plan.capacity) (λ e. cap_t) (λ e. cap_q) (λ a b. sh.capacity j h);
       }
 
   abbrev Shown : Type 0
-  Shown = Shows gas p v ws (set (set bs 0 q) last t) (turn line s 0)
+  Shown = Shows gas input v ws (set (set bs 0 q) last t) (turn line s 0)
 
   -- where a row is left and the belt has room, the feeder has a row to put
-  has_row : length (s.put 0) < length (rows_on gas p 0) → (0 < f.to_put) × (0 < length f.rows)
+  has_row : length (s.put 0) < length (rows_on gas input 0 0) → (0 < f.to_put) × (0 < length f.rows)
   has_row more =
       let fed = sh.fed in (
         omega (arith, more, fed.puts, high),
-        omega (arith, more, ap length fed.queue, length-append (s.put 0) f.rows, length-append (rows_on gas p 0) (emptied f.channel (s.taken last))),
+        omega (arith, more, ap length fed.queue, length-append (s.put 0) f.rows, length-append (rows_on gas input 0 0) (emptied f.channel (s.taken last))),
       )
 
   shut_put : (0 < f.to_put → 0 < length f.rows → length (belt bs 0).rows < (belt bs 0).capacity → ⊥) → put_open line s 0 ≡ false
@@ -114,18 +116,18 @@ module _ (gas : Rules) (p : PassModel) (f v : FeederModel) (ws : List WorkerMode
       ])
 
   gave_step : (row : RowModel) → q ≡ record (belt bs 0) { rows = (belt bs 0).rows ++ row ∷ [] } → length (belt bs 0).rows < (belt bs 0).capacity → t ≡ belt bs last →
-      v.channel ≡ f.channel → HasFed v 1 (rows_on gas p 0) (s.put 0 ++ row ∷ []) (s.taken last) → Shown
+      v.channel ≡ f.channel → HasFed v 1 (rows_on gas input 0 0) (s.put 0 ++ row ∷ []) (s.taken last) → Shown
   gave_step row put room same same_channel fed =
-      let pre = one_pass_prefix v (rows_on gas p 0) (s.put 0 ++ row ∷ []) (s.taken last) fed (high ∙ ap (λ c. c.height) (sym same_channel)) in
-      let comes : s.put 0 ++ row ∷ pre.0 ≡ (rows_on gas p 0) = sym (append_assoc (s.put 0) (row ∷ []) pre.0) ∙ pre.1 in
+      let pre = one_pass_prefix v (rows_on gas input 0 0) (s.put 0 ++ row ∷ []) (s.taken last) fed (high ∙ ap (λ c. c.height) (sym same_channel)) in
+      let comes : s.put 0 ++ row ∷ pre.0 ≡ (rows_on gas input 0 0) = sym (append_assoc (s.put 0) (row ∷ []) pre.0) ∙ pre.1 in
       let low = sh.some in
-      let opens : put_open line s 0 ≡ true = put_opened line s 0 (longer (s.put 0) row pre.0 (rows_on gas p 0) comes) (omega (arith, length_to, cap_to, room)) in
+      let opens : put_open line s 0 ≡ true = put_opened line s 0 (longer (s.put 0) row pre.0 (rows_on gas input 0 0) comes) (omega (arith, length_to, cap_to, room)) in
       let e : turn line s 0 ≡ after_put line s 0 = (turn_put line s 0 (le-ltb last 0 (omega arith)) opens).1 in
-      let now : grown s.put 0 (rows_on gas p 0) 0 ≡ s.put 0 ++ row ∷ [] = grown_by s.put 0 row pre.0 (rows_on gas p 0) comes in
-      let behind : grown s.put 0 (rows_on gas p 0) last ≡ s.put last = grown_other s.put 0 (rows_on gas p 0) last (λ z. absurd (omega arith)) in
+      let now : grown s.put 0 (rows_on gas input 0 0) 0 ≡ s.put 0 ++ row ∷ [] = grown_by s.put 0 row pre.0 (rows_on gas input 0 0) comes in
+      let behind : grown s.put 0 (rows_on gas input 0 0) last ≡ s.put last = grown_other s.put 0 (rows_on gas input 0 0) last (λ z. absurd (omega arith)) in
       let rows : q.rows ≡ (belt bs 0).rows ++ row ∷ [] = ap (λ (b : BeltModel). b.rows) put in
-      subst (λ u. Shows gas p v ws (set (set bs 0 q) last t) u) (sym e)
-      (shows_feeder (after_put line s 0) (λ j ne. grown_other s.put 0 (rows_on gas p 0) j ne) (λ j ne. refl) same_channel
+      subst (λ u. Shows gas input v ws (set (set bs 0 q) last t) u) (sym e)
+      (shows_feeder (after_put line s 0) (λ j ne. grown_other s.put 0 (rows_on gas input 0 0) j ne) (λ j ne. refl) same_channel
       (rw now fed)
       (rw (now, rows) (sym (append_assoc (s.taken 0) (belt bs 0).rows (row ∷ [])) ∙ ap (λ u. u ++ row ∷ []) holds_to))
       (rw (behind, same) holds_from)
@@ -133,7 +135,7 @@ module _ (gas : Rules) (p : PassModel) (f v : FeederModel) (ws : List WorkerMode
       (ap (λ (b : BeltModel). b.capacity) same ∙ cap_from))
 
   took_step : (row : RowModel) → belt bs last ≡ record t { rows = row ∷ t.rows } → q ≡ belt bs 0 → v.channel ≡ f.channel →
-      HasFed v 1 (rows_on gas p 0) (s.put 0) (s.taken last ++ row ∷ []) → (0 < f.to_put → 0 < length f.rows → length (belt bs 0).rows < (belt bs 0).capacity → ⊥) → Shown
+      HasFed v 1 (rows_on gas input 0 0) (s.put 0) (s.taken last ++ row ∷ []) → (0 < f.to_put → 0 < length f.rows → length (belt bs 0).rows < (belt bs 0).capacity → ⊥) → Shown
   took_step row taken same same_channel fed full =
       let holds_t : s.taken last ++ row ∷ t.rows ≡ s.put last = rw (ap (λ (b : BeltModel). b.rows) taken) at holds_from in
       let low = sh.some in
@@ -141,7 +143,7 @@ module _ (gas : Rules) (p : PassModel) (f v : FeederModel) (ws : List WorkerMode
       let e : turn line s 0 ≡ after_take s last = (turn_take line s 0 (le-ltb last 0 (omega arith)) (shut_put full) opens).1 in
       let now : grown s.taken last (s.put last) last ≡ s.taken last ++ row ∷ [] = grown_by s.taken last row t.rows (s.put last) holds_t in
       let first : grown s.taken last (s.put last) 0 ≡ s.taken 0 = grown_other s.taken last (s.put last) 0 (λ z. absurd (omega arith)) in
-      subst (λ u. Shows gas p v ws (set (set bs 0 q) last t) u) (sym e)
+      subst (λ u. Shows gas input v ws (set (set bs 0 q) last t) u) (sym e)
       (shows_feeder (after_take s last) (λ j ne. refl) (λ j ne. grown_other s.taken last (s.put last) j ne) same_channel
       (rw now fed)
       (rw (first, same) holds_to)
@@ -154,9 +156,9 @@ module _ (gas : Rules) (p : PassModel) (f v : FeederModel) (ws : List WorkerMode
   still_step same_t same_q same full none =
       let no_take : take_open line s last ≡ false = take_shut line s last (λ more. absurd (none more)) in
       let e : turn line s 0 ≡ s = (turn_idle line s 0 (le-ltb last 0 (omega arith)) (shut_put full) no_take).1 in
-      subst (λ u. Shows gas p v ws (set (set bs 0 q) last t) u) (sym e)
+      subst (λ u. Shows gas input v ws (set (set bs 0 q) last t) u) (sym e)
       (shows_feeder s (λ j ne. refl) (λ j ne. refl) (ap (λ (u : FeederModel). u.channel) same)
-      (subst (λ u. HasFed u 1 (rows_on gas p 0) (s.put 0) (s.taken last)) (sym same) sh.fed)
+      (subst (λ u. HasFed u 1 (rows_on gas input 0 0) (s.put 0) (s.taken last)) (sym same) sh.fed)
       (rw same_q holds_to)
       (rw same_t holds_from)
       (ap (λ (b : BeltModel). b.capacity) same_q ∙ cap_to)
@@ -179,15 +181,15 @@ module _ (gas : Rules) (p : PassModel) (f v : FeederModel) (ws : List WorkerMode
   stray_step : (row : RowModel) → belt bs last ≡ record t { rows = row ∷ t.rows } → length row ≢ f.channel.width → ⊥
   stray_step row taken ne =
       let holds_t : s.taken last ++ row ∷ t.rows ≡ s.put last = rw (ap (λ (b : BeltModel). b.rows) taken) at holds_from in
-      ne (under_way_is_wide gas p laws sh.pass s fits last (omega arith) row t.rows holds_t ∙ sym (ap (λ c. c.width) sh.channel))
+      ne (under_way_is_wide gas input laws sh.is_input 0 s fits last (omega arith) row t.rows holds_t ∙ sym (ap (λ c. c.width) sh.channel))
 
   feeder_step : (r : Turned) → FeederTurned r f v (belt bs 0) q (belt bs last) t → Shown
   feeder_step Took h =
       let c = h.took refl in
-      took_step c.0 c.1 c.2 h.channel (c.3 1 (rows_on gas p 0) (s.put 0) (s.taken last) sh.fed) (h.took_after_put refl)
+      took_step c.0 c.1 c.2 h.channel (rw (append-nil (s.put 0)) at (c.3 1 (rows_on gas input 0 0) (s.put 0) (s.taken last) sh.fed)) (h.took_after_put refl)
   feeder_step Put h =
       let c = h.gave refl in
-      gave_step c.0 c.1.1 c.1.0 c.2 h.channel (c.3 1 (rows_on gas p 0) (s.put 0) (s.taken last) sh.fed)
+      gave_step c.0 c.1.1 c.1.0 c.2 h.channel (rw (append-nil (s.taken last)) at (c.3 1 (rows_on gas input 0 0) (s.put 0) (s.taken last) sh.fed))
   feeder_step Idle h =
       let c = h.idle refl in
       idle_step c.0 c.1 c.2 (h.idle_putting refl) (h.idle_taking refl)

@@ -1,6 +1,7 @@
 -- Where the feeder's pass is closed the line is done, and the feeder holds the rows of the last generation.
 use Rattle.std.proofs.Common.{rules, ◌≡◌, ℕ, ◌+◌, ◌*◌, ◌≤◌, ◌<◌, Bool, true, false, eqb, if◌then◌else◌, Option, Some, None, List, length, map, ap, sym, ◌∙◌, subst, arith}
 use Rattle.std.specs.Prelude.{IsSome}
+use Rattle.std.specs.Int.{div_ceil}
 use Rattle.std.specs.List.{range_with_len}
 use Rattle.std.proofs.lemmas.Bool.{eq-eqb, ne_eqb, and_from, and_right}
 use Rattle.std.proofs.Math.Nat.{mul-le-mul_right}
@@ -9,14 +10,14 @@ use Rattle.gas_geom.specs.Gas.{Rules, IsGas}
 use Rattle.gas_geom.specs.Lattice.{LatticeModel}
 use Rattle.gas_stage.specs.Evolution.{lattice_after}
 use Rattle.gas_pipe_model.specs.Line.{State, is_done}
-use Rattle.gas_pipe_model.specs.Pass.{PassModel, line_of, rows_on, first_pass}
+use Rattle.gas_pipe_model.specs.Pass.{RunInputModel, line_of, rows_on}
 use Rattle.gas_pipe_members.specs.Belt.{BeltModel}
 use Rattle.gas_pipe_members.specs.Worker.{WorkerModel}
-use Rattle.gas_pipe_members.specs.Feeder.{FeederModel, emptied}
-use Rattle.gas_pipe_model.specs.Plan.{passes_of}
-use Rattle.gas_pipe_replay.specs.Replay.{ReplayModel, after, counts_of, replay_of}
+use Rattle.gas_pipe_members.specs.Feeder.{FeederModel}
+use Rattle.gas_pipe_members.specs.Inner.Steps.{emptied}
+use Rattle.gas_pipe_replay.specs.Replay.{ReplayModel, counts_of, replay_of}
 use Rattle.gas_pipe_replay.specs.declared.answer.Counts.{Counts}
-use Rattle.gas_pipe_replay.specs.Inner.LocalLine.{Shows}
+use Rattle.gas_pipe_replay.specs.Inner.LocalLine.{after, Shows}
 use Rattle.gas_pipe_model.proofs.Kept.{fits}
 use Rattle.gas_pipe_model.proofs.Totals.{carried_all}
 use Rattle.gas_pipe_model.proofs.Generations.{pass_is_line, carries, rows_high, ends_last}
@@ -24,76 +25,67 @@ use Rattle.gas_pipe_members.proofs.Emptied.{emptied_lattice}
 use Rattle.gas_pipe_members.proofs.Feeds.{one_pass_holds}
 use Rattle.gas_pipe_model.proofs.Wide.{after_is_lattice}
 
-module _ (gas : Rules) (p : PassModel) (f : FeederModel) (ws : List WorkerModel) (bs : List BeltModel) (turns : List ℕ)
-    (laws : IsGas gas) (sh : Shows gas p f ws bs (after gas p turns)) where
+module _ (gas : Rules) (input : RunInputModel) (f : FeederModel) (ws : List WorkerModel) (bs : List BeltModel) (turns : List ℕ)
+    (laws : IsGas gas) (sh : Shows gas input f ws bs (after gas input turns)) where
   abbrev now : State
-  now = after gas p turns
+  now = after gas input turns
 
-  high : length (rows_on gas p 0) ≡ f.channel.height
-  high = rows_high gas p sh.pass 0 ∙ ap (λ c. c.height) (sym sh.channel)
+  high : length (rows_on gas input 0 0) ≡ f.channel.height
+  high = rows_high gas input sh.is_input 0 0 ∙ ap (λ c. c.height) (sym sh.channel)
 
-  closed_done : f.to_take ≡ 0 → is_done (line_of gas p) now ≡ true
+  closed_done : f.to_take ≡ 0 → is_done (line_of gas input 0) now ≡ true
   unfolding is_done
   closed_done over =
       let fed = sh.fed in
-      and_from (eqb (length (now.put 0)) (length (rows_on gas p 0))) (eqb (length (now.taken p.plan.stages)) (length (rows_on gas p 0)))
-      (eq-eqb (length (now.put 0)) (length (rows_on gas p 0)) (omega (arith, high, over, fed.puts, fed.takes, fed.behind)))
-      (eq-eqb (length (now.taken p.plan.stages)) (length (rows_on gas p 0)) (omega (arith, high, over, fed.takes)))
+      and_from (eqb (length (now.put 0)) (length (rows_on gas input 0 0))) (eqb (length (now.taken input.plan.stages)) (length (rows_on gas input 0 0)))
+      (eq-eqb (length (now.put 0)) (length (rows_on gas input 0 0)) (omega (arith, high, over, fed.puts, fed.takes, fed.behind)))
+      (eq-eqb (length (now.taken input.plan.stages)) (length (rows_on gas input 0 0)) (omega (arith, high, over, fed.takes)))
 
-  pub unfinished : (f.to_take ≡ 0 → ⊥) → is_done (line_of gas p) now ≡ false
+  pub unfinished : (f.to_take ≡ 0 → ⊥) → is_done (line_of gas input 0) now ≡ false
   unfolding is_done
   unfinished left =
       let fed = sh.fed in
-      and_right (eqb (length (now.put 0)) (length (rows_on gas p 0))) (eqb (length (now.taken p.plan.stages)) (length (rows_on gas p 0)))
-      (ne_eqb (length (now.taken p.plan.stages)) (length (rows_on gas p 0)) (λ e. left (omega (arith, high, e, fed.takes))))
+      and_right (eqb (length (now.put 0)) (length (rows_on gas input 0 0))) (eqb (length (now.taken input.plan.stages)) (length (rows_on gas input 0 0)))
+      (ne_eqb (length (now.taken input.plan.stages)) (length (rows_on gas input 0 0)) (λ e. left (omega (arith, high, e, fed.takes))))
 
   -- the rows that came back are those of the last belt
-  holds_last : f.to_take ≡ 0 → f.rows ≡ rows_on gas p p.plan.stages
+  holds_last : f.to_take ≡ 0 → f.rows ≡ rows_on gas input 0 input.plan.stages
   holds_last over =
-      let line = pass_is_line gas p sh.pass in
-      let back : now.taken p.plan.stages ≡ rows_on gas p p.plan.stages =
-      (carried_all (line_of gas p) line now (fits (line_of gas p) line turns) (closed_done over) p.plan.stages (omega arith)).1
-      ∙ carries gas p sh.pass p.plan.stages in
-      one_pass_holds f (rows_on gas p 0) (now.put 0) (now.taken p.plan.stages) sh.fed high over
-      ∙ ap (λ c. emptied c (now.taken p.plan.stages)) sh.channel
-      ∙ ap (emptied p.lattice.channel) back
-      ∙ emptied_lattice gas p.lattice.channel (rows_on gas p p.plan.stages) (after_is_lattice gas p laws sh.pass p.plan.stages)
+      let line = pass_is_line gas input sh.is_input 0 in
+      let back : now.taken input.plan.stages ≡ rows_on gas input 0 input.plan.stages =
+      (carried_all (line_of gas input 0) line now (fits (line_of gas input 0) line turns) (closed_done over) input.plan.stages (omega arith)).1
+      ∙ carries gas input sh.is_input 0 input.plan.stages in
+      one_pass_holds f (rows_on gas input 0 0) (now.put 0) (now.taken input.plan.stages) sh.fed high over
+      ∙ ap (λ c. emptied c (now.taken input.plan.stages)) sh.channel
+      ∙ ap (emptied input.lattice.channel) back
+      ∙ emptied_lattice gas input.lattice.channel (rows_on gas input 0 input.plan.stages) (after_is_lattice gas input laws sh.is_input 0 input.plan.stages)
 
-  pub finished : f.to_take ≡ 0 → (is_done (line_of gas p) now ≡ true) × (f.rows ≡ rows_on gas p p.plan.stages)
+  pub finished : f.to_take ≡ 0 → (is_done (line_of gas input 0) now ≡ true) × (f.rows ≡ rows_on gas input 0 input.plan.stages)
   finished over = (closed_done over, holds_last over)
 
 -- a plan that needs no more than one pass has a stage for each generation
-pub one_pass : (generations stages : ℕ) → 0 < stages → passes_of generations stages ≤ 1 → generations ≤ stages
+pub one_pass : (generations stages : ℕ) → 0 < stages → div_ceil generations stages ≤ 1 → generations ≤ stages
 one_pass generations stages some few =
-    let enough : generations ≤ passes_of generations stages * stages = (div_ceil_times generations stages some).0 in
-    let one : passes_of generations stages * stages ≤ 1 * stages = mul-le-mul_right stages few in
+    let enough : generations ≤ div_ceil generations stages * stages = (div_ceil_times generations stages some).0 in
+    let one : div_ceil generations stages * stages ≤ 1 * stages = mul-le-mul_right stages few in
     omega arith
 
 -- how the only pass of a plan stands, where it has generations to compute
-pub stands : (gas : Rules) (p : PassModel) (turns : List ℕ) (r : ReplayModel) → p ≡ first_pass p.chirality p.first p.lattice p.plan →
-    (p.plan.generations ≡ 0 → ⊥) → p.plan.generations ≤ p.plan.stages →
-    r.lattice ≡ (if is_done (line_of gas p) (after gas p turns) then Some (record p.lattice { rows = rows_on gas p p.plan.stages }) else None) →
-    r.belts ≡ map (counts_of (after gas p turns)) (range_with_len 0 (p.plan.stages + 1)) →
-    r ≡ replay_of gas p.chirality p.first p.lattice p.plan turns
-stands gas p turns r first some enough is_lattice is_belts =
-    let last : rows_on gas p p.plan.stages ≡ (lattice_after gas p.chirality p.first p.lattice p.plan.generations).rows =
-    ends_last gas p (let more : p.plan.generations ≤ (p.number + 1) * p.plan.stages = omega (arith, enough, suc_times p.number p.plan.stages) in more) in
-    rw (ne_eqb p.plan.generations 0 some)
+pub stands : (gas : Rules) (input : RunInputModel) (turns : List ℕ) (r : ReplayModel) → (input.plan.generations ≡ 0 → ⊥) → input.plan.generations ≤ input.plan.stages →
+    r.lattice ≡ (if is_done (line_of gas input 0) (after gas input turns) then Some (record input.lattice { rows = rows_on gas input 0 input.plan.stages }) else None) →
+    r.belts ≡ map (counts_of (after gas input turns)) (range_with_len 0 (input.plan.stages + 1)) →
+    r ≡ replay_of gas input.chirality input.first input.lattice input.plan turns
+stands gas input turns r some enough is_lattice is_belts =
+    let last : rows_on gas input 0 input.plan.stages ≡ (lattice_after gas input.chirality input.first input.lattice input.plan.generations).rows =
+    ends_last gas input 0 (let more : input.plan.generations ≤ (0 + 1) * input.plan.stages = omega (arith, enough) in more) in
+    rw (ne_eqb input.plan.generations 0 some)
     (ap (λ (l : Option LatticeModel). record { lattice = l; belts = r.belts })
-    (is_lattice ∙ ap (λ rows. if is_done (line_of gas p) (after gas p turns) then Some (record p.lattice { rows = rows }) else None) last)
+    (is_lattice ∙ ap (λ rows. if is_done (line_of gas input 0) (after gas input turns) then Some (record input.lattice { rows = rows }) else None) last)
     ∙ ap (λ (b : List Counts). record {
-      lattice = if is_done (line_of gas p) (after gas p turns)
-          then Some (lattice_after gas p.chirality p.first p.lattice p.plan.generations) else None;
+      lattice = if is_done (line_of gas input 0) (after gas input turns)
+          then Some (lattice_after gas input.chirality input.first input.lattice input.plan.generations) else None;
       belts = b;
-    }) is_belts
-    ∙ ap (λ (q : PassModel). record {
-      lattice = if is_done (line_of gas q) (after gas q turns)
-          then Some (lattice_after gas p.chirality p.first p.lattice p.plan.generations) else None;
-      belts = map (counts_of (after gas q turns)) (range_with_len 0 (p.plan.stages + 1));
-    }) first)
-  where
-    suc_times : (n m : ℕ) → (n + 1) * m ≡ n * m + m
-    suc_times n m = omega arith
+    }) is_belts)
 
 pub done_is_some : (b : Bool) (l : LatticeModel) (o : Option LatticeModel) → o ≡ (if b then Some l else None) → b ≡ true → IsSome o
 done_is_some b l o is done = is_some o (is ∙ ap (λ (x : Bool). if x then Some l else None) done)

@@ -1,13 +1,14 @@
 -- A turn of a worker brings a line to where the same turn brings its histories.
-use Rattle.std.proofs.Common.{◌≡◌, ◌≢◌, ℕ, suc, ◌+◌, ◌≤◌, ◌<◌, inl, inr, true, false, List, [], ◌∷◌, ◌++◌, length, get_or, set, refl, ap, sym, ◌∙◌, subst, arith, length-append, append_assoc, length-set, Option}
+use Rattle.std.proofs.Common.{◌≡◌, ◌≢◌, ℕ, suc, ◌+◌, ◌≤◌, ◌<◌, inl, inr, true, false, List, [], ◌∷◌, ◌++◌, length, get_or, set, refl, ap, sym, ◌∙◌, subst, arith, length-append, append_assoc, length-set, Option, append-nil}
 use Rattle.std.proofs.lemmas.Bool.{cases_lt, le-ltb}
 use Rattle.gas_geom.specs.Gas.{Rules, IsGas}
 use Rattle.gas_stage.specs.Stage.{owed as stage_owes}
 use Rattle.gas_rows.specs.Row.{RowModel}
-use Rattle.gas_pipe_model.specs.Line.{Line, State, owed_on, grown, put_open, take_open, after_put, after_take, turn, IsLine}
-use Rattle.gas_pipe_model.specs.Pass.{PassModel, computes_from, line_of, rows_on}
+use Rattle.gas_pipe_model.specs.Line.{Line, State, owed_on, grown, put_open, take_open, turn}
+use Rattle.gas_pipe_model.specs.Inner.Line.{after_put, after_take, IsLine}
+use Rattle.gas_pipe_model.specs.Pass.{RunInputModel, computes_from, line_of, rows_on}
 use Rattle.gas_pipe_members.specs.Belt.{BeltModel}
-use Rattle.gas_pipe_members.specs.Worker.{WorkerModel, IsClosed, HasDone, owes, AfterTake, AfterPut, AfterNone, HasPutAll, HasTakenAll, HasMoreToTake}
+use Rattle.gas_pipe_members.specs.Worker.{WorkerModel, IsClosed, HasDone, Does, owes, HasPutAll, HasTakenAll, HasMoreToTake}
 use Rattle.gas_pipe_members.specs.Feeder.{FeederModel}
 use Rattle.gas_pipe_replay.specs.Inner.LocalLine.{belt, IsAt, Shows}
 use Rattle.gas_pipe_members.specs.declared.ends.Turned.{Turned}
@@ -24,40 +25,40 @@ use Rattle.gas_pipe_model.proofs.Wide.{under_way_is_wide}
 pub record WorkerTurned (gas : Rules) (r : Turned) (w v : WorkerModel) (from from2 to to2 : BeltModel) : Type 0 where
   pub channel : v.stage.channel ≡ w.stage.channel
   pub chirality : v.stage.chirality ≡ w.stage.chirality
-  pub took : r ≡ Took → (row : RowModel) × (from ≡ record from2 { rows = row ∷ from2.rows }) × (to2 ≡ to) × AfterTake gas w row v
+  pub took : r ≡ Took → (row : RowModel) × (from ≡ record from2 { rows = row ∷ from2.rows }) × (to2 ≡ to) × Does gas w (row ∷ []) [] v
   pub took_when : r ≡ Took → HasPutAll gas w × HasMoreToTake gas w
-  pub gave : r ≡ Put → (row : RowModel) × ((length to.rows < to.capacity) × (to2 ≡ record to { rows = to.rows ++ row ∷ [] })) × (from2 ≡ from) × AfterPut gas w row v
-  pub idle : r ≡ Idle → (from2 ≡ from) × (to2 ≡ to) × AfterNone gas w v
+  pub gave : r ≡ Put → (row : RowModel) × ((length to.rows < to.capacity) × (to2 ≡ record to { rows = to.rows ++ row ∷ [] })) × (from2 ≡ from) × Does gas w [] (row ∷ []) v
+  pub idle : r ≡ Idle → (from2 ≡ from) × (to2 ≡ to) × Does gas w [] [] v
   pub idle_owing : r ≡ Idle → (e : Option ℕ) (took gave : List RowModel) → HasDone gas w e took gave → length gave < length (owes gas w e took) → length to.rows < to.capacity → ⊥
   pub idle_taking : r ≡ Idle → (e : Option ℕ) (took gave : List RowModel) → HasDone gas w e took gave → gave ≡ owes gas w e took → 0 < length from.rows → ⊥
-  pub done : r ≡ Done → (from2 ≡ from) × (to2 ≡ to) × AfterNone gas w v × IsClosed v
+  pub done : r ≡ Done → (from2 ≡ from) × (to2 ≡ to) × Does gas w [] [] v × IsClosed v
   pub done_when : r ≡ Done → HasTakenAll gas w × HasPutAll gas w
   pub stray_at : r ≡ Stray → w.stray ≡ false → (row : RowModel) × (from ≡ record from2 { rows = row ∷ from2.rows }) × (to2 ≡ to) × (length row ≢ w.stage.channel.width)
 
-module _ (gas : Rules) (p : PassModel) (f : FeederModel) (ws : List WorkerModel) (bs : List BeltModel) (s : State) (k : ℕ) (w v : WorkerModel) (t q : BeltModel)
-    (laws : IsGas gas) (fits : Fits (line_of gas p) s) (in_line : k < p.plan.stages) (sh : Shows gas p f ws bs s) (is : (d : WorkerModel) → get_or ws k d ≡ w) where
+module _ (gas : Rules) (input : RunInputModel) (f : FeederModel) (ws : List WorkerModel) (bs : List BeltModel) (s : State) (k : ℕ) (w v : WorkerModel) (t q : BeltModel)
+    (laws : IsGas gas) (fits : Fits (line_of gas input 0) s) (in_line : k < input.plan.stages) (sh : Shows gas input f ws bs s) (is : (d : WorkerModel) → get_or ws k d ≡ w) where
   abbrev line : Line
-  line = line_of gas p
+  line = line_of gas input 0
 
   is_line : IsLine line
-  is_line = pass_is_line gas p sh.pass
+  is_line = pass_is_line gas input sh.is_input 0
 
-  was : IsAt gas p k w (s.taken k) (s.put (suc k))
-  was = subst (λ (u : WorkerModel). IsAt gas p k u (s.taken k) (s.put (suc k))) (is w) (sh.done k w in_line)
+  was : IsAt gas input k w (s.taken k) (s.put (suc k))
+  was = subst (λ (u : WorkerModel). IsAt gas input k u (s.taken k) (s.put (suc k))) (is w) (sh.done k w in_line)
 
   abbrev from : Option ℕ
-  from = computes_from p.first p.plan p.number (suc k)
+  from = computes_from input.first input.plan 0 (suc k)
 
   -- what the worker owes is what the line says
-  owes_line : (u : WorkerModel) → u.stage.channel ≡ p.lattice.channel → u.stage.chirality ≡ p.chirality → (took : List RowModel) →
-      owes gas u from took ≡ stage_owes gas p.lattice.channel p.chirality from took
+  owes_line : (u : WorkerModel) → u.stage.channel ≡ input.lattice.channel → u.stage.chirality ≡ input.chirality → (took : List RowModel) →
+      owes gas u from took ≡ stage_owes gas input.lattice.channel input.chirality from took
   owes_line u c r took =
-      ap (λ x. stage_owes gas x u.stage.chirality from took) c ∙ ap (λ x. stage_owes gas p.lattice.channel x from took) r
+      ap (λ x. stage_owes gas x u.stage.chirality from took) c ∙ ap (λ x. stage_owes gas input.lattice.channel x from took) r
 
   owes_this : owes gas w from (s.taken k) ≡ owed_on line s (suc k)
   owes_this = owes_line w was.channel was.chirality (s.taken k)
 
-  low : k ≤ p.plan.stages
+  low : k ≤ input.plan.stages
   low = omega arith
 
   holds_from : s.taken k ++ (belt bs k).rows ≡ s.put k
@@ -66,10 +67,10 @@ module _ (gas : Rules) (p : PassModel) (f : FeederModel) (ws : List WorkerModel)
   holds_to : s.taken (suc k) ++ (belt bs (suc k)).rows ≡ s.put (suc k)
   holds_to = sh.holds (suc k) in_line
 
-  cap_from : (belt bs k).capacity ≡ p.plan.capacity
+  cap_from : (belt bs k).capacity ≡ input.plan.capacity
   cap_from = sh.capacity k low
 
-  cap_to : (belt bs (suc k)).capacity ≡ p.plan.capacity
+  cap_to : (belt bs (suc k)).capacity ≡ input.plan.capacity
   cap_to = sh.capacity (suc k) in_line
 
   length_to : length (s.put (suc k)) ≡ length (s.taken (suc k)) + length (belt bs (suc k)).rows
@@ -78,33 +79,33 @@ module _ (gas : Rules) (p : PassModel) (f : FeederModel) (ws : List WorkerModel)
   -- the line after a change of the worker and its two belts
   shows_worker : (s2 : State) → ((j : ℕ) → (j ≡ suc k → ⊥) → s2.put j ≡ s.put j) → ((j : ℕ) → (j ≡ k → ⊥) → s2.taken j ≡ s.taken j) →
       v.stage.channel ≡ w.stage.channel → v.stage.chirality ≡ w.stage.chirality → HasDone gas v from (s2.taken k) (s2.put (suc k)) →
-      s2.taken k ++ t.rows ≡ s2.put k → s2.taken (suc k) ++ q.rows ≡ s2.put (suc k) → t.capacity ≡ p.plan.capacity → q.capacity ≡ p.plan.capacity →
-      Shows gas p f (set ws k v) (set (set bs k t) (suc k) q) s2
+      s2.taken k ++ t.rows ≡ s2.put k → s2.taken (suc k) ++ q.rows ≡ s2.put (suc k) → t.capacity ≡ input.plan.capacity → q.capacity ≡ input.plan.capacity →
+      Shows gas input f (set ws k v) (set (set bs k t) (suc k) q) s2
   shows_worker s2 puts takens same_channel same_chirality done holds_t holds_q cap_t cap_q =
       let l1 : k < length ws = let a = sh.workers_are in omega arith in
       let l2 : suc k < length bs = let a = sh.belts_are in omega arith in
       let below : k < suc k = omega arith in
       let none : BeltModel = record { rows = []; capacity = 0 } in
       record {
-        pass = sh.pass;
+        is_input = sh.is_input;
         some = sh.some;
         workers_are = length-set ws k v ∙ sh.workers_are;
         belts_are = length-set (set bs k t) (suc k) q ∙ length-set bs k t ∙ sh.belts_are;
         channel = sh.channel;
-        fed = rw (puts 0 (λ e. absurd (omega arith)), takens p.plan.stages (λ e. absurd (omega arith))) sh.fed;
-        done = λ j d h. at_set ws k j v d l1 (λ u. IsAt gas p j u (s2.taken j) (s2.put (suc j)))
-            (λ e. subst (λ i. IsAt gas p i v (s2.taken i) (s2.put (suc i))) (sym e)
+        fed = rw (puts 0 (λ e. absurd (omega arith)), takens input.plan.stages (λ e. absurd (omega arith))) sh.fed;
+        done = λ j d h. at_set ws k j v d l1 (λ u. IsAt gas input j u (s2.taken j) (s2.put (suc j)))
+            (λ e. subst (λ i. IsAt gas input i v (s2.taken i) (s2.put (suc i))) (sym e)
             (record { channel = same_channel ∙ was.channel; chirality = same_chirality ∙ was.chirality; done = done }))
             (λ ne. rw (takens j ne, puts (suc j) (λ e. ne (omega arith))) (sh.done j d h));
         holds = λ j h. at_two bs k (suc k) j t q none below l2 (λ b. s2.taken j ++ b.rows ≡ s2.put j)
             (λ e. subst (λ i. s2.taken i ++ q.rows ≡ s2.put i) (sym e) holds_q)
             (λ e. subst (λ i. s2.taken i ++ t.rows ≡ s2.put i) (sym e) holds_t)
             (λ a b. rw (takens j b, puts j a) (sh.holds j h));
-        capacity = λ j h. at_two bs k (suc k) j t q none below l2 (λ b. b.capacity ≡ p.plan.capacity) (λ e. cap_q) (λ e. cap_t) (λ a b. sh.capacity j h);
+        capacity = λ j h. at_two bs k (suc k) j t q none below l2 (λ b. b.capacity ≡ input.plan.capacity) (λ e. cap_q) (λ e. cap_t) (λ a b. sh.capacity j h);
       }
 
   abbrev Shown : Type 0
-  Shown = Shows gas p f (set ws k v) (set (set bs k t) (suc k) q) (turn line s (suc k))
+  Shown = Shows gas input f (set ws k v) (set (set bs k t) (suc k) q) (turn line s (suc k))
 
   took_step : (row : RowModel) → belt bs k ≡ record t { rows = row ∷ t.rows } → q ≡ belt bs (suc k) →
       v.stage.channel ≡ w.stage.channel → v.stage.chirality ≡ w.stage.chirality →
@@ -114,10 +115,10 @@ module _ (gas : Rules) (p : PassModel) (f : FeederModel) (ws : List WorkerModel)
       let n : length (s.put (suc k)) ≡ length (owed_on line s (suc k)) = ap length (all ∙ owes_this) in
       let shut : put_open line s (suc k) ≡ false = put_shut line s (suc k) (λ more. absurd (omega arith)) in
       let opens : take_open line s k ≡ true = take_opened line s k (longer (s.taken k) row t.rows (s.put k) holds_k) (inr n) in
-      let e : turn line s (suc k) ≡ after_take s k = (turn_take line s (suc k) (le-ltb p.plan.stages (suc k) (omega arith)) shut opens).1 in
+      let e : turn line s (suc k) ≡ after_take s k = (turn_take line s (suc k) (le-ltb input.plan.stages (suc k) (omega arith)) shut opens).1 in
       let now : grown s.taken k (s.put k) k ≡ s.taken k ++ row ∷ [] = grown_by s.taken k row t.rows (s.put k) holds_k in
       let above : grown s.taken k (s.put k) (suc k) ≡ s.taken (suc k) = grown_other s.taken k (s.put k) (suc k) (λ z. absurd (omega arith)) in
-      subst (λ u. Shows gas p f (set ws k v) (set (set bs k t) (suc k) q) u) (sym e)
+      subst (λ u. Shows gas input f (set ws k v) (set (set bs k t) (suc k) q) u) (sym e)
       (shows_worker (after_take s k) (λ j ne. refl) (λ j ne. grown_other s.taken k (s.put k) j ne) same_channel same_chirality
       (rw now done)
       (rw now (append_assoc (s.taken k) (row ∷ []) t.rows ∙ holds_k))
@@ -136,11 +137,11 @@ module _ (gas : Rules) (p : PassModel) (f : FeederModel) (ws : List WorkerModel)
       let comes : s.put (suc k) ++ row ∷ pre.0 ≡ owed_on line s (suc k) = sym (append_assoc (s.put (suc k)) (row ∷ []) pre.0) ∙ pre.1 ∙ owed_is in
       let opens : put_open line s (suc k) ≡ true =
       put_opened line s (suc k) (longer (s.put (suc k)) row pre.0 (owed_on line s (suc k)) comes) (omega (arith, length_to, cap_to, room)) in
-      let e : turn line s (suc k) ≡ after_put line s (suc k) = (turn_put line s (suc k) (le-ltb p.plan.stages (suc k) (omega arith)) opens).1 in
+      let e : turn line s (suc k) ≡ after_put line s (suc k) = (turn_put line s (suc k) (le-ltb input.plan.stages (suc k) (omega arith)) opens).1 in
       let now : grown s.put (suc k) (owed_on line s (suc k)) (suc k) ≡ s.put (suc k) ++ row ∷ [] = grown_by s.put (suc k) row pre.0 (owed_on line s (suc k)) comes in
       let below : grown s.put (suc k) (owed_on line s (suc k)) k ≡ s.put k = grown_other s.put (suc k) (owed_on line s (suc k)) k (λ z. absurd (omega arith)) in
       let rows : q.rows ≡ (belt bs (suc k)).rows ++ row ∷ [] = ap (λ (b : BeltModel). b.rows) put in
-      subst (λ u. Shows gas p f (set ws k v) (set (set bs k t) (suc k) q) u) (sym e)
+      subst (λ u. Shows gas input f (set ws k v) (set (set bs k t) (suc k) q) u) (sym e)
       (shows_worker (after_put line s (suc k)) (λ j ne. grown_other s.put (suc k) (owed_on line s (suc k)) j ne) (λ j ne. refl) same_channel same_chirality
       (rw now done)
       (rw (below, same) holds_from)
@@ -151,8 +152,8 @@ module _ (gas : Rules) (p : PassModel) (f : FeederModel) (ws : List WorkerModel)
   still_step : t ≡ belt bs k → q ≡ belt bs (suc k) → v.stage.channel ≡ w.stage.channel → v.stage.chirality ≡ w.stage.chirality →
       HasDone gas v from (s.taken k) (s.put (suc k)) → put_open line s (suc k) ≡ false → take_open line s k ≡ false → Shown
   still_step same_t same_q same_channel same_chirality done shut no_take =
-      let e : turn line s (suc k) ≡ s = (turn_idle line s (suc k) (le-ltb p.plan.stages (suc k) (omega arith)) shut no_take).1 in
-      subst (λ u. Shows gas p f (set ws k v) (set (set bs k t) (suc k) q) u) (sym e)
+      let e : turn line s (suc k) ≡ s = (turn_idle line s (suc k) (le-ltb input.plan.stages (suc k) (omega arith)) shut no_take).1 in
+      subst (λ u. Shows gas input f (set ws k v) (set (set bs k t) (suc k) q) u) (sym e)
       (shows_worker s (λ j ne. refl) (λ j ne. refl) same_channel same_chirality done
       (rw same_t holds_from)
       (rw same_q holds_to)
@@ -180,7 +181,7 @@ module _ (gas : Rules) (p : PassModel) (f : FeederModel) (ws : List WorkerModel)
       HasDone gas v from (s.taken k) (s.put (suc k)) → s.put (suc k) ≡ owes gas w from (s.taken k) → length (s.taken k) ≡ w.stage.channel.height → Shown
   done_step same_t same_q same_channel same_chirality done all whole =
       let m : length (s.put (suc k)) ≡ length (owed_on line s (suc k)) = ap length (all ∙ owes_this) in
-      let high : w.stage.channel.height ≡ length (rows_on gas p 0) = ap (λ c. c.height) was.channel ∙ sym (rows_high gas p sh.pass 0) in
+      let high : w.stage.channel.height ≡ length (rows_on gas input 0 0) = ap (λ c. c.height) was.channel ∙ sym (rows_high gas input sh.is_input 0 0) in
       let few = put_short line is_line s fits k low in
       still_step same_t same_q same_channel same_chirality done
       (put_shut line s (suc k) (λ more. absurd (omega (arith, more, m))))
@@ -189,24 +190,24 @@ module _ (gas : Rules) (p : PassModel) (f : FeederModel) (ws : List WorkerModel)
   stray_step : (row : RowModel) → belt bs k ≡ record t { rows = row ∷ t.rows } → length row ≢ w.stage.channel.width → ⊥
   stray_step row taken ne =
       let holds_k : s.taken k ++ row ∷ t.rows ≡ s.put k = rw (ap (λ (b : BeltModel). b.rows) taken) at holds_from in
-      ne (under_way_is_wide gas p laws sh.pass s fits k low row t.rows holds_k ∙ sym (ap (λ c. c.width) was.channel))
+      ne (under_way_is_wide gas input laws sh.is_input 0 s fits k low row t.rows holds_k ∙ sym (ap (λ c. c.width) was.channel))
 
   worker_step : (r : Turned) → WorkerTurned gas r w v (belt bs k) t (belt bs (suc k)) q → Shown
   worker_step Took h =
       let c = h.took refl in
-      took_step c.0 c.1 c.2 h.channel h.chirality (c.3 from (s.taken k) (s.put (suc k)) was.done)
+      took_step c.0 c.1 c.2 h.channel h.chirality (rw (append-nil (s.put (suc k))) at (c.3 from (s.taken k) (s.put (suc k)) was.done))
       ((h.took_when refl).0 from (s.taken k) (s.put (suc k)) was.done)
   worker_step Put h =
       let c = h.gave refl in
-      gave_step c.0 c.1.1 c.1.0 c.2 h.channel h.chirality (c.3 from (s.taken k) (s.put (suc k)) was.done)
+      gave_step c.0 c.1.1 c.1.0 c.2 h.channel h.chirality (rw (append-nil (s.taken k)) at (c.3 from (s.taken k) (s.put (suc k)) was.done))
   worker_step Idle h =
       let c = h.idle refl in
-      idle_step c.0 c.1 h.channel h.chirality (c.2 from (s.taken k) (s.put (suc k)) was.done)
+      idle_step c.0 c.1 h.channel h.chirality (rw (append-nil (s.taken k), append-nil (s.put (suc k))) at (c.2 from (s.taken k) (s.put (suc k)) was.done))
       (h.idle_owing refl from (s.taken k) (s.put (suc k)) was.done) (h.idle_taking refl from (s.taken k) (s.put (suc k)) was.done)
   worker_step Done h =
       let c = h.done refl in
       let d = h.done_when refl in
-      done_step c.0 c.1 h.channel h.chirality (c.2 from (s.taken k) (s.put (suc k)) was.done)
+      done_step c.0 c.1 h.channel h.chirality (rw (append-nil (s.taken k), append-nil (s.put (suc k))) at (c.2 from (s.taken k) (s.put (suc k)) was.done))
       (d.1 from (s.taken k) (s.put (suc k)) was.done) (d.0 from (s.taken k) (s.put (suc k)) was.done)
   worker_step Stray h =
       let c = h.stray_at refl was.done.no_stray in

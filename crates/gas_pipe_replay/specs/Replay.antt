@@ -5,8 +5,8 @@ use Rattle.gas_geom.specs.Gas.{Rules}
 use Rattle.gas_geom.specs.Lattice.{LatticeModel}
 use Rattle.gas_rows.specs.declared.chirality.Chirality.{Chirality}
 use Rattle.gas_stage.specs.Evolution.{lattice_after}
-use Rattle.gas_pipe_model.specs.Line.{State, start, after_turns, is_done}
-use Rattle.gas_pipe_model.specs.Pass.{PassModel, line_of, first_pass}
+use Rattle.gas_pipe_model.specs.Line.{Line, State, start, after_turns, is_done}
+use Rattle.gas_pipe_model.specs.Pass.{line_of}
 use Rattle.gas_pipe_model.specs.Plan.{PlanModel}
 use Rattle.gas_pipe_replay.specs.declared.answer.Counts.{Counts}
 
@@ -19,17 +19,13 @@ pub record ReplayModel : Type 0 where
 abbrev pub counts_of : State → ℕ → Counts
 counts_of s k = record { put = length (s.put k); taken = length (s.taken k) }
 
--- the histories of the pass after these turns
-abbrev pub after : Rules → PassModel → List ℕ → State
-after gas p turns = after_turns (line_of gas p) turns start
-
--- Where a pass stands after these turns: how far each of its belts is, and, where it is done, the lattice after all generations.
--- Without a generation to compute there is no belt, and it is done at once.
+-- Where the one pass of a plan stands after these turns: how far each of its belts is, and, where it is done, the lattice after all
+-- generations. Without a generation to compute there is no belt, and it is done at once.
 abbrev pub replay_of : Rules → Chirality → ℕ → LatticeModel → PlanModel → List ℕ → ReplayModel
 replay_of gas chirality first lattice plan turns =
-    let p : PassModel = first_pass chirality first lattice plan in
+    let line : Line = line_of gas (record { chirality = chirality; first = first; lattice = lattice; plan = plan }) 0 in
     if eqb plan.generations 0 then record { lattice = Some lattice; belts = [] }
     else record {
-      lattice = if is_done (line_of gas p) (after gas p turns) then Some (lattice_after gas chirality first lattice plan.generations) else None;
-      belts = map (counts_of (after gas p turns)) (range_with_len 0 (plan.stages + 1));
+      lattice = if is_done line (after_turns line turns start) then Some (lattice_after gas chirality first lattice plan.generations) else None;
+      belts = map (counts_of (after_turns line turns start)) (range_with_len 0 (plan.stages + 1));
     }

@@ -5,17 +5,17 @@ pub mod answer;
 mod local_line;
 
 ghost use Rattle.std.specs.Prelude.{◌≡◌, ◌≤◌, ◌<◌, ◌+◌, ◌*◌, ◌^◌, ℕ, Err, IfOk, IsSome, ◌↔◌};
+ghost use Rattle.std.specs.Int.{div_ceil};
 ghost use Rattle.gas_geom.specs.Lattice.{count};
 ghost use Rattle.gas_stage.specs.Evolution.{lattice_after};
 ghost use Rattle.gas_pipe_model.specs.Line.{HasRounds};
-ghost use Rattle.gas_pipe_model.specs.Plan.{passes_of};
 ghost use Rattle.gas_pipe_replay.specs.Replay.{replay_of};
 
 use crate::answer::Replay;
 use crate::local_line::LocalLine;
 use gas_geom::gas::Gas;
 use gas_pipe_members::error::RunError;
-use gas_pipe_members::pass::FirstPass;
+use gas_pipe_members::input::RunInput;
 use gas_pipe_members::plan::Plan;
 use gas_pipe_members::schedule::Schedule;
 use gas_rows::chirality::Chirality;
@@ -34,7 +34,7 @@ pub fn replay<G: Gas>(
     turns: &[u32],
 ) -> Result<Replay<G>, RunError>
     requires room { first + plan.generations < 2 ^ 64 }
-    ensures more_passes { 1 < passes_of plan.generations plan.stages ↔ result ≡ Err RunError.MorePasses }
+    ensures more_passes { 1 < div_ceil plan.generations plan.stages ↔ result ≡ Err RunError.MorePasses }
     ensures state { IfOk result (λ r. r ≡ replay_of G.rules chirality first lattice.now plan turns.now) }
     ensures done { IfOk result (λ r. HasRounds plan.stages (2 * lattice.now.channel.height * (plan.stages + 1)) turns.now → IsSome r.lattice) }
     ensures number { IfOk result (λ _. (n : ℕ) → n ≤ plan.generations →
@@ -46,12 +46,12 @@ pub fn replay<G: Gas>(
     if plan.generations() == 0 {
         return Ok(Replay::new(Some(lattice.copy(alloc)?), Vec::new(alloc)));
     }
-    let pass = FirstPass {
+    let input = RunInput {
         lattice,
         chirality,
         schedule: Schedule { first, plan },
     };
-    let mut line = LocalLine::new(alloc, &pass)?;
+    let mut line = LocalLine::new(alloc, &input)?;
     line.run(turns);
     let belts = line.counts(alloc)?;
     Ok(Replay::new(line.finish(), belts))

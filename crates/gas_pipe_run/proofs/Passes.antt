@@ -7,7 +7,7 @@ use Rattle.gas_rows.specs.declared.chirality.Chirality.{Chirality}
 use Rattle.gas_stage.specs.Stage.{owed}
 use Rattle.gas_belt.specs.Belt.{Sender, Receiver}
 use Rattle.gas_rows.specs.Row.{RowModel}
-use Rattle.gas_pipe_members.specs.Worker.{WorkerModel, HasDone, HasTakenAll, HasPutAll, AfterTake, AfterPut, AfterNone}
+use Rattle.gas_pipe_members.specs.Worker.{WorkerModel, HasDone, Does, HasTakenAll, HasPutAll}
 use Rattle.gas_pipe_model.specs.Plan.{PlanModel}
 use Rattle.gas_pipe_model.specs.Pass.{computes_from}
 use Rattle.gas_pipe_model.proofs.Ring.{owed_pass}
@@ -55,11 +55,11 @@ module _ (gas : Rules) (e : Option ℕ) (w0 : WorkerModel) (rx0 : Receiver) (tx0
 
   module _ (w v : WorkerModel) (rx rx2 : Receiver) (tx tx2 : Sender) (was : Running gas e w0 w rx0 rx tx0 tx)
       (channel : v.stage.channel ≡ w.stage.channel) (chirality : v.stage.chirality ≡ w.stage.chirality) where
-    pub run_took : (row : RowModel) → TookFrom rx row rx2 → SamePut tx tx2 → AfterTake gas w row v → Running gas e w0 v rx0 rx2 tx0 tx2
+    pub run_took : (row : RowModel) → TookFrom rx row rx2 → SamePut tx tx2 → Does gas w (row ∷ []) [] v → Running gas e w0 v rx0 rx2 tx0 tx2
     run_took row took rests after = record {
       took = was.took ++ row ∷ [];
       gave = was.gave;
-      done = after e was.took was.gave was.done;
+      done = rw (append-nil was.gave) at (after e was.took was.gave was.done);
       came = took.1 ∙ ap (λ (l : List RowModel). l ++ row ∷ []) was.came ∙ append_assoc rx0.taken was.took (row ∷ []);
       went = rests.1 ∙ was.went;
       channel = channel ∙ was.channel;
@@ -68,11 +68,11 @@ module _ (gas : Rules) (e : Option ℕ) (w0 : WorkerModel) (rx0 : Receiver) (tx0
       tx_is = rests.0 ∙ was.tx_is;
     }
 
-    pub run_put : (row : RowModel) → PutOn tx row tx2 → SameTaken rx rx2 → AfterPut gas w row v → Running gas e w0 v rx0 rx2 tx0 tx2
+    pub run_put : (row : RowModel) → PutOn tx row tx2 → SameTaken rx rx2 → Does gas w [] (row ∷ []) v → Running gas e w0 v rx0 rx2 tx0 tx2
     run_put row put rests after = record {
       took = was.took;
       gave = was.gave ++ row ∷ [];
-      done = after e was.took was.gave was.done;
+      done = rw (append-nil was.took) at (after e was.took was.gave was.done);
       came = rests.1 ∙ was.came;
       went = put.1 ∙ ap (λ (l : List RowModel). l ++ row ∷ []) was.went ∙ append_assoc tx0.put was.gave (row ∷ []);
       channel = channel ∙ was.channel;
@@ -81,11 +81,11 @@ module _ (gas : Rules) (e : Option ℕ) (w0 : WorkerModel) (rx0 : Receiver) (tx0
       tx_is = put.0 ∙ was.tx_is;
     }
 
-    pub run_rests : SameTaken rx rx2 → SamePut tx tx2 → AfterNone gas w v → Running gas e w0 v rx0 rx2 tx0 tx2
+    pub run_rests : SameTaken rx rx2 → SamePut tx tx2 → Does gas w [] [] v → Running gas e w0 v rx0 rx2 tx0 tx2
     run_rests rests_rx rests_tx after = record {
       took = was.took;
       gave = was.gave;
-      done = after e was.took was.gave was.done;
+      done = rw (append-nil was.took, append-nil was.gave) at (after e was.took was.gave was.done);
       came = rests_rx.1 ∙ was.came;
       went = rests_tx.1 ∙ was.went;
       channel = channel ∙ was.channel;

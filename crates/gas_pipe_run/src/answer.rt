@@ -1,6 +1,6 @@
 //! What a run gives: the lattice, and what the belts carried.
 ghost use Rattle.std.specs.Prelude.{◌≡◌, ◌≤◌, ◌<◌, IfSome, IfNone, length};
-ghost use Rattle.gas_pipe_model.specs.Plan.{passes_of};
+ghost use Rattle.std.specs.Int.{div_ceil};
 
 use gas_belt::carried::Carried;
 use gas_geom::gas::Gas;
@@ -17,7 +17,7 @@ pub struct Run<G: Gas> {
 }
 
 impl<G: Gas> Model for Run<G> {
-    ghost use Rattle.gas_pipe_model.specs.Plan.{passes_of};
+    ghost use Rattle.std.specs.Int.{div_ceil};
     ghost use Rattle.gas_pipe_run.specs.Run.{RunModel};
 
     ghost Value = { RunModel };
@@ -25,7 +25,7 @@ impl<G: Gas> Model for Run<G> {
     ghost view = { λ r. record {
       lattice = r.lattice;
       stages = r.plan.stages;
-      passes = passes_of r.plan.generations r.plan.stages;
+      passes = div_ceil r.plan.generations r.plan.stages;
       belts = r.belts.items;
     } };
 }
@@ -34,7 +34,7 @@ impl<G: Gas> Run<G> {
     pub(crate) fn new(lattice: Lattice<G>, plan: Plan, belts: Vec<Carried<G>>) -> Self
         ensures lattice { result.lattice ≡ lattice }
         ensures stages { result.stages ≡ plan.stages }
-        ensures passes { result.passes ≡ passes_of plan.generations plan.stages }
+        ensures passes { result.passes ≡ div_ceil plan.generations plan.stages }
         ensures belts { result.belts ≡ belts.items }
     {
         Run {

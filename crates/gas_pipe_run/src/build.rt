@@ -8,35 +8,39 @@ use gas_belt::belt;
 use gas_belt::rx::Rx;
 use gas_belt::tx::Tx;
 use gas_geom::gas::Gas;
-use gas_pipe_members::pass::FirstPass;
+use gas_pipe_members::input::RunInput;
 use gas_pipe_members::worker::Worker;
 use std::alloc::{AllocError, Global};
 
 // The job of the worker that takes from belt k, and the end behind it, of the next belt.
 fn job_behind<'a, G: Gas>(
     alloc: Global,
-    pass: &FirstPass<'a, G>,
+    input: &RunInput<'a, G>,
     k: u32,
     rx: Rx<G>,
 ) -> Result<(Job<'a, G>, Rx<G>), AllocError>
-    requires one_of { k < pass.now.plan.stages }
+    requires one_of { k < input.now.plan.stages }
     requires nothing_taken { rx.taken ≡ [] }
     ensures ready { IfOk result (λ r. IsReady r.0) }
     ensures link { IfOk result (λ r. rx.belt ≡ r.0.rx.belt) }
     ensures who { IfOk result (λ r. r.0.who ≡ k + 1) }
-    ensures first { IfOk result (λ r. r.0.first ≡ pass.now.first) }
-    ensures plan { IfOk result (λ r. r.0.plan ≡ pass.now.plan) }
-    ensures channel { IfOk result (λ r. r.0.worker.stage.channel ≡ pass.now.lattice.channel) }
-    ensures chirality { IfOk result (λ r. r.0.worker.stage.chirality ≡ pass.now.chirality) }
+    ensures first { IfOk result (λ r. r.0.first ≡ input.now.first) }
+    ensures plan { IfOk result (λ r. r.0.plan ≡ input.now.plan) }
+    ensures channel { IfOk result (λ r. r.0.worker.stage.channel ≡ input.now.lattice.channel) }
+    ensures chirality { IfOk result (λ r. r.0.worker.stage.chirality ≡ input.now.chirality) }
     ensures next { IfOk result (λ r. r.0.tx.belt ≡ r.1.belt) }
     ensures nothing_taken { IfOk result (λ r. r.1.taken ≡ []) }
 {
-    let channel = pass.lattice.channel();
-    let (tx, next) = belt(alloc, pass.schedule.plan.capacity(), channel.size().width())?;
+    let channel = input.lattice.channel();
+    let (tx, next) = belt(
+        alloc,
+        input.schedule.plan.capacity(),
+        channel.size().width(),
+    )?;
     let job = Job {
         who: k + 1,
-        schedule: pass.schedule,
-        worker: Worker::new(alloc, channel, pass.chirality)?,
+        schedule: input.schedule,
+        worker: Worker::new(alloc, channel, input.chirality)?,
         rx,
         tx,
     };
@@ -54,20 +58,20 @@ pub struct Ends<'a, G: Gas> {
 /// Makes the belts, and a worker for each stage.
 pub(crate) fn build<'a, G: Gas>(
     alloc: Global,
-    pass: &FirstPass<'a, G>,
+    input: &RunInput<'a, G>,
 ) -> Result<Ends<'a, G>, AllocError>
     ensures nothing_put { IfOk result (λ ends. ends.first.put ≡ []) }
     ensures nothing_taken { IfOk result (λ ends. ends.last.taken ≡ []) }
-    ensures count { IfOk result (λ ends. vec_len ends.jobs ≡ pass.now.plan.stages) }
-    ensures linked { IfOk result (λ ends. Linked pass.now 0 ends.first.belt ends.jobs.items) }
+    ensures count { IfOk result (λ ends. vec_len ends.jobs ≡ input.now.plan.stages) }
+    ensures linked { IfOk result (λ ends. Linked input.now 0 ends.first.belt ends.jobs.items) }
     ensures closed { IfOk result (λ ends. last_belt ends.first.belt ends.jobs.items ≡ ends.last.belt) }
 {
-    let stages = pass.schedule.plan.stages();
+    let stages = input.schedule.plan.stages();
     let mut jobs = Vec::with_capacity(alloc, stages as usize)?;
-    let width = pass.lattice.channel().size().width();
-    let (first, mut last) = belt(alloc, pass.schedule.plan.capacity(), width)?;
+    let width = input.lattice.channel().size().width();
+    let (first, mut last) = belt(alloc, input.schedule.plan.capacity(), width)?;
     for k in 0..stages {
-        let (job, next) = job_behind(alloc, pass, k, last)?;
+        let (job, next) = job_behind(alloc, input, k, last)?;
         jobs.push(job)?;
         last = next;
     }

@@ -1,7 +1,7 @@
 //! Joining the workers' threads, and bringing the two ends of each belt together.
 ghost use Rattle.std.specs.Prelude.{◌≡◌, ◌*◌, [], length, map, IfSome, vec_len};
-ghost use Rattle.gas_pipe_model.specs.Pass.{IsPass};
-ghost use Rattle.gas_pipe_model.specs.Plan.{passes_of};
+ghost use Rattle.std.specs.Int.{div_ceil};
+ghost use Rattle.gas_pipe_model.specs.Inner.Input.{IsRunInput};
 ghost use Rattle.gas_pipe_run.specs.Inner.Links.{Linked, Advanced, Reached, job_of, last_belt};
 
 use crate::job::Ended;
@@ -9,7 +9,7 @@ use crate::start::Started;
 use gas_belt::carried::{Carried, meet};
 use gas_belt::tx::Spent;
 use gas_geom::gas::Gas;
-use gas_pipe_members::pass::FirstPass;
+use gas_pipe_members::input::RunInput;
 use std::thread::Threads;
 
 // Lets the two ends of a belt meet, and goes on to the next belt.
@@ -37,17 +37,17 @@ fn advance<G: Gas>(
 /// as no worker stopped early. It gives what is left of the end that the last worker put on.
 pub(crate) fn gather<G: Gas, R: Threads>(
     rt: &R,
-    pass: &FirstPass<'_, G>,
+    input: &RunInput<'_, G>,
     spent: Spent<G>,
     handles: Vec<Started<'_, G>>,
     belts: &mut Vec<Carried<G>>,
 ) -> Option<Spent<G>>
-    requires pass { IsPass G.rules pass.now }
-    requires whole { length spent.put ≡ passes_of pass.now.plan.generations pass.now.plan.stages * pass.now.lattice.channel.height }
-    requires linked { Linked pass.now 0 spent.belt (map job_of handles.items) }
+    requires input { IsRunInput G.rules input.now }
+    requires whole { length spent.put ≡ div_ceil input.now.plan.generations input.now.plan.stages * input.now.lattice.channel.height }
+    requires linked { Linked input.now 0 spent.belt (map job_of handles.items) }
     requires none { belts.old.items ≡ [] }
     ensures next { IfSome result (λ s. s.belt ≡ last_belt spent.belt (map job_of handles.entry.items)) }
-    ensures reached { IfSome result (λ s. Reached G.rules pass.now spent.put (vec_len handles.entry) s.put belts.new.items) }
+    ensures reached { IfSome result (λ s. Reached G.rules input.now spent.put (vec_len handles.entry) s.put belts.new.items) }
 {
     let mut current = Some(spent);
     for handle in handles {

@@ -15,12 +15,11 @@ mod watch;
 mod work;
 mod worker_loop;
 
-ghost use Rattle.std.specs.Prelude.{◌≡◌, ◌+◌, ◌-◌, ◌*◌, ◌≤◌, ◌<◌, ◌^◌, ℕ, [], length, map, take, drop, IfOk, IfErr};
+ghost use Rattle.std.specs.Prelude.{◌≡◌, ◌+◌, ◌-◌, ◌*◌, ◌≤◌, ◌<◌, ◌^◌, ℕ, [], length, map, get_or, take, drop, IfOk, IfErr};
+ghost use Rattle.std.specs.Int.{div_ceil};
 ghost use Rattle.gas_geom.specs.Lattice.{count};
 ghost use Rattle.gas_stage.specs.Evolution.{lattice_after};
-ghost use Rattle.gas_pipe_model.specs.Plan.{passes_of};
-ghost use Rattle.gas_pipe_model.specs.Pass.{first_pass, rings};
-ghost use Rattle.gas_pipe_run.specs.Run.{put_on, taken_on};
+ghost use Rattle.gas_pipe_model.specs.Pass.{rings};
 
 use crate::answer::Run;
 use crate::gate::Gate;
@@ -28,7 +27,7 @@ use crate::ring::run_ring;
 use gas_geom::gas::Gas;
 use gas_pipe_members::error::RunError;
 use gas_pipe_members::feeder::Feeder;
-use gas_pipe_members::pass::FirstPass;
+use gas_pipe_members::input::RunInput;
 use gas_pipe_members::plan::Plan;
 use gas_pipe_members::schedule::Schedule;
 use gas_rows::chirality::Chirality;
@@ -54,15 +53,16 @@ pub fn run<G: Gas + Send, H: Gate + Sync, R: Threads + Wait + Sync>(
     gate: &H,
 ) -> Result<Run<G>, RunError>
     requires room { first + plan.generations < 2 ^ 64 }
-    ensures put { IfOk result (λ r. map (λ b. b.put) r.belts ≡ rings G.rules (first_pass chirality first lattice.now plan)) }
-    ensures taken { IfOk result (λ r. map (λ b. b.taken) r.belts ≡ rings G.rules (first_pass chirality first lattice.now plan)) }
-    ensures go_round { IfOk result (λ r. take ((r.passes - 1) * lattice.now.channel.height) (taken_on r.belts r.stages) ≡ drop lattice.now.channel.height (put_on r.belts 0)) }
+    ensures put { IfOk result (λ r. map (λ b. b.put) r.belts ≡ rings G.rules (record { chirality = chirality; first = first; lattice = lattice.now; plan = plan })) }
+    ensures taken { IfOk result (λ r. map (λ b. b.taken) r.belts ≡ rings G.rules (record { chirality = chirality; first = first; lattice = lattice.now; plan = plan })) }
+    ensures go_round { IfOk result (λ r. take ((r.passes - 1) * lattice.now.channel.height) (get_or (map (λ b. b.taken) r.belts) r.stages [])
+        ≡ drop lattice.now.channel.height (get_or (map (λ b. b.put) r.belts) 0 [])) }
     ensures belts_made { 0 < plan.generations → IfOk result (λ r. length r.belts ≡ r.stages + 1) }
     ensures lattice { IfOk result (λ r. r.lattice ≡ lattice_after G.rules chirality first lattice.now plan.generations) }
     ensures number { IfOk result (λ _. (n : ℕ) → n ≤ plan.generations →
         count G.rules (lattice_after G.rules chirality first lattice.now n).rows ≡ count G.rules lattice.now.rows) }
     ensures stages { IfOk result (λ r. r.stages ≡ plan.stages) }
-    ensures passes { IfOk result (λ r. r.passes ≡ passes_of plan.generations plan.stages) }
+    ensures passes { IfOk result (λ r. r.passes ≡ div_ceil plan.generations plan.stages) }
     ensures no_generation { plan.generations ≡ 0 → IfOk result (λ r. (r.lattice ≡ lattice.now) × (r.belts ≡ [])) }
     ensures refused { IfErr result (λ e. e ≡ RunError.Memory) }
 {
@@ -70,10 +70,10 @@ pub fn run<G: Gas + Send, H: Gate + Sync, R: Threads + Wait + Sync>(
     if plan.generations() == 0 {
         return Ok(Run::new(feeder.finish(), plan, Vec::new(alloc)));
     }
-    let pass = FirstPass {
+    let input = RunInput {
         lattice,
         chirality,
         schedule: Schedule { first, plan },
     };
-    Ok(run_ring(rt, alloc, gate, &pass, feeder)?)
+    Ok(run_ring(rt, alloc, gate, &input, feeder)?)
 }

@@ -1,7 +1,7 @@
 //! The line as a ring: a thread for each worker and the caller's for the feeder, through all passes.
 ghost use Rattle.std.specs.Prelude.{◌≡◌, ◌<◌, ◌*◌, [], length, map, IfOk, IfSome, vec_len};
-ghost use Rattle.gas_pipe_model.specs.Pass.{IsPass};
-ghost use Rattle.gas_pipe_model.specs.Plan.{passes_of};
+ghost use Rattle.std.specs.Int.{div_ceil};
+ghost use Rattle.gas_pipe_model.specs.Inner.Input.{IsRunInput};
 ghost use Rattle.gas_pipe_members.specs.Feeder.{HasFed};
 ghost use Rattle.gas_pipe_run.specs.Inner.Links.{HasRun, Linked, job_of, last_belt};
 
@@ -18,7 +18,7 @@ use gas_belt::rx::Rx;
 use gas_belt::tx::Tx;
 use gas_geom::gas::Gas;
 use gas_pipe_members::feeder::Feeder;
-use gas_pipe_members::pass::FirstPass;
+use gas_pipe_members::input::RunInput;
 use std::alloc::{AllocError, Global};
 use std::sync::Wait;
 use std::thread;
@@ -28,33 +28,33 @@ use std::thread::{Scope, Threads};
 // early.
 fn settle<G: Gas, R: Threads>(
     rt: &R,
-    pass: &FirstPass<'_, G>,
+    input: &RunInput<'_, G>,
     first: Tx<G>,
     last: Rx<G>,
     feeder: Feeder<G>,
     handles: Vec<Started<'_, G>>,
     mut belts: Vec<Carried<G>>,
 ) -> Option<Run<G>>
-    requires pass { IsPass G.rules pass.now }
-    requires some { 0 < pass.now.plan.generations }
-    requires stages { 0 < pass.now.plan.stages }
-    requires linked { Linked pass.now 0 first.belt (map job_of handles.items) }
-    requires count { vec_len handles ≡ pass.now.plan.stages }
+    requires input { IsRunInput G.rules input.now }
+    requires some { 0 < input.now.plan.generations }
+    requires stages { 0 < input.now.plan.stages }
+    requires linked { Linked input.now 0 first.belt (map job_of handles.items) }
+    requires count { vec_len handles ≡ input.now.plan.stages }
     requires end { last_belt first.belt (map job_of handles.items) ≡ last.belt }
     requires none { belts.items ≡ [] }
     requires closed { feeder.to_take ≡ 0 }
-    requires channel { feeder.channel ≡ pass.now.lattice.channel }
-    requires fed { HasFed feeder (passes_of pass.now.plan.generations pass.now.plan.stages) pass.now.lattice.rows first.put last.taken }
-    ensures { IfSome result (λ run. HasRun G.rules pass.now run) }
+    requires channel { feeder.channel ≡ input.now.lattice.channel }
+    requires fed { HasFed feeder (div_ceil input.now.plan.generations input.now.plan.stages) input.now.lattice.rows first.put last.taken }
+    ensures { IfSome result (λ run. HasRun G.rules input.now run) }
 {
-    let spent = gather(rt, pass, first.close(), handles, &mut belts)?;
+    let spent = gather(rt, input, first.close(), handles, &mut belts)?;
     let Ok(carried) = meet(spent, last) else {
         unreachable!()
     };
     let Ok(()) = belts.push(carried) else {
         return None;
     };
-    Some(Run::new(feeder.finish(), pass.schedule.plan, belts))
+    Some(Run::new(feeder.finish(), input.schedule.plan, belts))
 }
 
 // Raises the flag, and joins the workers' threads.
@@ -73,24 +73,24 @@ fn give_up<G: Gas, H: Gate, R: Threads + Wait>(
 fn run_line<'s, 'e: 's, G: Gas + Send + 'e, H: Gate + Sync, R: Threads + Wait + Sync>(
     scope: &'s Scope<'s, &'e ()>,
     shared: &'e Shared<'e, H, R>,
-    pass: &'e FirstPass<'e, G>,
+    input: &'e RunInput<'e, G>,
     mut feeder: Feeder<G>,
     ends: Ends<'e, G>,
     handles: Vec<Started<'e, G>>,
     belts: Vec<Carried<G>>,
 ) -> Option<Run<G>>
-    requires pass { IsPass G.rules pass.now }
-    requires some { 0 < pass.now.plan.generations }
-    requires stages { 0 < pass.now.plan.stages }
-    requires channel { feeder.channel ≡ pass.now.lattice.channel }
-    requires linked { Linked pass.now 0 ends.first.belt ends.jobs.items }
-    requires count { vec_len ends.jobs ≡ pass.now.plan.stages }
+    requires input { IsRunInput G.rules input.now }
+    requires some { 0 < input.now.plan.generations }
+    requires stages { 0 < input.now.plan.stages }
+    requires channel { feeder.channel ≡ input.now.lattice.channel }
+    requires linked { Linked input.now 0 ends.first.belt ends.jobs.items }
+    requires count { vec_len ends.jobs ≡ input.now.plan.stages }
     requires end { last_belt ends.first.belt ends.jobs.items ≡ ends.last.belt }
     requires no_handle { handles.items ≡ [] }
     requires empty { vec_len handles ≡ 0 }
     requires no_belt { belts.items ≡ [] }
-    requires fed { HasFed feeder (passes_of pass.now.plan.generations pass.now.plan.stages) pass.now.lattice.rows ends.first.put ends.last.taken }
-    ensures { IfSome result (λ run. HasRun G.rules pass.now run) }
+    requires fed { HasFed feeder (div_ceil input.now.plan.generations input.now.plan.stages) input.now.lattice.rows ends.first.put ends.last.taken }
+    ensures { IfSome result (λ run. HasRun G.rules input.now run) }
 {
     let Ends {
         mut first,
@@ -107,7 +107,7 @@ fn run_line<'s, 'e: 's, G: Gas + Send + 'e, H: Gate + Sync, R: Threads + Wait + 
             &mut first,
         )
     {
-        return settle(shared.rt, pass, first, last, feeder, handles, belts);
+        return settle(shared.rt, input, first, last, feeder, handles, belts);
     }
     give_up(shared, handles);
     None
@@ -134,20 +134,20 @@ fn run_in_scope<'s, 'e: 's, G: Gas + Send + 'e, H: Gate + Sync, R: Threads + Wai
     scope: &'s Scope<'s, &'e ()>,
     alloc: Global,
     shared: &'e Shared<'e, H, R>,
-    pass: &'e FirstPass<'e, G>,
+    input: &'e RunInput<'e, G>,
     mut feeder: Feeder<G>,
 ) -> Option<Run<G>>
-    requires pass { IsPass G.rules pass.now }
-    requires some { 0 < pass.now.plan.generations }
+    requires input { IsRunInput G.rules input.now }
+    requires some { 0 < input.now.plan.generations }
     requires closed { feeder.to_take ≡ 0 }
-    requires channel { feeder.channel ≡ pass.now.lattice.channel }
-    requires rows { feeder.rows ≡ pass.now.lattice.rows }
-    ensures { IfSome result (λ run. HasRun G.rules pass.now run) }
+    requires channel { feeder.channel ≡ input.now.lattice.channel }
+    requires rows { feeder.rows ≡ input.now.lattice.rows }
+    ensures { IfSome result (λ run. HasRun G.rules input.now run) }
 {
-    let (handles, belts) = make_lists(alloc, pass.schedule.plan.stages())?;
-    let ends = build(alloc, pass).ok()?;
-    feeder.begin_ring(pass.schedule.plan.passes());
-    run_line(scope, shared, pass, feeder, ends, handles, belts)
+    let (handles, belts) = make_lists(alloc, input.schedule.plan.stages())?;
+    let ends = build(alloc, input).ok()?;
+    feeder.begin_ring(input.schedule.plan.passes());
+    run_line(scope, shared, input, feeder, ends, handles, belts)
 }
 
 /// Makes all passes of a plan over the rows that the feeder holds: a thread for each worker, and
@@ -157,17 +157,17 @@ pub(crate) fn run_ring<G: Gas + Send, H: Gate + Sync, R: Threads + Wait + Sync>(
     rt: &R,
     alloc: Global,
     gate: &H,
-    pass: &FirstPass<'_, G>,
+    input: &RunInput<'_, G>,
     feeder: Feeder<G>,
 ) -> Result<Run<G>, AllocError>
-    requires pass { IsPass G.rules pass.now }
-    requires some { 0 < pass.now.plan.generations }
+    requires input { IsRunInput G.rules input.now }
+    requires some { 0 < input.now.plan.generations }
     requires closed { feeder.to_take ≡ 0 }
-    requires channel { feeder.channel ≡ pass.now.lattice.channel }
-    requires rows { feeder.rows ≡ pass.now.lattice.rows }
-    ensures { IfOk result (λ run. HasRun G.rules pass.now run) }
+    requires channel { feeder.channel ≡ input.now.lattice.channel }
+    requires rows { feeder.rows ≡ input.now.lattice.rows }
+    ensures { IfOk result (λ run. HasRun G.rules input.now run) }
 {
-    let signals = Signals::new(alloc, pass.schedule.plan.stages())?;
+    let signals = Signals::new(alloc, input.schedule.plan.stages())?;
     let shared = &Shared {
         rt,
         signals: &signals,
@@ -177,13 +177,13 @@ pub(crate) fn run_ring<G: Gas + Send, H: Gate + Sync, R: Threads + Wait + Sync>(
         thread::scope_env(),
         rt,
         move |scope| -> Option<Run<G>>
-            requires pass { IsPass G.rules pass.now }
-            requires some { 0 < pass.now.plan.generations }
+            requires input { IsRunInput G.rules input.now }
+            requires some { 0 < input.now.plan.generations }
             requires closed { feeder.to_take ≡ 0 }
-            requires channel { feeder.channel ≡ pass.now.lattice.channel }
-            requires rows { feeder.rows ≡ pass.now.lattice.rows }
-            ensures { IfSome result (λ run. HasRun G.rules pass.entry.now run) }
-        { run_in_scope(scope, alloc, shared, pass, feeder) },
+            requires channel { feeder.channel ≡ input.now.lattice.channel }
+            requires rows { feeder.rows ≡ input.now.lattice.rows }
+            ensures { IfSome result (λ run. HasRun G.rules input.entry.now run) }
+        { run_in_scope(scope, alloc, shared, input, feeder) },
     );
     run.ok_or(AllocError)
 }

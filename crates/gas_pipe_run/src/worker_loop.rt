@@ -1,6 +1,6 @@
 //! What a worker's thread does.
 ghost use Rattle.std.specs.Prelude.{◌≡◌, ◌≤◌, ◌*◌, [], length, IsTrue};
-ghost use Rattle.gas_pipe_model.specs.Plan.{passes_of};
+ghost use Rattle.std.specs.Int.{div_ceil};
 ghost use Rattle.gas_pipe_members.specs.Worker.{IsClosed};
 ghost use Rattle.gas_pipe_run.specs.Inner.Job.{OnePass, owes_until};
 
@@ -74,9 +74,9 @@ pub(crate) fn make_passes<G: Gas, H: Gate, R: Wait>(
     requires nothing_put { tx.old.put ≡ [] }
     ensures rx { rx.new.belt ≡ rx.old.belt }
     ensures tx { tx.new.belt ≡ tx.old.belt }
-    ensures whole { IsTrue result → length rx.new.taken ≡ passes_of schedule.now.plan.generations schedule.now.plan.stages * worker.old.stage.channel.height }
+    ensures whole { IsTrue result → length rx.new.taken ≡ div_ceil schedule.now.plan.generations schedule.now.plan.stages * worker.old.stage.channel.height }
     ensures owes { IsTrue result → tx.new.put
-        ≡ owes_until G.rules worker.old schedule.now.first schedule.now.plan who (passes_of schedule.now.plan.generations schedule.now.plan.stages) rx.new.taken }
+        ≡ owes_until G.rules worker.old schedule.now.first schedule.now.plan who (div_ceil schedule.now.plan.generations schedule.now.plan.stages) rx.new.taken }
 {
     let passes = schedule.passes();
     let mut watch = Watch::new(shared.signals, who);

@@ -1,5 +1,6 @@
 -- What `perform` answers and writes.
 use Rattle.std.specs.Prelude.{◌≡◌, ◌≤◌, ◌+◌, ℕ, nat_lt, List, length, take, Option, None, Some, Result, Ok, Err, IsOkAnd, ⊤, if◌then◌else◌}
+use Rattle.std.specs.Int.{div_ceil}
 use Rattle.std.specs.Io.KnownBytes.{Appends}
 use Rattle.gas_geom.specs.Gas.{Rules}
 use Rattle.gas_geom.specs.Lattice.{LatticeModel, count}
@@ -9,7 +10,7 @@ use Rattle.gas_scene.specs.declared.error.SceneError.{SceneError}
 use Rattle.gas_scene.specs.declared.error.SceneError.TheVariants as scene
 use Rattle.gas_scene.specs.Gases.{rules_named}
 use Rattle.gas_scene.specs.Scene.{SceneModel, scene_of_text}
-use Rattle.gas_pipe_model.specs.Plan.{PlanModel, passes_of}
+use Rattle.gas_pipe_model.specs.Plan.{PlanModel}
 use Rattle.gas_pipe_members.specs.Plan.{plan_refusal}
 use Rattle.gas_pipe_replay.specs.Replay.{replay_of}
 use Rattle.gas_pipe_members.specs.declared.error.RunError.{RunError}
@@ -48,7 +49,7 @@ unless_refused (Some error) otherwise = Err (Plan error)
 -- fault
 abbrev pub replay_outcome : Rules → LatticeModel → Chirality → ℕ → PlanModel → List ℕ → Result (List ℕ) ToolError
 replay_outcome gas lattice chirality first plan turns =
-    if nat_lt 1 (passes_of plan.generations plan.stages) then Err MorePasses
+    if nat_lt 1 (div_ceil plan.generations plan.stages) then Err MorePasses
     else Ok (replay_text gas (replay_of gas chirality first lattice plan turns) (first + plan.generations))
 
 -- what a request on a lattice of a gas, of generation `first`, leads to: the text of its answer, or the first fault

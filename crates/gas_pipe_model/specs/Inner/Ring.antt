@@ -1,10 +1,10 @@
--- Inner words: what proofs of the crates above say of workers in a ring. No public contract cites them.
+-- Inner words: what proofs say of workers in a ring. No public contract cites them.
 -- Workers in a ring, as lists alone: H rows make a lattice, and a worker owes `owe n q` for its rows q in pass n.
 use Rattle.std.specs.Prelude.{◌≡◌, ℕ, zero, suc, ◌*◌, List, [], ◌++◌, length, take, drop}
 use Rattle.gas_geom.specs.Gas.{Rules}
 use Rattle.gas_rows.specs.Row.{RowModel}
 use Rattle.gas_stage.specs.Stage.{owed}
-use Rattle.gas_pipe_model.specs.Pass.{PassModel, computes_from, rows_on}
+use Rattle.gas_pipe_model.specs.Pass.{RunInputModel, computes_from}
 
 -- the n-th H rows of a list
 abbrev pub block : {A : Type 0} → ℕ → ℕ → List A → List A
@@ -35,10 +35,6 @@ pub record IsRing {A : Type 0} (H N : ℕ) (owe : ℕ → ℕ → List A → Lis
   pub front : (m : ℕ) (q : List A) → take m (back q) ≡ back (take m q)
   pub kept : (n : ℕ) → back (joined (λ i. rows i N) n) ≡ joined (λ i. rows i N) n
 
--- what worker k + 1 owes in pass n of p's plan for the rows q
-abbrev pub owes_in : Rules → PassModel → ℕ → ℕ → List RowModel → List RowModel
-owes_in gas p k n q = owed gas p.lattice.channel p.chirality (computes_from p.first p.plan n (suc k)) q
-
--- what belt k carries in pass n of p's plan
-abbrev pub rows_in : Rules → PassModel → ℕ → ℕ → List RowModel
-rows_in gas p n k = rows_on gas (record p { number = n }) k
+-- what worker k + 1 owes in pass n of the input's plan for the rows q
+abbrev pub owes_in : Rules → RunInputModel → ℕ → ℕ → List RowModel → List RowModel
+owes_in gas input k n q = owed gas input.lattice.channel input.chirality (computes_from input.first input.plan n (suc k)) q

@@ -1,10 +1,11 @@
 -- Inner words: what functions of this crate promise one another. No public contract cites them.
 -- What a worker's thread is given, and what it promises of its own two lists.
 use Rattle.std.specs.Prelude.{◌≡◌, ℕ, ◌≤◌, ◌*◌, ◌++◌, [], List, Option, length}
+use Rattle.std.specs.Int.{div_ceil}
 use Rattle.gas_geom.specs.Gas.{Rules}
 use Rattle.gas_belt.specs.Belt.{Sender, Receiver}
 use Rattle.gas_rows.specs.Row.{RowModel}
-use Rattle.gas_pipe_model.specs.Plan.{PlanModel, passes_of}
+use Rattle.gas_pipe_model.specs.Plan.{PlanModel}
 use Rattle.gas_pipe_model.specs.Pass.{computes_from}
 use Rattle.gas_pipe_model.specs.Inner.Ring.{owed_in}
 use Rattle.gas_pipe_members.specs.Worker.{WorkerModel, IsClosed, owes}
@@ -47,5 +48,5 @@ owes_until gas w first plan who n took = owed_in w.stage.channel.height (λ i. o
 pub record Ran (gas : Rules) (j : JobModel) (e : EndedModel) : Type 0 where
   pub rx : e.rx.belt ≡ j.rx.belt
   pub tx : e.spent.belt ≡ j.tx.belt
-  pub whole : length e.rx.taken ≡ passes_of j.plan.generations j.plan.stages * j.worker.stage.channel.height
-  pub owes_is : e.spent.put ≡ owes_until gas j.worker j.first j.plan j.who (passes_of j.plan.generations j.plan.stages) e.rx.taken
+  pub whole : length e.rx.taken ≡ div_ceil j.plan.generations j.plan.stages * j.worker.stage.channel.height
+  pub owes_is : e.spent.put ≡ owes_until gas j.worker j.first j.plan j.who (div_ceil j.plan.generations j.plan.stages) e.rx.taken

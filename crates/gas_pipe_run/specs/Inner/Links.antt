@@ -1,6 +1,7 @@
 -- Inner words: what functions of this crate promise one another. No public contract cites them.
 -- How the belts of a run are linked, and what they have carried when it is over.
-use Rattle.std.specs.Prelude.{◌≡◌, ℕ, suc, ◌++◌, List, [], ◌∷◌, map, Option, Some}
+use Rattle.std.specs.Prelude.{◌≡◌, ℕ, suc, ◌++◌, List, [], ◌∷◌, map, Option, Some, get_or}
+use Rattle.std.specs.Int.{div_ceil}
 use Rattle.std.specs.List.{range_with_len}
 use Rattle.std.specs.declared.thread.PromisedHandle.{PromisedHandle}
 use Rattle.gas_geom.specs.Gas.{Rules}
@@ -8,26 +9,25 @@ use Rattle.gas_belt.specs.Belt.{Belt, Sender, CarriedModel}
 use Rattle.gas_pipe_run.specs.declared.work.WorkPromise.{WorkPromise}
 use Rattle.gas_rows.specs.Row.{RowModel}
 use Rattle.gas_stage.specs.Evolution.{lattice_after}
-use Rattle.gas_pipe_model.specs.Plan.{passes_of}
-use Rattle.gas_pipe_model.specs.Pass.{PassModel, rings}
+use Rattle.gas_pipe_model.specs.Pass.{RunInputModel, rings}
 use Rattle.gas_pipe_model.specs.Inner.Ring.{on_belt, owes_in}
 use Rattle.gas_pipe_run.specs.Run.{RunModel}
 use Rattle.gas_pipe_run.specs.Inner.Job.{JobModel, EndedModel, IsReady}
 
--- a job that is ready, of the worker that takes from belt k, which is `from`, in the passes of p's plan
-pub record Takes (p : PassModel) (k : ℕ) (from : Belt) (j : JobModel) : Type 0 where
+-- a job that is ready, of the worker that takes from belt k, which is `from`, in the passes of the input's plan
+pub record Takes (input : RunInputModel) (k : ℕ) (from : Belt) (j : JobModel) : Type 0 where
   pub link : from ≡ j.rx.belt
   pub ready : IsReady j
   pub who : j.who ≡ suc k
-  pub first : j.first ≡ p.first
-  pub plan : j.plan ≡ p.plan
-  pub channel : j.worker.stage.channel ≡ p.lattice.channel
-  pub chirality : j.worker.stage.chirality ≡ p.chirality
+  pub first : j.first ≡ input.first
+  pub plan : j.plan ≡ input.plan
+  pub channel : j.worker.stage.channel ≡ input.lattice.channel
+  pub chirality : j.worker.stage.chirality ≡ input.chirality
 
 -- the jobs from belt k on: the first takes from the belt `from`, and each other from the belt of the one before
-abbrev pub Linked : PassModel → ℕ → Belt → List JobModel → Type 0
-Linked p k from [] = Unit {0}
-Linked p k from (j ∷ js) = Takes p k from j × Linked p (suc k) j.tx.belt js
+abbrev pub Linked : RunInputModel → ℕ → Belt → List JobModel → Type 0
+Linked input k from [] = Unit {0}
+Linked input k from (j ∷ js) = Takes input k from j × Linked input (suc k) j.tx.belt js
 
 -- the belt behind the last of them
 abbrev pub last_belt : Belt → List JobModel → Belt
@@ -43,24 +43,31 @@ AllReady (j ∷ js) = IsReady j × AllReady js
 abbrev pub job_of : PromisedHandle (Option EndedModel) (WorkPromise JobModel) → JobModel
 job_of h = h.promise.0.value
 
+-- the rows that were put on belt k, and those that were taken from it; none where there is no such belt
+abbrev pub put_on : List CarriedModel → ℕ → List RowModel
+put_on belts k = get_or (map (λ (b : CarriedModel). b.put) belts) k []
+
+abbrev pub taken_on : List CarriedModel → ℕ → List RowModel
+taken_on belts k = get_or (map (λ (b : CarriedModel). b.taken) belts) k []
+
 -- a belt from which these rows were taken, and no others were put on it
 abbrev pub whole : List RowModel → CarriedModel
 whole rows = record { put = rows; taken = rows }
 
--- what is on belt k after all passes of p's plan, where the rows b are on belt 0 and each worker puts what it owes
-abbrev pub on : Rules → PassModel → List RowModel → ℕ → List RowModel
-on gas p b k = on_belt p.lattice.channel.height (owes_in gas p) (passes_of p.plan.generations p.plan.stages) b k
+-- what is on belt k after all passes of the input's plan, where the rows b are on belt 0 and each worker puts what it owes
+abbrev pub on : Rules → RunInputModel → List RowModel → ℕ → List RowModel
+on gas input b k = on_belt input.lattice.channel.height (owes_in gas input) (div_ceil input.plan.generations input.plan.stages) b k
 
 -- what is on the first n belts
-abbrev pub on_first : Rules → PassModel → List RowModel → ℕ → List CarriedModel
-on_first gas p b n = map (λ k. whole (on gas p b k)) (range_with_len 0 n)
+abbrev pub on_first : Rules → RunInputModel → List RowModel → ℕ → List CarriedModel
+on_first gas input b n = map (λ k. whole (on gas input b k)) (range_with_len 0 n)
 
--- a run of p's plan: its lattice, and what its belts carried
-pub record HasRun (gas : Rules) (p : PassModel) (r : RunModel) : Type 0 where
-  pub lattice : r.lattice ≡ lattice_after gas p.chirality p.first p.lattice p.plan.generations
-  pub stages : r.stages ≡ p.plan.stages
-  pub passes : r.passes ≡ passes_of p.plan.generations p.plan.stages
-  pub belts : r.belts ≡ map whole (rings gas p)
+-- a run of the input's plan: its lattice, and what its belts carried
+pub record HasRun (gas : Rules) (input : RunInputModel) (r : RunModel) : Type 0 where
+  pub lattice : r.lattice ≡ lattice_after gas input.chirality input.first input.lattice input.plan.generations
+  pub stages : r.stages ≡ input.plan.stages
+  pub passes : r.passes ≡ div_ceil input.plan.generations input.plan.stages
+  pub belts : r.belts ≡ map whole (rings gas input)
 
 -- the ends of a belt have met, and the rest of the line goes on with `next`
 pub record Advanced (current : Option Sender) (ended : Option EndedModel) (before now : List CarriedModel) (next : Sender) : Type 0 where
@@ -73,6 +80,6 @@ pub record Advanced (current : Option Sender) (ended : Option EndedModel) (befor
   pub belts : now ≡ before ++ whole spent.put ∷ []
 
 -- the belts before the k-th have met, and these rows were put on it
-pub record Reached (gas : Rules) (p : PassModel) (b : List RowModel) (k : ℕ) (put : List RowModel) (now : List CarriedModel) : Type 0 where
-  pub put_is : put ≡ on gas p b k
-  pub belts : now ≡ on_first gas p b k
+pub record Reached (gas : Rules) (input : RunInputModel) (b : List RowModel) (k : ℕ) (put : List RowModel) (now : List CarriedModel) : Type 0 where
+  pub put_is : put ≡ on gas input b k
+  pub belts : now ≡ on_first gas input b k

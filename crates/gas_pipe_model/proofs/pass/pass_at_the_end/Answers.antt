@@ -9,24 +9,26 @@ use Rattle.gas_pipe_model.proofs.pass.pass_at_the_end.Goals as goal
 
 pub returns : goal.returns
 returns c = record {
-  put = λ gas p turns k is done h.
-      let line = pass_is_line gas p is in
-      (carried_all (line_of gas p) line (after_turns (line_of gas p) turns start) (fits (line_of gas p) line turns) done k h).0 ∙ carries gas p is k;
-  taken = λ gas p turns k is done h.
-      let line = pass_is_line gas p is in
-      (carried_all (line_of gas p) line (after_turns (line_of gas p) turns start) (fits (line_of gas p) line turns) done k h).1 ∙ carries gas p is k;
-  last = λ gas p turns is done enough.
-      let line = pass_is_line gas p is in
-      (carried_all (line_of gas p) line (after_turns (line_of gas p) turns start) (fits (line_of gas p) line turns) done p.plan.stages (omega arith)).1
-      ∙ carries gas p is p.plan.stages ∙ ends_last gas p enough;
-  count = λ gas p turns is done.
-      let line = pass_is_line gas p is in
-      let whole : events (line_of gas p) turns start ≡ 2 * length (rows_on gas p 0) * (p.plan.stages + 1) =
+  put = λ gas input n turns k is room done h.
+      let line = pass_is_line gas input (record { lattice = is; room = room }) n in
+      (carried_all (line_of gas input n) line (after_turns (line_of gas input n) turns start) (fits (line_of gas input n) line turns) done k h).0
+      ∙ carries gas input (record { lattice = is; room = room }) n k;
+  taken = λ gas input n turns k is room done h.
+      let line = pass_is_line gas input (record { lattice = is; room = room }) n in
+      (carried_all (line_of gas input n) line (after_turns (line_of gas input n) turns start) (fits (line_of gas input n) line turns) done k h).1
+      ∙ carries gas input (record { lattice = is; room = room }) n k;
+  last = λ gas input n turns is room done enough.
+      let line = pass_is_line gas input (record { lattice = is; room = room }) n in
+      (carried_all (line_of gas input n) line (after_turns (line_of gas input n) turns start) (fits (line_of gas input n) line turns) done input.plan.stages (omega arith)).1
+      ∙ carries gas input (record { lattice = is; room = room }) n input.plan.stages ∙ ends_last gas input n enough;
+  count = λ gas input n turns is room done.
+      let line = pass_is_line gas input (record { lattice = is; room = room }) n in
+      let whole : events (line_of gas input n) turns start ≡ 2 * length (rows_on gas input n 0) * (input.plan.stages + 1) =
       omega (
         arith,
-        total_run (line_of gas p) line turns start (fits_start (line_of gas p)),
-        total_start p.plan.stages,
-        most_from_done (line_of gas p) line (after_turns (line_of gas p) turns start) (fits (line_of gas p) line turns) done,
+        total_run (line_of gas input n) line turns start (fits_start (line_of gas input n)),
+        total_start input.plan.stages,
+        most_from_done (line_of gas input n) line (after_turns (line_of gas input n) turns start) (fits (line_of gas input n) line turns) done,
       ) in
-      whole ∙ ap (λ (h : ℕ). 2 * h * (p.plan.stages + 1)) (rows_high gas p is 0);
+      whole ∙ ap (λ (h : ℕ). 2 * h * (input.plan.stages + 1)) (rows_high gas input (record { lattice = is; room = room }) n 0);
 }

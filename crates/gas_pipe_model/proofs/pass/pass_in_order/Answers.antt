@@ -9,9 +9,9 @@ use Rattle.gas_pipe_model.proofs.pass.pass_in_order.Goals as goal
 
 pub returns : goal.returns
 returns c = record {
-  taken = λ gas p turns k is. (fits (line_of gas p) (pass_is_line gas p is) turns).taken k;
-  put = λ gas p turns k is h.
-      let line = pass_is_line gas p is in
-      subst (IsPrefix ((after_turns (line_of gas p) turns start).put k)) (carries gas p is k)
-      (put_carried (line_of gas p) line (after_turns (line_of gas p) turns start) (fits (line_of gas p) line turns) k h);
+  taken = λ gas input n turns k is room. (fits (line_of gas input n) (pass_is_line gas input (record { lattice = is; room = room }) n) turns).taken k;
+  put = λ gas input n turns k is room h.
+      let line = pass_is_line gas input (record { lattice = is; room = room }) n in
+      subst (IsPrefix ((after_turns (line_of gas input n) turns start).put k)) (carries gas input (record { lattice = is; room = room }) n k)
+      (put_carried (line_of gas input n) line (after_turns (line_of gas input n) turns start) (fits (line_of gas input n) line turns) k h);
 }

@@ -6,7 +6,7 @@ use Rattle.gas_pipe_model.proofs.Generations.{pass_is_line}
 use Rattle.gas_pipe_model.proofs.pass.pass_never_stuck.Goals as goal
 
 pub returns : goal.returns
-returns c gas p turns is not_done =
-    let line = pass_is_line gas p is in
-    let mover = progress (line_of gas p) (after_turns (line_of gas p) turns start) line (fits (line_of gas p) line turns) not_done in
+returns c gas input n turns is room not_done =
+    let line = pass_is_line gas input (record { lattice = is; room = room }) n in
+    let mover = progress (line_of gas input n) (after_turns (line_of gas input n) turns start) line (fits (line_of gas input n) line turns) not_done in
     (mover.who, (mover.in_line, mover.moves))

@@ -2,7 +2,7 @@ use Rattle.std.proofs.Common.{◌≡◌, ◌<◌, ◌∷◌, [], length, get_or,
 use Rattle.gas_pipe_model.specs.Line.{start}
 use Rattle.gas_pipe_model.specs.Pass.{line_of}
 use Rattle.gas_pipe_members.specs.Belt.{BeltModel}
-use Rattle.gas_pipe_replay.specs.Replay.{after}
+use Rattle.gas_pipe_replay.specs.Inner.LocalLine.{after}
 use Rattle.gas_pipe_model.proofs.Generations.{pass_is_line}
 use Rattle.gas_pipe_model.proofs.Kept.{fits}
 use Rattle.gas_pipe_model.proofs.Rounds.{run_append}
@@ -11,18 +11,18 @@ use Rattle.gas_pipe_replay.proofs.FeederSteps.{FeederTurned, feeder_step_at}
 use Rattle.gas_pipe_replay.proofs.local_line.turn_feeder.Goals as goal
 
 pub returns-clause-shows : goal.returns-clause-shows
-returns-clause-shows g c p ws turns sh =
+returns-clause-shows g c input ws turns sh =
     let none : BeltModel = record { rows = []; capacity = 0 } in
     let bs = c.args.belts.now in
     let before = c.split_at_mut-before.result.0.now in
     let behind = c.split_at_mut-before.result.1.now in
     let parts = c.split_at_mut-before.ensures.value in
     let front = c.split_at_mut-before.ensures.front_len in
-    let at : length before ≡ p.plan.stages = omega (arith, front, sh.belts_are) in
+    let at : length before ≡ input.plan.stages = omega (arith, front, sh.belts_are) in
     let some = sh.some in
-    let high : p.plan.stages < length bs = omega (arith, sh.belts_are) in
-    let x = read_before bs before behind 0 p.plan.stages c.index-before-0.result none parts at some c.index-before-0.is in
-    let y = read_behind bs before behind p.plan.stages c.index-behind-0.result none parts at high c.index-behind-0.is in
+    let high : input.plan.stages < length bs = omega (arith, sh.belts_are) in
+    let x = read_before bs before behind 0 input.plan.stages c.index-before-0.result none parts at some c.index-before-0.is in
+    let y = read_behind bs before behind input.plan.stages c.index-behind-0.result none parts at high c.index-behind-0.is in
     let to = get_or before 0 c.index-before-0.result in
     let from = get_or behind 0 c.index-behind-0.result in
     let turned : FeederTurned c.turn.result c.args.feeder.now c.turn.new.self to c.turn.new.put from c.turn.new.take = record {
@@ -38,8 +38,8 @@ returns-clause-shows g c p ws turns sh =
       done_when = c.turn.ensures.done_when;
       stray_at = c.turn.ensures.stray_at;
     } in
-    let step = feeder_step_at g.G.Gas.rules p c.args.feeder.now c.turn.new.self ws bs (after g.G.Gas.rules p turns) c.turn.new.put c.turn.new.take
-    g.met.G.Gas.laws (fits (line_of g.G.Gas.rules p) (pass_is_line g.G.Gas.rules p sh.pass) turns) sh
+    let step = feeder_step_at g.G.Gas.rules input c.args.feeder.now c.turn.new.self ws bs (after g.G.Gas.rules input turns) c.turn.new.put c.turn.new.take
+    g.met.G.Gas.laws (fits (line_of g.G.Gas.rules input 0) (pass_is_line g.G.Gas.rules input sh.is_input 0) turns) sh
     c.turn.result to from (sym c.index-before-0.is ∙ x) (sym c.index-behind-0.is ∙ y) turned in
-    rw (two_writes bs before behind 0 p.plan.stages c.turn.new.put c.turn.new.take parts at some)
-    (rw (run_append (line_of g.G.Gas.rules p) turns (0 ∷ []) start) step)
+    rw (two_writes bs before behind 0 input.plan.stages c.turn.new.put c.turn.new.take parts at some)
+    (rw (run_append (line_of g.G.Gas.rules input 0) turns (0 ∷ []) start) step)

@@ -3,8 +3,7 @@ use Rattle.std.proofs.lemmas.List.{get_or_read}
 use Rattle.gas_pipe_model.specs.Line.{start}
 use Rattle.gas_pipe_model.specs.Pass.{line_of}
 use Rattle.gas_pipe_members.specs.Belt.{BeltModel}
-use Rattle.gas_pipe_replay.specs.Inner.LocalLine.{belt}
-use Rattle.gas_pipe_replay.specs.Replay.{after}
+use Rattle.gas_pipe_replay.specs.Inner.LocalLine.{after, belt}
 use Rattle.gas_pipe_model.proofs.Generations.{pass_is_line}
 use Rattle.gas_pipe_model.proofs.Kept.{fits}
 use Rattle.gas_pipe_model.proofs.Rounds.{run_append}
@@ -13,7 +12,7 @@ use Rattle.gas_pipe_replay.proofs.WorkerSteps.{WorkerTurned, worker_step_at}
 use Rattle.gas_pipe_replay.proofs.local_line.turn_worker.Goals as goal
 
 pub returns-clause-shows : goal.returns-clause-shows
-returns-clause-shows g c p f turns sh =
+returns-clause-shows g c input f turns sh =
     let none : BeltModel = record { rows = []; capacity = 0 } in
     let bs = c.args.belts.now in
     let before = c.split_at_mut-before.result.0.now in
@@ -25,7 +24,7 @@ returns-clause-shows g c p f turns sh =
     let high : who < length bs = omega (arith, c.requires.belts, c.requires.high) in
     let low : who - 1 < length c.args.workers.now = omega (arith, c.requires.low, c.requires.high) in
     let below : who - 1 < who = omega (arith, c.requires.low) in
-    let in_line : who - 1 < p.plan.stages = omega (arith, low, sh.workers_are) in
+    let in_line : who - 1 < input.plan.stages = omega (arith, low, sh.workers_are) in
     let x = read_before bs before behind (who - 1) who c.index-before-who.result none parts at below c.index-before-who.is in
     let y = read_behind bs before behind who c.index-behind-0.result none parts at high c.index-behind-0.is in
     let w = get_or c.args.workers.now (who - 1) c.index-workers-who.result in
@@ -44,9 +43,9 @@ returns-clause-shows g c p f turns sh =
       done_when = c.turn.ensures.done_when;
       stray_at = c.turn.ensures.stray_at;
     } in
-    let step = worker_step_at g.G.Gas.rules p f c.args.workers.now bs (after g.G.Gas.rules p turns) (who - 1) w c.turn.new.self c.turn.new.take c.turn.new.put
-    g.met.G.Gas.laws (fits (line_of g.G.Gas.rules p) (pass_is_line g.G.Gas.rules p sh.pass) turns) in_line sh
+    let step = worker_step_at g.G.Gas.rules input f c.args.workers.now bs (after g.G.Gas.rules input turns) (who - 1) w c.turn.new.self c.turn.new.take c.turn.new.put
+    g.met.G.Gas.laws (fits (line_of g.G.Gas.rules input 0) (pass_is_line g.G.Gas.rules input sh.is_input 0) turns) in_line sh
     (λ d. sym (get_or_read c.args.workers.now (who - 1) c.index-workers-who.result low c.index-workers-who.is d) ∙ c.index-workers-who.is)
     c.turn.result from to (sym c.index-before-who.is ∙ x) (sym c.index-behind-0.is ∙ y ∙ ap (λ n. belt bs n) (sym next)) turned in
     rw (two_writes bs before behind (who - 1) who c.turn.new.take c.turn.new.put parts at below)
-    (rw (run_append (line_of g.G.Gas.rules p) turns (who ∷ []) start) (rw next at step))
+    (rw (run_append (line_of g.G.Gas.rules input 0) turns (who ∷ []) start) (rw next at step))

@@ -1,10 +1,10 @@
-use Rattle.std.proofs.Common.{◌∙◌}
+use Rattle.std.proofs.Common.{◌∙◌, append-nil}
 use Rattle.gas_pipe_run.proofs.feeder_loop.feed.Goals as goal
 
 pub loop-preserved-in-Took : goal.loop-preserved-in-Took
 loop-preserved-in-Took g c =
     let h = c.turn.ensures.took c.in-Took.is in let was = c.loop.invariant in record {
-      fed = λ passes rows begun. rw (h.1.1, h.2.1) (h.3 passes rows _ _ (was.fed passes rows begun));
+      fed = λ passes rows begun. rw (h.1.1, h.2.1) (rw (append-nil c.loop.tx.put) at (h.3 passes rows _ _ (was.fed passes rows begun)));
       channel = c.turn.ensures.channel ∙ was.channel;
       rx = h.1.0 ∙ was.rx;
       tx = h.2.0 ∙ was.tx;
@@ -13,7 +13,7 @@ loop-preserved-in-Took g c =
 pub loop-preserved : goal.loop-preserved
 loop-preserved g c =
     let h = c.turn.ensures.put c.in-Put.is in let was = c.loop.invariant in record {
-      fed = λ passes rows begun. rw (h.1.1, h.2.1) (h.3 passes rows _ _ (was.fed passes rows begun));
+      fed = λ passes rows begun. rw (h.1.1, h.2.1) (rw (append-nil c.loop.rx.taken) at (h.3 passes rows _ _ (was.fed passes rows begun)));
       channel = c.turn.ensures.channel ∙ was.channel;
       rx = h.2.0 ∙ was.rx;
       tx = h.1.0 ∙ was.tx;

@@ -1,6 +1,6 @@
 use Rattle.std.proofs.Common.{rules, refl, sym, zero-add}
 use Rattle.std.specs.Vec.Iter.{into_iter_items, into_iter_len}
-use Rattle.gas_pipe_model.specs.Plan.{passes_of}
+use Rattle.std.specs.Int.{div_ceil}
 use Rattle.gas_pipe_model.specs.Inner.Ring.{owes_in}
 use Rattle.gas_pipe_model.proofs.Ring.{on_first}
 use Rattle.gas_pipe_run.proofs.Meetings.{asks_belt, asks_many, goes}
@@ -8,11 +8,11 @@ use Rattle.gas_pipe_run.proofs.gather.gather.Goals as goal
 
 pub loop-handle-init : goal.loop-handle-init
 loop-handle-init g c =
-    let p = c.args.pass.now in
+    let input = c.args.input.now in
     record {
       k = 0;
       reached = record {
-        put_is = sym (on_first p.lattice.channel.height (owes_in g.G.Gas.rules p) (passes_of p.plan.generations p.plan.stages) c.args.spent.put);
+        put_is = sym (on_first input.lattice.channel.height (owes_in g.G.Gas.rules input) (div_ceil input.plan.generations input.plan.stages) c.args.spent.put);
         belts = c.requires.none;
       };
       linked = rw c.into_iter-handle-iterator.ensures.into_iter_gives.0 c.requires.linked;
@@ -22,19 +22,19 @@ loop-handle-init g c =
 
 pub advance-current-requires-clause-one_belt : goal.advance-current-requires-clause-one_belt
 advance-current-requires-clause-one_belt g c =
-    let p = c.args.pass.now in
-    asks_belt g.G.Gas.rules p c.requires.pass c.args.spent.put c.requires.whole _ _ c.loop-handle.current c.join-ended.result c.in-Some.handle (into_iter_items c.next.new.self) _ _ _
+    let input = c.args.input.now in
+    asks_belt g.G.Gas.rules input c.requires.input c.args.spent.put c.requires.whole _ _ c.loop-handle.current c.join-ended.result c.in-Some.handle (into_iter_items c.next.new.self) _ _ _
     c.in-Some.ensures.steps.0 c.loop-handle.invariant c.join-ended.ensures
 
 pub advance-current-requires-clause-as_many : goal.advance-current-requires-clause-as_many
 advance-current-requires-clause-as_many g c =
-    let p = c.args.pass.now in
-    asks_many g.G.Gas.rules p c.requires.pass c.args.spent.put c.requires.whole _ _ c.loop-handle.current c.join-ended.result c.in-Some.handle (into_iter_items c.next.new.self) _ _ _
+    let input = c.args.input.now in
+    asks_many g.G.Gas.rules input c.requires.input c.args.spent.put c.requires.whole _ _ c.loop-handle.current c.join-ended.result c.in-Some.handle (into_iter_items c.next.new.self) _ _ _
     c.in-Some.ensures.steps.0 c.loop-handle.invariant c.join-ended.ensures
 
 pub loop-handle-preserved : goal.loop-handle-preserved
 loop-handle-preserved g c =
-    let p = c.args.pass.now in
-    goes g.G.Gas.rules p c.requires.pass c.args.spent.put c.requires.whole _ _ c.loop-handle.current c.join-ended.result c.in-Some.handle (into_iter_items c.next.new.self) _ _ _
+    let input = c.args.input.now in
+    goes g.G.Gas.rules input c.requires.input c.args.spent.put c.requires.whole _ _ c.loop-handle.current c.join-ended.result c.in-Some.handle (into_iter_items c.next.new.self) _ _ _
     c.in-Some.ensures.steps.0 c.loop-handle.invariant c.join-ended.ensures
     (into_iter_len c.next.new.self) _ c.advance-current.result (search rules) c.advance-current.ensures

@@ -15,7 +15,7 @@ returns-clause-took g c = λ _.
       step,
       rests.0,
       λ passes rows gave took fed.
-          subst (λ (f : FeederModel). HasFed f passes rows gave (took ++ c.in-Some.row ∷ [])) (sym c.self-3.view_is)
+          subst (λ (f : FeederModel). HasFed f passes rows (gave ++ []) (took ++ c.in-Some.row ∷ [])) (sym c.self-3.view_is)
           (fed_take c.put_next.new.self c.accept.new.self c.in-Some.row c.accept.ensures.channel c.accept.ensures.rows c.accept.ensures.to_put
           c.accept.ensures.to_take c.accept.ensures.next c.accept.ensures.stray some passes rows gave took
           (subst (λ (f : FeederModel). HasFed f passes rows gave took) (sym rests.1) fed)),

@@ -1,5 +1,6 @@
 use Rattle.std.proofs.Common.{rules, ◌++◌, ◌∷◌, [], subst, sym}
 use Rattle.gas_pipe_members.specs.Worker.{WorkerModel, HasDone}
+use Rattle.gas_pipe_members.proofs.Steps.{does_take, does_put, does_none}
 use Rattle.gas_pipe_members.proofs.worker.Worker.turn.Goals as goal
 
 pub returns-in-Some-clause-put : goal.returns-in-Some-clause-put
@@ -9,8 +10,8 @@ returns-in-Some-clause-put g c = λ is.
       put.0,
       c.offer.ensures.take,
       λ e took gave done.
-          subst (λ (w : WorkerModel). HasDone g.G.Gas.rules w e took (gave ++ c.in-Some.row ∷ [])) (sym put.1)
-          (c.in-Some.ensures.put e took gave done),
+          subst (λ (w : WorkerModel). HasDone g.G.Gas.rules w e (took ++ []) (gave ++ c.in-Some.row ∷ [])) (sym put.1)
+          (does_put g.G.Gas.rules _ _ c.in-Some.row c.in-Some.ensures.put e took gave done),
     )
 
 pub returns-in-Some-clause-idle : goal.returns-in-Some-clause-idle
@@ -19,8 +20,8 @@ returns-in-Some-clause-idle g c = λ is.
       c.offer.ensures.take,
       idle.0,
       λ e took gave done.
-          subst (λ (w : WorkerModel). HasDone g.G.Gas.rules w e took gave) (sym idle.2)
-          (c.in-Some.ensures.waits e took gave done),
+          subst (λ (w : WorkerModel). HasDone g.G.Gas.rules w e (took ++ []) (gave ++ [])) (sym idle.2)
+          (does_none g.G.Gas.rules _ _ c.in-Some.ensures.waits e took gave done),
     )
 
 pub returns-clause-took : goal.returns-clause-took
@@ -28,5 +29,5 @@ returns-clause-took g c = λ _. (
   c.in-Some-try_take.row,
   c.in-Some-try_take.ensures.take,
   search rules,
-  λ e took gave done. c.accept.ensures.took e took gave (c.next_row.ensures.none (search rules) e took gave done),
+  does_take g.G.Gas.rules _ _ c.in-Some-try_take.row (λ e took gave done. c.accept.ensures.took e took gave (c.next_row.ensures.none (search rules) e took gave done)),
 )

@@ -2,7 +2,8 @@ use Rattle.std.proofs.Common.{◌+◌, ◌<◌, List, [], ◌∙◌, ap, sym, su
 use Rattle.gas_geom.specs.Channel.{ChannelModel}
 use Rattle.gas_geom.specs.Lattice.{IsLattice}
 use Rattle.gas_rows.specs.Row.{RowModel}
-use Rattle.gas_pipe_model.specs.Pass.{PassModel, IsPass}
+use Rattle.gas_pipe_model.specs.Pass.{RunInputModel}
+use Rattle.gas_pipe_model.specs.Inner.Input.{IsRunInput}
 use Rattle.gas_pipe_model.proofs.Generations.{begins_first}
 use Rattle.gas_pipe_members.specs.Feeder.{HasFed}
 use Rattle.gas_pipe_replay.specs.Inner.LocalLine.{AreUnused}
@@ -11,22 +12,22 @@ use Rattle.gas_pipe_replay.proofs.local_line.LocalLine.new.Goals as goal
 
 pub returns : goal.returns
 returns g c =
-    let p = c.args.pass.now in
+    let input = c.args.input.now in
     let from = c.in_ok-feeder.ensures in
-    let channel = from.channel ∙ ap (λ (q : PassModel). q.lattice.channel) c.pass.view_is in
-    let rows = from.rows ∙ ap (λ (q : PassModel). q.lattice.rows) c.pass.view_is in
-    let is : IsPass g.G.Gas.rules p =
+    let channel = from.channel ∙ ap (λ (q : RunInputModel). q.lattice.channel) c.input.view_is in
+    let rows = from.rows ∙ ap (λ (q : RunInputModel). q.lattice.rows) c.input.view_is in
+    let is : IsRunInput g.G.Gas.rules input =
     record {
-      lattice = subst (λ (r : List RowModel). IsLattice g.G.Gas.rules p.lattice.channel r) rows
+      lattice = subst (λ (r : List RowModel). IsLattice g.G.Gas.rules input.lattice.channel r) rows
           (subst (λ (x : ChannelModel). IsLattice g.G.Gas.rules x c.in_ok-feeder.feeder.rows) channel from.whole);
-      room = subst (λ (q : PassModel). 0 < q.plan.capacity) c.pass.view_is c.unused_belts.ensures.some;
+      room = subst (λ (q : RunInputModel). 0 < q.plan.capacity) c.input.view_is c.unused_belts.ensures.some;
     } in
     record {
-      pass = is;
+      input = is;
       shows =
-          begun_shows g.G.Gas.rules p c.begin.new.self c.in_ok-begun_workers.field-0.items c.in_ok-unused_belts.field-0.items is
+          begun_shows g.G.Gas.rules input c.begin.new.self c.in_ok-begun_workers.field-0.items c.in_ok-unused_belts.field-0.items is
           c.begun_workers.ensures.some c.in_ok-begun_workers.ensures.begun
-          (subst (λ (q : PassModel). AreUnused q.plan.capacity c.in_ok-unused_belts.field-0.items (q.plan.stages + 1)) c.pass.view_is c.in_ok-unused_belts.ensures.unused)
+          (subst (λ (q : RunInputModel). AreUnused q.plan.capacity c.in_ok-unused_belts.field-0.items (q.plan.stages + 1)) c.input.view_is c.in_ok-unused_belts.ensures.unused)
           (c.begin.ensures.channel ∙ channel)
-          (subst (λ (r : List RowModel). HasFed c.begin.new.self 1 r [] []) (rows ∙ sym (begins_first g.G.Gas.rules p (sym (ap (λ (q : PassModel). q.number) c.pass.view_is)))) c.begin.ensures.nothing_done);
+          (subst (λ (r : List RowModel). HasFed c.begin.new.self 1 r [] []) (rows ∙ sym (begins_first g.G.Gas.rules input)) c.begin.ensures.nothing_done);
     }
