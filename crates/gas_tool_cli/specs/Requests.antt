@@ -1,5 +1,6 @@
 -- The request of the matches of the words, and the fault where they give none.
-use Rattle.std.specs.Prelude.{◌≡◌, ◌≢◌, ◌⊎◌, ◌≤◌, ◌<◌, ℕ, List, [], ◌∷◌, Option, Some, None, Ok, codes, length, slice_index, slice_index_or, unwrap_or, ⊤}
+use Rattle.std.specs.Prelude.{◌≡◌, ◌≢◌, ◌⊎◌, ◌≤◌, ℕ, List, [], ◌∷◌, Option, Some, None, IsSomeAnd, Ok, codes, unwrap_or, ⊤}
+use Rattle.std.specs.List.{AllZip}
 use Rattle.std.specs.Str.Parse.{ParsesUnsigned}
 use Rattle.std.specs.declared.num.ParseIntError.{ParseIntError}
 use Rattle.clap.specs.Words.{Row, Text, all_of, one_of, IsAmong, Kinds}
@@ -10,36 +11,27 @@ use Rattle.gas_tool_cli.specs.declared.faults.UsageFault.TheVariants as fault
 use Rattle.gas_tool_cli.specs.declared.request.Request.{Request}
 use Rattle.gas_tool_cli.specs.declared.request.Request.TheVariants.{Check, Run, Coarse, Replay}
 
--- the decimal number that the rows hold for an option
-pub record IsNumberAt (bits : ℕ) (option : Text) (rows : List Row) (n : ℕ) : Type 0 where
-  pub text : Text
-  pub stands : one_of option rows ≡ Some text
-  pub reads : ParsesUnsigned {E = ParseIntError} bits 10 text (Ok n)
+-- a text is this decimal number, of so many bits at most
+abbrev pub IsNumber : ℕ → Text → ℕ → Type 0
+IsNumber bits text n = ParsesUnsigned {E = ParseIntError} bits 10 text (Ok n)
 
--- the numbers of a plan, as the rows hold them
+-- the rows hold this number for an option
+abbrev pub IsNumberAt : ℕ → List Row → Text → ℕ → Type 0
+IsNumberAt bits rows option n = IsSomeAnd (one_of option rows) (λ text. IsNumber bits text n)
+
+-- and these numbers of a plan
 pub record IsPlanAt (rows : List Row) (stages capacity generations : ℕ) : Type 0 where
-  pub stages_at : IsNumberAt 32 (codes "stages") rows stages
-  pub capacity_at : IsNumberAt 32 (codes "capacity") rows capacity
-  pub generations_at : IsNumberAt 64 (codes "generations") rows generations
+  pub stages_at : IsNumberAt 32 rows (codes "stages") stages
+  pub capacity_at : IsNumberAt 32 rows (codes "capacity") capacity
+  pub generations_at : IsNumberAt 64 rows (codes "generations") generations
 
--- the width and the height of blocks, as the rows hold them
-pub record AreSidesAt (rows : List Row) (width height : ℕ) : Type 0 where
-  pub width_at : IsNumberAt 32 (codes "block-width") rows width
-  pub height_at : IsNumberAt 32 (codes "block-height") rows height
-  pub some_columns : 1 ≤ width
-  pub few_columns : width ≤ most_block_side
-  pub some_rows : 1 ≤ height
-  pub few_rows : height ≤ most_block_side
+-- and, for an option, this width or height of blocks
+abbrev pub IsSideAt : List Row → Text → ℕ → Type 0
+IsSideAt rows option n = IsNumberAt 32 rows option n × (1 ≤ n) × (n ≤ most_block_side)
 
--- the decimal numbers of these texts, one for each
-pub record AreNumbers (bits : ℕ) (texts : List Text) (numbers : List ℕ) : Type 0 where
-  pub count : length numbers ≡ length texts
-  pub reads : (k : ℕ) → k < length texts →
-      ParsesUnsigned {E = ParseIntError} bits 10 (slice_index_or texts k []) (Ok (slice_index numbers k))
-
--- the turns, as the rows hold them; none where there are no such words
+-- and these turns, in order; none where there are no such words
 abbrev pub AreTurnsAt : List Row → List ℕ → Type 0
-AreTurnsAt rows turns = AreNumbers 32 (unwrap_or (all_of (codes "turns") rows) []) turns
+AreTurnsAt rows turns = AllZip (IsNumber 32) (unwrap_or (all_of (codes "turns") rows) []) turns
 
 -- the request of a subcommand's name and rows
 abbrev pub IsRequestOf : Option (Text × List Row) → Request → Type 0
@@ -48,16 +40,15 @@ IsRequestOf (Some sub) Check = sub.0 ≡ codes "check"
 IsRequestOf (Some sub) (Run stages capacity generations) =
     (sub.0 ≡ codes "run") × IsPlanAt sub.1 stages capacity generations
 IsRequestOf (Some sub) (Coarse stages capacity generations width height) =
-    (sub.0 ≡ codes "coarse") × IsPlanAt sub.1 stages capacity generations × AreSidesAt sub.1 width height
+    (sub.0 ≡ codes "coarse") × IsPlanAt sub.1 stages capacity generations
+    × IsSideAt sub.1 (codes "block-width") width × IsSideAt sub.1 (codes "block-height") height
 IsRequestOf (Some sub) (Replay stages capacity generations turns) =
     (sub.0 ≡ codes "replay") × IsPlanAt sub.1 stages capacity generations × AreTurnsAt sub.1 turns
 
 -- what a request must have to be performed: blocks with a column and a row at least
 abbrev pub IsAllowed : Request → Type 0
-IsAllowed Check = ⊤
-IsAllowed (Run stages capacity generations) = ⊤
 IsAllowed (Coarse stages capacity generations width height) = (1 ≤ width) × (1 ≤ height)
-IsAllowed (Replay stages capacity generations turns) = ⊤
+IsAllowed request = ⊤
 
 -- the fault of words for which `clap` gives errors of these kinds: help only where they ask for it or for the version,
 -- and never usage where they ask for one of these alone

@@ -1,18 +1,20 @@
 //! The command line.
 
-ghost use Rattle.std.specs.Prelude.{◌≡◌, [], IfOk, IfErr, IfSome, map, false, true, codes};
+ghost use Rattle.std.specs.Prelude.{◌≡◌, [], ◌∷◌, ◌++◌, IfOk, IfErr, IfSome, Some, map, false, true, codes};
+ghost use Rattle.std.specs.List.{AllZip};
 ghost use Rattle.clap.specs.declared.builder.command.Command.TheViews.{out-Command as fields_of};
+ghost use Rattle.clap.specs.declared.builder.value_parser.ValueParser.TheVariants.{Unsigned};
 ghost use Rattle.clap.specs.Simple.{on_top};
-ghost use Rattle.clap.specs.Words.{App, Rule, app_of, fault_of, found_of, kind_of, new_app, rows_of, rule_of};
+ghost use Rattle.clap.specs.Words.{App, Rule, Shape, app_of, fault_of, found_of, kind_of, new_app, rows_of, rule_of};
 ghost use Rattle.clap.specs.Words.{subcommand_of, subcommand_rows_of, with_rule, with_subcommand};
-ghost use Rattle.gas_tool_cli.specs.Words.{program_app, check_app, coarse_app, replay_app, run_app, default_rule};
-ghost use Rattle.gas_tool_cli.specs.Words.{generations_rule, stages_rule, capacity_rule, with_plan};
-ghost use Rattle.gas_tool_cli.specs.Words.{block_height_rule, block_width_rule, required_rule, side, turns_rule};
-ghost use Rattle.gas_tool_cli.specs.Requests.{AreSidesAt, AreTurnsAt, IsAllowed, IsFaultOf, IsPlanAt, IsRequestOf, AreNumbers};
+ghost use Rattle.gas_tool_cli.specs.Words.{default_rule, plan_rules, program_app, subcommand};
+ghost use Rattle.gas_tool_cli.specs.Words.{required_rule, side_rule, turns_rule};
+ghost use Rattle.gas_tool_cli.specs.Commands.{alone};
+ghost use Rattle.gas_tool_cli.specs.Requests.{AreTurnsAt, IsAllowed, IsFaultOf, IsNumber, IsPlanAt, IsRequestOf, IsSideAt};
 ghost use Rattle.gas_tool_cli.specs.Kinds.{TellsKind};
 
 use crate::faults::UsageFault;
-use crate::request::{Request, Turns};
+use crate::request::{PlanNumbers, Request, Turns};
 use clap::error::ErrorKind;
 use clap::{Arg, ArgAction, ArgMatches, Command, value_parser};
 use std::alloc::{AllocError, Global};
@@ -94,7 +96,7 @@ generations need G workers at least.
 Example: fhpgas replay --generations 1 --stages 1 0 1 0 1 < scene.toml";
 
 fn generations_arg<'a>(alloc: Global) -> Arg<'a>
-    ensures rule { rule_of result ≡ generations_rule }
+    ensures rule { rule_of result ≡ required_rule (codes "generations") (Unsigned 0 18446744073709551615) }
     ensures local { result.global ≡ false }
 {
     Arg::new(alloc, "generations")
@@ -107,7 +109,7 @@ fn generations_arg<'a>(alloc: Global) -> Arg<'a>
 }
 
 fn stages_arg<'a>(alloc: Global) -> Arg<'a>
-    ensures rule { rule_of result ≡ stages_rule }
+    ensures rule { rule_of result ≡ default_rule (codes "stages") (codes "4") }
     ensures local { result.global ≡ false }
 {
     default_arg(alloc, "stages", "N", "4").help(
@@ -116,7 +118,7 @@ fn stages_arg<'a>(alloc: Global) -> Arg<'a>
 }
 
 fn capacity_arg<'a>(alloc: Global) -> Arg<'a>
-    ensures rule { rule_of result ≡ capacity_rule }
+    ensures rule { rule_of result ≡ default_rule (codes "capacity") (codes "2") }
     ensures local { result.global ≡ false }
 {
     default_arg(alloc, "capacity", "C", "2").help(
@@ -169,27 +171,33 @@ fn with_arg<'a>(
     command?.arg(arg)
 }
 
-// The command with the options of a plan.
-fn with_plan_args<'a>(alloc: Global, command: Command<'a>) -> Result<Command<'a>, AllocError>
-    requires { (fields_of command).has_globals ≡ false }
-    ensures app { IfOk result (λ r. app_of r ≡ with_plan (app_of command.entry)) }
+// A command with the options of a plan.
+fn plan_command<'a>(
+    alloc: Global,
+    name: &'a str,
+    usage: &'a str,
+    about: &'a str,
+    notes: &'a str,
+) -> Result<Command<'a>, AllocError>
+    ensures app { IfOk result (λ r. app_of r ≡ alone (subcommand name.entry.now plan_rules)) }
     ensures local { IfOk result (λ r. (fields_of r).has_globals ≡ false) }
 {
+    let command = described(alloc, name, usage, about, notes);
     let first = with_arg(Ok(command), generations_arg(alloc));
     let second = with_arg(first, stages_arg(alloc));
     with_arg(second, capacity_arg(alloc))
 }
 
 fn run_command<'a>(alloc: Global) -> Result<Command<'a>, AllocError>
-    ensures app { IfOk result (λ r. app_of r ≡ run_app) }
+    ensures app { IfOk result (λ r. app_of r ≡ alone (subcommand (codes "run") plan_rules)) }
     ensures local { IfOk result (λ r. (fields_of r).has_globals ≡ false) }
 {
-    with_plan_args(alloc, described(alloc, "run", USAGE_RUN, ABOUT_RUN, CELLS))
+    plan_command(alloc, "run", USAGE_RUN, ABOUT_RUN, CELLS)
 }
 
 // An option for the width or the height of blocks.
 fn side_arg<'a>(alloc: Global, name: &'a str, value_name: &'a str, help: &'a str) -> Arg<'a>
-    ensures rule { rule_of result ≡ required_rule name.entry.now side }
+    ensures rule { rule_of result ≡ side_rule name.entry.now }
     ensures local { result.global ≡ false }
 {
     Arg::new(alloc, name)
@@ -202,7 +210,7 @@ fn side_arg<'a>(alloc: Global, name: &'a str, value_name: &'a str, help: &'a str
 }
 
 fn block_width_arg<'a>(alloc: Global) -> Arg<'a>
-    ensures rule { rule_of result ≡ block_width_rule }
+    ensures rule { rule_of result ≡ side_rule (codes "block-width") }
     ensures local { result.global ≡ false }
 {
     side_arg(
@@ -214,7 +222,7 @@ fn block_width_arg<'a>(alloc: Global) -> Arg<'a>
 }
 
 fn block_height_arg<'a>(alloc: Global) -> Arg<'a>
-    ensures rule { rule_of result ≡ block_height_rule }
+    ensures rule { rule_of result ≡ side_rule (codes "block-height") }
     ensures local { result.global ≡ false }
 {
     side_arg(
@@ -226,13 +234,13 @@ fn block_height_arg<'a>(alloc: Global) -> Arg<'a>
 }
 
 fn coarse_command<'a>(alloc: Global) -> Result<Command<'a>, AllocError>
-    ensures app { IfOk result (λ r. app_of r ≡ coarse_app) }
+    ensures app { IfOk result (λ r. app_of r ≡ alone (subcommand (codes "coarse")
+        (plan_rules ++ side_rule (codes "block-width") ∷ side_rule (codes "block-height") ∷ []))) }
     ensures local { IfOk result (λ r. (fields_of r).has_globals ≡ false) }
 {
-    let command = described(alloc, "coarse", USAGE_COARSE, ABOUT_COARSE, BLOCKS);
-    let first = with_plan_args(alloc, command);
-    let second = with_arg(first, block_width_arg(alloc));
-    with_arg(second, block_height_arg(alloc))
+    let plan = plan_command(alloc, "coarse", USAGE_COARSE, ABOUT_COARSE, BLOCKS);
+    let wide = with_arg(plan, block_width_arg(alloc));
+    with_arg(wide, block_height_arg(alloc))
 }
 
 fn turns_arg<'a>(alloc: Global) -> Arg<'a>
@@ -248,16 +256,15 @@ fn turns_arg<'a>(alloc: Global) -> Arg<'a>
 }
 
 fn replay_command<'a>(alloc: Global) -> Result<Command<'a>, AllocError>
-    ensures app { IfOk result (λ r. app_of r ≡ replay_app) }
+    ensures app { IfOk result (λ r. app_of r ≡ alone (subcommand (codes "replay") (plan_rules ++ turns_rule ∷ []))) }
     ensures local { IfOk result (λ r. (fields_of r).has_globals ≡ false) }
 {
-    let command = described(alloc, "replay", USAGE_REPLAY, ABOUT_REPLAY, TURNS);
-    let first = with_plan_args(alloc, command);
-    with_arg(first, turns_arg(alloc))
+    let plan = plan_command(alloc, "replay", USAGE_REPLAY, ABOUT_REPLAY, TURNS);
+    with_arg(plan, turns_arg(alloc))
 }
 
 fn check_command<'a>(alloc: Global) -> Command<'a>
-    ensures app { app_of result ≡ check_app }
+    ensures app { app_of result ≡ alone (subcommand (codes "check") []) }
     ensures local { (fields_of result).has_globals ≡ false }
 {
     described(alloc, "check", USAGE_CHECK, ABOUT_CHECK, LINE)
@@ -279,8 +286,8 @@ fn with_command<'a>(
     added: Result<Command<'a>, AllocError>,
 ) -> Result<Command<'a>, AllocError>
     requires { IfOk added (λ a. (fields_of a).has_globals ≡ false) }
-    ensures { (app top : App) → IfOk command.entry (λ c. app_of c ≡ top) → IfOk added.entry (λ a. app_of a ≡ app) →
-        IfOk result (λ r. app_of r ≡ with_subcommand top app.top) }
+    ensures { (app : App) (shape : Shape) → IfOk command.entry (λ c. app_of c ≡ app) →
+        IfOk added.entry (λ a. app_of a ≡ alone shape) → IfOk result (λ r. app_of r ≡ with_subcommand app shape) }
 {
     command?.subcommand(added?)
 }
@@ -325,65 +332,67 @@ fn unread(alloc: Global) -> UsageFault
 fn request_of(alloc: Global, matches: &ArgMatches) -> Result<Option<Request>, AllocError>
     ensures { IfOk result (λ r. IfSome r (IsRequestOf (subcommand_rows_of matches.now))) }
 {
-    if matches.subcommand_matches("check").is_some() {
-        return Ok(Some(Request::Check));
-    }
-    if let Some(request) = run_request(matches) {
-        return Ok(Some(request));
-    }
-    if let Some(request) = coarse_request(matches) {
-        return Ok(Some(request));
-    }
-    replay_request(alloc, matches)
-}
-
-// The numbers of a plan, the stages first and the generations last.
-fn plan_of(matches: &ArgMatches) -> Option<(u32, u32, u64)>
-    ensures { IfSome result (λ p. IsPlanAt (rows_of (found_of matches.now)) p.0 p.1 p.2) }
-{
-    let stages = matches.get_one::<u32>("stages")?;
-    let capacity = matches.get_one::<u32>("capacity")?;
-    let generations = matches.get_one::<u64>("generations")?;
-    Some((stages, capacity, generations))
-}
-
-// The width and the height of blocks.
-fn sides_of(matches: &ArgMatches) -> Option<(u32, u32)>
-    ensures { IfSome result (λ s. AreSidesAt (rows_of (found_of matches.now)) s.0 s.1) }
-{
-    let width = matches.get_one::<u32>("block-width")?;
-    let height = matches.get_one::<u32>("block-height")?;
-    if 1 <= width && width <= MOST_BLOCK_SIDE && 1 <= height && height <= MOST_BLOCK_SIDE {
-        Some((width, height))
-    } else {
-        None
+    let Some((command, options)) = matches.subcommand() else {
+        return Ok(None);
+    };
+    match command {
+        "check" => Ok(Some(Request::Check)),
+        "run" => Ok(run_request(options)),
+        "coarse" => Ok(coarse_request(options)),
+        "replay" => replay_request(alloc, options),
+        _ => Ok(None),
     }
 }
 
-// The request of the matches of `run`.
-fn run_request(matches: &ArgMatches) -> Option<Request>
-    ensures { IfSome result (IsRequestOf (subcommand_rows_of matches.now)) }
+// The numbers of a plan.
+fn plan_of(options: &ArgMatches) -> Option<PlanNumbers>
+    ensures { IfSome result (λ p. IsPlanAt (rows_of (found_of options.now)) p.stages p.capacity p.generations) }
 {
-    let run = matches.subcommand_matches("run")?;
-    let (stages, capacity, generations) = plan_of(run)?;
-    Some(Request::Run {
+    let stages = options.get_one::<u32>("stages")?;
+    let capacity = options.get_one::<u32>("capacity")?;
+    let generations = options.get_one::<u64>("generations")?;
+    Some(PlanNumbers {
         stages,
         capacity,
         generations,
     })
 }
 
-// The request of the matches of `coarse`.
-fn coarse_request(matches: &ArgMatches) -> Option<Request>
-    ensures { IfSome result (IsRequestOf (subcommand_rows_of matches.now)) }
+// The width or the height of blocks.
+fn side_of(options: &ArgMatches, name: &str) -> Option<u32>
+    ensures { IfSome result (IsSideAt (rows_of (found_of options.now)) name.now) }
 {
-    let coarse = matches.subcommand_matches("coarse")?;
-    let (stages, capacity, generations) = plan_of(coarse)?;
-    let (block_width, block_height) = sides_of(coarse)?;
+    let side = options.get_one::<u32>(name)?;
+    if 1 <= side && side <= MOST_BLOCK_SIDE {
+        Some(side)
+    } else {
+        None
+    }
+}
+
+// The request of the options of `run`.
+fn run_request(options: &ArgMatches) -> Option<Request>
+    ensures { IfSome result (IsRequestOf (Some (codes "run", rows_of (found_of options.now)))) }
+{
+    let plan = plan_of(options)?;
+    Some(Request::Run {
+        stages: plan.stages,
+        capacity: plan.capacity,
+        generations: plan.generations,
+    })
+}
+
+// The request of the options of `coarse`.
+fn coarse_request(options: &ArgMatches) -> Option<Request>
+    ensures { IfSome result (IsRequestOf (Some (codes "coarse", rows_of (found_of options.now)))) }
+{
+    let plan = plan_of(options)?;
+    let block_width = side_of(options, "block-width")?;
+    let block_height = side_of(options, "block-height")?;
     Some(Request::Coarse {
-        stages,
-        capacity,
-        generations,
+        stages: plan.stages,
+        capacity: plan.capacity,
+        generations: plan.generations,
         block_width,
         block_height,
     })
@@ -391,7 +400,7 @@ fn coarse_request(matches: &ArgMatches) -> Option<Request>
 
 // The numbers that the words are; None where one is none.
 fn numbers(alloc: Global, words: &[&str]) -> Result<Option<Vec<u32>>, AllocError>
-    ensures { IfOk result (λ r. IfSome r (λ numbers. AreNumbers 32 (map (λ w. w.now) words.now) numbers.items)) }
+    ensures { IfOk result (λ r. IfSome r (λ numbers. AllZip (IsNumber 32) (map (λ w. w.now) words.now) numbers.items)) }
 {
     let mut numbers = Vec::with_capacity(alloc, words.len())?;
     for word in words {
@@ -404,10 +413,10 @@ fn numbers(alloc: Global, words: &[&str]) -> Result<Option<Vec<u32>>, AllocError
 }
 
 // The turns; None where a word is no number, which `clap` has refused before.
-fn turns_of(alloc: Global, matches: &ArgMatches) -> Result<Option<Turns>, AllocError>
-    ensures { IfOk result (λ r. IfSome r (AreTurnsAt (rows_of (found_of matches.now)))) }
+fn turns_of(alloc: Global, options: &ArgMatches) -> Result<Option<Turns>, AllocError>
+    ensures { IfOk result (λ r. IfSome r (AreTurnsAt (rows_of (found_of options.now)))) }
 {
-    let Some(words) = matches.get_raw("turns") else {
+    let Some(words) = options.get_raw("turns") else {
         return Ok(Some(Turns::new(Vec::new(alloc))));
     };
     match numbers(alloc, words)? {
@@ -416,23 +425,20 @@ fn turns_of(alloc: Global, matches: &ArgMatches) -> Result<Option<Turns>, AllocE
     }
 }
 
-// The request of the matches of `replay`.
-fn replay_request(alloc: Global, matches: &ArgMatches) -> Result<Option<Request>, AllocError>
-    ensures { IfOk result (λ r. IfSome r (IsRequestOf (subcommand_rows_of matches.now))) }
+// The request of the options of `replay`.
+fn replay_request(alloc: Global, options: &ArgMatches) -> Result<Option<Request>, AllocError>
+    ensures { IfOk result (λ r. IfSome r (IsRequestOf (Some (codes "replay", rows_of (found_of options.now))))) }
 {
-    let Some(replay) = matches.subcommand_matches("replay") else {
+    let Some(plan) = plan_of(options) else {
         return Ok(None);
     };
-    let Some((stages, capacity, generations)) = plan_of(replay) else {
-        return Ok(None);
-    };
-    let Some(turns) = turns_of(alloc, replay)? else {
+    let Some(turns) = turns_of(alloc, options)? else {
         return Ok(None);
     };
     Ok(Some(Request::Replay {
-        stages,
-        capacity,
-        generations,
+        stages: plan.stages,
+        capacity: plan.capacity,
+        generations: plan.generations,
         turns,
     }))
 }

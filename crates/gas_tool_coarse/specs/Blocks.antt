@@ -7,15 +7,12 @@ use Rattle.gas_geom.specs.Channel.{ChannelModel, is_solid}
 use Rattle.gas_geom.specs.Lattice.{LatticeModel, cell}
 use Rattle.gas_tool_coarse.specs.declared.blocks.Block.{Block}
 
--- the numbers below n that, divided by a size, give k
-abbrev pub part : ℕ → ℕ → ℕ → List ℕ
-part n size k = filter (λ i. i / size == k) (range_with_len 0 n)
-
 -- The cells (x, y) of the block in column `col` and row `row` of the blocks: those where x divided by the blocks' width gives
 -- `col`, and y divided by their height gives `row`.
 abbrev pub cells_of : ChannelModel → ℕ → ℕ → ℕ → ℕ → List (ℕ × ℕ)
 cells_of channel width height col row =
-    flat_map (λ y. map (λ x. (x, y)) (part channel.width width col)) (part channel.height height row)
+    flat_map (λ y. map (λ x. (x, y)) (filter (λ x. x / width == col) (range_with_len 0 channel.width)))
+    (filter (λ y. y / height == row) (range_with_len 0 channel.height))
 
 -- the sum of the numbers that f gives for the items of a list
 abbrev pub signed_sum_by : {X : Type 0} → (X → ℤ) → List X → ℤ
@@ -32,13 +29,8 @@ block_of_cells gas lattice col row cells = record {
   py = signed_sum_by (λ c. (momentum_of gas (cell lattice.rows c.0 c.1)).1) cells;
 }
 
--- a row of the blocks, from the left
-abbrev pub strip_of : Rules → LatticeModel → ℕ → ℕ → ℕ → List Block
-strip_of gas lattice width height row =
-    map (λ col. block_of_cells gas lattice col row (cells_of lattice.channel width height col row))
-    (range_with_len 0 (div_ceil lattice.channel.width width))
-
--- all blocks of a lattice, row of blocks by row of blocks
+-- all blocks of a lattice, row of blocks by row of blocks, from the left in each
 abbrev pub blocks_of : Rules → LatticeModel → ℕ → ℕ → List Block
 blocks_of gas lattice width height =
-    flat_map (strip_of gas lattice width height) (range_with_len 0 (div_ceil lattice.channel.height height))
+    flat_map (λ row. map (λ col. block_of_cells gas lattice col row (cells_of lattice.channel width height col row))
+    (range_with_len 0 (div_ceil lattice.channel.width width))) (range_with_len 0 (div_ceil lattice.channel.height height))

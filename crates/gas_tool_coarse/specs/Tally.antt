@@ -1,10 +1,23 @@
 -- Inner words: what functions of this crate promise one another. No public contract cites them.
 -- How a block's numbers come together: cells, directions and rows.
-use Rattle.std.specs.Prelude.{ℕ, ◌+◌, ◌*◌, ◌≤◌, Bool, false, not, if◌then◌else◌, List, fold, length, slice_index, slice_index_or, pos, neg_ℤ, ◌+ℤ◌, ◌*ℤ◌, ◌≤ℤ◌}
+use Rattle.std.specs.Prelude.{ℕ, ◌+◌, ◌*◌, ◌/◌, ◌==◌, ◌≤◌, Bool, false, not, if◌then◌else◌, List, filter, map, fold, length, slice_index, slice_index_or, pos, neg_ℤ, ◌+ℤ◌, ◌*ℤ◌, ◌≤ℤ◌}
+use Rattle.std.specs.Int.{div_ceil}
+use Rattle.std.specs.List.{range_with_len}
 use Rattle.gas_geom.specs.Gas.{Rules, particles, momentum_of}
+use Rattle.gas_geom.specs.Lattice.{LatticeModel}
 use Rattle.gas_geom.specs.declared.size.TheConstants.{MOST_SIDE}
-use Rattle.gas_tool_coarse.specs.Blocks.{part}
+use Rattle.gas_tool_coarse.specs.Blocks.{block_of_cells, cells_of}
 use Rattle.gas_tool_coarse.specs.declared.blocks.Block.{Block}
+
+-- the numbers below n that, divided by a size, give k
+abbrev pub part : ℕ → ℕ → ℕ → List ℕ
+part n size k = filter (λ i. i / size == k) (range_with_len 0 n)
+
+-- a row of the blocks, from the left
+abbrev pub strip_of : Rules → LatticeModel → ℕ → ℕ → ℕ → List Block
+strip_of gas lattice width height row =
+    map (λ col. block_of_cells gas lattice col row (cells_of lattice.channel width height col row))
+    (range_with_len 0 (div_ceil lattice.channel.width width))
 
 abbrev pub empty_block : ℕ → ℕ → Block
 empty_block col row = record { col = col; row = row; fluid = 0; particles = 0; px = pos 0; py = pos 0 }

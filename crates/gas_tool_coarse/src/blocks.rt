@@ -5,8 +5,8 @@ ghost use Rattle.std.specs.Int.{div_ceil};
 ghost use Rattle.std.specs.List.{range_with_len};
 ghost use Rattle.gas_geom.specs.Gas.{holds};
 ghost use Rattle.gas_geom.specs.declared.size.TheConstants.{MOST_SIDE};
-ghost use Rattle.gas_tool_coarse.specs.Blocks.{blocks_of, part, strip_of};
-ghost use Rattle.gas_tool_coarse.specs.Tally.{HasRoom, most_cells, empty_block, plus_cell_of, plus_particles, plus_row};
+ghost use Rattle.gas_tool_coarse.specs.Blocks.{blocks_of};
+ghost use Rattle.gas_tool_coarse.specs.Tally.{HasRoom, empty_block, most_cells, part, plus_cell_of, plus_particles, plus_row, strip_of};
 
 use gas_geom::gas::Gas;
 use gas_rows::lattice::Lattice;

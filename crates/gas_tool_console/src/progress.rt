@@ -25,31 +25,16 @@ struct Work {
 }
 
 impl Work {
-    fn new<R: Clock>(rt: &R, stages: u32, generations: u64) -> Option<Work> {
+    // The work of a request that has a plan. A replay shows none of it, since it enters no gate.
+    fn of<R: Clock>(rt: &R, request: &Request) -> Option<Work> {
+        let plan = request.plan()?;
         Some(Work {
-            stages,
-            generations,
+            stages: plan.stages,
+            generations: plan.generations,
             begun: Instant::now(rt).ok()?,
             passes: AtomicU64::new(0),
             written: AtomicU64::new(0),
         })
-    }
-
-    // The work of a request that computes generations by threads.
-    fn of<R: Clock>(rt: &R, request: &Request) -> Option<Work> {
-        match request {
-            Request::Run {
-                stages,
-                generations,
-                ..
-            }
-            | Request::Coarse {
-                stages,
-                generations,
-                ..
-            } => Work::new(rt, *stages, *generations),
-            Request::Check | Request::Replay { .. } => None,
-        }
     }
 
     // How many milliseconds it has taken so far.

@@ -1,20 +1,18 @@
 -- What `perform` answers and writes.
-use Rattle.std.specs.Prelude.{◌≡◌, ◌≤◌, ◌+◌, ℕ, nat_lt, List, length, take, Option, None, Some, Result, Ok, Err, IsOkAnd, ⊤, if◌then◌else◌}
+use Rattle.std.specs.Prelude.{◌≡◌, ◌≤◌, ◌+◌, ℕ, nat_lt, List, length, take, Option, option_and_then, Result, Ok, Err, IsOkAnd, ⊤, if◌then◌else◌}
 use Rattle.std.specs.Int.{div_ceil}
 use Rattle.std.specs.Io.KnownBytes.{Appends}
+use Rattle.std.specs.Option.{option_map_or}
+use Rattle.std.specs.Result.{result_flatten, result_map_both}
 use Rattle.gas_geom.specs.Gas.{Rules}
 use Rattle.gas_geom.specs.Lattice.{LatticeModel, count}
 use Rattle.gas_rows.specs.declared.chirality.Chirality.{Chirality}
 use Rattle.gas_stage.specs.Evolution.{lattice_after}
-use Rattle.gas_scene.specs.declared.error.SceneError.{SceneError}
-use Rattle.gas_scene.specs.declared.error.SceneError.TheVariants as scene
 use Rattle.gas_scene.specs.Gases.{rules_named}
 use Rattle.gas_scene.specs.Scene.{SceneModel, scene_of_text}
 use Rattle.gas_pipe_model.specs.Plan.{PlanModel}
 use Rattle.gas_pipe_members.specs.Plan.{plan_refusal}
 use Rattle.gas_pipe_replay.specs.Replay.{replay_of}
-use Rattle.gas_pipe_members.specs.declared.error.RunError.{RunError}
-use Rattle.gas_pipe_members.specs.declared.error.RunError.TheVariants as run
 use Rattle.gas_pipe_members.specs.declared.plan.PlanError.{PlanError}
 use Rattle.gas_tool_io.specs.Text.{cells_text, check_text}
 use Rattle.gas_tool_coarse.specs.Blocks.{blocks_of}
@@ -22,6 +20,7 @@ use Rattle.gas_tool_io.specs.Table.{table_text}
 use Rattle.gas_tool_replay.specs.Text.{replay_text}
 use Rattle.gas_tool_perform.specs.declared.faults.ToolError.{ToolError}
 use Rattle.gas_tool_perform.specs.declared.faults.ToolError.TheVariants.{Memory, Scene, Plan, Write, MorePasses}
+use Rattle.gas_tool_cli.specs.Plan.{plan_numbers}
 use Rattle.gas_tool_cli.specs.declared.request.Request.{Request}
 use Rattle.gas_tool_cli.specs.declared.request.Request.TheVariants.{Check, Run, Coarse, Replay}
 
@@ -30,49 +29,32 @@ abbrev pub lattice_text : Rules → LatticeModel → ℕ → List ℕ
 lattice_text gas lattice generation =
     cells_text lattice.channel lattice.rows generation (count gas lattice.rows)
 
--- the fault of a scene's error: its want of memory is the tool's
-abbrev pub scene_fault : SceneError → ToolError
-scene_fault scene.Memory = Memory
-scene_fault error = Scene error
+-- what a request on a lattice of a gas, of generation `first`, leads to where its plan is accepted: the text of its answer; but
+-- a replay whose plan needs more than one pass is a fault
+abbrev pub accepted_outcome : Rules → LatticeModel → Chirality → ℕ → Request → Result (List ℕ) ToolError
+accepted_outcome gas lattice chirality first Check = Ok (check_text gas.name lattice.channel (count gas lattice.rows))
+accepted_outcome gas lattice chirality first (Run stages capacity generations) =
+    Ok (lattice_text gas (lattice_after gas chirality first lattice generations) (first + generations))
+accepted_outcome gas lattice chirality first (Coarse stages capacity generations width height) =
+    Ok (table_text (blocks_of gas (lattice_after gas chirality first lattice generations) width height))
+accepted_outcome gas lattice chirality first (Replay stages capacity generations turns) =
+    let plan : PlanModel = record { stages = stages; capacity = capacity; generations = generations } in
+    if nat_lt 1 (div_ceil generations stages) then Err MorePasses
+    else Ok (replay_text gas (replay_of gas chirality first lattice plan turns) (first + generations))
 
--- the fault of a plan that was not carried out
-abbrev pub run_fault : RunError → ToolError
-run_fault run.Memory = Memory
-run_fault run.MorePasses = MorePasses
+-- the refusal of a request's plan, if it has one and that is refused
+abbrev pub refusal_of : Request → Option PlanError
+refusal_of request = option_and_then (λ p. plan_refusal p.stages p.capacity p.generations) (plan_numbers request)
 
--- what a request leads to, unless its plan is refused
-abbrev pub unless_refused : Option PlanError → Result (List ℕ) ToolError → Result (List ℕ) ToolError
-unless_refused None otherwise = otherwise
-unless_refused (Some error) otherwise = Err (Plan error)
-
--- where one pass of a plan over a lattice of generation `first` stands after these turns; a plan that needs more passes is a
--- fault
-abbrev pub replay_outcome : Rules → LatticeModel → Chirality → ℕ → PlanModel → List ℕ → Result (List ℕ) ToolError
-replay_outcome gas lattice chirality first plan turns =
-    if nat_lt 1 (div_ceil plan.generations plan.stages) then Err MorePasses
-    else Ok (replay_text gas (replay_of gas chirality first lattice plan turns) (first + plan.generations))
-
--- what a request on a lattice of a gas, of generation `first`, leads to: the text of its answer, or the first fault
+-- what a request on a lattice leads to: the refusal of its plan is its fault, else it is as where the plan is accepted
 abbrev pub gas_outcome : Rules → LatticeModel → Chirality → ℕ → Request → Result (List ℕ) ToolError
-gas_outcome gas lattice chirality first Check = Ok (check_text gas.name lattice.channel (count gas lattice.rows))
-gas_outcome gas lattice chirality first (Run stages capacity generations) =
-    unless_refused (plan_refusal stages capacity generations)
-    (Ok (lattice_text gas (lattice_after gas chirality first lattice generations) (first + generations)))
-gas_outcome gas lattice chirality first (Coarse stages capacity generations width height) =
-    unless_refused (plan_refusal stages capacity generations)
-    (Ok (table_text (blocks_of gas (lattice_after gas chirality first lattice generations) width height)))
-gas_outcome gas lattice chirality first (Replay stages capacity generations turns) =
-    unless_refused (plan_refusal stages capacity generations)
-    (replay_outcome gas lattice chirality first (record { stages = stages; capacity = capacity; generations = generations }) turns)
-
--- what a request on a scene, or on a text that is none, leads to
-abbrev pub scene_outcome : Result SceneModel SceneError → Request → Result (List ℕ) ToolError
-scene_outcome (Err error) request = Err (scene_fault error)
-scene_outcome (Ok s) request = gas_outcome (rules_named s.lattice.gas) s.lattice.lattice s.chirality s.generation request
+gas_outcome gas lattice chirality first request =
+    option_map_or (λ refusal. Err (Plan refusal)) (refusal_of request) (accepted_outcome gas lattice chirality first request)
 
 -- what a request on a text leads to: the first of its faults, in the order scene, plan, passes; else the text of its answer
 abbrev pub outcome : List ℕ → Request → Result (List ℕ) ToolError
-outcome text request = scene_outcome (scene_of_text text) request
+outcome text request = result_flatten (result_map_both
+    (λ s. gas_outcome (rules_named s.lattice.gas) s.lattice.lattice s.chirality s.generation request) Scene (scene_of_text text))
 
 -- the scene of a scene's lattice so many generations on
 abbrev pub scene_after : SceneModel → ℕ → SceneModel

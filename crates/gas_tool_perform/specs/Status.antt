@@ -2,16 +2,10 @@
 use Rattle.std.specs.Prelude.{ℕ}
 use Rattle.gas_tool_perform.specs.declared.faults.ToolError.{ToolError}
 use Rattle.gas_tool_perform.specs.declared.faults.ToolError.TheVariants as tool
-use Rattle.gas_scene.specs.declared.error.SceneError.{SceneError}
 use Rattle.gas_scene.specs.declared.error.SceneError.TheVariants as scene
-
-abbrev pub scene_status : SceneError → ℕ
-scene_status scene.Memory = 3
-scene_status error = 1
 
 abbrev pub tool_status : ToolError → ℕ
 tool_status tool.Memory = 3
-tool_status (tool.Scene error) = scene_status error
-tool_status (tool.Plan error) = 1
+tool_status (tool.Scene scene.Memory) = 3
 tool_status (tool.Write written) = 4
-tool_status tool.MorePasses = 1
+tool_status error = 1

@@ -1,11 +1,17 @@
 -- Inner words: what functions of this crate promise one another. No public contract cites them.
--- What is printed of a lattice.
-use Rattle.std.specs.Prelude.{ℕ, ◌≤◌, List, ⊤}
+-- What is printed of a lattice, and of a replay.
+use Rattle.std.specs.Prelude.{ℕ, ◌≤◌, ◌+◌, nat_lt, if◌then◌else◌, List, Result, Ok, Err, ⊤}
 use Rattle.gas_geom.specs.Gas.{Rules}
 use Rattle.gas_geom.specs.Lattice.{LatticeModel}
+use Rattle.gas_rows.specs.declared.chirality.Chirality.{Chirality}
+use Rattle.gas_pipe_model.specs.Plan.{PlanModel, passes_of}
+use Rattle.gas_pipe_replay.specs.Replay.{replay_of}
 use Rattle.gas_tool_coarse.specs.Blocks.{blocks_of}
+use Rattle.gas_tool_replay.specs.Text.{replay_text}
 use Rattle.gas_tool_perform.specs.Outcome.{lattice_text}
 use Rattle.gas_tool_io.specs.Table.{table_text}
+use Rattle.gas_tool_perform.specs.declared.faults.ToolError.{ToolError}
+use Rattle.gas_tool_perform.specs.declared.faults.ToolError.TheVariants.{MorePasses}
 use Rattle.gas_tool_perform.specs.declared.requests.View.{View}
 use Rattle.gas_tool_perform.specs.declared.requests.View.TheVariants.{Cells, Blocks}
 
@@ -18,3 +24,9 @@ view_text (Blocks width height) gas lattice generation = table_text (blocks_of g
 abbrev pub HasSomeCells : View → Type 0
 HasSomeCells Cells = ⊤
 HasSomeCells (Blocks width height) = (1 ≤ width) × (1 ≤ height)
+
+-- where one pass of a plan over a lattice of generation `first` stands after these turns, if the plan needs no more
+abbrev pub replay_outcome : Rules → LatticeModel → Chirality → ℕ → PlanModel → List ℕ → Result (List ℕ) ToolError
+replay_outcome gas lattice chirality first plan turns =
+    if nat_lt 1 (passes_of plan.generations plan.stages) then Err MorePasses
+    else Ok (replay_text gas (replay_of gas chirality first lattice plan turns) (first + plan.generations))

@@ -1,8 +1,9 @@
 //! What can go wrong, and the exit status that each fault has.
 
-ghost use Rattle.std.specs.Prelude.{◌≡◌};
-ghost use Rattle.gas_tool_perform.specs.declared.faults.ToolError.TheVariants.{Memory, Plan, Write};
-ghost use Rattle.gas_tool_perform.specs.Outcome.{run_fault, scene_fault};
+ghost use Rattle.std.specs.Prelude.{◌≡◌, ◌≢◌};
+ghost use Rattle.gas_pipe_members.specs.declared.error.RunError.TheVariants as run;
+ghost use Rattle.gas_scene.specs.declared.error.SceneError.TheVariants as scene;
+ghost use Rattle.gas_tool_perform.specs.declared.faults.ToolError.TheVariants.{Memory, Scene, Plan, Write, MorePasses};
 ghost use Rattle.gas_tool_perform.specs.Status.{tool_status};
 
 use gas_pipe_members::error::RunError;
@@ -50,7 +51,7 @@ impl From<AllocError> for ToolError {
 }
 
 impl From<SceneError> for ToolError {
-    ghost from_gives = { λ error fault. fault ≡ scene_fault error };
+    ghost from_gives = { λ error fault. (error ≡ scene.Memory → fault ≡ Memory) × (error ≢ scene.Memory → fault ≡ Scene error) };
 
     fn from(error: SceneError) -> ToolError {
         match error {
@@ -69,7 +70,7 @@ impl From<PlanError> for ToolError {
 }
 
 impl From<RunError> for ToolError {
-    ghost from_gives = { λ error fault. fault ≡ run_fault error };
+    ghost from_gives = { λ error fault. (error ≡ run.Memory → fault ≡ Memory) × (error ≡ run.MorePasses → fault ≡ MorePasses) };
 
     fn from(error: RunError) -> ToolError {
         match error {

@@ -4,9 +4,9 @@ ghost use Rattle.std.specs.Prelude.{◌≡◌, ◌+◌, ◌<◌, ◌≤◌, ◌^
 ghost use Rattle.gas_geom.specs.Lattice.{count};
 ghost use Rattle.gas_stage.specs.Evolution.{lattice_after};
 ghost use Rattle.gas_scene.specs.declared.ranges.TheConstants.{LAST_GENERATION};
-ghost use Rattle.gas_tool_perform.specs.Outcome.{Performs, gas_outcome, outcome, replay_outcome};
+ghost use Rattle.gas_tool_perform.specs.Outcome.{Performs, gas_outcome, outcome};
 ghost use Rattle.gas_tool_cli.specs.Requests.{IsAllowed};
-ghost use Rattle.gas_tool_perform.specs.View.{HasSomeCells, view_text};
+ghost use Rattle.gas_tool_perform.specs.View.{HasSomeCells, replay_outcome, view_text};
 
 use crate::faults::ToolError;
 use gas_geom::gas::Gas;
@@ -94,37 +94,26 @@ fn perform_on<G: Gas + Send, W: Write, H: Gate + Sync, R: Threads + Wait + Sync>
     ensures { Performs (gas_outcome G.rules lattice.now start.chirality start.generation request.now)
         (W.contents out.old) (W.contents out.new) result }
 {
+    let Some(numbers) = request.plan() else {
+        return Ok(write_check(lattice, out)?);
+    };
+    let plan = Plan::new(numbers.stages, numbers.capacity, numbers.generations)?;
     match request {
-        Request::Check => Ok(write_check(lattice, out)?),
-        Request::Run {
-            stages,
-            capacity,
-            generations,
-        } => {
-            let plan = Plan::new(*stages, *capacity, *generations)?;
-            print_run(means, lattice, start, plan, View::Cells, out)
-        }
+        // It has no plan.
+        Request::Check => unreachable!(),
+        Request::Run { .. } => print_run(means, lattice, start, plan, View::Cells, out),
         Request::Coarse {
-            stages,
-            capacity,
-            generations,
             block_width,
             block_height,
+            ..
         } => {
-            let plan = Plan::new(*stages, *capacity, *generations)?;
             let view = View::Blocks {
                 width: *block_width,
                 height: *block_height,
             };
             print_run(means, lattice, start, plan, view, out)
         }
-        Request::Replay {
-            stages,
-            capacity,
-            generations,
-            turns,
-        } => {
-            let plan = Plan::new(*stages, *capacity, *generations)?;
+        Request::Replay { turns, .. } => {
             print_replay(means.alloc, lattice, start, plan, turns.as_slice(), out)
         }
     }

@@ -1,11 +1,8 @@
-use Rattle.std.proofs.Common.{◌≡◌, ◌<◌, ℕ, [], length, map, Ok}
-use Rattle.std.specs.Prelude.{slice_index, slice_index_or}
-use Rattle.std.specs.Str.Parse.{ParsesUnsigned}
-use Rattle.std.specs.declared.num.ParseIntError.{ParseIntError}
+use Rattle.std.proofs.Common.{map, take}
+use Rattle.std.specs.List.{AllZip}
+use Rattle.gas_tool_cli.specs.Requests.{IsNumber}
 use Rattle.gas_tool_cli.proofs.words.numbers.Given as goal
 
+-- the words so far are the numbers so far
 abbrev pub invariant-loop-word : goal.invariant-loop-word
-invariant-loop-word l =
-    (length l.numbers.items ≡ l.word-index)
-    × ((k : ℕ) → k < l.word-index →
-    ParsesUnsigned {E = ParseIntError} 32 10 (slice_index_or (map (λ w. w.now) l.words) k []) (Ok (slice_index l.numbers.items k)))
+invariant-loop-word l = AllZip (IsNumber 32) (take l.word-index (map (λ w. w.now) l.words)) l.numbers.items

@@ -4,7 +4,7 @@ use Rattle.gas_tool_cli.proofs.words.plan_of.Goals as goal
 
 pub returns : goal.returns
 returns c =
-    let f = found_of c.args.matches.now in
+    let f = found_of c.args.options.now in
     record {
       stages_at = number_at 32 f _ c.in_ok-stages.stages c.in_ok-stages.ensures.none c.in_ok-stages.ensures.value;
       capacity_at = number_at 32 f _ c.in_ok-capacity.capacity c.in_ok-capacity.ensures.none c.in_ok-capacity.ensures.value;

@@ -8,7 +8,8 @@ use Rattle.gas_pipe_members.specs.declared.plan.PlanError.{PlanError}
 use Rattle.gas_scene.specs.declared.error.SceneError.{SceneError}
 use Rattle.gas_scene.specs.Gases.{rules_named}
 use Rattle.gas_scene.specs.Scene.{SceneModel}
-use Rattle.gas_tool_perform.specs.Outcome.{lattice_text, unless_refused, scene_outcome}
+use Rattle.gas_tool_perform.proofs.Outcomes.{scene_outcome, unless_refused}
+use Rattle.gas_tool_perform.specs.Outcome.{lattice_text}
 use Rattle.gas_tool_cli.specs.declared.request.Request.TheVariants.{Run, Coarse}
 use Rattle.gas_tool_perform.proofs.resume.resumed_runs.Goals as goal
 

@@ -1,0 +1,8 @@
+-- Inner words: what functions of this crate promise one another. No public contract cites them.
+-- Commands before they are joined.
+use Rattle.std.specs.Prelude.{[]}
+use Rattle.clap.specs.Words.{App, Shape}
+
+-- a command with no subcommand
+abbrev pub alone : Shape → App
+alone shape = record { top = shape; subs = [] }

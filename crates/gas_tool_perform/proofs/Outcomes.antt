@@ -1,0 +1,25 @@
+-- What a request leads to, step by step.
+use Rattle.std.proofs.Common.{◌≡◌, List, ℕ, Option, Some, Result, Err}
+use Rattle.std.specs.Option.{option_map_or}
+use Rattle.std.specs.Result.{result_flatten, result_map_both}
+use Rattle.gas_pipe_members.specs.declared.plan.PlanError.{PlanError}
+use Rattle.gas_scene.specs.Gases.{rules_named}
+use Rattle.gas_scene.specs.Scene.{SceneModel}
+use Rattle.gas_scene.specs.declared.error.SceneError.{SceneError}
+use Rattle.gas_tool_cli.specs.declared.request.PlanNumbers.{PlanNumbers}
+use Rattle.gas_tool_cli.specs.declared.request.Request.{Request}
+use Rattle.gas_tool_perform.specs.Outcome.{gas_outcome}
+use Rattle.gas_tool_perform.specs.declared.faults.ToolError.{ToolError}
+use Rattle.gas_tool_perform.specs.declared.faults.ToolError.TheVariants.{Plan, Scene}
+
+-- what a request leads to, unless its plan has this refusal
+abbrev pub unless_refused : Option PlanError → Result (List ℕ) ToolError → Result (List ℕ) ToolError
+unless_refused refusal answer = option_map_or (λ error. Err (Plan error)) refusal answer
+
+-- what a request leads to where a text has this scene, or is none
+abbrev pub scene_outcome : Result SceneModel SceneError → Request → Result (List ℕ) ToolError
+scene_outcome r request = result_flatten (result_map_both
+    (λ s. gas_outcome (rules_named s.lattice.gas) s.lattice.lattice s.chirality s.generation request) Scene r)
+
+pub same_numbers : (p q : PlanNumbers) → Some p ≡ Some q → p ≡ q
+same_numbers p q h = cc
