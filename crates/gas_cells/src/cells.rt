@@ -8,6 +8,9 @@ use gas_geom::gas::Gas;
 use gas_rows::mask::Mask;
 use gas_rows::row::Row;
 
+/// The number of characters of a cell.
+pub const CHARACTERS: usize = 2;
+
 fn hex_digit(digit: u8) -> u8
     requires { digit < 16 }
     ensures { result ≡ digit_glyph false digit }
@@ -20,7 +23,7 @@ fn hex_digit(digit: u8) -> u8
 }
 
 /// The two characters of a cell.
-pub fn cell_pair(solid: bool, state: u8) -> [u8; 2]
+pub fn cell_pair(solid: bool, state: u8) -> [u8; CHARACTERS]
     ensures { result ≡ cell_text solid state }
 {
     if solid {
@@ -33,22 +36,22 @@ pub fn cell_pair(solid: bool, state: u8) -> [u8; 2]
 }
 
 // The characters of 64 cells, of their bits in a mask and their states.
-fn cell_pairs(solid: u64, states: [u8; 64]) -> [u8; 128]
+fn cell_pairs(solid: u64, states: [u8; 64]) -> [u8; CHARACTERS * 64]
     ensures { (cells : ℕ) → cells ≤ 64 → take (2 * cells) result
         ≡ texts_below (λ b. cell_text (holds solid b) (slice_index states b)) cells }
 {
-    let mut pairs = [0; 128];
+    let mut pairs = [0; CHARACTERS * 64];
     for b in 0..64 {
         let pair = cell_pair((solid >> b) & 1 == 1, states[b]);
-        pairs[2 * b] = pair[0];
-        pairs[2 * b + 1] = pair[1];
+        pairs[CHARACTERS * b] = pair[0];
+        pairs[CHARACTERS * b + 1] = pair[1];
     }
     pairs
 }
 
 /// The characters of the 64 cells of a row from cell 64 * `j` on, by the row's mask of solid cells:
 /// behind those of the cells before, the first of them are those of as many cells more.
-pub fn row_pairs<G: Gas>(row: &Row<G>, solid: &Mask, j: u32) -> [u8; 128]
+pub fn row_pairs<G: Gas>(row: &Row<G>, solid: &Mask, j: u32) -> [u8; CHARACTERS * 64]
     requires one_width { length solid.now ≡ length row.now }
     requires word { j < words_in (length row.now) }
     ensures { (cells : ℕ) → cells ≤ 64 → cells_below solid.now row.now (64 * j) ++ take (2 * cells) result
