@@ -1,16 +1,11 @@
 -- Lemmas on the first number that passes a test.
-use Rattle.std.proofs.Common.{◌≡◌, ℕ, zero, suc, ◌+◌, ◌-◌, ◌<◌, Bool, true, false, ◌&&◌, not, cond, Option, Some, None, is_none, ◌∷◌, ◌++◌, refl, ap, ap₂, ◌∙◌, arith}
+use Rattle.std.proofs.Common.{◌≡◌, ℕ, suc, ◌+◌, ◌-◌, ◌<◌, Bool, true, false, ◌&&◌, not, cond, Option, Some, None, is_none, ◌++◌, refl, ap, ◌∙◌, arith}
 use Rattle.std.specs.Prelude.{is_some}
 use Rattle.std.specs.List.{find, range_with_len}
 use Rattle.std.specs.Option.{option_or}
 use Rattle.std.proofs.lemmas.Bool.{false≢true}
 use Rattle.std.proofs.lemmas.List.Folds.{find-append}
-
-range-append : (a n m : ℕ) → range_with_len a (n + m) ≡ range_with_len a n ++ range_with_len (a + n) m
-range-append a zero m = ap₂ range_with_len (let e : a ≡ a + 0 = omega arith in e) (let e : 0 + m ≡ m = omega arith in e)
-range-append a (suc n) m =
-    ap (range_with_len a) (let e : suc n + m ≡ suc (n + m) = omega arith in e)
-    ∙ ap (λ l. a ∷ l) (range-append (a + 1) n m ∙ ap (λ k. range_with_len (a + 1) n ++ range_with_len k m) (let e : a + 1 + n ≡ a + suc n = omega arith in e))
+use Rattle.gas_cells.proofs.Ranges.{range-append}
 
 -- what passes below n + m, by what passes below n
 find-split : (p : ℕ → Bool) (n m : ℕ) → find p (range_with_len 0 (n + m)) ≡ option_or (find p (range_with_len 0 n)) (find p (range_with_len n m))

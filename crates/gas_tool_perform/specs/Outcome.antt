@@ -2,7 +2,7 @@
 use Rattle.std.specs.Prelude.{◌≡◌, ◌≤◌, ◌+◌, ℕ, nat_lt, List, length, take, Option, None, Some, Result, Ok, Err, IsOkAnd, ⊤, if◌then◌else◌}
 use Rattle.std.specs.Io.KnownBytes.{Appends}
 use Rattle.gas_geom.specs.Gas.{Rules}
-use Rattle.gas_geom.specs.Lattice.{LatticeModel, count}
+use Rattle.gas_geom.specs.Lattice.{LatticeModel}
 use Rattle.gas_rows.specs.declared.chirality.Chirality.{Chirality}
 use Rattle.gas_stage.specs.Evolution.{lattice_after}
 use Rattle.gas_scene.specs.declared.error.SceneError.{SceneError}
@@ -18,16 +18,11 @@ use Rattle.gas_pipe_members.specs.declared.plan.PlanError.{PlanError}
 use Rattle.gas_tool_io.specs.Text.{cells_text, check_text}
 use Rattle.gas_tool_coarse.specs.Blocks.{blocks_of}
 use Rattle.gas_tool_io.specs.Table.{table_text}
-use Rattle.gas_tool_replay.specs.Text.{replay_text}
+use Rattle.gas_tool_io.specs.Replay.{replay_text}
 use Rattle.gas_tool_perform.specs.declared.faults.ToolError.{ToolError}
 use Rattle.gas_tool_perform.specs.declared.faults.ToolError.TheVariants.{Memory, Scene, Plan, Write, MorePasses}
 use Rattle.gas_tool_cli.specs.declared.request.Request.{Request}
 use Rattle.gas_tool_cli.specs.declared.request.Request.TheVariants.{Check, Run, Coarse, Replay}
-
--- the text of a lattice's cells at a generation
-abbrev pub lattice_text : Rules → LatticeModel → ℕ → List ℕ
-lattice_text gas lattice generation =
-    cells_text lattice.channel lattice.rows generation (count gas lattice.rows)
 
 -- the fault of a scene's error: its want of memory is the tool's
 abbrev pub scene_fault : SceneError → ToolError
@@ -53,10 +48,10 @@ replay_outcome gas lattice chirality first plan turns =
 
 -- what a request on a lattice of a gas, of generation `first`, leads to: the text of its answer, or the first fault
 abbrev pub gas_outcome : Rules → LatticeModel → Chirality → ℕ → Request → Result (List ℕ) ToolError
-gas_outcome gas lattice chirality first Check = Ok (check_text gas.name lattice.channel (count gas lattice.rows))
+gas_outcome gas lattice chirality first Check = Ok (check_text gas lattice)
 gas_outcome gas lattice chirality first (Run stages capacity generations) =
     unless_refused (plan_refusal stages capacity generations)
-    (Ok (lattice_text gas (lattice_after gas chirality first lattice generations) (first + generations)))
+    (Ok (cells_text gas (lattice_after gas chirality first lattice generations) (first + generations)))
 gas_outcome gas lattice chirality first (Coarse stages capacity generations width height) =
     unless_refused (plan_refusal stages capacity generations)
     (Ok (table_text (blocks_of gas (lattice_after gas chirality first lattice generations) width height)))
