@@ -1,12 +1,18 @@
-ghost use Rattle.std.specs.Prelude.{◌≡◌, ◌<◌, ◌≤◌, ◌+◌, ◌*◌, ◌++◌, ℕ, false, length, slice_index, take};
+//! Writing cells: the two characters of a cell, and those of a row, block by block.
+
+ghost use Rattle.std.specs.Prelude.{◌≡◌, ◌<◌, ◌≤◌, ◌*◌, ℕ, false, length, slice_index, take, drop};
 ghost use Rattle.std.specs.Fmt.{digit_glyph};
+ghost use Rattle.std.specs.List.{flat_map, range_with_len};
 ghost use Rattle.gas_geom.specs.Gas.{holds};
 ghost use Rattle.gas_rows.specs.Words.{words_in};
-ghost use Rattle.gas_cells.specs.Cells.{cell_text, texts_below, cells_below};
+ghost use Rattle.gas_cells.specs.Cells.{cell_text, row_cells};
 
 use gas_geom::gas::Gas;
-use gas_rows::mask::Mask;
-use gas_rows::row::Row;
+use gas_rows::lattice::Lattice;
+use std::marker::Model;
+
+/// The number of characters of a cell.
+pub const CHARACTERS: usize = 2;
 
 fn hex_digit(digit: u8) -> u8
     requires { digit < 16 }
@@ -20,7 +26,7 @@ fn hex_digit(digit: u8) -> u8
 }
 
 /// The two characters of a cell.
-pub fn cell_pair(solid: bool, state: u8) -> [u8; 2]
+pub fn cell_pair(solid: bool, state: u8) -> [u8; CHARACTERS]
     ensures { result ≡ cell_text solid state }
 {
     if solid {
@@ -33,26 +39,63 @@ pub fn cell_pair(solid: bool, state: u8) -> [u8; 2]
 }
 
 // The characters of 64 cells, of their bits in a mask and their states.
-fn cell_pairs(solid: u64, states: [u8; 64]) -> [u8; 128]
+fn cell_pairs(solid: u64, states: [u8; 64]) -> [u8; CHARACTERS * 64]
     ensures { (cells : ℕ) → cells ≤ 64 → take (2 * cells) result
-        ≡ texts_below (λ b. cell_text (holds solid b) (slice_index states b)) cells }
+        ≡ flat_map (λ b. cell_text (holds solid b) (slice_index states b)) (range_with_len 0 cells) }
 {
-    let mut pairs = [0; 128];
+    let mut pairs = [0; CHARACTERS * 64];
     for b in 0..64 {
         let pair = cell_pair((solid >> b) & 1 == 1, states[b]);
-        pairs[2 * b] = pair[0];
-        pairs[2 * b + 1] = pair[1];
+        pairs[CHARACTERS * b] = pair[0];
+        pairs[CHARACTERS * b + 1] = pair[1];
     }
     pairs
 }
 
-/// The characters of the 64 cells of a row from cell 64 * `j` on, by the row's mask of solid cells:
-/// behind those of the cells before, the first of them are those of as many cells more.
-pub fn row_pairs<G: Gas>(row: &Row<G>, solid: &Mask, j: u32) -> [u8; 128]
-    requires one_width { length solid.now ≡ length row.now }
-    requires word { j < words_in (length row.now) }
-    ensures { (cells : ℕ) → cells ≤ 64 → cells_below solid.now row.now (64 * j) ++ take (2 * cells) result
-        ≡ cells_below solid.now row.now (64 * j + cells) }
+/// A block of a row's characters: those of 64 cells, or of as many as are left.
+#[derive(Drop)]
+pub struct RowBlock {
+    pairs: [u8; CHARACTERS * 64],
+    cells: usize,
+}
+
+impl Model for RowBlock {
+    ghost use Rattle.std.specs.Prelude.{◌*◌, ◌≤◌, ℕ, List, take};
+
+    ghost Value = { List ℕ };
+
+    ghost view = { λ b. take (2 * b.cells) b.pairs };
+
+    ghost invariant = { λ b. b.cells ≤ 64 };
+}
+
+impl RowBlock {
+    pub fn as_bytes(&self) -> &[u8]
+        ensures value { result.now ≡ self.now }
+        ensures short { length result.now ≤ 128 }
+    {
+        &self.pairs[..CHARACTERS * self.cells]
+    }
+}
+
+/// How many blocks the characters of a row of a lattice take.
+pub fn row_blocks<G: Gas>(lattice: &Lattice<G>) -> u32
+    ensures blocks { result ≡ words_in lattice.now.channel.width }
+    ensures all { (y : ℕ) → length (row_cells lattice.now.channel lattice.now.rows y) ≤ 128 * result }
 {
-    cell_pairs(solid.word(j), row.states64(j))
+    lattice.channel().size().width().div_ceil(64)
+}
+
+/// The characters of row `y` of a lattice from `128 * j` on, 128 of them or as many as are left.
+pub fn row_block<G: Gas>(lattice: &Lattice<G>, y: u32, j: u32) -> RowBlock
+    requires row { y < lattice.now.channel.height }
+    requires block { j < words_in lattice.now.channel.width }
+    ensures { result ≡ take 128 (drop (128 * j) (row_cells lattice.now.channel lattice.now.rows y)) }
+{
+    let row = lattice.row(y);
+    let solid = lattice.channel().mask(y);
+    RowBlock {
+        pairs: cell_pairs(solid.word(j), row.states64(j)),
+        cells: (row.width() - 64 * j).min(64) as usize,
+    }
 }

@@ -1,4 +1,5 @@
-//! The printed form of cells: two characters each.
+//! The text of cells, two characters each: writing and reading them.
 #![tactic(auto)]
 
 pub mod cells;
+pub mod reading;

@@ -29,7 +29,8 @@ use Rattle.gas_scene.specs.Checking.{verdict}
 use Rattle.gas_scene.proofs.Answers.{table_answer-accepted}
 use Rattle.gas_scene.proofs.First.{first_below-all}
 use Rattle.gas_scene.proofs.Grids.{rows_of-same}
-use Rattle.gas_scene.proofs.Printed.{cell_data, length-row_cells, cell_at-row_cells}
+use Rattle.gas_cells.proofs.Pairs.{length-row_cells}
+use Rattle.gas_scene.proofs.Printed.{cell_data, cell_at-row_cells}
 use Rattle.gas_scene.proofs.Tables.{texts, IsSceneTable}
 
 -- rows by what stands in them
@@ -70,7 +71,7 @@ module _ (gas : Rules) (l : LatticeModel) (whole : IsLattice gas l.channel l.row
   high-texts = length-map-range_with_len (λ v. row_cells l.channel l.rows v) 0 l.channel.height
 
   wide-texts : (y : ℕ) → y < l.channel.height → length (row_at (texts l) y) ≡ 2 * l.channel.width
-  wide-texts y within = ap length (row-texts y within) ∙ length-row_cells l y
+  wide-texts y within = ap length (row-texts y within) ∙ length-row_cells l.channel l.rows y
 
   width-texts : map_width (texts l) ≡ l.channel.width
   width-texts = omega (arith, wide-texts 0 channel.size.some_rows)

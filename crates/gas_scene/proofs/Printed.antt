@@ -1,15 +1,14 @@
 -- The printed cells of a lattice, read back.
-use Rattle.std.proofs.Common.{◌≡◌, inl, inr, ℕ, zero, suc, ◌+◌, ◌*◌, ◌/◌, ◌%◌, ◌<◌, ◌≤◌, ◌==◌, Bool, true, false, ◌&&◌, List, [], ◌∷◌, ◌++◌, length, get_or, Some, None, codes, nat_eq, nat_lt, ap, ap₂, sym, ◌∙◌, refl, arith, if◌then◌else◌}
+use Rattle.std.proofs.Common.{◌≡◌, ℕ, ◌+◌, ◌*◌, ◌/◌, ◌%◌, ◌<◌, ◌≤◌, ◌==◌, Bool, true, false, ◌&&◌, List, [], ◌∷◌, length, get_or, Some, None, codes, nat_eq, nat_lt, ap, ap₂, sym, ◌∙◌, refl, arith, if◌then◌else◌}
 use Rattle.std.specs.Fmt.{digit_glyph}
 use Rattle.std.specs.Option.{option_eq}
 use Rattle.std.specs.Str.{bytes_eq}
-use Rattle.std.proofs.lemmas.Bool.{agree_below_at, eqb-true, cases_lt, lt-ltb}
+use Rattle.std.proofs.lemmas.Bool.{agree_below_at, eqb-true, lt-ltb}
 use Rattle.std.proofs.lemmas.Bool.Decides.{nat_tests}
-use Rattle.std.proofs.lemmas.List.{get_or_append_left, get_or-append-add}
 use Rattle.gas_geom.specs.Channel.{is_solid}
 use Rattle.gas_geom.specs.Lattice.{LatticeModel, cell}
-use Rattle.gas_cells.specs.Cells.{cell_text, texts_below, row_cells}
-use Rattle.gas_cells.proofs.Pairs.{cell_text-long, pairs-long}
+use Rattle.gas_cells.specs.Cells.{cell_text, row_cells}
+use Rattle.gas_cells.proofs.Pairs.{cell_text-long, texts, character}
 use Rattle.gas_scene.specs.declared.cells.Cell.{Cell}
 use Rattle.gas_scene.specs.declared.cells.Cell.TheVariants.{Solid, State}
 use Rattle.gas_scene.specs.Cells.{digit_of, state_of, cell_of, cell_at}
@@ -70,33 +69,17 @@ cell_of-if states state true empty below few is = solid_read states
 cell_of-if states state false true below few is = empty_read states ∙ ap (λ s. Some (State s)) (sym (eqb-true state 0 is))
 cell_of-if states state false false below few is = digits_read states state below few
 
--- the characters of a cell among those of its row
-character : (f : ℕ → List ℕ) → ((b : ℕ) → length (f b) ≡ 2) → (n x k : ℕ) → x < n → k < 2 → get_or (texts_below f n) (2 * x + k) 0 ≡ get_or (f x) k 0
-character f two zero x k within few = absurd (omega (arith, within))
-character f two (suc n) x k within few =
-    elim (cases_lt x n) [
-      | inl lt ↦ get_or_append_left (texts_below f n) (f n) 0 (2 * x + k) (omega (arith, lt, few, pairs-long f two n)) ∙ character f two n x k lt few
-      | inr ge ↦ let same : x ≡ n = omega (arith, ge, within) in
-          let place : 2 * x + k ≡ length (texts_below f n) + k = omega (arith, same, pairs-long f two n) in
-          ap (λ i. get_or (texts_below f n ++ f n) i 0) place ∙ get_or-append-add (texts_below f n) (f n) k 0
-          ∙ ap (λ u. get_or (f u) k 0) (sym same)
-    ]
-
 abbrev text_at : LatticeModel → ℕ → ℕ → List ℕ
 text_at l y x = cell_text (is_solid l.channel x y) (cell l.rows x y)
 
 two : (l : LatticeModel) (y x : ℕ) → length (text_at l y x) ≡ 2
 two l y x = cell_text-long (is_solid l.channel x y) (cell l.rows x y)
 
-pub length-row_cells : (l : LatticeModel) (y : ℕ) → length (row_cells l.channel l.rows y) ≡ 2 * l.channel.width
-unfolding row_cells
-length-row_cells l y = pairs-long (text_at l y) (two l y) l.channel.width
-
 pub cell_at-row_cells : (l : LatticeModel) (states x y : ℕ) → x < l.channel.width → cell l.rows x y < states → states ≤ 256
     → cell_at states (row_cells l.channel l.rows y) x ≡ Some (cell_data (is_solid l.channel x y) (cell l.rows x y))
 unfolding row_cells
 cell_at-row_cells l states x y within below few =
     let first : 2 * x ≡ 2 * x + 0 = omega arith in
-    let row : List ℕ = texts_below (text_at l y) l.channel.width in
+    let row : List ℕ = texts (text_at l y) 0 l.channel.width in
     ap₂ (cell_of states) (ap (λ i. get_or row i 0) first ∙ character (text_at l y) (two l y) l.channel.width x 0 within (omega arith)) (character (text_at l y) (two l y) l.channel.width x 1 within (omega arith))
     ∙ cell_of-if states (cell l.rows x y) (is_solid l.channel x y) (cell l.rows x y == 0) below few refl

@@ -16,7 +16,7 @@ ghost use Rattle.gas_scene.specs.Printing.{insert_member, insert_seed, inserted}
 use crate::any_lattice::AnyLattice;
 use crate::error::SceneError;
 use crate::ranges::LAST_GENERATION;
-use gas_cells::cells::row_pairs;
+use gas_cells::cells::{CHARACTERS, row_block, row_blocks};
 use gas_geom::gas::Gas;
 use gas_rows::chirality::Chirality;
 use gas_rows::lattice::Lattice;
@@ -29,14 +29,10 @@ fn row_bytes<G: Gas>(alloc: Global, lattice: &Lattice<G>, y: u32) -> Result<Vec<
     ensures row { IfOk result (λ text. text.items ≡ row_cells lattice.now.channel lattice.now.rows y) }
     ensures lattice { IsLattice G.rules lattice.now.channel lattice.now.rows }
 {
-    let row = lattice.row(y);
-    let solid = lattice.channel().mask(y);
-    let width = row.width();
-    let mut text = Vec::with_capacity(alloc, 2 * width as usize)?;
-    for j in 0..width.div_ceil(64) {
-        let pairs = row_pairs(row, solid, j);
-        let cells = (width - 64 * j).min(64) as usize;
-        text.extend_from_slice(&pairs[..2 * cells])?;
+    let width = lattice.channel().size().width() as usize;
+    let mut text = Vec::with_capacity(alloc, CHARACTERS * width)?;
+    for j in 0..row_blocks(lattice) {
+        text.extend_from_slice(row_block(lattice, y, j).as_bytes())?;
     }
     Ok(text)
 }

@@ -1,5 +1,5 @@
 -- Lemmas on what a sink carries.
-use Rattle.std.proofs.Common.{◌≡◌, ℕ, ◌+◌, ◌-◌, ◌≤◌, List, [], ◌++◌, length, take, drop, Option, Some, None, true, false, subst, sym, ap, ◌∙◌, arith, append-nil, append_assoc, length-append, length-drop, refl, add-one}
+use Rattle.std.proofs.Common.{◌≡◌, ℕ, ◌+◌, ◌-◌, ◌≤◌, List, [], ◌++◌, length, take, drop, Option, Some, None, true, false, subst, sym, ap, ◌∙◌, arith, append-nil, append_assoc, length-append, length-drop}
 use Rattle.std.proofs.lemmas.List.{take_all, drop_all, take-append-le}
 use Rattle.std.proofs.lemmas.Bool.{ltb-false}
 use Rattle.std.specs.Prelude.{nat_lt}
@@ -11,7 +11,7 @@ use Rattle.std.specs.Fmt.{WritesText}
 use Rattle.arrayvec.specs.ArrayString.{ArrayString}
 use Rattle.std.specs.Prelude.{IfSome}
 use Rattle.gas_tool_io.specs.Sink.{SinkModel, HasSent, Adds}
-use Rattle.gas_cells.specs.Cells.{texts_below}
+use Rattle.gas_cells.proofs.Pairs.{texts, texts-next}
 
 -- the next part of a text went out
 pub Appends-part : (a b c : Option (List ℕ)) (n k : ℕ) (xs : List ℕ) → Appends a b (take n xs) → Appends b c (take k (take (length xs - n) (drop n xs))) → Appends a c (take (n + k) xs)
@@ -72,14 +72,13 @@ pub Adds-nil : (a : Option (List ℕ)) (p : SinkModel) → Adds a a p p []
 Adds-nil a p = record { adds = λ start text carried. HasSent-same start a p text carried }
 
 -- one more of the texts below a number
-pub Adds-next : (a b c : Option (List ℕ)) (p q r : SinkModel) (f : ℕ → List ℕ) (n : ℕ) → Adds a b p q (texts_below f n) → Adds b c q r (f n) → Adds a c p r (texts_below f (n + 1))
+pub Adds-next : (a b c : Option (List ℕ)) (p q r : SinkModel) (f : ℕ → List ℕ) (n : ℕ) → Adds a b p q (texts f 0 n) → Adds b c q r (f n) → Adds a c p r (texts f 0 (n + 1))
 Adds-next a b c p q r f n h k =
-    let more : texts_below f (n + 1) ≡ texts_below f n ++ f n = rw add-one refl in
-    subst (Adds a c p r) (sym more) (Adds-then a b c p q r _ _ h k)
+    subst (Adds a c p r) (sym (texts-next f n)) (Adds-then a b c p q r _ _ h k)
 
 -- the texts below an equal number
-pub Adds-below : (a b : Option (List ℕ)) (p q : SinkModel) (f : ℕ → List ℕ) (n m : ℕ) → n ≡ m → Adds a b p q (texts_below f n) → Adds a b p q (texts_below f m)
-Adds-below a b p q f n m e h = subst (λ (k : ℕ). Adds a b p q (texts_below f k)) e h
+pub Adds-below : (a b : Option (List ℕ)) (p q : SinkModel) (f : ℕ → List ℕ) (n m : ℕ) → n ≡ m → Adds a b p q (texts f 0 n) → Adds a b p q (texts f 0 m)
+Adds-below a b p q f n m e h = subst (λ (k : ℕ). Adds a b p q (texts f 0 k)) e h
 
 -- the same text
 pub Adds-same : (a b : Option (List ℕ)) (p q : SinkModel) (text whole : List ℕ) → text ≡ whole → Adds a b p q text → Adds a b p q whole

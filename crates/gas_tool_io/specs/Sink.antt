@@ -1,3 +1,4 @@
+-- Inner words: what functions of this crate promise one another. No public contract cites them.
 -- What a sink does to the writer.
 use Rattle.std.specs.Prelude.{◌≡◌, ◌≤◌, ℕ, List, ◌++◌, length, take, drop, Bool, false, Option}
 use Rattle.std.specs.Io.KnownBytes.{Appends}

@@ -2,15 +2,15 @@
 
 ghost use Rattle.std.specs.Prelude.{◌≡◌, ◌≤◌, ◌<◌, IfOk, IfSome, length, vec_len, IsErrOf};
 ghost use Rattle.std.specs.Io.KnownBytes.{IsAtEnd};
-ghost use Rattle.gas_tool_io.specs.Input.{longest_input};
+ghost use Rattle.gas_tool_io.specs.declared.input.TheConstants.{LONGEST_INPUT};
 ghost use Rattle.gas_tool_io.specs.declared.faults.InputFault.TheVariants as fault;
 
 use crate::faults::InputFault;
 use std::alloc::Global;
 use std::io::Read;
 
-/// The most bytes that an input may have.
-const LONGEST_INPUT: usize = 67_108_864;
+/// The most bytes that an input may have: 64 MiB.
+pub const LONGEST_INPUT: usize = 67_108_864;
 
 const BLOCK: usize = 16_384;
 
@@ -20,9 +20,9 @@ const BLOCK: usize = 16_384;
 pub fn slurp<R: Read>(alloc: Global, reader: &mut R) -> Result<Vec<u8>, InputFault>
     ensures bytes { IfOk result (λ text. IfSome (R.remaining reader.old) (λ xs. text.items ≡ xs)) }
     ensures at_end { IfOk result (λ _. IsAtEnd (R.remaining reader.new)) }
-    ensures short { IfOk result (λ text. vec_len text ≤ longest_input) }
+    ensures short { IfOk result (λ text. vec_len text ≤ LONGEST_INPUT) }
     ensures too_long { IsErrOf result fault.TooLong →
-        IfSome (R.remaining reader.old) (λ xs. longest_input < length xs) }
+        IfSome (R.remaining reader.old) (λ xs. LONGEST_INPUT < length xs) }
 {
     let mut text = Vec::new(alloc);
     let mut block = [0u8; BLOCK];

@@ -3,6 +3,7 @@
 
 pub mod faults;
 pub mod input;
-pub mod output;
+mod output;
+pub mod replay;
 pub mod table;
 pub mod text;

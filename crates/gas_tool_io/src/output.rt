@@ -12,16 +12,16 @@ use std::fmt::{Display, Write as _};
 use std::io::Write;
 use std::marker::Model;
 
-/// The most bytes that a sink gathers before it hands them to its writer.
-pub const BLOCK: usize = 8192;
+// The most bytes that a sink gathers before it hands them to its writer.
+const BLOCK: usize = 8192;
 
-/// The most bytes of a line that `put_line` prints.
+// The most bytes of a line that `put_line` prints.
 const LINE: usize = 128;
 
 /// Gathers a text in blocks, hands each full block to a writer, and counts the bytes that went out.
 /// After a failure nothing more goes out. It takes no memory.
 #[derive(Drop)]
-pub struct Sink {
+pub(crate) struct Sink {
     block: ArrayVec<u8, BLOCK>,
     written: u64,
     failed: bool,
@@ -40,7 +40,7 @@ impl Model for Sink {
 }
 
 impl Sink {
-    pub fn new() -> Sink
+    pub(crate) fn new() -> Sink
         ensures empty { (start : Option (List ℕ)) → HasSent start start result [] }
         ensures fresh { result.failed ≡ false }
     {
@@ -53,7 +53,7 @@ impl Sink {
 
     /// Adds bytes to the text, at most 8192 of them, a block.
     #[inline]
-    pub fn push<W: Write>(&mut self, out: &mut W, bytes: &[u8])
+    pub(crate) fn push<W: Write>(&mut self, out: &mut W, bytes: &[u8])
         requires short { length bytes.now ≤ 8192 }
         ensures { Adds (W.contents out.old) (W.contents out.new) self.old self.new bytes.now }
     {
@@ -80,7 +80,7 @@ impl Sink {
     }
 
     /// Counts the text from here on as failed.
-    pub fn fail(&mut self)
+    pub(crate) fn fail(&mut self)
         ensures { (now : Option (List ℕ)) (bytes : List ℕ) → Adds now now self.old self.new bytes }
     {
         self.failed = true;
@@ -88,7 +88,7 @@ impl Sink {
 
     /// Hands over what is left and flushes the writer once. A flush that fails is a fault after the
     /// whole text.
-    pub fn finish<W: Write>(mut self, out: &mut W) -> Result<(), WriteFault>
+    pub(crate) fn finish<W: Write>(mut self, out: &mut W) -> Result<(), WriteFault>
         ensures { (start : Option (List ℕ)) (text : List ℕ) →
             HasSent start (W.contents out.old) self text →
             Writes start (W.contents out.new) text result }
@@ -119,7 +119,7 @@ fn send<W: Write>(out: &mut W, bytes: &[u8]) -> usize
 }
 
 /// Adds a line. One that is longer than `LINE`, which no line of ours is, counts as failed.
-pub fn put_line<W: Write, D: Display + Drop>(sink: &mut Sink, out: &mut W, line: D)
+pub(crate) fn put_line<W: Write, D: Display + Drop>(sink: &mut Sink, out: &mut W, line: D)
     ensures { IfSome (with_newline (D.output line))
         (Adds (W.contents out.old) (W.contents out.new) sink.old sink.new) }
 {

@@ -1,22 +1,24 @@
 //! The printed texts.
 
-ghost use Rattle.std.specs.Prelude.{◌<◌};
-ghost use Rattle.gas_geom.specs.Lattice.{count};
+ghost use Rattle.std.specs.Prelude.{◌<◌, ◌++◌, codes};
+ghost use Rattle.std.specs.Fmt.{decimal};
+ghost use Rattle.std.specs.List.{flat_map, range_with_len};
+ghost use Rattle.gas_cells.specs.Cells.{row_cells};
 ghost use Rattle.gas_tool_io.specs.Output.{Writes};
 ghost use Rattle.gas_tool_io.specs.Sink.{Adds};
-ghost use Rattle.gas_tool_io.specs.Text.{cells_text, check_line, check_text, header_text, row_text, rows_text};
+ghost use Rattle.gas_tool_io.specs.Text.{cells_text, check_text, line_feed};
 
 use crate::faults::WriteFault;
 use crate::output::{Sink, put_line};
-use gas_cells::cells::row_pairs;
+use gas_cells::cells::{row_block, row_blocks};
 use gas_geom::gas::Gas;
 use gas_rows::lattice::Lattice;
 use std::io::Write;
 
-/// Adds the line above the cells of a lattice.
-pub(crate) fn put_header<W: Write>(sink: &mut Sink, out: &mut W, generation: u64, particles: u64)
+// Adds the line above the cells of a lattice.
+fn put_header<W: Write>(sink: &mut Sink, out: &mut W, generation: u64, particles: u64)
     ensures { Adds (W.contents out.old) (W.contents out.new) sink.old sink.new
-        (header_text generation particles) }
+        (codes "generation " ++ decimal generation ++ codes " particles " ++ decimal particles ++ line_feed) }
 {
     put_line(
         sink,
@@ -29,15 +31,10 @@ pub(crate) fn put_header<W: Write>(sink: &mut Sink, out: &mut W, generation: u64
 fn put_row<G: Gas, W: Write>(sink: &mut Sink, out: &mut W, lattice: &Lattice<G>, y: u32)
     requires { y < lattice.now.channel.height }
     ensures { Adds (W.contents out.old) (W.contents out.new) sink.old sink.new
-        (row_text lattice.now.channel lattice.now.rows y) }
+        (row_cells lattice.now.channel lattice.now.rows y ++ line_feed) }
 {
-    let row = lattice.row(y);
-    let solid = lattice.channel().mask(y);
-    let width = row.width();
-    for j in 0..width.div_ceil(64) {
-        let pairs = row_pairs(row, solid, j);
-        let cells = (width - 64 * j).min(64) as usize;
-        sink.push(out, &pairs[..2 * cells]);
+    for j in 0..row_blocks(lattice) {
+        sink.push(out, row_block(lattice, y, j).as_bytes());
     }
     sink.push(out, b"\n");
 }
@@ -45,23 +42,24 @@ fn put_row<G: Gas, W: Write>(sink: &mut Sink, out: &mut W, lattice: &Lattice<G>,
 // Adds the lines of the rows, from the top.
 fn put_rows<G: Gas, W: Write>(sink: &mut Sink, out: &mut W, lattice: &Lattice<G>)
     ensures { Adds (W.contents out.old) (W.contents out.new) sink.old sink.new
-        (rows_text lattice.now.channel lattice.now.rows) }
+        (flat_map (λ y. row_cells lattice.now.channel lattice.now.rows y ++ line_feed)
+        (range_with_len 0 lattice.now.channel.height)) }
 {
     for y in 0..lattice.channel().size().height() {
         put_row(sink, out, lattice, y);
     }
 }
 
-/// Adds the cells of a lattice: the line of its generation and its particles, then its rows from the
-/// top.
-pub fn put_cells<G: Gas, W: Write>(
+// Adds the cells of a lattice: the line of its generation and its particles, then its rows from the
+// top.
+pub(crate) fn put_cells<G: Gas, W: Write>(
     sink: &mut Sink,
     out: &mut W,
     lattice: &Lattice<G>,
     generation: u64,
 )
     ensures { Adds (W.contents out.old) (W.contents out.new) sink.old sink.new
-        (cells_text lattice.now.channel lattice.now.rows generation (count G.rules lattice.now.rows)) }
+        (cells_text G.rules lattice.now generation) }
 {
     put_header(sink, out, generation, lattice.count());
     put_rows(sink, out, lattice);
@@ -75,8 +73,7 @@ pub fn write_cells<G: Gas, W: Write>(
     generation: u64,
     out: &mut W,
 ) -> Result<(), WriteFault>
-    ensures { Writes (W.contents out.old) (W.contents out.new)
-        (cells_text lattice.now.channel lattice.now.rows generation (count G.rules lattice.now.rows)) result }
+    ensures { Writes (W.contents out.old) (W.contents out.new) (cells_text G.rules lattice.now generation) result }
 {
     let mut sink = Sink::new();
     put_cells(&mut sink, out, lattice, generation);
@@ -93,7 +90,8 @@ fn put_check<W: Write>(
     particles: u64,
 )
     ensures { Adds (W.contents out.old) (W.contents out.new) sink.old sink.new
-        (check_line gas.now size.0 size.1 solid particles) }
+        (codes "gas " ++ gas.now ++ codes " width " ++ decimal size.0 ++ codes " height " ++ decimal size.1
+        ++ codes " solid " ++ decimal solid ++ codes " particles " ++ decimal particles ++ line_feed) }
 {
     let (width, height) = size;
     put_line(
@@ -104,9 +102,9 @@ fn put_check<W: Write>(
 }
 
 // Adds the line of the scene of a lattice.
+#[tactic(auto, unfolding(crate::specs::Text::check_text))]
 fn put_scene<G: Gas, W: Write>(sink: &mut Sink, out: &mut W, lattice: &Lattice<G>)
-    ensures { Adds (W.contents out.old) (W.contents out.new) sink.old sink.new
-        (check_text G.rules.name lattice.now.channel (count G.rules lattice.now.rows)) }
+    ensures { Adds (W.contents out.old) (W.contents out.new) sink.old sink.new (check_text G.rules lattice.now) }
 {
     let channel = lattice.channel();
     let size = channel.size();
@@ -124,8 +122,7 @@ fn put_scene<G: Gas, W: Write>(sink: &mut Sink, out: &mut W, lattice: &Lattice<G
 /// cells and particles it has. Then the writer is flushed once, with the faults of `write_cells`. It
 /// takes no memory.
 pub fn write_check<G: Gas, W: Write>(lattice: &Lattice<G>, out: &mut W) -> Result<(), WriteFault>
-    ensures { Writes (W.contents out.old) (W.contents out.new)
-        (check_text G.rules.name lattice.now.channel (count G.rules lattice.now.rows)) result }
+    ensures { Writes (W.contents out.old) (W.contents out.new) (check_text G.rules lattice.now) result }
 {
     let mut sink = Sink::new();
     put_scene(&mut sink, out, lattice);

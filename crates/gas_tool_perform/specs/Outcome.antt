@@ -5,7 +5,7 @@ use Rattle.std.specs.Io.KnownBytes.{Appends}
 use Rattle.std.specs.Option.{option_map_or}
 use Rattle.std.specs.Result.{result_flatten, result_map_both}
 use Rattle.gas_geom.specs.Gas.{Rules}
-use Rattle.gas_geom.specs.Lattice.{LatticeModel, count}
+use Rattle.gas_geom.specs.Lattice.{LatticeModel}
 use Rattle.gas_rows.specs.declared.chirality.Chirality.{Chirality}
 use Rattle.gas_stage.specs.Evolution.{lattice_after}
 use Rattle.gas_scene.specs.Gases.{rules_named}
@@ -17,24 +17,19 @@ use Rattle.gas_pipe_members.specs.declared.plan.PlanError.{PlanError}
 use Rattle.gas_tool_io.specs.Text.{cells_text, check_text}
 use Rattle.gas_tool_coarse.specs.Blocks.{blocks_of}
 use Rattle.gas_tool_io.specs.Table.{table_text}
-use Rattle.gas_tool_replay.specs.Text.{replay_text}
+use Rattle.gas_tool_io.specs.Replay.{replay_text}
 use Rattle.gas_tool_perform.specs.declared.faults.ToolError.{ToolError}
 use Rattle.gas_tool_perform.specs.declared.faults.ToolError.TheVariants.{Memory, Scene, Plan, Write, MorePasses}
 use Rattle.gas_tool_cli.specs.Plan.{plan_numbers}
 use Rattle.gas_tool_cli.specs.declared.request.Request.{Request}
 use Rattle.gas_tool_cli.specs.declared.request.Request.TheVariants.{Check, Run, Coarse, Replay}
 
--- the text of a lattice's cells at a generation
-abbrev pub lattice_text : Rules → LatticeModel → ℕ → List ℕ
-lattice_text gas lattice generation =
-    cells_text lattice.channel lattice.rows generation (count gas lattice.rows)
-
 -- what a request on a lattice of a gas, of generation `first`, leads to where its plan is accepted: the text of its answer; but
 -- a replay whose plan needs more than one pass is a fault
 abbrev pub accepted_outcome : Rules → LatticeModel → Chirality → ℕ → Request → Result (List ℕ) ToolError
-accepted_outcome gas lattice chirality first Check = Ok (check_text gas.name lattice.channel (count gas lattice.rows))
+accepted_outcome gas lattice chirality first Check = Ok (check_text gas lattice)
 accepted_outcome gas lattice chirality first (Run stages capacity generations) =
-    Ok (lattice_text gas (lattice_after gas chirality first lattice generations) (first + generations))
+    Ok (cells_text gas (lattice_after gas chirality first lattice generations) (first + generations))
 accepted_outcome gas lattice chirality first (Coarse stages capacity generations width height) =
     Ok (table_text (blocks_of gas (lattice_after gas chirality first lattice generations) width height))
 accepted_outcome gas lattice chirality first (Replay stages capacity generations turns) =

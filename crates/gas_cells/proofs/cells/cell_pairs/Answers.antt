@@ -1,9 +1,9 @@
-use Rattle.std.proofs.Common.{◌≡◌, ◌∙◌, ap, ap₂, refl, ℕ, ◌+◌, ◌*◌, ◌<◌, Bool, List, ◌++◌, length, get_or, set, length-set, add-one, arith}
+use Rattle.std.proofs.Common.{◌≡◌, ◌∙◌, sym, ap, ap₂, refl, ℕ, ◌+◌, ◌*◌, ◌<◌, Bool, List, ◌++◌, length, get_or, set, length-set, arith}
 use Rattle.std.specs.List.{slice_index}
 use Rattle.gas_geom.specs.Gas.{holds}
 use Rattle.gas_rows.proofs.Bits.{holds-shr_and}
-use Rattle.gas_cells.specs.Cells.{cell_text, texts_below}
-use Rattle.gas_cells.proofs.Pairs.{cell_text-long, pair_written, pairs-cut}
+use Rattle.gas_cells.specs.Cells.{cell_text}
+use Rattle.gas_cells.proofs.Pairs.{cell_text-long, texts, texts-next, pair_written, pairs-cut}
 use Rattle.gas_cells.proofs.cells.cell_pairs.Goals as goal
 
 pub loop-b-preserved : goal.loop-b-preserved
@@ -12,7 +12,7 @@ loop-b-preserved c =
     let b : ℕ = c.loop-b.b in
     let pair : c.cell_pair-pair.result ≡ f b = c.cell_pair-pair.ensures ∙ ap (λ (s : Bool). cell_text s (slice_index c.args.states b)) (holds-shr_and c.args.solid b) in
     let long : length c.cell_pair-pair.result ≡ 2 = ap length pair ∙ cell_text-long (holds c.args.solid b) (slice_index c.args.states b) in
-    let more : texts_below f b ++ f b ≡ texts_below f (b + 1) = rw add-one refl in
+    let more : texts f 0 b ++ f b ≡ texts f 0 (b + 1) = sym (texts-next f b) in
     let next : ℕ = 2 * b + 1 in
     let within : next < length c.loop-b.pairs = omega (arith, c.loop-b.invariant.long, c.loop-b-test.true) in
     let pairs : List ℕ = set c.loop-b.pairs (2 * b) (get_or c.cell_pair-pair.result 0 0) in

@@ -1,14 +1,17 @@
-use Rattle.std.proofs.Common.{◌≡◌, ap, arith}
+use Rattle.std.proofs.Common.{◌≡◌, ap, arith, ◌++◌}
 use Rattle.gas_geom.specs.Channel.{ChannelModel}
-use Rattle.gas_tool_io.specs.Text.{row_text}
+use Rattle.gas_cells.specs.Cells.{row_cells}
+use Rattle.gas_tool_io.specs.Text.{line_feed}
 use Rattle.gas_tool_io.proofs.Sinks.{Adds-next, Adds-below}
 use Rattle.gas_tool_io.proofs.text.put_rows.Goals as goal
 
 pub loop-y-preserved : goal.loop-y-preserved
 loop-y-preserved g c =
-    Adds-next _ _ _ _ _ _ (row_text c.args.lattice.now.channel c.args.lattice.now.rows) c.loop-y.y c.loop-y.invariant c.put_row.ensures
+    let l = c.args.lattice.now in
+    Adds-next _ _ _ _ _ _ (λ y. row_cells l.channel l.rows y ++ line_feed) c.loop-y.y c.loop-y.invariant c.put_row.ensures
 
 pub returns : goal.returns
 returns g c =
-    let whole : c.loop-y.y ≡ c.args.lattice.now.channel.height = omega (arith, c.loop-y-test.false, c.loop-y.auto.y-end, c.height-y-end.ensures.value, ap (λ (a : ChannelModel). a.height) c.channel.ensures.channel) in
-    Adds-below _ _ _ _ (row_text c.args.lattice.now.channel c.args.lattice.now.rows) _ _ whole c.loop-y.invariant
+    let l = c.args.lattice.now in
+    let whole : c.loop-y.y ≡ l.channel.height = omega (arith, c.loop-y-test.false, c.loop-y.auto.y-end, c.height-y-end.ensures.value, ap (λ (a : ChannelModel). a.height) c.channel.ensures.channel) in
+    Adds-below _ _ _ _ (λ y. row_cells l.channel l.rows y ++ line_feed) _ _ whole c.loop-y.invariant

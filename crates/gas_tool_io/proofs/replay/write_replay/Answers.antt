@@ -1,5 +1,5 @@
 use Rattle.gas_tool_io.proofs.Sinks.{Adds-then}
-use Rattle.gas_tool_replay.proofs.write_replay.Goals as goal
+use Rattle.gas_tool_io.proofs.replay.write_replay.Goals as goal
 
 pub returns : goal.returns
 returns g c =

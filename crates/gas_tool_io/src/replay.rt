@@ -1,24 +1,27 @@
 //! The printed text of a replay.
-#![tactic(auto)]
 
-ghost use Rattle.std.specs.Prelude.{◌≡◌, ◌<◌, length, IsTrue, ◌↔◌, IsSome, Option};
+ghost use Rattle.std.specs.Prelude.{◌<◌, ◌++◌, ◌↔◌, [], codes, length, is_some, if◌then◌else◌, IsTrue, IsSome, Option};
 ghost use Rattle.gas_geom.specs.Lattice.{LatticeModel};
+ghost use Rattle.std.specs.Fmt.{decimal};
+ghost use Rattle.std.specs.List.{flat_map, range_with_len};
+ghost use Rattle.std.specs.Option.{option_map_or};
 ghost use Rattle.gas_tool_io.specs.Output.{Writes};
 ghost use Rattle.gas_tool_io.specs.Sink.{Adds};
-ghost use Rattle.gas_cells.specs.Cells.{texts_below};
-ghost use Rattle.gas_tool_replay.specs.Text.{belt_line, done_line, end_text, line_of_belt, replay_text};
+ghost use Rattle.gas_tool_io.specs.Text.{cells_text, line_feed};
+ghost use Rattle.gas_tool_io.specs.Replay.{belt_line, replay_text};
 
+use crate::faults::WriteFault;
+use crate::output::{Sink, put_line};
+use crate::text::put_cells;
 use gas_geom::gas::Gas;
 use gas_pipe_replay::answer::Replay;
-use gas_tool_io::faults::WriteFault;
-use gas_tool_io::output::{Sink, put_line};
-use gas_tool_io::text::put_cells;
 use std::io::Write;
 
 // Adds the line that says whether the pass is done.
 fn put_done<W: Write>(sink: &mut Sink, out: &mut W, done: bool)
     ensures { (lattice : Option LatticeModel) → (IsTrue done ↔ IsSome lattice) →
-        Adds (W.contents out.old) (W.contents out.new) sink.old sink.new (done_line lattice) }
+        Adds (W.contents out.old) (W.contents out.new) sink.old sink.new
+        ((if is_some lattice then codes "done" else codes "not done") ++ line_feed) }
 {
     if done {
         sink.push(out, b"done\n");
@@ -29,7 +32,8 @@ fn put_done<W: Write>(sink: &mut Sink, out: &mut W, done: bool)
 
 // Adds the line of a belt.
 fn put_belt<W: Write>(sink: &mut Sink, out: &mut W, belt: u32, put: u32, taken: u32)
-    ensures { Adds (W.contents out.old) (W.contents out.new) sink.old sink.new (belt_line belt put taken) }
+    ensures { Adds (W.contents out.old) (W.contents out.new) sink.old sink.new
+        (codes "belt " ++ decimal belt ++ codes " put " ++ decimal put ++ codes " taken " ++ decimal taken ++ line_feed) }
 {
     put_line(
         sink,
@@ -39,10 +43,11 @@ fn put_belt<W: Write>(sink: &mut Sink, out: &mut W, belt: u32, put: u32, taken: 
 }
 
 // Adds the line of one of the belts.
+#[tactic(auto, unfolding(crate::specs::Replay::belt_line))]
 fn put_belt_of<G: Gas, W: Write>(sink: &mut Sink, out: &mut W, replay: &Replay<G>, belt: u32)
     requires { belt < length replay.now.belts }
     ensures { Adds (W.contents out.old) (W.contents out.new) sink.old sink.new
-        (line_of_belt replay.now.belts belt) }
+        (belt_line replay.now.belts belt) }
 {
     let (Some(put), Some(taken)) = (replay.put(belt), replay.taken(belt)) else {
         unreachable!()
@@ -53,7 +58,7 @@ fn put_belt_of<G: Gas, W: Write>(sink: &mut Sink, out: &mut W, replay: &Replay<G
 // Adds the lines of the belts.
 fn put_belts<G: Gas, W: Write>(sink: &mut Sink, out: &mut W, replay: &Replay<G>)
     ensures { Adds (W.contents out.old) (W.contents out.new) sink.old sink.new
-        (texts_below (line_of_belt replay.now.belts) (length replay.now.belts)) }
+        (flat_map (belt_line replay.now.belts) (range_with_len 0 (length replay.now.belts))) }
 {
     for belt in 0..replay.belts() {
         put_belt_of(sink, out, replay, belt);
@@ -63,7 +68,7 @@ fn put_belts<G: Gas, W: Write>(sink: &mut Sink, out: &mut W, replay: &Replay<G>)
 // Adds the cells of the lattice that the pass led to, where it is done.
 fn put_end<G: Gas, W: Write>(sink: &mut Sink, out: &mut W, replay: &Replay<G>, generation: u64)
     ensures { Adds (W.contents out.old) (W.contents out.new) sink.old sink.new
-        (end_text G.rules replay.now.lattice generation) }
+        (option_map_or (λ l. cells_text G.rules l generation) replay.now.lattice []) }
 {
     if let Some(lattice) = replay.lattice() {
         put_cells(sink, out, lattice, generation);

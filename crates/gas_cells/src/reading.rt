@@ -1,0 +1,129 @@
+//! Reading cells: what their two characters stand for.
+
+ghost use Rattle.std.specs.Prelude.{◌≡◌, ℕ, ◌+◌, ◌*◌, ◌<◌, ◌/◌, [], ◌∷◌, false, length, slice_index, slice_index_or, is_some, IfSome};
+ghost use Rattle.std.specs.Option.{unwrap_or, is_none};
+ghost use Rattle.std.specs.Str.{bytes_eq};
+ghost use Rattle.gas_cells.specs.Reading.{digit_of, state_of, cell_of, cell_at, bad_column};
+
+use crate::cells::CHARACTERS;
+
+// What stands twice for a solid cell.
+const SOLID_MARK: u8 = b'#';
+
+// What stands twice for an empty cell.
+const EMPTY_MARK: u8 = b'.';
+
+/// A cell: whether it is solid, and its state, which is 0 of a solid cell.
+#[derive(Clone, Copy, Debug, PartialEq, Eq)]
+pub struct Cell {
+    pub solid: bool,
+    pub state: u8,
+}
+
+// The value of a lower-case hexadecimal digit, or 16.
+fn digit(byte: u8) -> u8
+    ensures { result ≡ unwrap_or (digit_of byte) 16 }
+{
+    match byte {
+        b'0'..=b'9' => byte - b'0',
+        b'a'..=b'f' => byte - b'a' + 10,
+        _ => 16,
+    }
+}
+
+// Whether both characters are the mark.
+fn is_marked(mark: u8, first: u8, second: u8) -> bool
+    ensures { result ≡ bytes_eq (first ∷ second ∷ []) (mark ∷ mark ∷ []) }
+{
+    (first == mark) & (second == mark)
+}
+
+// Whether two characters are digits of a state below `states`.
+fn is_state(first: u8, second: u8, states: u16) -> bool
+    ensures { result ≡ is_some (state_of states (digit_of first) (digit_of second)) }
+{
+    let high = digit(first);
+    let low = digit(second);
+    (high < 16) & (low < 16) & (u16::from(high) * 16 + u16::from(low) < states)
+}
+
+// Whether two characters stand for a cell. Each test is made, with `&` and `|`, so that the
+// compiler can take many cells at a time: of random cells a processor guesses branches wrong.
+fn is_cell(first: u8, second: u8, states: u16) -> bool
+    ensures { result ≡ is_some (cell_of states first second) }
+{
+    is_marked(SOLID_MARK, first, second)
+        | is_marked(EMPTY_MARK, first, second)
+        | is_state(first, second, states)
+}
+
+// The number of two digits, where what is no digit counts as 0.
+fn two_digits(first: u8, second: u8) -> u8
+    ensures { result ≡ unwrap_or (digit_of first) 0 * 16 + unwrap_or (digit_of second) 0 }
+{
+    digit(first) % 16 * 16 + digit(second) % 16
+}
+
+// The cell that two characters stand for, where they do.
+fn read(first: u8, second: u8) -> Cell
+    ensures { (states : ℕ) → IfSome (cell_of states first second) (λ cell. result ≡ cell) }
+{
+    if first == SOLID_MARK {
+        Cell {
+            solid: true,
+            state: 0,
+        }
+    } else {
+        Cell {
+            solid: false,
+            state: two_digits(first, second),
+        }
+    }
+}
+
+// Whether a cell stands in each column of a row.
+fn are_cells(row: &[u8], states: u16) -> bool
+    ensures { result ≡ is_none (bad_column states row.now) }
+{
+    let mut all = true;
+    for c in 0..row.len() / CHARACTERS {
+        all &= is_cell(row[CHARACTERS * c], row[CHARACTERS * c + 1], states);
+    }
+    all
+}
+
+/// The first column of a row in which no cell stands, where states are below `states`.
+pub fn bad_column(row: &[u8], states: u16) -> Option<usize>
+    ensures value { result ≡ bad_column states row.now }
+    ensures within { IfSome result (λ c. c < length row.now / 2) }
+{
+    // Only a row that has one is gone through cell by cell.
+    if are_cells(row, states) {
+        return None;
+    }
+    for c in 0..row.len() / CHARACTERS {
+        if !is_cell(row[CHARACTERS * c], row[CHARACTERS * c + 1], states) {
+            return Some(c);
+        }
+    }
+    None
+}
+
+/// Reads which cells of a row are solid, and the states of all of them, in each column in which a
+/// cell stands.
+pub fn read_row(row: &[u8], solid: &mut [bool], state_of: &mut [u8])
+    requires wide { length solid.old ≡ length row.now / 2 }
+    requires as_wide { length state_of.old ≡ length row.now / 2 }
+    ensures wide { length solid.new ≡ length row.now / 2 }
+    ensures as_wide { length state_of.new ≡ length row.now / 2 }
+    ensures solid { (states x : ℕ) → x < length row.now / 2
+        → IfSome (cell_at states row.now x) (λ cell. slice_index_or solid.new x false ≡ cell.solid) }
+    ensures states { (states x : ℕ) → x < length row.now / 2
+        → IfSome (cell_at states row.now x) (λ cell. slice_index state_of.new x ≡ cell.state) }
+{
+    for x in 0..solid.len() {
+        let cell = read(row[CHARACTERS * x], row[CHARACTERS * x + 1]);
+        solid[x] = cell.solid;
+        state_of[x] = cell.state;
+    }
+}

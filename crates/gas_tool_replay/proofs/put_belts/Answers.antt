@@ -1,7 +1,0 @@
-use Rattle.gas_tool_replay.specs.Text.{line_of_belt}
-use Rattle.gas_tool_io.proofs.Sinks.{Adds-next}
-use Rattle.gas_tool_replay.proofs.put_belts.Goals as goal
-
-pub loop-belt-preserved : goal.loop-belt-preserved
-loop-belt-preserved g c =
-    Adds-next _ _ _ _ _ _ (line_of_belt c.args.replay.now.belts) c.loop-belt.belt c.loop-belt.invariant c.put_belt_of.ensures
