@@ -8,7 +8,7 @@ use Rattle.std.proofs.lemmas.Bool.{cases_lt, agree_below, and_parts, eqb-true}
 use Rattle.gas_geom.specs.Gas.{Rules, holds}
 use Rattle.gas_geom.specs.Lattice.{set_of}
 use Rattle.gas_geom.specs.Planes.{set_at, ZeroFrom}
-use Rattle.gas_geom.specs.Laws.Finite.{each_below}
+use Rattle.gas_geom.specs.Laws.Trials.{each_below}
 use Rattle.gas_geom.proofs.Holds.{differ, holds-zero, holds-and, holds-or, holds-xor, holds-not, holds-above, holds-set_of, set_of-lt, set_of-same}
 
 pub data Formula : Type 0 where

@@ -1,7 +1,8 @@
 -- HPP, the gas of J. Hardy, O. de Pazzis and Y. Pomeau, "Time evolution of a two-dimensional model system",
 -- Journal of Mathematical Physics 14 (1973) 1746: four directions on the square lattice.
 use Rattle.std.specs.Prelude.{ℕ, ◌+◌, ◌%◌, if◌then◌else◌, ◌==◌, List, [], ◌∷◌, slice_index_or, codes, ℤ, pos, negsuc}
-use Rattle.gas_geom.specs.Gas.{Move, Back, Stay, On, Rules}
+use Rattle.gas_geom.specs.Moves.{Move, Back, Stay, On}
+use Rattle.gas_geom.specs.Gas.{Rules}
 
 -- the steps of E, N, W and S
 abbrev pub steps : List (Move × Move)

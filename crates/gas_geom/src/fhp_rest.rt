@@ -1,6 +1,6 @@
 ghost use Rattle.std.specs.Prelude.{◌≡◌, ◌<◌, ◌≤◌, ◌^◌, ℕ, refl};
 ghost use Rattle.gas_geom.specs.FhpRest.{fhp_rest};
-ghost use Rattle.gas_geom.specs.Laws.FhpRest.{IsGas-fhp_rest};
+ghost use Rattle.gas_geom.specs.Laws.Trials.{IsGas-passed};
 
 use crate::fhp1::Fhp1;
 use crate::gas::Gas;
@@ -21,7 +21,7 @@ impl Gas for FhpRest {
 
     ghost dirs_are = { refl };
 
-    ghost laws = { IsGas-fhp_rest };
+    ghost laws = { IsGas-passed fhp_rest refl };
 
     fn name() -> &'static str {
         "fhp-rest"

@@ -12,8 +12,8 @@ use Rattle.gas_geom.specs.Lattice.{row_of}
 use Rattle.gas_geom.specs.Planes.{set_at}
 use Rattle.gas_geom.proofs.Holds.{holds-zero, set_of-same}
 use Rattle.gas_rows.specs.Words.{words_in, bit}
-use Rattle.gas_rows.specs.Planes.{has, state, cells_of}
-use Rattle.gas_rows.specs.Inside.{ArePlanes}
+use Rattle.gas_rows.specs.Inside.{has, state, ArePlanes}
+use Rattle.gas_rows.specs.Planes.{cells_of}
 use Rattle.gas_rows.proofs.Cells.{has-set, state-from, state-same, holds-state, cells-from}
 use Rattle.gas_rows.proofs.Rows.{wide, read, planes-other}
 

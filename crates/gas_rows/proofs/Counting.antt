@@ -10,12 +10,12 @@ use Rattle.std.proofs.lemmas.Nat.Bits.{bit_at-lt, bit_at_above, same_from_bits}
 use Rattle.std.proofs.lemmas.Simd.{ones-mask_l, mask_l-lt, bit_mask_l}
 use Rattle.gas_geom.specs.Gas.{holds, sum_below}
 use Rattle.gas_rows.specs.Words.{words_in}
-use Rattle.gas_rows.specs.Planes.{has, cells_of}
-use Rattle.gas_rows.specs.Inside.{ArePlanes}
-use Rattle.gas_geom.proofs.Holds.{bit_cases}
-use Rattle.gas_geom.proofs.Sums.{sum_below-cong, sum_below-zero, sum_below-swap}
+use Rattle.gas_rows.specs.Inside.{has, ArePlanes}
+use Rattle.gas_rows.specs.Planes.{cells_of}
 use Rattle.gas_rows.proofs.Sums.{sum_below-split, sum_below-blocks, sum_by-below}
 use Rattle.gas_rows.proofs.Rows.{wide, held, has_word}
+use Rattle.gas_geom.proofs.Holds.{bit_cases}
+use Rattle.gas_geom.proofs.Sums.{sum_below-cong, sum_below-zero, sum_below-swap}
 
 -- ---- the ones of a word
 abbrev one : Bool → ℕ

@@ -5,12 +5,12 @@ use Rattle.std.specs.List.{range_with_len}
 use Rattle.std.proofs.lemmas.List.{get_or_append_left, get_or-append-add}
 use Rattle.std.proofs.lemmas.List.FromFn.{fill_by_all, get_or-map-range_with_len, length-map-range_with_len, take-map-range_with_len, map-range_with_len_more}
 use Rattle.std.proofs.lemmas.Bool.Decides.{nat_tests}
-use Rattle.gas_geom.specs.Gas.{Rules, Move, Back, Stay, On, holds}
-use Rattle.gas_geom.specs.Neighbour.{row_after, is_odd}
-use Rattle.gas_geom.proofs.Steps.{neighbour-parts}
+use Rattle.gas_geom.specs.Gas.{Rules, holds}
+use Rattle.gas_geom.specs.Moves.{Move, Back, Stay, On, row_after}
+use Rattle.gas_geom.specs.Laws.Steps.{is_odd, neighbour-parts}
 use Rattle.gas_geom.specs.Channel.{ChannelModel, is_solid}
-use Rattle.gas_geom.specs.Lattice.{cell, row_of, arrives_from, arriving, collided, streamed, next}
-use Rattle.gas_geom.proofs.Arriving.{behind, sent_back}
+use Rattle.gas_geom.specs.Lattice.{cell, row_of, arriving, collided, streamed, next}
+use Rattle.gas_geom.proofs.Arriving.{arrives_from, behind, sent_back}
 use Rattle.gas_geom.proofs.Sums.{sum_below-cong}
 
 -- row y of the rows q, collided
