@@ -1,5 +1,5 @@
 -- A gas of this project's own: the six directions of FHP-I, and in each cell at most one particle at rest. It is not FHP-II.
-use Rattle.std.specs.Prelude.{ℕ, ◌+◌, ◌-◌, ◌==◌, nat_lt, Bool, if◌then◌else◌, List, [], ◌∷◌, codes}
+use Rattle.std.specs.Prelude.{ℕ, ◌+◌, ◌-◌, ◌==◌, nat_lt, if◌then◌else◌, List, [], ◌∷◌, codes}
 use Rattle.gas_geom.specs.Gas.{Rules}
 use Rattle.gas_geom.specs.Fhp1.{fhp1}
 
@@ -13,16 +13,12 @@ exchanged [] s none = none
 exchanged (pair ∷ pairs) s none =
     if s == pair.0 then pair.1 else if s == pair.1 then pair.0 else exchanged pairs s none
 
--- All other sets collide as in FHP-I, whether or not a particle rests beside those that move.
-abbrev pub collision : ℕ → Bool → ℕ
-collision s chi =
-    exchanged exchanges s (if nat_lt s 0x40 then fhp1.collide s chi else 0x40 + fhp1.collide (s - 0x40) chi)
-
 -- Direction 6 rests. FHP-I has no step and no momentum for it, so it leads nowhere and has none.
 abbrev pub fhp_rest : Rules
 fhp_rest = record fhp1 {
   name = codes "fhp-rest";
   dirs = 7;
   opposite = λ i. if i == 6 then 6 else fhp1.opposite i;
-  collide = collision;
+  -- all sets that are not exchanged collide as in FHP-I, whether or not a particle rests beside those that move
+  collide = λ s chi. exchanged exchanges s (if nat_lt s 0x40 then fhp1.collide s chi else 0x40 + fhp1.collide (s - 0x40) chi);
 }

@@ -1,6 +1,7 @@
 -- What a lattice gas is: its name, its directions, their steps and momenta, and what a collision does.
-use Rattle.std.specs.Prelude.{◌≡◌, ℕ, zero, suc, ◌+◌, ◌%◌, ◌^◌, ◌<◌, ◌≤◌, ◌==◌, Bool, if◌then◌else◌, List, Option, Some, option_map, ℤ, pos, negsuc, ◌+ℤ◌, ◌≤ℤ◌}
+use Rattle.std.specs.Prelude.{◌≡◌, ℕ, ◌%◌, ◌^◌, ◌<◌, ◌≤◌, ◌==◌, Bool, List, length, filter, fold, Option, Some, option_map, ℤ, pos, ◌+ℤ◌, unsigned_abs}
 use Rattle.std.specs.Int.{bit_at}
+use Rattle.std.specs.List.{range_with_len}
 use Rattle.gas_geom.specs.Moves.{Move, column_after, row_after}
 
 -- A set of directions is a number, which holds direction `i` where bit `i` is 1.
@@ -28,27 +29,22 @@ neighbour_of gas width height x y i =
 abbrev pub holds : ℕ → ℕ → Bool
 holds s i = bit_at s i == 1
 
--- the sum of `f` over the numbers below `n`
-abbrev pub sum_below : ℕ → (ℕ → ℕ) → ℕ
-sum_below zero f = 0
-sum_below (suc n) f = sum_below n f + f n
+-- the directions that a set holds
+abbrev pub directions_of : Rules → ℕ → List ℕ
+directions_of gas s = filter (holds s) (range_with_len 0 gas.dirs)
 
 -- how many directions a set holds
 abbrev pub particles : Rules → ℕ → ℕ
-particles gas s = sum_below gas.dirs (λ i. bit_at s i)
+particles gas s = length (directions_of gas s)
 
--- the sum of the numbers `f i` for the `i` below `n` that a set holds
-abbrev pub sum_held : ℕ → ℕ → (ℕ → ℤ) → ℤ
-sum_held zero s f = pos 0
-sum_held (suc n) s f = sum_held n s f +ℤ (if holds s n then f n else pos 0)
+-- the sum of the numbers that f gives for the items of a list
+abbrev pub signed_sum_by : {X : Type 0} → (X → ℤ) → List X → ℤ
+signed_sum_by f xs = fold (λ a x. a +ℤ f x) (pos 0) xs
 
 -- the momentum of a set
 abbrev pub momentum_of : Rules → ℕ → ℤ × ℤ
-momentum_of gas s = (sum_held gas.dirs s (λ i. (gas.momentum i).0), sum_held gas.dirs s (λ i. (gas.momentum i).1))
-
--- a number from -2 to 2
-abbrev pub IsSmall : ℤ → Type 0
-IsSmall z = (negsuc 1 ≤ℤ z) × (z ≤ℤ pos 2)
+momentum_of gas s =
+    (signed_sum_by (λ i. (gas.momentum i).0) (directions_of gas s), signed_sum_by (λ i. (gas.momentum i).1) (directions_of gas s))
 
 -- what makes rules a gas
 pub record IsGas (gas : Rules) : Type 0 where
@@ -59,7 +55,7 @@ pub record IsGas (gas : Rules) : Type 0 where
   -- from the neighbour in a direction, the neighbour against that direction is the cell itself
   pub steps_back : (width height x y i x' y' : ℕ) → x < width → y < height → i < gas.dirs →
       neighbour_of gas width height x y i ≡ Some (x', y') → neighbour_of gas width height x' y' (gas.opposite i) ≡ Some (x, y)
-  pub momentum_small : (i : ℕ) → i < gas.dirs → IsSmall (gas.momentum i).0 × IsSmall (gas.momentum i).1
+  pub momentum_small : (i : ℕ) → i < gas.dirs → (unsigned_abs (gas.momentum i).0 ≤ 2) × (unsigned_abs (gas.momentum i).1 ≤ 2)
   pub collide_within : (s : ℕ) (chi : Bool) → s < 2 ^ gas.dirs → gas.collide s chi < 2 ^ gas.dirs
   pub collide_keeps : (s : ℕ) (chi : Bool) → s < 2 ^ gas.dirs → particles gas (gas.collide s chi) ≡ particles gas s
   pub collide_keeps_momentum : (s : ℕ) (chi : Bool) → s < 2 ^ gas.dirs →

@@ -2,7 +2,7 @@
 use Rattle.std.specs.Prelude.{◌≡◌, ℕ, zero, suc, ◌+◌, ◌^◌, ◌<◌, Bool, true, if◌then◌else◌, List, [], map, length, replicate, slice_index, slice_index_or, slice_set, sum_by}
 use Rattle.std.specs.List.{range_with_len}
 use Rattle.std.specs.Option.{option_map_or}
-use Rattle.gas_geom.specs.Gas.{Rules, neighbour_of, holds, sum_below, particles}
+use Rattle.gas_geom.specs.Gas.{Rules, neighbour_of, holds, particles}
 use Rattle.gas_geom.specs.Channel.{ChannelModel, is_solid}
 
 -- a channel, and the sets of its cells as a list of rows from the top
@@ -50,7 +50,8 @@ arriving gas channel at x y i =
 
 -- the set of the directions i below n for which f holds
 abbrev pub set_of : ℕ → (ℕ → Bool) → ℕ
-set_of n f = sum_below n (λ i. if f i then 2 ^ i else 0)
+set_of zero f = 0
+set_of (suc n) f = set_of n f + (if f n then 2 ^ n else 0)
 
 -- the lattice after every particle moved along its link
 abbrev pub streamed : Rules → ChannelModel → (ℕ → ℕ → ℕ) → ℕ → ℕ → ℕ

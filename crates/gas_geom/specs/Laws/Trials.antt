@@ -1,13 +1,12 @@
 -- Facts about the few directions and sets of a gas, by trying each. Rules that pass all trials are those of a gas; where the rules are
 -- written out, the trials compute.
-use Rattle.std.proofs.Common.{◌≡◌, ℕ, ◌^◌, ◌<◌, Bool, true, false, not, ◌&&◌, ℤ, pos, negsuc, arith, ap, sym, ◌∙◌, refl}
-use Rattle.std.specs.Prelude.{◌==◌, nat_lt}
+use Rattle.std.proofs.Common.{◌≡◌, ℕ, ◌^◌, ◌<◌, ◌≤◌, Bool, true, false, not, ◌&&◌, ℤ, arith, ap, sym, ◌∙◌, refl}
+use Rattle.std.specs.Prelude.{◌==◌, nat_lt, unsigned_abs}
 use Rattle.std.specs.Ordering.{int_eq}
 use Rattle.std.proofs.lemmas.Bool.{agree_below, agree_below_at, and_parts, eqb-true, ltb-true}
 use Rattle.std.proofs.lemmas.Bool.Decides.{Decides-int_eq}
-use Rattle.std.proofs.lemmas.Int.{ints}
 use Rattle.gas_geom.specs.Moves.{Move, Back, Stay, On}
-use Rattle.gas_geom.specs.Gas.{Rules, IsGas, IsSmall, particles, momentum_of}
+use Rattle.gas_geom.specs.Gas.{Rules, IsGas, particles, momentum_of}
 use Rattle.gas_geom.specs.Laws.Steps.{reversed, odd_after, neighbour-back}
 
 -- a test that holds at each number below n, which computes at a written-out n
@@ -32,12 +31,10 @@ same_pair-is p q e =
     λ t. (x t, y t)
 
 abbrev is_small : ℤ → Bool
-is_small (pos n) = nat_lt n 3
-is_small (negsuc n) = nat_lt n 2
+is_small z = nat_lt (unsigned_abs z) 3
 
-IsSmall-of : (z : ℤ) → is_small z ≡ true → IsSmall z
-IsSmall-of (pos n) e = let lt = ltb-true n 3 e in (omega (arith, ints), omega (arith, ints, lt))
-IsSmall-of (negsuc n) e = let lt = ltb-true n 2 e in (omega (arith, ints, lt), omega (arith, ints))
+small-is : (z : ℤ) → is_small z ≡ true → unsigned_abs z ≤ 2
+small-is z e = let lt = ltb-true (unsigned_abs z) 3 e in omega (arith, lt)
 
 abbrev same_move : Move → Move → Bool
 same_move Back Back = true
@@ -156,10 +153,10 @@ module _ (gas : Rules) where
     undoes i h true = same_step-is _ _ (and_parts (is_undone true i) (is_undone false i) (direction i h).2).0
     undoes i h false = same_step-is _ _ (and_parts (is_undone true i) (is_undone false i) (direction i h).2).1
 
-    small : (i : ℕ) → i < gas.dirs → IsSmall (gas.momentum i).0 × IsSmall (gas.momentum i).1
+    small : (i : ℕ) → i < gas.dirs → (unsigned_abs (gas.momentum i).0 ≤ 2) × (unsigned_abs (gas.momentum i).1 ≤ 2)
     small i h =
         let both = and_parts (is_small (gas.momentum i).0) (is_small (gas.momentum i).1) (direction i h).3 in
-        (IsSmall-of (gas.momentum i).0 both.0, IsSmall-of (gas.momentum i).1 both.1)
+        (small-is (gas.momentum i).0 both.0, small-is (gas.momentum i).1 both.1)
 
     back : (s : ℕ) (chi : Bool) → s < 2 ^ gas.dirs → gas.collide (gas.collide s chi) (not chi) ≡ s
     back s chi h = eqb-true (gas.collide (gas.collide s chi) (not chi)) s (set chi s h).3
