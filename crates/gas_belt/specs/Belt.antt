@@ -5,13 +5,10 @@ use denote.RawPtr.{Ptr}
 use Rattle.rtrb.specs.Shared.{Names}
 use Rattle.gas_rows.specs.Row.{RowModel}
 
--- which belt it is: the width of its rows, and the ring that it has: where that lies in memory, and its names in proofs
+-- which belt it is: the width of its rows, and the ring that it has, by where that lies in memory and its names in proofs
 pub record Belt : Type 0 where
   pub width : ℕ
-  pub words : Ptr
-  pub slots : Ptr
-  pub names : Names
-  pub heap : Global
+  pub ring : Ptr × Ptr × Names × Global
 
 -- the end of a belt that rows are put on, open or closed: the belt that it is of, all rows put so far, in order, and the row of
 -- the newest put, where it was not handed out since

@@ -14,7 +14,7 @@ use Rattle.gas_belt.specs.declared.inlet.Inlet.{Inlet}
 
 -- the belt that an end of a ring is of, where rows have that width
 abbrev pub belt_of : ℕ → End ℕ Global AnyItems → Belt
-belt_of width e = record { width = width; words = e.words; slots = e.slots; names = e.names; heap = e.heap }
+belt_of width e = record { width = width; ring = (e.words, e.slots, e.names, e.heap) }
 
 -- all words that were sent: those that went into the ring, and behind them those that gathered beside it
 abbrev pub sent_words : Outlet → List ℕ

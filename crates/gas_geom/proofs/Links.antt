@@ -6,7 +6,7 @@ use Rattle.std.specs.Int.{bit_at}
 use Rattle.std.proofs.lemmas.Nat.Bits.{bit_at-zero}
 use Rattle.std.proofs.lemmas.Bool.{both_ways}
 use Rattle.gas_geom.specs.Gas.{Rules, IsGas, holds}
-use Rattle.gas_geom.proofs.Steps.{neighbour-back, neighbour-within}
+use Rattle.gas_geom.specs.Laws.Steps.{neighbour-within}
 use Rattle.gas_geom.specs.Channel.{ChannelModel, is_solid}
 use Rattle.gas_geom.specs.Lattice.{arriving, streamed, set_of}
 use Rattle.gas_geom.proofs.Arriving.{behind, arriving-wall, arriving-solid, arriving-fluid}
@@ -102,7 +102,7 @@ module _ (gas : Rules) (laws : IsGas gas) (c : ChannelModel) where
     | comes e u there s ↦
         let home : ℕ × ℕ = (p.0, p.1) in
         let back : from (beside p u) ≡ Some home =
-        neighbour-back gas laws c.width c.height p.0 p.1 (gas.opposite p.2) u.0 u.1 h.0 h.1 (laws.opposite_within p.2 h.2) there in
+        laws.steps_back c.width c.height p.0 p.1 (gas.opposite p.2) u.0 u.1 h.0 h.1 (laws.opposite_within p.2 h.2) there in
         ap other_end (other_end-comes p u e there s) ∙ other_end-comes (beside p u) home s back e
         ∙ ap (λ (i : ℕ). let r : Place = (p.0, p.1, i) in r) (laws.opposite_twice p.2 h.2)
   ]

@@ -4,11 +4,13 @@
 use Rattle.std.proofs.Common.{◌≡◌, ℕ, zero, suc, ◌+◌, ◌<◌, ◌^◌, Bool, true, false, if◌then◌else◌, List, [], map, get_or, ap, ◌∙◌, sym, refl, add-one, zero-add}
 use Rattle.std.specs.Prelude.{sum_by}
 use Rattle.std.specs.List.{range_with_len}
+use Rattle.std.specs.Int.{bit_at}
 use Rattle.std.proofs.lemmas.List.FromFn.{sum_by-map-range_with_len_more, fill_by_all}
-use Rattle.gas_geom.specs.Gas.{Rules, IsGas, sum_below, particles}
+use Rattle.gas_geom.specs.Gas.{Rules, IsGas, particles}
 use Rattle.gas_geom.specs.Channel.{ChannelModel, is_solid}
 use Rattle.gas_geom.specs.Lattice.{cell, row_of, rows_of, IsLattice, collided, streamed, next, count}
-use Rattle.gas_geom.proofs.Sums.{sum_below-cong}
+use Rattle.gas_geom.proofs.Sums.{sum_below, sum_below-cong}
+use Rattle.gas_geom.proofs.Held.{particles-bits}
 use Rattle.gas_geom.proofs.Places.{Place, Within, total, same, total-cong, IsSum-total}
 use Rattle.gas_geom.proofs.Involution.{sum-involution}
 use Rattle.gas_geom.proofs.Links.{held}
@@ -29,6 +31,8 @@ count-rows_of gas w h at =
     sum_by-row (λ row. sum_by (particles gas) row) (λ y. row_of w (λ x. at x y)) h
     ∙ sum_below-cong h (λ y. sum_by (particles gas) (row_of w (λ x. at x y))) (λ y. sum_below w (λ x. particles gas (at x y)))
     (λ y _. sum_by-row (particles gas) (λ x. at x y) w)
+    ∙ sum_below-cong h (λ y. sum_below w (λ x. particles gas (at x y))) (λ y. sum_below w (λ x. sum_below gas.dirs (λ i. bit_at (at x y) i)))
+    (λ y _. sum_below-cong w (λ x. particles gas (at x y)) (λ x. sum_below gas.dirs (λ i. bit_at (at x y) i)) (λ x _. particles-bits gas (at x y)))
 
 -- a lattice's rows are made of its cells
 pub rows_of-cell : (gas : Rules) (c : ChannelModel) (rows : List (List ℕ)) → IsLattice gas c rows → rows ≡ rows_of c.width c.height (cell rows)
@@ -37,10 +41,11 @@ rows_of-cell gas c rows lattice =
     (λ y h. fill_by_all (λ x. cell rows x y) (get_or rows y []) c.width 0 (lattice.wide y h) (λ x _. refl))
 
 -- a collision keeps the particles of each cell
-particles-collided : (gas : Rules) → IsGas gas → (c : ChannelModel) (chi : ℕ → ℕ → Bool) (at : ℕ → ℕ → ℕ) →
+bits-collided : (gas : Rules) → IsGas gas → (c : ChannelModel) (chi : ℕ → ℕ → Bool) (at : ℕ → ℕ → ℕ) →
     ((x y : ℕ) → at x y < 2 ^ gas.dirs) → ((x y : ℕ) → is_solid c x y ≡ true → at x y ≡ 0) → (x y : ℕ) →
-    particles gas (collided gas c chi at x y) ≡ particles gas (at x y)
-particles-collided gas laws c chi at sets empty x y = by (is_solid c x y) refl
+    sum_below gas.dirs (λ i. bit_at (collided gas c chi at x y) i) ≡ sum_below gas.dirs (λ i. bit_at (at x y) i)
+bits-collided gas laws c chi at sets empty x y =
+    sym (particles-bits gas (collided gas c chi at x y)) ∙ by (is_solid c x y) refl ∙ particles-bits gas (at x y)
   where
     by : (b : Bool) → is_solid c x y ≡ b → particles gas (if b then 0 else gas.collide (at x y) (chi x y)) ≡ particles gas (at x y)
     by true e = ap (particles gas) (sym (empty x y e))
@@ -82,8 +87,11 @@ pub count-next : (gas : Rules) → IsGas gas → (c : ChannelModel) (chi : ℕ �
 count-next gas laws c chi rows lattice =
     count-rows_of gas c.width c.height (streamed gas c (collided gas c chi (cell rows)))
     ∙ total-streamed gas laws c (collided gas c chi (cell rows)) (collided-empty gas c chi (cell rows))
-    ∙ sum_below-cong c.height (λ y. sum_below c.width (λ x. particles gas (collided gas c chi (cell rows) x y))) (λ y. sum_below c.width (λ x. particles gas (cell rows x y)))
-    (λ y _. sum_below-cong c.width (λ x. particles gas (collided gas c chi (cell rows) x y)) (λ x. particles gas (cell rows x y))
-    (λ x _. particles-collided gas laws c chi (cell rows) lattice.sets lattice.empty x y))
+    ∙ sum_below-cong c.height (λ y. sum_below c.width (λ x. bits (collided gas c chi (cell rows) x y))) (λ y. sum_below c.width (λ x. bits (cell rows x y)))
+    (λ y _. sum_below-cong c.width (λ x. bits (collided gas c chi (cell rows) x y)) (λ x. bits (cell rows x y))
+    (λ x _. bits-collided gas laws c chi (cell rows) lattice.sets lattice.empty x y))
     ∙ sym (count-rows_of gas c.width c.height (cell rows))
     ∙ ap (count gas) (sym (rows_of-cell gas c rows lattice))
+  where
+    bits : ℕ → ℕ
+    bits s = sum_below gas.dirs (λ i. bit_at s i)

@@ -2,8 +2,7 @@
 -- since each of the three sums within does.
 use Rattle.std.proofs.Common.{◌≡◌, ℕ, ◌<◌, Bool, true, ◌==◌, ◌&&◌, ap, ◌∙◌, refl, eq-eqb}
 use Rattle.std.proofs.lemmas.Bool.{eqb-true, and_parts}
-use Rattle.gas_geom.specs.Gas.{sum_below}
-use Rattle.gas_geom.proofs.Sums.{when, when-and, sum_below-cong, sum_below-swap, sum_below-when, sum_below-pick}
+use Rattle.gas_geom.proofs.Sums.{sum_below, when, when-and, sum_below-cong, sum_below-swap, sum_below-when, sum_below-pick}
 use Rattle.gas_geom.proofs.Involution.{IsSum}
 
 abbrev pub Place : Type 0

@@ -1,7 +1,8 @@
 -- FHP-I, the gas of U. Frisch, B. Hasslacher and Y. Pomeau, "Lattice-gas automata for the Navier-Stokes equation",
 -- Physical Review Letters 56 (1986) 1505: six directions on the triangular lattice, no particle at rest.
-use Rattle.std.specs.Prelude.{ℕ, ◌+◌, ◌%◌, Bool, if◌then◌else◌, ◌==◌, List, [], ◌∷◌, slice_index_or, codes, ℤ, pos, negsuc}
-use Rattle.gas_geom.specs.Gas.{Move, Back, Stay, On, Rules}
+use Rattle.std.specs.Prelude.{◌+◌, ◌%◌, if◌then◌else◌, ◌==◌, List, [], ◌∷◌, slice_index_or, codes, ℤ, pos, negsuc}
+use Rattle.gas_geom.specs.Moves.{Move, Back, Stay, On}
+use Rattle.gas_geom.specs.Gas.{Rules}
 
 -- the steps of E, NE, NW, W, SW and SE from an even row
 abbrev pub steps_from_even : List (Move × Move)
@@ -15,23 +16,20 @@ steps_from_odd = (On, Stay) ∷ (On, Back) ∷ (Stay, Back) ∷ (Back, Stay) ∷
 abbrev pub momenta : List (ℤ × ℤ)
 momenta = (pos 2, pos 0) ∷ (pos 1, pos 1) ∷ (negsuc 0, pos 1) ∷ (negsuc 1, pos 0) ∷ (negsuc 0, negsuc 0) ∷ (pos 1, negsuc 0) ∷ []
 
--- Two particles head on turn by a sixth, to the side that the random bit says; three at equal angles turn about.
--- All other sets stay as they are: a spectator stops a collision.
-abbrev pub collision : ℕ → Bool → ℕ
-collision s chi =
-    if s == 0x09 then (if chi then 0x12 else 0x24)
-    else if s == 0x12 then (if chi then 0x24 else 0x09)
-    else if s == 0x24 then (if chi then 0x09 else 0x12)
-    else if s == 0x15 then 0x2a
-    else if s == 0x2a then 0x15
-    else s
-
 abbrev pub fhp1 : Rules
 fhp1 = record {
   name = codes "fhp1";
   dirs = 6;
   opposite = λ i. (i + 3) % 6;
   step = λ i odd. slice_index_or (if odd then steps_from_odd else steps_from_even) i (Stay, Stay);
-  collide = collision;
+  -- Two particles head on turn by a sixth, to the side that the random bit says; three at equal angles turn about.
+  -- All other sets stay as they are: a spectator stops a collision.
+  collide = λ s chi.
+      if s == 0x09 then (if chi then 0x12 else 0x24)
+      else if s == 0x12 then (if chi then 0x24 else 0x09)
+      else if s == 0x24 then (if chi then 0x09 else 0x12)
+      else if s == 0x15 then 0x2a
+      else if s == 0x2a then 0x15
+      else s;
   momentum = λ i. slice_index_or momenta i (pos 0, pos 0);
 }

@@ -1,7 +1,7 @@
 -- A gas of this project's own: the six directions of FHP-I, and in each cell at most one particle at rest. It is not FHP-II.
-use Rattle.std.specs.Prelude.{ℕ, ◌+◌, ◌-◌, ◌%◌, ◌==◌, nat_lt, Bool, if◌then◌else◌, List, [], ◌∷◌, slice_index_or, codes, pos}
-use Rattle.gas_geom.specs.Gas.{Stay, Rules}
-use Rattle.gas_geom.specs.Fhp1.{fhp1, steps_from_even, steps_from_odd, momenta}
+use Rattle.std.specs.Prelude.{ℕ, ◌+◌, ◌-◌, ◌==◌, nat_lt, if◌then◌else◌, List, [], ◌∷◌, codes}
+use Rattle.gas_geom.specs.Gas.{Rules}
+use Rattle.gas_geom.specs.Fhp1.{fhp1}
 
 -- a particle that moves beside one at rest, and the two that fly apart to its left and right in their place
 abbrev pub exchanges : List (ℕ × ℕ)
@@ -13,18 +13,12 @@ exchanged [] s none = none
 exchanged (pair ∷ pairs) s none =
     if s == pair.0 then pair.1 else if s == pair.1 then pair.0 else exchanged pairs s none
 
--- All other sets collide as in FHP-I, whether or not a particle rests beside those that move.
-abbrev pub collision : ℕ → Bool → ℕ
-collision s chi =
-    exchanged exchanges s (if nat_lt s 0x40 then fhp1.collide s chi else 0x40 + fhp1.collide (s - 0x40) chi)
-
--- direction 6 rests: it leads nowhere, and has no momentum
+-- Direction 6 rests. FHP-I has no step and no momentum for it, so it leads nowhere and has none.
 abbrev pub fhp_rest : Rules
-fhp_rest = record {
+fhp_rest = record fhp1 {
   name = codes "fhp-rest";
   dirs = 7;
-  opposite = λ i. if i == 6 then 6 else (i + 3) % 6;
-  step = λ i odd. slice_index_or (if odd then steps_from_odd else steps_from_even) i (Stay, Stay);
-  collide = collision;
-  momentum = λ i. slice_index_or momenta i (pos 0, pos 0);
+  opposite = λ i. if i == 6 then 6 else fhp1.opposite i;
+  -- all sets that are not exchanged collide as in FHP-I, whether or not a particle rests beside those that move
+  collide = λ s chi. exchanged exchanges s (if nat_lt s 0x40 then fhp1.collide s chi else 0x40 + fhp1.collide (s - 0x40) chi);
 }

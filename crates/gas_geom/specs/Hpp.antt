@@ -1,7 +1,8 @@
 -- HPP, the gas of J. Hardy, O. de Pazzis and Y. Pomeau, "Time evolution of a two-dimensional model system",
 -- Journal of Mathematical Physics 14 (1973) 1746: four directions on the square lattice.
-use Rattle.std.specs.Prelude.{ℕ, ◌+◌, ◌%◌, if◌then◌else◌, ◌==◌, List, [], ◌∷◌, slice_index_or, codes, ℤ, pos, negsuc}
-use Rattle.gas_geom.specs.Gas.{Move, Back, Stay, On, Rules}
+use Rattle.std.specs.Prelude.{◌+◌, ◌%◌, if◌then◌else◌, ◌==◌, List, [], ◌∷◌, slice_index_or, codes, ℤ, pos, negsuc}
+use Rattle.gas_geom.specs.Moves.{Move, Back, Stay, On}
+use Rattle.gas_geom.specs.Gas.{Rules}
 
 -- the steps of E, N, W and S
 abbrev pub steps : List (Move × Move)
@@ -11,16 +12,13 @@ steps = (On, Stay) ∷ (Stay, Back) ∷ (Back, Stay) ∷ (Stay, On) ∷ []
 abbrev pub momenta : List (ℤ × ℤ)
 momenta = (pos 1, pos 0) ∷ (pos 0, pos 1) ∷ (negsuc 0, pos 0) ∷ (pos 0, negsuc 0) ∷ []
 
--- two particles head on, and no other, turn by a quarter
-abbrev pub collision : ℕ → ℕ
-collision s = if s == 0x05 then 0x0a else if s == 0x0a then 0x05 else s
-
 abbrev pub hpp : Rules
 hpp = record {
   name = codes "hpp";
   dirs = 4;
   opposite = λ i. (i + 2) % 4;
   step = λ i odd. slice_index_or steps i (Stay, Stay);
-  collide = λ s chi. collision s;
+  -- two particles head on, and no other, turn by a quarter
+  collide = λ s chi. if s == 0x05 then 0x0a else if s == 0x0a then 0x05 else s;
   momentum = λ i. slice_index_or momenta i (pos 0, pos 0);
 }

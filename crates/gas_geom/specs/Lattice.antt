@@ -1,8 +1,8 @@
 -- Lattices: a set of directions for each cell, and the lattices that follow.
-use Rattle.std.specs.Prelude.{◌≡◌, ℕ, zero, suc, ◌+◌, ◌^◌, ◌<◌, Bool, true, false, if◌then◌else◌, List, [], map, length, replicate, slice_index, slice_index_or, slice_set, sum_by, Option, Some, None}
+use Rattle.std.specs.Prelude.{◌≡◌, ℕ, zero, suc, ◌+◌, ◌^◌, ◌<◌, Bool, true, if◌then◌else◌, List, [], map, length, replicate, slice_index, slice_index_or, slice_set, sum_by}
 use Rattle.std.specs.List.{range_with_len}
-use Rattle.gas_geom.specs.Gas.{Rules, holds, sum_below, particles}
-use Rattle.gas_geom.specs.Neighbour.{neighbour_of}
+use Rattle.std.specs.Option.{option_map_or}
+use Rattle.gas_geom.specs.Gas.{Rules, neighbour_of, holds, particles}
 use Rattle.gas_geom.specs.Channel.{ChannelModel, is_solid}
 
 -- a channel, and the sets of its cells as a list of rows from the top
@@ -42,18 +42,16 @@ collided gas channel chi at x y = if is_solid channel x y then 0 else gas.collid
 
 -- whether a particle comes to the fluid cell (x, y) in direction i from the neighbour against i, or, where that is the wall or
 -- solid, the cell's own that goes towards it is sent back
-abbrev pub arrives_from : Rules → ChannelModel → (ℕ → ℕ → ℕ) → ℕ → ℕ → ℕ → Option (ℕ × ℕ) → Bool
-arrives_from gas channel at x y i None = holds (at x y) (gas.opposite i)
-arrives_from gas channel at x y i (Some u) =
-    if is_solid channel u.0 u.1 then holds (at x y) (gas.opposite i) else holds (at u.0 u.1) i
-
 abbrev pub arriving : Rules → ChannelModel → (ℕ → ℕ → ℕ) → ℕ → ℕ → ℕ → Bool
 arriving gas channel at x y i =
-    arrives_from gas channel at x y i (neighbour_of gas channel.width channel.height x y (gas.opposite i))
+    let sent_back = holds (at x y) (gas.opposite i) in
+    let behind = neighbour_of gas channel.width channel.height x y (gas.opposite i) in
+    option_map_or (λ u. if is_solid channel u.0 u.1 then sent_back else holds (at u.0 u.1) i) behind sent_back
 
 -- the set of the directions i below n for which f holds
 abbrev pub set_of : ℕ → (ℕ → Bool) → ℕ
-set_of n f = sum_below n (λ i. if f i then 2 ^ i else 0)
+set_of zero f = 0
+set_of (suc n) f = set_of n f + (if f n then 2 ^ n else 0)
 
 -- the lattice after every particle moved along its link
 abbrev pub streamed : Rules → ChannelModel → (ℕ → ℕ → ℕ) → ℕ → ℕ → ℕ
@@ -73,8 +71,3 @@ generation gas channel chi start rows (suc n) =
 -- the number of particles
 abbrev pub count : Rules → List (List ℕ) → ℕ
 count gas rows = sum_by (λ row. sum_by (particles gas) row) rows
-
--- a collided row, from its sets, its solid cells and its random bits
-abbrev pub collided_row : Rules → List Bool → List Bool → List ℕ → List ℕ
-collided_row gas solid chi row =
-    row_of (length row) (λ x. if slice_index_or solid x false then 0 else gas.collide (slice_index row x) (slice_index_or chi x false))

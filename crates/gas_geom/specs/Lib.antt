@@ -1,9 +1,9 @@
+pub mod Moves
 pub mod Gas
 pub mod Size
 pub mod Fhp1
 pub mod Hpp
 pub mod FhpRest
-pub mod Neighbour
 pub mod Channel
 pub mod Lattice
 pub mod Planes

@@ -1,6 +1,6 @@
 ghost use Rattle.std.specs.Prelude.{◌≡◌, ◌<◌, ◌≤◌, ◌^◌, ℕ, refl};
 ghost use Rattle.gas_geom.specs.Fhp1.{fhp1};
-ghost use Rattle.gas_geom.specs.Laws.Fhp1.{IsGas-fhp1};
+ghost use Rattle.gas_geom.specs.Laws.Trials.{IsGas-passed};
 
 use crate::gas::Gas;
 
@@ -19,7 +19,7 @@ impl Gas for Fhp1 {
 
     ghost dirs_are = { refl };
 
-    ghost laws = { IsGas-fhp1 };
+    ghost laws = { IsGas-passed fhp1 refl };
 
     fn name() -> &'static str {
         "fhp1"

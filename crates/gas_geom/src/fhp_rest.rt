@@ -1,6 +1,6 @@
 ghost use Rattle.std.specs.Prelude.{◌≡◌, ◌<◌, ◌≤◌, ◌^◌, ℕ, refl};
 ghost use Rattle.gas_geom.specs.FhpRest.{fhp_rest};
-ghost use Rattle.gas_geom.specs.Laws.FhpRest.{IsGas-fhp_rest};
+ghost use Rattle.gas_geom.specs.Laws.Trials.{IsGas-passed};
 
 use crate::fhp1::Fhp1;
 use crate::gas::Gas;
@@ -21,7 +21,7 @@ impl Gas for FhpRest {
 
     ghost dirs_are = { refl };
 
-    ghost laws = { IsGas-fhp_rest };
+    ghost laws = { IsGas-passed fhp_rest refl };
 
     fn name() -> &'static str {
         "fhp-rest"
@@ -57,32 +57,24 @@ impl Gas for FhpRest {
     fn collide64(planes: [u64; 8], chi: u64) -> [u64; 8] {
         let [e, ne, nw, w, sw, se, rest, _] = planes;
         let (one_e, one_ne, one_nw) = (e ^ w, ne ^ sw, nw ^ se);
-        let each_one = one_e & one_ne & one_nw;
         // E, NW and SW lie at equal angles, and so do NE, W and SE.
         let (first, second) = (e | nw | sw, ne | w | se);
-        let one_side = first ^ second;
-        let unlike = e ^ ne;
-        let triple = each_one & one_side;
-        let pair = (unlike ^ nw) & !((e & ne) | one_e | one_ne | one_nw);
-        let right = !chi;
-        let pair_e = pair & (e | (nw ^ right));
-        let pair_ne = pair & (ne | (e ^ right));
-        let along_e = triple | pair_e;
-        let along_ne = triple | pair_ne;
-        let along_nw = triple | (pair_e ^ pair_ne);
         // One beside a particle at rest, or two of one side beside none: each axis that has one
         // loses it, and the others gain one of the other side.
-        let exchange = one_side & !(each_one | (one_e ^ one_ne ^ one_nw ^ rest));
+        let odd = one_e ^ one_ne ^ one_nw;
+        let exchange = (first ^ second) & !((one_e & one_ne & one_nw) | (odd ^ rest));
         let at_e = exchange & (one_e ^ second);
         let at_ne = exchange & (one_ne ^ first);
         let at_nw = exchange & (one_nw ^ second);
+        // FHP-I leaves those as they are, and collides all others.
+        let [e, ne, nw, w, sw, se, _, _] = Fhp1::collide64([e, ne, nw, w, sw, se, 0, 0], chi);
         [
-            e ^ (along_e | at_e),
-            ne ^ (along_ne | at_ne),
-            nw ^ (along_nw | at_nw),
-            w ^ (along_e | (exchange ^ at_e)),
-            sw ^ (along_ne | (exchange ^ at_ne)),
-            se ^ (along_nw | (exchange ^ at_nw)),
+            e ^ at_e,
+            ne ^ at_ne,
+            nw ^ at_nw,
+            w ^ (exchange ^ at_e),
+            sw ^ (exchange ^ at_ne),
+            se ^ (exchange ^ at_nw),
             rest ^ exchange,
             0,
         ]

@@ -1,5 +1,6 @@
 ghost use Rattle.std.specs.Prelude.{◌≡◌, ◌<◌, ◌≤◌, ◌^◌, ℕ};
-ghost use Rattle.gas_geom.specs.Gas.{Rules, IsGas, amount, holds};
+ghost use Rattle.gas_geom.specs.Moves.{amount};
+ghost use Rattle.gas_geom.specs.Gas.{Rules, IsGas, holds};
 ghost use Rattle.gas_geom.specs.Planes.{set_at, ZeroFrom};
 
 /// A lattice gas. A direction is a number below `DIRS`, and a cell's state is the set of the

@@ -1,6 +1,6 @@
 ghost use Rattle.std.specs.Prelude.{◌≡◌, ◌<◌, ◌≤◌, ◌^◌, ℕ, refl};
 ghost use Rattle.gas_geom.specs.Hpp.{hpp};
-ghost use Rattle.gas_geom.specs.Laws.Hpp.{IsGas-hpp};
+ghost use Rattle.gas_geom.specs.Laws.Trials.{IsGas-passed};
 
 use crate::gas::Gas;
 
@@ -18,7 +18,7 @@ impl Gas for Hpp {
 
     ghost dirs_are = { refl };
 
-    ghost laws = { IsGas-hpp };
+    ghost laws = { IsGas-passed hpp refl };
 
     fn name() -> &'static str {
         "hpp"

@@ -1,6 +1,6 @@
 ghost use Rattle.std.specs.Prelude.{◌≡◌, ◌<◌, ◌≤◌, ◌^◌, ◌↔◌, ℕ, IsSome, IfSome};
-ghost use Rattle.gas_geom.specs.Neighbour.{neighbour_of, column_after, row_after};
-ghost use Rattle.gas_geom.specs.Gas.{Move, amount};
+ghost use Rattle.gas_geom.specs.Moves.{Move, amount, column_after, row_after};
+ghost use Rattle.gas_geom.specs.Gas.{neighbour_of};
 ghost use Rattle.gas_geom.specs.Size.{SizeModel, IsSize};
 
 use crate::gas::Gas;

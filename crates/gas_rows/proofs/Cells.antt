@@ -11,10 +11,10 @@ use Rattle.std.proofs.Math.Nat.{mul-le-mul_right, pow-suc}
 use Rattle.gas_geom.specs.Gas.{holds}
 use Rattle.gas_geom.specs.Lattice.{set_of}
 use Rattle.gas_rows.specs.Words.{words_in}
-use Rattle.gas_rows.specs.Planes.{has, state, cells_of}
-use Rattle.gas_rows.specs.Inside.{IsClear}
-use Rattle.gas_geom.proofs.Holds.{holds-zero, set_of-lt, holds-set_of, set_of-same}
+use Rattle.gas_rows.specs.Inside.{has, state, IsClear}
+use Rattle.gas_rows.specs.Planes.{cells_of}
 use Rattle.gas_rows.proofs.Sets.{set_from}
+use Rattle.gas_geom.proofs.Holds.{holds-zero, set_of-lt, holds-set_of, set_of-same}
 
 -- ---- a cell
 pub state-lt : (words : List ℕ) (n d x : ℕ) → state words n d x < 2 ^ d
@@ -58,7 +58,7 @@ length-cells d width words = length-map-range_with_len _ 0 width
 
 pub get_or-cells : (d width : ℕ) (words : List ℕ) (x : ℕ) → x < width →
     get_or (cells_of d width words) x 0 ≡ state words (words_in width) d x
-unfolding cells_of
+unfolding cells_of state has
 get_or-cells d width words x h =
     get_or-map-range_with_len (λ y. state words (words_in width) d y) 0 width x x 0 h (omega arith)
 

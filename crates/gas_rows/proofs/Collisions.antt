@@ -7,13 +7,15 @@ use Rattle.std.proofs.lemmas.Nat.{pow_pos}
 use Rattle.std.proofs.lemmas.Nat.Bits.{bit_at-zero, bit_at_above, same_from_bits}
 use Rattle.std.proofs.lemmas.List.FromFn.{get_or-map-range_with_len, length-map-range_with_len}
 use Rattle.std.specs.Int.{bit_at}
-use Rattle.gas_geom.specs.Gas.{Rules, IsGas, holds, sum_below}
+use Rattle.gas_geom.specs.Gas.{Rules, IsGas, holds}
+use Rattle.gas_geom.proofs.Sums.{sum_below}
+use Rattle.gas_geom.proofs.Held.{particles-bits}
 use Rattle.gas_geom.specs.Lattice.{row_of}
 use Rattle.gas_geom.specs.Planes.{set_at}
 use Rattle.gas_geom.proofs.Holds.{holds-zero, set_of-same}
 use Rattle.gas_rows.specs.Words.{words_in, bit}
-use Rattle.gas_rows.specs.Planes.{has, state, cells_of}
-use Rattle.gas_rows.specs.Inside.{ArePlanes}
+use Rattle.gas_rows.specs.Inside.{has, state, ArePlanes}
+use Rattle.gas_rows.specs.Planes.{cells_of}
 use Rattle.gas_rows.proofs.Cells.{has-set, state-from, state-same, holds-state, cells-from}
 use Rattle.gas_rows.proofs.Rows.{wide, read, planes-other}
 
@@ -153,7 +155,7 @@ zero_bits (suc n) = omega (arith, zero_bits n, bit_at-zero n)
 pub nothing : (gas : Rules) → IsGas gas → (r : Bool) → gas.collide 0 r ≡ 0
 nothing gas laws r =
     let none : sum_below gas.dirs (λ i. bit_at (gas.collide 0 r) i) ≡ 0 =
-    laws.collide_keeps 0 r (pow_pos gas.dirs) ∙ zero_bits gas.dirs in
+    sym (particles-bits gas (gas.collide 0 r)) ∙ laws.collide_keeps 0 r (pow_pos gas.dirs) ∙ particles-bits gas 0 ∙ zero_bits gas.dirs in
     same_from_bits (gas.collide 0 r) 0 (λ i. elim (cases_lt i gas.dirs) [
       | inl lt ↦ no_bits gas.dirs (gas.collide 0 r) none i lt ∙ sym (bit_at-zero i)
       | inr le ↦ bit_at_above (gas.collide 0 r) gas.dirs i (laws.collide_within 0 r (pow_pos gas.dirs)) le ∙ sym (bit_at-zero i)

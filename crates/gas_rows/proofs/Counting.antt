@@ -8,14 +8,15 @@ use Rattle.std.proofs.lemmas.Bool.{cases_lt}
 use Rattle.std.proofs.lemmas.List.FromFn.{get_or-map-range_with_len, length-map-range_with_len, sum_by-map-range_with_len_more}
 use Rattle.std.proofs.lemmas.Nat.Bits.{bit_at-lt, bit_at_above, same_from_bits}
 use Rattle.std.proofs.lemmas.Simd.{ones-mask_l, mask_l-lt, bit_mask_l}
-use Rattle.gas_geom.specs.Gas.{holds, sum_below}
+use Rattle.gas_geom.specs.Gas.{holds}
 use Rattle.gas_rows.specs.Words.{words_in}
-use Rattle.gas_rows.specs.Planes.{has, cells_of}
-use Rattle.gas_rows.specs.Inside.{ArePlanes}
-use Rattle.gas_geom.proofs.Holds.{bit_cases}
-use Rattle.gas_geom.proofs.Sums.{sum_below-cong, sum_below-zero, sum_below-swap}
+use Rattle.gas_rows.specs.Inside.{has, ArePlanes}
+use Rattle.gas_rows.specs.Planes.{cells_of}
 use Rattle.gas_rows.proofs.Sums.{sum_below-split, sum_below-blocks, sum_by-below}
 use Rattle.gas_rows.proofs.Rows.{wide, held, has_word}
+use Rattle.gas_geom.proofs.Holds.{bit_cases}
+use Rattle.gas_geom.proofs.Sums.{sum_below, sum_below-cong, sum_below-zero, sum_below-swap}
+use Rattle.gas_geom.proofs.Held.{held_below, length-held}
 
 -- ---- the ones of a word
 abbrev one : Bool → ℕ
@@ -89,7 +90,7 @@ module _ (d width : ℕ) (words row : List ℕ) (inside : ArePlanes d width word
       long = omega arith
 
   pub particles-ones : sum_below (length words) (λ k. count_ones (get_or words k 0))
-      ≡ sum_by (λ s. sum_below d (λ i. bit_at s i)) row
+      ≡ sum_by (λ s. length (held_below d s)) row
   particles-ones =
       ap (λ m. sum_below m (λ k. count_ones (get_or words k 0))) inside.long
       ∙ sum_below-cong (d * words_in width) _ _ (λ k _. ones-bits 64 (get_or words k 0) (fits k))
@@ -97,4 +98,5 @@ module _ (d width : ℕ) (words row : List ℕ) (inside : ArePlanes d width word
       ∙ sum_below-cong d _ (λ i. sum_below width (λ x. bit_at (get_or row x 0) i)) (λ i hi. plane i hi)
       ∙ sum_below-swap d width (λ i x. bit_at (get_or row x 0) i)
       ∙ ap (λ m. sum_below m (λ x. sum_below d (λ i. bit_at (get_or row x 0) i))) (sym (wide d width words row inside view))
-      ∙ sym (sum_by-below (λ s. sum_below d (λ i. bit_at s i)) row)
+      ∙ sum_below-cong (length row) (λ x. sum_below d (λ i. bit_at (get_or row x 0) i)) (λ x. length (held_below d (get_or row x 0))) (λ x _. sym (length-held d (get_or row x 0)))
+      ∙ sym (sum_by-below (λ s. length (held_below d s)) row)

@@ -8,7 +8,7 @@ use Rattle.std.proofs.lemmas.Bool.{cases_eq, cases_lt, eqb-true, ltb-true, not-t
 use Rattle.std.proofs.lemmas.Bool.Decides.{nat_tests}
 use Rattle.std.proofs.lemmas.List.{get_or_past}
 use Rattle.gas_geom.specs.Gas.{holds}
-use Rattle.gas_geom.specs.Laws.Finite.{each_below}
+use Rattle.gas_geom.specs.Laws.Trials.{each_below}
 use Rattle.gas_geom.proofs.Holds.{holds-and, holds-or, holds-not}
 use Rattle.gas_rows.specs.Exchange.{is_above, partner, with_digit}
 use Rattle.gas_rows.proofs.Bits.{holds-mod, holds-shl_high, holds-shl_low, holds-shr}

@@ -6,8 +6,8 @@ use borrow.Rule.Slice.PartMut.{put_mid}
 use Rattle.gas_geom.specs.Gas.{holds}
 use Rattle.gas_geom.proofs.Holds.{holds-above}
 use Rattle.gas_rows.specs.Words.{words_in, bit}
-use Rattle.gas_rows.specs.Planes.{has, cells_of}
-use Rattle.gas_rows.specs.Inside.{ArePlanes}
+use Rattle.gas_rows.specs.Inside.{has, ArePlanes}
+use Rattle.gas_rows.specs.Planes.{cells_of}
 use Rattle.gas_rows.proofs.Cells.{width_of, length-cells, cells-lt, holds-cells, place_in}
 
 -- ---- the words of one direction among those of all

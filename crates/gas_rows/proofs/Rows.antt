@@ -11,11 +11,11 @@ use Rattle.gas_geom.specs.Gas.{holds}
 use Rattle.gas_geom.specs.Lattice.{row_of}
 use Rattle.gas_geom.specs.declared.size.TheConstants.{MOST_SIDE}
 use Rattle.gas_rows.specs.Words.{words_in, bit}
-use Rattle.gas_rows.specs.Planes.{has, state, cells_of, AreWordsOf}
-use Rattle.gas_rows.specs.Inside.{ArePlanes, IsClear}
-use Rattle.gas_geom.proofs.Holds.{holds-zero, holds-above}
+use Rattle.gas_rows.specs.Inside.{has, state, ArePlanes, IsClear}
+use Rattle.gas_rows.specs.Planes.{cells_of, AreWordsOf}
 use Rattle.gas_rows.proofs.Sets.{same_sets}
 use Rattle.gas_rows.proofs.Cells.{length-cells, holds-cells, has-set, place_in, width_of, get_or-cells, holds-cells_all, cells-from, state-lt, cells-written, IsClear-written, state-same, state-from}
+use Rattle.gas_geom.proofs.Holds.{holds-zero, holds-above}
 
 -- a fact on each cell and direction, at other names of the two counts
 pub each_at : (P : ℕ → ℕ → ℕ → Type 0) (n m dirs d : ℕ) → n ≡ m → dirs ≡ d →

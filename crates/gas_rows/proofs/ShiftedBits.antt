@@ -5,7 +5,8 @@ use lib.Bits.{bit_and, bit_or}
 use Rattle.std.proofs.lemmas.Bool.{cases_lt}
 use Rattle.std.proofs.lemmas.Bool.Decides.{nat_tests}
 use Rattle.std.proofs.Math.Dec.{eqb-suc-zero}
-use Rattle.gas_geom.specs.Gas.{Back, On, holds}
+use Rattle.gas_geom.specs.Moves.{Back, On}
+use Rattle.gas_geom.specs.Gas.{holds}
 use Rattle.gas_geom.proofs.Holds.{holds-and, holds-or, holds-not, holds-above}
 use Rattle.gas_rows.specs.Moved.{moved_bit, moved_last_bit}
 use Rattle.gas_rows.specs.Shift.{streamed_bit}

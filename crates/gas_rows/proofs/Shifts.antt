@@ -4,8 +4,8 @@ use Rattle.std.proofs.lemmas.Bool.{cases_eq}
 use Rattle.std.proofs.lemmas.Bool.Decides.{nat_tests}
 use Rattle.std.proofs.Math.Nat.{mod-eq_of_lt, add-mod_right}
 use Rattle.std.proofs.Math.Dec.{eqb-suc-zero}
-use Rattle.gas_geom.specs.Gas.{Move, Back, Stay, On, holds}
-use Rattle.gas_geom.specs.Neighbour.{column_after}
+use Rattle.gas_geom.specs.Moves.{Move, Back, Stay, On, column_after}
+use Rattle.gas_geom.specs.Gas.{holds}
 use Rattle.gas_rows.specs.Words.{words_in, bit}
 use Rattle.gas_rows.specs.Moved.{moved_bit, moved_last_bit, IsBefore, AreMoved}
 use Rattle.gas_rows.specs.Shift.{streamed_bit}

@@ -1,18 +1,15 @@
 -- The random bit of a generation and a cell.
 use Rattle.std.specs.Prelude.{ℕ, ◌+◌, ◌*◌, ◌/◌, ◌%◌, Bool, true, false}
+use Rattle.std.specs.Int.{div_ceil}
 use Rattle.gas_geom.specs.Gas.{holds}
 use Rattle.gas_rows.specs.Key.{key_word}
 use Rattle.gas_rows.specs.declared.chirality.Chirality.{Chirality}
 use Rattle.gas_rows.specs.declared.chirality.Chirality.TheVariants.{Seeded, Left, Right}
 
--- how many words of 32 bits a row of `width` cells takes
-abbrev pub words_of_row : ℕ → ℕ
-words_of_row width = (width + 31) / 32
-
 -- The bit of the cell (x, y) of a channel of that width in the step from generation g. A seeded one is a bit of the key
--- stream, the least of a word first; the stream is the generation, and each row begins at a word.
+-- stream, 32 to a word, the least first; the stream is the generation, and each row begins at a word.
 abbrev pub chirality_bit : Chirality → ℕ → ℕ → ℕ → ℕ → Bool
 chirality_bit (Seeded seed) width g x y =
-    holds (key_word seed g (y * words_of_row width + x / 32)) (x % 32)
+    holds (key_word seed g (y * div_ceil width 32 + x / 32)) (x % 32)
 chirality_bit Left width g x y = true
 chirality_bit Right width g x y = false

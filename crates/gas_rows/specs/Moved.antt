@@ -1,8 +1,8 @@
 -- Inner words: what functions of this crate promise one another. No public contract cites them.
 -- Words moved by a cell.
 use Rattle.std.specs.Prelude.{◌≡◌, ℕ, ◌+◌, ◌-◌, ◌*◌, ◌%◌, ◌<◌, ◌==◌, Bool, List, if◌then◌else◌}
-use Rattle.gas_geom.specs.Gas.{Move, Back, Stay, On, holds}
-use Rattle.gas_geom.specs.Neighbour.{column_after}
+use Rattle.gas_geom.specs.Moves.{Move, Back, Stay, On, column_after}
+use Rattle.gas_geom.specs.Gas.{holds}
 use Rattle.gas_rows.specs.Words.{bit}
 
 -- Bit b of the word of the cells that a move leads to from the cells of a word, which lies between two others.

@@ -1,5 +1,5 @@
-ghost use Rattle.std.specs.Prelude.{◌≡◌, length};
-ghost use Rattle.gas_geom.specs.Lattice.{collided_row};
+ghost use Rattle.std.specs.Prelude.{◌≡◌, false, if◌then◌else◌, length, slice_index, slice_index_or};
+ghost use Rattle.gas_geom.specs.Lattice.{row_of};
 
 use crate::mask::Mask;
 use crate::row::Row;
@@ -11,7 +11,8 @@ pub fn collide_row<G: Gas>(row: &mut Row<G>, solid: &Mask, chi: &Mask)
     requires solid_wide { length solid.now ≡ length row.old }
     requires chi_wide { length chi.now ≡ length row.old }
     ensures wide { length row.new ≡ length row.old }
-    ensures collided { row.new ≡ collided_row G.rules solid.now chi.now row.old }
+    ensures collided { row.new ≡ row_of (length row.old) (λ x.
+        if slice_index_or solid.now x false then 0 else G.rules.collide (slice_index row.old x) (slice_index_or chi.now x false)) }
 {
     row.collide(solid.is_blank(), solid.words(), chi.words());
 }

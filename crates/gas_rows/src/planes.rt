@@ -4,7 +4,7 @@ ghost use Rattle.gas_geom.specs.Gas.{holds};
 ghost use Rattle.gas_geom.specs.Planes.{ZeroFrom};
 ghost use Rattle.gas_geom.specs.declared.size.TheConstants.{MOST_SIDE};
 ghost use Rattle.gas_rows.specs.Words.{words_in, bit};
-ghost use Rattle.gas_rows.specs.Planes.{has, state};
+ghost use Rattle.gas_rows.specs.Inside.{has, state};
 
 use crate::transpose::planes_of;
 use crate::word::{has_bit, up_to, with_bit, without, words_for};

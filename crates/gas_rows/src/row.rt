@@ -1,8 +1,8 @@
 ghost use Rattle.std.specs.Prelude.{◌≡◌, ◌≢◌, ◌⊎◌, ◌+◌, ◌-◌, ◌*◌, ◌/◌, ◌<◌, ◌≤◌, ◌^◌, ℕ, List, length, replicate, slice_index, slice_index_or, slice_set, false, IsTrue, count_by, sum_by, if◌then◌else◌, vec_len, IfOk};
 ghost use Rattle.std.specs.List.{range_with_len};
-ghost use Rattle.gas_geom.specs.Gas.{Move, amount, holds, particles};
+ghost use Rattle.gas_geom.specs.Moves.{Move, amount, column_after};
+ghost use Rattle.gas_geom.specs.Gas.{holds, particles};
 ghost use Rattle.gas_geom.specs.Lattice.{row_of};
-ghost use Rattle.gas_geom.specs.Neighbour.{column_after};
 ghost use Rattle.gas_rows.specs.Shift.{streamed_bit};
 ghost use Rattle.gas_rows.specs.Words.{words_in, bit};
 ghost use Rattle.gas_rows.specs.Planes.{AreWordsOf, cells_of};

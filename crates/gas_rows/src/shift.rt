@@ -1,10 +1,10 @@
 //! The streaming of one direction of a row, 64 cells at a time.
 ghost use Rattle.std.specs.Prelude.{◌≡◌, ◌≢◌, ◌/◌, ◌%◌, ℕ, ◌*◌, ◌-◌, ◌<◌, ◌≤◌, ◌&&◌, ◌+◌, nat_le, length, false, if◌then◌else◌};
-ghost use Rattle.gas_geom.specs.Gas.{Move, Back, Stay, On, amount, holds};
-ghost use Rattle.gas_geom.specs.Neighbour.{column_after};
+ghost use Rattle.gas_geom.specs.Moves.{Move, Back, Stay, On, amount, column_after};
+ghost use Rattle.gas_geom.specs.Gas.{holds};
 ghost use Rattle.gas_geom.specs.declared.size.TheConstants.{MOST_SIDE};
 ghost use Rattle.gas_rows.specs.Words.{words_in, bit};
-ghost use Rattle.gas_rows.specs.Planes.{has};
+ghost use Rattle.gas_rows.specs.Inside.{has};
 ghost use Rattle.gas_rows.specs.Moved.{moved_bit, moved_last_bit, IsBefore, AreMoved};
 ghost use Rattle.gas_rows.specs.Shift.{streamed_bit};
 

@@ -4,11 +4,12 @@ use Rattle.std.proofs.lemmas.Bool.{cases_order, lt-ltb}
 use Rattle.std.proofs.lemmas.Bool.Decides.{nat_tests}
 use Rattle.std.proofs.lemmas.List.FromFn.{fill_by_all}
 use Rattle.std.proofs.lemmas.Nat.{pow_pos}
-use Rattle.gas_geom.specs.Gas.{Rules, Move, Back, Stay, On, holds}
-use Rattle.gas_geom.specs.Neighbour.{neighbour_of, row_after, column_after, is_odd}
-use Rattle.gas_geom.proofs.Steps.{neighbour-parts, row_after-lt, column_after-lt}
+use Rattle.gas_geom.specs.Gas.{Rules, holds, neighbour_of}
+use Rattle.gas_geom.specs.Moves.{Move, Back, Stay, On, row_after, column_after}
+use Rattle.gas_geom.specs.Laws.Steps.{is_odd, neighbour-parts, row_after-lt, column_after-lt}
 use Rattle.gas_geom.specs.Channel.{ChannelModel, is_solid}
-use Rattle.gas_geom.specs.Lattice.{arriving, arrives_from, streamed, set_of, row_of}
+use Rattle.gas_geom.specs.Lattice.{arriving, streamed, set_of, row_of}
+use Rattle.gas_geom.proofs.Arriving.{arrives_from}
 use Rattle.gas_geom.proofs.Holds.{set_of-lt, holds-set_of, holds-zero}
 use Rattle.gas_rows.specs.Shift.{streamed_bit}
 use Rattle.gas_rows.proofs.Sets.{set_of-holds, set_from}

@@ -6,7 +6,7 @@ use Rattle.std.proofs.lemmas.List.{length-append, take-take}
 use Rattle.std.proofs.lemmas.List.FromFn.{get_or-map-range_with_len}
 use Rattle.gas_geom.specs.Gas.{Rules}
 use Rattle.gas_geom.specs.Channel.{ChannelModel, is_solid}
-use Rattle.gas_geom.specs.Lattice.{cell, row_of, collided_row, streamed, next}
+use Rattle.gas_geom.specs.Lattice.{cell, row_of, streamed, next}
 use Rattle.gas_rows.specs.Chirality.{chirality_bit}
 use Rattle.gas_stage.specs.Streaming.{IsRowAt, AreRowsAbout}
 use Rattle.gas_stage.specs.declared.stage.Pass.{Pass}
@@ -15,6 +15,11 @@ use Rattle.gas_stage.specs.Inside.{open_pass}
 use Rattle.gas_stage.specs.Stage.{StageModel, Fits, given, owed}
 use Rattle.gas_stage.proofs.Local.{collided_at}
 use Rattle.gas_stage.proofs.Local.{range-cong, cell-push_at, collided_of, collided_of-append, take-next-push, next-all}
+
+-- a collided row, from its sets, its solid cells and its random bits
+abbrev collided_row : Rules → List Bool → List Bool → List ℕ → List ℕ
+collided_row gas solid bits row =
+    row_of (length row) (λ x. if get_or solid x false then 0 else gas.collide (get_or row x 0) (get_or bits x false))
 
 length-push : (q : List (List ℕ)) (row : List ℕ) → length (q ++ row ∷ []) ≡ length q + 1
 length-push q row = length-append q (row ∷ [])

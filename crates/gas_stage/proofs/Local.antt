@@ -5,13 +5,13 @@ use Rattle.std.specs.List.{range_with_len}
 use Rattle.std.proofs.lemmas.List.{get_or_append_left, get_or-append-add}
 use Rattle.std.proofs.lemmas.List.FromFn.{fill_by_all, get_or-map-range_with_len, length-map-range_with_len, take-map-range_with_len, map-range_with_len_more}
 use Rattle.std.proofs.lemmas.Bool.Decides.{nat_tests}
-use Rattle.gas_geom.specs.Gas.{Rules, Move, Back, Stay, On, holds}
-use Rattle.gas_geom.specs.Neighbour.{row_after, is_odd}
-use Rattle.gas_geom.proofs.Steps.{neighbour-parts}
+use Rattle.gas_geom.specs.Gas.{Rules, holds}
+use Rattle.gas_geom.specs.Moves.{Move, Back, Stay, On, row_after}
+use Rattle.gas_geom.specs.Laws.Steps.{is_odd, neighbour-parts}
 use Rattle.gas_geom.specs.Channel.{ChannelModel, is_solid}
-use Rattle.gas_geom.specs.Lattice.{cell, row_of, arrives_from, arriving, collided, streamed, next}
-use Rattle.gas_geom.proofs.Arriving.{behind, sent_back}
-use Rattle.gas_geom.proofs.Sums.{sum_below-cong}
+use Rattle.gas_geom.specs.Lattice.{cell, row_of, arriving, collided, streamed, next}
+use Rattle.gas_geom.proofs.Arriving.{arrives_from, behind, sent_back}
+use Rattle.gas_geom.proofs.Holds.{set_of-same}
 
 -- row y of the rows q, collided
 abbrev pub collided_at : Rules → ChannelModel → (ℕ → ℕ → Bool) → List (List ℕ) → ℕ → List ℕ
@@ -34,8 +34,7 @@ streamed-local : (gas : Rules) (c : ChannelModel) (at at' : ℕ → ℕ → ℕ)
     ((x' y' : ℕ) → y' ≤ y + 1 → at x' y' ≡ at' x' y') → streamed gas c at x y ≡ streamed gas c at' x y
 streamed-local gas c at at' x y same =
     ap (λ s. if is_solid c x y then 0 else s)
-    (sum_below-cong gas.dirs (λ i. if arriving gas c at x y i then 2 ^ i else 0) (λ i. if arriving gas c at' x y i then 2 ^ i else 0)
-    (λ i _. ap (λ (b : Bool). if b then 2 ^ i else 0) (arrives i (behind gas c x y i) refl)))
+    (set_of-same gas.dirs (arriving gas c at x y) (arriving gas c at' x y) (λ i _. arrives i (behind gas c x y i) refl))
   where
     own : (i : ℕ) → sent_back gas c at x y i ≡ sent_back gas c at' x y i
     own i = ap (λ s. holds s (gas.opposite i)) (same x y (omega arith))

@@ -1,6 +1,7 @@
 -- Inner words: what functions of this crate promise one another. No public contract cites them.
 use Rattle.std.specs.Prelude.{◌≡◌, ℕ, ◌+◌, ◌<◌, ◌≤◌, false, Option, Some, None, List, length, slice_index}
-use Rattle.gas_geom.specs.Gas.{Rules, Move, Back, Stay, On, holds}
+use Rattle.gas_geom.specs.Gas.{Rules, holds}
+use Rattle.gas_geom.specs.Moves.{Move, Back, Stay, On}
 use Rattle.gas_geom.specs.Channel.{ChannelModel, is_solid}
 use Rattle.gas_geom.specs.Lattice.{streamed}
 use Rattle.gas_stage.specs.declared.stage.Pass.{Pass}

@@ -1,6 +1,7 @@
 //! The streaming of a row far from walls and solid cells, where every particle moves along its link.
 ghost use Rattle.std.specs.Prelude.{◌≡◌, ◌≢◌, ◌+◌, ◌<◌, ◌^◌, ℕ, IsTrue, length, slice_index};
-ghost use Rattle.gas_geom.specs.Gas.{Move, amount, holds};
+ghost use Rattle.gas_geom.specs.Moves.{Move, amount};
+ghost use Rattle.gas_geom.specs.Gas.{holds};
 ghost use Rattle.gas_geom.specs.Lattice.{streamed, row_of};
 ghost use Rattle.gas_stage.specs.Streaming.{AreRowsAbout};
 ghost use Rattle.gas_stage.specs.Inside.{AreWide, AreStreamed, IsFar, row_about};

@@ -5,14 +5,15 @@ use Rattle.std.specs.List.{count_by}
 use Rattle.std.proofs.lemmas.Int.{ints}
 use Rattle.std.proofs.Math.Nat.{mul-add, mul-le-mul_right, suc-mul}
 use Rattle.std.proofs.lemmas.List.Sums.{sum_by-cons, count_by-le-length}
-use Rattle.gas_geom.specs.Gas.{Rules, IsGas, IsSmall, holds, sum_below, sum_held}
+use Rattle.gas_geom.specs.Gas.{Rules, IsGas, holds, signed_sum_by}
+use Rattle.gas_geom.proofs.Held.{held_below, sum_held, sum-held, particles-bits}
 use Rattle.gas_geom.specs.declared.size.TheConstants.{MOST_SIDE}
 use Rattle.std.specs.Int.{bit_at}
 use Rattle.gas_geom.proofs.Sets.{bit_of-holds}
-use Rattle.gas_geom.proofs.Sums.{sum_below-cong, sum_below-zero, sum_below-add}
+use Rattle.gas_geom.proofs.Sums.{sum_below, sum_below-cong, sum_below-zero, sum_below-add}
 use Rattle.gas_tool_coarse.specs.Tally.{HasRoom, most_cells, plus_cell, plus_particles}
 use Rattle.gas_tool_coarse.specs.declared.blocks.Block.{Block}
-use Rattle.gas_tool_coarse.proofs.Tallies.{Within, Within-add, Within-le}
+use Rattle.gas_tool_coarse.proofs.Tallies.{IsSmall, Within, Within-add, Within-le}
 
 -- ---- products of whole numbers
 times-add : (z : ℤ) (m n : ℕ) → z *ℤ pos (m + n) ≡ z *ℤ pos m +ℤ z *ℤ pos n
@@ -32,10 +33,10 @@ times-one (negsuc a) = ap (λ k. neg_ℤ (pos k)) (let e : suc a * 1 ≡ suc a =
 
 pub times-within : (z : ℤ) (n : ℕ) → IsSmall z → Within (2 * n) (z *ℤ pos n)
 times-within (pos a) n h =
-    let le : a * n ≤ 2 * n = mul-le-mul_right n (omega (arith, ints, h.1)) in
+    let le : a * n ≤ 2 * n = mul-le-mul_right n (omega (arith, h)) in
     record { low = omega (arith, ints); high = omega (arith, ints, le) }
 times-within (negsuc a) n h =
-    let le : suc a * n ≤ 2 * n = mul-le-mul_right n (omega (arith, ints, h.0)) in
+    let le : suc a * n ≤ 2 * n = mul-le-mul_right n (omega (arith, h)) in
     record { low = omega (arith, ints, le); high = omega (arith, ints) }
 
 -- ---- sums over directions
@@ -62,6 +63,11 @@ sum_times-more zero s count more f each = refl
 sum_times-more (suc n) s count more f each =
     ap₂ (λ y z. y +ℤ z) (sum_times-more n s count more f each) (ap (λ k. f n *ℤ pos k) (each n) ∙ once_more (holds s n) (f n) (count n))
     ∙ exchanged (sum_held n s f) (sum_times n count f) (if holds s n then f n else pos 0) (f n *ℤ pos (count n))
+
+sum_held-more : (n s : ℕ) (count more : ℕ → ℕ) (f : ℕ → ℤ) → ((i : ℕ) → more i ≡ cond (holds s i) 1 0 + count i) →
+    sum_times n more f ≡ signed_sum_by f (held_below n s) +ℤ sum_times n count f
+sum_held-more n s count more f each =
+    sum_times-more n s count more f each ∙ ap (λ z. z +ℤ sum_times n count f) (sym (sum-held n s f))
 
 sum_below-more : (n s : ℕ) (count more : ℕ → ℕ) → ((i : ℕ) → more i ≡ cond (holds s i) 1 0 + count i) →
     sum_below n more ≡ sum_below n (λ i. bit_at s i) + sum_below n count
@@ -138,9 +144,9 @@ counted-cell gas solid state b x xs =
     same_block (counted gas solid state b (x ∷ xs) gas.dirs) (counted gas solid state (plus_cell gas b (solid x) (state x)) xs gas.dirs) refl refl
     (ap (λ n. b.fluid + (suc (length xs) - n)) (sum_by-cons (λ y. cond (solid y) 1 0) x xs)
     ∙ fluid_more (solid x) b.fluid (length xs) (count_by solid xs) (count_by-le-length solid xs))
-    (omega (arith, sum_below-more gas.dirs (state x) (holding state xs) (holding state (x ∷ xs)) each))
-    (ap (λ z. b.px +ℤ z) (sum_times-more gas.dirs (state x) (holding state xs) (holding state (x ∷ xs)) (λ i. (gas.momentum i).0) each) ∙ z_assoc b.px _ _)
-    (ap (λ z. b.py +ℤ z) (sum_times-more gas.dirs (state x) (holding state xs) (holding state (x ∷ xs)) (λ i. (gas.momentum i).1) each) ∙ z_assoc b.py _ _)
+    (omega (arith, particles-bits gas (state x), sum_below-more gas.dirs (state x) (holding state xs) (holding state (x ∷ xs)) each))
+    (ap (λ z. b.px +ℤ z) (sum_held-more gas.dirs (state x) (holding state xs) (holding state (x ∷ xs)) (λ i. (gas.momentum i).0) each) ∙ z_assoc b.px _ _)
+    (ap (λ z. b.py +ℤ z) (sum_held-more gas.dirs (state x) (holding state xs) (holding state (x ∷ xs)) (λ i. (gas.momentum i).1) each) ∙ z_assoc b.py _ _)
 
 -- the particles of all directions
 pub counted-all : (gas : Rules) (solid : ℕ → Bool) (state : ℕ → ℕ) (b : Block) (xs : List ℕ) →

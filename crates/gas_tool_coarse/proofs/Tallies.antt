@@ -1,6 +1,6 @@
 -- Lemmas on how a block's numbers come together.
-use Rattle.std.proofs.Common.{◌≡◌, ◌∙◌, ap, sym, subst, true, false, Bool, ℕ, zero, suc, ◌+◌, ◌-◌, ◌*◌, ◌/◌, ◌<◌, ◌≤◌, min, refl, pos, ◌+ℤ◌, ◌≤ℤ◌, neg_ℤ, ℤ, add-zero, zero-add, arith, List, [], ◌∷◌, ◌++◌, map, fold, length, slice_index_or, append-nil, ap₂, length-append}
-use Rattle.std.specs.Prelude.{All, ◌==◌, if◌then◌else◌, not}
+use Rattle.std.proofs.Common.{◌≡◌, ◌∙◌, ap, sym, subst, true, false, Bool, ℕ, zero, suc, ◌+◌, ◌-◌, ◌*◌, ◌/◌, ◌<◌, ◌≤◌, min, refl, pos, negsuc, ◌+ℤ◌, ◌≤ℤ◌, neg_ℤ, ℤ, add-zero, zero-add, arith, List, [], ◌∷◌, ◌++◌, map, fold, length, slice_index_or, append-nil, ap₂, length-append}
+use Rattle.std.specs.Prelude.{All, ◌==◌, if◌then◌else◌, not, unsigned_abs}
 use Rattle.std.specs.Int.{div_ceil}
 use Rattle.std.specs.List.{range_with_len, flat_map}
 use Rattle.std.proofs.lemmas.Int.{ints}
@@ -11,7 +11,8 @@ use Rattle.std.proofs.lemmas.Grind.{flat_map-append}
 use Rattle.std.proofs.lemmas.List.Sums.{fold-append}
 use Rattle.std.proofs.lemmas.List.{length-map}
 use Rattle.std.proofs.lemmas.List.Folds.{fold-map}
-use Rattle.gas_geom.specs.Gas.{Rules, IsGas, IsSmall, holds, sum_held, particles, momentum_of}
+use Rattle.gas_geom.specs.Gas.{Rules, IsGas, holds, particles, momentum_of}
+use Rattle.gas_geom.proofs.Held.{sum_held, sum-held, particles-bits}
 use Rattle.gas_geom.specs.declared.size.TheConstants.{MOST_SIDE}
 use Rattle.gas_geom.specs.Channel.{is_solid}
 use Rattle.gas_geom.specs.Lattice.{LatticeModel, cell}
@@ -27,8 +28,16 @@ pub record Within (m : ℕ) (z : ℤ) : Type 0 where
   pub low : neg_ℤ (pos m) ≤ℤ z
   pub high : z ≤ℤ pos m
 
+-- a number from -2 to 2
+abbrev pub IsSmall : ℤ → Type 0
+IsSmall z = unsigned_abs z ≤ 2
+
+pub small-within : (z : ℤ) → IsSmall z → Within 2 z
+small-within (pos a) h = record { low = omega (arith, ints); high = omega (arith, ints, h) }
+small-within (negsuc a) h = record { low = omega (arith, ints, h); high = omega (arith, ints) }
+
 if_small : (b : Bool) (z : ℤ) → IsSmall z → Within 2 (if b then z else pos 0)
-if_small true z h = record { low = omega (arith, ints, h.0); high = omega (arith, ints, h.1) }
+if_small true z h = small-within z h
 if_small false z h = record { low = omega (arith, ints); high = omega (arith, ints) }
 
 pub Within-add : (m n : ℕ) (y z : ℤ) → Within m y → Within n z → Within (m + n) (y +ℤ z)
@@ -46,8 +55,10 @@ sum_held_small (suc n) s f h =
 pub momentum_within : (gas : Rules) → IsGas gas → (s : ℕ) → Within 16 (momentum_of gas s).0 × Within 16 (momentum_of gas s).1
 momentum_within gas laws s =
     let few = laws.few_dirs in (
-      Within-le _ _ _ (omega arith) (sum_held_small gas.dirs s (λ i. (gas.momentum i).0) (λ i lt. (laws.momentum_small i lt).0)),
-      Within-le _ _ _ (omega arith) (sum_held_small gas.dirs s (λ i. (gas.momentum i).1) (λ i lt. (laws.momentum_small i lt).1)),
+      subst (Within 16) (sym (sum-held gas.dirs s (λ i. (gas.momentum i).0)))
+          (Within-le _ _ _ (omega arith) (sum_held_small gas.dirs s (λ i. (gas.momentum i).0) (λ i lt. (laws.momentum_small i lt).0))),
+      subst (Within 16) (sym (sum-held gas.dirs s (λ i. (gas.momentum i).1)))
+          (Within-le _ _ _ (omega arith) (sum_held_small gas.dirs s (λ i. (gas.momentum i).1) (λ i lt. (laws.momentum_small i lt).1))),
     )
 
 solid_counts : (b : Bool) → (if not b then 1 else 0) ≤ 1
@@ -60,7 +71,7 @@ HasRoom-cell gas laws b solid s n h =
     let m = momentum_within gas laws s in
     record {
       fluid = omega (arith, h.fluid, solid_counts solid);
-      particles = omega (arith, h.particles, bits-le gas.dirs s, laws.few_dirs);
+      particles = omega (arith, h.particles, particles-bits gas s, bits-le gas.dirs s, laws.few_dirs);
       west = omega (arith, ints, h.west, m.0.low);
       east = omega (arith, ints, h.east, m.0.high);
       south = omega (arith, ints, h.south, m.1.low);

@@ -1,8 +1,8 @@
 -- Blocks of cells: a lattice seen coarsely.
-use Rattle.std.specs.Prelude.{ℕ, ◌/◌, ◌==◌, not, List, map, filter, fold, sum_by, count_by, ℤ, pos, ◌+ℤ◌}
+use Rattle.std.specs.Prelude.{ℕ, ◌/◌, ◌==◌, not, List, map, filter, sum_by, count_by}
 use Rattle.std.specs.Int.{div_ceil}
 use Rattle.std.specs.List.{range_with_len, flat_map}
-use Rattle.gas_geom.specs.Gas.{Rules, particles, momentum_of}
+use Rattle.gas_geom.specs.Gas.{Rules, particles, signed_sum_by, momentum_of}
 use Rattle.gas_geom.specs.Channel.{ChannelModel, is_solid}
 use Rattle.gas_geom.specs.Lattice.{LatticeModel, cell}
 use Rattle.gas_tool_coarse.specs.declared.blocks.Block.{Block}
@@ -13,10 +13,6 @@ abbrev pub cells_of : ChannelModel → ℕ → ℕ → ℕ → ℕ → List (ℕ
 cells_of channel width height col row =
     flat_map (λ y. map (λ x. (x, y)) (filter (λ x. x / width == col) (range_with_len 0 channel.width)))
     (filter (λ y. y / height == row) (range_with_len 0 channel.height))
-
--- the sum of the numbers that f gives for the items of a list
-abbrev pub signed_sum_by : {X : Type 0} → (X → ℤ) → List X → ℤ
-signed_sum_by f xs = fold (λ a x. a +ℤ f x) (pos 0) xs
 
 -- the block of a list of cells: how many of them are fluid, how many particles they hold, and the sums of their momenta
 abbrev pub block_of_cells : Rules → LatticeModel → ℕ → ℕ → List (ℕ × ℕ) → Block

@@ -1,6 +1,7 @@
-use Rattle.std.proofs.Common.{◌≡◌, ◌+◌, ◌*◌, ◌/◌, ◌%◌, Bool, List, length, ap, ap₂, ◌∙◌, arith}
+use Rattle.std.proofs.Common.{◌≡◌, ◌+◌, ◌*◌, ◌/◌, ◌%◌, Bool, List, length, ap, ap₂, ◌∙◌}
 use Rattle.std.proofs.lemmas.List.FromFn.{length-map-range_with_len}
 use Rattle.rand_chacha.specs.ChaCha.{ChaCha, word_at}
+use Rattle.std.specs.Int.{div_ceil}
 use Rattle.gas_geom.specs.Gas.{holds}
 use Rattle.gas_rows.specs.Chirality.{chirality_bit}
 use Rattle.gas_rows.specs.declared.chirality.Chirality.TheVariants.{Seeded}
@@ -15,9 +16,8 @@ pub returns-clause-bits : goal.returns-clause-bits
 unfolding key_word
 returns-clause-bits c seed key =
     let width = length c.args.out.now in
-    let needed : c.div_ceil-words_of_row.result ≡ (width + 31) / 32 = omega arith in
-    let first_is : c.from.result * c.from-2.result ≡ c.args.y * ((width + 31) / 32) =
-    ap₂ (λ a b. a * b) c.from.ensures (c.from-2.ensures ∙ needed) in
+    let first_is : c.from.result * c.from-2.result ≡ c.args.y * div_ceil width 32 =
+    ap₂ (λ a b. a * b) c.from.ensures (c.from-2.ensures ∙ c.div_ceil-words_of_row.ensures ∙ ap (λ w. div_ceil w 32) c.width.ensures.value) in
     c.draw.ensures.cells
     ∙ map-same _ (λ x. chirality_bit (Seeded seed) width c.args.generation x c.args.y) width
     (λ x h.

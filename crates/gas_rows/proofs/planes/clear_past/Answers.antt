@@ -1,6 +1,6 @@
 use Rattle.std.proofs.Common.{◌≡◌, ℕ, ◌+◌, ◌-◌, ◌*◌, ◌/◌, ◌<◌, ◌&&◌, not, length, set, ltb, arith, sym, ap, subst}
 use Rattle.gas_rows.specs.Words.{words_in}
-use Rattle.gas_rows.specs.Planes.{has}
+use Rattle.gas_rows.specs.Inside.{has}
 use Rattle.gas_rows.proofs.Cells.{cut-more, place_in}
 use Rattle.gas_rows.proofs.planes.clear_past.Goals as goal
 

@@ -1,6 +1,6 @@
 use Rattle.std.proofs.Common.{ℕ, Bool, ◌≡◌, ◌/◌, ◌%◌, ◌&&◌, not, if◌then◌else◌, get_or, ap, ◌∙◌, eq-eqb, ne_eqb, arith}
 use Rattle.gas_geom.specs.Gas.{holds}
-use Rattle.gas_rows.specs.Planes.{has}
+use Rattle.gas_rows.specs.Inside.{has}
 use Rattle.gas_rows.proofs.Cells.{state-same}
 use Rattle.gas_rows.proofs.Collisions.{word-collided}
 use Rattle.gas_rows.proofs.planes.collide_word.Goals as goal

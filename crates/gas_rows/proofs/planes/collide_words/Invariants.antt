@@ -1,6 +1,6 @@
 use Rattle.std.proofs.Common.{◌≡◌, ℕ, ◌*◌, ◌/◌, ◌<◌, ◌≤◌, if◌then◌else◌}
 use Rattle.gas_rows.specs.Words.{bit}
-use Rattle.gas_rows.specs.Planes.{state}
+use Rattle.gas_rows.specs.Inside.{state}
 use Rattle.gas_rows.proofs.planes.collide_words.Given as goal
 
 -- the cells of the words before 2 * k are collided, the others as they were

@@ -1,6 +1,6 @@
 use Rattle.std.proofs.Common.{◌≡◌, ℕ, ◌*◌, ◌/◌, ◌<◌, ◌≤◌, if◌then◌else◌}
 use Rattle.gas_rows.specs.Words.{bit}
-use Rattle.gas_rows.specs.Planes.{has, state}
+use Rattle.gas_rows.specs.Inside.{has, state}
 use Rattle.gas_rows.proofs.planes.empty.Given as goal
 
 abbrev pub invariant-loop-j : goal.invariant-loop-j

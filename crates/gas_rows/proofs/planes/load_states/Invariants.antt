@@ -1,6 +1,6 @@
 use Rattle.std.proofs.Common.{◌≡◌, ℕ, ◌*◌, ◌/◌, ◌<◌, get_or}
 use Rattle.gas_geom.specs.Gas.{holds}
-use Rattle.gas_rows.specs.Planes.{has}
+use Rattle.gas_rows.specs.Inside.{has}
 use Rattle.gas_rows.proofs.planes.load_states.Given as goal
 
 abbrev pub invariant-loop-j : goal.invariant-loop-j

@@ -1,9 +1,9 @@
 use Rattle.std.proofs.Common.{◌≡◌, ◌+◌, ◌^◌, Bool, if◌then◌else◌, arith, sym, ap, ◌∙◌}
 use Rattle.std.proofs.lemmas.Nat.{one_shl}
-use Rattle.gas_rows.specs.Planes.{has, state}
+use Rattle.gas_rows.specs.Inside.{has, state}
 use Rattle.gas_rows.proofs.Cells.{state-none, state-more, state-lt, room}
-use Rattle.gas_rows.proofs.planes.read_cell.Goals as goal
 use Rattle.gas_rows.proofs.planes.read_cell.Goals.{then-has_bit, else-has_bit}
+use Rattle.gas_rows.proofs.planes.read_cell.Goals as goal
 
 pub loop-i-init : goal.loop-i-init
 loop-i-init c = sym (state-none c.args.words.now c.args.count c.args.x)

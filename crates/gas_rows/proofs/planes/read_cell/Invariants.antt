@@ -1,5 +1,5 @@
 use Rattle.std.proofs.Common.{◌≡◌}
-use Rattle.gas_rows.specs.Planes.{state}
+use Rattle.gas_rows.specs.Inside.{state}
 use Rattle.gas_rows.proofs.planes.read_cell.Given as goal
 
 abbrev pub invariant-loop-i : goal.invariant-loop-i

@@ -1,6 +1,6 @@
 use Rattle.std.proofs.Common.{◌≡◌, ℕ, ◌<◌, ◌/◌, ◌==◌, ◌&&◌, if◌then◌else◌, ltb}
 use Rattle.gas_geom.specs.Gas.{holds}
-use Rattle.gas_rows.specs.Planes.{has}
+use Rattle.gas_rows.specs.Inside.{has}
 use Rattle.gas_rows.proofs.planes.write_cell.Given as goal
 
 abbrev pub invariant-loop-i : goal.invariant-loop-i

@@ -1,7 +1,7 @@
 use Rattle.std.proofs.Common.{◌*◌, ap, ◌∙◌, w32, arith}
 use Rattle.std.proofs.lemmas.Int.{to_z-of_z}
-use Rattle.gas_geom.specs.Neighbour.{column_after}
-use Rattle.gas_geom.proofs.Steps.{column_after-lt}
+use Rattle.gas_geom.specs.Moves.{column_after}
+use Rattle.gas_geom.specs.Laws.Steps.{column_after-lt}
 use Rattle.gas_rows.specs.Words.{words_in}
 use Rattle.gas_rows.proofs.PlaneWrites.{has-put_at, has-put_other_at}
 use Rattle.gas_rows.proofs.Rows.{has-part_at}

@@ -1,5 +1,5 @@
 use Rattle.std.proofs.Common.{ℕ, ◌+◌, ◌-◌, ◌*◌, ◌<◌, length, length-set, ◌∙◌, arith}
-use Rattle.gas_geom.specs.Neighbour.{column_after}
+use Rattle.gas_geom.specs.Moves.{column_after}
 use Rattle.gas_rows.specs.Words.{bit}
 use Rattle.gas_rows.specs.Shift.{streamed_bit}
 use Rattle.gas_rows.proofs.Masks.{bit-at}

@@ -1,6 +1,6 @@
 use Rattle.std.proofs.Common.{◌≡◌, ℕ, ◌+◌, ◌-◌, ◌*◌, ◌/◌, ◌%◌, length, ◌∙◌, subst, arith}
 use Rattle.gas_geom.specs.Gas.{holds}
-use Rattle.gas_geom.specs.Neighbour.{column_after}
+use Rattle.gas_geom.specs.Moves.{column_after}
 use Rattle.gas_rows.specs.Words.{words_in, bit}
 use Rattle.gas_rows.specs.Shift.{streamed_bit}
 use Rattle.gas_rows.proofs.Masks.{bit-at}

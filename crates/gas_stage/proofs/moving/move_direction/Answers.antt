@@ -1,7 +1,8 @@
-use Rattle.std.proofs.Common.{◌≡◌, ℕ, get_or, ap, ◌∙◌, rules, arith, w32, FitsSigned, refl}
+use Rattle.std.proofs.Common.{ℕ, get_or, ap, ◌∙◌, rules, arith, w32, FitsSigned, refl}
 use Rattle.std.proofs.lemmas.Int.{to_z-of_z}
-use Rattle.gas_geom.specs.Gas.{Move, amount, holds}
-use Rattle.gas_geom.specs.Neighbour.{column_after, is_odd}
+use Rattle.gas_geom.specs.Moves.{Move, amount, column_after}
+use Rattle.gas_geom.specs.Gas.{holds}
+use Rattle.gas_geom.specs.Laws.Steps.{is_odd}
 use Rattle.gas_stage.proofs.Directions.{streamed_far}
 use Rattle.gas_stage.proofs.moving.move_direction.Goals as goal
 

@@ -1,10 +1,10 @@
 use Rattle.std.proofs.Common.{◌≡◌, ℕ, Bool, false, Some, None, List, [], get_or, unwrap_or, ap, ◌∙◌, rules, arith, w32, FitsSigned}
 use Rattle.std.specs.Option.{option_copied}
 use Rattle.std.proofs.lemmas.Int.{to_z-of_z}
-use Rattle.gas_geom.specs.Gas.{Move, amount, holds}
+use Rattle.gas_geom.specs.Moves.{Move, amount, column_after}
+use Rattle.gas_geom.specs.Gas.{holds, neighbour_of}
 use Rattle.gas_geom.specs.Channel.{ChannelModel, is_solid}
-use Rattle.gas_geom.specs.Neighbour.{neighbour_of, column_after, is_odd}
-use Rattle.gas_geom.proofs.Steps.{column_after-lt}
+use Rattle.gas_geom.specs.Laws.Steps.{is_odd, column_after-lt}
 use Rattle.gas_rows.specs.Shift.{streamed_bit}
 use Rattle.gas_rows.specs.Words.{bit}
 use Rattle.gas_stage.proofs.Directions.{neighbour-same_row, neighbour-same_wall, rows_at, streamed_from_cell, streamed_from_wall}

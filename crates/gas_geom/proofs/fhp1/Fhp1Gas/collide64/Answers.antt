@@ -1,8 +1,49 @@
 use Rattle.std.proofs.Common.{List, [], ◌∷◌, arith, refl, rules}
 use Rattle.gas_geom.specs.Fhp1.{fhp1}
-use Rattle.gas_geom.proofs.Planes.{Formula, Zero, And, Or, Xor, collided}
-use Rattle.gas_geom.proofs.Axes.{e, ne, nw, w, sw, se, one_e, one_ne, one_nw, unlike, pair_e, pair_ne}
+use Rattle.gas_geom.proofs.Planes.{Formula, Plane, Chi, Zero, And, Or, Xor, Not, collided}
 use Rattle.gas_geom.proofs.fhp1.Fhp1Gas.collide64.Goals as goal
+
+abbrev e : Formula
+e = Plane 0
+
+abbrev ne : Formula
+ne = Plane 1
+
+abbrev nw : Formula
+nw = Plane 2
+
+abbrev w : Formula
+w = Plane 3
+
+abbrev sw : Formula
+sw = Plane 4
+
+abbrev se : Formula
+se = Plane 5
+
+abbrev one_e : Formula
+one_e = Xor e w
+
+abbrev one_ne : Formula
+one_ne = Xor ne sw
+
+abbrev one_nw : Formula
+one_nw = Xor nw se
+
+abbrev unlike : Formula
+unlike = Xor e ne
+
+abbrev pair : Formula
+pair = And (Xor unlike nw) (Not (Or (Or (Or (And e ne) one_e) one_ne) one_nw))
+
+abbrev right : Formula
+right = Not Chi
+
+abbrev pair_e : Formula
+pair_e = And pair (Or e (Xor nw right))
+
+abbrev pair_ne : Formula
+pair_ne = And pair (Or ne (Xor e right))
 
 abbrev triple : Formula
 triple = And (And (And (And one_e one_ne) one_nw) unlike) (Xor ne nw)

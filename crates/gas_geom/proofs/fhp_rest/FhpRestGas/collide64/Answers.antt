@@ -1,38 +1,29 @@
-use Rattle.std.proofs.Common.{List, [], ◌∷◌, arith, refl, rules}
+use Rattle.std.proofs.Common.{◌≡◌, ℕ, ◌+◌, ◌%◌, ◌^◌, ◌<◌, Bool, true, false, if◌then◌else◌, List, [], ◌∷◌, get_or, ap, ◌∙◌, arith, refl, rules}
+use Rattle.gas_geom.specs.Gas.{holds}
+use Rattle.gas_geom.specs.Lattice.{set_of}
+use Rattle.gas_geom.specs.Fhp1.{fhp1}
 use Rattle.gas_geom.specs.FhpRest.{fhp_rest}
-use Rattle.gas_geom.proofs.Planes.{Formula, Plane, Zero, And, Or, Xor, Not, collided}
-use Rattle.gas_geom.proofs.Axes.{e, ne, nw, w, sw, se, one_e, one_ne, one_nw, pair_e, pair_ne}
+use Rattle.gas_geom.proofs.Holds.{set_of-lt}
+use Rattle.gas_geom.proofs.Planes.{Formula, Plane, Before, Zero, And, Or, Xor, Not, collided_after, holds-column, plane-lt}
 use Rattle.gas_geom.proofs.fhp_rest.FhpRestGas.collide64.Goals as goal
 
-abbrev rest : Formula
-rest = Plane 6
+abbrev one_e : Formula
+one_e = Xor (Plane 0) (Plane 3)
 
-abbrev each_one : Formula
-each_one = And (And one_e one_ne) one_nw
+abbrev one_ne : Formula
+one_ne = Xor (Plane 1) (Plane 4)
+
+abbrev one_nw : Formula
+one_nw = Xor (Plane 2) (Plane 5)
 
 abbrev first : Formula
-first = Or (Or e nw) sw
+first = Or (Or (Plane 0) (Plane 2)) (Plane 4)
 
 abbrev second : Formula
-second = Or (Or ne w) se
-
-abbrev one_side : Formula
-one_side = Xor first second
-
-abbrev triple : Formula
-triple = And each_one one_side
-
-abbrev along_e : Formula
-along_e = Or triple pair_e
-
-abbrev along_ne : Formula
-along_ne = Or triple pair_ne
-
-abbrev along_nw : Formula
-along_nw = Or triple (Xor pair_e pair_ne)
+second = Or (Or (Plane 1) (Plane 3)) (Plane 5)
 
 abbrev exchange : Formula
-exchange = And one_side (Not (Or each_one (Xor (Xor (Xor one_e one_ne) one_nw) rest)))
+exchange = And (Xor first second) (Not (Or (And (And one_e one_ne) one_nw) (Xor (Xor (Xor one_e one_ne) one_nw) (Plane 6))))
 
 abbrev at_e : Formula
 at_e = And exchange (Xor one_e second)
@@ -45,9 +36,26 @@ at_nw = And exchange (Xor one_nw second)
 
 abbrev after : List Formula
 after =
-    Xor e (Or along_e at_e) ∷ Xor ne (Or along_ne at_ne) ∷ Xor nw (Or along_nw at_nw)
-    ∷ Xor w (Or along_e (Xor exchange at_e)) ∷ Xor sw (Or along_ne (Xor exchange at_ne)) ∷ Xor se (Or along_nw (Xor exchange at_nw))
-    ∷ Xor rest exchange ∷ Zero ∷ []
+    Xor (Before 0) at_e ∷ Xor (Before 1) at_ne ∷ Xor (Before 2) at_nw
+    ∷ Xor (Before 3) (Xor exchange at_e) ∷ Xor (Before 4) (Xor exchange at_ne) ∷ Xor (Before 5) (Xor exchange at_nw)
+    ∷ Xor (Plane 6) exchange ∷ Zero ∷ []
+
+-- the particles that move, without the one at rest
+abbrev moving : ℕ → ℕ
+moving s = s % 64
+
+without_rest : (a : ℕ) (b : Bool) → a < 64 → a ≡ moving (a + (if b then 2 ^ 6 else 0))
+without_rest a true lt = omega arith
+without_rest a false lt = omega arith
 
 pub returns-clause-cells : goal.returns-clause-cells
-returns-clause-cells c = collided fhp_rest after refl c.args.planes c.args.chi (search rules) (omega arith) c.requires
+returns-clause-cells c =
+    let planes = c.args.planes in
+    let before = c.collide64.result in
+    collided_after fhp_rest (λ s r. fhp1.collide (moving s) r) after refl planes before c.args.chi (search rules)
+    (plane-lt 6 before (search rules) c.collide64.ensures.rest) (omega arith) c.requires
+    (λ b i within.
+    holds-column 6 before c.collide64.ensures.rest b i
+    ∙ ap (λ s. holds s i) (c.collide64.ensures.cells b within)
+    ∙ ap (λ s. holds (fhp1.collide s (holds c.args.chi b)) i)
+    (without_rest (set_of 6 (λ k. holds (get_or planes k 0) b)) (holds (get_or planes 6 0) b) (set_of-lt 6 (λ k. holds (get_or planes k 0) b))))

@@ -1,8 +1,8 @@
 use Rattle.std.proofs.Common.{◌≡◌, ◌/◌, ◌*◌, ◌<◌, ℕ, if◌then◌else◌, length, ap, ◌∙◌, sym, subst}
 use Rattle.std.proofs.lemmas.List.{with_items_is}
 use Rattle.gas_rows.specs.Words.{words_in, bit}
-use Rattle.gas_rows.specs.Planes.{state, cells_of}
-use Rattle.gas_rows.specs.Inside.{ArePlanes}
+use Rattle.gas_rows.specs.Inside.{state, ArePlanes}
+use Rattle.gas_rows.specs.Planes.{cells_of}
 use Rattle.gas_rows.proofs.Rows.{wide}
 use Rattle.gas_rows.proofs.Collisions.{nothing, planes-collided, row-collided}
 use Rattle.gas_rows.proofs.row.Row.collide.Goals as goal

@@ -1,6 +1,6 @@
 use Rattle.std.proofs.Common.{◌≡◌, ◌≤◌, ◌*◌, ◌<◌, ◌^◌, ℕ, get_or}
 use Rattle.std.specs.Prelude.{count_ones}
-use Rattle.gas_geom.specs.Gas.{sum_below}
+use Rattle.gas_geom.proofs.Sums.{sum_below}
 use Rattle.gas_rows.proofs.row.Row.count.Given as goal
 
 abbrev pub invariant-loop-word : goal.invariant-loop-word

@@ -2,8 +2,8 @@ use Rattle.std.proofs.Common.{◌≡◌, ◌/◌, ◌^◌, ◌<◌, ℕ, Bool, f
 use Rattle.std.proofs.lemmas.List.{with_items_is}
 use Rattle.std.proofs.lemmas.List.FromFn.{fill_by_all}
 use Rattle.gas_rows.specs.Words.{words_in, bit}
-use Rattle.gas_rows.specs.Planes.{state, cells_of}
-use Rattle.gas_rows.specs.Inside.{ArePlanes}
+use Rattle.gas_rows.specs.Inside.{state, ArePlanes}
+use Rattle.gas_rows.specs.Planes.{cells_of}
 use Rattle.gas_rows.proofs.Cells.{cells-lt}
 use Rattle.gas_rows.proofs.Rows.{wide, row_of-same}
 use Rattle.gas_rows.proofs.Collisions.{planes-collided, row-collided}

@@ -1,10 +1,10 @@
 use Rattle.std.proofs.Common.{ℕ, ◌*◌, Bool, length, ap, ◌∙◌, sym, w32, arith}
 use Rattle.std.proofs.lemmas.List.{with_items_is}
 use Rattle.std.proofs.lemmas.Int.{to_z-of_z}
-use Rattle.gas_geom.specs.Neighbour.{column_after}
-use Rattle.gas_geom.proofs.Steps.{column_after-lt}
+use Rattle.gas_geom.specs.Moves.{column_after}
+use Rattle.gas_geom.specs.Laws.Steps.{column_after-lt}
 use Rattle.gas_rows.specs.Words.{words_in}
-use Rattle.gas_rows.specs.Planes.{has}
+use Rattle.gas_rows.specs.Inside.{has}
 use Rattle.gas_rows.proofs.Cells.{width_of}
 use Rattle.gas_rows.proofs.PlaneWrites.{written}
 use Rattle.gas_rows.proofs.Rows.{whole_plane, held}

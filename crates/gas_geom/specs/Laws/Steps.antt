@@ -1,11 +1,11 @@
 -- Steps: what the columns and rows after a step are, and that the step back leads home.
-use Rattle.std.proofs.Common.{◌≡◌, ◌≢◌, ℕ, ◌+◌, ◌-◌, ◌%◌, ◌<◌, Bool, true, false, not, Some, None, Option, option_map, ℤ, pos, ◌<ℤ◌, ◌≤ℤ◌, ap, ◌∙◌, sym, refl, arith, ⊎_elim, subst}
+use Rattle.std.proofs.Common.{◌≡◌, ◌≢◌, ℕ, ◌+◌, ◌-◌, ◌%◌, ◌<◌, Bool, true, false, not, Some, None, Option, option_map, ap, ◌∙◌, sym, refl, arith, ⊎_elim, subst}
 use Rattle.std.proofs.Math.Nat.{mod-eq_of_lt, mod_self, add-mod_right}
+use Rattle.std.specs.Prelude.{◌==◌}
 use Rattle.std.proofs.lemmas.Bool.{cases_eq, eq-eqb, ne_eqb}
-use Rattle.std.proofs.lemmas.Int.{ints}
 use Rattle.std.proofs.lemmas.Bool.Decides.{nat_tests}
-use Rattle.gas_geom.specs.Gas.{Move, Back, Stay, On, amount, reversed, odd_after, Rules, IsGas}
-use Rattle.gas_geom.specs.Neighbour.{column_after, row_after, is_odd, neighbour_of}
+use Rattle.gas_geom.specs.Moves.{Move, Back, Stay, On, column_after, row_after}
+use Rattle.gas_geom.specs.Gas.{Rules, neighbour_of}
 
 pub column-first : (w x : ℕ) → x < w → x ≡ 0 → w - 1 ≡ column_after w x Back
 column-first w x within first =
@@ -28,21 +28,20 @@ column-last w x last = sym (ap (λ v. v % w) last ∙ mod_self w)
 pub column-on : (w x : ℕ) → x + 1 < w → x + 1 ≡ column_after w x On
 column-on w x within = sym (mod-eq_of_lt within)
 
--- a number that is a move's amount tells which move it is
-pub Back-from : (m : Move) (a : ℤ) → a ≡ amount m → a <ℤ pos 0 → m ≡ Back
-Back-from Back a e h = refl
-Back-from Stay a e h = absurd (omega (arith, ints))
-Back-from On a e h = absurd (omega (arith, ints))
+-- the move that undoes a move
+abbrev pub reversed : Move → Move
+reversed Back = On
+reversed Stay = Stay
+reversed On = Back
 
-pub On-from : (m : Move) (a : ℤ) → a ≡ amount m → pos 0 <ℤ a → m ≡ On
-On-from Back a e h = absurd (omega (arith, ints))
-On-from Stay a e h = absurd (omega (arith, ints))
-On-from On a e h = refl
+-- the parity of the row that a move across the rows leads to
+abbrev pub odd_after : Move → Bool → Bool
+odd_after Back odd = not odd
+odd_after Stay odd = odd
+odd_after On odd = not odd
 
-pub Stay-from : (m : Move) (a : ℤ) → a ≡ amount m → pos 0 ≤ℤ a → a ≤ℤ pos 0 → m ≡ Stay
-Stay-from Back a e h k = absurd (omega (arith, ints))
-Stay-from Stay a e h k = refl
-Stay-from On a e h k = absurd (omega (arith, ints))
+abbrev pub is_odd : ℕ → Bool
+is_odd y = y % 2 == 1
 
 -- a step along the row and the step back
 pub column-there_and_back : (w x : ℕ) (m : Move) → x < w → column_after w (column_after w x m) (reversed m) ≡ x
@@ -124,15 +123,17 @@ neighbour-within gas w h x y i x' y' inx iny there =
     let p = neighbour-parts gas w h x y i x' y' there in
     (subst (λ v. v < w) p.0 (column_after-lt w x (gas.step i (is_odd y)).0 inx), row_after-lt h y y' (gas.step i (is_odd y)).1 iny p.1)
 
--- from the neighbour in direction i the neighbour against i is the cell itself
-pub neighbour-back : (gas : Rules) → IsGas gas → (w h x y i x' y' : ℕ) → x < w → y < h → i < gas.dirs →
-    neighbour_of gas w h x y i ≡ Some (x', y') → neighbour_of gas w h x' y' (gas.opposite i) ≡ Some (x, y)
-neighbour-back gas laws w h x y i x' y' inx iny ini there =
+-- where the step against a direction, from the row that the step in it leads to, undoes that step, the neighbour against the
+-- direction, from the neighbour in it, is the cell itself
+pub neighbour-back : (gas : Rules) (w h x y i x' y' : ℕ) →
+    ((odd : Bool) → gas.step (gas.opposite i) (odd_after (gas.step i odd).1 odd) ≡ (reversed (gas.step i odd).0, reversed (gas.step i odd).1)) →
+    x < w → y < h → neighbour_of gas w h x y i ≡ Some (x', y') → neighbour_of gas w h x' y' (gas.opposite i) ≡ Some (x, y)
+neighbour-back gas w h x y i x' y' undoes inx iny there =
     let p = neighbour-parts gas w h x y i x' y' there in
     let m : Move × Move = gas.step i (is_odd y) in
     let parity : is_odd y' ≡ odd_after m.1 (is_odd y) = odd-row_after h y y' m.1 p.1 in
     let back : gas.step (gas.opposite i) (is_odd y') ≡ (reversed m.0, reversed m.1) =
-    ap (λ b. gas.step (gas.opposite i) b) parity ∙ laws.steps_back i (is_odd y) ini in
+    ap (λ b. gas.step (gas.opposite i) b) parity ∙ undoes (is_odd y) in
     ap (λ (n : Move × Move). option_map {U = ℕ × ℕ} (λ y''. (column_after w x' n.0, y'')) (row_after h y' n.1)) back
     ∙ ap (option_map {U = ℕ × ℕ} (λ y''. (column_after w x' (reversed m.0), y''))) (row-there_and_back h y y' m.1 iny p.1)
     ∙ ap (λ v. Some (v, y)) (ap (λ v. column_after w v (reversed m.0)) (sym p.0) ∙ column-there_and_back w x m.0 inx)
