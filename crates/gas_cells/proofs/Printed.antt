@@ -1,15 +1,17 @@
 -- Printed cells, read back.
-use Rattle.std.proofs.Common.{◌≡◌, ℕ, ◌+◌, ◌*◌, ◌/◌, ◌%◌, ◌<◌, ◌≤◌, ◌==◌, Bool, true, false, ◌&&◌, List, [], ◌∷◌, length, get_or, Some, None, codes, nat_eq, nat_lt, ap, ap₂, sym, ◌∙◌, refl, arith, if◌then◌else◌}
+use Rattle.std.proofs.Common.{◌≡◌, ℕ, zero, suc, ◌+◌, ◌*◌, ◌/◌, ◌%◌, ◌<◌, ◌≤◌, ◌==◌, Bool, true, false, ◌&&◌, List, [], ◌∷◌, length, get_or, Some, None, is_none, codes, nat_eq, nat_lt, ap, ap₂, sym, ◌∙◌, refl, arith, if◌then◌else◌}
 use Rattle.std.specs.Fmt.{digit_glyph}
 use Rattle.std.specs.Option.{option_eq}
+use Rattle.std.specs.List.{find, range_with_len}
 use Rattle.std.specs.Str.{bytes_eq}
 use Rattle.std.proofs.lemmas.Bool.{agree_below_at, eqb-true, lt-ltb}
 use Rattle.std.proofs.lemmas.Bool.Decides.{nat_tests}
 use Rattle.gas_geom.specs.Channel.{ChannelModel, is_solid}
 use Rattle.gas_geom.specs.Lattice.{cell}
 use Rattle.gas_cells.specs.Cells.{cell_text, row_cells}
-use Rattle.gas_cells.proofs.Pairs.{cell_text-long, texts, character}
-use Rattle.gas_cells.specs.Reading.{digit_of, state_of, cell_of, cell_at}
+use Rattle.gas_cells.proofs.Pairs.{cell_text-long, texts, character, length-row_cells}
+use Rattle.gas_cells.specs.Reading.{digit_of, state_of, cell_of, cell_at, bad_column}
+use Rattle.gas_cells.proofs.Columns.{find-next}
 use Rattle.gas_cells.proofs.Digits.{solid_cell, fluid, same_option}
 
 -- a digit is read back, and is no mark
@@ -74,3 +76,16 @@ cell_at-row_cells channel rows states x y within below few none =
     let first : 2 * x ≡ 2 * x + 0 = omega arith in
     ap₂ (cell_of states) (ap (λ i. get_or (texts f 0 channel.width) i 0) first ∙ character f two channel.width x 0 within (omega arith)) (character f two channel.width x 1 within (omega arith))
     ∙ cell_of-if states (cell rows x y) (is_solid channel x y) (cell rows x y == 0) below few refl none
+
+no_find : (p : ℕ → Bool) (n : ℕ) → ((k : ℕ) → k < n → p k ≡ false) → find p (range_with_len 0 n) ≡ None
+no_find p zero each = refl
+no_find p (suc n) each =
+    ap (λ m. find p (range_with_len 0 m)) (let e : suc n ≡ n + 1 = omega arith in e)
+    ∙ find-next p n (no_find p n (λ k below. each k (omega (arith, below)))) (each n (omega arith))
+
+-- and none of its columns is without a cell
+pub bad_column-row_cells : (channel : ChannelModel) (rows : List (List ℕ)) (states y : ℕ) → ((x : ℕ) → cell rows x y < states) → states ≤ 256
+    → ((x : ℕ) → is_solid channel x y ≡ true → cell rows x y ≡ 0) → bad_column states (row_cells channel rows y) ≡ None
+bad_column-row_cells channel rows states y below few none =
+    no_find (λ x. is_none (cell_at states (row_cells channel rows y) x)) _
+    (λ x within. ap is_none (cell_at-row_cells channel rows states x y (omega (arith, within, length-row_cells channel rows y)) (below x) few (none x)))

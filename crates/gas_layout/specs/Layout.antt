@@ -42,17 +42,10 @@ can_place states width height solid p =
 
 -- a channel by its solid cells, and a lattice by its solid cells and its states
 abbrev pub channel_of : ℕ → ℕ → (ℕ → ℕ → Bool) → ChannelModel
-channel_of width height solid = record {
-  width = width;
-  height = height;
-  solid = rows_of width height solid;
-}
+channel_of width height solid = record { width = width; height = height; solid = rows_of width height solid }
 
 abbrev pub lattice_of : ℕ → ℕ → (ℕ → ℕ → Bool) → (ℕ → ℕ → ℕ) → LatticeModel
-lattice_of width height solid at = record {
-  channel = channel_of width height solid;
-  rows = rows_of width height at;
-}
+lattice_of width height solid at = record { channel = channel_of width height solid; rows = rows_of width height at }
 
 -- the channel of this size in which the cells are solid that some rectangles cover
 abbrev pub drawn : ℕ → ℕ → List Rectangle → ChannelModel

@@ -1,85 +1,213 @@
--- The lattice of a map, cell by cell.
-use Rattle.std.proofs.Common.{◌≡◌, ℕ, ◌+◌, ◌*◌, ◌<◌, Bool, true, false, List, length, get_or, set, Option, Some, None, ap, sym, ◌∙◌, refl, nat_lt, if◌then◌else◌}
-use Rattle.std.proofs.lemmas.Bool.{ltb-true, false≢true}
+-- The lattice of a map, row by row, and what is known of rows that are not refused.
+use Rattle.std.proofs.Common.{◌≡◌, ℕ, ◌+◌, ◌*◌, ◌/◌, ◌%◌, ◌==◌, ◌<◌, ◌≤◌, Bool, true, false, not, List, [], ◌∷◌, map, length, get_or, set, Option, Some, None, pos, codes, nat_lt, ap, ap₂, sym, ◌∙◌, refl, arith, if◌then◌else◌}
+use Rattle.std.specs.Prelude.{is_some, option_map, IsSome, IfSome, Ok, Err}
+use Rattle.std.specs.Option.{option_or, unwrap_or, is_none}
+use Rattle.std.specs.Str.{bytes_eq}
+use Rattle.std.proofs.lemmas.Bool.{and_parts, ltb-true, false≢true}
+use Rattle.std.proofs.lemmas.Bool.Decides.{nat_tests}
+use Rattle.std.proofs.lemmas.Int.{ints}
+use Rattle.std.proofs.lemmas.List.{length-map, get_or-map}
+use Rattle.toml.specs.View.{view}
+use Rattle.toml.specs.declared.value.Value.{Value}
 use Rattle.gas_geom.specs.Channel.{free_channel}
 use Rattle.gas_geom.specs.Lattice.{LatticeModel, empty_lattice}
-use Rattle.gas_scene.specs.declared.cells.Cell.{Cell}
-use Rattle.gas_scene.specs.declared.cells.Cell.TheVariants.{Solid, State}
-use Rattle.gas_scene.specs.declared.cells.TheConstants.{SOLID_MARK, EMPTY_MARK}
-use Rattle.gas_scene.specs.Cells.{digit_of, state_of, cell_of, cell_at}
-use Rattle.gas_scene.specs.Map.{is_solid_cell, state_in, map_cell, map_width, map_lattice}
-use Rattle.gas_scene.proofs.Digits.{is_marked}
-use Rattle.gas_scene.proofs.Grids.{lattice_before-next, lattice_before-none, lattice_before-all}
-use Rattle.gas_scene.specs.Building.{map_before}
+use Rattle.gas_geom.specs.declared.size.TheConstants.{MOST_SIDE}
+use Rattle.gas_cells.specs.declared.reading.Cell.{Cell}
+use Rattle.gas_cells.specs.Reading.{digit_of, state_of, cell_of, cell_at, bad_column}
+use Rattle.gas_layout.specs.Layout.{between}
+use Rattle.gas_layout.proofs.Grids.{rows_of-set_row, rows_of-replicate, lattice_of-same, if_same}
+use Rattle.gas_layout.proofs.Steps.{before-here, before-other, before-none, before-all}
+use Rattle.gas_scene.specs.declared.error.SceneError.{SceneError}
+use Rattle.gas_scene.specs.declared.error.SceneError.TheVariants.{Range, RowLength}
+use Rattle.gas_scene.specs.Table.{text_of}
+use Rattle.gas_scene.specs.Refusals.{is_misfit, row_length, bad_cell, map_refusal}
+use Rattle.gas_scene.specs.Scene.{map_cell, map_lattice}
+use Rattle.gas_scene.specs.Inner.Maps.{verdict, map_width, map_before, AreShort, IsMap, row_at}
+use Rattle.gas_scene.proofs.Firsts.{none_passes, find-none, not_some}
+
+-- row r, by the value that stands there
+pub row_at-view : (vs : List Value) (r : ℕ) (v : Value) → r < length vs → v ≡ get_or vs r v → row_at (map text_of (map view vs)) r ≡ text_of (view v)
+row_at-view vs r v within is =
+    get_or-map text_of (map view vs) r (view v) [] (omega (arith, within, length-map vs view)) ∙ ap text_of (get_or-map view vs r v (view v) within ∙ ap view (sym is))
+
+pub length-rows : (vs : List Value) → length (map text_of (map view vs)) ≡ length vs
+length-rows vs = length-map (map view vs) text_of ∙ length-map vs view
 
 abbrev pub with_row : LatticeModel → ℕ → List Bool → List ℕ → LatticeModel
 with_row l y mask row = record { channel = record l.channel { solid = set l.channel.solid y mask }; rows = set l.rows y row }
 
 module _ (states : ℕ) (rows : List (List ℕ)) where
   abbrev solid_at : ℕ → ℕ → Bool
-  solid_at u v = is_solid_cell (map_cell states rows u v)
+  solid_at u v = (map_cell states rows u v).solid
 
   abbrev state_at : ℕ → ℕ → ℕ
-  state_at u v = state_in (map_cell states rows u v)
+  state_at u v = (map_cell states rows u v).state
 
-  pub width-map_before : (y : ℕ) → (map_before states rows 0 y).channel.width ≡ map_width rows
+  abbrev solid_before : ℕ → ℕ → ℕ → Bool
+  solid_before y u v = if nat_lt v y then solid_at u v else false
+
+  abbrev state_before : ℕ → ℕ → ℕ → ℕ
+  state_before y u v = if nat_lt v y then state_at u v else 0
+
+  pub width-map_before : (y : ℕ) → (map_before states rows y).channel.width ≡ map_width rows
   unfolding map_before
   width-map_before y = refl
 
-  pub height-map_before : (y : ℕ) → (map_before states rows 0 y).channel.height ≡ length rows
+  pub height-map_before : (y : ℕ) → (map_before states rows y).channel.height ≡ length rows
   unfolding map_before
   height-map_before y = refl
 
   pub map_before-next : (y : ℕ) (mask : List Bool) (row : List ℕ) → y < length rows → length mask ≡ map_width rows → length row ≡ map_width rows
       → ((x : ℕ) → x < map_width rows → get_or mask x false ≡ solid_at x y) → ((x : ℕ) → x < map_width rows → get_or row x 0 ≡ state_at x y)
-      → with_row (map_before states rows 0 y) y mask row ≡ map_before states rows 0 (y + 1)
+      → with_row (map_before states rows y) y mask row ≡ map_before states rows (y + 1)
   unfolding map_before
-  map_before-next y mask row = lattice_before-next (map_width rows) (length rows) solid_at state_at y mask row
+  map_before-next y mask row in_rows mask_wide row_wide same_solid same_state =
+      ap₂ (λ gs rs. record { channel = record { width = map_width rows; height = length rows; solid = gs }; rows = rs })
+      (rows_of-set_row (map_width rows) (length rows) (solid_before y) (solid_before (y + 1)) y mask false in_rows mask_wide
+      (λ u in_row. same_solid u in_row ∙ sym (if_same (nat_lt y (y + 1)) true (solid_at u y) false (before-here y)))
+      (λ u k other. if_same (nat_lt k y) (nat_lt k (y + 1)) (solid_at u k) false (before-other y k other)))
+      (rows_of-set_row (map_width rows) (length rows) (state_before y) (state_before (y + 1)) y row 0 in_rows row_wide
+      (λ u in_row. same_state u in_row ∙ sym (if_same (nat_lt y (y + 1)) true (state_at u y) 0 (before-here y)))
+      (λ u k other. if_same (nat_lt k y) (nat_lt k (y + 1)) (state_at u k) 0 (before-other y k other)))
 
-  pub map_before-none : empty_lattice (free_channel (map_width rows) (length rows)) ≡ map_before states rows 0 0
+  pub map_before-none : empty_lattice (free_channel (map_width rows) (length rows)) ≡ map_before states rows 0
   unfolding map_before
-  map_before-none = lattice_before-none (map_width rows) (length rows) solid_at state_at
+  map_before-none =
+      ap₂ (λ gs rs. record { channel = record { width = map_width rows; height = length rows; solid = gs }; rows = rs })
+      (rows_of-replicate (map_width rows) (length rows) (solid_before 0) false (λ u k. sym (if_same (nat_lt k 0) false (solid_at u k) false (before-none k))))
+      (rows_of-replicate (map_width rows) (length rows) (state_before 0) 0 (λ u k. sym (if_same (nat_lt k 0) false (state_at u k) 0 (before-none k))))
 
-  pub map_before-all : map_before states rows 0 (length rows) ≡ map_lattice states rows
+  pub map_before-all : map_before states rows (length rows) ≡ map_lattice states rows
   unfolding map_before map_lattice
-  map_before-all = lattice_before-all (map_width rows) (length rows) solid_at state_at
+  map_before-all =
+      lattice_of-same (map_width rows) (length rows) (solid_before (length rows)) solid_at (state_before (length rows)) state_at
+      (λ u k _ in_column. if_same (nat_lt k (length rows)) true (solid_at u k) false (before-all (length rows) k in_column))
+      (λ u k _ in_column. if_same (nat_lt k (length rows)) true (state_at u k) 0 (before-all (length rows) k in_column))
 
--- a state that two characters stand for is one of so many
-state_if : (states s : ℕ) (cell : Cell) (b : Bool) → nat_lt s states ≡ b → (if b then Some (State s) else None) ≡ Some cell → state_in (Some cell) < states
-state_if states s cell true below is = rw (sym (ap state_in is)) (ltb-true s states below)
-state_if states s cell false below is = absurd (cc)
+abbrev pub empty : Cell
+empty = record { solid = false; state = 0 }
 
-state_of-within : (states : ℕ) (high low : Option ℕ) (cell : Cell) → state_of states high low ≡ Some cell → state_in (Some cell) < states
-state_of-within states None low cell is = absurd (cc)
-state_of-within states (Some high) None cell is = absurd (cc)
-state_of-within states (Some high) (Some low) cell is = state_if states (high * 16 + low) cell (nat_lt (high * 16 + low) states) refl is
-
-zero_within : (states : ℕ) (o : Option Cell) (cell : Cell) → 0 < states → state_in o ≡ 0 → o ≡ Some cell → state_in (Some cell) < states
-zero_within states o cell some none is = rw (sym (ap state_in is) ∙ none) some
-
-by_marks : (states : ℕ) (solid empty : Bool) (other : Option Cell) (cell : Cell) → 0 < states
-    → (other ≡ Some cell → state_in (Some cell) < states)
-    → (if solid then Some Solid else if empty then Some (State 0) else other) ≡ Some cell → state_in (Some cell) < states
-by_marks states true empty other cell some rest is = zero_within states (Some Solid) cell some refl is
-by_marks states false true other cell some rest is = zero_within states (Some (State 0)) cell some refl is
-by_marks states false false other cell some rest is = rest is
-
-cell_of-within : (states a b : ℕ) (cell : Cell) → 0 < states → cell_of states a b ≡ Some cell → state_in (Some cell) < states
-unfolding cell_of
-cell_of-within states a b cell some is =
-    by_marks states (is_marked SOLID_MARK a b) (is_marked EMPTY_MARK a b) (state_of states (digit_of a) (digit_of b)) cell some
-    (state_of-within states (digit_of a) (digit_of b) cell) is
+-- what holds of a cell that stands somewhere
+pub cell_is : {A : Type 0} (o : Option Cell) (f : Cell → A) (v : A) → IsSome o → IfSome o (λ c. v ≡ f c) → v ≡ f (unwrap_or o empty)
+cell_is None f v some is = absurd (cc)
+cell_is (Some c) f v some is = is
 
 -- the state of what may be a cell is one of so many, and 0 at a solid cell
-some_cell-within : (states a b : ℕ) (o : Option Cell) → 0 < states → cell_of states a b ≡ o → state_in o < states
-some_cell-within states a b None some is = some
-some_cell-within states a b (Some cell) some is = cell_of-within states a b cell some is
+below : (states n : ℕ) (b : Bool) → 0 < states → nat_lt n states ≡ b
+    → (unwrap_or (if b then Some (record { solid = false; state = n }) else None) empty).state < states
+below states n true some is = ltb-true n states is
+below states n false some is = some
 
-pub cell_at-within : (states : ℕ) (row : List ℕ) (x : ℕ) → 0 < states → state_in (cell_at states row x) < states
-cell_at-within states row x some = some_cell-within states _ _ (cell_at states row x) some refl
+state_of-within : (states : ℕ) (high low : Option ℕ) → 0 < states → (unwrap_or (state_of states high low) empty).state < states
+state_of-within states None low some = some
+state_of-within states (Some high) None some = some
+state_of-within states (Some high) (Some low) some = below states (high * 16 + low) (nat_lt (high * 16 + low) states) some refl
 
--- a cell that is solid has no state
-pub solid-empty : (o : Option Cell) → is_solid_cell o ≡ true → state_in o ≡ 0
-solid-empty None solid = refl
-solid-empty (Some Solid) solid = refl
-solid-empty (Some (State s)) solid = absurd (false≢true solid)
+marked-within : (states : ℕ) (solid dots : Bool) (o : Option Cell) → 0 < states → (unwrap_or o empty).state < states
+    → (unwrap_or (if solid then Some (record { solid = true; state = 0 }) else if dots then Some empty else o) empty).state < states
+marked-within states true dots o some rest = some
+marked-within states false true o some rest = some
+marked-within states false false o some rest = rest
+
+pub cell_at-within : (states : ℕ) (row : List ℕ) (x : ℕ) → 0 < states → (unwrap_or (cell_at states row x) empty).state < states
+unfolding cell_of
+cell_at-within states row x some =
+    marked-within states (bytes_eq (get_or row (2 * x) 0 ∷ get_or row (2 * x + 1) 0 ∷ []) (codes "##")) (bytes_eq (get_or row (2 * x) 0 ∷ get_or row (2 * x + 1) 0 ∷ []) (codes "..")) _ some
+    (state_of-within states (digit_of (get_or row (2 * x) 0)) (digit_of (get_or row (2 * x + 1) 0)) some)
+
+fluid_if : (n : ℕ) (b : Bool) → (unwrap_or (if b then Some (record { solid = false; state = n }) else None) empty).solid ≡ false
+fluid_if n true = refl
+fluid_if n false = refl
+
+state_of-fluid : (states : ℕ) (high low : Option ℕ) → (unwrap_or (state_of states high low) empty).solid ≡ false
+state_of-fluid states None low = refl
+state_of-fluid states (Some high) None = refl
+state_of-fluid states (Some high) (Some low) = fluid_if (high * 16 + low) (nat_lt (high * 16 + low) states)
+
+marked-empty : (solid dots : Bool) (o : Option Cell) → (unwrap_or o empty).solid ≡ false
+    → (unwrap_or (if solid then Some (record { solid = true; state = 0 }) else if dots then Some empty else o) empty).solid ≡ true
+    → (unwrap_or (if solid then Some (record { solid = true; state = 0 }) else if dots then Some empty else o) empty).state ≡ 0
+marked-empty true dots o fluid is = refl
+marked-empty false true o fluid is = refl
+marked-empty false false o fluid is = absurd (false≢true (sym fluid ∙ is))
+
+pub solid-empty : (states : ℕ) (row : List ℕ) (x : ℕ) → (unwrap_or (cell_at states row x) empty).solid ≡ true → (unwrap_or (cell_at states row x) empty).state ≡ 0
+unfolding cell_of
+solid-empty states row x is =
+    marked-empty (bytes_eq (get_or row (2 * x) 0 ∷ get_or row (2 * x + 1) 0 ∷ []) (codes "##")) (bytes_eq (get_or row (2 * x) 0 ∷ get_or row (2 * x + 1) 0 ∷ []) (codes "..")) _
+    (state_of-fluid states (digit_of (get_or row (2 * x) 0)) (digit_of (get_or row (2 * x + 1) 0))) is
+
+-- verdicts, and what they tell
+pub verdict-none : (o : Option SceneError) → verdict o ≡ Ok tt → o ≡ None
+verdict-none None ok = refl
+verdict-none (Some e) ok = absurd (cc)
+
+pub verdict-some : (o : Option SceneError) (e : SceneError) → verdict o ≡ Err e → o ≡ Some e
+verdict-some None e refused = absurd (cc)
+verdict-some (Some f) e refused = cc
+
+pub map_refusal-values : (most states : ℕ) (vs : List Value) (b : Bool) → b ≡ between (pos 1) (pos most) (pos (length vs))
+    → map_refusal most states (map text_of (map view vs))
+    ≡ (if not b then Some Range else option_or (row_length most (map text_of (map view vs))) (bad_cell states (map text_of (map view vs))))
+unfolding map_refusal
+map_refusal-values most states vs b is = rw (is, length-rows vs) refl
+
+mapped_none : {A : Type 0} (f : ℕ → A) (o : Option ℕ) → option_map f o ≡ None → o ≡ None
+mapped_none f None e = refl
+mapped_none f (Some x) e = absurd (cc)
+
+not_false : (b : Bool) → not b ≡ false → b ≡ true
+not_false true e = refl
+not_false false e = sym e
+
+fitting : (most first : ℕ) (row : List ℕ) → is_misfit most first row ≡ false → (2 ≤ length row) × ((length row ≤ (2 * most)) × (length row ≡ first))
+fitting most first row held =
+    let whole = and_parts (length row % 2 == 0) _ (not_false _ held) in
+    (grind (arith, nat_tests, whole.1), (grind (arith, nat_tests, whole.1), grind (arith, nat_tests, whole.1)))
+
+module _ (most : ℕ) (rows : List (List ℕ)) (few : most ≤ MOST_SIDE) (lengths : row_length most rows ≡ None) where
+  fits : (r : ℕ) → r < length rows → (2 ≤ length (row_at rows r)) × ((length (row_at rows r) ≤ (2 * most)) × (length (row_at rows r) ≡ length (row_at rows 0)))
+  fits r within = fitting most _ (row_at rows r) (none_passes _ rows (mapped_none (λ r. RowLength r) _ lengths) r [] within)
+
+  pub AreShort-lengths : length rows ≤ MOST_SIDE → AreShort rows
+  AreShort-lengths high = record {
+    high = high;
+    wide = λ r within. let short = (fits r within).1.0 in omega (arith, short, few);
+  }
+
+  no_bad : (states : ℕ) → bad_cell states rows ≡ None → (x y : ℕ) → y < length rows → x < length (row_at rows y) / 2 → IsSome (cell_at states (row_at rows y) x)
+  no_bad states cells x y in_rows in_row =
+      let none = none_passes (λ row. is_some (bad_column states row)) rows (mapped_none _ _ cells) y [] in_rows in
+      some_if (cell_at states (row_at rows y) x) (find-none (λ c. is_none (cell_at states (row_at rows y) c)) 0 _ (not_some _ none) x (omega arith) (omega (arith, in_row)))
+    where
+      some_if : (o : Option Cell) → is_none o ≡ false → IsSome o
+      some_if None e = absurd (cc)
+      some_if (Some c) e = refl
+
+  pub IsMap-accepted : (states : ℕ) → between (pos 1) (pos most) (pos (length rows)) ≡ true → bad_cell states rows ≡ None → IsMap states rows
+  IsMap-accepted states high cells =
+      let some_rows : 1 ≤ length rows = grind (arith, ints, high) in
+      let few_rows : length rows ≤ most = grind (arith, ints, high) in
+      let first = fits 0 some_rows in
+      let first_long = first.0 in
+      let first_short = first.1.0 in
+      record {
+        some_rows = some_rows;
+        few_rows = omega (arith, few_rows, few);
+        some_cells = omega (arith, first_long);
+        few_cells = omega (arith, first_short, few);
+        wide = λ y within. ap (λ n. n / 2) (fits y within).1.1;
+        cells = λ x y in_columns in_rows. no_bad states cells x y in_rows (let same = (fits y in_rows).1.1 in omega (arith, in_columns, same));
+      }
+
+-- the parts of a map that is not refused
+pub map_parts : (most states : ℕ) (rows : List (List ℕ)) → map_refusal most states rows ≡ None
+    → (between (pos 1) (pos most) (pos (length rows)) ≡ true) × ((row_length most rows ≡ None) × (bad_cell states rows ≡ None))
+unfolding map_refusal
+map_parts most states rows none = by (between (pos 1) (pos most) (pos (length rows))) (row_length most rows) (bad_cell states rows) none
+  where
+    by : (b : Bool) (o p : Option SceneError) → (if not b then Some Range else option_or o p) ≡ None → (b ≡ true) × ((o ≡ None) × (p ≡ None))
+    by true None None e = (refl, (refl, refl))
+    by true None (Some f) e = absurd (cc)
+    by true (Some f) p e = absurd (cc)
+    by false o p e = absurd (cc)

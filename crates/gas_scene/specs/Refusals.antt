@@ -1,22 +1,22 @@
 -- Why a document's table is no scene.
-use Rattle.std.specs.Prelude.{ℕ, ◌*◌, ◌%◌, ◌==◌, ◌&&◌, ◌||◌, not, Bool, List, [], ◌∷◌, map, Option, Some, None, option_map, if◌then◌else◌, nat_le, length, codes}
-use Rattle.toml.specs.Data.{Members}
+use Rattle.std.specs.Prelude.{ℕ, ◌*◌, ◌%◌, ◌^◌, ◌==◌, ◌&&◌, ◌||◌, not, Bool, List, [], ◌∷◌, Option, Some, None, is_some, option_map, if◌then◌else◌, nat_le, length, codes, slice_index_or, ℤ, pos, nat_abs, int_le}
+use Rattle.std.specs.List.{list_all, list_any, position}
+use Rattle.std.specs.Option.{option_or, option_map_or, unwrap_or}
+use Rattle.std.specs.Ordering.{int_eq}
+use Rattle.std.specs.Str.{bytes_eq}
+use Rattle.toml.specs.Data.{Members, get_member}
+use Rattle.gas_catalog.specs.declared.catalog.KnownGas.{KnownGas}
+use Rattle.gas_catalog.specs.declared.catalog.KnownGas.TheVariants.{Fhp1}
+use Rattle.gas_catalog.specs.Catalog.{rules_of, gas_named}
+use Rattle.gas_layout.specs.Layout.{between, is_covered, fits, can_place}
 use Rattle.gas_scene.specs.declared.error.SceneError.{SceneError}
 use Rattle.gas_scene.specs.declared.error.SceneError.TheVariants.{UnknownKey, Missing, WrongType, Range, BothForms, RowLength, BadCell}
-use Rattle.gas_scene.specs.First.{first_below, first_of}
-use Rattle.gas_scene.specs.Gases.{states_named}
-use Rattle.gas_scene.specs.Fields.{has, text_at, rows_at, row_at}
-use Rattle.gas_scene.specs.Version.{version_of, most_side}
-use Rattle.gas_scene.specs.Kind.{is_known, is_typed, members_all}
-use Rattle.gas_scene.specs.Cells.{bad_column}
-use Rattle.gas_scene.specs.Ranges.{is_in_range}
+use Rattle.gas_cells.specs.Reading.{bad_column}
+use Rattle.gas_scene.specs.Table.{AreaModel, TableModel, table_of}
+use Rattle.gas_scene.specs.Keys.{keys_all, is_known, is_typed}
 
-abbrev pub refused_if : Bool → SceneError → Option SceneError
-refused_if b error = if b then Some error else None
-
--- a key that no scene of the version has
-unfoldable pub unknown_key : Members → Option SceneError
-unknown_key ms = refused_if (not (members_all (λ key d. is_known (version_of ms) key) ms)) UnknownKey
+abbrev pub has : List ℕ → Members → Bool
+has key ms = is_some (get_member key ms)
 
 -- a key of the area
 abbrev pub has_area : Members → Bool
@@ -24,52 +24,64 @@ has_area ms =
     has (codes "width") ms || (has (codes "height") ms
     || (has (codes "solid") ms || (has (codes "rate") ms || has (codes "particles") ms)))
 
-abbrev pub has_both_forms : Members → Bool
-has_both_forms ms = has (codes "cells") ms && has_area ms
+-- what is wrong with the keys of a table and the types of its values, the first fault first
+unfoldable pub table_refusal : Members → Option SceneError
+table_refusal ms =
+    if not (keys_all (is_known (table_of ms).version) ms) then Some UnknownKey
+    else if has (codes "cells") ms && has_area ms then Some BothForms
+    else if not (has (codes "gas") ms && (has (codes "cells") ms || (has (codes "width") ms && has (codes "height") ms))) then Some Missing
+    else if not (is_typed ms) then Some WrongType
+    else None
 
-unfoldable pub both_forms : Members → Option SceneError
-both_forms ms = refused_if (has_both_forms ms) BothForms
+-- the most columns, and the most rows
+abbrev pub most_side : ℤ → ℕ
+most_side version = if int_eq version (pos 2) then 65536 else 4096
 
--- a map, or the size of an area
-abbrev pub has_form : Members → Bool
-has_form ms = has (codes "cells") ms || (has (codes "width") ms && has (codes "height") ms)
+-- the gas that a table names
+abbrev pub gas_of : TableModel → KnownGas
+gas_of t = unwrap_or (gas_named t.gas) Fhp1
 
-abbrev pub is_complete : Members → Bool
-is_complete ms = has (codes "gas") ms && has_form ms
+-- the values that both forms have
+abbrev pub is_common_in_range : TableModel → Bool
+is_common_in_range t =
+    between (pos 1) (pos 2) t.version && (int_le (pos 0) t.seed && (between (pos 0) (pos 1000000000000) t.generation
+    && (is_some (gas_named t.gas) && list_any (bytes_eq t.chirality) (codes "seeded" ∷ codes "left" ∷ codes "right" ∷ []))))
 
-unfoldable pub missing : Members → Option SceneError
-missing ms = refused_if (not (is_complete ms)) Missing
+-- an area with sides of at most `most` cells, in a gas whose cells have so many states
+abbrev pub is_area_in_range : ℕ → ℕ → AreaModel → Bool
+is_area_in_range most states a =
+    between (pos 1) (pos most) a.width && (between (pos 1) (pos most) a.height && (between (pos 0) (pos 1000) a.rate
+    && (list_all (fits (nat_abs a.width) (nat_abs a.height)) a.solid
+    && list_all (can_place states (nat_abs a.width) (nat_abs a.height) (is_covered a.solid)) a.particles)))
 
-unfoldable pub wrong_type : Members → Option SceneError
-wrong_type ms = refused_if (not (members_all is_typed ms)) WrongType
-
-unfoldable pub out_of_range : Members → Option SceneError
-out_of_range ms = refused_if (not (is_in_range ms)) Range
-
--- two bytes for each cell
-abbrev pub is_row_length : ℕ → ℕ → Bool
-is_row_length most n = (n % 2 == 0) && (nat_le 2 n && nat_le n (2 * most))
-
--- whether row r has a wrong length: the first row's counts for each
-abbrev pub is_misfit : ℕ → List (List ℕ) → ℕ → Bool
-is_misfit most rows r = not (is_row_length most (length (row_at rows r)) && (length (row_at rows r) == length (row_at rows 0)))
+-- whether a row's length is wrong: two characters a cell, and as many as the first row has
+abbrev pub is_misfit : ℕ → ℕ → List ℕ → Bool
+is_misfit most first row =
+    not ((length row % 2 == 0) && (nat_le 2 (length row) && (nat_le (length row) (2 * most) && (length row == first))))
 
 -- the first row of a wrong length
-unfoldable pub row_length : Members → Option SceneError
-row_length ms = first_below (λ r. refused_if (is_misfit (most_side (version_of ms)) (rows_at ms) r) (RowLength r)) (length (rows_at ms))
+abbrev pub row_length : ℕ → List (List ℕ) → Option SceneError
+row_length most rows = option_map (λ r. RowLength r) (position (is_misfit most (length (slice_index_or rows 0 []))) rows)
 
--- the first column of row r in which no cell stands
-abbrev pub bad_cell_in : ℕ → List (List ℕ) → ℕ → Option SceneError
-bad_cell_in states rows r = option_map (λ c. BadCell r c) (bad_column states (row_at rows r))
+-- the first row in which no cell stands in some column, and the first such column
+abbrev pub bad_cell : ℕ → List (List ℕ) → Option SceneError
+bad_cell states rows =
+    option_map (λ r. BadCell r (unwrap_or (bad_column states (slice_index_or rows r [])) 0))
+    (position (λ row. is_some (bad_column states row)) rows)
 
--- the first row with such a column
-unfoldable pub bad_cell : Members → Option SceneError
-bad_cell ms = first_below (bad_cell_in (states_named (text_at (codes "gas") ms)) (rows_at ms)) (length (rows_at ms))
+-- what is wrong with the rows of a map, and with the values of a table, the first fault first
+unfoldable pub map_refusal : ℕ → ℕ → List (List ℕ) → Option SceneError
+map_refusal most states rows =
+    if not (between (pos 1) (pos most) (pos (length rows))) then Some Range
+    else option_or (row_length most rows) (bad_cell states rows)
 
--- the checks, in order
-abbrev pub checks : List (Members → Option SceneError)
-checks = unknown_key ∷ both_forms ∷ missing ∷ wrong_type ∷ out_of_range ∷ row_length ∷ bad_cell ∷ []
+unfoldable pub value_refusal : TableModel → Option SceneError
+value_refusal t =
+    let states : ℕ = 2 ^ (rules_of (gas_of t)).dirs in
+    if not (is_common_in_range t) then Some Range
+    else option_map_or (map_refusal (most_side t.version) states) t.cells
+    (if is_area_in_range (most_side t.version) states t.area then None else Some Range)
 
--- the first refusal
-unfoldable pub refusal_of : Members → Option SceneError
-refusal_of ms = first_of (map (λ check. check ms) checks)
+-- the first fault of a table
+abbrev pub refusal_of : Members → Option SceneError
+refusal_of ms = option_or (table_refusal ms) (value_refusal (table_of ms))

@@ -1,5 +1,6 @@
 -- The scene of a text.
-use Rattle.std.specs.Prelude.{◌≡◌, ◌⊎◌, ℕ, ◌^◌, List, Option, Some, None, Result, Ok, Err, if◌then◌else◌, codes, nat_abs}
+use Rattle.std.specs.Prelude.{ℕ, ◌/◌, ◌^◌, Bool, false, List, [], slice_index_or, Result, Ok, Err, if◌then◌else◌, codes, length, pos, nat_abs}
+use Rattle.std.specs.Option.{option_map_or, unwrap_or}
 use Rattle.std.specs.Str.{bytes_eq, is_utf8}
 use Rattle.toml.specs.Data.{Members}
 use Rattle.toml.specs.Parse.{parse_document}
@@ -7,13 +8,14 @@ use Rattle.gas_geom.specs.Gas.{Rules}
 use Rattle.gas_geom.specs.Lattice.{LatticeModel}
 use Rattle.gas_rows.specs.declared.chirality.Chirality.{Chirality}
 use Rattle.gas_rows.specs.declared.chirality.Chirality.TheVariants.{Seeded, Left, Right}
+use Rattle.gas_cells.specs.declared.reading.Cell.{Cell}
+use Rattle.gas_cells.specs.Reading.{cell_at}
+use Rattle.gas_catalog.specs.Catalog.{rules_of, GasLattice}
+use Rattle.gas_layout.specs.Layout.{is_covered, lattice_of, filling, placed}
 use Rattle.gas_scene.specs.declared.error.SceneError.{SceneError}
-use Rattle.gas_scene.specs.declared.error.SceneError.TheVariants.{Memory, Syntax}
-use Rattle.gas_scene.specs.Gases.{rules_named, GasLattice}
-use Rattle.gas_scene.specs.Fields.{has, text_at, integer_at, rows_at}
-use Rattle.gas_scene.specs.Refusals.{refusal_of}
-use Rattle.gas_scene.specs.Map.{map_lattice}
-use Rattle.gas_scene.specs.Area.{seed_of, area_lattice}
+use Rattle.gas_scene.specs.declared.error.SceneError.TheVariants.{Syntax}
+use Rattle.gas_scene.specs.Table.{AreaModel, TableModel, table_of}
+use Rattle.gas_scene.specs.Refusals.{gas_of, refusal_of}
 
 -- a lattice, where the random bits of its collisions come from, and its generation: the first step uses its random bits
 pub record SceneModel : Type 0 where
@@ -21,47 +23,47 @@ pub record SceneModel : Type 0 where
   pub chirality : Chirality
   pub generation : ℕ
 
--- the lattice of a table of either form
-abbrev pub lattice_in : Rules → Members → LatticeModel
-lattice_in gas ms = if has (codes "cells") ms then map_lattice (2 ^ gas.dirs) (rows_at ms) else area_lattice gas ms
+-- the cell in column x of row y of a map
+abbrev pub map_cell : ℕ → List (List ℕ) → ℕ → ℕ → Cell
+map_cell states rows x y = unwrap_or (cell_at states (slice_index_or rows y []) x) (record { solid = false; state = 0 })
 
--- left out, it is seeded
-abbrev pub chirality_of : Members → Chirality
-chirality_of ms =
-    if bytes_eq (text_at (codes "chirality") ms) (codes "left") then Left
-    else if bytes_eq (text_at (codes "chirality") ms) (codes "right") then Right
-    else Seeded (seed_of ms)
+-- the lattice of a map, two characters a cell
+unfoldable pub map_lattice : ℕ → List (List ℕ) → LatticeModel
+map_lattice states rows =
+    lattice_of (length (slice_index_or rows 0 []) / 2) (length rows)
+    (λ x y. (map_cell states rows x y).solid) (λ x y. (map_cell states rows x y).state)
 
--- left out, it is 0
-abbrev pub generation_of : Members → ℕ
-generation_of ms = nat_abs (integer_at (codes "generation") ms)
+-- the lattice of an area: its rectangles are solid, its fluid cells are filled at the rate under a seed, and then each
+-- placement in order sets the state of its cell
+unfoldable pub area_lattice : Rules → ℕ → AreaModel → LatticeModel
+area_lattice gas seed a =
+    let solid : ℕ → ℕ → Bool = λ x y. is_covered a.solid (pos x) (pos y) in
+    let width : ℕ = nat_abs a.width in
+    lattice_of width (nat_abs a.height) solid
+    (λ x y. placed a.particles x y (if solid x y then 0 else filling gas seed (nat_abs a.rate) width x y))
 
--- the lattice of the gas that a table names
-abbrev pub gas_lattice_of : Members → GasLattice
-gas_lattice_of ms =
-    let gas : List ℕ = text_at (codes "gas") ms in
-    record { gas = gas; lattice = lattice_in (rules_named gas) ms }
+-- where the random bits come from, by the name of the chirality and the seed
+abbrev pub chirality_of : List ℕ → ℕ → Chirality
+chirality_of name seed =
+    if bytes_eq name (codes "left") then Left
+    else if bytes_eq name (codes "right") then Right
+    else Seeded seed
 
--- the scene of a table that no check refuses
-abbrev pub scene_of : Members → SceneModel
-scene_of ms = record { lattice = gas_lattice_of ms; chirality = chirality_of ms; generation = generation_of ms }
+-- the scene of a table that is not refused
+abbrev pub scene_of : TableModel → SceneModel
+scene_of t = record {
+  lattice = record {
+    gas = gas_of t;
+    lattice = option_map_or (map_lattice (2 ^ (rules_of (gas_of t)).dirs)) t.cells (area_lattice (rules_of (gas_of t)) (nat_abs t.seed) t.area);
+  };
+  chirality = chirality_of t.chirality (nat_abs t.seed);
+  generation = nat_abs t.generation;
+}
 
-abbrev pub answer_of : Members → Option SceneError → Result SceneModel SceneError
-answer_of ms None = Ok (scene_of ms)
-answer_of ms (Some error) = Err error
-
--- the scene of a table, or the first refusal
+-- the scene of a table, or its first fault
 unfoldable pub table_answer : Members → Result SceneModel SceneError
-table_answer ms = answer_of ms (refusal_of ms)
+table_answer ms = option_map_or Err (refusal_of ms) (Ok (scene_of (table_of ms)))
 
-abbrev pub document_answer : Option Members → Result SceneModel SceneError
-document_answer None = Err Syntax
-document_answer (Some ms) = table_answer ms
-
--- the scene of a text, or the first refusal
+-- the scene of a text, or its first fault
 unfoldable pub scene_of_text : List ℕ → Result SceneModel SceneError
-scene_of_text text = if is_utf8 text then document_answer (parse_document text) else Err Syntax
-
--- a call answers what is said, or that memory was refused
-abbrev pub Gives : Result SceneModel SceneError → Result SceneModel SceneError → Type 0
-Gives answer said = (answer ≡ said) ⊎ (answer ≡ Err Memory)
+scene_of_text text = if is_utf8 text then option_map_or table_answer (parse_document text) (Err Syntax) else Err Syntax

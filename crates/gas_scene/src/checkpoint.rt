@@ -1,21 +1,22 @@
 //! A lattice amid its generations as the text of a scene, from which its run can go on.
 
-ghost use Rattle.std.specs.Prelude.{◌≡◌, ◌⊎◌, ◌↔◌, ◌<◌, ◌^◌, true, false, Some, Ok, Err, pos, map, IfOk, IfErr, OnOk, string_bytes};
+ghost use Rattle.std.specs.Prelude.{◌≡◌, ◌⊎◌, ◌↔◌, ◌<◌, ◌^◌, true, false, Some, Ok, Err, pos, map, IfSome, IfOk, IfErr, OnOk, string_bytes};
 ghost use Rattle.gas_geom.specs.Channel.{IsChannel};
 ghost use Rattle.gas_geom.specs.Lattice.{IsLattice};
 ghost use Rattle.toml.specs.Data.{integer};
 ghost use Rattle.toml.specs.Parse.{parse_document};
 ghost use Rattle.toml.specs.View.{view, table_view};
 ghost use Rattle.gas_cells.specs.Cells.{row_cells};
+ghost use Rattle.gas_catalog.specs.Catalog.{rules_of, gas_lattice};
 ghost use Rattle.gas_scene.specs.declared.error.SceneError.TheVariants.{Memory, Range};
-ghost use Rattle.gas_scene.specs.Gases.{gas_lattice, gas_named};
 ghost use Rattle.gas_scene.specs.Scene.{scene_of_text};
-ghost use Rattle.gas_scene.specs.Checkpoint.{is_seed_told, is_told, row_values, chirality_name, checkpoint_table};
-ghost use Rattle.gas_scene.specs.Printing.{insert_member, insert_seed, inserted};
+ghost use Rattle.gas_scene.specs.Checkpoint.{told, is_told, row_values, checkpoint_table};
+ghost use Rattle.gas_scene.specs.Inner.Printing.{gas_with, insert_member, insert_seed, inserted};
 
-use crate::any_lattice::AnyLattice;
+use crate::common::LAST_GENERATION;
 use crate::error::SceneError;
-use crate::ranges::LAST_GENERATION;
+use gas_catalog::catalog::AnyLattice;
+use gas_catalog::with_lattice;
 use gas_cells::cells::{CHARACTERS, row_block, row_blocks};
 use gas_geom::gas::Gas;
 use gas_rows::chirality::Chirality;
@@ -73,13 +74,15 @@ fn insert(alloc: Global, table: &mut Table, key: &str, value: Value) -> Result<(
     }
 }
 
-fn chirality_name(chirality: Chirality) -> &'static str
-    ensures { result.now ≡ chirality_name chirality }
+// The name of a chirality, and its seed, if it has one.
+fn told(chirality: Chirality) -> (&'static str, Option<u64>)
+    ensures name { result.0.now ≡ (told chirality).0 }
+    ensures seed { result.1 ≡ (told chirality).1 }
 {
     match chirality {
-        Chirality::Seeded(_) => "seeded",
-        Chirality::Left => "left",
-        Chirality::Right => "right",
+        Chirality::Seeded(seed) => ("seeded", Some(seed)),
+        Chirality::Left => ("left", None),
+        Chirality::Right => ("right", None),
     }
 }
 
@@ -92,19 +95,18 @@ fn integer(number: u64) -> Value
 }
 
 // Sets the seed, if there is one.
-fn insert_seed(alloc: Global, table: &mut Table, chirality: Chirality) -> Result<(), AllocError>
-    requires { is_seed_told chirality ≡ true }
-    ensures { OnOk result (table_view table.new ≡ insert_seed chirality (table_view table.old)) }
+fn insert_seed(alloc: Global, table: &mut Table, seed: Option<u64>) -> Result<(), AllocError>
+    requires { IfSome seed (λ n. n < 2 ^ 63) }
+    ensures { OnOk result (table_view table.new ≡ insert_seed seed (table_view table.old)) }
 {
-    match chirality {
-        Chirality::Seeded(seed) => insert(alloc, table, "seed", integer(seed)),
-        Chirality::Left => Ok(()),
-        Chirality::Right => Ok(()),
+    match seed {
+        Some(seed) => insert(alloc, table, "seed", integer(seed)),
+        None => Ok(()),
     }
 }
 
 // The table of a checkpoint.
-fn table_of(
+fn made_table(
     alloc: Global,
     gas: &str,
     cells: Vec<Value>,
@@ -114,51 +116,49 @@ fn table_of(
     requires { is_told chirality generation ≡ true }
     ensures { IfOk result (λ t. table_view t ≡ inserted gas.now (map view cells.items) chirality generation) }
 {
+    let (name, seed) = told(chirality);
     let mut table = Table::new(alloc);
-    let chirality_value = Value::string(alloc, chirality_name(chirality))?;
+    let name = Value::string(alloc, name)?;
     insert(alloc, &mut table, "version", Value::Integer(2))?;
     insert(alloc, &mut table, "gas", Value::string(alloc, gas)?)?;
-    insert(alloc, &mut table, "chirality", chirality_value)?;
+    insert(alloc, &mut table, "chirality", name)?;
     insert(alloc, &mut table, "generation", integer(generation))?;
     insert(alloc, &mut table, "cells", Value::Array(cells))?;
-    insert_seed(alloc, &mut table, chirality)?;
+    insert_seed(alloc, &mut table, seed)?;
     Ok(table)
 }
 
 // The text of a checkpoint of a lattice of one gas.
-fn text_of<G: Gas>(
+fn made_text<G: Gas>(
     alloc: Global,
     lattice: &Lattice<G>,
     chirality: Chirality,
     generation: u64,
 ) -> Result<String, AllocError>
     requires told { is_told chirality generation ≡ true }
-    requires named { gas_named G.rules.name ≡ Some G.rules }
+    requires known { rules_of (gas_with G.rules) ≡ G.rules }
     ensures scene { IfOk result (λ s. scene_of_text (string_bytes s) ≡ Ok (record {
-      lattice = record { gas = G.rules.name; lattice = lattice.now };
+      lattice = record { gas = gas_with G.rules; lattice = lattice.now };
       chirality = chirality;
       generation = generation;
     })) }
     ensures table { IfOk result (λ s. parse_document (string_bytes s)
-        ≡ Some (checkpoint_table (record { gas = G.rules.name; lattice = lattice.now }) chirality generation)) }
+        ≡ Some (checkpoint_table (record { gas = gas_with G.rules; lattice = lattice.now }) chirality generation)) }
 {
     let cells = row_values(alloc, lattice)?;
-    let table = table_of(alloc, G::name(), cells, chirality, generation)?;
+    let table = made_table(alloc, G::name(), cells, chirality, generation)?;
     match toml::table_to_string_pretty(alloc, &table) {
         Ok(text) => Ok(text),
         Err(_) => Err(AllocError),
     }
 }
 
-// Whether the seed, if there is one, is an integer of TOML.
-fn is_seed_told(chirality: Chirality) -> bool
-    ensures { result ≡ is_seed_told chirality }
+// Whether a scene can have this chirality and this generation.
+fn is_told(chirality: Chirality, generation: u64) -> bool
+    ensures { result ≡ is_told chirality generation }
 {
-    match chirality {
-        Chirality::Seeded(seed) => seed < 1 << 63,
-        Chirality::Left => true,
-        Chirality::Right => true,
-    }
+    let (_, seed) = told(chirality);
+    seed.is_none_or(|seed| seed < 1 << 63) && generation <= LAST_GENERATION
 }
 
 /// The text of a scene of version 2 that holds a lattice, where the random bits of its collisions
@@ -187,13 +187,9 @@ pub fn checkpoint(
     ensures range { (result ≡ Err Range) ↔ (is_told chirality generation ≡ false) }
     ensures errors { IfErr result (λ e. (e ≡ Range) ⊎ (e ≡ Memory)) }
 {
-    if !is_seed_told(chirality) || LAST_GENERATION < generation {
+    if !is_told(chirality, generation) {
         return Err(SceneError::Range);
     }
-    let text = match lattice {
-        AnyLattice::Fhp1(lattice) => text_of(alloc, lattice, chirality, generation),
-        AnyLattice::Hpp(lattice) => text_of(alloc, lattice, chirality, generation),
-        AnyLattice::FhpRest(lattice) => text_of(alloc, lattice, chirality, generation),
-    };
-    text.or(Err(SceneError::Memory))
+    let text = with_lattice!(lattice, lattice => made_text(alloc, lattice, chirality, generation))?;
+    Ok(text)
 }

@@ -1,3 +1,9 @@
+//! Why a text is no scene.
+
+ghost use Rattle.std.specs.Prelude.{◌≡◌};
+ghost use Rattle.gas_scene.specs.declared.error.SceneError.TheVariants.{Memory};
+
+use std::alloc::AllocError;
 use thiserror::Error;
 
 /// Why a text is no scene.
@@ -30,4 +36,12 @@ pub enum SceneError {
     /// What stands for this row and column of a map is no cell.
     #[error("scene: row {0} cell {1} is not a cell")]
     BadCell(u32, u32),
+}
+
+impl From<AllocError> for SceneError {
+    ghost from_gives = { λ _ error. error ≡ Memory };
+
+    fn from(_error: AllocError) -> SceneError {
+        SceneError::Memory
+    }
 }

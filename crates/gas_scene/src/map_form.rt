@@ -1,36 +1,100 @@
 //! The lattice of a map.
 
-ghost use Rattle.std.specs.Prelude.{◌≡◌, ℕ, ◌+◌, ◌/◌, ◌<◌, ◌^◌, false, length, map, slice_index, slice_index_or, Some, IsSome, IfOk};
-ghost use Rattle.toml.specs.View.{view, table_view};
-ghost use Rattle.gas_scene.specs.Fields.{text_of, rows_at};
-ghost use Rattle.gas_scene.specs.Cells.{cell_at};
-ghost use Rattle.gas_scene.specs.Map.{is_solid_cell, state_in, map_width, map_lattice};
-ghost use Rattle.gas_scene.specs.Building.{map_before, IsMap};
+ghost use Rattle.std.specs.Prelude.{◌≡◌, ◌⊎◌, ℕ, ◌+◌, ◌*◌, ◌/◌, ◌<◌, ◌≤◌, ◌^◌, pos, length, map, is_some, slice_get, IfOk, IfErr, Some, None, IfSome};
+ghost use Rattle.std.specs.List.{position};
+ghost use Rattle.std.specs.Option.{option_map_or};
+ghost use Rattle.toml.specs.View.{view};
+ghost use Rattle.gas_geom.specs.declared.size.TheConstants.{MOST_SIDE};
+ghost use Rattle.gas_cells.specs.Reading.{bad_column};
+ghost use Rattle.gas_catalog.specs.Catalog.{rules_of, gas_lattice};
+ghost use Rattle.gas_layout.specs.Layout.{between};
+ghost use Rattle.gas_scene.specs.declared.error.SceneError.TheVariants.{Memory};
+ghost use Rattle.gas_scene.specs.Table.{text_of};
+ghost use Rattle.gas_scene.specs.Refusals.{is_misfit, row_length, bad_cell, map_refusal};
+ghost use Rattle.gas_scene.specs.Scene.{map_lattice};
+ghost use Rattle.gas_scene.specs.Inner.Maps.{verdict, map_before, map_width, AreShort, IsMap, row_at};
 
-use crate::cells::Cell;
-use crate::fields::{array_at, row};
+use crate::error::SceneError;
+use crate::typed::text_of;
+use gas_catalog::any_lattice;
+use gas_catalog::catalog::{AnyLattice, KnownGas};
+use gas_cells::reading::{bad_column, read_row};
 use gas_geom::gas::Gas;
 use gas_geom::size::Size;
 use gas_rows::channel::Channel;
 use gas_rows::lattice::Lattice;
 use std::alloc::{AllocError, Global};
-use toml::{Table, Value};
+use toml::Value;
 
-// Reads which cells of a row are solid, and the states of all of them.
-fn read_row(row: &[u8], solid: &mut [bool], state_of: &mut [u8])
-    requires wide { length solid.old ≡ length row.now / 2 }
-    requires as_wide { length state_of.old ≡ length row.now / 2 }
-    ensures wide { length solid.new ≡ length row.now / 2 }
-    ensures as_wide { length state_of.new ≡ length row.now / 2 }
-    ensures solid { (states x : ℕ) → x < length row.now / 2 → IsSome (cell_at states row.now x)
-        → slice_index_or solid.new x false ≡ is_solid_cell (cell_at states row.now x) }
-    ensures states { (states x : ℕ) → x < length row.now / 2 → IsSome (cell_at states row.now x)
-        → slice_index state_of.new x ≡ state_in (cell_at states row.now x) }
+// The characters of a row.
+fn row_of(value: &Value) -> &[u8]
+    ensures { result.now ≡ text_of (view value.now) }
 {
-    for x in 0..solid.len() {
-        let cell = Cell::read(row[2 * x], row[2 * x + 1]);
-        solid[x] = cell.is_solid();
-        state_of[x] = cell.state();
+    text_of(value).as_bytes()
+}
+
+// Row `r` of a map.
+fn row(rows: &[Value], r: usize) -> &[u8]
+    requires { r < length rows.now }
+    ensures { result.now ≡ row_at (map text_of (map view rows.now)) r }
+{
+    row_of(&rows[r])
+}
+
+// Whether there are 1 to `most` rows.
+fn is_height(most: u32, rows: usize) -> bool
+    ensures { result ≡ between (pos 1) (pos most) (pos rows) }
+{
+    1 <= rows && rows <= most as usize
+}
+
+// Whether the length of a row is wrong, where the first row has `first` characters.
+fn is_misfit(most: u32, first: usize, row: &[u8]) -> bool
+    ensures { result ≡ is_misfit most first row.now }
+{
+    let length = row.len();
+    !(length % 2 == 0 && 2 <= length && length <= 2 * most as usize && length == first)
+}
+
+// The first row of a wrong length.
+fn first_misfit(most: u32, first: usize, rows: &[Value]) -> Option<usize>
+    ensures { result ≡ position (λ v. is_misfit most first (text_of (view v))) rows.now }
+{
+    rows.iter()
+        .position(|row| is_misfit(most, first, row_of(row)))
+}
+
+// The first row in which no cell stands in some column.
+fn first_bad(states: u16, rows: &[Value]) -> Option<usize>
+    ensures { result ≡ position (λ v. is_some (bad_column states (text_of (view v)))) rows.now }
+{
+    rows.iter()
+        .position(|row| bad_column(row_of(row), states).is_some())
+}
+
+// Refuses the first row that has a wrong length: the first row's counts for each.
+fn check_lengths(most: u32, rows: &[Value]) -> Result<(), SceneError>
+    requires some { 1 ≤ length rows.now }
+    requires few { length rows.now ≤ MOST_SIDE }
+    ensures { result ≡ verdict (row_length most (map text_of (map view rows.now))) }
+{
+    match first_misfit(most, row(rows, 0).len(), rows) {
+        Some(r) => Err(SceneError::RowLength(r as u32)),
+        None => Ok(()),
+    }
+}
+
+// Refuses the first pair of characters that is no cell.
+fn check_cells(states: u16, rows: &[Value]) -> Result<(), SceneError>
+    requires { AreShort (map text_of (map view rows.now)) }
+    ensures { result ≡ verdict (bad_cell states (map text_of (map view rows.now))) }
+{
+    match first_bad(states, rows) {
+        Some(r) => {
+            let c = bad_column(row(rows, r), states).unwrap_or(0);
+            Err(SceneError::BadCell(r as u32, c as u32))
+        }
+        None => Ok(()),
     }
 }
 
@@ -46,8 +110,8 @@ fn put_row<G: Gas>(
     requires within { y < length rows.now }
     requires wide { length solid.old ≡ map_width (map text_of (map view rows.now)) }
     requires as_wide { length state_of.old ≡ map_width (map text_of (map view rows.now)) }
-    requires before { lattice.old ≡ map_before (2 ^ G.rules.dirs) (map text_of (map view rows.now)) 0 y }
-    ensures { lattice.new ≡ map_before (2 ^ G.rules.dirs) (map text_of (map view rows.now)) 0 (y + 1) }
+    requires before { lattice.old ≡ map_before (2 ^ G.rules.dirs) (map text_of (map view rows.now)) y }
+    ensures { lattice.new ≡ map_before (2 ^ G.rules.dirs) (map text_of (map view rows.now)) (y + 1) }
 {
     let row = row(rows, y as usize);
     read_row(row, solid, state_of);
@@ -62,22 +126,21 @@ fn put_rows<G: Gas>(
     state_of: &mut [u8],
 )
     requires map { IsMap (2 ^ G.rules.dirs) (map text_of (map view rows.now)) }
-    requires before { lattice.old ≡ map_before (2 ^ G.rules.dirs) (map text_of (map view rows.now)) 0 0 }
+    requires before { lattice.old ≡ map_before (2 ^ G.rules.dirs) (map text_of (map view rows.now)) 0 }
     requires wide { length solid.old ≡ map_width (map text_of (map view rows.now)) }
     requires as_wide { length state_of.old ≡ map_width (map text_of (map view rows.now)) }
-    ensures { lattice.new ≡ map_before (2 ^ G.rules.dirs) (map text_of (map view rows.now)) 0 (length rows.now) }
+    ensures { lattice.new ≡ map_before (2 ^ G.rules.dirs) (map text_of (map view rows.now)) (length rows.now) }
 {
     for y in 0..rows.len() {
         put_row(lattice, rows, y as u32, solid, state_of);
     }
 }
 
-/// The lattice of a map.
-pub(crate) fn map_lattice<G: Gas>(alloc: Global, table: &Table) -> Result<Lattice<G>, AllocError>
-    requires { IsMap (2 ^ G.rules.dirs) (rows_at (table_view table.now)) }
-    ensures { IfOk result (λ l. l ≡ map_lattice (2 ^ G.rules.dirs) (rows_at (table_view table.now))) }
+// The lattice of a map whose rows hold cells.
+fn map_lattice<G: Gas>(alloc: Global, rows: &[Value]) -> Result<Lattice<G>, AllocError>
+    requires { IsMap (2 ^ G.rules.dirs) (map text_of (map view rows.now)) }
+    ensures { IfOk result (λ l. l ≡ map_lattice (2 ^ G.rules.dirs) (map text_of (map view rows.now))) }
 {
-    let rows = array_at(table, "cells");
     let width = row(rows, 0).len() / 2;
     let size = Size::new(width as u32, rows.len() as u32).unwrap();
     let mut lattice = Lattice::blank(alloc, Channel::free(alloc, size)?)?;
@@ -90,4 +153,46 @@ pub(crate) fn map_lattice<G: Gas>(alloc: Global, table: &Table) -> Result<Lattic
         state_of.as_mut_slice(),
     );
     Ok(lattice)
+}
+
+// Refuses rows that are no map.
+fn check(most: u32, states: u16, rows: &[Value]) -> Result<(), SceneError>
+    requires { most ≤ MOST_SIDE }
+    ensures { result ≡ verdict (map_refusal most states (map text_of (map view rows.now))) }
+{
+    if !is_height(most, rows.len()) {
+        return Err(SceneError::Range);
+    }
+    check_lengths(most, rows)?;
+    check_cells(states, rows)
+}
+
+// The lattice of rows that hold cells of a gas.
+fn build(alloc: Global, gas: KnownGas, rows: &[Value]) -> Result<AnyLattice, AllocError>
+    requires { IsMap (2 ^ (rules_of gas).dirs) (map text_of (map view rows.now)) }
+    ensures { IfOk result (λ l. gas_lattice l ≡ record {
+      gas = gas;
+      lattice = map_lattice (2 ^ (rules_of gas).dirs) (map text_of (map view rows.now));
+    }) }
+{
+    Ok(any_lattice!(gas, map_lattice(alloc, rows)?))
+}
+
+/// The lattice of the rows of a map, with sides of at most `most` cells, or their first fault.
+pub(crate) fn lattice(
+    alloc: Global,
+    gas: KnownGas,
+    most: u32,
+    rows: &[Value],
+) -> Result<AnyLattice, SceneError>
+    requires { most ≤ MOST_SIDE }
+    ensures refused { IfErr result (λ e. (map_refusal most (2 ^ (rules_of gas).dirs) (map text_of (map view rows.now)) ≡ Some e) ⊎ (e ≡ Memory)) }
+    ensures accepted { IfOk result (λ l. map_refusal most (2 ^ (rules_of gas).dirs) (map text_of (map view rows.now)) ≡ None) }
+    ensures value { IfOk result (λ l. gas_lattice l ≡ record {
+      gas = gas;
+      lattice = map_lattice (2 ^ (rules_of gas).dirs) (map text_of (map view rows.now));
+    }) }
+{
+    check(most, gas.states(), rows)?;
+    Ok(build(alloc, gas, rows)?)
 }

@@ -1,25 +1,19 @@
-ghost use Rattle.std.specs.Prelude.{◌≡◌, ◌≤◌, ◌^◌, true, codes, IfOk};
-ghost use Rattle.toml.specs.View.{table_view};
-ghost use Rattle.gas_scene.specs.Gases.{states_named, gas_lattice};
-ghost use Rattle.gas_scene.specs.Fields.{text_at};
-ghost use Rattle.gas_scene.specs.Ranges.{is_common_in_range};
-ghost use Rattle.gas_scene.specs.Refusals.{refusal_of};
-ghost use Rattle.gas_scene.specs.Scene.{chirality_of, generation_of, lattice_in, gas_lattice_of, scene_of, table_answer, scene_of_text, Gives};
+//! A scene: what a text tells of a lattice and its run.
 
-use crate::any_lattice::AnyLattice;
-use crate::area_form::{area_lattice, seed};
-use crate::checks::check;
+ghost use Rattle.std.specs.Prelude.{◌≡◌, ◌⊎◌, Err};
+ghost use Rattle.toml.specs.View.{table_view};
+ghost use Rattle.gas_scene.specs.declared.error.SceneError.TheVariants.{Memory};
+ghost use Rattle.gas_scene.specs.Scene.{table_answer, scene_of_text};
+ghost use Rattle.gas_scene.specs.Inner.Answers.{Gives};
+
+use crate::common::Common;
+pub use crate::common::LAST_GENERATION;
 use crate::error::SceneError;
-use crate::fields::{has, integer_at, text_at};
-use crate::map_form::map_lattice;
-pub use crate::ranges::LAST_GENERATION;
-use gas_geom::fhp_rest::FhpRest;
-use gas_geom::fhp1::Fhp1;
-use gas_geom::gas::Gas;
-use gas_geom::hpp::Hpp;
+use crate::map_form;
+use crate::table::{Form, SceneTable};
+use gas_catalog::catalog::AnyLattice;
 use gas_rows::chirality::Chirality;
-use gas_rows::lattice::Lattice;
-use std::alloc::{AllocError, Global};
+use std::alloc::Global;
 use std::marker::Model;
 use toml::Table;
 
@@ -33,9 +27,9 @@ pub struct Scene {
 }
 
 impl Model for Scene {
-    ghost use Rattle.gas_scene.specs.Gases.{gas_lattice};
-    ghost use Rattle.gas_scene.specs.Scene.{SceneModel};
     ghost use Rattle.std.specs.Prelude.{◌≤◌};
+    ghost use Rattle.gas_catalog.specs.Catalog.{gas_lattice};
+    ghost use Rattle.gas_scene.specs.Scene.{SceneModel};
 
     ghost Value = { SceneModel };
 
@@ -45,6 +39,9 @@ impl Model for Scene {
 }
 
 impl Scene {
+    ghost use Rattle.std.specs.Prelude.{◌≡◌, ◌≤◌};
+    ghost use Rattle.gas_catalog.specs.Catalog.{gas_lattice};
+
     pub fn lattice(&self) -> &AnyLattice
         ensures { gas_lattice result.now ≡ self.now.lattice }
     {
@@ -66,80 +63,53 @@ impl Scene {
     }
 }
 
-// Where the random bits come from: left out, from the key stream.
-fn chirality_of(table: &Table) -> Chirality
-    requires { is_common_in_range (table_view table.now) ≡ true }
-    ensures { result ≡ chirality_of (table_view table.now) }
-{
-    let name = text_at(table, "chirality");
-    if name == "left" {
-        Chirality::Left
-    } else if name == "right" {
-        Chirality::Right
-    } else {
-        Chirality::Seeded(seed(table))
+impl SceneTable<'_> {
+    ghost use Rattle.std.specs.Prelude.{◌≡◌, ◌⊎◌, true, Some, None, nat_abs, IfOk, IfErr};
+    ghost use Rattle.gas_catalog.specs.Catalog.{gas_lattice, gas_named};
+    ghost use Rattle.gas_scene.specs.declared.error.SceneError.TheVariants.{Memory};
+    ghost use Rattle.gas_scene.specs.Scene.{scene_of};
+    ghost use Rattle.gas_scene.specs.Refusals.{is_common_in_range, most_side, value_refusal};
+    ghost use Rattle.gas_scene.specs.Inner.Shown.{shown};
+
+    // The lattice of the map or of the area, or its first fault.
+    fn lattice(&self, alloc: Global, common: Common) -> Result<AnyLattice, SceneError>
+        requires common { is_common_in_range (shown self.now) ≡ true }
+        requires gas { gas_named self.now.gas.now ≡ Some common.gas }
+        requires seed { common.seed ≡ nat_abs self.now.seed }
+        requires most { common.most_side ≡ most_side self.now.version }
+        ensures refused { IfErr result (λ e. (value_refusal (shown self.now) ≡ Some e) ⊎ (e ≡ Memory)) }
+        ensures accepted { IfOk result (λ l. value_refusal (shown self.now) ≡ None) }
+        ensures value { IfOk result (λ l. gas_lattice l ≡ (scene_of (shown self.now)).lattice) }
+    {
+        match self.form {
+            Form::Map(rows) => map_form::lattice(alloc, common.gas, common.most_side, rows),
+            Form::Area(area) => area.lattice(alloc, common.gas, common.most_side, common.seed),
+        }
+    }
+
+    // The scene, or the first fault of the values.
+    fn scene(&self, alloc: Global) -> Result<Scene, SceneError>
+        ensures refused { IfErr result (λ e. (value_refusal (shown self.now) ≡ Some e) ⊎ (e ≡ Memory)) }
+        ensures accepted { IfOk result (λ s. value_refusal (shown self.now) ≡ None) }
+        ensures value { IfOk result (λ s. s ≡ scene_of (shown self.now)) }
+    {
+        match self.common() {
+            Some(common) => Ok(Scene {
+                lattice: self.lattice(alloc, common)?,
+                chirality: common.chirality,
+                generation: common.generation,
+            }),
+            None => Err(SceneError::Range),
+        }
     }
 }
 
-// The generation, or 0 where it is absent.
-fn generation_of(table: &Table) -> u64
-    ensures { result ≡ generation_of (table_view table.now) }
-{
-    integer_at(table, "generation").unsigned_abs()
-}
-
-// The lattice of a table of either form.
-fn lattice_in<G: Gas>(alloc: Global, table: &Table) -> Result<Lattice<G>, AllocError>
-    requires accepted { refusal_of (table_view table.now) ≡ None }
-    requires gas { states_named (text_at (codes "gas") (table_view table.now)) ≡ 2 ^ G.rules.dirs }
-    ensures { IfOk result (λ l. l ≡ lattice_in G.rules (table_view table.now)) }
-{
-    if has(table, "cells") {
-        map_lattice(alloc, table)
-    } else {
-        area_lattice(alloc, table)
-    }
-}
-
-// The lattice of the gas that a table names.
-#[tactic(auto, unfolding(crate::specs::Gases::rules_named))]
-fn any_lattice(alloc: Global, table: &Table) -> Result<AnyLattice, AllocError>
-    requires { refusal_of (table_view table.now) ≡ None }
-    ensures { IfOk result (λ l. gas_lattice l ≡ gas_lattice_of (table_view table.now)) }
-{
-    let gas = text_at(table, "gas");
-    if gas == Fhp1::name() {
-        Ok(AnyLattice::Fhp1(lattice_in(alloc, table)?))
-    } else if gas == Hpp::name() {
-        Ok(AnyLattice::Hpp(lattice_in(alloc, table)?))
-    } else if gas == FhpRest::name() {
-        Ok(AnyLattice::FhpRest(lattice_in(alloc, table)?))
-    } else {
-        unreachable!()
-    }
-}
-
-// The scene of a table that no check refuses.
-fn build(alloc: Global, table: &Table) -> Result<Scene, AllocError>
-    requires { refusal_of (table_view table.now) ≡ None }
-    ensures { IfOk result (λ s. s ≡ scene_of (table_view table.now)) }
-{
-    Ok(Scene {
-        lattice: any_lattice(alloc, table)?,
-        chirality: chirality_of(table),
-        generation: generation_of(table),
-    })
-}
-
-// The scene of a table, or the first refusal.
+// The scene of a table, or its first fault.
 fn read_table(alloc: Global, table: &Table) -> Result<Scene, SceneError>
     ensures { Gives result (table_answer (table_view table.now)) }
 {
-    check(alloc, table)?;
-    match build(alloc, table) {
-        Ok(scene) => Ok(scene),
-        Err(_) => Err(SceneError::Memory),
-    }
+    let table = SceneTable::of(table)?;
+    table.scene(alloc)
 }
 
 /// Reads a scene, a TOML document in UTF-8 whose keys stand at the top level.
@@ -164,7 +134,7 @@ fn read_table(alloc: Global, table: &Table) -> Result<Scene, SceneError>
 /// `Missing`, `WrongType`, `Range`, `RowLength`, `BadCell`, in this order. `Memory` may come while
 /// the text is parsed, from the check for `Range` on, and while the lattice is built.
 pub fn read(alloc: Global, text: &[u8]) -> Result<Scene, SceneError>
-    ensures { Gives result (scene_of_text text.now) }
+    ensures { (result ≡ scene_of_text text.now) ⊎ (result ≡ Err Memory) }
 {
     match toml::table_from_slice(alloc, text) {
         Ok(table) => read_table(alloc, &table),

@@ -8,7 +8,7 @@ use Rattle.gas_geom.specs.Gas.{Rules}
 use Rattle.gas_geom.specs.Lattice.{LatticeModel}
 use Rattle.gas_rows.specs.declared.chirality.Chirality.{Chirality}
 use Rattle.gas_stage.specs.Evolution.{lattice_after}
-use Rattle.gas_scene.specs.Gases.{rules_named}
+use Rattle.gas_catalog.specs.Catalog.{rules_of}
 use Rattle.gas_scene.specs.Scene.{SceneModel, scene_of_text}
 use Rattle.gas_pipe_model.specs.Plan.{PlanModel}
 use Rattle.gas_pipe_members.specs.Plan.{plan_refusal}
@@ -49,12 +49,12 @@ gas_outcome gas lattice chirality first request =
 -- what a request on a text leads to: the first of its faults, in the order scene, plan, passes; else the text of its answer
 abbrev pub outcome : List ℕ → Request → Result (List ℕ) ToolError
 outcome text request = result_flatten (result_map_both
-    (λ s. gas_outcome (rules_named s.lattice.gas) s.lattice.lattice s.chirality s.generation request) Scene (scene_of_text text))
+    (λ s. gas_outcome (rules_of s.lattice.gas) s.lattice.lattice s.chirality s.generation request) Scene (scene_of_text text))
 
 -- the scene of a scene's lattice so many generations on
 abbrev pub scene_after : SceneModel → ℕ → SceneModel
 scene_after s n = record s {
-  lattice = record s.lattice { lattice = lattice_after (rules_named s.lattice.gas) s.chirality s.generation s.lattice.lattice n };
+  lattice = record s.lattice { lattice = lattice_after (rules_of s.lattice.gas) s.chirality s.generation s.lattice.lattice n };
   generation = s.generation + n;
 }
 

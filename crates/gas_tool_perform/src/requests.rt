@@ -3,12 +3,13 @@
 ghost use Rattle.std.specs.Prelude.{◌≡◌, ◌+◌, ◌<◌, ◌≤◌, ◌^◌, Ok};
 ghost use Rattle.gas_geom.specs.Lattice.{count};
 ghost use Rattle.gas_stage.specs.Evolution.{lattice_after};
-ghost use Rattle.gas_scene.specs.declared.ranges.TheConstants.{LAST_GENERATION};
+ghost use Rattle.gas_scene.specs.declared.common.TheConstants.{LAST_GENERATION};
 ghost use Rattle.gas_tool_perform.specs.Outcome.{Performs, gas_outcome, outcome};
 ghost use Rattle.gas_tool_cli.specs.Requests.{IsAllowed};
 ghost use Rattle.gas_tool_perform.specs.View.{HasSomeCells, replay_outcome, view_text};
 
 use crate::faults::ToolError;
+use gas_catalog::with_lattice;
 use gas_geom::gas::Gas;
 use gas_pipe_members::plan::Plan;
 use gas_pipe_replay::replay;
@@ -16,7 +17,6 @@ use gas_pipe_run::gate::Gate;
 use gas_pipe_run::run;
 use gas_rows::chirality::Chirality;
 use gas_rows::lattice::Lattice;
-use gas_scene::any_lattice::AnyLattice;
 use gas_scene::scene::read;
 use gas_tool_cli::request::Request;
 use gas_tool_coarse::blocks::coarse;
@@ -56,7 +56,6 @@ enum View {
 /// scene, the plan, the passes of a replay, the work. Nothing is written before the answer is whole,
 /// and the writer is flushed once after the last byte. Want of memory is `Memory`, also while the
 /// scene is read, and so is a thread that cannot be had. Each worker's thread goes through the gate.
-#[tactic(auto, unfolding(gas_scene::specs::Gases::rules_named))]
 pub fn perform<W: Write, H: Gate + Sync, R: Threads + Wait + Sync>(
     rt: &R,
     alloc: Global,
@@ -74,11 +73,7 @@ pub fn perform<W: Write, H: Gate + Sync, R: Threads + Wait + Sync>(
         chirality: scene.chirality(),
         generation: scene.generation(),
     };
-    match scene.lattice() {
-        AnyLattice::Fhp1(lattice) => perform_on(&means, lattice, start, request, out),
-        AnyLattice::Hpp(lattice) => perform_on(&means, lattice, start, request, out),
-        AnyLattice::FhpRest(lattice) => perform_on(&means, lattice, start, request, out),
-    }
+    with_lattice!(scene.lattice(), lattice => perform_on(&means, lattice, start, request, out))
 }
 
 // Writes the answer to a request on a lattice.

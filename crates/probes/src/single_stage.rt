@@ -1,8 +1,8 @@
 //! Generations of a scene by one stage on one thread, which runs by threads are measured against.
 
+use gas_catalog::with_lattice;
 use gas_geom::gas::Gas;
 use gas_rows::lattice::Lattice;
-use gas_scene::any_lattice::AnyLattice;
 use gas_scene::scene::{Scene, read};
 use gas_stage::advance::lattice_after;
 use gas_tool::input::slurp;
@@ -12,11 +12,7 @@ use gas_tool::text::write_cells;
 pub fn print_cells(rt: &HostRuntime, generations: u64) -> Option<()> {
     let text = slurp(rt.alloc(), &mut rt.reader()).ok()?;
     let scene = read(rt.alloc(), text.as_slice()).ok()?;
-    match scene.lattice() {
-        AnyLattice::Fhp1(lattice) => print(rt, lattice, &scene, generations),
-        AnyLattice::Hpp(lattice) => print(rt, lattice, &scene, generations),
-        AnyLattice::FhpRest(lattice) => print(rt, lattice, &scene, generations),
-    }
+    with_lattice!(scene.lattice(), lattice => print(rt, lattice, &scene, generations))
 }
 
 fn print<G: Gas>(

@@ -2,11 +2,10 @@
 ghost use Rattle.std.specs.Prelude.{◌+◌, ◌≡◌, ◌<◌, ◌≤◌, ◌^◌, IfOk};
 ghost use Rattle.gas_geom.specs.Gas.{holds};
 ghost use Rattle.gas_geom.specs.declared.size.TheConstants.{MOST_SIDE};
-ghost use Rattle.gas_geom.specs.Lattice.{arriving, streamed, row_of};
+ghost use Rattle.gas_geom.specs.Lattice.{arriving, streamed, row_of, next};
 ghost use Rattle.gas_rows.specs.Chirality.{chirality_bit};
 ghost use Rattle.gas_stage.specs.Evolution.{lattice_after};
 ghost use Rattle.tests_reference.specs.Inside.{collided_cells};
-ghost use Rattle.tests_reference.specs.Plain.{next_lattice};
 
 use gas_geom::gas::Gas;
 use gas_geom::size::neighbour;
@@ -141,7 +140,9 @@ pub fn next_lattice<G: Gas>(
     chirality: Chirality,
     generation: u64,
 ) -> Result<Lattice<G>, AllocError>
-    ensures { IfOk result (λ l. l ≡ next_lattice G.rules chirality lattice.now generation) }
+    ensures { IfOk result (λ l. l ≡ record lattice.now {
+      rows = next G.rules lattice.now.channel (chirality_bit chirality lattice.now.channel.width generation) lattice.now.rows;
+    }) }
 {
     let height = lattice.channel().size().height();
     let mut rows = Vec::with_capacity(alloc, height as usize)?;

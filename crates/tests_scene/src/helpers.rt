@@ -1,9 +1,9 @@
 //! What the tests share. These helpers promise nothing: what reading a scene promises is long, and a test that makes the call itself
 //! carries it through each of its paths.
 
+use gas_catalog::with_lattice;
 use gas_geom::gas::Gas;
 use gas_rows::lattice::Lattice;
-use gas_scene::any_lattice::AnyLattice;
 use gas_scene::error::SceneError;
 use gas_scene::scene::{Scene, read};
 use std::alloc::Global;
@@ -52,11 +52,7 @@ fn shown<G: Gas>(alloc: Global, lattice: &Lattice<G>) -> Result<String, Fail> {
 }
 
 fn shown_scene(alloc: Global, scene: &Scene) -> Result<String, Fail> {
-    match scene.lattice() {
-        AnyLattice::Fhp1(lattice) => shown(alloc, lattice),
-        AnyLattice::Hpp(lattice) => shown(alloc, lattice),
-        AnyLattice::FhpRest(lattice) => shown(alloc, lattice),
-    }
+    with_lattice!(scene.lattice(), lattice => shown(alloc, lattice))
 }
 
 // What the scene that a text is holds, as one text: its chirality and its generation, the name of its gas, and its cells.

@@ -1,12 +1,12 @@
 //! Runs in two parts, with a scene written down between them.
 
+use gas_catalog::map_lattice;
 use gas_geom::gas::Gas;
 use gas_pipe::gate::NoGate;
 use gas_pipe::plan::Plan;
 use gas_pipe::run;
 use gas_rows::chirality::Chirality;
 use gas_rows::lattice::Lattice;
-use gas_scene::any_lattice::AnyLattice;
 use gas_scene::checkpoint::checkpoint;
 use gas_scene::scene::{Scene, read};
 use std::alloc::Global;
@@ -34,18 +34,24 @@ const HPP_CELL: &str = "gas = \"hpp\"\nwidth = 33\nheight = 2\nparticles = [[32,
 const FHP_REST_CELL: &str =
     "gas = \"fhp-rest\"\nwidth = 33\nheight = 2\nparticles = [[32, 1, 9]]\n";
 
-// A lattice of the scene after the generations of a plan, and its generation.
+// A lattice of the scene after the generations of a plan.
 fn lattice_after<G: Gas + Send, R: Threads + Wait + Sync>(
     rt: &R,
     alloc: Global,
     scene: &Scene,
     lattice: &Lattice<G>,
     plan: Plan,
-) -> Result<(Lattice<G>, u64), Fail> {
-    let first = scene.generation();
-    let last = first + plan.generations();
-    let run = run(rt, alloc, lattice, scene.chirality(), first, plan, &NoGate)?;
-    Ok((run.lattice().copy(alloc)?, last))
+) -> Result<Lattice<G>, Fail> {
+    let run = run(
+        rt,
+        alloc,
+        lattice,
+        scene.chirality(),
+        scene.generation(),
+        plan,
+        &NoGate,
+    )?;
+    Ok(run.lattice().copy(alloc)?)
 }
 
 // The text of the scene after the generations of a plan.
@@ -55,20 +61,11 @@ fn scene_after<R: Threads + Wait + Sync>(
     scene: &Scene,
     plan: Plan,
 ) -> Result<String, Fail> {
-    let (lattice, last) = match scene.lattice() {
-        AnyLattice::Fhp1(lattice) => {
-            let (lattice, last) = lattice_after(rt, alloc, scene, lattice, plan)?;
-            (AnyLattice::Fhp1(lattice), last)
-        }
-        AnyLattice::Hpp(lattice) => {
-            let (lattice, last) = lattice_after(rt, alloc, scene, lattice, plan)?;
-            (AnyLattice::Hpp(lattice), last)
-        }
-        AnyLattice::FhpRest(lattice) => {
-            let (lattice, last) = lattice_after(rt, alloc, scene, lattice, plan)?;
-            (AnyLattice::FhpRest(lattice), last)
-        }
-    };
+    let last = scene.generation() + plan.generations();
+    let lattice = map_lattice!(
+        scene.lattice(),
+        lattice => lattice_after(rt, alloc, scene, lattice, plan)?
+    );
     Ok(checkpoint(alloc, &lattice, scene.chirality(), last)?)
 }
 

@@ -1,6 +1,6 @@
 use Rattle.std.proofs.Common.{sym, subst, inl}
-use Rattle.gas_scene.specs.Scene.{Gives}
-use Rattle.gas_scene.proofs.Answers.{scene_of_text-document, scene_of_text-none}
+use Rattle.gas_scene.specs.Inner.Answers.{Gives}
+use Rattle.gas_scene.proofs.Documents.{scene_of_text-document, scene_of_text-none}
 use Rattle.gas_scene.proofs.scene.read.Goals as goal
 
 pub returns-in-Ok : goal.returns-in-Ok

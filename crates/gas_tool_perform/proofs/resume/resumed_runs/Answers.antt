@@ -7,7 +7,7 @@ use Rattle.gas_tool_io.specs.Table.{table_text}
 use Rattle.gas_tool_io.specs.Text.{cells_text}
 use Rattle.gas_pipe_members.specs.declared.plan.PlanError.{PlanError}
 use Rattle.gas_scene.specs.declared.error.SceneError.{SceneError}
-use Rattle.gas_scene.specs.Gases.{rules_named}
+use Rattle.gas_catalog.specs.Catalog.{rules_of}
 use Rattle.gas_scene.specs.Scene.{SceneModel}
 use Rattle.gas_tool_perform.proofs.Outcomes.{scene_outcome, unless_refused}
 use Rattle.gas_tool_cli.specs.declared.request.Request.TheVariants.{Run, Coarse}
@@ -15,7 +15,7 @@ use Rattle.gas_tool_perform.proofs.resume.resumed_runs.Goals as goal
 
 pub returns-clause-cells : goal.returns-clause-cells
 returns-clause-cells c text later s m n stages capacity stages2 capacity2 here there accepted accepted2 =
-    let gas = rules_named s.lattice.gas in
+    let gas = rules_of s.lattice.gas in
     let middle : LatticeModel = lattice_after gas s.chirality s.generation s.lattice.lattice m in
     let end : LatticeModel = lattice_after gas s.chirality s.generation s.lattice.lattice (m + n) in
     ap (λ (r : Result SceneModel SceneError). scene_outcome r (Run stages2 capacity2 n)) there
@@ -27,7 +27,7 @@ returns-clause-cells c text later s m n stages capacity stages2 capacity2 here t
 
 pub returns-clause-table : goal.returns-clause-table
 returns-clause-table c text later s m n stages capacity stages2 capacity2 width height here there accepted accepted2 =
-    let gas = rules_named s.lattice.gas in
+    let gas = rules_of s.lattice.gas in
     let middle : LatticeModel = lattice_after gas s.chirality s.generation s.lattice.lattice m in
     let end : LatticeModel = lattice_after gas s.chirality s.generation s.lattice.lattice (m + n) in
     ap (λ (r : Result SceneModel SceneError). scene_outcome r (Coarse stages2 capacity2 n width height)) there

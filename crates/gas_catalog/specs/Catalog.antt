@@ -1,0 +1,36 @@
+-- The gases that there are.
+use Rattle.std.specs.Prelude.{ℕ, List, [], ◌∷◌, Option}
+use Rattle.std.specs.List.{find}
+use Rattle.std.specs.Str.{bytes_eq}
+use Rattle.gas_geom.specs.Gas.{Rules}
+use Rattle.gas_geom.specs.Fhp1.{fhp1}
+use Rattle.gas_geom.specs.Hpp.{hpp}
+use Rattle.gas_geom.specs.FhpRest.{fhp_rest}
+use Rattle.gas_geom.specs.Lattice.{LatticeModel}
+use Rattle.gas_catalog.specs.declared.catalog.KnownGas.{KnownGas}
+use Rattle.gas_catalog.specs.declared.catalog.KnownGas.TheVariants.{Fhp1, Hpp, FhpRest}
+use Rattle.gas_catalog.specs.declared.catalog.AnyLattice.{AnyLattice}
+use Rattle.gas_catalog.specs.declared.catalog.AnyLattice.TheVariants as lattice_of
+
+abbrev pub gases : List KnownGas
+gases = Fhp1 ∷ Hpp ∷ FhpRest ∷ []
+
+-- the rules of a gas
+abbrev pub rules_of : KnownGas → Rules
+rules_of Fhp1 = fhp1
+rules_of Hpp = hpp
+rules_of FhpRest = fhp_rest
+
+-- the gas of this name
+abbrev pub gas_named : List ℕ → Option KnownGas
+gas_named name = find (λ gas. bytes_eq name (rules_of gas).name) gases
+
+-- a lattice and the gas that it is of
+pub record GasLattice : Type 0 where
+  pub gas : KnownGas
+  pub lattice : LatticeModel
+
+abbrev pub gas_lattice : AnyLattice → GasLattice
+gas_lattice (lattice_of.Fhp1 lattice) = record { gas = Fhp1; lattice = lattice }
+gas_lattice (lattice_of.Hpp lattice) = record { gas = Hpp; lattice = lattice }
+gas_lattice (lattice_of.FhpRest lattice) = record { gas = FhpRest; lattice = lattice }

@@ -1,0 +1,105 @@
+//! The list of the gases, a lattice of one of them, and the choice by gas.
+
+ghost use Rattle.std.specs.Prelude.{◌≡◌, ◌^◌};
+
+use gas_geom::fhp_rest::FhpRest;
+use gas_geom::fhp1::Fhp1;
+use gas_geom::gas::Gas;
+use gas_geom::hpp::Hpp;
+use gas_rows::lattice::Lattice;
+
+/// One of the gases.
+#[derive(Clone, Copy, Debug, PartialEq, Eq)]
+pub enum KnownGas {
+    Fhp1,
+    Hpp,
+    FhpRest,
+}
+
+/// A lattice of one of the gases.
+#[derive(Drop)]
+pub enum AnyLattice {
+    Fhp1(Lattice<Fhp1>),
+    Hpp(Lattice<Hpp>),
+    FhpRest(Lattice<FhpRest>),
+}
+
+/// The lattice of a gas, by an expression for its `Lattice<G>`, which is written once for all gases.
+#[macro_export]
+macro_rules! any_lattice {
+    ($gas:expr, $lattice:expr) => {
+        match $gas {
+            $crate::catalog::KnownGas::Fhp1 => $crate::catalog::AnyLattice::Fhp1($lattice),
+            $crate::catalog::KnownGas::Hpp => $crate::catalog::AnyLattice::Hpp($lattice),
+            $crate::catalog::KnownGas::FhpRest => $crate::catalog::AnyLattice::FhpRest($lattice),
+        }
+    };
+}
+
+/// What an expression gives for the lattice, whichever gas it is of.
+#[macro_export]
+macro_rules! with_lattice {
+    ($any:expr, $lattice:ident => $work:expr) => {
+        match $any {
+            $crate::catalog::AnyLattice::Fhp1($lattice) => $work,
+            $crate::catalog::AnyLattice::Hpp($lattice) => $work,
+            $crate::catalog::AnyLattice::FhpRest($lattice) => $work,
+        }
+    };
+}
+
+/// A lattice of the same gas, by an expression for it, whichever gas it is.
+#[macro_export]
+macro_rules! map_lattice {
+    ($any:expr, $lattice:ident => $mapped:expr) => {
+        match $any {
+            $crate::catalog::AnyLattice::Fhp1($lattice) => {
+                $crate::catalog::AnyLattice::Fhp1($mapped)
+            }
+            $crate::catalog::AnyLattice::Hpp($lattice) => {
+                $crate::catalog::AnyLattice::Hpp($mapped)
+            }
+            $crate::catalog::AnyLattice::FhpRest($lattice) => {
+                $crate::catalog::AnyLattice::FhpRest($mapped)
+            }
+        }
+    };
+}
+
+// The number of states of a cell of a gas.
+fn states<G: Gas>() -> u16
+    ensures { result ≡ 2 ^ G.rules.dirs }
+{
+    1 << G::DIRS
+}
+
+impl KnownGas {
+    ghost use Rattle.std.specs.Prelude.{◌≡◌, ◌^◌};
+    ghost use Rattle.gas_catalog.specs.Catalog.{gas_named, rules_of};
+
+    /// The gas of this name.
+    pub fn named(name: &str) -> Option<KnownGas>
+        ensures { result ≡ gas_named name.now }
+    {
+        if name == Fhp1::name() {
+            Some(KnownGas::Fhp1)
+        } else if name == Hpp::name() {
+            Some(KnownGas::Hpp)
+        } else if name == FhpRest::name() {
+            Some(KnownGas::FhpRest)
+        } else {
+            None
+        }
+    }
+
+    /// The number of states that a cell can have: 2 to the power of the number of directions.
+    pub fn states(self) -> u16
+        ensures { result ≡ 2 ^ (rules_of self).dirs }
+    {
+        match self {
+            KnownGas::Fhp1 => states::<Fhp1>(),
+            KnownGas::Hpp => states::<Hpp>(),
+            KnownGas::FhpRest => states::<FhpRest>(),
+        }
+    }
+}

@@ -1,9 +1,0 @@
-use Rattle.std.proofs.Common.{◌≡◌, [], length}
-use Rattle.std.specs.Prelude.{All}
-use Rattle.gas_scene.proofs.rectangles.no_strips.Given as goal
-
-abbrev pub invariant-loop : goal.invariant-loop
-invariant-loop l = record {
-  high : length l.rows.items ≡ l.counter;
-  empty : All (λ v. v.items ≡ []) l.rows.items;
-}

@@ -1,0 +1,38 @@
+-- Inner words: what functions of this crate promise one another. No public contract cites them.
+-- Here: the table of a checkpoint, as it is put together.
+use Rattle.std.specs.Prelude.{ℕ, List, Option, codes, pos}
+use Rattle.std.specs.Cmp.Lexicographic.{slice_cmp}
+use Rattle.std.specs.Option.{option_map_or, unwrap_or}
+use Rattle.std.specs.Ordering.{nat_cmp, match_ordering}
+use Rattle.toml.specs.Data.{Data, string, integer, array, Members, no_members, member}
+use Rattle.toml.specs.View.{items_of}
+use Rattle.gas_geom.specs.Gas.{Rules}
+use Rattle.gas_rows.specs.declared.chirality.Chirality.{Chirality}
+use Rattle.gas_catalog.specs.declared.catalog.KnownGas.{KnownGas}
+use Rattle.gas_catalog.specs.declared.catalog.KnownGas.TheVariants.{Fhp1}
+use Rattle.gas_catalog.specs.Catalog.{gas_named}
+use Rattle.gas_scene.specs.Checkpoint.{told}
+
+-- the gas with the name of these rules
+abbrev pub gas_with : Rules → KnownGas
+gas_with rules = unwrap_or (gas_named rules.name) Fhp1
+
+-- a value at a key of a table, whose keys ascend
+abbrev pub insert_member : List ℕ → Data → Members → Members
+insert_member key d no_members = member key d no_members
+insert_member key d (member k e ms) =
+    match_ordering (slice_cmp nat_cmp key k) (member key d (member k e ms)) (member k d ms) (member k e (insert_member key d ms))
+
+-- a table with the seed, if there is one
+abbrev pub insert_seed : Option ℕ → Members → Members
+insert_seed seed ms = option_map_or (λ n. insert_member (codes "seed") (integer (pos n)) ms) seed ms
+
+-- the table of these values, key after key
+unfoldable pub inserted : List ℕ → List Data → Chirality → ℕ → Members
+inserted gas cells chirality generation =
+    insert_seed (told chirality).1 (
+    insert_member (codes "cells") (array (items_of cells)) (
+    insert_member (codes "generation") (integer (pos generation)) (
+    insert_member (codes "chirality") (string (told chirality).0) (
+    insert_member (codes "gas") (string gas) (
+    insert_member (codes "version") (integer (pos 2)) no_members)))))
