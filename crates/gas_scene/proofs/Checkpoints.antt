@@ -20,8 +20,9 @@ use Rattle.gas_cells.specs.Reading.{cell_at, bad_column}
 use Rattle.gas_cells.proofs.Pairs.{length-row_cells}
 use Rattle.gas_cells.proofs.Printed.{cell_at-row_cells, bad_column-row_cells}
 use Rattle.gas_catalog.specs.declared.catalog.KnownGas.{KnownGas}
-use Rattle.gas_catalog.specs.declared.catalog.KnownGas.TheVariants.{Fhp1, Hpp, FhpRest}
-use Rattle.gas_catalog.specs.Catalog.{rules_of, gas_named, GasLattice}
+use Rattle.gas_catalog.specs.declared.catalog.KnownGas.TheVariants.{Fhp1}
+use Rattle.gas_catalog.specs.Catalog.{rules_of, GasLattice}
+use Rattle.gas_catalog.proofs.Names.{gas_named-self}
 use Rattle.gas_layout.specs.Layout.{between, lattice_of}
 use Rattle.gas_layout.proofs.Grids.{lattice_of-same}
 use Rattle.gas_scene.specs.declared.common.TheConstants.{LAST_GENERATION}
@@ -53,12 +54,7 @@ fit w some few = grind (arith, nat_tests)
 few_rows : (n : ℕ) → 1 ≤ n → n ≤ MOST_SIDE → between (pos 1) (pos MOST_SIDE) (pos n) ≡ true
 few_rows n some few = grind (arith, ints)
 
--- each gas has its name, and each chirality its own
-pub gas_named-self : (gas : KnownGas) → gas_named (rules_of gas).name ≡ Some gas
-gas_named-self Fhp1 = refl
-gas_named-self Hpp = refl
-gas_named-self FhpRest = refl
-
+-- each chirality has its name
 is_chirality : (chirality : Chirality) → list_any (bytes_eq (told chirality).0) (codes "seeded" ∷ codes "left" ∷ codes "right" ∷ []) ≡ true
 is_chirality (Seeded seed) = refl
 is_chirality Left = refl
