@@ -1,6 +1,6 @@
 use Rattle.std.proofs.Common.{◌≡◌, ◌∙◌, ap, subst, map, true}
 use Rattle.clap.specs.Words.{App, HasKind, app_of, fault_of, is_simple_and_free}
-use Rattle.gas_tool_cli.proofs.Matches.{fault_tells, program_is_free}
+use Rattle.gas_tool_cli.proofs.ErrorKinds.{fault_tells, program_is_free}
 use Rattle.gas_tool_cli.proofs.words.parse_words.Goals as goal
 
 pub returns-clause-fault : goal.returns-clause-fault

@@ -1,10 +1,10 @@
 use Rattle.std.proofs.Common.{codes}
-use Rattle.gas_tool_cli.specs.Commands.{alone}
+use Rattle.gas_tool_cli.specs.Inner.Commands.{leaf_app}
 use Rattle.gas_tool_cli.specs.Words.{plan_rules, side_rule, subcommand}
-use Rattle.gas_tool_cli.proofs.words.coarse_command.Goals as goal
+use Rattle.gas_tool_cli.proofs.command.coarse_command.Goals as goal
 
 pub returns-clause-app : goal.returns-clause-app
 returns-clause-app c =
     let plan = c.plan_command-plan.ensures.app in
-    let wide = c.with_arg-wide.ensures.app (alone (subcommand (codes "coarse") plan_rules)) (side_rule (codes "block-width")) plan c.block_width_arg.ensures.rule in
+    let wide = c.with_arg-wide.ensures.app (leaf_app (subcommand (codes "coarse") plan_rules)) (side_rule (codes "block-width")) plan c.block_width_arg.ensures.rule in
     c.with_arg.ensures.app _ (side_rule (codes "block-height")) wide c.block_height_arg.ensures.rule

@@ -1,6 +1,6 @@
 use Rattle.clap.specs.Words.{found_of}
-use Rattle.gas_tool_cli.proofs.Matches.{number_at}
-use Rattle.gas_tool_cli.proofs.words.side_of.Goals as goal
+use Rattle.gas_tool_cli.proofs.Values.{number_at}
+use Rattle.gas_tool_cli.proofs.matches.side_of.Goals as goal
 
 pub returns-then-side-le-MOST_BLOCK_SIDE : goal.returns-then-side-le-MOST_BLOCK_SIDE
 returns-then-side-le-MOST_BLOCK_SIDE c =

@@ -1,7 +1,7 @@
 use Rattle.std.proofs.Common.{map, take}
 use Rattle.std.specs.List.{AllZip}
 use Rattle.gas_tool_cli.specs.Requests.{IsNumber}
-use Rattle.gas_tool_cli.proofs.words.numbers.Given as goal
+use Rattle.gas_tool_cli.proofs.matches.parse_numbers.Given as goal
 
 -- the words so far are the numbers so far
 abbrev pub invariant-loop-word : goal.invariant-loop-word

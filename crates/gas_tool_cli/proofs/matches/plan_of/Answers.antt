@@ -1,6 +1,6 @@
 use Rattle.clap.specs.Words.{found_of}
-use Rattle.gas_tool_cli.proofs.Matches.{number_at}
-use Rattle.gas_tool_cli.proofs.words.plan_of.Goals as goal
+use Rattle.gas_tool_cli.proofs.Values.{number_at}
+use Rattle.gas_tool_cli.proofs.matches.plan_of.Goals as goal
 
 pub returns : goal.returns
 returns c =

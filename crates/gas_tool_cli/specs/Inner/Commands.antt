@@ -4,5 +4,5 @@ use Rattle.std.specs.Prelude.{[]}
 use Rattle.clap.specs.Words.{App, Shape}
 
 -- a command with no subcommand
-abbrev pub alone : Shape → App
-alone shape = record { top = shape; subs = [] }
+abbrev pub leaf_app : Shape → App
+leaf_app shape = record { top = shape; subs = [] }

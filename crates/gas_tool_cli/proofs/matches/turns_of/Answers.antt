@@ -4,7 +4,7 @@ use Rattle.clap.specs.Words.{Text, found_of}
 use Rattle.clap.proofs.WalkLemmas.{raw_values-rows}
 use Rattle.std.specs.List.{AllZip}
 use Rattle.gas_tool_cli.specs.Requests.{IsNumber}
-use Rattle.gas_tool_cli.proofs.words.turns_of.Goals as goal
+use Rattle.gas_tool_cli.proofs.matches.turns_of.Goals as goal
 
 pub returns-in_default : goal.returns-in_default
 returns-in_default c =

@@ -3,8 +3,8 @@ use Rattle.std.specs.List.{slice_index_or}
 use Rattle.std.proofs.Math.Seq.{take-suc}
 use Rattle.std.proofs.lemmas.List.{get_or-map, length-map}
 use Rattle.gas_tool_cli.specs.Requests.{IsNumber}
-use Rattle.gas_tool_cli.proofs.Matches.{all_zip_push}
-use Rattle.gas_tool_cli.proofs.words.numbers.Goals as goal
+use Rattle.gas_tool_cli.proofs.Values.{all_zip_push}
+use Rattle.gas_tool_cli.proofs.matches.parse_numbers.Goals as goal
 
 pub loop-word-preserved : goal.loop-word-preserved
 loop-word-preserved c =

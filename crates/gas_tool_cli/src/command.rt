@@ -1,0 +1,155 @@
+//! The commands, as `clap` is told of them: the program's, with its subcommands and their options.
+
+ghost use Rattle.std.specs.Prelude.{◌≡◌, [], ◌∷◌, ◌++◌, IfOk, false, true, codes};
+ghost use Rattle.clap.specs.declared.builder.command.Command.TheViews.{out-Command as fields_of};
+ghost use Rattle.clap.specs.Simple.{on_top};
+ghost use Rattle.clap.specs.Words.{App, Rule, Shape, app_of, new_app, rule_of, with_rule, with_subcommand};
+ghost use Rattle.gas_tool_cli.specs.Words.{plan_rules, program_app, side_rule, subcommand, turns_rule};
+ghost use Rattle.gas_tool_cli.specs.Inner.Commands.{leaf_app};
+
+use crate::arguments::{
+    block_height_arg, block_width_arg, capacity_arg, generations_arg, stages_arg, turns_arg,
+};
+use crate::help;
+use clap::{Arg, Command};
+use std::alloc::{AllocError, Global};
+
+// A command with the texts of its help: how it is called, what it does, and what else there is to
+// know.
+fn new_command<'a>(
+    alloc: Global,
+    name: &'a str,
+    usage: &'a str,
+    about: &'a str,
+    notes: &'a str,
+) -> Command<'a>
+    ensures app { app_of result ≡ new_app name.entry.now }
+    ensures local { (fields_of result).has_globals ≡ false }
+{
+    Command::new(alloc, name)
+        .override_usage(usage)
+        .about(about)
+        .after_help(notes)
+}
+
+// The command with one more option, if it could be made so far.
+fn with_arg<'a>(
+    command: Result<Command<'a>, AllocError>,
+    arg: Arg<'a>,
+) -> Result<Command<'a>, AllocError>
+    requires local_command { IfOk command (λ c. (fields_of c).has_globals ≡ false) }
+    requires local_arg { arg.global ≡ false }
+    ensures app { (app : App) (rule : Rule) →
+        IfOk command.entry (λ c. app_of c ≡ app) → rule_of arg.entry ≡ rule →
+        IfOk result (λ r. app_of r ≡ with_rule app rule) }
+    ensures local { IfOk result (λ r. (fields_of r).has_globals ≡ false) }
+{
+    command?.arg(arg)
+}
+
+// A command with the options of a plan.
+fn plan_command<'a>(
+    alloc: Global,
+    name: &'a str,
+    usage: &'a str,
+    about: &'a str,
+    notes: &'a str,
+) -> Result<Command<'a>, AllocError>
+    ensures app { IfOk result (λ r. app_of r ≡ leaf_app (subcommand name.entry.now plan_rules)) }
+    ensures local { IfOk result (λ r. (fields_of r).has_globals ≡ false) }
+{
+    let command = new_command(alloc, name, usage, about, notes);
+    let first = with_arg(Ok(command), generations_arg(alloc));
+    let second = with_arg(first, stages_arg(alloc));
+    with_arg(second, capacity_arg(alloc))
+}
+
+fn run_command<'a>(alloc: Global) -> Result<Command<'a>, AllocError>
+    ensures app { IfOk result (λ r. app_of r ≡ leaf_app (subcommand (codes "run") plan_rules)) }
+    ensures local { IfOk result (λ r. (fields_of r).has_globals ≡ false) }
+{
+    plan_command(
+        alloc,
+        "run",
+        help::USAGE_RUN,
+        help::ABOUT_RUN,
+        help::NOTES_RUN,
+    )
+}
+
+fn coarse_command<'a>(alloc: Global) -> Result<Command<'a>, AllocError>
+    ensures app { IfOk result (λ r. app_of r ≡ leaf_app (subcommand (codes "coarse") (plan_rules
+        ++ side_rule (codes "block-width") ∷ side_rule (codes "block-height") ∷ []))) }
+    ensures local { IfOk result (λ r. (fields_of r).has_globals ≡ false) }
+{
+    let plan = plan_command(
+        alloc,
+        "coarse",
+        help::USAGE_COARSE,
+        help::ABOUT_COARSE,
+        help::NOTES_COARSE,
+    );
+    let wide = with_arg(plan, block_width_arg(alloc));
+    with_arg(wide, block_height_arg(alloc))
+}
+
+fn replay_command<'a>(alloc: Global) -> Result<Command<'a>, AllocError>
+    ensures app { IfOk result (λ r. app_of r ≡ leaf_app (subcommand (codes "replay")
+        (plan_rules ++ turns_rule ∷ []))) }
+    ensures local { IfOk result (λ r. (fields_of r).has_globals ≡ false) }
+{
+    let plan = plan_command(
+        alloc,
+        "replay",
+        help::USAGE_REPLAY,
+        help::ABOUT_REPLAY,
+        help::NOTES_REPLAY,
+    );
+    with_arg(plan, turns_arg(alloc))
+}
+
+fn check_command<'a>(alloc: Global) -> Command<'a>
+    ensures app { app_of result ≡ leaf_app (subcommand (codes "check") []) }
+    ensures local { (fields_of result).has_globals ≡ false }
+{
+    new_command(
+        alloc,
+        "check",
+        help::USAGE_CHECK,
+        help::ABOUT_CHECK,
+        help::NOTES_CHECK,
+    )
+}
+
+// The program's command without its subcommands.
+fn top_command<'a>(alloc: Global) -> Command<'a>
+    ensures { app_of result ≡ on_top
+        (λ s. record s { subcommand_required = true; has_version = true })
+        (new_app (codes "fhpgas")) }
+{
+    new_command(alloc, "fhpgas", help::USAGE, help::ABOUT, help::NOTES)
+        .version(help::VERSION)
+        .subcommand_required(true)
+}
+
+// The command with one more subcommand, if both could be made.
+fn with_command<'a>(
+    command: Result<Command<'a>, AllocError>,
+    added: Result<Command<'a>, AllocError>,
+) -> Result<Command<'a>, AllocError>
+    requires local { IfOk added (λ a. (fields_of a).has_globals ≡ false) }
+    ensures app { (app : App) (shape : Shape) →
+        IfOk command.entry (λ c. app_of c ≡ app) → IfOk added.entry (λ a. app_of a ≡ leaf_app shape) →
+        IfOk result (λ r. app_of r ≡ with_subcommand app shape) }
+{
+    command?.subcommand(added?)
+}
+
+pub(crate) fn program_command<'a>(alloc: Global) -> Result<Command<'a>, AllocError>
+    ensures { IfOk result (λ r. app_of r ≡ program_app) }
+{
+    let checks = with_command(Ok(top_command(alloc)), Ok(check_command(alloc)));
+    let runs = with_command(checks, run_command(alloc));
+    let tables = with_command(runs, coarse_command(alloc));
+    with_command(tables, replay_command(alloc))
+}

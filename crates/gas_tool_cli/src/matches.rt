@@ -1,0 +1,129 @@
+//! The request of what `clap` has matched: the subcommand, and the values of its options.
+
+ghost use Rattle.std.specs.Prelude.{IfOk, IfSome, Some, map, codes};
+ghost use Rattle.std.specs.List.{AllZip};
+ghost use Rattle.clap.specs.Words.{found_of, rows_of, subcommand_rows_of};
+ghost use Rattle.gas_tool_cli.specs.Requests.{AreTurnsAt, IsNumber, IsPlanAt, IsRequestOf, IsSideAt};
+
+use crate::arguments::MOST_BLOCK_SIDE;
+use crate::request::{PlanNumbers, Request, Turns};
+use clap::ArgMatches;
+use std::alloc::{AllocError, Global};
+
+// The request of the matches.
+pub(crate) fn request_of(alloc: Global, matches: &ArgMatches) -> Result<Option<Request>, AllocError>
+    ensures { IfOk result (λ r. IfSome r (IsRequestOf (subcommand_rows_of matches.now))) }
+{
+    let Some((command, options)) = matches.subcommand() else {
+        return Ok(None);
+    };
+    match command {
+        "check" => Ok(Some(Request::Check)),
+        "run" => Ok(run_request(options)),
+        "coarse" => Ok(coarse_request(options)),
+        "replay" => replay_request(alloc, options),
+        _ => Ok(None),
+    }
+}
+
+// The numbers of a plan.
+fn plan_of(options: &ArgMatches) -> Option<PlanNumbers>
+    ensures { IfSome result
+        (λ p. IsPlanAt (rows_of (found_of options.now)) p.stages p.capacity p.generations) }
+{
+    let stages = options.get_one::<u32>("stages")?;
+    let capacity = options.get_one::<u32>("capacity")?;
+    let generations = options.get_one::<u64>("generations")?;
+    Some(PlanNumbers {
+        stages,
+        capacity,
+        generations,
+    })
+}
+
+// The width or the height of blocks.
+fn side_of(options: &ArgMatches, name: &str) -> Option<u32>
+    ensures { IfSome result (IsSideAt (rows_of (found_of options.now)) name.now) }
+{
+    let side = options.get_one::<u32>(name)?;
+    if 1 <= side && side <= MOST_BLOCK_SIDE {
+        Some(side)
+    } else {
+        None
+    }
+}
+
+// The request of the options of `run`.
+fn run_request(options: &ArgMatches) -> Option<Request>
+    ensures { IfSome result (IsRequestOf (Some (codes "run", rows_of (found_of options.now)))) }
+{
+    let plan = plan_of(options)?;
+    Some(Request::Run {
+        stages: plan.stages,
+        capacity: plan.capacity,
+        generations: plan.generations,
+    })
+}
+
+// The request of the options of `coarse`.
+fn coarse_request(options: &ArgMatches) -> Option<Request>
+    ensures { IfSome result (IsRequestOf (Some (codes "coarse", rows_of (found_of options.now)))) }
+{
+    let plan = plan_of(options)?;
+    let block_width = side_of(options, "block-width")?;
+    let block_height = side_of(options, "block-height")?;
+    Some(Request::Coarse {
+        stages: plan.stages,
+        capacity: plan.capacity,
+        generations: plan.generations,
+        block_width,
+        block_height,
+    })
+}
+
+// The numbers that the words are; None where one is none.
+fn parse_numbers(alloc: Global, words: &[&str]) -> Result<Option<Vec<u32>>, AllocError>
+    ensures { IfOk result (λ r. IfSome r
+        (λ numbers. AllZip (IsNumber 32) (map (λ w. w.now) words.now) numbers.items)) }
+{
+    let mut numbers = Vec::with_capacity(alloc, words.len())?;
+    for word in words {
+        let Ok(number) = word.parse::<u32>() else {
+            return Ok(None);
+        };
+        numbers.push(number)?;
+    }
+    Ok(Some(numbers))
+}
+
+// The turns; None where a word is no number, which `clap` has refused before.
+fn turns_of(alloc: Global, options: &ArgMatches) -> Result<Option<Turns>, AllocError>
+    ensures { IfOk result (λ r. IfSome r (AreTurnsAt (rows_of (found_of options.now)))) }
+{
+    let Some(words) = options.get_raw("turns") else {
+        return Ok(Some(Turns::new(Vec::new(alloc))));
+    };
+    match parse_numbers(alloc, words)? {
+        Some(turns) => Ok(Some(Turns::new(turns))),
+        None => Ok(None),
+    }
+}
+
+// The request of the options of `replay`.
+fn replay_request(alloc: Global, options: &ArgMatches) -> Result<Option<Request>, AllocError>
+    ensures { IfOk result (λ r. IfSome r
+        (IsRequestOf (Some (codes "replay", rows_of (found_of options.now))))) }
+{
+    let Some(plan) = plan_of(options) else {
+        return Ok(None);
+    };
+    let Some(turns) = turns_of(alloc, options)? else {
+        return Ok(None);
+    };
+    Ok(Some(Request::Replay {
+        stages: plan.stages,
+        capacity: plan.capacity,
+        generations: plan.generations,
+        turns,
+    }))
+}
