@@ -3,25 +3,39 @@
 ghost use Rattle.std.specs.Prelude.{◌≡◌, false, codes};
 ghost use Rattle.clap.specs.declared.builder.value_parser.ValueParser.TheVariants.{Unsigned};
 ghost use Rattle.clap.specs.Words.{rule_of};
-ghost use Rattle.gas_tool_cli.specs.Words.{default_rule, required_rule, side_rule, turns_rule};
+ghost use Rattle.gas_tool_cli.specs.Words.{default_rule, option_rule, required_rule, side_rule, turns_rule};
 
+use clap::builder::ValueParser;
 use clap::{Arg, ArgAction, value_parser};
 use std::alloc::Global;
 
 /// The most columns, and the most rows, of a block.
 pub(crate) const MOST_BLOCK_SIDE: u32 = 4096;
 
+// An option `--name VALUE`.
+fn option_arg<'a>(
+    alloc: Global,
+    name: &'a str,
+    value_name: &'a str,
+    values: ValueParser<'a>,
+) -> Arg<'a>
+    ensures rule { rule_of result ≡ option_rule name.entry.now values.entry }
+    ensures local { result.global ≡ false }
+{
+    Arg::new(alloc, name)
+        .long(name)
+        .value_name(value_name)
+        .action(ArgAction::Set)
+        .value_parser(values)
+}
+
 pub(crate) fn generations_arg<'a>(alloc: Global) -> Arg<'a>
     ensures rule { rule_of result ≡
         required_rule (codes "generations") (Unsigned 0 18446744073709551615) }
     ensures local { result.global ≡ false }
 {
-    Arg::new(alloc, "generations")
-        .long("generations")
-        .value_name("G")
-        .action(ArgAction::Set)
+    option_arg(alloc, "generations", "G", value_parser!(u64))
         .required(true)
-        .value_parser(value_parser!(u64))
         .help("Generations (time steps) to compute: 0 to 1000000")
 }
 
@@ -48,12 +62,7 @@ fn default_arg<'a>(alloc: Global, name: &'a str, value_name: &'a str, value: &'a
     ensures rule { rule_of result ≡ default_rule name.entry.now value.entry.now }
     ensures local { result.global ≡ false }
 {
-    Arg::new(alloc, name)
-        .long(name)
-        .value_name(value_name)
-        .action(ArgAction::Set)
-        .value_parser(value_parser!(u32))
-        .default_value(value)
+    option_arg(alloc, name, value_name, value_parser!(u32)).default_value(value)
 }
 
 // An option for the width or the height of blocks.
@@ -61,12 +70,9 @@ fn side_arg<'a>(alloc: Global, name: &'a str, value_name: &'a str, help: &'a str
     ensures rule { rule_of result ≡ side_rule name.entry.now }
     ensures local { result.global ≡ false }
 {
-    Arg::new(alloc, name)
-        .long(name)
-        .value_name(value_name)
-        .action(ArgAction::Set)
+    let values = value_parser!(u32).range(1..=i64::from(MOST_BLOCK_SIDE));
+    option_arg(alloc, name, value_name, values)
         .required(true)
-        .value_parser(value_parser!(u32).range(1..=i64::from(MOST_BLOCK_SIDE)))
         .help(help)
 }
 
