@@ -3,8 +3,8 @@ ghost use Rattle.std.specs.Prelude.{◌≡◌, ℕ, List, IsTrue};
 ghost use Rattle.gas_rows.specs.Row.{RowModel};
 ghost use Rattle.gas_pipe_members.specs.Feeder.{HasFed};
 
-use crate::signals::Signals;
-use crate::watch::Watch;
+use crate::waiter::Waiter;
+use crate::wake_ups::WakeUps;
 use gas_belt::rx::Rx;
 use gas_belt::tx::Tx;
 use gas_geom::gas::Gas;
@@ -16,7 +16,7 @@ use std::sync::Wait;
 /// or a row of another width came.
 pub(crate) fn feed<G: Gas, R: Wait>(
     rt: &R,
-    signals: &Signals,
+    wake_ups: &WakeUps,
     feeder: &mut Feeder<G>,
     rx: &mut Rx<G>,
     tx: &mut Tx<G>,
@@ -28,17 +28,17 @@ pub(crate) fn feed<G: Gas, R: Wait>(
     ensures fed { IsTrue result → (passes : ℕ) (rows : List RowModel) →
         HasFed feeder.old passes rows tx.old.put rx.old.taken → HasFed feeder.new passes rows tx.new.put rx.new.taken }
 {
-    let mut watch = Watch::new(signals, 0);
+    let mut waiter = Waiter::new(wake_ups, 0);
     for _ in rt.forever() {
         match feeder.turn(tx, rx) {
             Turned::Done => return true,
             Turned::Idle => {
-                if !watch.rest(rt, tx) {
+                if !waiter.publish_or_wait(rt, tx) {
                     return false;
                 }
             }
-            Turned::Took => watch.took(),
-            Turned::Put => watch.put(),
+            Turned::Took => waiter.took(),
+            Turned::Put => waiter.put(),
             Turned::Stray => return false,
         }
     }

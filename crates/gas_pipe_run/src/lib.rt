@@ -2,6 +2,7 @@
 #![tactic(auto)]
 
 pub mod answer;
+pub mod backoff;
 mod build;
 mod feeder_loop;
 pub mod gate;
@@ -9,9 +10,9 @@ mod gather;
 mod job;
 mod ring;
 mod shared;
-mod signals;
 mod start;
-mod watch;
+mod waiter;
+pub mod wake_ups;
 mod work;
 mod worker_loop;
 

@@ -11,8 +11,8 @@ use crate::feeder_loop::feed;
 use crate::gate::Gate;
 use crate::gather::gather;
 use crate::shared::Shared;
-use crate::signals::Signals;
 use crate::start::{Started, start};
+use crate::wake_ups::WakeUps;
 use gas_belt::carried::{Carried, meet};
 use gas_belt::rx::Rx;
 use gas_belt::tx::Tx;
@@ -62,7 +62,7 @@ fn give_up<G: Gas, H: Gate, R: Threads + Wait>(
     shared: &Shared<'_, H, R>,
     handles: Vec<Started<'_, G>>,
 ) {
-    shared.signals.stop();
+    shared.wake_ups.stop();
     for handle in handles {
         drop(handle.join(shared.rt));
     }
@@ -101,7 +101,7 @@ fn run_line<'s, 'e: 's, G: Gas + Send + 'e, H: Gate + Sync, R: Threads + Wait + 
     if all
         && feed(
             shared.rt,
-            shared.signals,
+            shared.wake_ups,
             &mut feeder,
             &mut last,
             &mut first,
@@ -167,10 +167,10 @@ pub(crate) fn run_ring<G: Gas + Send, H: Gate + Sync, R: Threads + Wait + Sync>(
     requires rows { feeder.rows ≡ input.now.lattice.rows }
     ensures { IfOk result (λ run. HasRun G.rules input.now run) }
 {
-    let signals = Signals::new(alloc, input.schedule.plan.stages())?;
+    let wake_ups = WakeUps::new(alloc, input.schedule.plan.stages())?;
     let shared = &Shared {
         rt,
-        signals: &signals,
+        wake_ups: &wake_ups,
         gate,
     };
     let run = thread::scope(

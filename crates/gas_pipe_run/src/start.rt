@@ -30,11 +30,11 @@ pub(crate) fn start<'s, 'e: 's, G: Gas + Send + 'e, H: Gate + Sync, R: Wait + Sy
     let mut handles = handles;
     for job in jobs {
         let Some(handle) = start_work(scope, shared, job) else {
-            shared.signals.stop();
+            shared.wake_ups.stop();
             return (handles, false);
         };
         let Ok(()) = handles.push(handle) else {
-            shared.signals.stop();
+            shared.wake_ups.stop();
             return (handles, false);
         };
     }

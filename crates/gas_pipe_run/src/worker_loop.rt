@@ -6,7 +6,7 @@ ghost use Rattle.gas_pipe_run.specs.Inner.Job.{OnePass, owes_until};
 
 use crate::gate::Gate;
 use crate::shared::Shared;
-use crate::watch::Watch;
+use crate::waiter::Waiter;
 use gas_belt::rx::Rx;
 use gas_belt::tx::Tx;
 use gas_geom::gas::Gas;
@@ -20,7 +20,7 @@ use std::sync::Wait;
 // raises the flag.
 fn make_pass<G: Gas, H, R: Wait>(
     shared: &Shared<'_, H, R>,
-    watch: &mut Watch<'_>,
+    waiter: &mut Waiter<'_>,
     generation: Option<u64>,
     worker: &mut Worker<'_, G>,
     rx: &mut Rx<G>,
@@ -38,18 +38,18 @@ fn make_pass<G: Gas, H, R: Wait>(
     for _ in shared.rt.forever() {
         match worker.turn(rx, tx) {
             Turned::Done => {
-                watch.publish(tx);
+                waiter.publish(tx);
                 return true;
             }
             Turned::Idle => {
-                if !watch.rest(shared.rt, tx) {
+                if !waiter.publish_or_wait(shared.rt, tx) {
                     return false;
                 }
             }
-            Turned::Took => watch.took(),
-            Turned::Put => watch.put(),
+            Turned::Took => waiter.took(),
+            Turned::Put => waiter.put(),
             Turned::Stray => {
-                shared.signals.stop();
+                shared.wake_ups.stop();
                 return false;
             }
         }
@@ -79,11 +79,11 @@ pub(crate) fn make_passes<G: Gas, H: Gate, R: Wait>(
         ≡ owes_until G.rules worker.old schedule.now.first schedule.now.plan who (div_ceil schedule.now.plan.generations schedule.now.plan.stages) rx.new.taken }
 {
     let passes = schedule.passes();
-    let mut watch = Watch::new(shared.signals, who);
+    let mut waiter = Waiter::new(shared.wake_ups, who);
     for pass in 0..passes {
         shared.gate.enter(who);
         let generation = schedule.generation(pass, who);
-        if !make_pass(shared, &mut watch, generation, worker, rx, tx) {
+        if !make_pass(shared, &mut waiter, generation, worker, rx, tx) {
             return false;
         }
     }

@@ -1,0 +1,98 @@
+//! How a member of the line waits for its neighbours and wakes them.
+
+ghost use Rattle.std.specs.Prelude.{◌≡◌};
+
+use crate::backoff::{Backoff, Phase};
+use crate::wake_ups::WakeUps;
+use gas_belt::tx::Tx;
+use gas_geom::gas::Gas;
+use std::sync::Wait;
+use std::{hint, thread};
+
+/// A member of the line that waits for its neighbours and wakes them.
+#[derive(Drop)]
+pub struct Waiter<'a> {
+    wake_ups: &'a WakeUps,
+    member: usize,
+    backoff: Backoff,
+}
+
+impl<'a> Waiter<'a> {
+    /// The waiter of the feeder, 0, or of a worker.
+    pub(crate) fn new(wake_ups: &'a WakeUps, member: u32) -> Self {
+        Waiter {
+            wake_ups,
+            member: member as usize,
+            backoff: Backoff::new(),
+        }
+    }
+
+    // Takes one step of a wait, and returns whether to go on: not where the stop flag is raised.
+    fn wait<R: Wait>(&mut self, rt: &R) -> bool {
+        let is_stopped = self.wake_ups.is_stopped();
+        let Some(phase) = self.backoff.next(is_stopped, self.wake_ups.yield_ban()) else {
+            return false;
+        };
+        match phase {
+            Phase::Spin => hint::spin_loop(),
+            Phase::Yield => thread::yield_now(),
+            Phase::Announce => self.wake_ups.announce_park(self.member),
+            Phase::Park => {
+                let was_woken = self.wake_ups.park(rt, self.member);
+                self.backoff.count_park(was_woken);
+            }
+        }
+        true
+    }
+
+    // Ends a wait.
+    fn end_wait(&mut self) {
+        if self.backoff.end_wait() {
+            self.wake_ups.withdraw_park(self.member);
+        }
+    }
+
+    /// A row was put: the member behind may wait for it.
+    pub(crate) fn put(&mut self) {
+        self.end_wait();
+        let behind = self.member.wrapping_add(1);
+        let is_last = behind >= self.wake_ups.members();
+        self.wake_ups.wake(if is_last { 0 } else { behind });
+    }
+
+    /// Shows the member behind the rows that gathered on the belt, and returns whether there were any.
+    pub(crate) fn publish<G: Gas>(&mut self, tx: &mut Tx<G>) -> bool
+        ensures { tx.new ≡ tx.old }
+    {
+        let any = tx.publish();
+        if any {
+            self.put();
+        }
+        any
+    }
+
+    /// After a turn in which nothing could be done: rows that gathered are shown first, since the
+    /// member behind may wait for them; where there are none the member waits a little. Returns
+    /// whether to go on: not where the stop flag is raised.
+    pub(crate) fn publish_or_wait<G: Gas, R: Wait>(&mut self, rt: &R, tx: &mut Tx<G>) -> bool
+        ensures { tx.new ≡ tx.old }
+    {
+        if self.publish(tx) {
+            !self.wake_ups.is_stopped()
+        } else {
+            self.wait(rt)
+        }
+    }
+
+    /// A row was taken: the member before may wait for its room.
+    pub(crate) fn took(&mut self) {
+        self.end_wait();
+        let is_first = self.member == 0;
+        let before = if is_first {
+            self.wake_ups.members()
+        } else {
+            self.member
+        };
+        self.wake_ups.wake(before.wrapping_sub(1));
+    }
+}
