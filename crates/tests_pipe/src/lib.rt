@@ -1,4 +1,5 @@
-//! Tests of the members of the line, of replays and of runs by threads on worked examples.
+//! Tests of the members of the line, of replays and of runs by threads on worked examples, and
+//! of how a thread waits.
 #![tactic(auto)]
 
 #[cfg(test)]
@@ -9,3 +10,5 @@ mod members;
 mod replays;
 #[cfg(test)]
 mod runs;
+#[cfg(test)]
+mod waits;
