@@ -18,6 +18,7 @@ use crate::error::SceneError;
 use crate::typed::text_of;
 use gas_catalog::any_lattice;
 use gas_catalog::catalog::{AnyLattice, KnownGas};
+use gas_cells::cells::CHARACTERS;
 use gas_cells::reading::{bad_column, read_row};
 use gas_geom::gas::Gas;
 use gas_geom::size::Size;
@@ -53,7 +54,10 @@ fn is_misfit(most: u32, first: usize, row: &[u8]) -> bool
     ensures { result ≡ is_misfit most first row.now }
 {
     let length = row.len();
-    !(length % 2 == 0 && 2 <= length && length <= 2 * most as usize && length == first)
+    !(length % CHARACTERS == 0
+        && CHARACTERS <= length
+        && length <= CHARACTERS * most as usize
+        && length == first)
 }
 
 // The first row of a wrong length.
@@ -141,7 +145,7 @@ fn map_lattice<G: Gas>(alloc: Global, rows: &[Value]) -> Result<Lattice<G>, Allo
     requires { IsMap (2 ^ G.rules.dirs) (map text_of (map view rows.now)) }
     ensures { IfOk result (λ l. l ≡ map_lattice (2 ^ G.rules.dirs) (map text_of (map view rows.now))) }
 {
-    let width = row(rows, 0).len() / 2;
+    let width = row(rows, 0).len() / CHARACTERS;
     let size = Size::new(width as u32, rows.len() as u32).unwrap();
     let mut lattice = Lattice::blank(alloc, Channel::free(alloc, size)?)?;
     let mut solid = vec![in alloc; false; width]?;
