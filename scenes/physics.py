@@ -10,12 +10,16 @@ The formulas beside them are those of U. Frisch, D. d'Humieres, B. Hasslacher, P
 Lattice gas hydrodynamics in two and three dimensions, Complex Systems 1 (1987) 649.
 Nothing of it is proved.
 
-Run it where ./fhpgas is: scenes/physics.py. It takes less than a second, and fails where a sum and its formula differ.
+It takes less than a second, and fails where a sum and its formula differ. It calls ./fhpgas, or the one beside scenes/ where none is here.
 """
 import math
+import os
+import pathlib
 import subprocess
 import sys
 
+HERE = "./fhpgas"
+PROGRAM = HERE if os.access(HERE, os.X_OK) else str(pathlib.Path(__file__).resolve().parent.parent / "fhpgas")
 ROOT3 = math.sqrt(3)
 HEXAGON = [(1, 0), (0.5, ROOT3 / 2), (-0.5, ROOT3 / 2), (-1, 0), (-0.5, -ROOT3 / 2), (0.5, -ROOT3 / 2)]
 VELOCITIES = {"fhp1": HEXAGON, "hpp": [(1, 0), (0, 1), (-1, 0), (0, -1)], "fhp-rest": HEXAGON + [(0, 0)]}
@@ -25,7 +29,7 @@ STEPS = [(1, 0), (1, -1), (0, -1), (-1, 0), (0, 1), (1, 1)]
 
 
 def answer(words, text):
-    return subprocess.run(["./fhpgas", *words], input=text, capture_output=True, text=True, check=True).stdout.splitlines()
+    return subprocess.run([PROGRAM, *words], input=text, capture_output=True, text=True, check=True).stdout.splitlines()
 
 
 def collisions(chirality):
