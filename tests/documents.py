@@ -1,6 +1,6 @@
 #!/usr/bin/env python3
-"""Runs the commands of the README, the manual and the guide as they are printed: each block marked `sh` must end with 0, and where
-the block after it is marked `text`, it must print that. Ends with the counts."""
+"""Runs the commands of the README, the manual, the guide and the physics as they are printed: each block marked `sh` must end
+with 0, and where the block after it is marked `text`, it must print that. Ends with the counts."""
 
 import pathlib
 import re
