@@ -71,14 +71,16 @@ def fastest_wind(gas, rate):
     return int(1000 * mean_square * min(1, 1000 / max(rate, 1) - 1) + 1e-9)
 
 
+def rates(asked):
+    return [asked.rate] + [patch[4] for patch in asked.patch]
+
+
 def version(asked):
     return 1 if max(asked.width, asked.height) <= MOST_SIDE[1] else 2
 
 
 def fault(asked):
     """Why no such scene can be drawn, or None."""
-    rates = [asked.rate] + [patch[4] for patch in asked.patch]
-
     def is_inside(x, y, w, h):
         return 0 <= x and 0 <= y and 1 <= w and 1 <= h and x + w <= asked.width and y + h <= asked.height
 
@@ -86,9 +88,9 @@ def fault(asked):
         return f"width and height must be 1 to {MOST_SIDE[2]}"
     if not 0 <= asked.seed < 2**63:
         return "seed must be 0 to 9223372036854775807"
-    if not all(0 <= rate <= 1000 for rate in rates):
+    if not all(0 <= rate <= 1000 for rate in rates(asked)):
         return "rate must be 0 to 1000"
-    slowest = min(rates, key=lambda rate: fastest_wind(asked.gas, rate))
+    slowest = min(rates(asked), key=lambda rate: fastest_wind(asked.gas, rate))
     if abs(asked.wind) > fastest_wind(asked.gas, slowest):
         return f"no gas filled at rate {slowest} has such a wind: its fastest is {fastest_wind(asked.gas, slowest)}"
     if asked.wind and asked.height * (2 * asked.width + 8) + 200 > MOST_BYTES:
@@ -192,6 +194,7 @@ def particles(asked, solid, lots):
 
 def rows(asked, solid, lots):
     """The rows of a map, each place filled by lot with the chance of its direction."""
+    bits = {rate: [(1 << i, chance) for i, chance in enumerate(chances(asked, rate))] for rate in rates(asked)}
     for y in range(asked.height):
         cells = []
         for x in range(asked.width):
@@ -199,7 +202,7 @@ def rows(asked, solid, lots):
             for left, top, w, h, other in asked.patch:
                 if left <= x < left + w and top <= y < top + h:
                     rate = other
-            filled = sum(1 << i for i, chance in enumerate(chances(asked, rate)) if lots.random() < chance)
+            filled = sum(bit for bit, chance in bits[rate] if lots.random() < chance)
             cells.append("##" if (x, y) in solid else f"{filled:02x}")
         yield "".join(cells)
 

@@ -1,0 +1,337 @@
+"""Runs fhpgas from Python, and reads what it prints.
+
+    import fhpgas                                     # with PYTHONPATH=scenes, or beside this file
+    scene = fhpgas.read_scene("scenes/wind.toml")
+    cells = fhpgas.run(scene, 12)                     # cells.states[y][x], cells.solid[y][x], cells.particles
+    table = fhpgas.coarse(scene, 12, 4, 4)            # table.particles[row][column], table.density(), table.velocity("fhp1")
+    later = fhpgas.run(fhpgas.resume(scene, cells), 12)
+    mean, error = fhpgas.mean(fhpgas.side_by_side(measure, range(1, 9)))
+
+A scene is its text. Lists of rows come from the top of the lattice, a row from its left. Nothing here needs a package; `arrays()` of cells
+and of a table needs numpy. The program is `fhpgas` in the folder above this file, or the one that the environment variable FHPGAS
+names. What does not fit is a `Fault`, whose text is one line.
+"""
+import argparse
+import concurrent.futures
+import contextlib
+import dataclasses
+import functools
+import json
+import math
+import os
+import pathlib
+import re
+import statistics
+import subprocess
+import sys
+import tomllib
+
+HERE = pathlib.Path(__file__).resolve().parent
+STATES = {"fhp1": 64, "hpp": 16, "fhp-rest": 128}
+HEADER = "  col   row    fluid particles         px         py"
+WITHOUT_SOLID = str.maketrans("0123456789abcdef", "." * 16)
+
+
+class Fault(Exception):
+    """What does not fit, in one line."""
+
+
+@dataclasses.dataclass(frozen=True)
+class Cells:
+    """Printed cells: the generation, the number of particles, and the rows as they were printed, two characters a cell."""
+
+    generation: int
+    particles: int
+    lines: list
+
+    @functools.cached_property
+    def states(self):
+        """The state of each cell, a bit for each direction, as lists [y][x]; 0 where a cell is solid."""
+        state_of = {f"{state:02x}": state for state in range(128)} | {"..": 0, "##": 0}
+        return [[state_of[line[at : at + 2]] for at in range(0, len(line), 2)] for line in self.lines]
+
+    @functools.cached_property
+    def solid(self):
+        """Whether each cell is solid, as lists [y][x]."""
+        return [[line[at] == "#" for at in range(0, len(line), 2)] for line in self.lines]
+
+    def arrays(self):
+        """The states (uint8) and the solid cells (bool) as numpy arrays [y, x]."""
+        import numpy
+
+        text = numpy.frombuffer("".join(self.lines).encode(), numpy.uint8).reshape(len(self.lines), -1, 2)
+        digits = numpy.zeros(256, numpy.uint8)
+        digits[list(b"0123456789abcdef")] = range(16)
+        return digits[text[..., 0]] * 16 + digits[text[..., 1]], text[..., 0] == ord("#")
+
+
+@dataclasses.dataclass(frozen=True)
+class Table:
+    """A coarse table: fluid cells, particles and their momentum eastwards and northwards, of each block, as lists [row][column]."""
+
+    fluid: list
+    particles: list
+    px: list
+    py: list
+
+    def density(self):
+        """Particles a fluid cell, of each block; None where a block has no fluid cell."""
+        return pairwise(lambda particles, fluid: particles / fluid if fluid else None, self.particles, self.fluid)
+
+    def velocity(self, gas):
+        """The mean velocity of the particles of each block eastwards and northwards, in cells' widths a generation, as two lists
+        [row][column]; None where a block has no particle. On the triangular lattice it is px / 2n and sqrt(3)/2 py / n, in HPP
+        px / n and py / n."""
+        east, north = (1, 1) if gas == "hpp" else (1 / 2, math.sqrt(3) / 2)
+        return tuple(
+            pairwise(lambda momentum, n: unit * momentum / n if n else None, momenta, self.particles)
+            for unit, momenta in ((east, self.px), (north, self.py))
+        )
+
+    def text(self):
+        """The table as it was printed."""
+        columns = len(self.fluid[0])
+        numbers = zip(*([number for row in rows for number in row] for rows in (self.fluid, self.particles, self.px, self.py)))
+        lines = (f"{k % columns:5} {k // columns:5} {f:8} {n:9} {px:10} {py:10}\n" for k, (f, n, px, py) in enumerate(numbers))
+        return HEADER + "\n" + "".join(lines)
+
+    def arrays(self):
+        """The same as a numpy array [4, row, column], in the order of the fields."""
+        import numpy
+
+        return numpy.array([self.fluid, self.particles, self.px, self.py])
+
+
+def pairwise(function, first, second):
+    """The function of each two numbers of two lists of rows."""
+    return [[function(a, b) for a, b in zip(*rows)] for rows in zip(first, second)]
+
+
+# -- the program ---------------------------------------------------------------------------------------------------------------
+
+
+@functools.cache
+def program():
+    """The path of the program. `./fhpgas` looks through all sources at each start, and builds where one has changed; so it is asked once,
+    and the program that stands there is what is run."""
+    named = os.environ.get("FHPGAS")
+    path = pathlib.Path(named).absolute() if named else HERE.parent / "fhpgas"
+    if not path.exists():
+        raise Fault(f"{path} is missing")
+    if subprocess.run([path, "--version"], stdout=subprocess.DEVNULL, stdin=subprocess.DEVNULL).returncode:
+        raise Fault(f"{path} does not start")
+    built = HERE.parent / "crates/fhpgas/out/fhpgas"
+    return built if not named and built.exists() else path
+
+
+def call(scene, *words):
+    """What the program prints on a scene; a Fault with its line where it refuses."""
+    done = subprocess.run([program(), *map(str, words)], input=scene.encode(), capture_output=True)
+    if done.returncode:
+        raise Fault(done.stderr.decode(errors="replace").split("\n")[0] or f"fhpgas ended with status {done.returncode}")
+    return done.stdout.decode()
+
+
+def run(scene, generations, stages=1, capacity=128):
+    """The cells of a scene after some generations. One worker and long belts are best where runs go side by side; a run that is alone
+    is faster with `stages=16` (docs/PERFORMANCE.md, "Which plan to choose")."""
+    return read_cells(call(scene, "run", "--generations", generations, "--stages", stages, "--capacity", capacity))
+
+
+def coarse(scene, generations, block_width, block_height, stages=1, capacity=128):
+    """The table of a scene after some generations, in blocks of so many columns and rows."""
+    blocks = "--block-width", block_width, "--block-height", block_height
+    return read_table(call(scene, "coarse", "--generations", generations, *blocks, "--stages", stages, "--capacity", capacity))
+
+
+def side_by_side(function, values):
+    """What the function gives for each value, in their order, as many at a time as there are processors. The calls share one Python,
+    which waits while the program runs."""
+    program()
+    with concurrent.futures.ThreadPoolExecutor(os.cpu_count()) as pool:
+        return list(pool.map(function, values))
+
+
+# -- what is printed -----------------------------------------------------------------------------------------------------------
+
+
+def read_cells(text):
+    """The cells that `run` printed."""
+    first, *lines = text.split("\n")
+    words = re.fullmatch(r"generation (\d+) particles (\d+)", first)
+    if not words or not lines or lines.pop() != "":
+        raise Fault("these are no printed cells: they begin with `generation g particles c` and end with a line feed")
+    body = "".join(lines)
+    if not lines or len({len(line) for line in lines}) > 1 or len(lines[0]) % 2 or not re.fullmatch(r"(?:\.\.|##|[0-9a-f]{2})+", body):
+        raise Fault("these are no printed cells: a row is of another length, or has something else than cells")
+    cells = Cells(int(words[1]), int(words[2]), lines)
+    found = sum(body.count(f"{digit:x}") * digit.bit_count() for digit in range(1, 16))
+    if found != cells.particles:
+        raise Fault(f"the cells hold {found} particles, and their first line says {cells.particles}")
+    return cells
+
+
+def read_table(text):
+    """The table that `coarse` printed."""
+    first, *lines = text.rstrip("\n").split("\n")
+    try:
+        numbers = [[int(word) for word in line.split()] for line in lines]
+    except ValueError:
+        numbers = []
+    columns = max((line[0] for line in numbers if line), default=-1) + 1
+    if first != HEADER or not columns or any(line[:2] != [k % columns, k // columns] or len(line) != 6 for k, line in enumerate(numbers)):
+        raise Fault("this is no whole table of `coarse`")
+    if len(numbers) % columns:
+        raise Fault("this is no whole table of `coarse`: its last row of blocks ends early")
+    return Table(*([[line[k] for line in numbers[at : at + columns]] for at in range(0, len(numbers), columns)] for k in range(2, 6)))
+
+
+def total(tables):
+    """The sum of tables of the same blocks."""
+    tables = list(tables)
+    if len({(len(table.fluid), len(table.fluid[0])) for table in tables}) != 1:
+        raise Fault("tables can be summed where there are some, all of the same blocks")
+    add = functools.partial(functools.reduce, functools.partial(pairwise, int.__add__))
+    return Table(*(add([getattr(table, field.name) for table in tables]) for field in dataclasses.fields(Table)))
+
+
+def mean(values):
+    """The mean of two values or more, and its standard error: their standard deviation by the root of their number."""
+    values = list(values)
+    if len(values) < 2:
+        raise Fault("a standard error needs two values or more")
+    return statistics.fmean(values), statistics.stdev(values) / math.sqrt(len(values))
+
+
+# -- scenes --------------------------------------------------------------------------------------------------------------------
+
+
+def read_scene(path):
+    """The text of a scene's file, or of standard input for `-`."""
+    try:
+        return (sys.stdin.buffer.read() if str(path) == "-" else pathlib.Path(path).read_bytes()).decode()
+    except OSError as fault:
+        raise Fault(f"{path}: {fault.strerror}") from None
+    except UnicodeDecodeError:
+        raise Fault(f"{path}: not UTF-8") from None
+
+
+def keys(scene):
+    """The keys of a scene as a dictionary; a Fault where the program refuses the scene."""
+    call(scene, "check")
+    return tomllib.loads(scene)
+
+
+def text_of(table):
+    """The scene of a dictionary of keys."""
+    rows = lambda values: "[\n" + "".join(f"    {json.dumps(value, ensure_ascii=False)},\n" for value in values) + "]"
+    return "".join(f"{key} = {rows(value) if isinstance(value, list) else json.dumps(value)}\n" for key, value in table.items())
+
+
+def scene_of(states, gas, solid=None, chirality="seeded", seed=0, generation=0):
+    """A scene of given cells, a map of version 2: states [y][x] and, where some are solid, whether each is, as lists or numpy arrays."""
+    states, solid = (values.tolist() if hasattr(values, "tolist") else values for values in (states, solid))
+    if gas not in STATES:
+        raise Fault(f"there is no gas {gas!r}: {', '.join(STATES)}")
+    solid = solid or [[False] * len(row) for row in states]
+    if [len(row) for row in solid] != [len(row) for row in states]:
+        raise Fault("states and solid cells are of different sizes")
+    text_of_state = [".."] + [f"{state:02x}" for state in range(1, STATES[gas])]
+    try:
+        if any(state < 0 or state and is_solid for row in zip(states, solid) for state, is_solid in zip(*row)):
+            raise Fault("a solid cell holds a particle, or a state is negative")
+        rows = ["".join("##" if is_solid else text_of_state[state] for state, is_solid in zip(*row)) for row in zip(states, solid)]
+    except (IndexError, TypeError):
+        raise Fault(f"a state of {gas} is an integer from 0 to {STATES[gas] - 1}") from None
+    return text_of({"version": 2, "gas": gas, "chirality": chirality, "seed": seed, "generation": generation, "cells": rows})
+
+
+def continued(table, cells, lines=None):
+    """The scene of printed cells, or of other lines in their place, with the gas, the chirality and the seed of a table of keys."""
+    kept = {key: table[key] for key in ("gas", "chirality", "seed") if key in table}
+    return text_of({"version": 2, **kept, "generation": cells.generation, "cells": lines or cells.lines})
+
+
+def resume(scene, cells):
+    """The scene that goes on where printed cells stop, with the gas, the chirality and the seed of the scene that they come from. A
+    Fault where they cannot come from it: another size, other solid cells, another number of particles, or an earlier generation."""
+    table, first = keys(scene), run(scene, 0)
+    if (len(first.lines), len(first.lines[0])) != (len(cells.lines), len(cells.lines[0])):
+        raise Fault("the cells are not of this scene: they have another size")
+    if any(one.translate(WITHOUT_SOLID) != other.translate(WITHOUT_SOLID) for one, other in zip(first.lines, cells.lines)):
+        raise Fault("the cells are not of this scene: other cells are solid")
+    if first.particles != cells.particles:
+        raise Fault(f"the cells are not of this scene: they hold {cells.particles} particles, and it has {first.particles}")
+    if cells.generation < first.generation:
+        raise Fault(f"the cells are not of this scene: it begins at generation {first.generation}, and they are of {cells.generation}")
+    return continued(table, cells)
+
+
+def series(scene, steps, **plan):
+    """The cells of a scene and its continuation as a scene, at its start and after each of these steps of some generations."""
+    table = keys(scene)
+    for step in [0, *steps]:
+        cells = run(scene, step, **plan)
+        scene = continued(table, cells)
+        yield cells, scene
+
+
+def with_seed(scene, seed):
+    """An area with another seed, and so with another filling. A Fault where the start would stay or a part of it: a map, or an area
+    with `particles`, has them as they were drawn."""
+    table = keys(scene)
+    for key in ("cells", "particles"):
+        if table.get(key):
+            raise Fault(f"another seed would leave `{key}` as they are: draw the scene anew, as scenes/draw.py does with --seed")
+    if not table.get("rate"):
+        raise Fault("another seed would change nothing: no place is filled by lot, since `rate` is 0")
+    return text_of(table | {"seed": seed})
+
+
+def draw(words, seed):
+    """The scene that draw.py draws for its words and a seed."""
+    words = words.split() if isinstance(words, str) else map(str, words)
+    done = subprocess.run([sys.executable, HERE / "draw.py", *words, "--seed", str(seed)], capture_output=True, text=True)
+    if done.returncode:
+        raise Fault(done.stderr.strip().split("\n")[-1])
+    return done.stdout
+
+
+# -- scripts -------------------------------------------------------------------------------------------------------------------
+
+
+@contextlib.contextmanager
+def one_line_faults():
+    """Ends a script with status 1 and one line where something does not fit, and quietly where its reader has left."""
+    try:
+        yield
+        sys.stdout.flush()
+    except Fault as fault:
+        sys.exit(f"{pathlib.Path(sys.argv[0]).name}: {fault}")
+    except BrokenPipeError:
+        os.dup2(os.open(os.devnull, os.O_WRONLY), 1)
+        sys.exit(1)
+
+
+def whole(least, most=None):
+    """A reader of whole numbers within a range, for argparse."""
+
+    def integer(word):
+        number = int(word)
+        if number < least or most is not None and number > most:
+            raise argparse.ArgumentTypeError(f"{number} is not {least} or more" if most is None else f"{number} is not {least} to {most}")
+        return number
+
+    return integer
+
+
+def number(least, most):
+    """A reader of decimal numbers within a range, for argparse."""
+
+    def decimal(word):
+        value = float(word)
+        if not least <= value <= most:
+            raise argparse.ArgumentTypeError(f"{word} is not {least} to {most}")
+        return value
+
+    return decimal
