@@ -21,7 +21,6 @@ import math
 import os
 import pathlib
 import re
-import statistics
 import subprocess
 import sys
 import tomllib
@@ -29,7 +28,8 @@ import tomllib
 HERE = pathlib.Path(__file__).resolve().parent
 STATES = {"fhp1": 64, "hpp": 16, "fhp-rest": 128}
 HEADER = "  col   row    fluid particles         px         py"
-WITHOUT_SOLID = str.maketrans("0123456789abcdef", "." * 16)
+ZEROS = str.maketrans("123456789abcdef", "0" * 15)
+EMPTY = str.maketrans("0123456789abcdef", "." * 16)
 
 
 class Fault(Exception):
@@ -126,6 +126,8 @@ def program():
 
 def call(scene, *words):
     """What the program prints on a scene; a Fault with its line where it refuses."""
+    if scene.endswith(".toml") and "\n" not in scene:
+        raise Fault(f"{scene} is no scene but a path: its scene is read_scene({scene!r})")
     done = subprocess.run([program(), *map(str, words)], input=scene.encode(), capture_output=True)
     if done.returncode:
         raise Fault(done.stderr.decode(errors="replace").split("\n")[0] or f"fhpgas ended with status {done.returncode}")
@@ -162,7 +164,8 @@ def read_cells(text):
     if not words or not lines or lines.pop() != "":
         raise Fault("these are no printed cells: they begin with `generation g particles c` and end with a line feed")
     body = "".join(lines)
-    if not lines or len({len(line) for line in lines}) > 1 or len(lines[0]) % 2 or not re.fullmatch(r"(?:\.\.|##|[0-9a-f]{2})+", body):
+    firsts, seconds = body[::2].translate(ZEROS), body[1::2].translate(ZEROS)
+    if not body or len({len(line) for line in lines}) > 1 or len(lines[0]) % 2 or firsts != seconds or not set(firsts) <= set("0.#"):
         raise Fault("these are no printed cells: a row is of another length, or has something else than cells")
     cells = Cells(int(words[1]), int(words[2]), lines)
     found = sum(body.count(f"{digit:x}") * digit.bit_count() for digit in range(1, 16))
@@ -198,9 +201,11 @@ def total(tables):
 def mean(values):
     """The mean of two values or more, and its standard error: their standard deviation by the root of their number."""
     values = list(values)
-    if len(values) < 2:
+    count = len(values)
+    if count < 2:
         raise Fault("a standard error needs two values or more")
-    return statistics.fmean(values), statistics.stdev(values) / math.sqrt(len(values))
+    middle = math.fsum(values) / count
+    return middle, math.sqrt(math.fsum((value - middle) ** 2 for value in values) / (count - 1) / count)
 
 
 # -- scenes --------------------------------------------------------------------------------------------------------------------
@@ -258,7 +263,7 @@ def resume(scene, cells):
     table, first = keys(scene), run(scene, 0)
     if (len(first.lines), len(first.lines[0])) != (len(cells.lines), len(cells.lines[0])):
         raise Fault("the cells are not of this scene: they have another size")
-    if any(one.translate(WITHOUT_SOLID) != other.translate(WITHOUT_SOLID) for one, other in zip(first.lines, cells.lines)):
+    if any(one.translate(EMPTY) != other.translate(EMPTY) for one, other in zip(first.lines, cells.lines)):
         raise Fault("the cells are not of this scene: other cells are solid")
     if first.particles != cells.particles:
         raise Fault(f"the cells are not of this scene: they hold {cells.particles} particles, and it has {first.particles}")

@@ -173,7 +173,7 @@ def calls_go_side_by_side_in_order():
 def a_refusal_of_the_program_is_a_fault():
     assert faults(fhpgas.run, AREA + "colour = 1", 1, part="scene: unknown key")
     assert faults(fhpgas.run, AREA, 1_000_001, part="plan: generations must be 0 to 1000000")
-    assert faults(fhpgas.coarse, AREA, 1, 0, 1, part="block")
+    assert faults(fhpgas.coarse, AREA, 1, 0, 1, part="block") and faults(fhpgas.run, "a.toml", 1, part="read_scene('a.toml')")
     assert faults(fhpgas.read_scene, "no/such.toml", part="no/such.toml: No such file") and faults(fhpgas.read_scene, SCENES)
     with tempfile.NamedTemporaryFile() as file:
         file.write(b"\xff")
