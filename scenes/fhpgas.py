@@ -42,7 +42,7 @@ class Cells:
 
     generation: int
     particles: int
-    lines: list
+    lines: list = dataclasses.field(repr=False)
 
     @functools.cached_property
     def states(self):
@@ -74,6 +74,10 @@ class Table:
     px: list
     py: list
 
+    def columns(self):
+        """The four columns of numbers, in the order of the fields."""
+        return self.fluid, self.particles, self.px, self.py
+
     def density(self):
         """Particles a fluid cell, of each block; None where a block has no fluid cell."""
         return pairwise(lambda particles, fluid: particles / fluid if fluid else None, self.particles, self.fluid)
@@ -82,6 +86,8 @@ class Table:
         """The mean velocity of the particles of each block eastwards and northwards, in cells' widths a generation, as two lists
         [row][column]; None where a block has no particle. On the triangular lattice it is px / 2n and sqrt(3)/2 py / n, in HPP
         px / n and py / n."""
+        if gas not in STATES:
+            raise Fault(f"there is no gas {gas!r}: {', '.join(STATES)}")
         east, north = (1, 1) if gas == "hpp" else (1 / 2, math.sqrt(3) / 2)
         return tuple(
             pairwise(lambda momentum, n: unit * momentum / n if n else None, momenta, self.particles)
@@ -90,16 +96,16 @@ class Table:
 
     def text(self):
         """The table as it was printed."""
-        columns = len(self.fluid[0])
-        numbers = zip(*([number for row in rows for number in row] for rows in (self.fluid, self.particles, self.px, self.py)))
-        lines = (f"{k % columns:5} {k // columns:5} {f:8} {n:9} {px:10} {py:10}\n" for k, (f, n, px, py) in enumerate(numbers))
-        return HEADER + "\n" + "".join(lines)
+        lines = [HEADER]
+        for row, blocks in enumerate(zip(*self.columns())):
+            lines += (f"{column:5} {row:5} {f:8} {n:9} {px:10} {py:10}" for column, (f, n, px, py) in enumerate(zip(*blocks)))
+        return "\n".join(lines) + "\n"
 
     def arrays(self):
         """The same as a numpy array [4, row, column], in the order of the fields."""
         import numpy
 
-        return numpy.array([self.fluid, self.particles, self.px, self.py])
+        return numpy.array(self.columns())
 
 
 def pairwise(function, first, second):
@@ -165,7 +171,7 @@ def read_cells(text):
         raise Fault("these are no printed cells: they begin with `generation g particles c` and end with a line feed")
     body = "".join(lines)
     firsts, seconds = body[::2].translate(ZEROS), body[1::2].translate(ZEROS)
-    if not body or len({len(line) for line in lines}) > 1 or len(lines[0]) % 2 or firsts != seconds or not set(firsts) <= set("0.#"):
+    if not body or len({len(line) for line in lines}) > 1 or len(lines[0]) % 2 or firsts != seconds or not set(body[::2]) <= set("01234567.#"):
         raise Fault("these are no printed cells: a row is of another length, or has something else than cells")
     cells = Cells(int(words[1]), int(words[2]), lines)
     found = sum(body.count(f"{digit:x}") * digit.bit_count() for digit in range(1, 16))
@@ -186,7 +192,8 @@ def read_table(text):
         raise Fault("this is no whole table of `coarse`")
     if len(numbers) % columns:
         raise Fault("this is no whole table of `coarse`: its last row of blocks ends early")
-    return Table(*([[line[k] for line in numbers[at : at + columns]] for at in range(0, len(numbers), columns)] for k in range(2, 6)))
+    rows = [numbers[at : at + columns] for at in range(0, len(numbers), columns)]
+    return Table(*([[line[k] for line in row] for row in rows] for k in range(2, 6)))
 
 
 def total(tables):
@@ -194,8 +201,10 @@ def total(tables):
     tables = list(tables)
     if len({(len(table.fluid), len(table.fluid[0])) for table in tables}) != 1:
         raise Fault("tables can be summed where there are some, all of the same blocks")
-    add = functools.partial(functools.reduce, functools.partial(pairwise, int.__add__))
-    return Table(*(add([getattr(table, field.name) for table in tables]) for field in dataclasses.fields(Table)))
+    sums = tables[0]
+    for table in tables[1:]:
+        sums = Table(*(pairwise(int.__add__, *columns) for columns in zip(sums.columns(), table.columns())))
+    return sums
 
 
 def mean(values):
@@ -221,16 +230,21 @@ def read_scene(path):
         raise Fault(f"{path}: not UTF-8") from None
 
 
-def keys(scene):
-    """The keys of a scene as a dictionary; a Fault where the program refuses the scene."""
+def keys_of(scene):
+    """The keys of a scene and their values, as a dictionary; a Fault where the program refuses the scene."""
     call(scene, "check")
     return tomllib.loads(scene)
 
 
-def text_of(table):
-    """The scene of a dictionary of keys."""
-    rows = lambda values: "[\n" + "".join(f"    {json.dumps(value, ensure_ascii=False)},\n" for value in values) + "]"
-    return "".join(f"{key} = {rows(value) if isinstance(value, list) else json.dumps(value)}\n" for key, value in table.items())
+def text_of(keys):
+    """The scene of a dictionary of keys, with a line for each entry of a list."""
+    lines = []
+    for key, value in keys.items():
+        if isinstance(value, list):
+            lines += [f"{key} = [", *(f"    {json.dumps(entry, ensure_ascii=False)}," for entry in value), "]"]
+        else:
+            lines.append(f"{key} = {json.dumps(value, ensure_ascii=False)}")
+    return "\n".join(lines) + "\n"
 
 
 def scene_of(states, gas, solid=None, chirality="seeded", seed=0, generation=0):
@@ -251,46 +265,49 @@ def scene_of(states, gas, solid=None, chirality="seeded", seed=0, generation=0):
     return text_of({"version": 2, "gas": gas, "chirality": chirality, "seed": seed, "generation": generation, "cells": rows})
 
 
-def continued(table, cells, lines=None):
-    """The scene of printed cells, or of other lines in their place, with the gas, the chirality and the seed of a table of keys."""
-    kept = {key: table[key] for key in ("gas", "chirality", "seed") if key in table}
+def continued(keys, cells, lines=None):
+    """The scene of printed cells, or of other lines in their place, with the gas, the chirality and the seed of a scene's keys."""
+    kept = {key: keys[key] for key in ("gas", "chirality", "seed") if key in keys}
     return text_of({"version": 2, **kept, "generation": cells.generation, "cells": lines or cells.lines})
 
 
 def resume(scene, cells):
     """The scene that goes on where printed cells stop, with the gas, the chirality and the seed of the scene that they come from. A
-    Fault where they cannot come from it: another size, other solid cells, another number of particles, or an earlier generation."""
-    table, first = keys(scene), run(scene, 0)
+    Fault where they cannot come from it: another size, other solid cells, another number of particles, an earlier generation, or the same
+    one with other cells."""
+    keys, first = keys_of(scene), run(scene, 0)
     if (len(first.lines), len(first.lines[0])) != (len(cells.lines), len(cells.lines[0])):
         raise Fault("the cells are not of this scene: they have another size")
     if any(one.translate(EMPTY) != other.translate(EMPTY) for one, other in zip(first.lines, cells.lines)):
         raise Fault("the cells are not of this scene: other cells are solid")
     if first.particles != cells.particles:
         raise Fault(f"the cells are not of this scene: they hold {cells.particles} particles, and it has {first.particles}")
+    if cells.generation == first.generation and cells.lines != first.lines:
+        raise Fault(f"the cells are not of this scene: they are of its own generation, {first.generation}, and not its cells")
     if cells.generation < first.generation:
         raise Fault(f"the cells are not of this scene: it begins at generation {first.generation}, and they are of {cells.generation}")
-    return continued(table, cells)
+    return continued(keys, cells)
 
 
 def series(scene, steps, **plan):
     """The cells of a scene and its continuation as a scene, at its start and after each of these steps of some generations."""
-    table = keys(scene)
+    keys = keys_of(scene)
     for step in [0, *steps]:
         cells = run(scene, step, **plan)
-        scene = continued(table, cells)
+        scene = continued(keys, cells)
         yield cells, scene
 
 
 def with_seed(scene, seed):
     """An area with another seed, and so with another filling. A Fault where the start would stay or a part of it: a map, or an area
     with `particles`, has them as they were drawn."""
-    table = keys(scene)
+    keys = keys_of(scene)
     for key in ("cells", "particles"):
-        if table.get(key):
+        if keys.get(key):
             raise Fault(f"another seed would leave `{key}` as they are: draw the scene anew, as scenes/draw.py does with --seed")
-    if not table.get("rate"):
+    if not keys.get("rate"):
         raise Fault("another seed would change nothing: no place is filled by lot, since `rate` is 0")
-    return text_of(table | {"seed": seed})
+    return text_of(keys | {"seed": seed})
 
 
 def draw(words, seed):

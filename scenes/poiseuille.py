@@ -52,7 +52,7 @@ def profile(asked, seed):
     lots = random.Random(seed)
     rate = round(1000 * asked.density)
     scene = fhpgas.text_of({"gas": "fhp1", "seed": seed, "width": WIDTH, "height": HEIGHT, "rate": rate})
-    table, sums, times = fhpgas.keys(scene), [0] * HEIGHT, 0
+    keys, sums, times = fhpgas.keys_of(scene), [0] * HEIGHT, 0
     particles = fhpgas.run(scene, 0).particles
     for done in range(0, asked.generations, STEP):
         cells = fhpgas.run(scene, STEP if done else 0)
@@ -60,7 +60,7 @@ def profile(asked, seed):
             times += 1
             for y, line in enumerate(cells.lines):
                 sums[y] += sum(MOMENTUM[line[at : at + 2]] for at in range(0, len(line), 2))
-        scene = fhpgas.continued(table, cells, [turned(line, lots) for line in cells.lines])
+        scene = fhpgas.continued(keys, cells, [turned(line, lots) for line in cells.lines])
     return [momentum / times * HEIGHT / particles for momentum in sums]
 
 

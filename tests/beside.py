@@ -20,7 +20,11 @@ import fhpgas  # noqa: E402
 SCENES = needs.ROOT / "scenes"
 SCRIPTS = ["draw.py", "explain.py", "over_seeds.py", "over_time.py", "poiseuille.py", "resume.py", "viscosity.py", "wave_shape.py"]
 HEAD_ON = "generation 1 particles 2\n....02..\n........\n##10....\n"
-TABLE = "  col   row    fluid particles         px         py\n    0     0        3         8          3          1\n    1     0        4         0          0          0\n"
+TABLE = """\
+  col   row    fluid particles         px         py
+    0     0        3         8          3          1
+    1     0        4         0          0          0
+"""
 AREA = 'gas = "fhp1"\nseed = 7\nwidth = 66\nheight = 9\nrate = 300\nsolid = [[20, 2, 3, 4]]\n'
 
 try:
@@ -30,7 +34,8 @@ except ImportError:
 
 
 def script(name, *words, text="", folder=None):
-    return subprocess.run([sys.executable, SCENES / name, *map(str, words)], input=text, capture_output=True, text=True, timeout=120, cwd=folder)
+    command = [sys.executable, SCENES / name, *map(str, words)]
+    return subprocess.run(command, input=text, capture_output=True, text=True, timeout=120, cwd=folder)
 
 
 def is_refused(done, status, part):
@@ -59,7 +64,7 @@ def printed_cells_are_read():
 
 
 def a_text_that_is_no_cells_is_refused():
-    for text in ("", "generation 1 particles 2\n", HEAD_ON[:-1], HEAD_ON.replace("02", "0g"), HEAD_ON.replace("02", "0A"), HEAD_ON + "..\n",
+    for text in ("", "generation 1 particles 2\n", HEAD_ON[:-1], HEAD_ON.replace("02", "0g"), HEAD_ON.replace("02", "0A"), HEAD_ON.replace("02", "80"), HEAD_ON + "..\n",
                  HEAD_ON.replace("##", "#."), HEAD_ON.replace("..\n", ".\n"), TABLE, HEAD_ON.replace("generation", "Generation")):
         assert faults(fhpgas.read_cells, text, part="these are no printed cells"), text
     assert faults(fhpgas.read_cells, HEAD_ON.replace("particles 2", "particles 3"), part="the cells hold 2 particles")
@@ -73,6 +78,7 @@ def a_table_is_read():
     assert table.density() == [[8 / 3, 0]] and table.text() == TABLE
     east, north = table.velocity("fhp1")
     assert east == [[3 / 16, None]] and north[0][1] is None and math.isclose(north[0][0], math.sqrt(3) / 16)
+    assert faults(table.velocity, "FHP1", part="there is no gas 'FHP1'")
     assert table.velocity("fhp-rest")[0] == east and table.velocity("hpp") == ([[3 / 8, None]], [[1 / 8, None]])
     assert fhpgas.read_table(TABLE.replace("        4 ", "        0 ")).density() == [[8 / 3, None]]
 
@@ -89,7 +95,7 @@ def what_the_program_prints_is_read_as_it_stands():
     for name in ("channel", "rest", "square", "wind"):
         scene = fhpgas.read_scene(SCENES / f"{name}.toml")
         cells, table = fhpgas.run(scene, 5), fhpgas.coarse(scene, 5, 7, 5)
-        gas = fhpgas.keys(scene)["gas"]
+        gas = fhpgas.keys_of(scene)["gas"]
         again = fhpgas.run(fhpgas.scene_of(cells.states, gas, cells.solid, generation=5), 0)
         assert again == cells, name
         assert sum(map(sum, table.particles)) == cells.particles == sum(state.bit_count() for row in cells.states for state in row)
@@ -130,6 +136,9 @@ def cells_of_another_scene_are_refused():
                         (AREA.replace("seed = 7", "seed = 8"), "particles"), (AREA.replace("rate = 300", "rate = 301"), "particles"),
                         (AREA.replace("seed", "sed"), "scene: unknown key"), ("gas = ", "scene: not TOML")):
         assert faults(fhpgas.resume, scene, cells, part=part), part
+    turned = fhpgas.run(AREA.replace('"fhp1"', '"fhp1"\nchirality = "left"'), 1)
+    same_generation = fhpgas.Cells(0, turned.particles, turned.lines)
+    assert faults(fhpgas.resume, AREA, same_generation, part="of its own generation, 0, and not its cells")
     later = fhpgas.read_scene(SCENES / "later.toml")
     early = fhpgas.run(later.replace("generation = 1000", "generation = 10"), 1)
     assert faults(fhpgas.resume, later, early, part="begins at generation 1000")
@@ -137,7 +146,7 @@ def cells_of_another_scene_are_refused():
 
 def another_seed_is_another_start():
     other = fhpgas.with_seed(AREA, 8)
-    assert fhpgas.keys(other) == fhpgas.keys(AREA) | {"seed": 8}
+    assert fhpgas.keys_of(other) == fhpgas.keys_of(AREA) | {"seed": 8}
     assert fhpgas.run(other, 0) == fhpgas.run(AREA.replace("seed = 7", "seed = 8"), 0) != fhpgas.run(AREA, 0)
     assert fhpgas.run(fhpgas.draw("discs --wind 300", 1), 0) != fhpgas.run(fhpgas.draw("discs --wind 300", 2), 0)
 
@@ -339,6 +348,11 @@ EXPLAINED = [
     ('gas = "fhp1"\ncells = [\n  "0101",\n  "013F",\n]\n', "scene: row 1 cell 1 is not a cell", "line 4, column 6: `3F` has a capital digit"),
     ('gas = "hpp"\ncells = ["0110"]\n', "scene: row 0 cell 1 is not a cell", "`10` is no state of hpp, whose states are `00` to `0f`"),
     ('gas = "hpp"\ncells = ["#."]\n', "scene: row 0 cell 0 is not a cell", '"#." is no cell'),
+    ('gas = "hpp" # cells = [\ncells = [ # "#."\n\'..\', # ]\n"""#.""",\n]\n', "scene: row 1 cell 0 is not a cell", 'line 4, column 1: "#." is no cell'),
+    ('gas = """\nfhp1"""\n"\\u0073olid" = [ [0, 0, 1, 1],\n[0, {a = [1]}] ]\nwidth = 1\nheight = 1\n', "scene: wrong type",
+     "line 4, column 1: entry 1 of `solid`"),
+    ('gas = "fhp1"\nwidth.a = [1,\n2]\nheight . b = 1\n', "scene: wrong type", "line 4, column 1: `height` is a table"),
+    ('gas = "fhp1"\nwidth = 1\nheight = 1\n[[solid]]\nwidth = 1\n', "scene: wrong type", "line 4, column 3: entry 0 of `solid`"),
 ]
 
 
@@ -349,6 +363,7 @@ def refused_scenes_are_explained():
         done = script("explain.py", "-", text=text)
         assert done.returncode == 1 and not done.stderr and done.stdout.startswith(f"{line}\n  ") and reason in done.stdout, done
         assert faults(fhpgas.call, text, "check", part=line)
+    assert explain.explained(b"#" * 67_108_865)[0] == "input: too long"
     line, reasons = explain.explained(b'gas = "\xff"\n')
     assert (line, reasons) == ("scene: not TOML", ["line 1, byte 8: no UTF-8"]), reasons
 
