@@ -7,9 +7,9 @@
     later = fhpgas.run(fhpgas.resume(scene, cells), 12)
     mean, error = fhpgas.mean(fhpgas.side_by_side(measure, range(1, 9)))
 
-A scene is its text. Lists of rows come from the top of the lattice, a row from its left. Nothing here needs a package; `arrays()` of cells
-and of a table needs numpy. The program is `fhpgas` in the folder above this file, or the one that the environment variable FHPGAS
-names. What does not fit is a `Fault`, whose text is one line.
+A scene is passed as its text. Rows are listed from the top of the lattice, cells of a row from the left. Only `arrays()`, of cells and of
+a table, needs a package, numpy. The program is `fhpgas` in the folder above this file, or the one that the environment variable FHPGAS
+names. Input that does not fit raises a `Fault`, whose message is one line.
 """
 import argparse
 import concurrent.futures
@@ -33,7 +33,7 @@ EMPTY = str.maketrans("0123456789abcdef", "." * 16)
 
 
 class Fault(Exception):
-    """What does not fit, in one line."""
+    """Why an input does not fit, in one line."""
 
 
 @dataclasses.dataclass(frozen=True)
@@ -56,7 +56,7 @@ class Cells:
         return [[line[at] == "#" for at in range(0, len(line), 2)] for line in self.lines]
 
     def arrays(self):
-        """The states (uint8) and the solid cells (bool) as numpy arrays [y, x]."""
+        """Returns the states (uint8) and the solid cells (bool) as numpy arrays [y, x]."""
         import numpy
 
         text = numpy.frombuffer("".join(self.lines).encode(), numpy.uint8).reshape(len(self.lines), -1, 2)
@@ -75,17 +75,17 @@ class Table:
     py: list
 
     def columns(self):
-        """The four columns of numbers, in the order of the fields."""
+        """Returns the four columns of numbers in the order of the fields."""
         return self.fluid, self.particles, self.px, self.py
 
     def density(self):
-        """Particles a fluid cell, of each block; None where a block has no fluid cell."""
+        """Returns the particles a fluid cell of each block [row][column]; None where a block has no fluid cell."""
         return pairwise(lambda particles, fluid: particles / fluid if fluid else None, self.particles, self.fluid)
 
     def velocity(self, gas):
-        """The mean velocity of the particles of each block eastwards and northwards, in cells' widths a generation, as two lists
-        [row][column]; None where a block has no particle. On the triangular lattice it is px / 2n and sqrt(3)/2 py / n, in HPP
-        px / n and py / n."""
+        """Returns the mean velocity of the particles of each block, eastwards and northwards, as two lists [row][column] in cells' widths a
+        generation; None where a block has no particle. With n particles it is px / 2n and sqrt(3)/2 py / n on the triangular lattice, and
+        px / n and py / n in HPP."""
         if gas not in STATES:
             raise Fault(f"there is no gas {gas!r}: {', '.join(STATES)}")
         east, north = (1, 1) if gas == "hpp" else (1 / 2, math.sqrt(3) / 2)
@@ -95,21 +95,21 @@ class Table:
         )
 
     def text(self):
-        """The table as it was printed."""
+        """Returns the table as `coarse` prints it."""
         lines = [HEADER]
         for row, blocks in enumerate(zip(*self.columns())):
             lines += (f"{column:5} {row:5} {f:8} {n:9} {px:10} {py:10}" for column, (f, n, px, py) in enumerate(zip(*blocks)))
         return "\n".join(lines) + "\n"
 
     def arrays(self):
-        """The same as a numpy array [4, row, column], in the order of the fields."""
+        """Returns the four columns as a numpy array [4, row, column], in the order of the fields."""
         import numpy
 
         return numpy.array(self.columns())
 
 
 def pairwise(function, first, second):
-    """The function of each two numbers of two lists of rows."""
+    """Returns the results of the function for each two numbers of two lists of rows."""
     return [[function(a, b) for a, b in zip(*rows)] for rows in zip(first, second)]
 
 
@@ -118,8 +118,8 @@ def pairwise(function, first, second):
 
 @functools.cache
 def program():
-    """The path of the program. `./fhpgas` looks through all sources at each start, and builds where one has changed; so it is asked once,
-    and the program that stands there is what is run."""
+    """Returns the path of the program. `./fhpgas` looks through all sources at each start, and builds the program where one has changed.
+    It is started once for that; afterwards the built program is started without it, which takes a few milliseconds."""
     named = os.environ.get("FHPGAS")
     path = pathlib.Path(named).absolute() if named else HERE.parent / "fhpgas"
     if not path.exists():
@@ -131,7 +131,7 @@ def program():
 
 
 def call(scene, *words):
-    """What the program prints on a scene; a Fault with its line where it refuses."""
+    """Returns what the program prints for a scene. Where it refuses, its line is raised as a Fault."""
     if scene.endswith(".toml") and "\n" not in scene:
         raise Fault(f"{scene} is no scene but a path: its scene is read_scene({scene!r})")
     done = subprocess.run([program(), *map(str, words)], input=scene.encode(), capture_output=True)
@@ -141,20 +141,21 @@ def call(scene, *words):
 
 
 def run(scene, generations, stages=1, capacity=128):
-    """The cells of a scene after some generations. One worker and long belts are best where runs go side by side; a run that is alone
-    is faster with `stages=16` (docs/PERFORMANCE.md, "Which plan to choose")."""
+    """Returns the cells of a scene after 0 to 1,000,000 generations. One worker and long belts are best where runs go side by side; a
+    single run is faster with `stages=16` (docs/PERFORMANCE.md, "Which plan to choose"). The cells do not depend on the plan."""
     return read_cells(call(scene, "run", "--generations", generations, "--stages", stages, "--capacity", capacity))
 
 
 def coarse(scene, generations, block_width, block_height, stages=1, capacity=128):
-    """The table of a scene after some generations, in blocks of so many columns and rows."""
+    """Returns the table of a scene after some generations, in blocks of `block_width` columns and `block_height` rows, each 1 to 4096.
+    The plan is as in `run`."""
     blocks = "--block-width", block_width, "--block-height", block_height
     return read_table(call(scene, "coarse", "--generations", generations, *blocks, "--stages", stages, "--capacity", capacity))
 
 
 def side_by_side(function, values):
-    """What the function gives for each value, in their order, as many at a time as there are processors. The calls share one Python,
-    which waits while the program runs."""
+    """Returns the results of the function for each value, in their order. As many calls run at a time as there are processors, in threads:
+    what the program computes runs in parallel, what Python computes does not."""
     program()
     with concurrent.futures.ThreadPoolExecutor(os.cpu_count()) as pool:
         return list(pool.map(function, values))
@@ -164,7 +165,7 @@ def side_by_side(function, values):
 
 
 def read_cells(text):
-    """The cells that `run` printed."""
+    """Returns the cells of a text that `run` printed. A text that is not whole raises a Fault."""
     first, *lines = text.split("\n")
     words = re.fullmatch(r"generation (\d+) particles (\d+)", first)
     if not words or not lines or lines.pop() != "":
@@ -181,7 +182,7 @@ def read_cells(text):
 
 
 def read_table(text):
-    """The table that `coarse` printed."""
+    """Returns the table of a text that `coarse` printed. A text that is not whole raises a Fault."""
     first, *lines = text.rstrip("\n").split("\n")
     try:
         numbers = [[int(word) for word in line.split()] for line in lines]
@@ -197,7 +198,7 @@ def read_table(text):
 
 
 def total(tables):
-    """The sum of tables of the same blocks."""
+    """Returns the sum of tables of the same blocks, number by number."""
     tables = list(tables)
     if len({(len(table.fluid), len(table.fluid[0])) for table in tables}) != 1:
         raise Fault("tables can be summed where there are some, all of the same blocks")
@@ -208,7 +209,7 @@ def total(tables):
 
 
 def mean(values):
-    """The mean of two values or more, and its standard error: their standard deviation by the root of their number."""
+    """Returns the mean of two or more values and its standard error, their standard deviation divided by the square root of their number."""
     values = list(values)
     count = len(values)
     if count < 2:
@@ -221,7 +222,7 @@ def mean(values):
 
 
 def read_scene(path):
-    """The text of a scene's file, or of standard input for `-`."""
+    """Returns the text of a file, or of standard input for `-`."""
     try:
         return (sys.stdin.buffer.read() if str(path) == "-" else pathlib.Path(path).read_bytes()).decode()
     except OSError as fault:
@@ -231,13 +232,13 @@ def read_scene(path):
 
 
 def keys_of(scene):
-    """The keys of a scene and their values, as a dictionary; a Fault where the program refuses the scene."""
+    """Returns the keys of a scene and their values as a dictionary. A scene that the program refuses raises a Fault."""
     call(scene, "check")
     return tomllib.loads(scene)
 
 
 def text_of(keys):
-    """The scene of a dictionary of keys, with a line for each entry of a list."""
+    """Returns the scene of a dictionary of keys and values, with a line for each entry of a list."""
     lines = []
     for key, value in keys.items():
         if isinstance(value, list):
@@ -248,7 +249,8 @@ def text_of(keys):
 
 
 def scene_of(states, gas, solid=None, chirality="seeded", seed=0, generation=0):
-    """A scene of given cells, a map of version 2: states [y][x] and, where some are solid, whether each is, as lists or numpy arrays."""
+    """Returns a scene of version 2 that is a map of given cells: states [y][x], a bit for each direction, and, where some cells are solid,
+    whether each is one [y][x]; lists or numpy arrays."""
     states, solid = (values.tolist() if hasattr(values, "tolist") else values for values in (states, solid))
     if gas not in STATES:
         raise Fault(f"there is no gas {gas!r}: {', '.join(STATES)}")
@@ -266,15 +268,16 @@ def scene_of(states, gas, solid=None, chirality="seeded", seed=0, generation=0):
 
 
 def continued(keys, cells, lines=None):
-    """The scene of printed cells, or of other lines in their place, with the gas, the chirality and the seed of a scene's keys."""
+    """Returns a scene that begins with printed cells, or with other lines in their place, and has the gas, the chirality and the seed of
+    another scene's keys."""
     kept = {key: keys[key] for key in ("gas", "chirality", "seed") if key in keys}
     return text_of({"version": 2, **kept, "generation": cells.generation, "cells": lines or cells.lines})
 
 
 def resume(scene, cells):
-    """The scene that goes on where printed cells stop, with the gas, the chirality and the seed of the scene that they come from. A
-    Fault where they cannot come from it: another size, other solid cells, another number of particles, an earlier generation, or the same
-    one with other cells."""
+    """Returns the scene that continues a run from printed cells, with the gas, the chirality and the seed of the scene that the run began
+    with. Cells that cannot come from that scene raise a Fault: they have another size, other solid cells, another number of particles, an
+    earlier generation, or the same generation and other cells."""
     keys, first = keys_of(scene), run(scene, 0)
     if (len(first.lines), len(first.lines[0])) != (len(cells.lines), len(cells.lines[0])):
         raise Fault("the cells are not of this scene: they have another size")
@@ -290,7 +293,8 @@ def resume(scene, cells):
 
 
 def series(scene, steps, **plan):
-    """The cells of a scene and its continuation as a scene, at its start and after each of these steps of some generations."""
+    """Yields pairs of the cells and a scene that begins with them: at the start of a scene, and after each step of some generations. The
+    plan is as in `run`."""
     keys = keys_of(scene)
     for step in [0, *steps]:
         cells = run(scene, step, **plan)
@@ -299,8 +303,8 @@ def series(scene, steps, **plan):
 
 
 def with_seed(scene, seed):
-    """An area with another seed, and so with another filling. A Fault where the start would stay or a part of it: a map, or an area
-    with `particles`, has them as they were drawn."""
+    """Returns an area with another seed, and so with another filling. A scene whose start or a part of it would be the same raises a
+    Fault: a map, an area with `particles`, and one with rate 0."""
     keys = keys_of(scene)
     for key in ("cells", "particles"):
         if keys.get(key):
@@ -311,7 +315,7 @@ def with_seed(scene, seed):
 
 
 def draw(words, seed):
-    """The scene that draw.py draws for its words and a seed."""
+    """Returns the scene that draw.py draws for its words, a text or a list, and a seed."""
     words = words.split() if isinstance(words, str) else map(str, words)
     done = subprocess.run([sys.executable, HERE / "draw.py", *words, "--seed", str(seed)], capture_output=True, text=True)
     if done.returncode:
@@ -324,7 +328,7 @@ def draw(words, seed):
 
 @contextlib.contextmanager
 def one_line_faults():
-    """Ends a script with status 1 and one line where something does not fit, and quietly where its reader has left."""
+    """Ends a script with status 1: with one line for a Fault, and without one where the reader of its output has left."""
     try:
         yield
         sys.stdout.flush()
@@ -336,7 +340,7 @@ def one_line_faults():
 
 
 def whole(least, most=None):
-    """A reader of whole numbers within a range, for argparse."""
+    """Returns a type of argparse: integers within a range."""
 
     def integer(word):
         number = int(word)
@@ -348,7 +352,7 @@ def whole(least, most=None):
 
 
 def number(least, most):
-    """A reader of decimal numbers within a range, for argparse."""
+    """Returns a type of argparse: decimal numbers within a range."""
 
     def decimal(word):
         value = float(word)

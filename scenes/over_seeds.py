@@ -4,9 +4,9 @@
     scenes/over_seeds.py --seeds 8 --generations 200 --block-width 64 --block-height 24 scenes/channel.toml
     scenes/over_seeds.py --seeds 8 --generations 800 --block-width 32 --block-height 16 --drawn discs --disc 128 128 20 --wind 300
 
-A seed draws another start. So SCENE, a file, must be an area that is filled by lot, of which each run has another `seed`: a map, or an
-area with `particles`, would begin alike with every seed, and is refused. Such scenes are drawn anew for each seed by --drawn and the
-words of scenes/draw.py behind it, but for its --seed.
+Each run has another `seed`, which fills an area in another way. A SCENE that is a map, or an area with `particles`, would begin with the
+same cells for every seed and is refused. Such scenes are drawn anew for each seed: --drawn takes the words of scenes/draw.py, without
+its --seed.
 """
 import argparse
 

@@ -1,12 +1,12 @@
 #!/usr/bin/env python3
-"""Writes the scene that goes on where printed cells stop.
+"""Writes the scene that continues a run from printed cells.
 
     ./fhpgas run --generations 3 < scenes/wind.toml > three.txt
     scenes/resume.py scenes/wind.toml three.txt > later.toml
 
-SCENE is the scene that the cells come from, of which it takes the gas, the chirality and the seed; CELLS are what `run` printed, a file
-or - for standard input. Cells that cannot come from that scene are refused: they have another size, other solid cells, another number
-of particles, or an earlier generation.
+SCENE is the scene that the run began with; its gas, chirality and seed are taken. CELLS is what `run` printed, a file or - for standard
+input. Cells that cannot come from that scene are refused: they have another size, other solid cells, another number of particles, or an
+earlier generation.
 """
 import argparse
 

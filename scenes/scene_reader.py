@@ -1,7 +1,7 @@
 """A second reading of scenes, on Python's own TOML reader, by docs/FORMATS.md alone.
 
-`read` gives what the program must answer to a text: the line that refuses it, with the reasons, or the lattice. It shares nothing
-with the program, and takes no care of speed. The tests compare the program with it, and explain.py tells its reasons.
+`read` returns the lattice of a text, or raises the line that refuses it, with the reasons. It shares nothing with the program and is
+slow on large scenes. The tests compare the program with it, and explain.py prints its reasons.
 """
 import difflib
 import json
@@ -300,7 +300,7 @@ def document(text):
     try:
         return toml_document.table_of(text)
     except toml_document.NoDocument as fault:
-        hint = "; the text is what `run` prints, of which resume.py makes a scene" if text.startswith(b"generation ") else ""
+        hint = "; the text is what `run` prints: resume.py makes a scene from it" if text.startswith(b"generation ") else ""
         raise Refused(SYNTAX, [(path, why + hint) for path, why in fault.reasons]) from None
 
 

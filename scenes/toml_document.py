@@ -183,5 +183,5 @@ class Places:
 
 
 def first_name(part):
-    """The first name of a key, bare or quoted, of which dotted keys have more."""
+    """Returns the first name of a key, bare or quoted; a dotted key has more."""
     return next(iter(tomllib.loads(f"{in_first_version(part[0])} = 0"))) if part.lastgroup == "text" else part[0].split(".")[0]

@@ -47,7 +47,7 @@ def drawn(density, seed):
 
 
 def size(scene, generations):
-    """The size of the sine in the momentum eastwards of a cell, after so many generations of the scene."""
+    """Returns the amplitude of the sine in the momentum eastwards of a cell, after some generations of the scene."""
     momenta = [row[0] / 2 / WIDTH for row in fhpgas.coarse(scene, generations, WIDTH, 1).px]
     return 2 / HEIGHT * sum(shape * momentum for shape, momentum in zip(SHAPE, momenta))
 

@@ -30,7 +30,7 @@ def options():
 
 
 def drawn(gas, thin, seed):
-    """The scene of a gas and a seed, with so many of a thousand places filled around the square."""
+    """Returns the scene of a gas and a seed, with `thin` of a thousand places filled around the square."""
     columns, rows, distance, _ = SQUARE[gas]
     width, height = 64, round(64 / distance)
     patch = [(columns - width) // 2, (rows - height) // 2, width, height, DENSE]
