@@ -9,7 +9,12 @@
 
 A cell is named by its column and row from 0 at the top left; rates are thousandths of the places for a particle. The same words
 write the same scene. `--seed` is the scene's seed, and where anything is drawn by lot here (a porous medium, the particles of a
-patch or of a wind), the seed of that too. A wind needs its own chance for each direction, so such a scene is a map, drawn cell by cell.
+patch or of a wind), the seed of that too. A wind needs its own chance for each direction, so such a scene is a map, drawn cell by cell,
+and a sweep over seeds has to draw it anew for each. Sides are 1 to 4096 cells, or to 65536 in a scene of version 2, which a larger one
+becomes; a map has at most some 33 million cells, since the program reads 67,108,864 bytes.
+
+The fastest wind in thousandths is 500 (in fhp-rest 428) where half of the places or less are filled. With more places filled it is
+500 (1000 / RATE - 1), since no place is filled with a chance above 1.
 """
 import argparse
 import math
@@ -19,6 +24,8 @@ import sys
 # how far a particle of each direction gets eastwards in a generation
 EASTWARDS = {"fhp1": (1, 0.5, -0.5, -1, -0.5, 0.5), "hpp": (1, 0, -1, 0), "fhp-rest": (1, 0.5, -0.5, -1, -0.5, 0.5, 0)}
 ROW_DISTANCE = math.sqrt(3) / 2  # of two rows of the triangular lattice, in steps eastwards
+MOST_SIDE = {1: 4096, 2: 65536}  # by the version of a scene
+MOST_BYTES = 67_108_864  # that the program reads
 
 
 def options():
@@ -26,13 +33,14 @@ def options():
     common.add_argument("--gas", choices=EASTWARDS, default="fhp1")
     common.add_argument("--chirality", choices=("seeded", "left", "right"), default="seeded")
     common.add_argument("--seed", type=int, default=0, help="0 if left out")
-    common.add_argument("--width", type=int, default=64, metavar="COLUMNS", help="64 if left out")
-    common.add_argument("--height", type=int, default=24, metavar="ROWS", help="24 if left out")
-    common.add_argument("--rate", type=int, default=200, help="how the channel is filled; 200 if left out")
+    common.add_argument("--width", type=int, default=64, metavar="COLUMNS", help="1 to 65536; 64 if left out")
+    common.add_argument("--height", type=int, default=24, metavar="ROWS", help="1 to 65536; 24 if left out")
+    common.add_argument("--rate", type=int, default=200, help="how the channel is filled, 0 to 1000; 200 if left out")
     common.add_argument("--patch", type=int, nargs=5, action="append", default=[], metavar=("X", "Y", "W", "H", "RATE"),
                         help="fill these columns and rows at another rate; may be given again")
     common.add_argument("--wind", type=int, default=0, metavar="SPEED",
-                        help="the particles' mean velocity eastwards, in thousandths of a cell a generation; 0 if left out")
+                        help="the particles' mean velocity eastwards, in thousandths of a cell a generation, or westwards where it is"
+                        " negative: -500 to 500 at rates up to 500, and less above (see scenes/draw.py --help); 0 if left out")
     common.add_argument("--closed", action="store_true", help="make the first column solid, so that nothing passes the ends")
     reader = argparse.ArgumentParser(description=__doc__, formatter_class=argparse.RawDescriptionHelpFormatter)
     shapes = reader.add_subparsers(dest="shape", required=True)
@@ -56,19 +64,37 @@ def chances(asked, rate):
     return [rate / 1000 * (1 + asked.wind / 1000 * east / mean_square) for east in eastwards]
 
 
+def fastest_wind(gas, rate):
+    """The largest wind of a gas that is filled at a rate, in thousandths: at most every place of its direction is filled, and none of the
+    opposite one."""
+    mean_square = sum(east * east for east in EASTWARDS[gas]) / len(EASTWARDS[gas])
+    return int(1000 * mean_square * min(1, 1000 / max(rate, 1) - 1) + 1e-9)
+
+
+def rates(asked):
+    return [asked.rate] + [patch[4] for patch in asked.patch]
+
+
+def version(asked):
+    return 1 if max(asked.width, asked.height) <= MOST_SIDE[1] else 2
+
+
 def fault(asked):
     """Why no such scene can be drawn, or None."""
     def is_inside(x, y, w, h):
         return 0 <= x and 0 <= y and 1 <= w and 1 <= h and x + w <= asked.width and y + h <= asked.height
 
-    if not (1 <= asked.width <= 4096 and 1 <= asked.height <= 4096):
-        return "width and height must be 1 to 4096"
+    if not (1 <= asked.width <= MOST_SIDE[2] and 1 <= asked.height <= MOST_SIDE[2]):
+        return f"width and height must be 1 to {MOST_SIDE[2]}"
     if not 0 <= asked.seed < 2**63:
         return "seed must be 0 to 9223372036854775807"
-    if not all(0 <= rate <= 1000 for rate in [asked.rate] + [patch[4] for patch in asked.patch]):
+    if not all(0 <= rate <= 1000 for rate in rates(asked)):
         return "rate must be 0 to 1000"
-    if not all(0 <= chance <= 1 for rate in [asked.rate] + [patch[4] for patch in asked.patch] for chance in chances(asked, rate)):
-        return "no gas filled at this rate has such a wind"
+    slowest = min(rates(asked), key=lambda rate: fastest_wind(asked.gas, rate))
+    if abs(asked.wind) > fastest_wind(asked.gas, slowest):
+        return f"no gas filled at rate {slowest} has such a wind: its fastest is {fastest_wind(asked.gas, slowest)}"
+    if asked.wind and asked.height * (2 * asked.width + 8) + 200 > MOST_BYTES:
+        return f"a wind makes a map, and this one would be longer than the {MOST_BYTES} bytes that the program reads"
     if not all(is_inside(*patch[:4]) for patch in asked.patch):
         return "a patch leaves the channel or is empty"
     if asked.shape == "blocks" and not all(is_inside(*block) for block in asked.block):
@@ -88,11 +114,12 @@ def disc_cells(asked, column, row, radius):
         return (x, y) if asked.gas == "hpp" else (x + y % 2 / 2, y * ROW_DISTANCE)
 
     middle = place(column, row)
-    for y in range(asked.height):
+    rows = math.ceil(radius / ROW_DISTANCE)
+    for y in range(max(0, row - rows), min(asked.height, row + rows + 1)):
         down = place(0, y)[1] - middle[1]
         if abs(down) > radius:
             continue
-        for x in range(asked.width):
+        for x in {(column + step) % asked.width for step in range(-radius - 1, radius + 2)}:
             along = abs(place(x, y)[0] - middle[0])
             along = min(along, abs(asked.width - along))
             if along * along + down * down <= radius * radius + 1e-9:
@@ -130,22 +157,29 @@ def solid_cells(asked, lots):
 
 def rectangles(asked, solid):
     """Rectangles [x, y, w, h] that cover the solid cells, each once: runs along a row, and those below a like one joined to it."""
+    columns = {}
+    for x, y in solid:
+        columns.setdefault(y, []).append(x)
     last, found = {}, []
-    for y in range(asked.height):
-        here, x = {}, 0
-        while x < asked.width:
-            start = x
-            while (x, y) in solid:
-                x += 1
-            if x > start:
-                rectangle = last.get((start, x)) or [start, y, x - start, 0]
-                if rectangle[3] == 0:
-                    found.append(rectangle)
+    for y in sorted(columns):
+        here = {}
+        for start, end in runs(sorted(columns[y])):
+            rectangle = last.get((start, end))
+            if rectangle and rectangle[1] + rectangle[3] == y:
                 rectangle[3] += 1
-                here[start, x] = rectangle
-            x += 1
+            else:
+                rectangle = [start, y, end - start, 1]
+                found.append(rectangle)
+            here[start, end] = rectangle
         last = here
     return found
+
+
+def runs(numbers):
+    """The runs of ascending numbers: each as its first, and its last and 1."""
+    starts = [x for x, before in zip(numbers, [None, *numbers]) if before != x - 1]
+    ends = [x + 1 for x, after in zip(numbers, [*numbers[1:], None]) if after != x + 1]
+    return zip(starts, ends)
 
 
 def particles(asked, solid, lots):
@@ -160,6 +194,7 @@ def particles(asked, solid, lots):
 
 def rows(asked, solid, lots):
     """The rows of a map, each place filled by lot with the chance of its direction."""
+    bits = {rate: [(1 << i, chance) for i, chance in enumerate(chances(asked, rate))] for rate in rates(asked)}
     for y in range(asked.height):
         cells = []
         for x in range(asked.width):
@@ -167,7 +202,7 @@ def rows(asked, solid, lots):
             for left, top, w, h, other in asked.patch:
                 if left <= x < left + w and top <= y < top + h:
                     rate = other
-            filled = sum(1 << i for i, chance in enumerate(chances(asked, rate)) if lots.random() < chance)
+            filled = sum(bit for bit, chance in bits[rate] if lots.random() < chance)
             cells.append("##" if (x, y) in solid else f"{filled:02x}")
         yield "".join(cells)
 
@@ -186,6 +221,8 @@ def main():
     lots = random.Random(asked.seed)
     solid = solid_cells(asked, lots)
     print(f"# Drawn by: scenes/draw.py {' '.join(sys.argv[1:])}")
+    if version(asked) == 2:
+        print("version = 2")
     print(f'gas = "{asked.gas}"\nchirality = "{asked.chirality}"\nseed = {asked.seed}')
     if asked.wind:
         print("cells = [\n" + "".join(f'    "{row}",\n' for row in rows(asked, solid, lots)) + "]")

@@ -1,37 +1,41 @@
 #!/usr/bin/env python3
 """Measures how far the wave of a dense square has come in each direction, in FHP-I and in HPP.
 
-What is drawn: a channel about 512 x 512 cells wide and high in which each place for a particle is filled by lot with the chance 0.1,
-and in its middle a square of 64 x 64 cells that is filled with the chance 0.9.
+What is drawn: a channel about 512 x 512 cells wide and high in which each place for a particle is filled by lot with a chance, the
+density, and in its middle a square of 64 x 64 cells that is filled with the chance 0.9.
 What is measured: the table of 8 x 8 cells after 200 generations, summed over seeds. Blocks whose middles lie in the same ring of 10
 cells' width and in the same direction, up to 7.5 degrees, are taken together, those of all four quarters too; the crest is the
-ring with the most particles a cell, and the last number says how many times as many as at the start around the square.
+ring with the most particles a cell. Under it stands how many times as many those are as at the start around the square, and the
+standard error of that number, the mean of the seeds.
 Nothing of it is proved: the program is proved to print the lattice of its definitions, not what shape a wave has.
 
-Run it where ./fhpgas is: scenes/wave_shape.py [SEEDS]. It takes a few seconds.
+It takes a second or so for each seed and processor.
 """
+import argparse
 import math
-import subprocess
-import sys
+
+import fhpgas
 
 GENERATIONS, BLOCK, RING = 200, 8, 10
 SQUARE = {"fhp1": (512, 592, math.sqrt(3) / 2, 6), "hpp": (512, 512, 1, 4)}  # columns, rows, distance of rows, places of a cell
-THIN, DENSE = 100, 900  # of a thousand places
+DENSE = 900  # of a thousand places
 ANGLES = range(0, 91, 15)
 
 
-def scene(gas, seed):
+def options():
+    reader = argparse.ArgumentParser(description=__doc__, formatter_class=argparse.RawDescriptionHelpFormatter)
+    reader.add_argument("--density", type=fhpgas.number(0.01, 0.5), default=0.1, help="0.01 to 0.5, in steps of 0.001; 0.1 if left out")
+    reader.add_argument("--seeds", type=fhpgas.whole(2, 1000), default=8, help="how many, from 1 on, 2 or more; 8 if left out")
+    return reader
+
+
+def drawn(gas, thin, seed):
+    """Returns the scene of a gas and a seed, with `thin` of a thousand places filled around the square."""
     columns, rows, distance, _ = SQUARE[gas]
     width, height = 64, round(64 / distance)
     patch = [(columns - width) // 2, (rows - height) // 2, width, height, DENSE]
-    words = ["--gas", gas, "--width", columns, "--height", rows, "--rate", THIN, "--patch", *patch, "--seed", seed]
-    return subprocess.run(["scenes/draw.py", "blocks", *map(str, words)], capture_output=True, text=True, check=True).stdout
-
-
-def table(text):
-    words = ["./fhpgas", "coarse", "--generations", GENERATIONS, "--block-width", BLOCK, "--block-height", BLOCK]
-    printed = subprocess.run(list(map(str, words)), input=text, capture_output=True, text=True, check=True).stdout
-    return [list(map(int, line.split())) for line in printed.splitlines()[1:]]
+    words = ["blocks", "--gas", gas, "--width", columns, "--height", rows, "--rate", thin, "--patch", *patch]
+    return fhpgas.draw(words, seed)
 
 
 def ring_of(gas, column, row):
@@ -41,26 +45,41 @@ def ring_of(gas, column, row):
     return round(math.degrees(math.atan2(abs(north), abs(east))) / 15) * 15, int(math.hypot(east, north) / RING)
 
 
-def crests(gas, seeds):
-    """For each direction the ring with the most particles a cell, and how many those are."""
+def rings_of(gas, table):
+    """The particles and the fluid cells of each direction and ring."""
     sums = {}
-    for seed in range(1, seeds + 1):
-        for column, row, fluid, particles, _, _ in table(scene(gas, seed)):
+    for row, numbers in enumerate(zip(table.particles, table.fluid)):
+        for column, (particles, fluid) in enumerate(zip(*numbers)):
             found = sums.setdefault(ring_of(gas, column, row), [0, 0])
             found[0] += particles
             found[1] += fluid
-    rings = range(256 // RING)  # the rings that are whole
-    return [max((sums[angle, ring][0] / sums[angle, ring][1], ring) for ring in rings if (angle, ring) in sums) for angle in ANGLES]
+    return sums
+
+
+def crests(gas, thin, tables):
+    """For each direction the ring with the most particles a cell, how many times as many those are as at the start, and the standard
+    error of that."""
+    places = SQUARE[gas][3]
+    together, alone = rings_of(gas, fhpgas.total(tables)), [rings_of(gas, table) for table in tables]
+    for angle in ANGLES:
+        rings = [ring for ring in range(256 // RING) if (angle, ring) in together]  # those that are whole
+        crest = max(rings, key=lambda ring: together[angle, ring][0] / together[angle, ring][1])
+        yield crest, *fhpgas.mean(particles / fluid / (places * thin / 1000) for particles, fluid in (sums[angle, crest] for sums in alone))
 
 
 def main():
-    seeds = int(sys.argv[1]) if sys.argv[1:] else 8
+    asked = options().parse_args()
+    thin = round(1000 * asked.density)
+    runs = [(gas, seed) for gas in SQUARE for seed in range(1, asked.seeds + 1)]
+    tables = fhpgas.side_by_side(lambda run: fhpgas.coarse(drawn(run[0], thin, run[1]), GENERATIONS, BLOCK, BLOCK), runs)
     print("degrees from a row  " + "".join(f"{angle:9}" for angle in ANGLES))
-    for gas, (_, _, _, places) in SQUARE.items():
-        found = crests(gas, seeds)
-        print(f"{gas:5}crest, in cells  " + "".join(f"{RING * ring:5}-{RING * (ring + 1)}" for _, ring in found))
-        print(f"{gas:5}times the start  " + "".join(f"{most / (places * THIN / 1000):9.1f}" for most, _ in found))
+    for gas in SQUARE:
+        found = list(crests(gas, thin, [table for table, run in zip(tables, runs) if run[0] == gas]))
+        print(f"{gas:5}crest, in cells  " + "".join(f"{f'{RING * ring}-{RING * (ring + 1)}':>9}" for ring, _, _ in found))
+        print(f"{gas:5}times the start  " + "".join(f"{times:9.2f}" for _, times, _ in found))
+        print(f"{gas:5}standard error   " + "".join(f"{error:9.2f}" for _, _, error in found))
 
 
 if __name__ == "__main__":
-    main()
+    with fhpgas.one_line_faults():
+        main()

@@ -112,6 +112,25 @@ def a_wind_has_its_speed_and_its_rate():
                 assert abs(found[0] - rate) < 0.015 and abs(found[1] - wind / 1000) < 0.04, (gas, wind, rate, found)
 
 
+def the_fastest_wind_is_drawn_and_told():
+    """Half a step in FHP-I and HPP, 3/7 with a rest particle, while places of its direction are free: at rate 800 a quarter of that."""
+    for gas, rate, fastest in (("fhp1", 500, 500), ("hpp", 800, 125), ("fhp1", 800, 125), ("fhp-rest", 500, 428), ("fhp-rest", 800, 107), ("hpp", 1000, 0)):
+        words = f"blocks --gas {gas} --width 8 --height 4 --rate {rate} --wind"
+        for sign in ("", "-"):
+            assert lattice(f"{words} {sign}{fastest}").gas == gas
+            ran = drawn(f"{words} {sign}{fastest + 1}")
+            assert ran.returncode == 2 and f"no gas filled at rate {rate} has such a wind: its fastest is {fastest}" in ran.stderr.decode(), ran
+
+
+def a_side_above_4096_makes_a_scene_of_version_2():
+    for words, is_map in (("", False), ("--wind 100", True), ("--patch 4090 0 9 2 1000", False)):
+        text = drawn(f"blocks --width 4999 --height 2 --rate 20 --block 4998 0 1 2 {words}").stdout.decode()
+        assert "version = 2\n" in text and ("cells = " in text) == is_map
+        assert solid_in(lattice(f"blocks --width 4999 --height 2 --rate 20 --block 4998 0 1 2 {words}").rows) == {(4998, 0), (4998, 1)}
+    assert len(lattice("discs --width 2 --height 4097 --disc 0 4096 0").rows) == 4097
+    assert "version" not in drawn("blocks --width 4096 --height 2").stdout.decode()
+
+
 def closed_ends_are_a_solid_column():
     assert solid_of("blocks --width 12 --height 8 --closed") == {(0, y) for y in range(8)}
 
@@ -123,11 +142,11 @@ def keys_are_those_asked_for():
 
 
 def what_cannot_be_drawn_is_refused():
-    for words in ("", "cubes", "blocks --width 0", "blocks --height 4097", "blocks --rate 1001", "blocks --seed -1", "blocks --block 60 0 5 1",
+    for words in ("", "cubes", "blocks --width 0", "blocks --height 65537", "blocks --rate 1001", "blocks --seed -1", "blocks --block 60 0 5 1",
                   "blocks --block 0 0 0 1", "blocks --patch 0 0 1 1 1001", "blocks --patch 0 20 1 5 10", "discs --disc 64 0 1",
                   "discs --disc 0 0 -1", "nozzle --throat 0", "nozzle --throat 25", "nozzle --length 65", "porous --percent 101",
                   "porous --radius -1", "blocks --gas fhp2", "blocks --wind 501", "blocks --wind -501",
-                  "blocks --rate 800 --wind 200", "blocks --patch 0 0 1 1 800 --wind 200"):
+                  "blocks --rate 800 --wind 200", "blocks --patch 0 0 1 1 800 --wind 200", "blocks --width 65536 --height 512 --wind 1"):
         ran = drawn(words)
         assert ran.returncode == 2 and not ran.stdout and ran.stderr, words
 
@@ -141,7 +160,8 @@ def help_is_told():
 TESTS = [a_block_is_solid_and_nothing_else, blocks_may_overlap, discs_have_the_cells_of_a_hexagon,
          a_disc_of_one_step_is_a_cell_with_its_neighbours, a_disc_goes_on_past_the_last_column, a_nozzle_has_its_throat_and_open_ends,
          a_porous_medium_has_its_share, another_seed_is_another_medium, a_patch_is_filled_at_its_own_rate,
-         a_wind_has_its_speed_and_its_rate, closed_ends_are_a_solid_column, keys_are_those_asked_for, what_cannot_be_drawn_is_refused,
+         a_wind_has_its_speed_and_its_rate,
+         the_fastest_wind_is_drawn_and_told, a_side_above_4096_makes_a_scene_of_version_2, closed_ends_are_a_solid_column, keys_are_those_asked_for, what_cannot_be_drawn_is_refused,
          help_is_told]
 
 

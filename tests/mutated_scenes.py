@@ -1,9 +1,7 @@
 #!/usr/bin/env python3
 """Throws random, mutated and spliced scenes at the built program, and compares each answer with a second reading of the text
-(scene_reader.py): the line that refuses it, or the line of `check` and the printed cells.
-
-Where only one of the two readers takes a text for a TOML document, the text is counted and kept in a file beside the program.
-Ends with the counts. Usage: tests/mutated_scenes.py [HOW_MANY [SEED]]
+(scene_reader.py): the line that refuses it, or the line of `check` and the printed cells. Where a text is refused, explain.py must say
+the same line and a reason. Ends with the counts. Usage: tests/mutated_scenes.py [HOW_MANY [SEED]]
 """
 import random
 import re
@@ -11,10 +9,10 @@ import subprocess
 import sys
 
 import needs
+import explain
 import scene_reader
 
 PROGRAM = needs.built_program()
-KEPT = PROGRAM.parent / "disagreements.txt"
 MOST_CELLS = 1000
 NUMBERS = ["0", "1", "-1", "4", "63", "64", "1000", "1001", "4096", "4097", "9223372036854775807", "9223372036854775808",
            "1.0", "true", "\"1\"", "1979-05-27", "[]", "[1, 2]", "{ a = 1 }", "0x10", "1_000", "inf"]
@@ -129,12 +127,17 @@ def expected(text):
     return ((0, lattice.check_line()), (0, lattice.printed())) if lattice else None
 
 
+def explanation(text):
+    """What explain.py says of a text: the status and the line of its answer, and whether it has reasons, each in one line."""
+    line, reasons = explain.explained(text)
+    return int(line is not None), f"{line}\n" if line else "", bool(reasons) and all(reason.isprintable() for reason in reasons)
+
+
 class Counts:
     def __init__(self):
         self.kinds = {}
         self.failed = 0
         self.large = 0
-        self.kept = []
         self.printed = []
 
     def compare(self, text):
@@ -145,10 +148,7 @@ class Counts:
             self.failed += answer[0] != 0
             return
         checked, printed = wanted
-        if answer != checked and (1, f"{scene_reader.SYNTAX}\n") in (answer, checked):
-            self.kept.append((text, checked, answer))
-            return
-        answers = [(checked, answer)]
+        answers = [(checked, answer), (explanation(text), (answer[0], answer[1] if answer[0] else "", answer[0] == 1))]
         if answer[0] == 0:
             answers.append((printed, run(text, "run", "--generations", "0")))
             self.printed.append(answers[-1][1][1].encode())
@@ -209,13 +209,11 @@ def main():
         counts.compare(text_of(rng, counts))
     for kind in sorted(counts.kinds):
         print(f"{counts.kinds[kind]:6} {kind}")
-    KEPT.write_text("".join(f"{text!r}: {came} came and {wanted} was expected\n" for text, wanted, came in counts.kept))
-    print(f"{len(counts.kept):6} taken for a document by one reader alone, kept in {KEPT.relative_to(needs.ROOT)}")
     print(f"{counts.large:6} read, of more cells than the second reading takes")
     missing = 9 - len(counts.kinds)
     if missing:
         print(f"FAILED: {missing} kinds of answers did not come")
-    print(f"{len(given) + how_many - counts.failed - counts.large - len(counts.kept)} passed, {counts.failed + missing} failed")
+    print(f"{len(given) + how_many - counts.failed - counts.large} passed, {counts.failed + missing} failed")
     sys.exit(1 if counts.failed or missing else 0)
 
 

@@ -1,9 +1,11 @@
-"""What the scripts beside this one need: where it is missing, a script says so in one line and ends with 2."""
+"""What the scripts beside this one need: where it is missing, a script says so in one line and ends with 2. They may import what stands
+in scenes/."""
 
 import pathlib
 import sys
 
 ROOT = pathlib.Path(__file__).resolve().parent.parent
+sys.path.append(str(ROOT / "scenes"))
 
 
 def stop(what):
