@@ -370,6 +370,7 @@ EXPLAINED = [
     ('gas = "hpp" # cells = [\ncells = [ # "#."\n\'..\', # ]\n"""#.""",\n]\n', "scene: row 1 cell 0 is not a cell", 'line 4, column 1: "#." is no cell'),
     ('gas = """\nfhp1"""\n"\\u0073olid" = [ [0, 0, 1, 1],\n[0, {a = [1]}] ]\nwidth = 1\nheight = 1\n', "scene: wrong type",
      "line 4, column 1: entry 1 of `solid`"),
+    ('gas = "fhp1"\nheight = 3\n[seed]\nwidth = 1\n[width]\n', "scene: wrong type", "line 5, column 2: `width` is a table"),
     ('gas = "fhp1"\nwidth.a = [1,\n2]\nheight . b = 1\n', "scene: wrong type", "line 4, column 1: `height` is a table"),
     ('gas = "fhp1"\nwidth = 1\nheight = 1\n[[solid]]\nwidth = 1\n', "scene: wrong type", "line 4, column 3: entry 0 of `solid`"),
 ]
