@@ -316,7 +316,9 @@ def with_seed(scene, seed):
 
 def draw(words, seed):
     """Returns the scene that draw.py draws for its words, a text or a list, and a seed."""
-    words = words.split() if isinstance(words, str) else map(str, words)
+    words = words.split() if isinstance(words, str) else [str(word) for word in words]
+    if any(len(name) > 2 and "--seed".startswith(name) for name in (word.split("=")[0] for word in words)):
+        raise Fault("the words of draw.py have a --seed, and the seed is given beside them")
     done = subprocess.run([sys.executable, HERE / "draw.py", *words, "--seed", str(seed)], capture_output=True, text=True)
     if done.returncode:
         raise Fault(done.stderr.strip().split("\n")[-1])

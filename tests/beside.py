@@ -155,6 +155,8 @@ def another_seed_of_the_same_start_is_refused():
     for scene, part in ((fhpgas.draw("discs --wind 300", 1), "`cells`"), (AREA + "particles = [[0, 0, 1]]\n", "`particles`"),
                         (AREA.replace("300", "0"), "`rate` is 0"), (AREA.replace("rate = 300\n", ""), "`rate` is 0"), ("", "scene: missing key")):
         assert faults(fhpgas.with_seed, scene, 2, part=part), part
+    for words in ("discs --seed 2", "discs --seed=2", ["discs", "--see", 2]):
+        assert faults(fhpgas.draw, words, 1, part="have a --seed"), words
     assert faults(fhpgas.draw, "discs --wind 900", 1, part="wind") and faults(fhpgas.draw, ["cubes"], 1, part="cubes")
 
 
@@ -195,6 +197,22 @@ def a_missing_program_is_a_fault():
         words = [sys.executable, SCENES / "over_time.py", SCENES / "wind.toml", "0", "1", "8", "8"]
         done = subprocess.run(words, capture_output=True, text=True, env=os.environ | {"FHPGAS": program})
         assert is_refused(done, 1, program), done
+
+
+def the_program_beside_the_scripts_is_found():
+    """A folder with the program and scripts, as a user may copy them, from another folder and with no name of the program around."""
+    with tempfile.TemporaryDirectory() as folder:
+        room = pathlib.Path(folder)
+        (room / "scenes").mkdir()
+        for name in ("fhpgas.py", "over_time.py"):
+            (room / "scenes" / name).write_bytes((SCENES / name).read_bytes())
+        (room / "fhpgas").symlink_to(PROGRAM)
+        words = [sys.executable, room / "scenes/over_time.py", SCENES / "wind.toml", "0", "1", "32", "16"]
+        environment = {key: value for key, value in os.environ.items() if key != "FHPGAS"}
+        done = subprocess.run(words, capture_output=True, text=True, env=environment, cwd="/")
+        assert done.returncode == 0 and done.stdout.endswith("    0     0      496       496        992          0\n") and not done.stderr, done
+        (room / "fhpgas").unlink()
+        assert is_refused(subprocess.run(words, capture_output=True, text=True, env=environment), 1, f"{room}/fhpgas is missing")
 
 
 # -- the scripts ---------------------------------------------------------------------------------------------------------------
@@ -283,6 +301,7 @@ def a_sweep_over_seeds_of_one_start_is_refused():
     assert is_refused(script("over_seeds.py", *PLAN, "-", text=patch), 1, "another seed would leave `particles`")
     assert is_refused(script("over_seeds.py", *PLAN, "no.toml"), 1, "no.toml")
     assert is_refused(script("over_seeds.py", *PLAN, "--drawn", "discs", "--wind", "900"), 1, "wind")
+    assert is_refused(script("over_seeds.py", *PLAN, "--drawn", "discs", "--seed", "3"), 1, "have a --seed")
     assert is_refused(script("over_seeds.py", *PLAN), 2, "usage")
     assert is_refused(script("over_seeds.py", *PLAN, "--seeds", 1, "-", text=AREA), 2, "usage")
     assert is_refused(script("over_seeds.py", *PLAN, "a.toml", "--drawn", "discs"), 2, "usage")
@@ -351,6 +370,7 @@ EXPLAINED = [
     ('gas = "hpp" # cells = [\ncells = [ # "#."\n\'..\', # ]\n"""#.""",\n]\n', "scene: row 1 cell 0 is not a cell", 'line 4, column 1: "#." is no cell'),
     ('gas = """\nfhp1"""\n"\\u0073olid" = [ [0, 0, 1, 1],\n[0, {a = [1]}] ]\nwidth = 1\nheight = 1\n', "scene: wrong type",
      "line 4, column 1: entry 1 of `solid`"),
+    ('gas = "fhp1"\nheight = 3\n[seed]\nwidth = 1\n[width]\n', "scene: wrong type", "line 5, column 2: `width` is a table"),
     ('gas = "fhp1"\nwidth.a = [1,\n2]\nheight . b = 1\n', "scene: wrong type", "line 4, column 1: `height` is a table"),
     ('gas = "fhp1"\nwidth = 1\nheight = 1\n[[solid]]\nwidth = 1\n', "scene: wrong type", "line 4, column 3: entry 0 of `solid`"),
 ]
@@ -405,7 +425,7 @@ TESTS = [
     printed_cells_are_read, a_text_that_is_no_cells_is_refused, a_table_is_read, a_text_that_is_no_table_is_refused,
     what_the_program_prints_is_read_as_it_stands, what_is_no_lattice_makes_no_scene, a_run_goes_on, cells_of_another_scene_are_refused,
     another_seed_is_another_start, another_seed_of_the_same_start_is_refused, tables_are_summed, a_mean_has_its_error,
-    calls_go_side_by_side_in_order, a_refusal_of_the_program_is_a_fault, a_missing_program_is_a_fault,
+    calls_go_side_by_side_in_order, a_refusal_of_the_program_is_a_fault, a_missing_program_is_a_fault, the_program_beside_the_scripts_is_found,
     every_script_has_help_and_refuses_other_words, every_script_is_tried_here, tables_over_time_are_those_of_runs_from_the_start,
     a_step_that_does_not_divide_is_refused, a_run_is_resumed_from_files, means_over_seeds_are_those_of_their_tables,
     a_drawn_scene_is_drawn_anew_for_each_seed, a_sweep_over_seeds_of_one_start_is_refused, viscosities_are_near_the_theory,
