@@ -11,7 +11,7 @@ import tempfile
 import needs
 
 PROGRAM = needs.built_program()
-DOCUMENTS = ["README.md", "docs/FORMATS.md", "docs/GUIDE.md"]
+DOCUMENTS = ["README.md", "docs/FORMATS.md", "docs/GUIDE.md", "docs/LIBRARY.md"]
 BLOCK = re.compile(r"^```(\w*)\n(.*?)^```$", re.M | re.S)
 
 
