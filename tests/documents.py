@@ -14,7 +14,7 @@ import needs
 
 PROGRAM = needs.built_program()
 os.environ["FHPGAS"] = str(PROGRAM)  # which the scripts of the blocks run
-DOCUMENTS = ["README.md", "docs/FORMATS.md", "docs/GUIDE.md", "docs/PHYSICS.md", "docs/TEXTBOOK.md"]
+DOCUMENTS = ["README.md", "docs/FORMATS.md", "docs/GUIDE.md", "docs/PHYSICS.md", "docs/TEXTBOOK.md", "docs/LIBRARY.md"]
 BLOCK = re.compile(r"^```(\w*)\n(.*?)^```$", re.M | re.S)
 
 
