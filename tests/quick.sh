@@ -5,7 +5,6 @@
 # without a proof, in some minutes. Ends with the parts that failed.
 cd "$(dirname "$0")/.." || exit 1
 program=crates/fhpgas/out/fhpgas
-examples=(check_rectangles head_on_left obstacle_1 seeded_pairs filling coarse_uneven replay_done)
 room=$(mktemp -d) || exit 1
 trap 'rm -rf "$room"' EXIT
 failed=()
@@ -29,12 +28,16 @@ is_built() {
     [ -x $program ] && [ -z "$(find crates.txt crates -name out -prune -o -type f -newer $built -print -quit)" ]
 }
 
-# example NAME: whether the sources print what a worked example wants, tried without a proof
-example() {
-    local scene=$PWD/tests/examples/$1.toml words
-    read -r -a words < "tests/examples/$1.words"
-    (cd crates/fhpgas && rt try -- "${words[@]}" < "$scene" > "$room/out" 2> "$room/err") || { cat "$room/err"; return 1; }
-    diff "tests/examples/$1.wanted" "$room/out" && echo as wanted
+# examples NAME..: whether the sources print what these worked examples want, compiled once and without a proof
+examples() {
+    local name
+    mkdir "$room/cases"
+    for name; do
+        cp "tests/examples/$name.toml" "$room/cases/$name"
+        tr ' ' '\n' < "tests/examples/$name.words" > "$room/cases/$name.args"
+        cp "tests/examples/$name.wanted" "$room/cases/$name.stdout"
+    done
+    (cd crates/fhpgas && rt try --cases "$room/cases")
 }
 
 part tests/links.py
@@ -46,7 +49,7 @@ if is_built; then
     part tests/how_long.py
     part tests/documents.py
 else
-    for name in "${examples[@]}"; do part example "$name"; done
+    part examples check_rectangles head_on_left obstacle_1 seeded_pairs filling coarse_uneven replay_done
 fi
 if [ ${#failed[@]} -gt 0 ]; then
     printf 'failed: %s\n' "${failed[@]}"
