@@ -1,17 +1,19 @@
 #!/usr/bin/env python3
-"""Site updates per second (cells times generations by seconds) of `fhpgas run`, beside one stage on one thread and beside a plain
-C program on bit planes, alone and with a thread for each processor, all on the same lattice of FHP-I filled at rate 300. Under a
-seed it also makes the random bits of as many updates alone.
+"""Site updates per second (cells times generations by seconds) of `fhpgas run`, beside other programs that compute the same lattice of
+FHP-I, filled at rate 300: one stage on one thread (probes), C on bit planes in place, on one thread and in bands on all (bands.c), C as
+a line of workers and rings (pipeline.c), and what one would write in an afternoon, in C (bytes.c) and in numpy (bytes.py, where numpy
+is installed, and with chirality "left" alone). Under a seed it also makes the random bits of as many updates alone.
 
 Every program takes its turn in each round; a figure is the best of the rounds, and behind it how many times longer the worst one
 took. What reading and printing cost is taken off by a run of no generation. All must print the same cells. All are built for the
 level of the processor that the program was built for. Have nothing else running, but for B busy programs that it starts itself.
-
-Usage: bench/site_updates.py [--rounds R] [--busy B] [--stages N,N..] [--capacities C,C..] [WIDTHxHEIGHTxGENERATIONS[:left|seeded]]...
+Programs that keep a byte a cell compute a twentieth of the generations, and numpy a two-hundredth; their cells are compared with
+those of bands.c.
 """
 import argparse
 import contextlib
 import hashlib
+import importlib.util
 import os
 import pathlib
 import subprocess
@@ -28,6 +30,8 @@ KEY_STREAM = [PROBES, "key_stream"]
 CELLS_OF_KEY_ROW = 4096 * 32
 LATTICES = ["256x256x8000:left", "256x256x8000:seeded", "1024x1024x1500:left", "1024x1024x1000:seeded", "4096x1024x600:left",
             "4096x1024x300:seeded"]
+C_PROGRAMS = ["bands", "pipeline", "bytes"]
+SEED = "1"
 
 
 def numbers(text):
@@ -43,13 +47,14 @@ def level_of_program():
 
 
 def build(room):
-    """The C program's path and the level, where all are built."""
+    """Builds all that is measured, the C programs into a folder. Gives the level."""
     level = level_of_program()
     print("building what is measured beside the program: some minutes where it was not built before", file=sys.stderr, flush=True)
     subprocess.run([ROOT / "build.sh", "probes"], env={**os.environ, "FHPGAS_CPU": level}, check=True)
-    planes = room / "planes"
-    subprocess.run(["cc", "-O3", "-march=" + level, "-pthread", "-o", planes, ROOT / "bench/planes.c"], check=True)
-    return planes, level
+    for name in C_PROGRAMS:
+        words = ["-O3", "-march=" + level, "-pthread", "-o", room / name, ROOT / f"bench/{name}.c"]
+        subprocess.run(["cc", *words], check=True)
+    return level
 
 
 @contextlib.contextmanager
@@ -72,11 +77,11 @@ def timed(words, given, out):
         return time.perf_counter() - begun
 
 
-def timed_planes(words, given, out):
-    """The seconds that the C program says its generations took."""
+def told(words, given, out):
+    """The seconds that a program says its generations took."""
     with open(given) as source, open(out, "w") as sink:
-        told = subprocess.run(words, stdin=source, stdout=sink, stderr=subprocess.PIPE, text=True, check=True)
-    return float(told.stderr)
+        ran = subprocess.run(words, stdin=source, stdout=sink, stderr=subprocess.PIPE, text=True, check=True)
+    return float(ran.stderr)
 
 
 def digest(path):
@@ -84,75 +89,98 @@ def digest(path):
 
 
 class Bench:
-    def __init__(self, room, planes, lattice, options):
+    def __init__(self, room, lattice, options):
         size, _, self.chirality = lattice.partition(":")
         self.chirality = self.chirality or "left"
         self.width, self.height, self.generations = (int(word) for word in size.split("x"))
-        self.room, self.planes, self.options = room, planes, options
+        self.room, self.options = room, options
         self.scene, self.start, self.out = room / "scene", room / "start", room / "out"
-        self.scene.write_text(f'gas = "fhp1"\nchirality = "{self.chirality}"\nseed = 1\nwidth = {self.width}\n'
+        self.scene.write_text(f'version = 2\ngas = "fhp1"\nchirality = "{self.chirality}"\nseed = {SEED}\nwidth = {self.width}\n'
                               f'height = {self.height}\nrate = 300\n')
-        self.wanted = None
-        self.seconds = {}
+        timed([PROGRAM, "run", "--generations", "0"], self.scene, self.start)
+        self.wanted = {}
+        self.best, self.worst = {}, {}
 
-    def check(self, name):
+    def check(self, name, generations):
         found = digest(self.out)
-        self.wanted = self.wanted or found
-        if found != self.wanted:
+        if self.wanted.setdefault(generations, found) != found:
             sys.exit(f"{name} prints another lattice")
+
+    def add(self, name, seconds, generations):
+        """Counts a round, in seconds for a generation."""
+        each = seconds / generations
+        self.best[name] = min(each, self.best.get(name, each))
+        self.worst[name] = max(each, self.worst.get(name, each))
 
     def ours(self, name, words):
         """The generations' time alone, by a program that is told last how many: the whole run's less that of a run of none."""
-        none = timed([*words, "0"], self.scene, self.start)
+        none = timed([*words, "0"], self.scene, self.room / "none")
         whole = timed([*words, str(self.generations)], self.scene, self.out)
-        self.check(name)
-        self.seconds.setdefault(name, []).append(whole - none)
+        self.check(name, self.generations)
+        self.add(name, whole - none, self.generations)
 
-    def plain(self, name, threads):
-        words = [self.planes, str(self.generations), str(threads), *(["1"] if self.chirality == "seeded" else [])]
-        self.seconds.setdefault(name, []).append(timed_planes(words, self.start, self.out))
-        self.check(name)
+    def other(self, name, program, *words, generations=None):
+        """A program that reads and prints cells, and tells the generations' time itself."""
+        generations = generations or self.generations
+        seed = [SEED] if self.chirality == "seeded" else []
+        seconds = told([*program, str(generations), *map(str, words), *seed], self.start, self.out)
+        self.check(name, generations)
+        self.add(name, seconds, generations)
+
+    def slower(self, name, times, program):
+        """A program that computes so many times fewer generations, and bands.c as many, to compare the cells with."""
+        generations = max(1, self.generations // times)
+        if generations not in self.wanted:
+            self.other("bands", [self.room / "bands"], 1, generations=generations)
+            del self.best["bands"], self.worst["bands"]
+        self.other(name, program, generations=generations)
 
     def random_bits(self, name):
         rows = self.width * self.height * self.generations // CELLS_OF_KEY_ROW
         none, whole = (timed([*KEY_STREAM, str(count)], self.scene, self.room / "word") for count in (0, rows))
-        self.seconds.setdefault(name, []).append(whole - none)
+        self.add(name, whole - none, self.generations)
 
     def round(self):
         processors = os.cpu_count() or 1
         if self.chirality == "seeded":
             self.random_bits("random bits alone")
         self.ours("one stage", SINGLE)
-        self.plain("C, 1 thread", 1)
-        self.plain(f"C, {processors} threads", processors)
+        self.other("C, in place, 1 thread", [self.room / "bands"], 1)
+        self.other(f"C, bands, {processors} threads", [self.room / "bands"], processors)
         for capacity in self.options.capacities:
             for stages in self.options.stages:
-                self.ours(f"N = {stages}, C = {capacity}",
-                          [PROGRAM, "run", "--stages", str(stages), "--capacity", str(capacity), "--generations"])
+                plan = f"N = {stages}, C = {capacity}"
+                self.ours(plan, [PROGRAM, "run", "--stages", str(stages), "--capacity", str(capacity), "--generations"])
+                if self.options.pipeline:
+                    self.other(f"C, a line, {plan}", [self.room / "pipeline"], stages, capacity)
+        self.slower("C, a byte a cell", 20, [self.room / "bytes"])
+        if self.chirality == "left" and importlib.util.find_spec("numpy"):
+            self.slower("numpy", 200, [sys.executable, ROOT / "bench/bytes.py"])
 
     def table(self):
         print(f"\n{self.width} x {self.height}, {self.chirality}, {self.generations} generations\n")
-        print("| program | million site updates a second | worst / best |\n|---|---|---|")
-        for name, seconds in self.seconds.items():
-            updates = self.width * self.height * self.generations / min(seconds) / 1e6
-            print(f"| {name} | {updates:,.0f} | {max(seconds) / min(seconds):.2f} |", flush=True)
+        print("| program | MLUPS | worst / best |\n|---|---|---|")
+        for name, seconds in self.best.items():
+            updates = self.width * self.height / seconds / 1e6
+            print(f"| {name} | {updates:,.{0 if updates >= 100 else 1}f} | {self.worst[name] / seconds:.2f} |", flush=True)
 
 
 def main():
     words = argparse.ArgumentParser(description=__doc__, formatter_class=argparse.RawDescriptionHelpFormatter)
     words.add_argument("--rounds", type=int, default=3)
-    words.add_argument("--busy", type=int, default=0)
-    words.add_argument("--stages", type=numbers, default=[1, 2, 3, 4, 8, 16, 32])
-    words.add_argument("--capacities", type=numbers, default=[2, 32, 128])
-    words.add_argument("lattices", nargs="*", default=LATTICES)
+    words.add_argument("--busy", type=int, default=0, metavar="B")
+    words.add_argument("--stages", type=numbers, default=[1, 2, 3, 4, 8, 16, 32], metavar="N,N..")
+    words.add_argument("--capacities", type=numbers, default=[2, 32, 128], metavar="C,C..")
+    words.add_argument("--pipeline", action="store_true", help="measure pipeline.c with each plan too")
+    words.add_argument("lattices", nargs="*", default=LATTICES, metavar="WIDTHxHEIGHTxGENERATIONS[:left|seeded]")
     options = words.parse_args()
     with tempfile.TemporaryDirectory() as folder:
         room = pathlib.Path(folder)
-        planes, level = build(room)
+        level = build(room)
         beside = f", beside {options.busy} busy programs" if options.busy else ""
         print(f"{os.cpu_count()} processors, built for {level}, best of {options.rounds}{beside}")
         for lattice in options.lattices:
-            bench = Bench(room, planes, lattice, options)
+            bench = Bench(room, lattice, options)
             with busy_programs(options.busy):
                 for _ in range(options.rounds):
                     bench.round()
