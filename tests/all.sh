@@ -5,7 +5,7 @@
 # little of a contract, fails the tests.
 cd "$(dirname "$0")/.." || exit 1
 set -o pipefail
-tests/definitions.py && tests/links.py || exit 1
+tests/definitions.py && tests/links.py && tests/launcher.sh || exit 1
 log=$(mktemp) && mark=$(mktemp) || exit 1
 trap 'rm -f "$log" "$mark"' EXIT
 rt ci 2>&1 | tee "$log" || exit 1
@@ -15,7 +15,7 @@ if grep 'only because a proof file names what the edit took away' "$log"; then
 fi
 if ! tests/wrong_bodies_test.py || ! tests/wrong_bodies.py; then exit 1; fi
 ./build.sh --proved "$mark" # so that a build after the tests has nothing to prove
-echo x86-64-v2 > crates/fhpgas/out/level # the kit's own, for which rt ci builds
+echo x86-64-v2 > crates/fhpgas/out/level # for which rt ci builds
 tests/command_line.sh && tests/scene_tables.py && tests/terminal.py && tests/documents.py && tests/library.py && tests/archive.sh \
     && tests/how_long.py && tests/drawn_scenes.py && tests/beside.py && tests/mutated_scenes.py 5000 && tests/large_scenes.py 1 \
     && tests/refusals.py
