@@ -1,7 +1,7 @@
 #!/usr/bin/env python3
 """Checks the arithmetic of docs/PHYSICS.md: sums over the directions and collisions of each gas beside the published formulas.
 
-What is read off the program: each state of one cell, before a generation and after it, with head-on pairs that turn to the left and to
+What is read off the program: each state of one cell, before a generation and after it, with head-on pairs that rotate to the left and to
 the right; so the table of collisions is the program's own.
 What is computed: from the directions alone the isotropy of the fourth moments and the speed of sound; from the equilibrium (each
 direction filled by itself, by Fermi and Dirac) the Galilean factor; from the collisions, linearized about equal filling, the
@@ -10,16 +10,13 @@ The formulas beside them are those of U. Frisch, D. d'Humieres, B. Hasslacher, P
 Lattice gas hydrodynamics in two and three dimensions, Complex Systems 1 (1987) 649.
 Nothing of it is proved.
 
-It takes less than a second, and fails where a sum and its formula differ. It calls ./fhpgas, or the one beside scenes/ where none is here.
+It takes less than a second, and fails where a sum and its formula differ.
 """
+import argparse
 import math
-import os
-import pathlib
-import subprocess
-import sys
 
-HERE = "./fhpgas"
-PROGRAM = HERE if os.access(HERE, os.X_OK) else str(pathlib.Path(__file__).resolve().parent.parent / "fhpgas")
+import fhpgas
+
 ROOT3 = math.sqrt(3)
 HEXAGON = [(1, 0), (0.5, ROOT3 / 2), (-0.5, ROOT3 / 2), (-1, 0), (-0.5, -ROOT3 / 2), (0.5, -ROOT3 / 2)]
 VELOCITIES = {"fhp1": HEXAGON, "hpp": [(1, 0), (0, 1), (-1, 0), (0, -1)], "fhp-rest": HEXAGON + [(0, 0)]}
@@ -28,31 +25,26 @@ FILLINGS = (0.1, 0.2, 0.3, 0.4, 0.5)
 STEPS = [(1, 0), (1, -1), (0, -1), (-1, 0), (0, 1), (1, 1)]
 
 
-def answer(words, text):
-    return subprocess.run([PROGRAM, *words], input=text, capture_output=True, text=True, check=True).stdout.splitlines()
-
-
 def collisions(chirality):
-    """The state after a collision of each state of FHP-I, as the program computes it: cells three apart, on an odd row."""
-    middle = "".join(f"..{state:02x}.." for state in range(64))
-    text = f'gas = "fhp1"\nchirality = "{chirality}"\ncells = ["{".." * 192}", "{middle}", "{".." * 192}"]\n'
-    rows = [[0 if line[i] == "." else int(line[i : i + 2], 16) for i in range(0, 384, 2)]
-            for line in answer(["run", "--generations", "1"], text)[1:]]
+    """Returns the state after a collision of each state of FHP-I, as the program computes it: cells three apart, on an odd row."""
+    alone = [state if offset == 1 else 0 for state in range(64) for offset in range(3)]
+    empty = [0] * len(alone)
+    rows = fhpgas.run(fhpgas.scene_of([empty, alone, empty], "fhp1", chirality=chirality), 1).states
     return [sum(rows[1 + down][(3 * state + 1 + along) % 192] & 1 << i for i, (along, down) in enumerate(STEPS)) for state in range(64)]
 
 
 def moments(velocities):
-    """The sums over the directions of x^2, x^4 and x^2 y^2."""
+    """Returns the sums over the directions of x^2, x^4 and x^2 y^2."""
     return [sum(x**a * y**b for x, y in velocities) for a, b in ((2, 0), (4, 0), (2, 2))]
 
 
 def filled(velocities, h, q):
-    """How each direction is filled at equilibrium: by Fermi and Dirac, with a drift along x."""
+    """Returns the chance that each direction holds a particle at equilibrium: by Fermi and Dirac, with a drift along x."""
     return [1 / (1 + math.exp(h - q * x)) for x, _ in velocities]
 
 
 def galilean_factor(velocities, d):
-    """What stands before u u in the flux of momentum: (xx - yy) / (density u^2) at a small velocity, at filling d."""
+    """Returns what stands before u u in the flux of momentum: (xx - yy) / (density u^2) at a small velocity, at filling d."""
     q, low, high = 0.01, -50.0, 50.0
     for _ in range(100):  # the h at which the mean filling is d
         h = (low + high) / 2
@@ -64,7 +56,7 @@ def galilean_factor(velocities, d):
 
 
 def viscosity(tables, d):
-    """The Boltzmann value: from how fast collisions undo the shear x y, about equal filling d."""
+    """Returns the Boltzmann value: from how fast collisions undo the shear x y, about equal filling d."""
     shear = [x * y for x, y in HEXAGON]
     undone = 0
     for table in tables:
@@ -79,15 +71,15 @@ def viscosity(tables, d):
 
 
 def noise(d, cells):
-    """The standard deviation of a block's mean velocity u, where each direction is filled by itself."""
+    """Returns the standard deviation of a block's mean velocity u, where each direction is filled by itself."""
     return math.sqrt(d * (1 - d) * moments(HEXAGON)[0] / cells) / (6 * d)
 
 
 def measured_noise(rate, width, height):
-    text = f'gas = "fhp1"\nseed = 1\nwidth = 1024\nheight = 1024\nrate = {rate}\n'
-    words = ["coarse", "--generations", "50", "--block-width", str(width), "--block-height", str(height)]
-    table = [list(map(int, line.split())) for line in answer(words, text)[1:]]
-    return math.sqrt(sum((row[4] / (2 * row[3])) ** 2 for row in table) / len(table))
+    """Returns the standard deviation of the mean velocity u of blocks of this size, in one run of FHP-I at rest."""
+    scene = f'gas = "fhp1"\nseed = 1\nwidth = 1024\nheight = 1024\nrate = {rate}\n'
+    eastwards = sum(fhpgas.coarse(scene, 50, width, height).velocity("fhp1")[0], [])
+    return math.sqrt(sum(u * u for u in eastwards) / len(eastwards))
 
 
 def line(name, numbers):
@@ -99,10 +91,11 @@ def compare(name, sums, formula, error):
     line(f"{name}, summed", sums)
     line(f"{name}, formula", formula)
     if any(abs(a - b) > error for a, b in zip(sums, formula)):
-        sys.exit(f"physics: {name} is not what the formula says")
+        raise fhpgas.Fault(f"{name} is not what the formula says")
 
 
 def main():
+    argparse.ArgumentParser(description=__doc__, formatter_class=argparse.RawDescriptionHelpFormatter).parse_args()
     print(f"{'':34}{'fhp1':>8}{'hpp':>8}{'fhp-rest':>9}")
     all_moments = [moments(velocities) for velocities in VELOCITIES.values()]
     line("x^2 y^2 / x^4 (isotropic: 1/3)", [mixed / fourth for _, fourth, mixed in all_moments])
@@ -121,4 +114,5 @@ def main():
 
 
 if __name__ == "__main__":
-    main()
+    with fhpgas.one_line_faults():
+        main()

@@ -17,5 +17,4 @@ if ! tests/wrong_bodies_test.py || ! tests/wrong_bodies.py; then exit 1; fi
 ./build.sh --proved "$mark" # so that a build after the tests has nothing to prove
 echo x86-64-v2 > crates/fhpgas/out/level # for which rt ci builds
 tests/command_line.sh && tests/scene_tables.py && tests/terminal.py && tests/documents.py && tests/library.py && tests/archive.sh \
-    && tests/how_long.py && tests/drawn_scenes.py && tests/beside.py && tests/mutated_scenes.py 5000 && tests/large_scenes.py 1 \
-    && tests/refusals.py
+    && tests/drawn_scenes.py && tests/beside.py && tests/mutated_scenes.py 5000 && tests/large_scenes.py 1 && tests/refusals.py

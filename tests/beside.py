@@ -18,7 +18,8 @@ import explain  # noqa: E402 - the scripts beside the program, which find it by 
 import fhpgas  # noqa: E402
 
 SCENES = needs.ROOT / "scenes"
-SCRIPTS = ["draw.py", "explain.py", "over_seeds.py", "over_time.py", "poiseuille.py", "resume.py", "viscosity.py", "wave_shape.py"]
+SCRIPTS = ["draw.py", "explain.py", "how_long.py", "over_seeds.py", "over_time.py", "physics.py", "poiseuille.py", "resume.py", "viscosity.py",
+           "wave_shape.py"]
 HEAD_ON = "generation 1 particles 2\n....02..\n........\n##10....\n"
 TABLE = """\
   col   row    fluid particles         px         py
@@ -254,6 +255,26 @@ def a_step_that_does_not_divide_is_refused():
         assert is_refused(script("over_time.py", "-", *words, text=AREA), 2, "usage"), words
 
 
+def a_long_run_is_told_by_a_short_one():
+    scene = 'gas = "fhp1"\nchirality = "left"\nwidth = 4096\nheight = 256\nrate = 300\n'
+    cells, units = 4096 * 256, {"seconds": 1, "minutes": 60, "hours": 3600, "days": 86400}
+    for generations, stages, capacity in ((500_000, 4, 32), (1_000_000, 1, 2)):
+        done = script("how_long.py", "-", generations, "--stages", stages, "--capacity", capacity, "--seconds", 1, text=scene)
+        told = re.fullmatch(rf"([\d,]+) MLUPS with {stages} workers and {capacity} rows on a belt\n"
+                            rf"{generations} generations of {cells} cells: about ([\d.]+) (\w+)\n", done.stdout)
+        assert done.returncode == 0 and not done.stderr and told, done
+        speed, seconds = float(told[1].replace(",", "")) * 1e6, float(told[2]) * units[told[3]]
+        assert 0.9 < seconds / (cells * generations / speed) < 1.1, done  # up to what the printed digits hold
+
+
+def a_run_that_cannot_be_is_not_timed():
+    for words in ((), ("-",), ("-", "ten"), ("-", -1), ("-", 1000001), ("-", 1, "--stages", 0), ("-", 1, "--stages", 65),
+                  ("-", 1, "--capacity", 1025), ("-", 1, "--seconds", 0), ("-", 1, "--capacity")):
+        assert is_refused(script("how_long.py", *words, text=AREA), 2, "usage"), words
+    assert is_refused(script("how_long.py", "no.toml", 10), 1, "no.toml: No such file")
+    assert is_refused(script("how_long.py", "-", 10), 1, "scene: missing key")
+
+
 def a_run_is_resumed_from_files():
     with tempfile.TemporaryDirectory() as folder:
         room = pathlib.Path(folder)
@@ -427,11 +448,11 @@ TESTS = [
     another_seed_is_another_start, another_seed_of_the_same_start_is_refused, tables_are_summed, a_mean_has_its_error,
     calls_go_side_by_side_in_order, a_refusal_of_the_program_is_a_fault, a_missing_program_is_a_fault, the_program_beside_the_scripts_is_found,
     every_script_has_help_and_refuses_other_words, every_script_is_tried_here, tables_over_time_are_those_of_runs_from_the_start,
-    a_step_that_does_not_divide_is_refused, a_run_is_resumed_from_files, means_over_seeds_are_those_of_their_tables,
+    a_step_that_does_not_divide_is_refused, a_long_run_is_told_by_a_short_one, a_run_that_cannot_be_is_not_timed,
+    a_run_is_resumed_from_files, means_over_seeds_are_those_of_their_tables,
     a_drawn_scene_is_drawn_anew_for_each_seed, a_sweep_over_seeds_of_one_start_is_refused, viscosities_are_near_the_theory,
     a_flow_that_is_lost_in_chance_is_refused, a_wave_has_its_shape, refused_scenes_are_explained,
-    documents_of_the_later_version_are_read_alike, a_scene_is_not_refused,
-    the_guide_paints_blocks_without_fluid,
+    documents_of_the_later_version_are_read_alike, a_scene_is_not_refused, the_guide_paints_blocks_without_fluid,
 ]
 
 

@@ -46,7 +46,6 @@ if is_built; then
     part tests/command_line.sh
     part tests/scene_tables.py
     part tests/mutated_scenes.py 300
-    part tests/how_long.py
     part tests/documents.py
 else
     part examples check_rectangles head_on_left obstacle_1 seeded_pairs filling coarse_uneven replay_done
