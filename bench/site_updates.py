@@ -119,21 +119,23 @@ class Bench:
         self.check(name, self.generations)
         self.add(name, whole - none, self.generations)
 
-    def other(self, name, program, *words, generations=None):
-        """A program that reads and prints cells, and tells the generations' time itself."""
-        generations = generations or self.generations
+    def seconds_of(self, name, program, generations, *words):
+        """The time that a program tells for its generations, where it prints the cells that the others print."""
         seed = [SEED] if self.chirality == "seeded" else []
         seconds = told([*program, str(generations), *map(str, words), *seed], self.start, self.out)
         self.check(name, generations)
-        self.add(name, seconds, generations)
+        return seconds
+
+    def other(self, name, program, *words):
+        """A program that reads and prints cells."""
+        self.add(name, self.seconds_of(name, program, self.generations, *words), self.generations)
 
     def slower(self, name, times, program):
-        """A program that computes so many times fewer generations, and bands.c as many, to compare the cells with."""
+        """Such a program that computes so many times fewer generations, which bands.c computes too, to compare the cells with."""
         generations = max(1, self.generations // times)
         if generations not in self.wanted:
-            self.other("bands", [self.room / "bands"], 1, generations=generations)
-            del self.best["bands"], self.worst["bands"]
-        self.other(name, program, generations=generations)
+            self.seconds_of("bands.c", [self.room / "bands"], generations, 1)
+        self.add(name, self.seconds_of(name, program, generations), generations)
 
     def random_bits(self, name):
         rows = self.width * self.height * self.generations // CELLS_OF_KEY_ROW
