@@ -2,11 +2,12 @@ ghost use Rattle.std.specs.Prelude.{◌≡◌, ◌<◌, ◌≤◌, ◌+◌, ◌-
 ghost use Rattle.std.specs.List.{range_with_len};
 ghost use Rattle.gas_geom.specs.Gas.{holds};
 ghost use Rattle.rand_chacha.specs.ChaCha.{word_at};
-ghost use Rattle.gas_rows.specs.Words.{words_in, bit};
+ghost use Rattle.gas_bits.specs.Words.{words_in, bit};
 
-use crate::mask_words;
-use crate::span::count_in;
-use crate::word::{has_bit, with_bit, words_for};
+use crate::key_bits;
+use gas_bits::plane;
+use gas_bits::span::count_in;
+use gas_bits::word::{has_bit, with_bit, words_for};
 use rand_chacha::ChaCha20Rng;
 use std::alloc::{AllocError, Global};
 use std::marker::Model;
@@ -22,7 +23,7 @@ pub struct Mask {
 
 impl Model for Mask {
     ghost use Rattle.std.specs.Prelude.{Bool, List};
-    ghost use Rattle.gas_rows.specs.Mask.{cells, IsMask};
+    ghost use Rattle.gas_rows.specs.Inner.Mask.{cells, IsMask};
 
     ghost Value = { List Bool };
 
@@ -114,15 +115,15 @@ impl Mask {
         requires { length cells.now ≡ length self.old }
         ensures { self.new ≡ cells.now }
     {
-        mask_words::pack(cells, &mut self.words);
-        self.blank = mask_words::are_zero(&self.words);
+        plane::pack(cells, &mut self.words);
+        self.blank = plane::are_zero(&self.words);
     }
 
     /// Gives all cells one value.
     pub(crate) fn fill(&mut self, value: bool)
         ensures { self.new ≡ replicate (length self.old) value }
     {
-        mask_words::fill(&mut self.words, self.width, value);
+        plane::fill(&mut self.words, self.width, value);
         self.blank = !value;
     }
 
@@ -132,7 +133,7 @@ impl Mask {
         ensures key { generator.new.key ≡ generator.old.key }
         ensures cells { self.new ≡ map (λ x. holds (word_at 10 generator.old.key generator.old.stream (generator.old.word_pos + x / 32)) (x % 32)) (range_with_len 0 (length self.old)) }
     {
-        mask_words::draw(&mut self.words, self.width, generator);
+        key_bits::draw(&mut self.words, self.width, generator);
         self.blank = false;
     }
 

@@ -3,18 +3,19 @@ ghost use Rattle.std.specs.List.{range_with_len};
 ghost use Rattle.gas_geom.specs.Moves.{Move, amount, column_after};
 ghost use Rattle.gas_geom.specs.Gas.{holds, particles};
 ghost use Rattle.gas_geom.specs.Lattice.{row_of};
-ghost use Rattle.gas_rows.specs.Shift.{streamed_bit};
-ghost use Rattle.gas_rows.specs.Words.{words_in, bit};
+ghost use Rattle.gas_bits.specs.Shift.{streamed_bit};
+ghost use Rattle.gas_bits.specs.Words.{words_in, bit};
 ghost use Rattle.gas_rows.specs.Planes.{AreWordsOf, cells_of};
 
+use crate::collision::collide;
+use crate::directions::directions;
 use crate::mask::Mask;
-use crate::planes::{
-    clear_past, collide, directions, empty, gather, load, load_states, read_cell, write_cell,
-};
-use crate::shift::{move_part, reflect_part, stream_part};
-use crate::span::count_in;
-use crate::transpose::states_of;
-use crate::word::{cut, words_for};
+use gas_bits::load::{clear_past, load, load_states};
+use gas_bits::part::{move_part, reflect_part, stream_part};
+use gas_bits::planes::{empty, gather, read_cell, write_cell};
+use gas_bits::span::count_in;
+use gas_bits::transpose::states_of;
+use gas_bits::word::{cut, words_for};
 use gas_geom::gas::Gas;
 use std::alloc::{AllocError, Global};
 use std::marker::{Model, PhantomData};
@@ -31,7 +32,7 @@ pub struct Row<G: Gas> {
 impl<G: Gas> Model for Row<G> {
     ghost use Rattle.std.specs.Prelude.{ℕ, List};
     ghost use Rattle.gas_rows.specs.Planes.{cells_of};
-    ghost use Rattle.gas_rows.specs.Inside.{ArePlanes};
+    ghost use Rattle.gas_rows.specs.Inner.Planes.{ArePlanes};
 
     ghost Value = { List ℕ };
 

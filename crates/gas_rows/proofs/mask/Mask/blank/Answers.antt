@@ -1,5 +1,5 @@
 use Rattle.std.proofs.Common.{ℕ, true, replicate, ap, ◌∙◌, sym, subst}
-use Rattle.gas_rows.specs.Mask.{cells, IsMask}
+use Rattle.gas_rows.specs.Inner.Mask.{cells, IsMask}
 use Rattle.gas_rows.proofs.Masks.{IsMask-blank, cells-blank}
 use Rattle.gas_rows.proofs.mask.Mask.blank.Goals as goal
 

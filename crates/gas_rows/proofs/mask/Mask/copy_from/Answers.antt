@@ -1,9 +1,10 @@
 use Rattle.std.proofs.Common.{◌≡◌, ℕ, false, List, length, get_or, ap, ◌∙◌, sym, subst}
 use Rattle.std.specs.List.{All}
 use Rattle.std.proofs.lemmas.List.{with_items_is}
-use Rattle.gas_rows.specs.Words.{words_in}
-use Rattle.gas_rows.specs.Mask.{cells, IsMask}
-use Rattle.gas_rows.proofs.Masks.{width_of, cells-from, IsMask-written, cut-list, bit-all_zero}
+use Rattle.gas_bits.specs.Words.{words_in}
+use Rattle.gas_rows.specs.Inner.Mask.{cells, IsMask}
+use Rattle.gas_rows.proofs.Masks.{width_of, cells-from, IsMask-written, cut-list}
+use Rattle.gas_bits.proofs.Words.{bit-all_zero}
 use Rattle.gas_rows.proofs.mask.Mask.copy_from.Goals as goal
 
 pub pack-requires : goal.pack-requires

@@ -1,8 +1,8 @@
 use Rattle.std.proofs.Common.{◌≡◌, ◌-◌, List, ℕ, ap, ◌∙◌, arith}
 use Rattle.std.specs.Prelude.{count_by}
 use Rattle.std.specs.List.{range_with_len}
-use Rattle.gas_rows.specs.Words.{bit}
-use Rattle.gas_rows.proofs.Ones.{count-cells}
+use Rattle.gas_bits.specs.Words.{bit}
+use Rattle.gas_rows.proofs.Masks.{count-cells}
 use Rattle.gas_rows.proofs.mask.Mask.count.Goals as goal
 
 pub returns : goal.returns

@@ -1,8 +1,8 @@
 use Rattle.std.proofs.Common.{◌≡◌, ◌&&◌, ℕ, Bool, true, false, not, refl, List, length, replicate, ap, ◌∙◌, sym, subst}
 use Rattle.std.specs.Prelude.{nat_lt}
 use Rattle.std.proofs.lemmas.List.{with_items_is}
-use Rattle.gas_rows.specs.Words.{words_in}
-use Rattle.gas_rows.specs.Mask.{cells, IsMask}
+use Rattle.gas_bits.specs.Words.{words_in}
+use Rattle.gas_rows.specs.Inner.Mask.{cells, IsMask}
 use Rattle.gas_rows.proofs.Masks.{width_of, IsMask-written, cells-filled}
 use Rattle.gas_rows.proofs.mask.Mask.fill.Goals as goal
 

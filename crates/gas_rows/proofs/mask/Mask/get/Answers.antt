@@ -1,6 +1,7 @@
 use Rattle.std.proofs.Common.{◌/◌, ◌%◌, Bool, false, List, get_or, ap, ◌∙◌, sym, arith}
 use Rattle.gas_geom.specs.Gas.{holds}
-use Rattle.gas_rows.proofs.Masks.{word-within, read_at, bit-is, bit-cells}
+use Rattle.gas_rows.proofs.Masks.{word-within, bit-cells}
+use Rattle.gas_bits.proofs.Words.{read_at, bit-is}
 use Rattle.gas_rows.proofs.mask.Mask.get.Goals as goal
 
 pub index-requires : goal.index-requires

@@ -1,7 +1,8 @@
 use Rattle.std.proofs.Common.{◌/◌, ◌%◌, Bool, if◌then◌else◌, List, set, ap, ◌∙◌, arith}
 use Rattle.std.specs.Prelude.{◌==◌}
 use Rattle.gas_geom.specs.Gas.{holds}
-use Rattle.gas_rows.proofs.Masks.{width_of, word-within, read_at, IsMask-set, cells-set}
+use Rattle.gas_rows.proofs.Masks.{width_of, word-within, IsMask-set, cells-set}
+use Rattle.gas_bits.proofs.Words.{read_at}
 use Rattle.gas_rows.proofs.mask.Mask.set.Goals as goal
 
 pub index-requires : goal.index-requires

@@ -1,6 +1,7 @@
 use Rattle.std.proofs.Common.{◌<◌, ◌+◌, ◌*◌, Bool, false, List, length, get_or, ap, ◌∙◌, sym, arith}
 use Rattle.gas_geom.specs.Gas.{holds}
-use Rattle.gas_rows.proofs.Masks.{width_of, read_at, bit-at, bit-cells}
+use Rattle.gas_rows.proofs.Masks.{width_of, bit-cells}
+use Rattle.gas_bits.proofs.Words.{read_at, bit-at}
 use Rattle.gas_rows.proofs.mask.Mask.word.Goals as goal
 
 pub index-requires : goal.index-requires

@@ -1,7 +1,8 @@
 use Rattle.std.proofs.Common.{◌≡◌, ◌/◌, ◌*◌, ◌<◌, ℕ, if◌then◌else◌, length, ap, ◌∙◌, sym, subst}
 use Rattle.std.proofs.lemmas.List.{with_items_is}
-use Rattle.gas_rows.specs.Words.{words_in, bit}
-use Rattle.gas_rows.specs.Inside.{state, ArePlanes}
+use Rattle.gas_bits.specs.Words.{words_in, bit}
+use Rattle.gas_bits.specs.Planes.{state}
+use Rattle.gas_rows.specs.Inner.Planes.{ArePlanes}
 use Rattle.gas_rows.specs.Planes.{cells_of}
 use Rattle.gas_rows.proofs.Rows.{wide}
 use Rattle.gas_rows.proofs.Collisions.{nothing, planes-collided, row-collided}

@@ -1,8 +1,8 @@
 use Rattle.std.proofs.Common.{length, ap, ◌∙◌, sym, subst}
 use Rattle.std.proofs.lemmas.List.{with_items_is}
-use Rattle.gas_rows.specs.Words.{words_in}
+use Rattle.gas_bits.specs.Words.{words_in}
 use Rattle.gas_rows.specs.Planes.{cells_of}
-use Rattle.gas_rows.specs.Inside.{ArePlanes}
+use Rattle.gas_rows.specs.Inner.Planes.{ArePlanes}
 use Rattle.gas_rows.proofs.Rows.{wide, planes-of_states, row-of_states}
 use Rattle.gas_rows.proofs.row.Row.copy_from.Goals as goal
 

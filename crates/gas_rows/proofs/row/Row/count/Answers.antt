@@ -2,8 +2,9 @@ use Rattle.std.proofs.Common.{◌≡◌, suc, ◌+◌, ◌*◌, ◌^◌, ◌<◌
 use Rattle.std.specs.Prelude.{count_ones}
 use Rattle.std.proofs.Math.Nat.{mul-le-mul_right}
 use Rattle.gas_geom.proofs.Sums.{sum_below}
-use Rattle.gas_rows.specs.Words.{words_in}
-use Rattle.gas_rows.proofs.Counting.{particles-ones, ones-le_64}
+use Rattle.gas_bits.specs.Words.{words_in}
+use Rattle.gas_rows.proofs.Counting.{particles-ones}
+use Rattle.gas_bits.proofs.Counting.{ones-le_64}
 use Rattle.gas_rows.proofs.row.Row.count.Goals as goal
 
 pub loop-word-init : goal.loop-word-init

@@ -1,7 +1,7 @@
 use Rattle.std.proofs.Common.{◌+◌, ◌-◌, get_or, ◌∙◌}
 use Rattle.gas_geom.specs.Gas.{holds}
-use Rattle.gas_rows.specs.Words.{bit}
-use Rattle.gas_rows.proofs.Ones.{count-same}
+use Rattle.gas_bits.specs.Words.{bit}
+use Rattle.gas_bits.proofs.Ones.{count-same}
 use Rattle.gas_rows.proofs.row.Row.count_in.Goals as goal
 
 pub returns : goal.returns

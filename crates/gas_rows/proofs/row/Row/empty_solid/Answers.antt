@@ -1,8 +1,9 @@
 use Rattle.std.proofs.Common.{◌≡◌, ◌/◌, ◌^◌, ◌<◌, ℕ, Bool, false, if◌then◌else◌, List, length, get_or, refl, ap, ◌∙◌, sym, subst}
 use Rattle.std.proofs.lemmas.List.{with_items_is}
 use Rattle.std.proofs.lemmas.List.FromFn.{fill_by_all}
-use Rattle.gas_rows.specs.Words.{words_in, bit}
-use Rattle.gas_rows.specs.Inside.{state, ArePlanes}
+use Rattle.gas_bits.specs.Words.{words_in, bit}
+use Rattle.gas_bits.specs.Planes.{state}
+use Rattle.gas_rows.specs.Inner.Planes.{ArePlanes}
 use Rattle.gas_rows.specs.Planes.{cells_of}
 use Rattle.gas_rows.proofs.Cells.{cells-lt}
 use Rattle.gas_rows.proofs.Rows.{wide, row_of-same}

@@ -1,6 +1,6 @@
 use Rattle.std.proofs.Common.{◌<◌, ◌^◌, ap, ap₂, ◌∙◌, sym, subst, arith}
-use Rattle.gas_rows.specs.Words.{words_in}
-use Rattle.gas_rows.specs.Inside.{state}
+use Rattle.gas_bits.specs.Words.{words_in}
+use Rattle.gas_bits.specs.Planes.{state}
 use Rattle.gas_rows.proofs.Rows.{place, read, read-lt}
 use Rattle.gas_rows.proofs.row.Row.get.Goals as goal
 

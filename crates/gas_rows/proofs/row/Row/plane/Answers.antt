@@ -1,5 +1,5 @@
 use Rattle.std.proofs.Common.{◌≡◌, ◌+◌, ◌-◌, ◌*◌, ℕ, List, length, take, drop, ap, ap₂, ◌∙◌, arith}
-use Rattle.gas_rows.specs.Words.{words_in, bit}
+use Rattle.gas_bits.specs.Words.{words_in, bit}
 use Rattle.gas_rows.proofs.Rows.{plane-long, plane-bits}
 use Rattle.gas_rows.proofs.row.Row.plane.Goals as goal
 

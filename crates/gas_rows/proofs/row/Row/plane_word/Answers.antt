@@ -1,8 +1,8 @@
 use Rattle.std.proofs.Common.{◌<◌, ◌+◌, ◌*◌, get_or, ap, ◌∙◌, subst, arith}
 use Rattle.gas_geom.specs.Gas.{holds}
-use Rattle.gas_rows.specs.Words.{words_in}
-use Rattle.gas_rows.proofs.Cells.{place_in}
-use Rattle.gas_rows.proofs.Masks.{read_at}
+use Rattle.gas_bits.specs.Words.{words_in}
+use Rattle.gas_bits.proofs.Cells.{place_in}
+use Rattle.gas_bits.proofs.Words.{read_at}
 use Rattle.gas_rows.proofs.Rows.{wide, held_word}
 use Rattle.gas_rows.proofs.row.Row.plane_word.Goals as goal
 

@@ -1,10 +1,11 @@
 use Rattle.std.proofs.Common.{◌≡◌, ◌+◌, ◌*◌, ◌<◌, ◌≤◌, ◌&&◌, ℕ, Bool, ltb, false, true, get_or, set, ap, ◌∙◌, sym, subst, arith}
 use Rattle.std.proofs.lemmas.Bool.Decides.{nat_tests}
 use Rattle.gas_geom.specs.Gas.{holds}
-use Rattle.gas_rows.specs.Words.{words_in}
+use Rattle.gas_bits.specs.Words.{words_in}
 use Rattle.gas_rows.specs.Planes.{cells_of}
-use Rattle.gas_rows.specs.Inside.{ArePlanes}
-use Rattle.gas_rows.proofs.Cells.{place_in, length-cells}
+use Rattle.gas_rows.specs.Inner.Planes.{ArePlanes}
+use Rattle.gas_bits.proofs.Cells.{place_in}
+use Rattle.gas_rows.proofs.Cells.{length-cells}
 use Rattle.gas_rows.proofs.Rows.{wide, planes-word, word-written, word-others}
 use Rattle.gas_rows.proofs.row.Row.set_plane_word.Goals as goal
 

@@ -1,5 +1,5 @@
 use Rattle.std.proofs.Common.{◌<◌, ◌+◌, ◌*◌, get_or, ap, ◌∙◌, subst, arith}
-use Rattle.gas_rows.specs.Words.{words_in}
+use Rattle.gas_bits.specs.Words.{words_in}
 use Rattle.gas_rows.proofs.Rows.{wide, states-of_planes}
 use Rattle.gas_rows.proofs.row.Row.states64.Goals as goal
 

@@ -2,8 +2,8 @@ use Rattle.std.proofs.Common.{ℕ, Bool, ap, ◌∙◌, sym, w32}
 use Rattle.std.proofs.lemmas.List.{with_items_is}
 use Rattle.std.proofs.lemmas.Int.{to_z-of_z}
 use Rattle.gas_geom.specs.Moves.{column_after}
-use Rattle.gas_rows.specs.Words.{words_in, bit}
-use Rattle.gas_rows.specs.Shift.{streamed_bit}
+use Rattle.gas_bits.specs.Words.{words_in, bit}
+use Rattle.gas_bits.specs.Shift.{streamed_bit}
 use Rattle.gas_rows.proofs.Cells.{width_of}
 use Rattle.gas_rows.proofs.PlaneWrites.{written}
 use Rattle.gas_rows.proofs.row.Row.stream_plane.Goals as goal

@@ -5,7 +5,7 @@ use Rattle.std.proofs.lemmas.List.FromFn.{length-range_with_len}
 use Rattle.gas_tool_coarse.specs.Tally.{HasRoom, most_cells, plus_particles}
 use Rattle.gas_tool_coarse.specs.declared.blocks.Block.{Block}
 use Rattle.gas_tool_coarse.proofs.Counts.{counted, counted-none, counted-more, counted-all, counted-room}
-use Rattle.gas_rows.proofs.Ones.{count-le}
+use Rattle.gas_bits.proofs.Ones.{count-le}
 use Rattle.gas_tool_coarse.proofs.blocks.Block.plus_cells.Goals as goal
 
 pub overflow_sub-to-2 : goal.overflow_sub-to-2
