@@ -1,4 +1,5 @@
-//! Words of 64 cells: a bit for each cell of a row, and such words for each direction of a gas.
+//! Words of 64 cells, a bit for each cell: single words, a row's plane of them, and the planes of all
+//! directions of a gas. Nothing here knows rows or masks as values.
 #![tactic(auto)]
 
 pub mod load;

@@ -1,32 +1,33 @@
-//! The words of a row, taken over from the states of its cells or from other words.
+//! The planes of a row, written from the states of its cells or from other words.
 ghost use Rattle.std.specs.Prelude.{◌≡◌, ◌+◌, ◌*◌, ◌/◌, ◌<◌, ◌≤◌, ◌&&◌, ℕ, ◌%◌, nat_lt, length, slice_index};
 ghost use Rattle.gas_geom.specs.Gas.{holds};
 ghost use Rattle.gas_geom.specs.declared.size.TheConstants.{MOST_SIDE};
 ghost use Rattle.gas_bits.specs.Words.{words_in};
 ghost use Rattle.gas_bits.specs.Planes.{has};
 
-use crate::planes::scatter;
+use crate::planes::write_words_at;
 use crate::transpose::planes_of;
-use crate::word::{up_to, words_for};
+use crate::word::{keep_up_to, words_for};
 
-/// Takes over the sets of all cells.
+/// Writes the states of all cells, and clears the bits past the width.
 pub fn load_states(words: &mut [u64], count: usize, dirs: usize, states: &[u8])
     requires few_words { count ≤ words_in MOST_SIDE }
     requires few_dirs { dirs ≤ 8 }
     requires long { length words.old ≡ dirs * count }
     requires wide { words_in (length states.now) ≡ count }
-    ensures { (i y : ℕ) → i < dirs → y / 64 < count → has words.new count i y ≡ holds (slice_index states.now y) i }
+    ensures loaded { (i y : ℕ) → i < dirs → y / 64 < count → has words.new count i y
+        ≡ holds (slice_index states.now y) i }
 {
     for j in 0..count {
         let end = states.len().min(64 * j + 64);
-        let planes = planes_of(block(&states[64 * j..end]));
-        scatter(words, count, dirs, j, planes, 0);
+        let planes = planes_of(block_of(&states[64 * j..end]));
+        write_words_at(words, count, dirs, j, planes, 0);
     }
 }
 
-// The states of 64 cells, 0 past the given ones.
+// Returns the states of 64 cells, 0 past the given ones.
 #[inline(always)]
-fn block(states: &[u8]) -> [u8; 64]
+fn block_of(states: &[u8]) -> [u8; 64]
     requires { length states.now ≤ 64 }
     ensures { (b : ℕ) → slice_index result b ≡ slice_index states.now b }
 {
@@ -35,32 +36,34 @@ fn block(states: &[u8]) -> [u8; 64]
     block
 }
 
-/// Takes over the words of a row, and drops the bits past its width.
-pub fn load(words: &mut [u64], given: &[u64], dirs: usize, width: u32)
+/// Copies the words of a row, and clears the bits past its width.
+pub fn load_words(words: &mut [u64], given: &[u64], dirs: usize, width: u32)
     requires some_cells { 1 ≤ width }
     requires few_cells { width ≤ MOST_SIDE }
     requires few_dirs { dirs ≤ 8 }
     requires long { length words.old ≡ dirs * words_in width }
     requires given { length given.now ≡ dirs * words_in width }
-    ensures { (i y : ℕ) → i < dirs → y / 64 < words_in width →
-        has words.new (words_in width) i y ≡ (nat_lt y width && has given.now (words_in width) i y) }
+    ensures loaded { (i y : ℕ) → i < dirs → y / 64 < words_in width →
+        has words.new (words_in width) i y
+        ≡ (nat_lt y width && has given.now (words_in width) i y) }
 {
     words.copy_from_slice(given);
-    clear_past(words, dirs, width);
+    clear_planes_past(words, dirs, width);
 }
 
-/// Clears the bits past the width.
-pub fn clear_past(words: &mut [u64], dirs: usize, width: u32)
+/// Clears the bits past the width in each direction.
+pub fn clear_planes_past(words: &mut [u64], dirs: usize, width: u32)
     requires some_cells { 1 ≤ width }
     requires few_cells { width ≤ MOST_SIDE }
     requires few_dirs { dirs ≤ 8 }
     requires long { length words.old ≡ dirs * words_in width }
-    ensures { (i y : ℕ) → i < dirs → y / 64 < words_in width →
-        has words.new (words_in width) i y ≡ (nat_lt y width && has words.old (words_in width) i y) }
+    ensures cleared { (i y : ℕ) → i < dirs → y / 64 < words_in width →
+        has words.new (words_in width) i y
+        ≡ (nat_lt y width && has words.old (words_in width) i y) }
 {
     let count = words_for(width);
     for i in 0..dirs {
         let at = i * count + (count - 1);
-        words[at] = up_to(words[at], (width - 1) % 64);
+        words[at] = keep_up_to(words[at], (width - 1) % 64);
     }
 }

@@ -1,13 +1,12 @@
-//! The streaming of one direction of a row whose particles the wall sends back.
+//! The streaming of one direction into a row at a wall, where particles bounce back.
 ghost use Rattle.std.specs.Prelude.{◌≡◌, ◌%◌, ℕ, ◌*◌, ◌-◌, ◌<◌, ◌≤◌, length, false, if◌then◌else◌};
 ghost use Rattle.gas_geom.specs.declared.size.TheConstants.{MOST_SIDE};
 ghost use Rattle.gas_bits.specs.Words.{words_in, bit};
 
-use crate::word::{up_to, without};
+use crate::word::{clear_bits, keep_up_to};
 
-/// Streams one direction of a row whose particles would come from past the wall: it sends back
-/// those of the opposite direction, `back`, at the cells that are not solid. Bits past the width
-/// are dropped.
+/// Streams one direction into a row at a wall: the particles of the opposite direction, `back`, bounce
+/// back at the cells that are not solid. Bits past the width are cleared.
 pub(crate) fn reflect_words(back: &[u64], own: &[u64], out: &mut [u64], width: u32)
     requires some_cells { 1 ≤ width }
     requires few_cells { width ≤ MOST_SIDE }
@@ -19,8 +18,8 @@ pub(crate) fn reflect_words(back: &[u64], own: &[u64], out: &mut [u64], width: u
     ensures clear { (x : ℕ) → width ≤ x → x < 64 * words_in width → bit out.new x ≡ false }
 {
     for (j, word) in out.iter_mut().enumerate() {
-        *word = without(back[j], own[j]);
+        *word = clear_bits(back[j], own[j]);
     }
     let last = out.len() - 1;
-    out[last] = up_to(out[last], (width - 1) % 64);
+    out[last] = keep_up_to(out[last], (width - 1) % 64);
 }

@@ -1,4 +1,4 @@
-//! The streaming of one direction of a row, from the side that its particles come from.
+//! The choice of the side that the particles of a direction come from.
 ghost use Rattle.std.specs.Prelude.{◌≡◌, ℕ, ◌*◌, ◌<◌, ◌≤◌, length, false, if◌then◌else◌};
 ghost use Rattle.gas_geom.specs.Moves.{Move, amount, column_after};
 ghost use Rattle.gas_geom.specs.declared.size.TheConstants.{MOST_SIDE};
@@ -9,8 +9,8 @@ use crate::shift::move_words;
 use crate::source::{East, Here, West};
 use crate::stream::stream_words;
 
-// Streams one direction of a row along the row, where `along` leads to where its particles come
-// from.
+/// Streams one direction into a row, where `along`, -1, 0 or 1, is the step along the row to where the
+/// particles come from.
 pub(crate) fn stream_along(
     along: i32,
     from: &[u64],
@@ -28,7 +28,8 @@ pub(crate) fn stream_along(
     requires own { length own.now ≡ words_in width }
     requires out { length out.old ≡ words_in width }
     ensures streamed { (m : Move) → along ≡ amount m → (x : ℕ) → x < width → bit out.new x
-        ≡ streamed_bit (bit from.now (column_after width x m)) (bit met.now (column_after width x m)) (bit back.now x) (bit own.now x) }
+        ≡ streamed_bit (bit from.now (column_after width x m)) (bit met.now (column_after width x m))
+        (bit back.now x) (bit own.now x) }
     ensures clear { (x : ℕ) → width ≤ x → x < 64 * words_in width → bit out.new x ≡ false }
 {
     if along < 0 {
@@ -40,15 +41,16 @@ pub(crate) fn stream_along(
     }
 }
 
-// Streams one direction of a row along the row where no cell is solid, where `along` leads to where
-// its particles come from.
+/// Streams one direction into a row where no cell is solid, where `along`, -1, 0 or 1, is the step
+/// along the row to where the particles come from.
 #[inline(always)]
 pub(crate) fn move_along(along: i32, from: &[u64], out: &mut [u64], width: u32)
     requires some_cells { 1 ≤ width }
     requires few_cells { width ≤ MOST_SIDE }
     requires from { length from.now ≡ words_in width }
     requires out { length out.old ≡ words_in width }
-    ensures moved { (m : Move) → along ≡ amount m → (x : ℕ) → x < width → bit out.new x ≡ bit from.now (column_after width x m) }
+    ensures moved { (m : Move) → along ≡ amount m → (x : ℕ) → x < width → bit out.new x
+        ≡ bit from.now (column_after width x m) }
     ensures clear { (x : ℕ) → width ≤ x → x < 64 * words_in width → bit out.new x ≡ false }
 {
     if along < 0 {

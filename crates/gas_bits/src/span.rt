@@ -1,12 +1,12 @@
-//! How many bits of words are set from one cell up to another.
+//! The number of set bits in a range of cells.
 ghost use Rattle.std.specs.Prelude.{◌≡◌, ◌-◌, ◌*◌, ◌<◌, ◌≤◌, count_by, length};
 ghost use Rattle.std.specs.List.{range_with_len};
 ghost use Rattle.gas_geom.specs.Gas.{holds};
 ghost use Rattle.gas_bits.specs.Words.{bit};
 
-use crate::word::up_to;
+use crate::word::keep_up_to;
 
-// The number of bits from `from` up to `to`.
+// Returns the number of set bits from `from` to `to - 1`.
 #[inline(always)]
 fn ones_in(word: u64, from: u32, to: u32) -> u32
     requires order { from ≤ to }
@@ -15,14 +15,14 @@ fn ones_in(word: u64, from: u32, to: u32) -> u32
     requires within { to ≤ 64 }
     ensures { result ≡ count_by (holds word) (range_with_len from (to - from)) }
 {
-    (up_to(word, to - 1) >> from).count_ones()
+    (keep_up_to(word, to - 1) >> from).count_ones()
 }
 
-/// The number of cells from column `from` up to column `to` whose bit is set.
+/// Returns the number of cells in the columns from `from` to `to - 1` whose bit is set.
 pub fn count_in(words: &[u64], from: u32, to: u32) -> u32
     requires order { from ≤ to }
     requires within { to ≤ 64 * length words.now }
-    ensures { result ≡ count_by (bit words.now) (range_with_len from (to - from)) }
+    ensures count { result ≡ count_by (bit words.now) (range_with_len from (to - from)) }
 {
     let mut total = 0;
     for j in from / 64..to.div_ceil(64) {

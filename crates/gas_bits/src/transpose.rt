@@ -1,11 +1,12 @@
-//! The sets of 64 cells as a byte for each cell, and as a word for each direction.
+//! The states of 64 cells as bytes, one for each cell, and as words, one for each direction: an
+//! exchange of bits within words (a transposition of 8 by 8 bits) and of bytes between words.
 ghost use Rattle.std.specs.Prelude.{◌≡◌, ◌+◌, ◌*◌, ◌/◌, ◌%◌, ◌^◌, ◌<◌, ◌==◌, ◌&&◌, ◌⊎◌, ℕ, false, if◌then◌else◌, slice_index};
 ghost use Rattle.gas_geom.specs.Gas.{holds};
 ghost use Rattle.gas_bits.specs.Inner.Exchange.{is_above, partner, with_digit};
 
-// The word in which the bits of the mask changed places with those above them.
+// Returns the word in which the bits of the mask are swapped with those `shift` places above them.
 #[inline(always)]
-fn exchanged(word: u64, mask: u64, shift: u32) -> u64
+fn swap_bits(word: u64, mask: u64, shift: u32) -> u64
     requires { shift < 64 }
     ensures { (b : ℕ) → b < 64 → (holds mask b && is_above mask shift b) ≡ false →
         holds result b ≡ holds word (partner mask shift b) }
@@ -14,44 +15,45 @@ fn exchanged(word: u64, mask: u64, shift: u32) -> u64
     others | ((word & mask) << shift) | ((word >> shift) & mask)
 }
 
-// Eight rows of eight bits turned about their diagonal.
+// Returns the transpose of eight rows of eight bits.
 #[inline(always)]
-fn transposed(word: u64) -> u64
+fn transpose_bits(word: u64) -> u64
     ensures { (r c : ℕ) → r < 8 → c < 8 → holds result (8 * r + c) ≡ holds word (8 * c + r) }
 {
-    let pairs = exchanged(word, 0x00aa_00aa_00aa_00aa, 7);
-    let fours = exchanged(pairs, 0x0000_cccc_0000_cccc, 14);
-    exchanged(fours, 0xf0f0_f0f0, 28)
+    let pairs = swap_bits(word, 0x00aa_00aa_00aa_00aa, 7);
+    let fours = swap_bits(pairs, 0x0000_cccc_0000_cccc, 14);
+    swap_bits(fours, 0xf0f0_f0f0, 28)
 }
 
-// The bits of `a` that the mask has, and those of `b` that it has not.
+// Returns the bits of `a` where the mask is 1, and those of `b` where it is 0.
 #[inline(always)]
-fn merged(a: u64, b: u64, mask: u64) -> u64
+fn select_bits(a: u64, b: u64, mask: u64) -> u64
     ensures { (p : ℕ) → p < 64 → holds result p ≡ (if holds mask p then holds a p else holds b p) }
 {
     (a & mask) | (b & !mask)
 }
 
-// Word `k` of those that `exchanged_bytes` makes.
+// Returns word `k` of `swap_bytes`.
 #[inline(always)]
-fn word_exchanged(words: [u64; 8], k: usize, apart: usize, mask: u64) -> u64
+fn word_after_swap(words: [u64; 8], k: usize, apart: usize, mask: u64) -> u64
     requires within { k < 8 }
     requires apart { (apart ≡ 1) ⊎ ((apart ≡ 2) ⊎ (apart ≡ 4)) }
     requires mask { (p : ℕ) → p < 64 → holds mask p ≡ (p / 8 / apart % 2 == 0) }
     ensures { (i b : ℕ) → i < 8 → b < 8 →
-        holds result (8 * i + b) ≡ holds (slice_index words (with_digit apart k i)) (8 * with_digit apart i k + b) }
+        holds result (8 * i + b)
+        ≡ holds (slice_index words (with_digit apart k i)) (8 * with_digit apart i k + b) }
 {
     if k / apart % 2 == 0 {
-        merged(words[k], words[k + apart] << (8 * apart), mask)
+        select_bits(words[k], words[k + apart] << (8 * apart), mask)
     } else {
-        merged(words[k - apart] >> (8 * apart), words[k], mask)
+        select_bits(words[k - apart] >> (8 * apart), words[k], mask)
     }
 }
 
-// The words after each two that stand `apart` places from one another exchanged bytes: the first
-// gave its bytes outside the mask, and the second those in it.
+// Returns the words after each two whose numbers differ by `apart` swapped bytes: the first gives its
+// bytes outside the mask, and the second those in it.
 #[inline(always)]
-fn exchanged_bytes(words: [u64; 8], apart: usize, mask: u64) -> [u64; 8]
+fn swap_bytes(words: [u64; 8], apart: usize, mask: u64) -> [u64; 8]
     requires apart { (apart ≡ 1) ⊎ ((apart ≡ 2) ⊎ (apart ≡ 4)) }
     requires mask { (p : ℕ) → p < 64 → holds mask p ≡ (p / 8 / apart % 2 == 0) }
     ensures { (k i b : ℕ) → k < 8 → i < 8 → b < 8 → holds (slice_index result k) (8 * i + b)
@@ -59,41 +61,42 @@ fn exchanged_bytes(words: [u64; 8], apart: usize, mask: u64) -> [u64; 8]
 {
     let mut out = [0; 8];
     for k in 0..8 {
-        out[k] = word_exchanged(words, k, apart, mask);
+        out[k] = word_after_swap(words, k, apart, mask);
     }
     out
 }
 
-// Byte `k` of each word as word `k`.
+// Returns the words of which word `k` has byte `k` of each given one.
 #[inline(always)]
-fn turned(words: [u64; 8]) -> [u64; 8]
+fn transpose_bytes(words: [u64; 8]) -> [u64; 8]
     ensures { (k i b : ℕ) → k < 8 → i < 8 → b < 8 →
         holds (slice_index result k) (8 * i + b) ≡ holds (slice_index words i) (8 * k + b) }
 {
-    let fours = exchanged_bytes(words, 4, 0x0000_0000_ffff_ffff);
-    let pairs = exchanged_bytes(fours, 2, 0x0000_ffff_0000_ffff);
-    exchanged_bytes(pairs, 1, 0x00ff_00ff_00ff_00ff)
+    let fours = swap_bytes(words, 4, 0x0000_0000_ffff_ffff);
+    let pairs = swap_bytes(fours, 2, 0x0000_ffff_0000_ffff);
+    swap_bytes(pairs, 1, 0x00ff_00ff_00ff_00ff)
 }
 
-// Each word as eight rows of eight bits turned about their diagonal.
+// Returns the transpose of each word.
 #[inline(always)]
-fn each_transposed(words: [u64; 8]) -> [u64; 8]
+fn transpose_each(words: [u64; 8]) -> [u64; 8]
     ensures { (k r c : ℕ) → k < 8 → r < 8 → c < 8 →
         holds (slice_index result k) (8 * r + c) ≡ holds (slice_index words k) (8 * c + r) }
 {
     let mut out = [0; 8];
     for k in 0..8 {
-        out[k] = transposed(words[k]);
+        out[k] = transpose_bits(words[k]);
     }
     out
 }
 
-/// The sets of 64 cells, of a word for each direction.
+/// Returns the states of 64 cells, from a word for each direction.
 pub fn states_of(planes: [u64; 8]) -> [u8; 64]
     ensures bytes { (b : ℕ) → slice_index result b < 2 ^ 8 }
-    ensures held { (i b : ℕ) → i < 8 → b < 64 → holds (slice_index result b) i ≡ holds (slice_index planes i) b }
+    ensures held { (i b : ℕ) → i < 8 → b < 64 → holds (slice_index result b) i
+        ≡ holds (slice_index planes i) b }
 {
-    let words = each_transposed(turned(planes));
+    let words = transpose_each(transpose_bytes(planes));
     let mut states = [0; 64];
     for k in 0..8 {
         states[8 * k..8 * k + 8].copy_from_slice(&words[k].to_le_bytes());
@@ -101,11 +104,13 @@ pub fn states_of(planes: [u64; 8]) -> [u8; 64]
     states
 }
 
-// Word `k` of those whose bytes are these. A compiler reads all eight at once where each is named.
+// Returns the word of bytes `8 * k` to `8 * k + 7`. Each is written out, so that a compiler reads all
+// eight at once.
 #[inline(always)]
-fn word_of(bytes: &[u8; 64], k: usize) -> u64
+fn word_of_bytes(bytes: &[u8; 64], k: usize) -> u64
     requires { k < 8 }
-    ensures { (b : ℕ) → b < 64 → holds result b ≡ holds (slice_index bytes.now (8 * k + b / 8)) (b % 8) }
+    ensures { (b : ℕ) → b < 64 → holds result b
+        ≡ holds (slice_index bytes.now (8 * k + b / 8)) (b % 8) }
 {
     u64::from_le_bytes([
         bytes[8 * k],
@@ -119,21 +124,23 @@ fn word_of(bytes: &[u8; 64], k: usize) -> u64
     ])
 }
 
-// The words whose bytes are these.
+// Returns the words of these bytes.
 #[inline(always)]
-fn words_of(bytes: [u8; 64]) -> [u64; 8]
-    ensures { (k b : ℕ) → k < 8 → b < 64 → holds (slice_index result k) b ≡ holds (slice_index bytes (8 * k + b / 8)) (b % 8) }
+fn words_of_bytes(bytes: [u8; 64]) -> [u64; 8]
+    ensures { (k b : ℕ) → k < 8 → b < 64 → holds (slice_index result k) b
+        ≡ holds (slice_index bytes (8 * k + b / 8)) (b % 8) }
 {
     let mut words = [0; 8];
     for k in 0..8 {
-        words[k] = word_of(&bytes, k);
+        words[k] = word_of_bytes(&bytes, k);
     }
     words
 }
 
-/// A word for each direction, of the sets of 64 cells.
+/// Returns a word for each direction, from the states of 64 cells.
 pub(crate) fn planes_of(states: [u8; 64]) -> [u64; 8]
-    ensures { (i b : ℕ) → i < 8 → b < 64 → holds (slice_index result i) b ≡ holds (slice_index states b) i }
+    ensures { (i b : ℕ) → i < 8 → b < 64 → holds (slice_index result i) b
+        ≡ holds (slice_index states b) i }
 {
-    turned(each_transposed(words_of(states)))
+    transpose_bytes(transpose_each(words_of_bytes(states)))
 }

@@ -6,11 +6,11 @@ ghost use Rattle.gas_bits.specs.Words.{words_in, bit};
 ghost use Rattle.gas_bits.specs.Planes.{state};
 
 use crate::directions::directions;
-use gas_bits::planes::{gather, scatter, scatter_pair};
+use gas_bits::planes::{words_at, write_two_at, write_words_at};
 use gas_geom::gas::Gas;
 
-/// Collides each cell by itself with its random bit, and empties the solid cells, of which there are
-/// none if `free` says so.
+/// Collides each cell by the gas's table with its random bit, and empties the solid cells. If `free`,
+/// no cell is solid.
 #[inline(never)]
 pub(crate) fn collide<G: Gas>(
     words: &mut [u64],
@@ -26,9 +26,10 @@ pub(crate) fn collide<G: Gas>(
     requires chi { length chi.now ≡ count }
     ensures { (y : ℕ) → y / 64 < count →
         state words.new count G.rules.dirs y
-        ≡ (if bit solid.now y then 0 else G.rules.collide (state words.old count G.rules.dirs y) (bit chi.now y)) }
+        ≡ (if bit solid.now y then 0
+        else G.rules.collide (state words.old count G.rules.dirs y) (bit chi.now y)) }
 {
-    // Told apart here, so that a compiler leaves the solid cells out where there are none.
+    // Two calls, so that a compiler leaves the solid cells out where there are none.
     if free {
         collide_words::<G>(words, count, true, solid, chi);
     } else {
@@ -45,7 +46,8 @@ fn collide_words<G: Gas>(words: &mut [u64], count: usize, free: bool, solid: &[u
     requires chi { length chi.now ≡ count }
     ensures { (y : ℕ) → y / 64 < count →
         state words.new count G.rules.dirs y
-        ≡ (if bit solid.now y then 0 else G.rules.collide (state words.old count G.rules.dirs y) (bit chi.now y)) }
+        ≡ (if bit solid.now y then 0
+        else G.rules.collide (state words.old count G.rules.dirs y) (bit chi.now y)) }
 {
     for k in 0..count / 2 {
         collide_pair::<G>(words, count, 2 * k, free, solid, chi);
@@ -55,7 +57,7 @@ fn collide_words<G: Gas>(words: &mut [u64], count: usize, free: bool, solid: &[u
     }
 }
 
-// The solid cells of word j.
+// Returns the solid cells of word j.
 #[inline(always)]
 fn solid_word(free: bool, solid: &[u64], j: usize) -> u64
     requires free { IsTrue free → (y : ℕ) → bit solid.now y ≡ false }
@@ -65,8 +67,8 @@ fn solid_word(free: bool, solid: &[u64], j: usize) -> u64
     if free { 0 } else { solid[j] }
 }
 
-// Collides the cells of words j and j + 1. It reads both before it writes, so that a compiler can
-// take the two at a time.
+// Collides the cells of words j and j + 1. Both are read before either is written, so that a compiler
+// can vectorise.
 #[inline(always)]
 fn collide_pair<G: Gas>(
     words: &mut [u64],
@@ -84,18 +86,19 @@ fn collide_pair<G: Gas>(
     requires within { j + 1 < count }
     ensures collided { (y : ℕ) → j ≤ y / 64 → y / 64 < j + 2 →
         state words.new count G.rules.dirs y
-        ≡ (if bit solid.now y then 0 else G.rules.collide (state words.old count G.rules.dirs y) (bit chi.now y)) }
+        ≡ (if bit solid.now y then 0
+        else G.rules.collide (state words.old count G.rules.dirs y) (bit chi.now y)) }
     ensures others { (y : ℕ) → y / 64 < count → (y / 64 < j) ⊎ (j + 2 ≤ y / 64) →
         state words.new count G.rules.dirs y ≡ state words.old count G.rules.dirs y }
 {
     let dirs = directions::<G>();
-    let planes = gather(words, count, dirs, j);
-    let planes_beside = gather(words, count, dirs, j + 1);
+    let planes = words_at(words, count, dirs, j);
+    let planes_beside = words_at(words, count, dirs, j + 1);
     let first = G::collide64(planes, chi[j]);
     let second = G::collide64(planes_beside, chi[j + 1]);
     let own = solid_word(free, solid, j);
     let own_beside = solid_word(free, solid, j + 1);
-    scatter_pair(words, count, dirs, j, first, second, own, own_beside);
+    write_two_at(words, count, dirs, j, first, second, own, own_beside);
 }
 
 // Collides the cells of word j.
@@ -116,12 +119,13 @@ fn collide_word<G: Gas>(
     requires within { j < count }
     ensures collided { (y : ℕ) → y / 64 ≡ j →
         state words.new count G.rules.dirs y
-        ≡ (if bit solid.now y then 0 else G.rules.collide (state words.old count G.rules.dirs y) (bit chi.now y)) }
+        ≡ (if bit solid.now y then 0
+        else G.rules.collide (state words.old count G.rules.dirs y) (bit chi.now y)) }
     ensures others { (y : ℕ) → y / 64 < count → y / 64 ≢ j →
         state words.new count G.rules.dirs y ≡ state words.old count G.rules.dirs y }
 {
     let dirs = directions::<G>();
-    let planes = gather(words, count, dirs, j);
+    let planes = words_at(words, count, dirs, j);
     let after = G::collide64(planes, chi[j]);
-    scatter(words, count, dirs, j, after, solid_word(free, solid, j));
+    write_words_at(words, count, dirs, j, after, solid_word(free, solid, j));
 }

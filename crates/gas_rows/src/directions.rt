@@ -3,7 +3,7 @@ ghost use Rattle.std.specs.Prelude.{◌≡◌, ◌≤◌};
 
 use gas_geom::gas::Gas;
 
-/// The number of directions.
+/// Returns the number of directions, 1 to 8.
 #[inline(always)]
 pub(crate) fn directions<G: Gas>() -> usize
     ensures value { result ≡ G.rules.dirs }

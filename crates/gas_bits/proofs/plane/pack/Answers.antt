@@ -9,18 +9,20 @@ loop-j-preserved c =
     let cells = c.args.cells.now in
     let from = 64 * c.loop-j.j in
     let end = c.min-end.result in
-    pack-more c.loop-j.words cells (take (end - from) (drop from cells)) c.loop-j.j c.packed.result (omega arith)
+    pack-more c.loop-j.words cells (take (end - from) (drop from cells)) c.loop-j.j c.pack_word.result (omega arith)
     (λ b h.
     part-of cells from end b (omega arith) (omega arith)
     (⊎_elim
     (λ (lt : length cells < from + 64). inl (omega arith))
     (λ (le : from + 64 ≤ length cells). inr (omega arith))
     (cases_lt (length cells) (from + 64))))
-    c.packed.ensures c.loop-j.invariant
+    c.pack_word.ensures c.loop-j.invariant
 
 pub returns : goal.returns
-returns c x =
-    ⊎_elim
-    (λ h. c.loop-j.invariant x h)
-    (λ h. bit-past c.loop-j.words x (omega arith) ∙ sym (get_or_past c.args.cells.now x _ (omega arith)))
-    (cases_lt (x / 64) c.loop-j.j)
+returns c = record {
+  bits = λ x.
+      ⊎_elim
+      (λ h. c.loop-j.invariant x h)
+      (λ h. bit-past c.loop-j.words x (omega arith) ∙ sym (get_or_past c.args.cells.now x _ (omega arith)))
+      (cases_lt (x / 64) c.loop-j.j);
+}

@@ -19,7 +19,7 @@ loop-i-preserved c =
     let words = c.args.words.now in
     let i = c.loop-i.i in
     let bit : c.has_bit.result ≡ has words c.args.count i c.args.x =
-    c.has_bit.ensures in
+    c.has_bit.ensures.value in
     let more : state words c.args.count (i + 1) c.args.x ≡ state words c.args.count i c.args.x + (if c.has_bit.result then 2 ^ i else 0) =
     state-more words c.args.count i c.args.x
     ∙ ap (λ (b : Bool). state words c.args.count i c.args.x + (if b then 2 ^ i else 0)) (sym bit) in

@@ -12,17 +12,17 @@ returns-clause-moved g c below =
     let from = c.args.from.now in
     let out = c.args.out.now in
     let m = g.S.Source.source in
-    let first = set out j c.moved.result in
-    let second = set first (j + 1) c.moved-2.result in
-    let third = set second (j + 2) c.moved-3.result in
-    let first_long = length-set out j c.moved.result in
-    let second_long = length-set first (j + 1) c.moved-2.result in
-    let third_long = length-set second (j + 2) c.moved-3.result in
-    one_moved m from third width (j + 3) (j + 4) c.moved-4.result _
-    (omega arith) (omega (arith, first_long, second_long, third_long)) (omega arith) (before_after from width (j + 2) (j + 3) (omega arith) (omega arith)) c.moved-4.ensures
-    (one_moved m from second width (j + 2) (j + 3) c.moved-3.result _
-    (omega arith) (omega (arith, first_long, second_long)) (omega arith) (before_after from width (j + 1) (j + 2) (omega arith) (omega arith)) c.moved-3.ensures
-    (one_moved m from first width (j + 1) (j + 2) c.moved-2.result _
-    (omega arith) (omega (arith, first_long)) (omega arith) (before_after from width j (j + 1) (omega arith) (omega arith)) c.moved-2.ensures
-    (one_moved m from out width j (j + 1) c.moved.result c.args.before
-    (omega arith) (omega arith) (omega arith) c.requires.before c.moved.ensures below)))
+    let first = set out j c.shift_word.result in
+    let second = set first (j + 1) c.shift_word-2.result in
+    let third = set second (j + 2) c.shift_word-3.result in
+    let first_long = length-set out j c.shift_word.result in
+    let second_long = length-set first (j + 1) c.shift_word-2.result in
+    let third_long = length-set second (j + 2) c.shift_word-3.result in
+    one_moved m from third width (j + 3) (j + 4) c.shift_word-4.result _
+    (omega arith) (omega (arith, first_long, second_long, third_long)) (omega arith) (before_after from width (j + 2) (j + 3) (omega arith) (omega arith)) c.shift_word-4.ensures
+    (one_moved m from second width (j + 2) (j + 3) c.shift_word-3.result _
+    (omega arith) (omega (arith, first_long, second_long)) (omega arith) (before_after from width (j + 1) (j + 2) (omega arith) (omega arith)) c.shift_word-3.ensures
+    (one_moved m from first width (j + 1) (j + 2) c.shift_word-2.result _
+    (omega arith) (omega (arith, first_long)) (omega arith) (before_after from width j (j + 1) (omega arith) (omega arith)) c.shift_word-2.ensures
+    (one_moved m from out width j (j + 1) c.shift_word.result c.args.before
+    (omega arith) (omega arith) (omega arith) c.requires.before c.shift_word.ensures below)))

@@ -7,5 +7,5 @@ returns-clause-before g c = before_after c.args.from.now c.args.width _ _ refl c
 
 pub returns-clause-moved : goal.returns-clause-moved
 returns-clause-moved g c =
-    one_moved g.S.Source.source c.args.from.now c.args.out.now c.args.width _ _ c.moved.result c.args.before refl (omega arith)
-    c.requires.inner c.requires.before c.moved.ensures
+    one_moved g.S.Source.source c.args.from.now c.args.out.now c.args.width _ _ c.shift_word.result c.args.before refl (omega arith)
+    c.requires.inner c.requires.before c.shift_word.ensures

@@ -12,8 +12,8 @@ returns-clause-moved g c below =
     let from = c.args.from.now in
     let out = c.args.out.now in
     let m = g.S.Source.source in
-    let first = set out j c.moved.result in
-    one_moved m from first width (j + 1) (j + 2) c.moved-2.result _
-    (omega arith) (omega (arith, length-set out j c.moved.result)) (omega arith) (before_after from width j (j + 1) (omega arith) (omega arith)) c.moved-2.ensures
-    (one_moved m from out width j (j + 1) c.moved.result c.args.before
-    (omega arith) (omega arith) (omega arith) c.requires.before c.moved.ensures below)
+    let first = set out j c.shift_word.result in
+    one_moved m from first width (j + 1) (j + 2) c.shift_word-2.result _
+    (omega arith) (omega (arith, length-set out j c.shift_word.result)) (omega arith) (before_after from width j (j + 1) (omega arith) (omega arith)) c.shift_word-2.ensures
+    (one_moved m from out width j (j + 1) c.shift_word.result c.args.before
+    (omega arith) (omega arith) (omega arith) c.requires.before c.shift_word.ensures below)

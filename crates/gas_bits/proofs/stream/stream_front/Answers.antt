@@ -13,12 +13,12 @@ loop-j-init g c =
     let inner : 64 * (0 + 1) < width = omega arith in
     one_more_word
     (λ x. streamed_bit (bit c.args.from.now (column_after width x source)) (bit c.args.met.now (column_after width x source)) (bit c.args.back.now x) (bit c.args.own.now x))
-    c.args.out.now width 0 c.streamed.result (omega arith)
-    (λ b h lt. c.streamed.ensures b h ∙ streamed_bit-at
-    (c.moved-first_came.ensures b h ∙ moved_bit-is (bit c.args.from.now) width 0 _ _ _ source (inner_word c.args.from.now width c.requires.some_cells 0 c.to_top-before.result inner
-    (before_first c.args.from.now width c.requires.some_cells (length c.args.out.now - 1) c.to_top-before.result (omega arith) c.to_top-before.ensures)) b h lt)
-    (c.moved-first_turned.ensures b h ∙ moved_bit-is (bit c.args.met.now) width 0 _ _ _ source (inner_word c.args.met.now width c.requires.some_cells 0 c.to_top-before_met.result inner
-    (before_first c.args.met.now width c.requires.some_cells (length c.args.out.now - 1) c.to_top-before_met.result (omega arith) c.to_top-before_met.ensures)) b h lt)
+    c.args.out.now width 0 c.stream_word.result (omega arith)
+    (λ b h lt. c.stream_word.ensures b h ∙ streamed_bit-at
+    (c.shift_word-first_came.ensures b h ∙ moved_bit-is (bit c.args.from.now) width 0 _ _ _ source (inner_word c.args.from.now width c.requires.some_cells 0 c.lift_to_top-before.result inner
+    (before_first c.args.from.now width c.requires.some_cells (length c.args.out.now - 1) c.lift_to_top-before.result (omega arith) c.lift_to_top-before.ensures)) b h lt)
+    (c.shift_word-first_turned.ensures b h ∙ moved_bit-is (bit c.args.met.now) width 0 _ _ _ source (inner_word c.args.met.now width c.requires.some_cells 0 c.lift_to_top-before_met.result inner
+    (before_first c.args.met.now width c.requires.some_cells (length c.args.out.now - 1) c.lift_to_top-before_met.result (omega arith) c.lift_to_top-before_met.ensures)) b h lt)
     (bit-at c.args.back.now 0 b h)
     (bit-at c.args.own.now 0 b h))
     (λ x below inside. absurd (omega arith))
@@ -31,11 +31,11 @@ loop-j-preserved g c =
     let inner : 64 * (j + 1) < width = omega arith in
     one_more_word
     (λ x. streamed_bit (bit c.args.from.now (column_after width x source)) (bit c.args.met.now (column_after width x source)) (bit c.args.back.now x) (bit c.args.own.now x))
-    c.loop-j.out width j c.streamed-in-loop-j.result (omega (arith, c.loop-j.auto.out, length-set c.args.out.now 0 c.streamed.result))
-    (λ b h lt. c.streamed-in-loop-j.ensures b h ∙ streamed_bit-at
-    (c.moved-came.ensures b h ∙ moved_bit-is (bit c.args.from.now) width j _ _ _ source (inner_word c.args.from.now width c.requires.some_cells j _ inner
+    c.loop-j.out width j c.stream_word-in-loop-j.result (omega (arith, c.loop-j.auto.out, length-set c.args.out.now 0 c.stream_word.result))
+    (λ b h lt. c.stream_word-in-loop-j.ensures b h ∙ streamed_bit-at
+    (c.shift_word-came.ensures b h ∙ moved_bit-is (bit c.args.from.now) width j _ _ _ source (inner_word c.args.from.now width c.requires.some_cells j _ inner
     (before_here c.args.from.now width c.requires.some_cells j (omega arith) (omega arith))) b h lt)
-    (c.moved-turned.ensures b h ∙ moved_bit-is (bit c.args.met.now) width j _ _ _ source (inner_word c.args.met.now width c.requires.some_cells j _ inner
+    (c.shift_word-turned.ensures b h ∙ moved_bit-is (bit c.args.met.now) width j _ _ _ source (inner_word c.args.met.now width c.requires.some_cells j _ inner
     (before_here c.args.met.now width c.requires.some_cells j (omega arith) (omega arith))) b h lt)
     (bit-at c.args.back.now j b h)
     (bit-at c.args.own.now j b h))

@@ -28,7 +28,7 @@ loop-k-preserved c = record {
         let m : b - 8 * k ≡ b % 8 = omega arith in
         ap (λ s. holds s i) (inside b le (omega arith))
         ∙ holds-byte word (b - 8 * k) i (omega arith) hi
-        ∙ ap₂ (λ x y. holds (get_or c.each_transposed-words.result x 0) (8 * y + i)) q m
+        ∙ ap₂ (λ x y. holds (get_or c.transpose_each-words.result x 0) (8 * y + i)) q m
   ];
 }
   where
@@ -36,7 +36,7 @@ loop-k-preserved c = record {
     k = c.loop-k.k
 
     word : ℕ
-    word = get_or c.each_transposed-words.result k 0
+    word = get_or c.transpose_each-words.result k 0
 
     new : List ℕ
     new = put_mid (8 * k) (8 * k + 8 - 8 * k) c.loop-k.states c.copy_from_slice.new.self

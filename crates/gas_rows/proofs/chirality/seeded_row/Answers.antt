@@ -17,7 +17,7 @@ unfolding key_word
 returns-clause-bits c seed key =
     let width = length c.args.out.now in
     let first_is : c.from.result * c.from-2.result ≡ c.args.y * div_ceil width 32 =
-    ap₂ (λ a b. a * b) c.from.ensures (c.from-2.ensures ∙ c.div_ceil-words_of_row.ensures ∙ ap (λ w. div_ceil w 32) c.width.ensures.value) in
+    ap₂ (λ a b. a * b) c.from.ensures (c.from-2.ensures ∙ c.div_ceil-key_words.ensures ∙ ap (λ w. div_ceil w 32) c.width.ensures.value) in
     c.draw.ensures.cells
     ∙ map-same _ (λ x. chirality_bit (Seeded seed) width c.args.generation x c.args.y) width
     (λ x h.

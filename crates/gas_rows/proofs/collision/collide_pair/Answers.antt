@@ -10,20 +10,20 @@ returns-clause-collided g c y low high =
     let gas = g.G.Gas.rules in
     let j = c.args.j in
     elim (cases_eq (y / 64) j) [
-      | inl e ↦ word-collided gas.collide c.args.words.now c.scatter_pair.new.words c.args.count j gas.dirs
-          c.directions-dirs.result c.gather-planes.result c.collide64-first.result c.args.chi.now c.args.solid.now
-          c.directions-dirs.ensures.value c.gather-planes.ensures.planes c.collide64-first.ensures.cells
-          (λ i x hi here. c.scatter_pair.ensures i x hi (omega arith) ∙ first_of (x / 64) j _ _ _ here
+      | inl e ↦ word-collided gas.collide c.args.words.now c.write_two_at.new.words c.args.count j gas.dirs
+          c.directions-dirs.result c.words_at-planes.result c.collide64-first.result c.args.chi.now c.args.solid.now
+          c.directions-dirs.ensures.value c.words_at-planes.ensures.planes c.collide64-first.ensures.cells
+          (λ i x hi here. c.write_two_at.ensures.written i x hi (omega arith) ∙ first_of (x / 64) j _ _ _ here
           ∙ ap (λ s. holds (get_or c.collide64-first.result i 0) (x % 64) && not s) (c.solid_word-own.ensures (x % 64) (omega arith))) y e
-      | inr ne ↦ word-collided gas.collide c.args.words.now c.scatter_pair.new.words c.args.count (j + 1) gas.dirs
-          c.directions-dirs.result c.gather-planes_beside.result c.collide64-second.result c.args.chi.now c.args.solid.now
-          c.directions-dirs.ensures.value c.gather-planes_beside.ensures.planes c.collide64-second.ensures.cells
-          (λ i x hi here. c.scatter_pair.ensures i x hi (omega arith) ∙ second_of (x / 64) j _ _ _ here
+      | inr ne ↦ word-collided gas.collide c.args.words.now c.write_two_at.new.words c.args.count (j + 1) gas.dirs
+          c.directions-dirs.result c.words_at-planes_beside.result c.collide64-second.result c.args.chi.now c.args.solid.now
+          c.directions-dirs.ensures.value c.words_at-planes_beside.ensures.planes c.collide64-second.ensures.cells
+          (λ i x hi here. c.write_two_at.ensures.written i x hi (omega arith) ∙ second_of (x / 64) j _ _ _ here
           ∙ ap (λ s. holds (get_or c.collide64-second.result i 0) (x % 64) && not s) (c.solid_word-own_beside.ensures (x % 64) (omega arith))) y (omega arith)
     ]
 
 pub returns-clause-others : goal.returns-clause-others
 returns-clause-others g c y hy apart =
-    state-same c.scatter_pair.new.words c.args.words.now c.args.count g.G.Gas.rules.dirs y (λ i hi.
-    c.scatter_pair.ensures i y (omega (arith, c.directions-dirs.ensures.value)) hy
+    state-same c.write_two_at.new.words c.args.words.now c.args.count g.G.Gas.rules.dirs y (λ i hi.
+    c.write_two_at.ensures.written i y (omega (arith, c.directions-dirs.ensures.value)) hy
     ∙ neither_of (y / 64) c.args.j _ _ _ (λ e. omega (arith, apart)) (λ e. omega (arith, apart)))

@@ -4,4 +4,4 @@ use Rattle.gas_rows.proofs.key_bits.draw.Goals as goal
 
 pub returns-clause-bits : goal.returns-clause-bits
 returns-clause-bits c x =
-    c.clear_past.ensures x ∙ cut-where x c.args.width _ _ (λ h. c.join_halves.ensures.bits x h)
+    c.clear_past.ensures.bits x ∙ cut-where x c.args.width _ _ (λ h. c.draw_words.ensures.bits x h)
