@@ -1,7 +1,8 @@
-//! Words of 64 cells, a bit for each cell: single words, a row's plane of them, and the planes of all
-//! directions of a gas. Nothing here knows rows or masks as values.
+//! Words of 64 cells, a bit for each cell: single words, a plane of them for a row, and the planes
+//! of all directions of a gas. Nothing here knows rows or masks as values.
 #![tactic(auto)]
 
+pub mod incoming;
 pub mod load;
 pub mod part;
 pub mod plane;

@@ -5,8 +5,8 @@ ghost use Rattle.gas_bits.specs.Words.{words_in, bit};
 
 use crate::word::{clear_bits, keep_up_to};
 
-/// Streams one direction into a row at a wall: the particles of the opposite direction, `back`, bounce
-/// back at the cells that are not solid. Bits past the width are cleared.
+/// Streams one direction into a row at a wall: the particles of the opposite direction, `back`,
+/// bounce back at the cells that are not solid. Bits past the width are cleared.
 pub(crate) fn reflect_words(back: &[u64], own: &[u64], out: &mut [u64], width: u32)
     requires some_cells { 1 ≤ width }
     requires few_cells { width ≤ MOST_SIDE }

@@ -69,8 +69,8 @@ fn move_four<S: Source>(from: &[u64], j: usize, before: u64, out: &mut [u64], wi
     fourth
 }
 
-// Streams into the words from `j` on before the last one, at most three. Returns the word before the
-// last one.
+// Streams into the words from `j` on before the last one, at most three. Returns the word before
+// the last one.
 #[inline(always)]
 fn move_rest<S: Source>(from: &[u64], j: usize, before: u64, out: &mut [u64], width: u32) -> u64
     requires some_cells { 1 ≤ width }

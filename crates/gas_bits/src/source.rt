@@ -11,8 +11,8 @@ use crate::word::keep_up_to;
 pub(crate) trait Source {
     ghost source: { Move };
 
-    /// Returns the word that streams into a word of a row, from that word and those before and after
-    /// it.
+    /// Returns the word that streams into a word of a row, from that word and those before and
+    /// after it.
     fn shift_word(before: u64, word: u64, after: u64) -> u64
         ensures { (b : ℕ) → b < 64 → holds result b ≡ moved_bit source before word after b };
 

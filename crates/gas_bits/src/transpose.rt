@@ -50,8 +50,8 @@ fn word_after_swap(words: [u64; 8], k: usize, apart: usize, mask: u64) -> u64
     }
 }
 
-// Returns the words after each two whose numbers differ by `apart` swapped bytes: the first gives its
-// bytes outside the mask, and the second those in it.
+// Returns the words after each two whose numbers differ by `apart` swapped bytes: the first gives
+// its bytes outside the mask, and the second those in it.
 #[inline(always)]
 fn swap_bytes(words: [u64; 8], apart: usize, mask: u64) -> [u64; 8]
     requires apart { (apart ≡ 1) ⊎ ((apart ≡ 2) ⊎ (apart ≡ 4)) }
@@ -104,8 +104,8 @@ pub fn states_of(planes: [u64; 8]) -> [u8; 64]
     states
 }
 
-// Returns the word of bytes `8 * k` to `8 * k + 7`. Each is written out, so that a compiler reads all
-// eight at once.
+// Returns the word of bytes `8 * k` to `8 * k + 7`. Each is written out, so that a compiler reads
+// all eight at once.
 #[inline(always)]
 fn word_of_bytes(bytes: &[u8; 64], k: usize) -> u64
     requires { k < 8 }

@@ -21,9 +21,17 @@ impl Model for Channel {
 
     ghost Value = { ChannelModel };
 
-    ghost view = { λ c. record { width = c.size.width; height = c.size.height; solid = c.masks.items } };
+    ghost view = { λ c. record {
+      width = c.size.width;
+      height = c.size.height;
+      solid = c.masks.items;
+    } };
 
-    ghost invariant = { λ c. IsChannel (record { width = c.size.width; height = c.size.height; solid = c.masks.items }) };
+    ghost invariant = { λ c. IsChannel (record {
+      width = c.size.width;
+      height = c.size.height;
+      solid = c.masks.items;
+    }) };
 }
 
 impl Channel {

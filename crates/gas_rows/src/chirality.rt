@@ -29,15 +29,15 @@ pub fn chi_row(chirality: Chirality, generation: u64, y: u32, width: u32, out: &
         ≡ map (λ x. chirality_bit chirality width generation x y) (range_with_len 0 width) }
 {
     match chirality {
-        Chirality::Seeded(seed) => seeded_row(&mut generator_of(seed), generation, y, out),
+        Chirality::Seeded(seed) => write_seeded_row(&mut generator_of(seed), generation, y, out),
         Chirality::Left => out.fill(true),
         Chirality::Right => out.fill(false),
     }
 }
 
-/// Writes the seeded random bits of row `y`. Each row begins at a key word of its own, so a generator
-/// that wrote the row above goes on where it ended.
-pub(crate) fn seeded_row(generator: &mut ChaCha20Rng, generation: u64, y: u32, out: &mut Mask)
+/// Writes the seeded random bits of row `y`. Each row begins at a key word of its own, so a
+/// generator that wrote the row above goes on where it ended.
+pub(crate) fn write_seeded_row(generator: &mut ChaCha20Rng, generation: u64, y: u32, out: &mut Mask)
     ensures wide { length out.new ≡ length out.old }
     ensures key { generator.new.key ≡ generator.old.key }
     ensures bits { (seed : ℕ) → generator.old.key ≡ key_of (key_bytes seed) →

@@ -9,8 +9,8 @@ use crate::directions::directions;
 use gas_bits::planes::{words_at, write_two_at, write_words_at};
 use gas_geom::gas::Gas;
 
-/// Collides each cell by the gas's table with its random bit, and empties the solid cells. If `free`,
-/// no cell is solid.
+/// Collides each cell by the gas's table with its random bit, and empties the solid cells. If
+/// `free`, no cell is solid.
 #[inline(never)]
 pub(crate) fn collide<G: Gas>(
     words: &mut [u64],
@@ -67,8 +67,8 @@ fn solid_word(free: bool, solid: &[u64], j: usize) -> u64
     if free { 0 } else { solid[j] }
 }
 
-// Collides the cells of words j and j + 1. Both are read before either is written, so that a compiler
-// can vectorise.
+// Collides the cells of words j and j + 1. Both are read before either is written, so that a
+// compiler can vectorise.
 #[inline(always)]
 fn collide_pair<G: Gas>(
     words: &mut [u64],

@@ -124,7 +124,10 @@ impl<G: Gas> Lattice<G> {
         requires column { x < self.old.channel.width }
         requires row { y < self.old.channel.height }
         ensures written { self.new
-            ≡ record { channel = with_solid self.old.channel x y; rows = with_cell self.old.rows x y 0 } }
+            ≡ record {
+              channel = with_solid self.old.channel x y;
+              rows = with_cell self.old.rows x y 0;
+            } }
     {
         self.channel.make_solid(x, y);
         let row = &mut self.rows[y as usize];
@@ -140,7 +143,8 @@ impl<G: Gas> Lattice<G> {
         requires empty { (x : ℕ) → slice_index_or solid.now x false ≡ true →
             slice_index states.now x ≡ 0 }
         ensures written { self.new ≡ record {
-          channel = record self.old.channel { solid = slice_set self.old.channel.solid y solid.now };
+          channel =
+              record self.old.channel { solid = slice_set self.old.channel.solid y solid.now };
           rows = slice_set self.old.rows y states.now;
         } }
     {

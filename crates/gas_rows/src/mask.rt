@@ -134,7 +134,8 @@ impl Mask {
     pub(crate) fn draw(&mut self, generator: &mut ChaCha20Rng)
         requires { generator.old.word_pos + 2 * words_in (length self.old) < 2 ^ 68 }
         ensures key { generator.new.key ≡ generator.old.key }
-        ensures cells { self.new ≡ map (drawn_bit generator.old) (range_with_len 0 (length self.old)) }
+        ensures cells { self.new
+            ≡ map (drawn_bit generator.old) (range_with_len 0 (length self.old)) }
     {
         key_bits::draw(&mut self.words, self.width, generator);
         self.blank = false;

@@ -3,7 +3,7 @@ ghost use Rattle.std.specs.Prelude.{◌≡◌, ◌≤◌, ℕ, length, map, repl
 ghost use Rattle.std.specs.List.{range_with_len};
 ghost use Rattle.gas_rows.specs.Chirality.{chirality_bit};
 
-use crate::chirality::{Chirality, seeded_row};
+use crate::chirality::{Chirality, write_seeded_row};
 use crate::key::generator_of;
 use crate::mask::Mask;
 use rand_chacha::ChaCha20Rng;
@@ -83,7 +83,7 @@ impl RandomBits {
             self.generator = generator_of(seed);
         }
         self.uniform = None;
-        seeded_row(&mut self.generator, generation, y, &mut self.bits);
+        write_seeded_row(&mut self.generator, generation, y, &mut self.bits);
     }
 
     fn fill(&mut self, value: bool)

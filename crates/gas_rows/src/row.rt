@@ -11,6 +11,7 @@ ghost use Rattle.gas_rows.specs.Planes.{AreWordsOf, cells_of};
 use crate::collision::collide;
 use crate::directions::directions;
 use crate::mask::Mask;
+use gas_bits::incoming::Incoming;
 use gas_bits::load::{clear_planes_past, load_states, load_words};
 use gas_bits::part::{move_part, reflect_part, stream_part};
 use gas_bits::planes::{empty_solid, read_cell, words_at, write_cell};
@@ -154,8 +155,8 @@ impl<G: Gas> Row<G> {
         load_words(&mut self.words, words, directions::<G>(), self.width);
     }
 
-    /// Sets all cells from words in the order of `as_words`, and leaves the row's old words in their
-    /// place, so that no word is copied. Bits past the width are dropped.
+    /// Sets all cells from words in the order of `as_words`, and leaves the row's old words in
+    /// their place, so that no word is copied. Bits past the width are dropped.
     pub fn exchange_words(&mut self, words: &mut Vec<u64>)
         requires long { vec_len words.old ≡ G.rules.dirs * words_in (length self.old) }
         ensures wide { length self.new ≡ length self.old }
@@ -167,8 +168,8 @@ impl<G: Gas> Row<G> {
         clear_planes_past(&mut self.words, directions::<G>(), self.width);
     }
 
-    /// Returns the words of one direction: bit `b` of word `j` is 1 where cell `64 * j + b` holds it.
-    /// Bits past the width are 0.
+    /// Returns the words of direction `i`: bit `b` of word `j` is 1 where cell `64 * j + b` holds
+    /// it. Bits past the width are 0.
     #[inline(always)]
     pub fn plane(&self, i: u32) -> &[u64]
         requires direction { i < G.rules.dirs }
@@ -183,7 +184,7 @@ impl<G: Gas> Row<G> {
     /// Returns word `j` of direction `i`, for the cells from `64 * j` on.
     pub fn plane_word(&self, i: u32, j: u32) -> u64
         requires direction { i < G.rules.dirs }
-        requires place { j < words_in (length self.now) }
+        requires within { j < words_in (length self.now) }
         ensures bits { (b : ℕ) → b < 64 → holds result b
             ≡ holds (slice_index self.now (64 * j + b)) i }
     {
@@ -193,7 +194,7 @@ impl<G: Gas> Row<G> {
     /// Sets word `j` of direction `i`. Bits past the width are dropped.
     pub fn set_plane_word(&mut self, i: u32, j: u32, word: u64)
         requires direction { i < G.rules.dirs }
-        requires place { j < words_in (length self.old) }
+        requires within { j < words_in (length self.old) }
         ensures wide { length self.new ≡ length self.old }
         ensures written { (b : ℕ) → b < 64 → 64 * j + b < length self.old →
             holds (slice_index self.new (64 * j + b)) i ≡ holds word b }
@@ -228,8 +229,8 @@ impl<G: Gas> Row<G> {
         }
     }
 
-    /// Collides each fluid cell by the gas's table with its random bit, and empties the solid cells.
-    /// If `free`, no cell is solid.
+    /// Collides each fluid cell by the gas's table with its random bit, and empties the solid
+    /// cells. If `free`, no cell is solid.
     pub(crate) fn collide(&mut self, free: bool, solid: &[u64], chi: &[u64])
         requires free { IsTrue free → (x : ℕ) → bit solid.now x ≡ false }
         requires solid { length solid.now ≡ words_in (length self.old) }
@@ -270,16 +271,13 @@ impl<G: Gas> Row<G> {
         ensures others { (x k : ℕ) → k ≢ i → holds (slice_index self.new x) k
             ≡ holds (slice_index self.old x) k }
     {
-        stream_part(
-            &mut self.words,
-            i as usize,
-            along,
-            from,
-            met,
-            back,
-            own,
-            self.width,
-        );
+        let incoming = Incoming {
+            plane: from,
+            solid_there: met,
+            opposite_here: back,
+            solid_here: own,
+        };
+        stream_part(&mut self.words, i as usize, along, &incoming, self.width);
     }
 
     /// Streams direction `i` into this row from the row `from`, where neither has a solid cell.
@@ -299,9 +297,9 @@ impl<G: Gas> Row<G> {
         move_part(&mut self.words, i as usize, along, &from.words, self.width);
     }
 
-    /// Streams direction `i` into this row where its particles would come from past a wall: those of
-    /// the opposite direction, whose words in the streamed row are `back`, bounce back. `own` are the
-    /// streamed row's solid cells.
+    /// Streams direction `i` into this row where its particles would come from past a wall: those
+    /// of the opposite direction, whose words in the streamed row are `back`, bounce back. `own` are
+    /// the streamed row's solid cells.
     #[inline(always)]
     pub fn reflect_plane(&mut self, i: u32, back: &[u64], own: &[u64])
         requires direction { i < G.rules.dirs }

@@ -12,15 +12,15 @@ loop-j-init g c =
     let source = g.S.Source.source in
     let inner : 64 * (0 + 1) < width = omega arith in
     one_more_word
-    (λ x. streamed_bit (bit c.args.from.now (column_after width x source)) (bit c.args.met.now (column_after width x source)) (bit c.args.back.now x) (bit c.args.own.now x))
+    (λ x. streamed_bit (bit c.args.incoming.now.plane.now (column_after width x source)) (bit c.args.incoming.now.solid_there.now (column_after width x source)) (bit c.args.incoming.now.opposite_here.now x) (bit c.args.incoming.now.solid_here.now x))
     c.args.out.now width 0 c.stream_word.result (omega arith)
     (λ b h lt. c.stream_word.ensures b h ∙ streamed_bit-at
-    (c.shift_word-first_came.ensures b h ∙ moved_bit-is (bit c.args.from.now) width 0 _ _ _ source (inner_word c.args.from.now width c.requires.some_cells 0 c.lift_to_top-before.result inner
-    (before_first c.args.from.now width c.requires.some_cells (length c.args.out.now - 1) c.lift_to_top-before.result (omega arith) c.lift_to_top-before.ensures)) b h lt)
-    (c.shift_word-first_turned.ensures b h ∙ moved_bit-is (bit c.args.met.now) width 0 _ _ _ source (inner_word c.args.met.now width c.requires.some_cells 0 c.lift_to_top-before_met.result inner
-    (before_first c.args.met.now width c.requires.some_cells (length c.args.out.now - 1) c.lift_to_top-before_met.result (omega arith) c.lift_to_top-before_met.ensures)) b h lt)
-    (bit-at c.args.back.now 0 b h)
-    (bit-at c.args.own.now 0 b h))
+    (c.shift_word-first.ensures b h ∙ moved_bit-is (bit c.args.incoming.now.plane.now) width 0 _ _ _ source (inner_word c.args.incoming.now.plane.now width c.requires.some_cells 0 c.lift_to_top-before.result inner
+    (before_first c.args.incoming.now.plane.now width c.requires.some_cells (length c.args.out.now - 1) c.lift_to_top-before.result (omega arith) c.lift_to_top-before.ensures)) b h lt)
+    (c.shift_word-first_blocked.ensures b h ∙ moved_bit-is (bit c.args.incoming.now.solid_there.now) width 0 _ _ _ source (inner_word c.args.incoming.now.solid_there.now width c.requires.some_cells 0 c.lift_to_top-solid_before.result inner
+    (before_first c.args.incoming.now.solid_there.now width c.requires.some_cells (length c.args.out.now - 1) c.lift_to_top-solid_before.result (omega arith) c.lift_to_top-solid_before.ensures)) b h lt)
+    (bit-at c.args.incoming.now.opposite_here.now 0 b h)
+    (bit-at c.args.incoming.now.solid_here.now 0 b h))
     (λ x below inside. absurd (omega arith))
 
 pub loop-j-preserved : goal.loop-j-preserved
@@ -30,13 +30,13 @@ loop-j-preserved g c =
     let source = g.S.Source.source in
     let inner : 64 * (j + 1) < width = omega arith in
     one_more_word
-    (λ x. streamed_bit (bit c.args.from.now (column_after width x source)) (bit c.args.met.now (column_after width x source)) (bit c.args.back.now x) (bit c.args.own.now x))
+    (λ x. streamed_bit (bit c.args.incoming.now.plane.now (column_after width x source)) (bit c.args.incoming.now.solid_there.now (column_after width x source)) (bit c.args.incoming.now.opposite_here.now x) (bit c.args.incoming.now.solid_here.now x))
     c.loop-j.out width j c.stream_word-in-loop-j.result (omega (arith, c.loop-j.auto.out, length-set c.args.out.now 0 c.stream_word.result))
     (λ b h lt. c.stream_word-in-loop-j.ensures b h ∙ streamed_bit-at
-    (c.shift_word-came.ensures b h ∙ moved_bit-is (bit c.args.from.now) width j _ _ _ source (inner_word c.args.from.now width c.requires.some_cells j _ inner
-    (before_here c.args.from.now width c.requires.some_cells j (omega arith) (omega arith))) b h lt)
-    (c.shift_word-turned.ensures b h ∙ moved_bit-is (bit c.args.met.now) width j _ _ _ source (inner_word c.args.met.now width c.requires.some_cells j _ inner
-    (before_here c.args.met.now width c.requires.some_cells j (omega arith) (omega arith))) b h lt)
-    (bit-at c.args.back.now j b h)
-    (bit-at c.args.own.now j b h))
+    (c.shift_word-arriving.ensures b h ∙ moved_bit-is (bit c.args.incoming.now.plane.now) width j _ _ _ source (inner_word c.args.incoming.now.plane.now width c.requires.some_cells j _ inner
+    (before_here c.args.incoming.now.plane.now width c.requires.some_cells j (omega arith) (omega arith))) b h lt)
+    (c.shift_word-blocked.ensures b h ∙ moved_bit-is (bit c.args.incoming.now.solid_there.now) width j _ _ _ source (inner_word c.args.incoming.now.solid_there.now width c.requires.some_cells j _ inner
+    (before_here c.args.incoming.now.solid_there.now width c.requires.some_cells j (omega arith) (omega arith))) b h lt)
+    (bit-at c.args.incoming.now.opposite_here.now j b h)
+    (bit-at c.args.incoming.now.solid_here.now j b h))
     c.loop-j.invariant

@@ -3,4 +3,4 @@ use Rattle.gas_bits.proofs.ShiftedBits.{holds-streamed}
 use Rattle.gas_bits.proofs.stream.stream_word.Goals as goal
 
 pub returns : goal.returns
-returns c b h = holds-streamed c.args.came c.args.met c.args.back c.args.own b (omega arith) (omega arith) h
+returns c b h = holds-streamed c.args.arriving c.args.blocked c.args.opposite_here c.args.solid_here b (omega arith) (omega arith) h

@@ -14,22 +14,22 @@ returns-clause-streamed g c x lt =
     let source = g.S.Source.source in
     let at_end : words_in width - 1 ≡ last = omega arith in
     let last_is : last ≡ (width - 1) / 64 = omega arith in
-    let before_is = subst (λ (k : ℕ). holds c.word_before_last-before.result 63 ≡ bit c.args.from.now ((64 * k + width - 1) % width)) at_end c.word_before_last-before.ensures in
-    let before_met_is = subst (λ (k : ℕ). holds c.word_before_last-before_met.result 63 ≡ bit c.args.met.now ((64 * k + width - 1) % width)) at_end c.word_before_last-before_met.ensures in
+    let before_is = subst (λ (k : ℕ). holds c.word_before_last-before.result 63 ≡ bit c.args.incoming.now.plane.now ((64 * k + width - 1) % width)) at_end c.word_before_last-before.ensures in
+    let before_met_is = subst (λ (k : ℕ). holds c.word_before_last-solid_before.result 63 ≡ bit c.args.incoming.now.solid_there.now ((64 * k + width - 1) % width)) at_end c.word_before_last-solid_before.ensures in
     one_more_word
-    (λ y. streamed_bit (bit c.args.from.now (column_after width y source)) (bit c.args.met.now (column_after width y source)) (bit c.args.back.now y) (bit c.args.own.now y))
+    (λ y. streamed_bit (bit c.args.incoming.now.plane.now (column_after width y source)) (bit c.args.incoming.now.solid_there.now (column_after width y source)) (bit c.args.incoming.now.opposite_here.now y) (bit c.args.incoming.now.solid_here.now y))
     c.stream_front.new.out width last c.keep_up_to.result (omega arith)
     (λ b h inside.
-    cut_inside c.keep_up_to.result c.stream_word.result width b (omega arith) (c.keep_up_to.ensures b h)
-    ∙ c.stream_word.ensures b h ∙ streamed_bit-at
-    (c.shift_last_word-came.ensures b (omega (arith, last_is)) ∙ moved_last-is c.args.from.now width c.requires.some_cells last c.word_before_last-before.result source last_is before_is b h inside)
-    (c.shift_last_word-turned.ensures b (omega (arith, last_is)) ∙ moved_last-is c.args.met.now width c.requires.some_cells last c.word_before_last-before_met.result source last_is before_met_is b h inside)
-    (bit-at c.args.back.now last b h)
-    (bit-at c.args.own.now last b h))
+    cut_inside c.keep_up_to.result c.stream_word-streamed.result width b (omega arith) (c.keep_up_to.ensures b h)
+    ∙ c.stream_word-streamed.ensures b h ∙ streamed_bit-at
+    (c.shift_last_word-arriving.ensures b (omega (arith, last_is)) ∙ moved_last-is c.args.incoming.now.plane.now width c.requires.some_cells last c.word_before_last-before.result source last_is before_is b h inside)
+    (c.shift_last_word-blocked.ensures b (omega (arith, last_is)) ∙ moved_last-is c.args.incoming.now.solid_there.now width c.requires.some_cells last c.word_before_last-solid_before.result source last_is before_met_is b h inside)
+    (bit-at c.args.incoming.now.opposite_here.now last b h)
+    (bit-at c.args.incoming.now.solid_here.now last b h))
     (λ y below inside. c.stream_front.ensures y (omega arith))
     x (omega arith) lt
 
 pub returns-clause-clear : goal.returns-clause-clear
 returns-clause-clear g c =
     let last_is : length c.stream_front.new.out - 1 ≡ (c.args.width - 1) / 64 = omega arith in
-    cut_past c.stream_front.new.out c.keep_up_to.result c.stream_word.result c.args.width (length c.stream_front.new.out - 1) c.requires.some_cells last_is (omega arith) c.keep_up_to.ensures
+    cut_past c.stream_front.new.out c.keep_up_to.result c.stream_word-streamed.result c.args.width (length c.stream_front.new.out - 1) c.requires.some_cells last_is (omega arith) c.keep_up_to.ensures

@@ -10,7 +10,7 @@ pub index-requires : goal.index-requires
 index-requires g c =
     let width = c.self.inside.width in
     let w = wide g.G.Gas.rules.dirs width c.self.inside.words.items c.args.self.now c.self.invariant c.self.view_is in
-    let there : c.args.j < words_in width = subst (λ v. c.args.j < words_in v) w c.requires.place in
+    let there : c.args.j < words_in width = subst (λ v. c.args.j < words_in v) w c.requires.within in
     let place = place_in (words_in width) g.G.Gas.rules.dirs c.args.i c.args.j c.requires.direction there in
     let e = ap (λ n. c.args.i * n + c.args.j) c.words_for.ensures.value in
     omega (arith, place, e, c.self.invariant.long, c.self.inside.words.ok)
@@ -21,7 +21,7 @@ returns g c = record {
       let width = c.self.inside.width in
       let words = c.self.inside.words.items in
       let w = wide g.G.Gas.rules.dirs width words c.args.self.now c.self.invariant c.self.view_is in
-      let there : c.args.j < words_in width = subst (λ v. c.args.j < words_in v) w c.requires.place in
+      let there : c.args.j < words_in width = subst (λ v. c.args.j < words_in v) w c.requires.within in
       let place = place_in (words_in width) g.G.Gas.rules.dirs c.args.i c.args.j c.requires.direction there in
       let e = ap (λ n. c.args.i * n + c.args.j) c.words_for.ensures.value in
       ap (λ v. holds v b) (read_at words (c.args.i * c.words_for.result + c.args.j) c.index.result.now (omega (arith, place, e, c.self.invariant.long)) c.index.ensures ∙ ap (λ k. get_or words k 0) e)

@@ -13,13 +13,13 @@ pub clear_past_width-requires-clause-within : goal.clear_past_width-requires-cla
 clear_past_width-requires-clause-within g c =
     subst (λ w. c.args.j < words_in w)
     (wide g.G.Gas.rules.dirs c.self.inside.width c.self.inside.words.items c.args.self.now c.self.invariant c.self.view_is)
-    c.requires.place
+    c.requires.within
 
 pub index_mut-requires : goal.index_mut-requires
 index_mut-requires g c =
     let width = c.self.inside.width in
     let wide = wide g.G.Gas.rules.dirs width c.self.inside.words.items c.args.self.now c.self.invariant c.self.view_is in
-    let there : c.args.j < words_in width = subst (λ w. c.args.j < words_in w) wide c.requires.place in
+    let there : c.args.j < words_in width = subst (λ w. c.args.j < words_in w) wide c.requires.within in
     let place = place_in (words_in width) g.G.Gas.rules.dirs c.args.i c.args.j c.requires.direction there in
     let at = ap (λ n. c.args.i * n + c.args.j) c.words_for-count.ensures.value in
     omega (arith, place, at, c.self.invariant.long, c.self.inside.words.ok)
@@ -36,7 +36,7 @@ invariant_of-self g c =
     let width = c.self.inside.width in
     let words = c.self.inside.words.items in
     let wide = wide d width words c.args.self.now c.self.invariant c.self.view_is in
-    let there : c.args.j < words_in width = subst (λ w. c.args.j < words_in w) wide c.requires.place in
+    let there : c.args.j < words_in width = subst (λ w. c.args.j < words_in w) wide c.requires.within in
     subst (λ n. ArePlanes d width (set words (c.args.i * n + c.args.j) c.clear_past_width.result)) (sym c.words_for-count.ensures.value)
     (planes-word d width words c.args.self.now c.self.invariant c.self.view_is c.args.i c.args.j c.clear_past_width.result c.requires.direction there
     (λ b hb h. cut_past width c.args.j b c.clear_past_width.result (holds c.args.word) (c.clear_past_width.ensures.bits b hb) h))
@@ -47,7 +47,7 @@ returns g c =
     let width = c.self.inside.width in
     let words = c.self.inside.words.items in
     let wide = wide d width words c.args.self.now c.self.invariant c.self.view_is in
-    let there : c.args.j < words_in width = subst (λ w. c.args.j < words_in w) wide c.requires.place in
+    let there : c.args.j < words_in width = subst (λ w. c.args.j < words_in w) wide c.requires.within in
     let none : (b : ℕ) → b < 64 → width ≤ 64 * c.args.j + b → holds c.clear_past_width.result b ≡ false =
     λ b hb h. cut_past width c.args.j b c.clear_past_width.result (holds c.args.word) (c.clear_past_width.ensures.bits b hb) h in
     let at = ap (λ n. cells_of d width (set words (c.args.i * n + c.args.j) c.clear_past_width.result)) c.words_for-count.ensures.value in

@@ -8,21 +8,9 @@ use Rattle.gas_rows.proofs.Cells.{width_of}
 use Rattle.gas_rows.proofs.PlaneWrites.{written}
 use Rattle.gas_rows.proofs.row.Row.stream_plane.Goals as goal
 
-pub stream_part-requires-clause-from : goal.stream_part-requires-clause-from
-stream_part-requires-clause-from g c =
+pub stream_part-requires-clause-wide : goal.stream_part-requires-clause-wide
+stream_part-requires-clause-wide g c =
     c.requires.from ∙ ap words_in (width_of g.G.Gas.rules.dirs c.self.inside.width c.self.inside.words.items c.args.self.now c.self.view_is)
-
-pub stream_part-requires-clause-met : goal.stream_part-requires-clause-met
-stream_part-requires-clause-met g c =
-    c.requires.met ∙ ap words_in (width_of g.G.Gas.rules.dirs c.self.inside.width c.self.inside.words.items c.args.self.now c.self.view_is)
-
-pub stream_part-requires-clause-back : goal.stream_part-requires-clause-back
-stream_part-requires-clause-back g c =
-    c.requires.back ∙ ap words_in (width_of g.G.Gas.rules.dirs c.self.inside.width c.self.inside.words.items c.args.self.now c.self.view_is)
-
-pub stream_part-requires-clause-own : goal.stream_part-requires-clause-own
-stream_part-requires-clause-own g c =
-    c.requires.own ∙ ap words_in (width_of g.G.Gas.rules.dirs c.self.inside.width c.self.inside.words.items c.args.self.now c.self.view_is)
 
 pub invariant_of-self : goal.invariant_of-self
 invariant_of-self g c =

@@ -7,7 +7,7 @@ use Rattle.gas_rows.specs.Chirality.{chirality_bit}
 use Rattle.gas_rows.specs.declared.chirality.Chirality.TheVariants.{Seeded}
 use Rattle.gas_rows.specs.Key.{key_word}
 use Rattle.gas_rows.proofs.Masks.{map-same}
-use Rattle.gas_rows.proofs.chirality.seeded_row.Goals as goal
+use Rattle.gas_rows.proofs.chirality.write_seeded_row.Goals as goal
 
 pub returns-clause-wide : goal.returns-clause-wide
 returns-clause-wide c = ap (λ (cells : List Bool). length cells) c.draw.ensures.cells ∙ length-map-range_with_len _ 0 _
