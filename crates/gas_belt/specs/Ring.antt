@@ -7,7 +7,7 @@ use Rattle.rtrb.specs.declared.end.End.{End}
 use Rattle.rtrb.specs.Ring.{sent, received}
 use Rattle.gas_rows.specs.Planes.{cells_of}
 use Rattle.gas_rows.specs.Row.{RowModel}
-use Rattle.gas_rows.specs.Words.{words_in}
+use Rattle.gas_bits.specs.Words.{words_in}
 use Rattle.gas_belt.specs.Belt.{Belt}
 use Rattle.gas_belt.specs.declared.outlet.Outlet.{Outlet}
 use Rattle.gas_belt.specs.declared.inlet.Inlet.{Inlet}

@@ -4,7 +4,7 @@ ghost use Rattle.std.specs.Prelude.{◌≡◌, ◌<◌, ◌≤◌, ◌*◌, ℕ,
 ghost use Rattle.std.specs.Fmt.{digit_glyph};
 ghost use Rattle.std.specs.List.{flat_map, range_with_len};
 ghost use Rattle.gas_geom.specs.Gas.{holds};
-ghost use Rattle.gas_rows.specs.Words.{words_in};
+ghost use Rattle.gas_bits.specs.Words.{words_in};
 ghost use Rattle.gas_cells.specs.Cells.{cell_text, row_cells};
 
 use gas_geom::gas::Gas;

@@ -1,50 +1,27 @@
 -- A row and its words: what the words of a row say, and what rows they are after a write.
-use Rattle.std.proofs.Common.{◌≡◌, ◌≢◌, ◌⊎◌, ℕ, ◌+◌, ◌*◌, ◌/◌, ◌%◌, ◌^◌, ◌<◌, ◌≤◌, Bool, true, false, ◌&&◌, ◌==◌, if◌then◌else◌, List, length, get_or, set, take, drop, rules, ltb, refl, sym, ap, ap₂, ◌∙◌, subst, arith, inl, inr, eq-eqb, ne_eqb}
+use Rattle.std.proofs.Common.{◌≡◌, ◌≢◌, ◌⊎◌, ℕ, ◌+◌, ◌*◌, ◌/◌, ◌%◌, ◌^◌, ◌<◌, ◌≤◌, Bool, true, false, ◌&&◌, ◌==◌, if◌then◌else◌, List, length, get_or, set, take, drop, ltb, refl, sym, ap, ap₂, ◌∙◌, subst, arith, inl, inr, eq-eqb, ne_eqb}
 use mathlib.Core.Bool.{and-false}
 use Rattle.std.proofs.lemmas.Bool.{cases_eq, cases_lt}
 use Rattle.std.proofs.lemmas.Bool.Decides.{nat_tests}
-use Rattle.std.proofs.lemmas.List.{get_or_past, length-set, places}
+use Rattle.std.proofs.lemmas.List.{get_or_past, length-set}
 use Rattle.std.proofs.lemmas.List.FromFn.{get_or-map-range_with_len, length-map-range_with_len}
 use Rattle.std.proofs.lemmas.Grind.{same_number_lists}
-use Rattle.std.proofs.Math.Nat.{mul-le-mul_right}
 use Rattle.gas_geom.specs.Gas.{holds}
 use Rattle.gas_geom.specs.Lattice.{row_of}
 use Rattle.gas_geom.specs.declared.size.TheConstants.{MOST_SIDE}
-use Rattle.gas_rows.specs.Words.{words_in, bit}
-use Rattle.gas_rows.specs.Inside.{has, state, ArePlanes, IsClear}
+use Rattle.gas_bits.specs.Words.{words_in, bit}
+use Rattle.gas_bits.specs.Planes.{has, state}
+use Rattle.gas_rows.specs.Inner.Planes.{ArePlanes, IsClear}
 use Rattle.gas_rows.specs.Planes.{cells_of, AreWordsOf}
-use Rattle.gas_rows.proofs.Sets.{same_sets}
-use Rattle.gas_rows.proofs.Cells.{length-cells, holds-cells, has-set, place_in, width_of, get_or-cells, holds-cells_all, cells-from, state-lt, cells-written, IsClear-written, state-same, state-from}
+use Rattle.gas_bits.proofs.Sets.{same_sets}
+use Rattle.gas_rows.proofs.Cells.{length-cells, holds-cells, width_of, get_or-cells, holds-cells_all, cells-from, cells-written, IsClear-written}
+use Rattle.gas_bits.proofs.Cells.{has-set, place_in, state-lt, state-same, state-from, has_word, part_get, part_length, whole_plane}
 use Rattle.gas_geom.proofs.Holds.{holds-zero, holds-above}
 
 -- a fact on each cell and direction, at other names of the two counts
 pub each_at : (P : ℕ → ℕ → ℕ → Type 0) (n m dirs d : ℕ) → n ≡ m → dirs ≡ d →
     ((i y : ℕ) → i < dirs → y / 64 < n → P n i y) → (i y : ℕ) → i < d → y / 64 < m → P m i y
 each_at P n m dirs d en ed each i y hi hy = subst (λ k. P k i y) en (each i y (omega arith) (omega arith))
-
--- word by word
-pub has_word : (words : List ℕ) (n i j b : ℕ) → b < 64 → has words n i (64 * j + b) ≡ holds (get_or words (i * n + j) 0) b
-unfolding has
-has_word words n i j b h =
-    let q : (64 * j + b) / 64 ≡ j = omega arith in
-    let r : (64 * j + b) % 64 ≡ b = omega arith in
-    ap₂ (λ k c. holds (get_or words (i * n + k) 0) c) q r
-
--- one direction
-pub whole_plane : (n d i : ℕ) → i < d → i * n + n ≤ d * n
-whole_plane n d i h = let le : (i + 1) * n ≤ d * n = mul-le-mul_right n (omega arith) in omega arith
-
-pub part_get : (xs : List ℕ) (a n j : ℕ) → j < n → a + n ≤ length xs → get_or (take n (drop a xs)) j 0 ≡ get_or xs (a + j) 0
-part_get xs a n j h le = search (rules, places)
-
-pub part_length : (xs : List ℕ) (a n : ℕ) → a + n ≤ length xs → length (take n (drop a xs)) ≡ n
-part_length xs a n le = grind (arith, places)
-
--- one direction, at a start and a length as the code computes them
-pub has-part_at : (xs : List ℕ) (n i x a m : ℕ) → a ≡ i * n → m ≡ n → x / 64 < n → i * n + n ≤ length xs → bit (take m (drop a xs)) x ≡ has xs n i x
-unfolding bit has
-has-part_at xs n i x a m ea em h le =
-    ap₂ (λ b k. holds (get_or (take k (drop b xs)) (x / 64) 0) (x % 64)) ea em ∙ ap (λ w. holds w (x % 64)) (part_get xs (i * n) n (x / 64) h le)
 
 either : (t a b : Bool) → a ≡ false → b ≡ false → (if t then a else b) ≡ false
 either true a b p q = p

@@ -1,10 +1,5 @@
 pub mod Row
 pub mod Key
 pub mod Chirality
-pub mod Words
 pub mod Planes
-pub mod Inside
-pub mod Mask
-pub mod Shift
-pub mod Moved
-pub mod Exchange
+pub mod Inner

@@ -2,7 +2,7 @@
 use Rattle.std.specs.Prelude.{◌≡◌, ℕ, ◌+◌, ◌*◌, ◌/◌, ◌%◌, ◌<◌, List, length, slice_index}
 use Rattle.gas_geom.specs.Gas.{holds}
 use Rattle.gas_geom.specs.Lattice.{row_of, set_of}
-use Rattle.gas_rows.specs.Words.{words_in}
+use Rattle.gas_bits.specs.Words.{words_in}
 
 -- the row of that width: its cell x holds direction i where bit x % 64 of the direction's word x / 64 is 1
 unfoldable pub cells_of : ℕ → ℕ → List ℕ → List ℕ

@@ -1,3 +1,4 @@
+//! Channels: their size and their solid cells.
 ghost use Rattle.std.specs.Prelude.{◌≡◌, ◌<◌, [], length, slice_index_or, slice_set, IfOk};
 ghost use Rattle.gas_geom.specs.Size.{SizeModel};
 ghost use Rattle.gas_geom.specs.Channel.{ChannelModel, IsChannel, is_solid, solid_cells, free_channel, with_solid};
@@ -7,8 +8,8 @@ use gas_geom::size::Size;
 use std::alloc::{AllocError, Global};
 use std::marker::Model;
 
-/// A channel: its size and its solid cells. Its columns close on themselves, and its top and its
-/// bottom are walls.
+/// A channel: its size and its solid cells. It is periodic in x, and its top and its bottom are
+/// walls.
 #[derive(Drop)]
 pub struct Channel {
     size: Size,
@@ -20,15 +21,23 @@ impl Model for Channel {
 
     ghost Value = { ChannelModel };
 
-    ghost view = { λ c. record { width = c.size.width; height = c.size.height; solid = c.masks.items } };
+    ghost view = { λ c. record {
+      width = c.size.width;
+      height = c.size.height;
+      solid = c.masks.items;
+    } };
 
-    ghost invariant = { λ c. IsChannel (record { width = c.size.width; height = c.size.height; solid = c.masks.items }) };
+    ghost invariant = { λ c. IsChannel (record {
+      width = c.size.width;
+      height = c.size.height;
+      solid = c.masks.items;
+    }) };
 }
 
 impl Channel {
-    /// A channel whose cells are all fluid.
+    /// Returns a channel whose cells are all fluid.
     pub fn free(alloc: Global, size: Size) -> Result<Channel, AllocError>
-        ensures { IfOk result (λ c. c ≡ free_channel size.width size.height) }
+        ensures value { IfOk result (λ c. c ≡ free_channel size.width size.height) }
     {
         let mut masks = Vec::with_capacity(alloc, size.height() as usize)?;
         for _ in 0..size.height() {
@@ -37,9 +46,9 @@ impl Channel {
         Ok(Channel { size, masks })
     }
 
-    /// An equal channel.
+    /// Returns an equal channel.
     pub fn copy(&self, alloc: Global) -> Result<Channel, AllocError>
-        ensures { IfOk result (λ c. c ≡ self.now) }
+        ensures equal { IfOk result (λ c. c ≡ self.now) }
     {
         let mut masks = Vec::with_capacity(alloc, self.masks.len())?;
         for mask in &self.masks {
@@ -51,6 +60,7 @@ impl Channel {
         })
     }
 
+    /// Returns the width and the height, each 1 to 65536 cells.
     pub fn size(&self) -> Size
         ensures width { result.width ≡ self.now.width }
         ensures height { result.height ≡ self.now.height }
@@ -59,46 +69,48 @@ impl Channel {
         self.size
     }
 
-    /// The solid cells of row `y`.
+    /// Returns the solid cells of row `y`, as a mask of the channel's width.
     pub fn mask(&self, y: u32) -> &Mask
-        requires { y < self.now.height }
+        requires row { y < self.now.height }
         ensures row { result.now ≡ slice_index_or self.now.solid y [] }
         ensures wide { length result.now ≡ self.now.width }
     {
         &self.masks[y as usize]
     }
 
+    /// Returns whether the cell in column `x` of row `y` is solid.
     pub fn is_solid(&self, x: u32, y: u32) -> bool
         requires column { x < self.now.width }
         requires row { y < self.now.height }
-        ensures { result ≡ is_solid self.now x y }
+        ensures value { result ≡ is_solid self.now x y }
     {
         self.mask(y).get(x)
     }
 
-    /// Makes one cell solid.
+    /// Makes the cell in column `x` of row `y` solid.
     pub fn make_solid(&mut self, x: u32, y: u32)
         requires column { x < self.old.width }
         requires row { y < self.old.height }
-        ensures { self.new ≡ with_solid self.old x y }
+        ensures written { self.new ≡ with_solid self.old x y }
     {
         let mask = &mut self.masks[y as usize];
         mask.set(x, true);
     }
 
-    /// Sets which cells of row `y` are solid.
+    /// Sets which cells of row `y` are solid, a value for each column.
     pub fn set_row(&mut self, y: u32, solid: &[bool])
         requires row { y < self.old.height }
         requires wide { length solid.now ≡ self.old.width }
-        ensures { self.new ≡ record self.old { solid = slice_set self.old.solid y solid.now } }
+        ensures written { self.new
+            ≡ record self.old { solid = slice_set self.old.solid y solid.now } }
     {
         let mask = &mut self.masks[y as usize];
         mask.copy_from(solid);
     }
 
-    /// The number of solid cells.
+    /// Returns the number of solid cells.
     pub fn count_solid(&self) -> u64
-        ensures { result ≡ solid_cells self.now }
+        ensures count { result ≡ solid_cells self.now }
     {
         let mut total = 0;
         for y in 0..self.size.height() {

@@ -1,3 +1,4 @@
+//! The random bits of collisions, and those of one row.
 ghost use Rattle.std.specs.Prelude.{◌≡◌, ◌<◌, ◌≤◌, ◌+◌, ◌*◌, ℕ, length, map};
 ghost use Rattle.std.specs.List.{range_with_len};
 ghost use Rattle.rand_chacha.specs.ChaCha.{key_of};
@@ -8,7 +9,7 @@ use crate::key::{generator_of, seek};
 use crate::mask::Mask;
 use rand_chacha::ChaCha20Rng;
 
-/// Where the random bits of the collisions come from: one bit for each generation and cell.
+/// The source of the random bits of collisions, one for each generation and cell.
 #[derive(Clone, Copy, Debug, PartialEq, Eq)]
 pub enum Chirality {
     /// A bit of the key stream under this seed.
@@ -19,32 +20,31 @@ pub enum Chirality {
     Right,
 }
 
-/// Writes the random bits of row `y` of a channel of that width in the step from a generation.
+/// Writes the random bits of row `y` of a channel of that width, for the step from `generation` to
+/// the next. The mask has the channel's width.
 pub fn chi_row(chirality: Chirality, generation: u64, y: u32, width: u32, out: &mut Mask)
-    requires { length out.old ≡ width }
+    requires wide { length out.old ≡ width }
     ensures wide { length out.new ≡ width }
-    ensures bits { out.new ≡ map (λ x. chirality_bit chirality width generation x y) (range_with_len 0 width) }
+    ensures bits { out.new
+        ≡ map (λ x. chirality_bit chirality width generation x y) (range_with_len 0 width) }
 {
     match chirality {
-        Chirality::Seeded(seed) => seeded_row(&mut generator_of(seed), generation, y, out),
+        Chirality::Seeded(seed) => write_seeded_row(&mut generator_of(seed), generation, y, out),
         Chirality::Left => out.fill(true),
         Chirality::Right => out.fill(false),
     }
 }
 
-/// Writes the bits of the key stream of row `y`, from the least of the row's first word. A generator
-/// that wrote the row before reads on.
-pub(crate) fn seeded_row(generator: &mut ChaCha20Rng, generation: u64, y: u32, out: &mut Mask)
+/// Writes the seeded random bits of row `y`. Each row begins at a key word of its own, so a
+/// generator that wrote the row above goes on where it ended.
+pub(crate) fn write_seeded_row(generator: &mut ChaCha20Rng, generation: u64, y: u32, out: &mut Mask)
     ensures wide { length out.new ≡ length out.old }
     ensures key { generator.new.key ≡ generator.old.key }
     ensures bits { (seed : ℕ) → generator.old.key ≡ key_of (key_bytes seed) →
-        out.new ≡ map (λ x. chirality_bit (Chirality.Seeded seed) (length out.old) generation x y) (range_with_len 0 (length out.old)) }
+        out.new ≡ map (λ x. chirality_bit (Chirality.Seeded seed) (length out.old) generation x y)
+        (range_with_len 0 (length out.old)) }
 {
-    let words_of_row = out.width().div_ceil(32);
-    seek(
-        generator,
-        generation,
-        u64::from(y) * u64::from(words_of_row),
-    );
+    let key_words = out.width().div_ceil(32);
+    seek(generator, generation, u64::from(y) * u64::from(key_words));
     out.draw(generator);
 }

@@ -1,3 +1,4 @@
+//! The collision of a row.
 ghost use Rattle.std.specs.Prelude.{◌≡◌, false, if◌then◌else◌, length, slice_index, slice_index_or};
 ghost use Rattle.gas_geom.specs.Lattice.{row_of};
 
@@ -5,14 +6,15 @@ use crate::mask::Mask;
 use crate::row::Row;
 use gas_geom::gas::Gas;
 
-/// Collides the cells of a row: each fluid cell by itself with its random bit, and each solid cell
-/// becomes empty. The row and the masks have one width.
+/// Collides each fluid cell of a row by the gas's table with its random bit, and empties the solid
+/// cells. The row and the masks have the same width.
 pub fn collide_row<G: Gas>(row: &mut Row<G>, solid: &Mask, chi: &Mask)
     requires solid_wide { length solid.now ≡ length row.old }
     requires chi_wide { length chi.now ≡ length row.old }
     ensures wide { length row.new ≡ length row.old }
     ensures collided { row.new ≡ row_of (length row.old) (λ x.
-        if slice_index_or solid.now x false then 0 else G.rules.collide (slice_index row.old x) (slice_index_or chi.now x false)) }
+        if slice_index_or solid.now x false then 0
+        else G.rules.collide (slice_index row.old x) (slice_index_or chi.now x false)) }
 {
     row.collide(solid.is_blank(), solid.words(), chi.words());
 }

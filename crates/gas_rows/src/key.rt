@@ -1,3 +1,4 @@
+//! The key stream of a seed, by the cipher ChaCha20.
 ghost use Rattle.std.specs.Prelude.{◌≡◌, ℕ, ◌+◌, ◌<◌, ◌^◌, length, slice_index, EachIndex};
 ghost use Rattle.rand_chacha.specs.ChaCha.{key_of};
 ghost use Rattle.gas_rows.specs.Key.{key_word, key_bytes};
@@ -6,8 +7,8 @@ use rand_chacha::ChaCha20Rng;
 use rand_core::SeedableRng;
 use rand_core::utils::NextWord;
 
-/// The generator of the streams of ChaCha20 (the block function of RFC 8439) under a seed's key,
-/// which is the seed as 8 bytes, the least first, and 24 zero bytes.
+/// Returns the generator of ChaCha20 (the block function of RFC 8439) under the key of a seed: its
+/// 8 bytes, the least first, and 24 zero bytes.
 pub(crate) fn generator_of(seed: u64) -> ChaCha20Rng
     ensures { result.key ≡ key_of (key_bytes seed) }
 {
@@ -16,24 +17,24 @@ pub(crate) fn generator_of(seed: u64) -> ChaCha20Rng
     ChaCha20Rng::from_seed(key)
 }
 
-/// Sets a generator to a place of a stream. One that stands there keeps the words that it has made.
-pub(crate) fn seek(generator: &mut ChaCha20Rng, stream: u64, place: u64)
-    ensures { generator.new ≡ record generator.old { stream = stream; word_pos = place } }
+/// Sets a generator to a position of a stream. One that stands there keeps its buffered block.
+pub(crate) fn seek(generator: &mut ChaCha20Rng, stream: u64, position: u64)
+    ensures { generator.new ≡ record generator.old { stream = stream; word_pos = position } }
 {
-    if generator.get_stream() == stream && generator.get_word_pos() == u128::from(place) {
+    if generator.get_stream() == stream && generator.get_word_pos() == u128::from(position) {
         return;
     }
-    generator.set_word_pos(u128::from(place));
+    generator.set_word_pos(u128::from(position));
     generator.set_stream(stream);
 }
 
-/// Sets `out[j]` to the 32-bit word at place `first + j` of a stream of ChaCha20 (the block
-/// function of RFC 8439) under the seed's key, which is the seed as 8 bytes, the least first, and
-/// 24 zero bytes.
+/// Sets `out[j]` to key word `first + j` of a stream: 32 bits of ChaCha20 (the block function of
+/// RFC 8439) under the key of the seed, its 8 bytes, the least first, and 24 zero bytes.
 #[tactic(auto, unfolding(crate::specs::Key::key_word))]
 pub fn key_words(seed: u64, stream: u64, first: u64, out: &mut [u32])
-    requires { first + length out.old < 2 ^ 64 }
-    ensures { EachIndex out.new (λ j. slice_index out.new j ≡ key_word seed stream (first + j)) }
+    requires room { first + length out.old < 2 ^ 64 }
+    ensures words { EachIndex out.new (λ j. slice_index out.new j
+        ≡ key_word seed stream (first + j)) }
 {
     let mut generator = generator_of(seed);
     seek(&mut generator, stream, first);

@@ -1,3 +1,4 @@
+//! Lattices: a channel and the states of its cells.
 ghost use Rattle.std.specs.Prelude.{◌≡◌, ◌<◌, ◌^◌, ℕ, [], true, false, length, slice_index, slice_index_or, slice_set, if◌then◌else◌, IfOk};
 ghost use Rattle.gas_geom.specs.Channel.{is_solid, with_solid};
 ghost use Rattle.gas_geom.specs.Lattice.{LatticeModel, IsLattice, cell, count, empty_lattice, row_of, with_cell};
@@ -8,7 +9,7 @@ use gas_geom::gas::Gas;
 use std::alloc::{AllocError, Global};
 use std::marker::Model;
 
-/// A lattice: a channel, and a state for each of its cells, which is empty at solid cells.
+/// A channel and a state for each of its cells, 0 at the solid ones.
 #[derive(Drop)]
 pub struct Lattice<G: Gas> {
     channel: Channel,
@@ -26,9 +27,10 @@ impl<G: Gas> Model for Lattice<G> {
 }
 
 impl<G: Gas> Lattice<G> {
-    /// A lattice with no particle. Where memory is refused the channel is given up.
+    /// Returns the lattice of this channel with no particle. If memory is refused, the channel is
+    /// dropped.
     pub fn blank(alloc: Global, channel: Channel) -> Result<Self, AllocError>
-        ensures { IfOk result (λ l. l ≡ empty_lattice channel) }
+        ensures value { IfOk result (λ l. l ≡ empty_lattice channel) }
     {
         let size = channel.size();
         let mut rows = Vec::with_capacity(alloc, size.height() as usize)?;
@@ -38,15 +40,15 @@ impl<G: Gas> Lattice<G> {
         Ok(Lattice { channel, rows })
     }
 
-    /// The lattice of these rows, from the top.
+    /// Returns the lattice of these rows, from the top.
     pub fn from_rows(channel: Channel, rows: Vec<Row<G>>) -> Self
-        requires { IsLattice G.rules channel rows.items }
-        ensures { result ≡ record { channel = channel; rows = rows.items } }
+        requires lattice { IsLattice G.rules channel rows.items }
+        ensures value { result ≡ record { channel = channel; rows = rows.items } }
     {
         Lattice { channel, rows }
     }
 
-    /// The channel and the rows, from the top.
+    /// Returns the channel and the rows, from the top.
     pub fn into_rows(self) -> (Channel, Vec<Row<G>>)
         ensures channel { result.0 ≡ self.channel }
         ensures rows { result.1.items ≡ self.rows }
@@ -55,9 +57,9 @@ impl<G: Gas> Lattice<G> {
         (self.channel, self.rows)
     }
 
-    /// An equal lattice.
+    /// Returns an equal lattice.
     pub fn copy(&self, alloc: Global) -> Result<Self, AllocError>
-        ensures { IfOk result (λ l. l ≡ self.now) }
+        ensures equal { IfOk result (λ l. l ≡ self.now) }
     {
         let channel = self.channel.copy(alloc)?;
         let mut rows = Vec::with_capacity(alloc, self.rows.len())?;
@@ -67,6 +69,7 @@ impl<G: Gas> Lattice<G> {
         Ok(Lattice { channel, rows })
     }
 
+    /// Returns the channel.
     pub fn channel(&self) -> &Channel
         ensures channel { result.now ≡ self.now.channel }
         ensures whole { IsLattice G.rules self.now.channel self.now.rows }
@@ -74,7 +77,7 @@ impl<G: Gas> Lattice<G> {
         &self.channel
     }
 
-    /// The state of a cell, 0 at a solid one.
+    /// Returns the state of the cell in column `x` of row `y`, 0 at a solid cell.
     pub fn cell(&self, x: u32, y: u32) -> u8
         requires column { x < self.now.channel.width }
         requires row { y < self.now.channel.height }
@@ -84,17 +87,18 @@ impl<G: Gas> Lattice<G> {
         self.row(y).get(x)
     }
 
+    /// Returns row `y`, counted from the top.
     pub fn row(&self, y: u32) -> &Row<G>
-        requires { y < self.now.channel.height }
+        requires row { y < self.now.channel.height }
         ensures row { result.now ≡ slice_index_or self.now.rows y [] }
         ensures wide { length result.now ≡ self.now.channel.width }
     {
         &self.rows[y as usize]
     }
 
-    /// The number of particles.
+    /// Returns the number of particles.
     pub fn count(&self) -> u64
-        ensures { result ≡ count G.rules self.now.rows }
+        ensures count { result ≡ count G.rules self.now.rows }
     {
         let mut total = 0;
         for y in 0..self.channel.size().height() {
@@ -103,38 +107,44 @@ impl<G: Gas> Lattice<G> {
         total
     }
 
-    /// Changes the state of one fluid cell.
+    /// Sets the state of the fluid cell in column `x` of row `y`.
     pub fn set_cell(&mut self, x: u32, y: u32, state: u8)
         requires column { x < self.old.channel.width }
         requires row { y < self.old.channel.height }
         requires fluid { is_solid self.old.channel x y ≡ false }
         requires state { state < 2 ^ G.rules.dirs }
-        ensures { self.new ≡ record self.old { rows = with_cell self.old.rows x y state } }
+        ensures written { self.new ≡ record self.old { rows = with_cell self.old.rows x y state } }
     {
         let row = &mut self.rows[y as usize];
         row.set(x, state);
     }
 
-    /// Makes one cell solid and empty.
+    /// Makes the cell in column `x` of row `y` solid and empty.
     pub fn make_solid(&mut self, x: u32, y: u32)
         requires column { x < self.old.channel.width }
         requires row { y < self.old.channel.height }
-        ensures { self.new ≡ record { channel = with_solid self.old.channel x y; rows = with_cell self.old.rows x y 0 } }
+        ensures written { self.new
+            ≡ record {
+              channel = with_solid self.old.channel x y;
+              rows = with_cell self.old.rows x y 0;
+            } }
     {
         self.channel.make_solid(x, y);
         let row = &mut self.rows[y as usize];
         row.set(x, 0);
     }
 
-    /// Sets which cells of row `y` are solid, and the states of all of them, 0 at the solid ones.
+    /// Sets which cells of row `y` are solid, and the states of all its cells, 0 at the solid ones.
     pub fn set_row(&mut self, y: u32, solid: &[bool], states: &[u8])
         requires row { y < self.old.channel.height }
         requires as_wide { length solid.now ≡ self.old.channel.width }
         requires wide { length states.now ≡ self.old.channel.width }
         requires states { (x : ℕ) → slice_index states.now x < 2 ^ G.rules.dirs }
-        requires empty { (x : ℕ) → slice_index_or solid.now x false ≡ true → slice_index states.now x ≡ 0 }
-        ensures { self.new ≡ record {
-          channel = record self.old.channel { solid = slice_set self.old.channel.solid y solid.now };
+        requires empty { (x : ℕ) → slice_index_or solid.now x false ≡ true →
+            slice_index states.now x ≡ 0 }
+        ensures written { self.new ≡ record {
+          channel =
+              record self.old.channel { solid = slice_set self.old.channel.solid y solid.now };
           rows = slice_set self.old.rows y states.now;
         } }
     {
@@ -148,7 +158,7 @@ impl<G: Gas> Lattice<G> {
         requires row { y < self.old.channel.height }
         requires wide { length states.now ≡ self.old.channel.width }
         requires states { (x : ℕ) → slice_index states.now x < 2 ^ G.rules.dirs }
-        ensures { self.new ≡ record self.old {
+        ensures written { self.new ≡ record self.old {
           rows = slice_set self.old.rows y (row_of self.old.channel.width (λ x.
               if is_solid self.old.channel x y then 0 else slice_index states.now x));
         } }

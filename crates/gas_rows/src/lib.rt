@@ -4,14 +4,11 @@
 pub mod channel;
 pub mod chirality;
 pub mod collide;
+mod collision;
+mod directions;
 pub mod key;
+mod key_bits;
 pub mod lattice;
 pub mod mask;
-mod mask_words;
-mod planes;
 pub mod random_bits;
 pub mod row;
-mod shift;
-mod span;
-mod transpose;
-mod word;

@@ -1,28 +1,30 @@
+//! Masks: a truth value for each cell of a row.
 ghost use Rattle.std.specs.Prelude.{◌≡◌, ◌<◌, ◌≤◌, ◌+◌, ◌-◌, ◌*◌, ◌/◌, ◌%◌, ◌^◌, ℕ, Bool, false, List, length, map, replicate, slice_index, slice_index_or, slice_set, count_by, IfOk, IsTrue};
 ghost use Rattle.std.specs.List.{range_with_len};
 ghost use Rattle.gas_geom.specs.Gas.{holds};
-ghost use Rattle.rand_chacha.specs.ChaCha.{word_at};
-ghost use Rattle.gas_rows.specs.Words.{words_in, bit};
+ghost use Rattle.gas_rows.specs.Inner.Key.{drawn_bit};
+ghost use Rattle.gas_bits.specs.Words.{words_in, bit};
 
-use crate::mask_words;
-use crate::span::count_in;
-use crate::word::{has_bit, with_bit, words_for};
+use crate::key_bits;
+use gas_bits::plane;
+use gas_bits::span::count_in;
+use gas_bits::word::{has_bit, with_bit, words_for};
 use rand_chacha::ChaCha20Rng;
 use std::alloc::{AllocError, Global};
 use std::marker::Model;
 
-/// A truth value for each cell of a row.
+/// A truth value for each cell of a row, 1 to 65536 of them.
 #[derive(Drop)]
 pub struct Mask {
     width: u32,
     words: Vec<u64>,
-    // Whether it is known that no cell is true.
+    // True only if no cell is true; false where that is not known.
     blank: bool,
 }
 
 impl Model for Mask {
     ghost use Rattle.std.specs.Prelude.{Bool, List};
-    ghost use Rattle.gas_rows.specs.Mask.{cells, IsMask};
+    ghost use Rattle.gas_rows.specs.Inner.Mask.{cells, IsMask};
 
     ghost Value = { List Bool };
 
@@ -32,11 +34,11 @@ impl Model for Mask {
 }
 
 impl Mask {
-    /// A mask of 1 to 65536 cells that is false everywhere.
+    /// Returns a mask of 1 to 65536 cells that is false everywhere.
     pub fn blank(alloc: Global, width: u32) -> Result<Mask, AllocError>
         requires some_cells { 1 ≤ width }
         requires few_cells { width ≤ 65536 }
-        ensures { IfOk result (λ m. m ≡ replicate width false) }
+        ensures value { IfOk result (λ m. m ≡ replicate width false) }
     {
         let words = vec![in alloc; 0; words_for(width)]?;
         Ok(Mask {
@@ -46,9 +48,9 @@ impl Mask {
         })
     }
 
-    /// An equal mask.
+    /// Returns an equal mask.
     pub fn copy(&self, alloc: Global) -> Result<Mask, AllocError>
-        ensures { IfOk result (λ m. m ≡ self.now) }
+        ensures equal { IfOk result (λ m. m ≡ self.now) }
     {
         Ok(Mask {
             width: self.width,
@@ -57,7 +59,7 @@ impl Mask {
         })
     }
 
-    /// The number of cells, 1 to 65536.
+    /// Returns the number of cells, 1 to 65536.
     pub fn width(&self) -> u32
         ensures value { result ≡ length self.now }
         ensures some_cells { 1 ≤ result }
@@ -66,42 +68,44 @@ impl Mask {
         self.width
     }
 
+    /// Returns the value in column `x`.
     pub fn get(&self, x: u32) -> bool
-        requires { x < length self.now }
-        ensures { result ≡ slice_index_or self.now x false }
+        requires within { x < length self.now }
+        ensures value { result ≡ slice_index_or self.now x false }
     {
         has_bit(self.words[x as usize / 64], x % 64)
     }
 
-    /// Changes the value of one cell.
+    /// Sets the value in column `x`.
     pub fn set(&mut self, x: u32, value: bool)
-        requires { x < length self.old }
-        ensures { self.new ≡ slice_set self.old x value }
+        requires within { x < length self.old }
+        ensures written { self.new ≡ slice_set self.old x value }
     {
         let at = x as usize / 64;
         self.words[at] = with_bit(self.words[at], x % 64, value);
         self.blank &= !value;
     }
 
-    /// Whether it is known that no cell is true. It takes no time, and after a change of single cells
-    /// it may say no of a mask in which none is.
+    /// Returns true only if no cell is true. It reads no word; after single cells were set it may
+    /// return false for a mask in which no cell is true.
     pub fn is_blank(&self) -> bool
-        ensures { IsTrue result → (x : ℕ) → slice_index_or self.now x false ≡ false }
+        ensures blank { IsTrue result → (x : ℕ) → slice_index_or self.now x false ≡ false }
     {
         self.blank
     }
 
-    /// The values of the cells `64 * j` to `64 * j + 63`, the first in the least bit; bits past the
-    /// width are zero.
+    /// Returns word `j`, the values of the cells `64 * j` to `64 * j + 63`, the first in the least
+    /// bit. Bits past the width are 0.
     pub fn word(&self, j: u32) -> u64
-        requires { j < words_in (length self.now) }
-        ensures { (b : ℕ) → b < 64 → holds result b ≡ slice_index_or self.now (64 * j + b) false }
+        requires within { j < words_in (length self.now) }
+        ensures bits { (b : ℕ) → b < 64 → holds result b
+            ≡ slice_index_or self.now (64 * j + b) false }
     {
         self.words[j as usize]
     }
 
-    /// The values of all cells, 64 in a word, the first in the least bit; bits past the width are
-    /// zero.
+    /// Returns the values of all cells, 64 in a word, the first in the least bit. Bits past the
+    /// width are 0.
     pub fn words(&self) -> &[u64]
         ensures long { length result.now ≡ words_in (length self.now) }
         ensures bits { (x : ℕ) → bit result.now x ≡ slice_index_or self.now x false }
@@ -109,45 +113,47 @@ impl Mask {
         &self.words
     }
 
-    /// Takes over these values.
+    /// Sets all values.
     pub(crate) fn copy_from(&mut self, cells: &[bool])
         requires { length cells.now ≡ length self.old }
         ensures { self.new ≡ cells.now }
     {
-        mask_words::pack(cells, &mut self.words);
-        self.blank = mask_words::are_zero(&self.words);
+        plane::pack(cells, &mut self.words);
+        self.blank = plane::are_zero(&self.words);
     }
 
-    /// Gives all cells one value.
+    /// Sets all values to the same one.
     pub(crate) fn fill(&mut self, value: bool)
         ensures { self.new ≡ replicate (length self.old) value }
     {
-        mask_words::fill(&mut self.words, self.width, value);
+        plane::fill(&mut self.words, self.width, value);
         self.blank = !value;
     }
 
-    /// Takes over the next words of a generator, 32 cells each, the first cell in the least bit.
+    /// Sets the values to the next bits of a generator, 32 from each key word, the least first.
     pub(crate) fn draw(&mut self, generator: &mut ChaCha20Rng)
         requires { generator.old.word_pos + 2 * words_in (length self.old) < 2 ^ 68 }
         ensures key { generator.new.key ≡ generator.old.key }
-        ensures cells { self.new ≡ map (λ x. holds (word_at 10 generator.old.key generator.old.stream (generator.old.word_pos + x / 32)) (x % 32)) (range_with_len 0 (length self.old)) }
+        ensures cells { self.new
+            ≡ map (drawn_bit generator.old) (range_with_len 0 (length self.old)) }
     {
-        mask_words::draw(&mut self.words, self.width, generator);
+        key_bits::draw(&mut self.words, self.width, generator);
         self.blank = false;
     }
 
-    /// The number of cells that are true.
+    /// Returns the number of cells that are true.
     pub fn count(&self) -> u32
-        ensures { result ≡ count_by (λ b. b) self.now }
+        ensures count { result ≡ count_by (λ b. b) self.now }
     {
         count_in(&self.words, 0, self.width)
     }
 
-    /// The number of cells from column `from` up to column `to` that are true.
+    /// Returns the number of true cells in the columns from `from` to `to - 1`.
     pub fn count_in(&self, from: u32, to: u32) -> u32
         requires order { from ≤ to }
         requires within { to ≤ length self.now }
-        ensures { result ≡ count_by (λ x. slice_index_or self.now x false) (range_with_len from (to - from)) }
+        ensures count { result
+            ≡ count_by (λ x. slice_index_or self.now x false) (range_with_len from (to - from)) }
     {
         count_in(&self.words, from, to)
     }

@@ -1,20 +1,21 @@
+//! The random bits of one row after another, from one generator.
 ghost use Rattle.std.specs.Prelude.{◌≡◌, ◌≤◌, ℕ, length, map, replicate, IfOk};
 ghost use Rattle.std.specs.List.{range_with_len};
 ghost use Rattle.gas_rows.specs.Chirality.{chirality_bit};
 
-use crate::chirality::{Chirality, seeded_row};
+use crate::chirality::{Chirality, write_seeded_row};
 use crate::key::generator_of;
 use crate::mask::Mask;
 use rand_chacha::ChaCha20Rng;
 use std::alloc::{AllocError, Global};
 use std::marker::Model;
 
-/// The random bits of the row that was drawn last. What one row leaves of the key stream, the next
-/// one begins with, so that rows cost least from the top on.
+/// The random bits of the row that was drawn last. Rows cost least when they are drawn from the top
+/// down, since each then goes on in the block of the key stream where the row above ended.
 #[derive(Drop)]
 pub struct RandomBits {
     bits: Mask,
-    // The value of all bits, where they have one.
+    // The value that all bits have; None where they may differ.
     uniform: Option<bool>,
     seed: u64,
     generator: ChaCha20Rng,
@@ -36,7 +37,7 @@ impl Model for RandomBits {
 }
 
 impl RandomBits {
-    /// The bits of a row of 1 to 65536 cells, before any was drawn.
+    /// Returns the bits of a row of 1 to 65536 cells, before any was drawn.
     pub fn new(alloc: Global, width: u32) -> Result<Self, AllocError>
         requires some_cells { 1 ≤ width }
         requires few_cells { width ≤ 65536 }
@@ -50,17 +51,19 @@ impl RandomBits {
         })
     }
 
-    /// The bits that were drawn last.
+    /// Returns the bits that were drawn last.
     pub fn mask(&self) -> &Mask
-        ensures { result.now ≡ self.now }
+        ensures bits { result.now ≡ self.now }
     {
         &self.bits
     }
 
-    /// Draws the random bits of row `y` in the step from a generation.
+    /// Draws the random bits of row `y`, for the step from `generation` to the next.
     pub fn draw(&mut self, chirality: Chirality, generation: u64, y: u32)
         ensures wide { length self.new ≡ length self.old }
-        ensures bits { self.new ≡ map (λ x. chirality_bit chirality (length self.old) generation x y) (range_with_len 0 (length self.old)) }
+        ensures bits { self.new
+            ≡ map (λ x. chirality_bit chirality (length self.old) generation x y)
+            (range_with_len 0 (length self.old)) }
     {
         match chirality {
             Chirality::Seeded(seed) => self.draw_seeded(seed, generation, y),
@@ -71,14 +74,16 @@ impl RandomBits {
 
     fn draw_seeded(&mut self, seed: u64, generation: u64, y: u32)
         ensures wide { length self.new ≡ length self.old }
-        ensures bits { self.new ≡ map (λ x. chirality_bit (Chirality.Seeded seed) (length self.old) generation x y) (range_with_len 0 (length self.old)) }
+        ensures bits { self.new
+            ≡ map (λ x. chirality_bit (Chirality.Seeded seed) (length self.old) generation x y)
+            (range_with_len 0 (length self.old)) }
     {
         if self.seed != seed {
             self.seed = seed;
             self.generator = generator_of(seed);
         }
         self.uniform = None;
-        seeded_row(&mut self.generator, generation, y, &mut self.bits);
+        write_seeded_row(&mut self.generator, generation, y, &mut self.bits);
     }
 
     fn fill(&mut self, value: bool)

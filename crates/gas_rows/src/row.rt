@@ -1,26 +1,29 @@
+//! Rows: a state for each cell, held as bit planes.
 ghost use Rattle.std.specs.Prelude.{◌≡◌, ◌≢◌, ◌⊎◌, ◌+◌, ◌-◌, ◌*◌, ◌/◌, ◌<◌, ◌≤◌, ◌^◌, ℕ, List, length, replicate, slice_index, slice_index_or, slice_set, false, IsTrue, count_by, sum_by, if◌then◌else◌, vec_len, IfOk};
 ghost use Rattle.std.specs.List.{range_with_len};
 ghost use Rattle.gas_geom.specs.Moves.{Move, amount, column_after};
 ghost use Rattle.gas_geom.specs.Gas.{holds, particles};
 ghost use Rattle.gas_geom.specs.Lattice.{row_of};
-ghost use Rattle.gas_rows.specs.Shift.{streamed_bit};
-ghost use Rattle.gas_rows.specs.Words.{words_in, bit};
+ghost use Rattle.gas_bits.specs.Shift.{streamed_bit};
+ghost use Rattle.gas_bits.specs.Words.{words_in, bit};
 ghost use Rattle.gas_rows.specs.Planes.{AreWordsOf, cells_of};
 
+use crate::collision::collide;
+use crate::directions::directions;
 use crate::mask::Mask;
-use crate::planes::{
-    clear_past, collide, directions, empty, gather, load, load_states, read_cell, write_cell,
-};
-use crate::shift::{move_part, reflect_part, stream_part};
-use crate::span::count_in;
-use crate::transpose::states_of;
-use crate::word::{cut, words_for};
+use gas_bits::incoming::Incoming;
+use gas_bits::load::{clear_planes_past, load_states, load_words};
+use gas_bits::part::{move_part, reflect_part, stream_part};
+use gas_bits::planes::{empty_solid, read_cell, words_at, write_cell};
+use gas_bits::span::count_in;
+use gas_bits::transpose::states_of;
+use gas_bits::word::{clear_past_width, words_for};
 use gas_geom::gas::Gas;
 use std::alloc::{AllocError, Global};
 use std::marker::{Model, PhantomData};
 use std::mem;
 
-/// The states of a row's cells, held as words of 64 cells for each direction.
+/// The states of the 1 to 65536 cells of a row, held as words of 64 cells for each direction.
 #[derive(Drop)]
 pub struct Row<G: Gas> {
     width: u32,
@@ -31,7 +34,7 @@ pub struct Row<G: Gas> {
 impl<G: Gas> Model for Row<G> {
     ghost use Rattle.std.specs.Prelude.{ℕ, List};
     ghost use Rattle.gas_rows.specs.Planes.{cells_of};
-    ghost use Rattle.gas_rows.specs.Inside.{ArePlanes};
+    ghost use Rattle.gas_rows.specs.Inner.Planes.{ArePlanes};
 
     ghost Value = { List ℕ };
 
@@ -41,11 +44,11 @@ impl<G: Gas> Model for Row<G> {
 }
 
 impl<G: Gas> Row<G> {
-    /// A row of 1 to 65536 empty cells.
+    /// Returns a row of 1 to 65536 empty cells.
     pub fn blank(alloc: Global, width: u32) -> Result<Self, AllocError>
         requires some_cells { 1 ≤ width }
         requires few_cells { width ≤ 65536 }
-        ensures { IfOk result (λ r. r ≡ replicate width 0) }
+        ensures value { IfOk result (λ r. r ≡ replicate width 0) }
     {
         Ok(Row {
             width,
@@ -54,9 +57,9 @@ impl<G: Gas> Row<G> {
         })
     }
 
-    /// An equal row.
+    /// Returns an equal row.
     pub fn copy(&self, alloc: Global) -> Result<Self, AllocError>
-        ensures { IfOk result (λ r. r ≡ self.now) }
+        ensures equal { IfOk result (λ r. r ≡ self.now) }
     {
         Ok(Row {
             width: self.width,
@@ -65,7 +68,7 @@ impl<G: Gas> Row<G> {
         })
     }
 
-    /// The number of cells, 1 to 65536.
+    /// Returns the number of cells, 1 to 65536.
     pub fn width(&self) -> u32
         ensures value { result ≡ length self.now }
         ensures some_cells { 1 ≤ result }
@@ -74,26 +77,26 @@ impl<G: Gas> Row<G> {
         self.width
     }
 
-    /// The state of a cell.
+    /// Returns the state of the cell in column `x`.
     pub fn get(&self, x: u32) -> u8
-        requires { x < length self.now }
+        requires within { x < length self.now }
         ensures value { result ≡ slice_index self.now x }
         ensures state { result < 2 ^ G.rules.dirs }
     {
         read_cell(&self.words, words_for(self.width), directions::<G>(), x)
     }
 
-    /// Changes the state of one cell.
+    /// Sets the state of the cell in column `x`.
     pub fn set(&mut self, x: u32, state: u8)
         requires within { x < length self.old }
         requires state { state < 2 ^ G.rules.dirs }
-        ensures { self.new ≡ slice_set self.old x state }
+        ensures written { self.new ≡ slice_set self.old x state }
     {
         let count = words_for(self.width);
         write_cell(&mut self.words, count, directions::<G>(), x, state);
     }
 
-    /// Takes over these states.
+    /// Sets the states of all cells.
     pub(crate) fn copy_from(&mut self, states: &[u8])
         requires wide { length states.now ≡ length self.old }
         requires states { (x : ℕ) → slice_index states.now x < 2 ^ G.rules.dirs }
@@ -103,9 +106,9 @@ impl<G: Gas> Row<G> {
         load_states(&mut self.words, count, directions::<G>(), states);
     }
 
-    /// The number of particles.
+    /// Returns the number of particles.
     pub fn count(&self) -> u32
-        ensures { result ≡ sum_by (particles G.rules) self.now }
+        ensures count { result ≡ sum_by (particles G.rules) self.now }
     {
         let mut total = 0;
         for word in &self.words {
@@ -114,18 +117,19 @@ impl<G: Gas> Row<G> {
         total
     }
 
-    /// The number of cells from column `from` up to column `to` that hold direction `i`.
+    /// Returns the number of cells that hold direction `i` in the columns from `from` to `to - 1`.
     pub fn count_in(&self, i: u32, from: u32, to: u32) -> u32
         requires direction { i < G.rules.dirs }
         requires order { from ≤ to }
         requires within { to ≤ length self.now }
-        ensures { result ≡ count_by (λ x. holds (slice_index self.now x) i) (range_with_len from (to - from)) }
+        ensures count { result
+            ≡ count_by (λ x. holds (slice_index self.now x) i) (range_with_len from (to - from)) }
     {
         count_in(self.plane(i), from, to)
     }
 
-    /// All words: those of direction 0 from cell 0 on, then those of direction 1, and so on. A
-    /// direction has a word for each 64 cells and for a rest of them.
+    /// Returns all words: those of direction 0, from the first cell on, then those of direction 1,
+    /// and so on. A direction has a word for each 64 cells, the last one filled up with zeros.
     pub fn as_words(&self) -> &[u64]
         ensures words { AreWordsOf G.rules.dirs self.now result.now }
         ensures cells { cells_of G.rules.dirs (length self.now) result.now ≡ self.now }
@@ -133,42 +137,42 @@ impl<G: Gas> Row<G> {
         &self.words
     }
 
-    /// Writes all words, as `as_words` has them.
+    /// Writes all words in the order of `as_words`.
     pub fn words(&self, out: &mut [u64])
-        requires { length out.old ≡ G.rules.dirs * words_in (length self.now) }
+        requires long { length out.old ≡ G.rules.dirs * words_in (length self.now) }
         ensures words { AreWordsOf G.rules.dirs self.now out.new }
         ensures cells { cells_of G.rules.dirs (length self.now) out.new ≡ self.now }
     {
         out.copy_from_slice(&self.words);
     }
 
-    /// Takes over the cells that these words hold, and drops bits past the width.
+    /// Sets all cells from words in the order of `as_words`. Bits past the width are dropped.
     pub fn load_words(&mut self, words: &[u64])
-        requires { length words.now ≡ G.rules.dirs * words_in (length self.old) }
+        requires long { length words.now ≡ G.rules.dirs * words_in (length self.old) }
         ensures wide { length self.new ≡ length self.old }
         ensures cells { self.new ≡ cells_of G.rules.dirs (length self.old) words.now }
     {
-        load(&mut self.words, words, directions::<G>(), self.width);
+        load_words(&mut self.words, words, directions::<G>(), self.width);
     }
 
-    /// Takes over the cells that these words hold, and drops bits past the width. The row's own
-    /// words come back in their place, so that no word is copied.
+    /// Sets all cells from words in the order of `as_words`, and leaves the row's old words in
+    /// their place, so that no word is copied. Bits past the width are dropped.
     pub fn exchange_words(&mut self, words: &mut Vec<u64>)
-        requires { vec_len words.old ≡ G.rules.dirs * words_in (length self.old) }
+        requires long { vec_len words.old ≡ G.rules.dirs * words_in (length self.old) }
         ensures wide { length self.new ≡ length self.old }
         ensures cells { self.new ≡ cells_of G.rules.dirs (length self.old) words.old.items }
         ensures long { vec_len words.new ≡ vec_len words.old }
         ensures words { AreWordsOf G.rules.dirs self.old words.new.items }
     {
         mem::swap(&mut self.words, words);
-        clear_past(&mut self.words, directions::<G>(), self.width);
+        clear_planes_past(&mut self.words, directions::<G>(), self.width);
     }
 
-    /// The words of one direction: bit `b` of word `j` says whether cell `64 * j + b` holds it, and
-    /// bits past the width are zero.
+    /// Returns the words of direction `i`: bit `b` of word `j` is 1 where cell `64 * j + b` holds
+    /// it. Bits past the width are 0.
     #[inline(always)]
     pub fn plane(&self, i: u32) -> &[u64]
-        requires { i < G.rules.dirs }
+        requires direction { i < G.rules.dirs }
         ensures long { length result.now ≡ words_in (length self.now) }
         ensures bits { (x : ℕ) → bit result.now x ≡ holds (slice_index self.now x) i }
     {
@@ -177,19 +181,20 @@ impl<G: Gas> Row<G> {
         &self.words[start..start + count]
     }
 
-    /// Word `j` of direction `i`, for the cells from `64 * j` on.
+    /// Returns word `j` of direction `i`, for the cells from `64 * j` on.
     pub fn plane_word(&self, i: u32, j: u32) -> u64
         requires direction { i < G.rules.dirs }
-        requires place { j < words_in (length self.now) }
-        ensures { (b : ℕ) → b < 64 → holds result b ≡ holds (slice_index self.now (64 * j + b)) i }
+        requires within { j < words_in (length self.now) }
+        ensures bits { (b : ℕ) → b < 64 → holds result b
+            ≡ holds (slice_index self.now (64 * j + b)) i }
     {
         self.words[i as usize * words_for(self.width) + j as usize]
     }
 
-    /// Changes word `j` of direction `i`. Bits past the width are dropped, and nothing else changes.
+    /// Sets word `j` of direction `i`. Bits past the width are dropped.
     pub fn set_plane_word(&mut self, i: u32, j: u32, word: u64)
         requires direction { i < G.rules.dirs }
-        requires place { j < words_in (length self.old) }
+        requires within { j < words_in (length self.old) }
         ensures wide { length self.new ≡ length self.old }
         ensures written { (b : ℕ) → b < 64 → 64 * j + b < length self.old →
             holds (slice_index self.new (64 * j + b)) i ≡ holds word b }
@@ -197,49 +202,52 @@ impl<G: Gas> Row<G> {
             holds (slice_index self.new x) k ≡ holds (slice_index self.old x) k }
     {
         let count = words_for(self.width);
-        self.words[i as usize * count + j as usize] = cut(word, j, self.width);
+        self.words[i as usize * count + j as usize] = clear_past_width(word, j, self.width);
     }
 
-    /// The states of the cells from `64 * j` on, 0 past the width.
+    /// Returns the states of the 64 cells from `64 * j` on, 0 past the width.
     pub fn states64(&self, j: u32) -> [u8; 64]
-        requires { j < words_in (length self.now) }
-        ensures { (b : ℕ) → b < 64 → slice_index result b ≡ slice_index self.now (64 * j + b) }
+        requires within { j < words_in (length self.now) }
+        ensures states { (b : ℕ) → b < 64 → slice_index result b
+            ≡ slice_index self.now (64 * j + b) }
     {
         let count = words_for(self.width);
-        let planes = gather(&self.words, count, directions::<G>(), j as usize);
+        let planes = words_at(&self.words, count, directions::<G>(), j as usize);
         states_of(planes)
     }
 
-    /// Empties the solid cells. The row and the mask have one width.
+    /// Empties the solid cells. The row and the mask have the same width.
     pub fn empty_solid(&mut self, solid: &Mask)
-        requires { length solid.now ≡ length self.old }
+        requires wide { length solid.now ≡ length self.old }
         ensures emptied { self.new ≡ row_of (length self.old) (λ x.
             if slice_index_or solid.now x false then 0 else slice_index self.old x) }
         ensures states { (x : ℕ) → slice_index self.new x < 2 ^ G.rules.dirs }
     {
         let count = words_for(self.width);
         if !solid.is_blank() {
-            empty(&mut self.words, count, directions::<G>(), solid.words());
+            empty_solid(&mut self.words, count, directions::<G>(), solid.words());
         }
     }
 
-    /// Collides each fluid cell by itself with its random bit, and empties the solid cells, of which
-    /// there are none if `free` says so.
+    /// Collides each fluid cell by the gas's table with its random bit, and empties the solid
+    /// cells. If `free`, no cell is solid.
     pub(crate) fn collide(&mut self, free: bool, solid: &[u64], chi: &[u64])
         requires free { IsTrue free → (x : ℕ) → bit solid.now x ≡ false }
         requires solid { length solid.now ≡ words_in (length self.old) }
         requires chi { length chi.now ≡ words_in (length self.old) }
         ensures { self.new ≡ row_of (length self.old) (λ x.
-            if bit solid.now x then 0 else G.rules.collide (slice_index self.old x) (bit chi.now x)) }
+            if bit solid.now x then 0
+            else G.rules.collide (slice_index self.old x) (bit chi.now x)) }
     {
         let count = words_for(self.width);
         collide::<G>(&mut self.words, count, free, solid, chi);
     }
 
-    /// Streams direction `i` into this row from the row that its particles come from: `along` is
-    /// the step along the row that leads there, `from` the words of the direction in that row, and
-    /// `met` its solid cells. A particle that would come from a solid cell is sent back: `back`
-    /// holds the opposite direction, and `own` the solid cells, of the row that is streamed.
+    /// Streams direction `i` into this row. `from` holds the direction's words in the row that the
+    /// particles come from, `met` the solid cells there, and `along` is the step along the row that
+    /// leads there: -1, 0 or 1. Where that cell is solid, the particle of the opposite direction,
+    /// whose words in the streamed row are `back`, bounces back. `own` are the streamed row's solid
+    /// cells.
     pub fn stream_plane(
         &mut self,
         i: u32,
@@ -258,23 +266,22 @@ impl<G: Gas> Row<G> {
         ensures states { (x : ℕ) → slice_index self.new x < 2 ^ G.rules.dirs }
         ensures streamed { (m : Move) → along ≡ amount m → (x : ℕ) → x < length self.old →
             holds (slice_index self.new x) i
-            ≡ streamed_bit (bit from.now (column_after (length self.old) x m)) (bit met.now (column_after (length self.old) x m)) (bit back.now x) (bit own.now x) }
-        ensures others { (x k : ℕ) → k ≢ i → holds (slice_index self.new x) k ≡ holds (slice_index self.old x) k }
+            ≡ streamed_bit (bit from.now (column_after (length self.old) x m))
+            (bit met.now (column_after (length self.old) x m)) (bit back.now x) (bit own.now x) }
+        ensures others { (x k : ℕ) → k ≢ i → holds (slice_index self.new x) k
+            ≡ holds (slice_index self.old x) k }
     {
-        stream_part(
-            &mut self.words,
-            i as usize,
-            along,
-            from,
-            met,
-            back,
-            own,
-            self.width,
-        );
+        let incoming = Incoming {
+            plane: from,
+            solid_there: met,
+            opposite_here: back,
+            solid_here: own,
+        };
+        stream_part(&mut self.words, i as usize, along, &incoming, self.width);
     }
 
-    /// Streams direction `i` into this row where no cell is solid, from the row that its particles
-    /// come from: `along` is the step along the row that leads there.
+    /// Streams direction `i` into this row from the row `from`, where neither has a solid cell.
+    /// `along` is the step along the row that leads to where the particles come from: -1, 0 or 1.
     #[inline(always)]
     pub fn move_plane(&mut self, i: u32, along: i32, from: &Row<G>)
         requires direction { i < G.rules.dirs }
@@ -282,15 +289,17 @@ impl<G: Gas> Row<G> {
         ensures wide { length self.new ≡ length self.old }
         ensures states { (x : ℕ) → slice_index self.new x < 2 ^ G.rules.dirs }
         ensures moved { (m : Move) → along ≡ amount m → (x : ℕ) → x < length self.old →
-            holds (slice_index self.new x) i ≡ holds (slice_index from.now (column_after (length self.old) x m)) i }
-        ensures others { (x k : ℕ) → k ≢ i → holds (slice_index self.new x) k ≡ holds (slice_index self.old x) k }
+            holds (slice_index self.new x) i
+            ≡ holds (slice_index from.now (column_after (length self.old) x m)) i }
+        ensures others { (x k : ℕ) → k ≢ i → holds (slice_index self.new x) k
+            ≡ holds (slice_index self.old x) k }
     {
         move_part(&mut self.words, i as usize, along, &from.words, self.width);
     }
 
-    /// Streams direction `i` into this row where its particles would come from past the wall, which
-    /// sends back those of the opposite direction: `back` holds it, and `own` the solid cells, of
-    /// the row that is streamed.
+    /// Streams direction `i` into this row where its particles would come from past a wall: those
+    /// of the opposite direction, whose words in the streamed row are `back`, bounce back. `own` are
+    /// the streamed row's solid cells.
     #[inline(always)]
     pub fn reflect_plane(&mut self, i: u32, back: &[u64], own: &[u64])
         requires direction { i < G.rules.dirs }
@@ -300,7 +309,8 @@ impl<G: Gas> Row<G> {
         ensures states { (x : ℕ) → slice_index self.new x < 2 ^ G.rules.dirs }
         ensures reflected { (x : ℕ) → x < length self.old →
             holds (slice_index self.new x) i ≡ (if bit own.now x then false else bit back.now x) }
-        ensures others { (x k : ℕ) → k ≢ i → holds (slice_index self.new x) k ≡ holds (slice_index self.old x) k }
+        ensures others { (x k : ℕ) → k ≢ i → holds (slice_index self.new x) k
+            ≡ holds (slice_index self.old x) k }
     {
         reflect_part(&mut self.words, i as usize, back, own, self.width);
     }

@@ -11,8 +11,8 @@ use Rattle.gas_geom.specs.Channel.{ChannelModel, is_solid}
 use Rattle.gas_geom.specs.Lattice.{arriving, streamed, set_of, row_of}
 use Rattle.gas_geom.proofs.Arriving.{arrives_from}
 use Rattle.gas_geom.proofs.Holds.{set_of-lt, holds-set_of, holds-zero}
-use Rattle.gas_rows.specs.Shift.{streamed_bit}
-use Rattle.gas_rows.proofs.Sets.{set_of-holds, set_from}
+use Rattle.gas_bits.specs.Shift.{streamed_bit}
+use Rattle.gas_bits.proofs.Sets.{set_of-holds, set_from}
 use Rattle.gas_stage.specs.Streaming.{AreRowsAbout, IsRowAt}
 use Rattle.gas_stage.specs.Inside.{IsFar, row_about}
 

@@ -1,7 +1,7 @@
 use Rattle.std.proofs.Common.{◌≡◌, ◌∙◌, sym, ap, ap₂, refl, ℕ, ◌+◌, ◌*◌, ◌<◌, Bool, List, ◌++◌, length, get_or, set, length-set, arith}
 use Rattle.std.specs.List.{slice_index}
 use Rattle.gas_geom.specs.Gas.{holds}
-use Rattle.gas_rows.proofs.Bits.{holds-shr_and}
+use Rattle.gas_bits.proofs.Bits.{holds-shr_and}
 use Rattle.gas_cells.specs.Cells.{cell_text}
 use Rattle.gas_cells.proofs.Pairs.{cell_text-long, texts, texts-next, pair_written, pairs-cut}
 use Rattle.gas_cells.proofs.cells.cell_pairs.Goals as goal

@@ -20,5 +20,5 @@ returns g c =
     ∙ sym (row_cells-part l.channel l.rows y a (128 * c.args.j) cells (λ b. cell_text (holds c.word.result b) (slice_index c.states64.result b))
     (omega (arith, inside)) (omega arith) few
     (λ b h. ap₂ cell_text
-    (c.word.ensures b (omega (arith, h, few)) ∙ ap (λ m. slice_index_or m (a + b) false) solid)
-    (c.states64.ensures b (omega (arith, h, few)) ∙ ap (λ r. slice_index r (a + b)) c.row-row.ensures.row)))
+    (c.word.ensures.bits b (omega (arith, h, few)) ∙ ap (λ m. slice_index_or m (a + b) false) solid)
+    (c.states64.ensures.states b (omega (arith, h, few)) ∙ ap (λ r. slice_index r (a + b)) c.row-row.ensures.row)))

@@ -40,14 +40,14 @@ loop-y-preserved c =
     ∙ ap₂ (λ (b : Bool) (ss : List Strip). b || list_any (λ s. reaches s x v) ss) (c.loop-y.invariant.reached x v) row
     ∙ sym (is_reached-next rows y x v) in
     record {
-      wide = ap (λ (ch : ChannelModel). ch.width) c.set_row.ensures ∙ c.loop-y.invariant.wide;
-      high = ap (λ (ch : ChannelModel). ch.height) c.set_row.ensures ∙ c.loop-y.invariant.high;
+      wide = ap (λ (ch : ChannelModel). ch.width) c.set_row.ensures.written ∙ c.loop-y.invariant.wide;
+      high = ap (λ (ch : ChannelModel). ch.height) c.set_row.ensures.written ∙ c.loop-y.invariant.high;
       sized = subst (λ n. IsSkyline n c.extend_all.new.self) c.loop-y.invariant.sized.columns c.extend_all.ensures.sized;
       reached = reached;
       cells = λ w h e.
           let wide : c.args.channel.now.width ≡ w = ap (λ (ch : ChannelModel). ch.width) e in
           let high : c.args.channel.now.height ≡ h = ap (λ (ch : ChannelModel). ch.height) e in
-          c.set_row.ensures
+          c.set_row.ensures.written
           ∙ ap (λ (ch : ChannelModel). record ch { solid = set ch.solid y c.mark.new.solid }) (c.loop-y.invariant.cells w h e)
           ∙ channel_before-next w h (is_drawn rows) y c.mark.new.solid (omega (arith, in_rows, high)) (search rules)
           (λ x within. c.mark.ensures x (omega (arith, within, wide)) ∙ reached x y);

@@ -26,7 +26,7 @@ returns-clause-cells g c = λ w h solid e.
     let wide : c.width-width.result ≡ w =
     c.width-width.ensures.value ∙ c.size.ensures.width ∙ ap (λ (ch : ChannelModel). ch.width) c.channel.ensures.channel
     ∙ ap (λ (m : LatticeModel). m.channel.width) e ∙ width-filled_before gas c.args.seed c.args.rate w h solid y in
-    c.set_states.ensures
+    c.set_states.ensures.written
     ∙ ap (λ l. with_states l y states) e
     ∙ set_states-filled_before gas c.args.seed c.args.rate w h solid y states
     (omega (arith, c.requires.row, ap (λ (m : LatticeModel). m.channel.height) e ∙ height-filled_before gas c.args.seed c.args.rate w h solid y))

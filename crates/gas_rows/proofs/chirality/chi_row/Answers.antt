@@ -6,17 +6,17 @@ use Rattle.gas_rows.proofs.chirality.chi_row.Goals as goal
 
 pub returns-in-Left-clause-bits : goal.returns-in-Left-clause-bits
 returns-in-Left-clause-bits c =
-    c.fill.ensures ∙ ap (λ n. replicate n true) c.requires
+    c.fill.ensures ∙ ap (λ n. replicate n true) c.requires.wide
     ∙ replicate-map (λ x. chirality_bit c.args.chirality c.args.width c.args.generation x c.args.y) c.args.width true
     (λ x. ap (λ q. chirality_bit q c.args.width c.args.generation x c.args.y) c.in-Left.is)
 
 pub returns-in-Right-clause-bits : goal.returns-in-Right-clause-bits
 returns-in-Right-clause-bits c =
-    c.fill-in-Right.ensures ∙ ap (λ n. replicate n false) c.requires
+    c.fill-in-Right.ensures ∙ ap (λ n. replicate n false) c.requires.wide
     ∙ replicate-map (λ x. chirality_bit c.args.chirality c.args.width c.args.generation x c.args.y) c.args.width false
     (λ x. ap (λ q. chirality_bit q c.args.width c.args.generation x c.args.y) c.in-Right.is)
 
 pub returns-in-Seeded-clause-bits : goal.returns-in-Seeded-clause-bits
 returns-in-Seeded-clause-bits c =
-    c.seeded_row.ensures.bits c.in-Seeded.seed c.generator_of.ensures
-    ∙ ap₂ (λ q n. map (λ x. chirality_bit q n c.args.generation x c.args.y) (range_with_len 0 n)) (sym c.in-Seeded.is) c.requires
+    c.write_seeded_row.ensures.bits c.in-Seeded.seed c.generator_of.ensures
+    ∙ ap₂ (λ q n. map (λ x. chirality_bit q n c.args.generation x c.args.y) (range_with_len 0 n)) (sym c.in-Seeded.is) c.requires.wide

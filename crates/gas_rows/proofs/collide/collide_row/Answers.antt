@@ -1,6 +1,6 @@
 use Rattle.std.proofs.Common.{Bool, length, get_or, if◌then◌else◌, ap, ap₂, ◌∙◌}
 use Rattle.std.proofs.lemmas.List.FromFn.{length-map-range_with_len}
-use Rattle.gas_rows.specs.Words.{words_in}
+use Rattle.gas_bits.specs.Words.{words_in}
 use Rattle.gas_rows.proofs.Rows.{row_of-same}
 use Rattle.gas_rows.proofs.collide.collide_row.Goals as goal
 

@@ -95,7 +95,7 @@ returns g c =
     λ x within. cell_is (cell_at states row x) (λ k. k.solid) _ (some x within) (c.read_row.ensures.solid states x within) in
     let sets : (x : ℕ) → x < length row / 2 → get_or c.read_row.new.state_of x 0 ≡ (unwrap_or (cell_at states row x) empty).state =
     λ x within. cell_is (cell_at states row x) (λ k. k.state) _ (some x within) (c.read_row.ensures.states states x within) in
-    c.set_row.ensures ∙ ap (λ l. with_row l y c.read_row.new.solid c.read_row.new.state_of) c.requires.before
+    c.set_row.ensures.written ∙ ap (λ l. with_row l y c.read_row.new.solid c.read_row.new.state_of) c.requires.before
     ∙ map_before-next states rows y c.read_row.new.solid c.read_row.new.state_of in_rows
     (c.read_row.ensures.wide ∙ width) (c.read_row.ensures.as_wide ∙ width)
     (λ x within. solid x (subst (λ n. x < n) (sym width) within) ∙ ap (λ r. (unwrap_or (cell_at states r x) empty).solid) c.row-row.ensures)

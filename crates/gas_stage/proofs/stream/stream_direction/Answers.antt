@@ -5,8 +5,8 @@ use Rattle.gas_geom.specs.Moves.{Move, amount, column_after}
 use Rattle.gas_geom.specs.Gas.{holds, neighbour_of}
 use Rattle.gas_geom.specs.Channel.{ChannelModel, is_solid}
 use Rattle.gas_geom.specs.Laws.Steps.{is_odd, column_after-lt}
-use Rattle.gas_rows.specs.Shift.{streamed_bit}
-use Rattle.gas_rows.specs.Words.{bit}
+use Rattle.gas_bits.specs.Shift.{streamed_bit}
+use Rattle.gas_bits.specs.Words.{bit}
 use Rattle.gas_stage.proofs.Directions.{neighbour-same_row, neighbour-same_wall, rows_at, streamed_from_cell, streamed_from_wall}
 use Rattle.gas_stage.proofs.stream.stream_direction.Goals as goal
 

@@ -5,5 +5,5 @@ use Rattle.gas_tool_io.proofs.text.put_cells.Goals as goal
 pub returns : goal.returns
 unfolding cells_text
 returns g c =
-    let header = rw c.count.ensures at c.put_header.ensures in
+    let header = rw c.count.ensures.count at c.put_header.ensures in
     Adds-then _ _ _ _ _ _ _ _ header c.put_rows.ensures

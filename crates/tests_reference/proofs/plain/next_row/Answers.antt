@@ -22,11 +22,11 @@ pub loop-x-preserved : goal.loop-x-preserved
 loop-x-preserved g c =
     let wide = ap (λ (channel : ChannelModel). channel.width) c.channel.ensures.channel in
     record {
-      wide = ap (λ (r : List ℕ). length r) c.set.ensures ∙ length-set c.loop-x.row c.loop-x.x c.streamed_state.result ∙ c.loop-x.invariant.wide;
+      wide = ap (λ (r : List ℕ). length r) c.set.ensures.written ∙ length-set c.loop-x.row c.loop-x.x c.streamed_state.result ∙ c.loop-x.invariant.wide;
       done = one_more c.loop-x.row c.set.new.self
           (λ k. streamed g.G.Gas.rules c.args.lattice.now.channel (collided_cells g.G.Gas.rules c.args.chirality c.args.lattice.now c.args.generation) k c.args.y)
           c.args.lattice.now.channel.width c.loop-x.x c.streamed_state.result c.loop-x.invariant.wide
-          (omega (arith, c.loop-x-test.true, c.width-width.ensures.value, c.size.ensures.width, wide)) c.set.ensures c.streamed_state.ensures.value
+          (omega (arith, c.loop-x-test.true, c.width-width.ensures.value, c.size.ensures.width, wide)) c.set.ensures.written c.streamed_state.ensures.value
           c.loop-x.invariant.done;
     }
 

@@ -20,7 +20,7 @@ returns-clause-cells g c = λ w h solid at e.
     let es : pos state ≡ p.state = grind (arith, ints, c.requires.can) in
     let after : ℕ → ℕ → ℕ = λ u v. if is_at p u v then nat_abs p.state else at u v in
     let here : after x y ≡ nat_abs p.state = ap (λ (b : Bool). if b then nat_abs p.state else at x y) (is_at-here p x y ex ey) in
-    c.set_cell.ensures
+    c.set_cell.ensures.written
     ∙ ap (λ n. record l { rows = with_cell l.rows x y n }) (natural-pos _ _ es ∙ sym here)
     ∙ ap (λ (m : LatticeModel). record m { rows = with_cell m.rows x y (after x y) }) e
     ∙ lattice_of-state w h solid at after x y

@@ -13,7 +13,7 @@ loop-y-preserved c =
     let of_row : List Bool → ℕ = λ row. count_by (λ b. b) row in
     record {
       so_far = ap (λ t. t + c.from-total.result) c.loop-y.invariant.so_far
-          ∙ ap (λ p. sum_by of_row (take c.loop-y.y rows) + p) (c.from-total.ensures ∙ c.count.ensures ∙ ap of_row c.mask.ensures.row)
+          ∙ ap (λ p. sum_by of_row (take c.loop-y.y rows) + p) (c.from-total.ensures ∙ c.count.ensures.count ∙ ap of_row c.mask.ensures.row)
           ∙ sym (sum_by_more of_row rows c.loop-y.y [] there);
       bounded = omega (arith, c.from-total.ensures, c.count.type_inv, c.loop-y.invariant.bounded);
     }

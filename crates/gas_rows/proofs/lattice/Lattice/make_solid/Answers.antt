@@ -15,7 +15,7 @@ invariant_of-self g c =
     let row : c.index_mut-row.result.now ≡ get_or rows c.args.y [] =
     c.index_mut-row.ensures.value ∙ get_or_default rows c.args.y c.index_mut-row.result.now [] there in
     let changed : set rows c.args.y c.set.new.self ≡ with_cell rows c.args.x c.args.y 0 =
-    ap (set rows c.args.y) (c.set.ensures ∙ ap (λ (r : List ℕ). set r c.args.x 0) row) in
-    subst (λ (ch : ChannelModel). IsLattice gas ch (set rows c.args.y c.set.new.self)) (sym c.make_solid.ensures)
+    ap (set rows c.args.y) (c.set.ensures.written ∙ ap (λ (r : List ℕ). set r c.args.x 0) row) in
+    subst (λ (ch : ChannelModel). IsLattice gas ch (set rows c.args.y c.set.new.self)) (sym c.make_solid.ensures.written)
     (subst (λ (rs : List (List ℕ)). IsLattice gas (with_solid c.self.inside.channel c.args.x c.args.y) rs) (sym changed)
     (IsLattice-with_solid gas c.self.inside.channel rows c.args.x c.args.y c.self.invariant inx iny))

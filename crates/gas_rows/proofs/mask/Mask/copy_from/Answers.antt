@@ -1,15 +1,17 @@
 use Rattle.std.proofs.Common.{◌≡◌, ℕ, false, List, length, get_or, ap, ◌∙◌, sym, subst}
 use Rattle.std.specs.List.{All}
 use Rattle.std.proofs.lemmas.List.{with_items_is}
-use Rattle.gas_rows.specs.Words.{words_in}
-use Rattle.gas_rows.specs.Mask.{cells, IsMask}
-use Rattle.gas_rows.proofs.Masks.{width_of, cells-from, IsMask-written, cut-list, bit-all_zero}
+use Rattle.gas_bits.specs.Words.{words_in}
+use Rattle.gas_rows.specs.Inner.Mask.{cells, IsMask}
+use Rattle.gas_rows.proofs.Masks.{width_of, cells-from, IsMask-written, cut-list}
+use Rattle.gas_bits.proofs.Words.{bit-all_zero}
 use Rattle.gas_rows.proofs.mask.Mask.copy_from.Goals as goal
 
 pub pack-requires : goal.pack-requires
-pack-requires c =
-    ap (λ (words : List ℕ). length words) c.deref_mut.ensures.value ∙ c.self.invariant.long
-    ∙ ap words_in (sym (c.requires ∙ width_of c.self.inside.width c.self.inside.words.items c.args.self.now c.self.view_is))
+pack-requires c = record {
+  long = ap (λ (words : List ℕ). length words) c.deref_mut.ensures.value ∙ c.self.invariant.long
+      ∙ ap words_in (sym (c.requires ∙ width_of c.self.inside.width c.self.inside.words.items c.args.self.now c.self.view_is));
+}
 
 pub invariant_of-self : goal.invariant_of-self
 invariant_of-self c =
@@ -23,8 +25,8 @@ invariant_of-self c =
     c.pack.auto.words ∙ ap (λ (words : List ℕ). length words) c.deref_mut.ensures.value ∙ c.self.invariant.long in
     subst (IsMask width c.are_zero-self-inside.result) (sym same)
     (IsMask-written width new (λ x. get_or cells x false) c.are_zero-self-inside.result c.self.invariant.some_cells c.self.invariant.few_cells long
-    (λ x. c.pack.ensures x ∙ cut-list width cells wide x)
-    (λ e. bit-all_zero new (subst (λ (ws : List ℕ). All (λ w. w ≡ 0) ws) (c.deref.ensures.value ∙ same) (c.are_zero-self-inside.ensures e))))
+    (λ x. c.pack.ensures.bits x ∙ cut-list width cells wide x)
+    (λ e. bit-all_zero new (subst (λ (ws : List ℕ). All (λ w. w ≡ 0) ws) (c.deref.ensures.value ∙ same) (c.are_zero-self-inside.ensures.zero e))))
 
 pub returns : goal.returns
 returns c =
@@ -32,4 +34,4 @@ returns c =
     let new = c.pack.new.words in
     let same = with_items_is c.self.inside.words new (c.pack.auto.words ∙ c.deref_mut.ensures.len) in
     ap (cells width) same
-    ∙ cells-from width new c.args.cells.now (c.requires ∙ width_of width c.self.inside.words.items c.args.self.now c.self.view_is) (λ x h. c.pack.ensures x)
+    ∙ cells-from width new c.args.cells.now (c.requires ∙ width_of width c.self.inside.words.items c.args.self.now c.self.view_is) (λ x h. c.pack.ensures.bits x)

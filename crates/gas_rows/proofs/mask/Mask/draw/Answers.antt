@@ -3,8 +3,8 @@ use Rattle.std.specs.List.{range_with_len}
 use Rattle.std.proofs.lemmas.List.{with_items_is}
 use Rattle.rand_chacha.specs.ChaCha.{word_at}
 use Rattle.gas_geom.specs.Gas.{holds}
-use Rattle.gas_rows.specs.Words.{words_in}
-use Rattle.gas_rows.specs.Mask.{cells, IsMask}
+use Rattle.gas_bits.specs.Words.{words_in}
+use Rattle.gas_rows.specs.Inner.Mask.{cells, IsMask}
 use Rattle.gas_rows.proofs.Masks.{width_of, IsMask-written, cells-written}
 use Rattle.gas_rows.proofs.mask.Mask.draw.Goals as goal
 

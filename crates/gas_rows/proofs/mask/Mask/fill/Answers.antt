@@ -1,8 +1,8 @@
 use Rattle.std.proofs.Common.{◌≡◌, ◌&&◌, ℕ, Bool, true, false, not, refl, List, length, replicate, ap, ◌∙◌, sym, subst}
 use Rattle.std.specs.Prelude.{nat_lt}
 use Rattle.std.proofs.lemmas.List.{with_items_is}
-use Rattle.gas_rows.specs.Words.{words_in}
-use Rattle.gas_rows.specs.Mask.{cells, IsMask}
+use Rattle.gas_bits.specs.Words.{words_in}
+use Rattle.gas_rows.specs.Inner.Mask.{cells, IsMask}
 use Rattle.gas_rows.proofs.Masks.{width_of, IsMask-written, cells-filled}
 use Rattle.gas_rows.proofs.mask.Mask.fill.Goals as goal
 
@@ -25,8 +25,8 @@ invariant_of-self c =
     let long : length new ≡ words_in width =
     c.fill.auto.words ∙ ap (λ (words : List ℕ). length words) c.deref_mut.ensures.value ∙ c.self.invariant.long in
     subst (IsMask width (not c.args.value)) (sym same)
-    (IsMask-written width new (λ _. c.args.value) (not c.args.value) c.self.invariant.some_cells c.self.invariant.few_cells long c.fill.ensures
-    (λ e x. c.fill.ensures x ∙ none (nat_lt x width) c.args.value e))
+    (IsMask-written width new (λ _. c.args.value) (not c.args.value) c.self.invariant.some_cells c.self.invariant.few_cells long c.fill.ensures.bits
+    (λ e x. c.fill.ensures.bits x ∙ none (nat_lt x width) c.args.value e))
 
 pub returns : goal.returns
 returns c =
@@ -34,5 +34,5 @@ returns c =
     let new = c.fill.new.words in
     let same = with_items_is c.self.inside.words new (c.fill.auto.words ∙ c.deref_mut.ensures.len) in
     ap (cells width) same
-    ∙ cells-filled width new c.args.value c.fill.ensures
+    ∙ cells-filled width new c.args.value c.fill.ensures.bits
     ∙ ap (λ n. replicate n c.args.value) (sym (width_of width c.self.inside.words.items c.args.self.now c.self.view_is))

@@ -1,5 +1,5 @@
 use Rattle.std.proofs.Common.{ℕ, Bool, false, List, length, get_or, ap, ◌∙◌, sym}
-use Rattle.gas_rows.specs.Words.{words_in, bit}
+use Rattle.gas_bits.specs.Words.{words_in, bit}
 use Rattle.gas_rows.proofs.Masks.{width_of, bit-cells}
 use Rattle.gas_rows.proofs.mask.Mask.words.Goals as goal
 

@@ -18,5 +18,5 @@ returns-clause-bits c =
       | then-self-seed w ↦ ap (λ s. s.bits) w.self-inside-is ∙ c.self.view_is
       | else-self-seed w ↦ ap (λ s. s.bits) w.self-inside-is ∙ c.self.view_is
     ] in
-    c.seeded_row.ensures.bits c.args.seed key
+    c.write_seeded_row.ensures.bits c.args.seed key
     ∙ ap (λ (b : List Bool). map (λ x. chirality_bit (Seeded c.args.seed) (length b) c.args.generation x c.args.y) (range_with_len 0 (length b))) bits

@@ -2,8 +2,9 @@ use Rattle.std.proofs.Common.{◌≡◌, suc, ◌+◌, ◌*◌, ◌^◌, ◌<◌
 use Rattle.std.specs.Prelude.{count_ones}
 use Rattle.std.proofs.Math.Nat.{mul-le-mul_right}
 use Rattle.gas_geom.proofs.Sums.{sum_below}
-use Rattle.gas_rows.specs.Words.{words_in}
-use Rattle.gas_rows.proofs.Counting.{particles-ones, ones-le_64}
+use Rattle.gas_bits.specs.Words.{words_in}
+use Rattle.gas_rows.proofs.Counting.{particles-ones}
+use Rattle.gas_bits.proofs.Counting.{ones-le_64}
 use Rattle.gas_rows.proofs.row.Row.count.Goals as goal
 
 pub loop-word-init : goal.loop-word-init
@@ -30,12 +31,14 @@ overflow_add-total g c =
     omega (arith, ones-le_64 (get_or items i 0) (c.loop-word.invariant.fits i), c.self.invariant.few_cells)
 
 pub returns : goal.returns
-returns g c =
-    let items = c.deref-word-items.result.now in
-    let words = c.self.inside.words.items in
-    let all : c.loop-word.word-index ≡ length words = omega (arith, ap length c.deref-word-items.ensures.value) in
-    c.loop-word.invariant.so_far
-    ∙ ap (λ k. sum_below k (λ k. count_ones (get_or items k 0))) all
-    ∙ ap (λ ws. sum_below (length words) (λ k. count_ones (get_or ws k 0))) c.deref-word-items.ensures.value
-    ∙ particles-ones g.G.Gas.rules.dirs c.self.inside.width words c.args.self.now c.self.invariant c.self.view_is
-    (λ k. subst (λ ws. get_or ws k 0 < 2 ^ 64) c.deref-word-items.ensures.value (c.loop-word.invariant.fits k))
+returns g c = record {
+  count =
+      let items = c.deref-word-items.result.now in
+      let words = c.self.inside.words.items in
+      let all : c.loop-word.word-index ≡ length words = omega (arith, ap length c.deref-word-items.ensures.value) in
+      c.loop-word.invariant.so_far
+      ∙ ap (λ k. sum_below k (λ k. count_ones (get_or items k 0))) all
+      ∙ ap (λ ws. sum_below (length words) (λ k. count_ones (get_or ws k 0))) c.deref-word-items.ensures.value
+      ∙ particles-ones g.G.Gas.rules.dirs c.self.inside.width words c.args.self.now c.self.invariant c.self.view_is
+      (λ k. subst (λ ws. get_or ws k 0 < 2 ^ 64) c.deref-word-items.ensures.value (c.loop-word.invariant.fits k));
+}

@@ -1,15 +1,15 @@
 use Rattle.std.proofs.Common.{◌*◌, vec_len, ap, ap₂, ◌∙◌, sym, subst}
 use Rattle.std.proofs.lemmas.List.{with_items_is}
-use Rattle.gas_rows.specs.Words.{words_in}
+use Rattle.gas_bits.specs.Words.{words_in}
 use Rattle.gas_rows.specs.Planes.{AreWordsOf, cells_of}
-use Rattle.gas_rows.specs.Inside.{ArePlanes}
+use Rattle.gas_rows.specs.Inner.Planes.{ArePlanes}
 use Rattle.gas_rows.proofs.Cells.{length-cells}
 use Rattle.gas_rows.proofs.Rows.{wide, long, words_of, planes-loaded, row-loaded}
 use Rattle.gas_rows.proofs.row.Row.exchange_words.Goals as goal
 
-pub clear_past-requires-clause-long : goal.clear_past-requires-clause-long
-clear_past-requires-clause-long g c =
-    c.deref_mut.ensures.len ∙ ap vec_len c.swap.ensures.x_after ∙ c.requires
+pub clear_planes_past-requires-clause-long : goal.clear_planes_past-requires-clause-long
+clear_planes_past-requires-clause-long g c =
+    c.deref_mut.ensures.len ∙ ap vec_len c.swap.ensures.x_after ∙ c.requires.long
     ∙ ap₂ (λ d w. d * words_in w) (sym c.directions.ensures.value)
     (wide g.G.Gas.rules.dirs c.self.inside.width c.self.inside.words.items c.args.self.now c.self.invariant c.self.view_is)
 
@@ -17,12 +17,12 @@ pub invariant_of-self : goal.invariant_of-self
 invariant_of-self g c =
     let dirs = g.G.Gas.rules.dirs in
     let wide = wide dirs c.self.inside.width c.self.inside.words.items c.args.self.now c.self.invariant c.self.view_is in
-    let same = with_items_is c.swap.new.x c.clear_past.new.words (c.clear_past.auto.words ∙ c.deref_mut.ensures.len) in
+    let same = with_items_is c.swap.new.x c.clear_planes_past.new.words (c.clear_planes_past.auto.words ∙ c.deref_mut.ensures.len) in
     subst (ArePlanes dirs c.self.inside.width) (sym same)
-    (planes-loaded dirs c.self.inside.width c.deref_mut.result.now c.clear_past.new.words c.directions.result
+    (planes-loaded dirs c.self.inside.width c.deref_mut.result.now c.clear_planes_past.new.words c.directions.result
     c.directions.ensures.value c.self.invariant.some_cells c.self.invariant.few_cells
-    (c.clear_past.auto.words ∙ c.deref_mut.ensures.len ∙ ap vec_len c.swap.ensures.x_after ∙ c.requires ∙ ap (λ w. dirs * words_in w) wide)
-    c.clear_past.ensures)
+    (c.clear_planes_past.auto.words ∙ c.deref_mut.ensures.len ∙ ap vec_len c.swap.ensures.x_after ∙ c.requires.long ∙ ap (λ w. dirs * words_in w) wide)
+    c.clear_planes_past.ensures.cleared)
 
 pub returns-clause-wide : goal.returns-clause-wide
 returns-clause-wide g c =
@@ -33,19 +33,19 @@ pub returns-clause-long : goal.returns-clause-long
 returns-clause-long g c =
     ap vec_len c.swap.ensures.y_after ∙ c.self.inside.words.ok.0
     ∙ long g.G.Gas.rules.dirs c.self.inside.width c.self.inside.words.items c.args.self.now c.self.invariant c.self.view_is
-    ∙ sym c.requires
+    ∙ sym c.requires.long
 
 pub returns-clause-cells : goal.returns-clause-cells
 returns-clause-cells g c =
     let dirs = g.G.Gas.rules.dirs in
     let wide = wide dirs c.self.inside.width c.self.inside.words.items c.args.self.now c.self.invariant c.self.view_is in
-    let same = with_items_is c.swap.new.x c.clear_past.new.words (c.clear_past.auto.words ∙ c.deref_mut.ensures.len) in
+    let same = with_items_is c.swap.new.x c.clear_planes_past.new.words (c.clear_planes_past.auto.words ∙ c.deref_mut.ensures.len) in
     let given = c.deref_mut.ensures.value ∙ ap (λ v. v.items) c.swap.ensures.x_after in
     ap (cells_of dirs c.self.inside.width) same
-    ∙ row-loaded dirs c.self.inside.width c.deref_mut.result.now c.clear_past.new.words c.directions.result
+    ∙ row-loaded dirs c.self.inside.width c.deref_mut.result.now c.clear_planes_past.new.words c.directions.result
     c.directions.ensures.value c.self.invariant.some_cells c.self.invariant.few_cells
-    (c.clear_past.auto.words ∙ c.deref_mut.ensures.len ∙ ap vec_len c.swap.ensures.x_after ∙ c.requires ∙ ap (λ w. dirs * words_in w) wide)
-    c.clear_past.ensures
+    (c.clear_planes_past.auto.words ∙ c.deref_mut.ensures.len ∙ ap vec_len c.swap.ensures.x_after ∙ c.requires.long ∙ ap (λ w. dirs * words_in w) wide)
+    c.clear_planes_past.ensures.cleared
     ∙ ap₂ (cells_of dirs) (sym wide) given
 
 pub returns-clause-words : goal.returns-clause-words

@@ -1,21 +1,21 @@
 use Rattle.std.proofs.Common.{◌<◌, ◌^◌, ap, ap₂, ◌∙◌, sym, subst, arith}
-use Rattle.gas_rows.specs.Words.{words_in}
-use Rattle.gas_rows.specs.Inside.{state}
+use Rattle.gas_bits.specs.Words.{words_in}
+use Rattle.gas_bits.specs.Planes.{state}
 use Rattle.gas_rows.proofs.Rows.{place, read, read-lt}
 use Rattle.gas_rows.proofs.row.Row.get.Goals as goal
 
 pub read_cell-requires-clause-within : goal.read_cell-requires-clause-within
 read_cell-requires-clause-within g c =
-    omega (arith, c.words_for.ensures, place g.G.Gas.rules.dirs c.self.inside.width c.self.inside.words.items c.args.self.now c.self.invariant c.self.view_is c.args.x c.requires)
+    omega (arith, c.words_for.ensures.value, place g.G.Gas.rules.dirs c.self.inside.width c.self.inside.words.items c.args.self.now c.self.invariant c.self.view_is c.args.x c.requires.within)
 
 pub returns-clause-value : goal.returns-clause-value
 returns-clause-value g c =
-    c.read_cell.ensures
-    ∙ ap₂ (λ n d. state c.deref.result.now n d c.args.x) c.words_for.ensures c.directions.ensures.value
+    c.read_cell.ensures.value
+    ∙ ap₂ (λ n d. state c.deref.result.now n d c.args.x) c.words_for.ensures.value c.directions.ensures.value
     ∙ ap (λ ws. state ws (words_in c.self.inside.width) g.G.Gas.rules.dirs c.args.x) c.deref.ensures.value
-    ∙ read g.G.Gas.rules.dirs c.self.inside.width c.self.inside.words.items c.args.self.now c.self.invariant c.self.view_is c.args.x c.requires
+    ∙ read g.G.Gas.rules.dirs c.self.inside.width c.self.inside.words.items c.args.self.now c.self.invariant c.self.view_is c.args.x c.requires.within
 
 pub returns-clause-state : goal.returns-clause-state
 returns-clause-state g c =
     subst (λ s. s < 2 ^ g.G.Gas.rules.dirs) (sym (returns-clause-value g c))
-    (read-lt g.G.Gas.rules.dirs c.self.inside.width c.self.inside.words.items c.args.self.now c.self.invariant c.self.view_is c.args.x c.requires)
+    (read-lt g.G.Gas.rules.dirs c.self.inside.width c.self.inside.words.items c.args.self.now c.self.invariant c.self.view_is c.args.x c.requires.within)

@@ -3,11 +3,12 @@ use Rattle.std.proofs.lemmas.List.{with_items_is}
 use Rattle.std.proofs.lemmas.Int.{to_z-of_z}
 use Rattle.gas_geom.specs.Moves.{column_after}
 use Rattle.gas_geom.specs.Laws.Steps.{column_after-lt}
-use Rattle.gas_rows.specs.Words.{words_in}
-use Rattle.gas_rows.specs.Inside.{has}
+use Rattle.gas_bits.specs.Words.{words_in}
+use Rattle.gas_bits.specs.Planes.{has}
 use Rattle.gas_rows.proofs.Cells.{width_of}
 use Rattle.gas_rows.proofs.PlaneWrites.{written}
-use Rattle.gas_rows.proofs.Rows.{whole_plane, held}
+use Rattle.gas_bits.proofs.Cells.{whole_plane}
+use Rattle.gas_rows.proofs.Rows.{held}
 use Rattle.gas_rows.proofs.row.Row.move_plane.Goals as goal
 
 pub move_part-requires-clause-from : goal.move_part-requires-clause-from

@@ -1,6 +1,6 @@
 use Rattle.std.proofs.Common.{false, if◌then◌else◌, ap, ◌∙◌}
 use Rattle.std.proofs.lemmas.List.{with_items_is}
-use Rattle.gas_rows.specs.Words.{words_in, bit}
+use Rattle.gas_bits.specs.Words.{words_in, bit}
 use Rattle.gas_rows.proofs.Cells.{width_of}
 use Rattle.gas_rows.proofs.PlaneWrites.{written}
 use Rattle.gas_rows.proofs.row.Row.reflect_plane.Goals as goal

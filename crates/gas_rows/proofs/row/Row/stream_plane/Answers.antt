@@ -2,27 +2,15 @@ use Rattle.std.proofs.Common.{ℕ, Bool, ap, ◌∙◌, sym, w32}
 use Rattle.std.proofs.lemmas.List.{with_items_is}
 use Rattle.std.proofs.lemmas.Int.{to_z-of_z}
 use Rattle.gas_geom.specs.Moves.{column_after}
-use Rattle.gas_rows.specs.Words.{words_in, bit}
-use Rattle.gas_rows.specs.Shift.{streamed_bit}
+use Rattle.gas_bits.specs.Words.{words_in, bit}
+use Rattle.gas_bits.specs.Shift.{streamed_bit}
 use Rattle.gas_rows.proofs.Cells.{width_of}
 use Rattle.gas_rows.proofs.PlaneWrites.{written}
 use Rattle.gas_rows.proofs.row.Row.stream_plane.Goals as goal
 
-pub stream_part-requires-clause-from : goal.stream_part-requires-clause-from
-stream_part-requires-clause-from g c =
+pub stream_part-requires-clause-wide : goal.stream_part-requires-clause-wide
+stream_part-requires-clause-wide g c =
     c.requires.from ∙ ap words_in (width_of g.G.Gas.rules.dirs c.self.inside.width c.self.inside.words.items c.args.self.now c.self.view_is)
-
-pub stream_part-requires-clause-met : goal.stream_part-requires-clause-met
-stream_part-requires-clause-met g c =
-    c.requires.met ∙ ap words_in (width_of g.G.Gas.rules.dirs c.self.inside.width c.self.inside.words.items c.args.self.now c.self.view_is)
-
-pub stream_part-requires-clause-back : goal.stream_part-requires-clause-back
-stream_part-requires-clause-back g c =
-    c.requires.back ∙ ap words_in (width_of g.G.Gas.rules.dirs c.self.inside.width c.self.inside.words.items c.args.self.now c.self.view_is)
-
-pub stream_part-requires-clause-own : goal.stream_part-requires-clause-own
-stream_part-requires-clause-own g c =
-    c.requires.own ∙ ap words_in (width_of g.G.Gas.rules.dirs c.self.inside.width c.self.inside.words.items c.args.self.now c.self.view_is)
 
 pub invariant_of-self : goal.invariant_of-self
 invariant_of-self g c =

@@ -5,7 +5,7 @@ use Rattle.gas_rows.proofs.row.Row.words.Goals as goal
 
 pub copy_from_slice-requires : goal.copy_from_slice-requires
 copy_from_slice-requires g c =
-    c.requires
+    c.requires.long
     ∙ sym (long g.G.Gas.rules.dirs c.self.inside.width c.self.inside.words.items c.args.self.now c.self.invariant c.self.view_is)
     ∙ sym (ap length c.deref.ensures.value)
 

@@ -11,7 +11,7 @@ returns-in_default-take-clause-fits g c = λ p q fits.
     c.self.invariant.chi_wide ∙ ap (λ (v : StageModel). v.channel.width) c.self.view_is ∙ sym c.requires.wide in
     feed-fits g.G.Gas.rules _ c.args.self.now c.self.view_is c.in-Computing.generation (length c.self.inside.chi) c.args.row c.collide_row.new.row
     c.mask.result.now c.mask-2.result.now (ap open_pass c.in-Computing.is) c.collide_row.ensures.collided c.mask.ensures.row
-    wide (c.mask-2.ensures ∙ c.draw.ensures.bits) c.requires.wide p q c.self.inside.before_last fits
+    wide (c.mask-2.ensures.bits ∙ c.draw.ensures.bits) c.requires.wide p q c.self.inside.before_last fits
     (λ some. absurd (nothing_there c.self.inside.last c.in_default-take.ensures.value
     (c.self.invariant.computing c.in-Computing.generation c.in-Computing.is some)))
 
@@ -21,7 +21,7 @@ returns-clause-fits g c = λ p q fits.
     c.self.invariant.chi_wide ∙ ap (λ (v : StageModel). v.channel.width) c.self.view_is ∙ sym c.requires.wide in
     feed-fits g.G.Gas.rules _ c.args.self.now c.self.view_is c.in-Computing.generation (length c.self.inside.chi) c.args.row c.collide_row.new.row
     c.mask.result.now c.mask-2.result.now (ap open_pass c.in-Computing.is) c.collide_row.ensures.collided c.mask.ensures.row
-    wide (c.mask-2.ensures ∙ c.draw.ensures.bits) c.requires.wide p q c.replace-oldest.new.dest fits
+    wide (c.mask-2.ensures.bits ∙ c.draw.ensures.bits) c.requires.wide p q c.replace-oldest.new.dest fits
     (λ some. c.replace-oldest.ensures.after ∙ there-unwrap c.self.inside.last c.in-Some.last c.in-Some.ensures.value)
 
 pub returns-clause-gives : goal.returns-clause-gives
@@ -32,7 +32,7 @@ returns-clause-gives g c = λ p q fits.
     let held = there-unwrap c.self.inside.last c.in-Some.last some in
     feed-gives g.G.Gas.rules _ c.args.self.now c.self.view_is c.in-Computing.generation (length c.self.inside.chi) c.args.row c.collide_row.new.row
     c.mask.result.now c.mask-2.result.now (ap open_pass c.in-Computing.is) c.collide_row.ensures.collided c.mask.ensures.row
-    wide (c.mask-2.ensures ∙ c.draw.ensures.bits) c.requires.wide p q c.stream_between-given.result fits
+    wide (c.mask-2.ensures.bits ∙ c.draw.ensures.bits) c.requires.wide p q c.stream_between-given.result fits
     (c.self.invariant.last_fed (there c.self.inside.last c.in-Some.last some))
     (subst (λ (v : StageModel). v.fed < v.channel.height) (sym c.self.view_is) c.requires.room)
     (λ at about. c.stream_between-given.ensures.streamed at

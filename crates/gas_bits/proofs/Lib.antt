@@ -1,0 +1,11 @@
+pub mod Bits
+pub mod Cells
+pub mod Counting
+pub mod Exchanges
+pub mod Ones
+pub mod PlaneWrites
+pub mod Scatters
+pub mod Sets
+pub mod ShiftedBits
+pub mod Shifts
+pub mod Words

@@ -1,0 +1,11 @@
+use Rattle.std.proofs.Common.{◌≡◌, ℕ, ◌*◌, ◌/◌, ◌<◌, ◌≤◌, if◌then◌else◌}
+use Rattle.gas_bits.specs.Words.{bit}
+use Rattle.gas_bits.specs.Planes.{has, state}
+use Rattle.gas_bits.proofs.planes.empty_solid.Given as goal
+
+abbrev pub invariant-loop-j : goal.invariant-loop-j
+invariant-loop-j l = record {
+  done : (y : ℕ) → y < 64 * l.j → y / 64 < l.count →
+      state l.words l.count l.dirs y ≡ (if bit l.solid y then 0 else state l.initial.words l.count l.dirs y);
+  rest : (i y : ℕ) → i < l.dirs → 64 * l.j ≤ y → y / 64 < l.count → has l.words l.count i y ≡ has l.initial.words l.count i y;
+}

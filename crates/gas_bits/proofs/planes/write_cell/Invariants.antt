@@ -1,0 +1,8 @@
+use Rattle.std.proofs.Common.{◌≡◌, ℕ, ◌<◌, ◌/◌, ◌==◌, ◌&&◌, if◌then◌else◌, ltb}
+use Rattle.gas_geom.specs.Gas.{holds}
+use Rattle.gas_bits.specs.Planes.{has}
+use Rattle.gas_bits.proofs.planes.write_cell.Given as goal
+
+abbrev pub invariant-loop-i : goal.invariant-loop-i
+invariant-loop-i l = (k y : ℕ) → y / 64 < l.count →
+    has l.words l.count k y ≡ (if ltb k l.i && (y == l.x) then holds l.set k else has l.initial.words l.count k y)

@@ -1,0 +1,12 @@
+-- The words of a row of a gas: each direction has n words of 64 cells, direction 0 first.
+use Rattle.std.specs.Prelude.{ℕ, ◌+◌, ◌*◌, ◌/◌, ◌%◌, Bool, List, slice_index}
+use Rattle.gas_geom.specs.Gas.{holds}
+use Rattle.gas_geom.specs.Lattice.{set_of}
+
+-- whether the words say that cell x holds direction i, where each direction has n words
+unfoldable pub has : List ℕ → ℕ → ℕ → ℕ → Bool
+has words n i x = holds (slice_index words (i * n + x / 64)) (x % 64)
+
+-- the set of cell x
+unfoldable pub state : List ℕ → ℕ → ℕ → ℕ → ℕ
+state words n dirs x = set_of dirs (λ i. has words n i x)

@@ -1,0 +1,17 @@
+//! Words of 64 cells, a bit for each cell: single words, a plane of them for a row, and the planes
+//! of all directions of a gas. Nothing here knows rows or masks as values.
+#![tactic(auto)]
+
+pub mod incoming;
+pub mod load;
+pub mod part;
+pub mod plane;
+pub mod planes;
+mod reflect;
+mod shift;
+mod sides;
+mod source;
+pub mod span;
+mod stream;
+pub mod transpose;
+pub mod word;

@@ -1,0 +1,97 @@
+//! One word of 64 cells, bit by bit.
+ghost use Rattle.std.specs.Prelude.{◌≡◌, ◌+◌, ◌-◌, ◌*◌, ◌<◌, ◌≤◌, ◌==◌, ◌&&◌, ℕ, not, nat_le, nat_lt, if◌then◌else◌, false, length, slice_index_or};
+ghost use Rattle.gas_geom.specs.Gas.{holds};
+ghost use Rattle.gas_geom.specs.declared.size.TheConstants.{MOST_SIDE};
+ghost use Rattle.gas_bits.specs.Words.{words_in};
+
+/// Returns the number of words of a row of 0 to 65536 cells.
+#[inline(always)]
+pub fn words_for(width: u32) -> usize
+    requires few_cells { width ≤ MOST_SIDE }
+    ensures value { result ≡ words_in width }
+{
+    (width as usize).div_ceil(64)
+}
+
+/// Returns whether bit `bit`, 0 to 63, is 1.
+#[inline(always)]
+pub fn has_bit(word: u64, bit: u32) -> bool
+    requires within { bit < 64 }
+    ensures value { result ≡ holds word bit }
+{
+    (word >> bit) & 1 == 1
+}
+
+/// Returns the word with bit `bit`, 0 to 63, set to a value.
+#[inline(always)]
+pub fn with_bit(word: u64, bit: u32, value: bool) -> u64
+    requires within { bit < 64 }
+    ensures bits { (b : ℕ) → b < 64 → holds result b ≡ (if b == bit then value else holds word b) }
+{
+    if value {
+        word | (1 << bit)
+    } else {
+        word & !(1 << bit)
+    }
+}
+
+/// Returns the word whose 64 bits have this value.
+#[inline(always)]
+pub(crate) fn fill_word(value: bool) -> u64
+    ensures { (b : ℕ) → b < 64 → holds result b ≡ value }
+{
+    if value { u64::MAX } else { 0 }
+}
+
+/// Returns the word with these halves of 32 bits.
+#[inline(always)]
+pub fn join_halves(low: u32, high: u32) -> u64
+    ensures bits { (b : ℕ) → b < 64 → holds result b
+        ≡ (if nat_lt b 32 then holds low b else holds high (b - 32)) }
+{
+    u64::from(low) | (u64::from(high) << 32)
+}
+
+/// Returns the word of at most 64 cells, the first in the least bit, with 0 for the others.
+pub(crate) fn pack_word(cells: &[bool]) -> u64
+    requires { length cells.now ≤ 64 }
+    ensures { (b : ℕ) → holds result b ≡ slice_index_or cells.now b false }
+{
+    let mut word = 0;
+    for (b, cell) in cells.iter().enumerate() {
+        word |= u64::from(*cell) << b;
+    }
+    word
+}
+
+/// Returns the word with the bits above `last`, 0 to 63, cleared.
+#[inline(always)]
+pub(crate) fn keep_up_to(word: u64, last: u32) -> u64
+    requires { last < 64 }
+    ensures { (b : ℕ) → b < 64 → holds result b ≡ (nat_le b last && holds word b) }
+{
+    word & (u64::MAX >> (63 - last))
+}
+
+/// Returns word `j` of a row with the bits past the width cleared.
+#[inline(always)]
+pub fn clear_past_width(word: u64, j: u32, width: u32) -> u64
+    requires some_cells { 1 ≤ width }
+    requires few_cells { width ≤ MOST_SIDE }
+    requires within { j < words_in width }
+    ensures bits { (b : ℕ) → b < 64 → holds result b ≡ (nat_lt (64 * j + b) width && holds word b) }
+{
+    if j == (width - 1) / 64 {
+        keep_up_to(word, (width - 1) % 64)
+    } else {
+        word
+    }
+}
+
+/// Returns the word with the bits of the mask cleared.
+#[inline(always)]
+pub(crate) fn clear_bits(word: u64, mask: u64) -> u64
+    ensures { (b : ℕ) → b < 64 → holds result b ≡ (holds word b && not (holds mask b)) }
+{
+    word & !mask
+}

@@ -1,5 +1,0 @@
-use Rattle.gas_rows.proofs.Masks.{bit-cleared}
-use Rattle.gas_rows.proofs.mask_words.clear_past.Goals as goal
-
-pub returns : goal.returns
-returns c x = bit-cleared c.args.words.now c.args.width c.up_to.result c.requires.some_cells c.requires.long c.up_to.ensures x

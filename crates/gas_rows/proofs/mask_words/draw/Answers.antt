@@ -1,7 +1,0 @@
-use Rattle.std.proofs.Common.{◌∙◌}
-use Rattle.gas_rows.proofs.Masks.{cut-where}
-use Rattle.gas_rows.proofs.mask_words.draw.Goals as goal
-
-pub returns-clause-bits : goal.returns-clause-bits
-returns-clause-bits c x =
-    c.clear_past.ensures x ∙ cut-where x c.args.width _ _ (λ h. c.join_halves.ensures.bits x h)

@@ -1,8 +1,0 @@
-use Rattle.std.proofs.Common.{◌≡◌, ℕ, ◌*◌, ◌/◌, ◌<◌, get_or}
-use Rattle.gas_geom.specs.Gas.{holds}
-use Rattle.gas_rows.specs.Inside.{has}
-use Rattle.gas_rows.proofs.planes.load_states.Given as goal
-
-abbrev pub invariant-loop-j : goal.invariant-loop-j
-invariant-loop-j l = (i y : ℕ) → i < l.dirs → y < 64 * l.j → y / 64 < l.count →
-    has l.words l.count i y ≡ holds (get_or l.states y 0) i

@@ -1,9 +1,0 @@
-use Rattle.std.proofs.Common.{arith}
-use Rattle.gas_rows.proofs.Cells.{place_in}
-use Rattle.gas_rows.proofs.Collisions.{scatter-more}
-use Rattle.gas_rows.proofs.planes.scatter.Goals as goal
-
-pub loop-i-preserved : goal.loop-i-preserved
-loop-i-preserved c =
-    scatter-more c.args.words.now c.loop-i.words c.args.count c.loop-i.i c.args.j c.without.result c.args.planes c.args.solid
-    (omega (arith, place_in c.args.count c.args.dirs c.loop-i.i c.args.j (omega arith) (omega arith))) c.requires.within c.without.ensures c.loop-i.invariant

@@ -1,6 +1,0 @@
-use Rattle.std.proofs.Common.{arith}
-use Rattle.gas_rows.proofs.ShiftedBits.{holds-streamed}
-use Rattle.gas_rows.proofs.shift.streamed.Goals as goal
-
-pub returns : goal.returns
-returns c b h = holds-streamed c.args.came c.args.met c.args.back c.args.own b (omega arith) (omega arith) h

@@ -1,6 +1,0 @@
-use Rattle.gas_rows.proofs.Ones.{ones-between}
-use Rattle.gas_rows.proofs.span.ones_in.Goals as goal
-
-pub returns : goal.returns
-returns c =
-    ones-between c.args.word c.up_to.result c.args.from c.args.to c.up_to.type_inv c.requires.order c.requires.some c.requires.within c.up_to.ensures

@@ -1,5 +1,0 @@
-use Rattle.gas_rows.proofs.Bits.{holds-shr_and}
-use Rattle.gas_rows.proofs.word.has_bit.Goals as goal
-
-pub returns : goal.returns
-returns c = holds-shr_and c.args.word c.args.bit
