@@ -3,14 +3,14 @@
 
 pub mod answer;
 pub mod backoff;
-mod build;
 mod feeder_loop;
 pub mod gate;
-mod gather;
 mod job;
-mod ring;
+mod join;
+mod line;
 mod shared;
 mod start;
+mod started_line;
 mod waiter;
 pub mod wake_ups;
 mod work;
@@ -24,7 +24,7 @@ ghost use Rattle.gas_pipe_model.specs.Pass.{rings};
 
 use crate::answer::Run;
 use crate::gate::Gate;
-use crate::ring::run_ring;
+use crate::line::run_line;
 use gas_geom::gas::Gas;
 use gas_pipe_members::error::RunError;
 use gas_pipe_members::feeder::Feeder;
@@ -76,5 +76,5 @@ pub fn run<G: Gas + Send, H: Gate + Sync, R: Threads + Wait + Sync>(
         chirality,
         schedule: Schedule { first, plan },
     };
-    Ok(run_ring(rt, alloc, gate, &input, feeder)?)
+    Ok(run_line(rt, alloc, gate, &input, feeder)?)
 }

@@ -5,7 +5,7 @@ ghost use Rattle.gas_pipe_model.specs.Inner.Input.{IsRunInput};
 ghost use Rattle.gas_pipe_run.specs.Inner.Links.{Linked, Advanced, Reached, job_of, last_belt};
 
 use crate::job::Ended;
-use crate::start::Started;
+use crate::start::WorkerThread;
 use gas_belt::carried::{Carried, meet};
 use gas_belt::tx::Spent;
 use gas_geom::gas::Gas;
@@ -33,25 +33,25 @@ fn advance<G: Gas>(
     Some(next)
 }
 
-/// Joins all threads, and lets the ends of the belts meet, from the feeder's on, as far
-/// as no worker stopped early. It gives what is left of the end that the last worker put on.
-pub(crate) fn gather<G: Gas, R: Threads>(
+/// Joins all threads, and lets the ends of the belts meet, from the feeder's on, as far as no worker
+/// stopped early. Returns what is left of the end that the last worker put on.
+pub(crate) fn join_workers<G: Gas, R: Threads>(
     rt: &R,
     input: &RunInput<'_, G>,
     spent: Spent<G>,
-    handles: Vec<Started<'_, G>>,
+    threads: Vec<WorkerThread<'_, G>>,
     belts: &mut Vec<Carried<G>>,
 ) -> Option<Spent<G>>
     requires input { IsRunInput G.rules input.now }
     requires whole { length spent.put ≡ div_ceil input.now.plan.generations input.now.plan.stages * input.now.lattice.channel.height }
-    requires linked { Linked input.now 0 spent.belt (map job_of handles.items) }
+    requires linked { Linked input.now 0 spent.belt (map job_of threads.items) }
     requires none { belts.old.items ≡ [] }
-    ensures next { IfSome result (λ s. s.belt ≡ last_belt spent.belt (map job_of handles.entry.items)) }
-    ensures reached { IfSome result (λ s. Reached G.rules input.now spent.put (vec_len handles.entry) s.put belts.new.items) }
+    ensures next { IfSome result (λ s. s.belt ≡ last_belt spent.belt (map job_of threads.entry.items)) }
+    ensures reached { IfSome result (λ s. Reached G.rules input.now spent.put (vec_len threads.entry) s.put belts.new.items) }
 {
     let mut current = Some(spent);
-    for handle in handles {
-        let ended = handle.join(rt);
+    for thread in threads {
+        let ended = thread.join(rt);
         current = advance(current, ended, belts);
     }
     current
