@@ -19,7 +19,8 @@ fn advance<G: Gas>(
     belts: &mut Vec<Carried<G>>,
 ) -> Option<Spent<G>>
     requires one_belt { IfSome current (λ spent. IfSome ended (λ e. spent.belt ≡ e.rx.belt)) }
-    requires as_many { IfSome current (λ spent. IfSome ended (λ e. length spent.put ≡ length e.rx.taken)) }
+    requires as_many { IfSome current (λ spent.
+        IfSome ended (λ e. length spent.put ≡ length e.rx.taken)) }
     ensures { IfSome result (λ next. Advanced current ended belts.old.items belts.new.items next) }
 {
     let spent = current?;
@@ -33,8 +34,8 @@ fn advance<G: Gas>(
     Some(next)
 }
 
-/// Joins all threads, and lets the ends of the belts meet, from the feeder's on, as far as no worker
-/// stopped early. Returns what is left of the end that the last worker put on.
+/// Joins all threads, and lets the ends of the belts meet, from the feeder's on, as far as no
+/// worker stopped early. Returns what is left of the end that the last worker put on.
 pub(crate) fn join_workers<G: Gas, R: Threads>(
     rt: &R,
     input: &RunInput<'_, G>,
@@ -43,11 +44,15 @@ pub(crate) fn join_workers<G: Gas, R: Threads>(
     belts: &mut Vec<Carried<G>>,
 ) -> Option<Spent<G>>
     requires input { IsRunInput G.rules input.now }
-    requires whole { length spent.put ≡ div_ceil input.now.plan.generations input.now.plan.stages * input.now.lattice.channel.height }
+    requires whole { length spent.put
+        ≡ div_ceil input.now.plan.generations input.now.plan.stages
+        * input.now.lattice.channel.height }
     requires linked { Linked input.now 0 spent.belt (map job_of threads.items) }
     requires none { belts.old.items ≡ [] }
-    ensures next { IfSome result (λ s. s.belt ≡ last_belt spent.belt (map job_of threads.entry.items)) }
-    ensures reached { IfSome result (λ s. Reached G.rules input.now spent.put (vec_len threads.entry) s.put belts.new.items) }
+    ensures next { IfSome result (λ s.
+        s.belt ≡ last_belt spent.belt (map job_of threads.entry.items)) }
+    ensures reached { IfSome result (λ s.
+        Reached G.rules input.now spent.put (vec_len threads.entry) s.put belts.new.items) }
 {
     let mut current = Some(spent);
     for thread in threads {

@@ -97,7 +97,7 @@ impl<'e, G: Gas> Line<'e, G> {
             jobs.push(job)?;
             last = next;
         }
-        feeder.begin_ring(input.schedule.plan.passes());
+        feeder.begin_passes(input.schedule.plan.passes());
         Ok(Line {
             input,
             feeder,

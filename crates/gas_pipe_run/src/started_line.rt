@@ -64,7 +64,8 @@ impl<'e, G: Gas> StartedLine<'e, G> {
         )
     }
 
-    /// Joins the threads, and lets the two ends of each belt meet. None where a worker stopped early.
+    /// Joins the threads, and lets the two ends of each belt meet. None where a worker stopped
+    /// early.
     pub(crate) fn settle<R: Threads>(self, rt: &R) -> Option<Run<G>>
         requires linked { IsLinked G.rules self }
         requires over { self.feeder.to_take ≡ 0 }

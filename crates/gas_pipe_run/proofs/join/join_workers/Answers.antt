@@ -1,8 +1,8 @@
 use Rattle.std.proofs.Common.{rules, refl, sym, zero-add}
 use Rattle.std.specs.Vec.Iter.{into_iter_items, into_iter_len}
 use Rattle.std.specs.Int.{div_ceil}
-use Rattle.gas_pipe_model.specs.Inner.Ring.{owes_in}
-use Rattle.gas_pipe_model.proofs.Ring.{on_first}
+use Rattle.gas_pipe_model.specs.Inner.Circle.{owes_in}
+use Rattle.gas_pipe_model.proofs.Circle.{on_first}
 use Rattle.gas_pipe_run.proofs.Meetings.{asks_belt, asks_many, goes}
 use Rattle.gas_pipe_run.proofs.join.join_workers.Goals as goal
 

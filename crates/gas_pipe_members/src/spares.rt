@@ -1,4 +1,4 @@
-//! Rows that wait to be given back.
+//! Spare rows: rows of puts that wait to be given to an end that rows are taken from.
 ghost use Rattle.std.specs.Prelude.{◌≡◌, ◌<◌, ◌≤◌, ◌++◌, ◌∷◌, [], length, IfOk};
 ghost use Rattle.std.specs.Option.{option_to_list};
 
@@ -9,42 +9,43 @@ use std::alloc::{AllocError, Global};
 use std::collections::VecDeque;
 use std::marker::Model;
 
-/// Spare rows, in places that it has from the start.
+/// Spare rows, with memory for `most` of them from the start.
 #[derive(Drop)]
-pub(crate) struct Reserve<G: Gas> {
+pub(crate) struct Spares<G: Gas> {
     rows: VecDeque<Row<G>>,
-    places: u32,
+    most: u32,
 }
 
-impl<G: Gas> Model for Reserve<G> {
+impl<G: Gas> Model for Spares<G> {
     ghost use Rattle.std.specs.Prelude.{◌≤◌};
     ghost use Rattle.std.specs.VecDeque.{deque_capacity};
-    ghost use Rattle.gas_pipe_members.specs.Inner.Queue.{ReserveModel};
+    ghost use Rattle.gas_pipe_members.specs.Inner.Queue.{SparesModel};
 
-    ghost Value = { ReserveModel };
+    ghost Value = { SparesModel };
 
-    ghost view = { λ r. record { rows = r.rows.items; places = r.places } };
+    ghost view = { λ r. record { rows = r.rows.items; most = r.most } };
 
-    ghost invariant = { λ r. r.places ≤ deque_capacity r.rows };
+    ghost invariant = { λ r. r.most ≤ deque_capacity r.rows };
 }
 
-impl<G: Gas> Reserve<G> {
-    /// No rows, with so many places.
-    pub(crate) fn new(alloc: Global, places: u32) -> Result<Self, AllocError>
-        ensures { IfOk result (λ r. r ≡ record { rows = []; places = places }) }
+impl<G: Gas> Spares<G> {
+    /// No rows, and memory for `most` of them.
+    pub(crate) fn new(alloc: Global, most: u32) -> Result<Self, AllocError>
+        ensures { IfOk result (λ r. r ≡ record { rows = []; most = most }) }
     {
-        Ok(Reserve {
-            rows: VecDeque::with_capacity(alloc, places as usize)?,
-            places,
+        Ok(Spares {
+            rows: VecDeque::with_capacity(alloc, most as usize)?,
+            most,
         })
     }
 
-    // Keeps the row, or drops it where no place is left.
+    // Keeps the row, or drops it where `most` rows are kept.
     fn keep(&mut self, row: Row<G>)
-        ensures kept { length self.old.rows < self.old.places → self.new ≡ record self.old { rows = self.old.rows ++ row ∷ [] } }
-        ensures dropped { self.old.places ≤ length self.old.rows → self.new ≡ self.old }
+        ensures kept { length self.old.rows < self.old.most →
+            self.new ≡ record self.old { rows = self.old.rows ++ row ∷ [] } }
+        ensures dropped { self.old.most ≤ length self.old.rows → self.new ≡ self.old }
     {
-        if self.rows.len() < self.places as usize {
+        if self.rows.len() < self.most as usize {
             self.rows.push_back_reserved(row);
         }
     }
@@ -52,7 +53,7 @@ impl<G: Gas> Reserve<G> {
     // Hands out the row that was kept last.
     fn take(&mut self) -> Option<Row<G>>
         ensures last { self.old.rows ≡ self.new.rows ++ option_to_list result }
-        ensures places { self.new.places ≡ self.old.places }
+        ensures most { self.new.most ≡ self.old.most }
     {
         self.rows.pop_back()
     }

@@ -1,7 +1,7 @@
 use Rattle.std.proofs.Common.{arith, ◌≡◌, ◌*◌, ap, ◌∙◌, rules}
 use Rattle.gas_pipe_members.specs.Feeder.{FeederModel}
 use Rattle.gas_pipe_members.proofs.Queues.{queue_begin}
-use Rattle.gas_pipe_members.proofs.feeder.Feeder.begin_ring.Goals as goal
+use Rattle.gas_pipe_members.proofs.feeder.Feeder.begin_passes.Goals as goal
 
 pub invariant_of-self : goal.invariant_of-self
 invariant_of-self g c =

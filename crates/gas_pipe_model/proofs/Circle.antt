@@ -1,9 +1,9 @@
--- Workers in a ring: the rows on belt 0 fix those on all belts, since each pass begins with what came back from the one before.
+-- Workers in a circle: the rows on belt 0 fix those on all belts, since each pass begins with what came back from the one before.
 use Rattle.std.proofs.Common.{◌≡◌, ℕ, zero, suc, ◌+◌, ◌*◌, ◌-◌, ◌≤◌, List, [], ◌++◌, length, take, drop, refl, sym, ap, subst, ◌∙◌, arith, append_assoc, append-nil, length-append}
 use Rattle.std.proofs.Math.Nat.{suc-mul, mul-le-mul_right}
 use Rattle.std.proofs.Math.Seq.{take-append-add}
 use Rattle.std.proofs.lemmas.List.{take_at, drop_at, take-take, take-append-le, take_all, drop-append-le, length-take-le, length-drop, take-append-drop}
-use Rattle.gas_pipe_model.specs.Inner.Ring.{block, owed_in, on_belt, joined, IsRing}
+use Rattle.gas_pipe_model.specs.Inner.Circle.{block, owed_in, on_belt, joined, IsCircle}
 
 pub joined_next : {A : Type 0} (rows : ℕ → List A) (n : ℕ) → joined rows (suc n) ≡ joined rows n ++ rows n
 unfolding joined
@@ -45,7 +45,7 @@ owed_pass {A = A} H owe n xs q h l =
     ∙ ap (λ (zs : List A). zs ++ owe n (block H n (xs ++ q))) (owed_front H owe n xs q (omega arith))
     ∙ ap (λ (zs : List A). owed_in H owe n xs ++ owe n zs) (ap (take H) (drop_at xs q (n * H) h) ∙ take_all H q (omega arith))
 
-module _ {A : Type 0} (H N : ℕ) (owe : ℕ → ℕ → List A → List A) (back : List A → List A) (rows : ℕ → ℕ → List A) (is : IsRing H N owe back rows) where
+module _ {A : Type 0} (H N : ℕ) (owe : ℕ → ℕ → List A → List A) (back : List A → List A) (rows : ℕ → ℕ → List A) (is : IsCircle H N owe back rows) where
   pub joined_high : (k n : ℕ) → length (joined (λ i. rows i k) n) ≡ n * H
   unfolding joined
   joined_high k zero = omega arith
@@ -141,8 +141,8 @@ module _ {A : Type 0} (H N : ℕ) (owe : ℕ → ℕ → List A → List A) (bac
           ∙ sym (joined_round n)
 
       -- each belt carries what it is to
-      pub ring_law : (k : ℕ) → on_belt H owe passes b k ≡ joined (λ i. rows i k) passes
-      ring_law k =
+      pub circle_law : (k : ℕ) → on_belt H owe passes b k ≡ joined (λ i. rows i k) passes
+      circle_law k =
           sym (take_all (passes * H) (on_belt H owe passes b k) (omega (arith, on_high k)))
           ∙ along passes (omega arith) (around passes (omega arith)) k
 
