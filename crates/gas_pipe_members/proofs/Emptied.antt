@@ -9,7 +9,7 @@ use Rattle.gas_geom.specs.Channel.{ChannelModel, is_solid}
 use Rattle.gas_geom.specs.Lattice.{IsLattice, cell, row_of}
 use Rattle.gas_stage.proofs.Local.{range-cong}
 use Rattle.gas_rows.specs.Row.{RowModel}
-use Rattle.gas_pipe_model.specs.Inner.Ring.{joined}
+use Rattle.gas_pipe_model.specs.Inner.Circle.{joined}
 use Rattle.gas_pipe_members.specs.Feeder.{emptied_row, emptied_from}
 use Rattle.gas_pipe_members.specs.Inner.Steps.{emptied}
 

@@ -28,7 +28,7 @@ fed_take a b row channel items put take next stray some passes rows gave took h 
           ∙ sym (append_assoc gave a.rows (emptied_row a.channel a.next row ∷ []))
           ∙ ap (λ (l : List RowModel). l ++ emptied_row a.channel a.next row ∷ []) h.queue
           ∙ append_assoc rows (emptied a.channel took) (emptied_row a.channel a.next row ∷ [])
-          ∙ ap (λ (k : ℕ). rows ++ (emptied a.channel took ++ emptied_row a.channel k row ∷ [])) h.place
+          ∙ ap (λ (k : ℕ). rows ++ (emptied a.channel took ++ emptied_row a.channel k row ∷ [])) h.next
           ∙ ap (λ (l : List RowModel). rows ++ l) (sym (emptied-snoc a.channel took row))
           ∙ ap (λ (c : ChannelModel). rows ++ emptied c (took ++ row ∷ [])) (sym channel);
       puts = ap (λ (n : ℕ). length gave + n) put ∙ h.puts ∙ ap (λ (n : ℕ). passes * n) (sym high);
@@ -36,8 +36,8 @@ fed_take a b row channel items put take next stray some passes rows gave took h 
           (let e : length (took ++ row ∷ []) + b.to_take ≡ length took + a.to_take = omega (arith, longer, take) in e)
           ∙ h.takes ∙ ap (λ (n : ℕ). passes * n) (sym high);
       behind = omega (arith, longer, h.puts, h.takes, some);
-      place =
-          next ∙ ap (λ (k : ℕ). (k + 1) % a.channel.height) h.place ∙ mod-add-mod (length took) a.channel.height 1
+      next =
+          next ∙ ap (λ (k : ℕ). (k + 1) % a.channel.height) h.next ∙ mod-add-mod (length took) a.channel.height 1
           ∙ ap (λ (k : ℕ). k % a.channel.height) (sym longer) ∙ ap (λ (n : ℕ). length (took ++ row ∷ []) % n) (sym high);
     })
 
@@ -54,7 +54,7 @@ fed_put a b row is passes rows gave took was =
       puts = (let e : length (gave ++ row ∷ []) + b.to_put ≡ length gave + (b.to_put + 1) = omega (arith, length-append gave (row ∷ [])) in e) ∙ h.puts;
       takes = h.takes;
       behind = omega (arith, h.behind, length-append gave (row ∷ []));
-      place = h.place;
+      next = h.next;
     }
 
 -- a list that begins xs ++ more and is no longer than xs begins xs

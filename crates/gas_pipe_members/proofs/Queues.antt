@@ -74,7 +74,7 @@ emptied-solid c y row x solid =
 pub queue_new : (gas : Rules) (c : ChannelModel) (rows : List RowModel) → IsLattice gas c rows → IsQueue gas c rows 0 0 0
 queue_new gas c rows is = record {
   long = omega (arith, is.high);
-  place = zero-mod c.height;
+  last = zero-mod c.height;
   wide = λ i h. is.wide i (omega (arith, is.high));
   sets = is.sets;
   empty = λ x y h solid.
@@ -86,7 +86,7 @@ pub queue_begin : (gas : Rules) (c : ChannelModel) (rows : List RowModel) (to_pu
     to_put ≤ to_take → to_take ≡ 0 → total ≡ passes * c.height → IsQueue gas c rows total total 0
 queue_begin gas c rows to_put to_take next passes total q first over all = record {
   long = omega (arith, q.long);
-  place = ap (λ (n : ℕ). n % c.height) (let e : 0 + total ≡ passes * c.height = omega arith in e) ∙ mul-mod_left passes c.height;
+  last = ap (λ (n : ℕ). n % c.height) (let e : 0 + total ≡ passes * c.height = omega arith in e) ∙ mul-mod_left passes c.height;
   wide = q.wide;
   sets = q.sets;
   empty = λ x y h solid.
@@ -101,7 +101,7 @@ pub queue_put : (gas : Rules) (c : ChannelModel) (row : RowModel) (rows : List R
     IsQueue gas c (row ∷ rows) old_put to_take next → old_put ≡ to_put + 1 → old_put ≤ to_take → IsQueue gas c rows to_put to_take next
 queue_put gas c row rows old_put to_put to_take next q one first = record {
   long = omega (arith, q.long);
-  place = q.place;
+  last = q.last;
   wide = λ i h. q.wide (suc i) (omega arith);
   sets = λ x i. q.sets x (suc i);
   empty = λ x y h solid. stays x y h solid ((y + to_put) % c.height) refl;
@@ -126,9 +126,9 @@ pub queue_take : (gas : Rules) (c : ChannelModel) (rows : List RowModel) (to_put
     length row ≡ c.width → ((x : ℕ) → get_or (emptied_row c old_next row) x 0 < 2 ^ gas.dirs) → IsQueue gas c (rows ++ emptied_row c old_next row ∷ []) to_put to_take next
 queue_take gas c rows to_put old_take to_take old_next next row q one follows below wide sets = record {
   long = omega (arith, q.long, longer);
-  place =
+  last =
       ap (λ (n : ℕ). (n + to_take) % c.height) follows ∙ mod-add-mod (old_next + 1) c.height to_take
-      ∙ ap (λ (n : ℕ). n % c.height) (let e : old_next + 1 + to_take ≡ old_next + old_take = omega arith in e) ∙ q.place;
+      ∙ ap (λ (n : ℕ). n % c.height) (let e : old_next + 1 + to_take ≡ old_next + old_take = omega arith in e) ∙ q.last;
   wide = λ i h. at_push (λ k r. k < length rows + 1 → length r ≡ c.width) rows (emptied_row c old_next row)
       (λ k inside _. q.wide k inside)
       (λ _. length-map-range_with_len (λ x. if is_solid c x old_next then 0 else get_or row x 0) 0 (length row) ∙ wide)
@@ -141,7 +141,7 @@ queue_take gas c rows to_put old_take to_take old_next next row q one follows be
       i;
   empty = λ x y h solid. at_push (λ k r. (y + to_put) % c.height ≡ k → get_or r x 0 ≡ 0) rows (emptied_row c old_next row)
       (λ k _ at. ap (λ (i : ℕ). cell rows x i) (sym at) ∙ q.empty x y h solid)
-      (λ at. last x y solid (next_place c.height y old_next to_put old_take (length rows) h below q.long q.place at))
+      (λ at. last x y solid (next_place c.height y old_next to_put old_take (length rows) h below q.long q.last at))
       (λ k _ _. refl)
       ((y + to_put) % c.height) refl;
 }

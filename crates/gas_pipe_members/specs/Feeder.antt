@@ -24,7 +24,7 @@ abbrev pub emptied_from : ChannelModel → ℕ → List RowModel → List RowMod
 emptied_from channel n [] = []
 emptied_from channel n (row ∷ rows) = emptied_row channel (n % channel.height) row ∷ emptied_from channel (n + 1) rows
 
--- The feeder may have come to its state, in so many passes from the rows `rows`, by putting the rows `gave` and taking the rows
+-- The feeder may have come to its state, in `passes` passes from the rows `rows`, by putting the rows `gave` and taking the rows
 -- `took`: what it put and holds is what it began with and took, solid cells emptied.
 pub record HasFed (f : FeederModel) (passes : ℕ) (rows gave took : List RowModel) : Type 0 where
   pub no_stray : f.stray ≡ false
@@ -32,7 +32,7 @@ pub record HasFed (f : FeederModel) (passes : ℕ) (rows gave took : List RowMod
   pub puts : length gave + f.to_put ≡ passes * f.channel.height
   pub takes : length took + f.to_take ≡ passes * f.channel.height
   pub behind : length took ≤ length gave
-  pub place : f.next ≡ length took % f.channel.height
+  pub next : f.next ≡ length took % f.channel.height
 
 -- by a step from one state to another the feeder puts the rows `puts` and takes the rows `takes`, behind all that it did before
 abbrev pub Feeds : FeederModel → List RowModel → List RowModel → FeederModel → Type 0

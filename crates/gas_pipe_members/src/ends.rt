@@ -25,7 +25,8 @@ pub trait PutEnd<T> {
 
     ghost rests_alone: { (end : Self) → rests end end };
 
-    ghost puts_and_rests: { (a : Self) (row : T) (b c : Self) → puts a row b → rests b c → puts a row c };
+    ghost puts_and_rests: { (a : Self) (row : T) (b c : Self) → puts a row b → rests b c →
+        puts a row c };
 }
 
 /// An end that rows are taken from.
@@ -51,7 +52,8 @@ pub trait TakeEnd<T> {
 
     ghost rests_alone: { (end : Self) → rests end end };
 
-    ghost takes_and_rests: { (a : Self) (row : T) (b c : Self) → takes a row b → rests b c → takes a row c };
+    ghost takes_and_rests: { (a : Self) (row : T) (b c : Self) → takes a row b → rests b c →
+        takes a row c };
 }
 
 /// Moves a spare row from the end that it was put on to the end that it was taken from.

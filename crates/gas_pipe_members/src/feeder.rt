@@ -6,7 +6,7 @@ ghost use mathlib.Core.List.{IsPrefix};
 ghost use Rattle.gas_pipe_members.specs.Feeder.{FeederModel, HasFed, Feeds, emptied_row, emptied_from};
 
 use crate::ends::{PutEnd, TakeEnd, Turned};
-use crate::reserve::Reserve;
+use crate::spares::Spares;
 use gas_geom::gas::Gas;
 use gas_geom::size::Size;
 use gas_rows::channel::Channel;
@@ -26,14 +26,14 @@ fn empty_solid<G: Gas>(channel: &Channel, y: u32, row: &mut Row<G>)
     row.empty_solid(channel.mask(y));
 }
 
-/// The feeder of the line. It holds the rows to be put in order, and those that came back behind
-/// them. The spare rows of its puts wait in a reserve, until the end that it takes from gets them.
+/// The feeder of the line. It holds the rows to be put, in order, and behind them those that came
+/// back. The spare rows of its puts are kept until the end that it takes from is given them.
 #[derive(Drop)]
 pub struct Feeder<G: Gas> {
     channel: Channel,
     size: Size,
     rows: VecDeque<Row<G>>,
-    reserve: Reserve<G>,
+    spares: Spares<G>,
     to_put: u64,
     to_take: u64,
     next: u32,
@@ -85,7 +85,7 @@ impl<G: Gas> Feeder<G> {
             channel,
             size,
             rows: VecDeque::from(rows),
-            reserve: Reserve::new(alloc, size.height())?,
+            spares: Spares::new(alloc, size.height())?,
             to_put: 0,
             to_take: 0,
             next: 0,
@@ -99,12 +99,12 @@ impl<G: Gas> Feeder<G> {
         ensures channel { self.new.channel ≡ self.old.channel }
         ensures nothing_done { HasFed self.new 1 self.old.rows [] [] }
     {
-        self.begin_ring(1);
+        self.begin_passes(1);
     }
 
-    /// Opens as many passes, 1 to 1,000,000, one after another: each row that comes back is left to
-    /// put again as soon as it has come, until all rows of all passes were put.
-    pub fn begin_ring(&mut self, passes: u64)
+    /// Opens `passes` passes, 1 to 1,000,000, one after another: each row that comes back is left
+    /// to put again as soon as it has come, until all rows of all passes were put.
+    pub fn begin_passes(&mut self, passes: u64)
         requires closed { self.old.to_take ≡ 0 }
         requires some { 1 ≤ passes }
         requires few { passes ≤ 1000000 }
@@ -119,7 +119,7 @@ impl<G: Gas> Feeder<G> {
 
     /// Whether no pass is open.
     pub fn is_closed(&self) -> bool
-        ensures { IsTrue result ↔ self.now.to_take ≡ 0 }
+        ensures closed { IsTrue result ↔ self.now.to_take ≡ 0 }
     {
         self.to_take == 0
     }
@@ -127,7 +127,8 @@ impl<G: Gas> Feeder<G> {
     /// The number of rows that it took of the lattice under way, or, where no pass is open, of the
     /// last one.
     pub fn taken(&self) -> u32
-        ensures value { (rows gave took : List RowModel) → HasFed self.now 1 rows gave took → result ≡ length took }
+        ensures value { (rows gave took : List RowModel) → HasFed self.now 1 rows gave took →
+            result ≡ length took }
         ensures few { result ≤ 65536 }
     {
         if self.to_take == 0 {
@@ -140,9 +141,11 @@ impl<G: Gas> Feeder<G> {
     // Puts the next row, if one is left to put and the end takes it.
     fn put_next<P: PutEnd<Row<G>>>(&mut self, put: &mut P) -> bool
         ensures put { IsTrue result → (row : RowModel) × P.puts put.old row put.new
-            × (self.old ≡ record self.new { rows = row ∷ self.new.rows; to_put = self.new.to_put + 1 }) }
+            × (self.old
+            ≡ record self.new { rows = row ∷ self.new.rows; to_put = self.new.to_put + 1 }) }
         ensures rests { IsFalse result → P.rests put.old put.new × (self.new ≡ self.old) }
-        ensures ready { IsFalse result → 0 < self.old.to_put → 0 < length self.old.rows → P.ready put.old → ⊥ }
+        ensures ready { IsFalse result → 0 < self.old.to_put → 0 < length self.old.rows →
+            P.ready put.old → ⊥ }
     {
         if self.to_put == 0 {
             return false;
@@ -153,7 +156,7 @@ impl<G: Gas> Feeder<G> {
         match put.try_put(row) {
             Ok(()) => {
                 self.to_put -= 1;
-                self.reserve.keep_spare(put);
+                self.spares.keep_spare(put);
                 true
             }
             Err(row) => {
@@ -163,13 +166,14 @@ impl<G: Gas> Feeder<G> {
         }
     }
 
-    // Takes a row of the lattice: the next one, of which the solid cells are taken as empty.
+    // Takes the next row of the lattice, with its solid cells empty.
     fn accept(&mut self, mut row: Row<G>)
         requires owed { self.old.to_put < self.old.to_take }
         requires no_stray { self.old.stray ≡ false }
         requires wide { length row ≡ self.old.channel.width }
         ensures channel { self.new.channel ≡ self.old.channel }
-        ensures rows { self.new.rows ≡ self.old.rows ++ emptied_row self.old.channel self.old.next row ∷ [] }
+        ensures rows { self.new.rows ≡ self.old.rows
+            ++ emptied_row self.old.channel self.old.next row ∷ [] }
         ensures to_put { self.new.to_put ≡ self.old.to_put }
         ensures to_take { self.new.to_take + 1 ≡ self.old.to_take }
         ensures next { self.new.next ≡ (self.old.next + 1) % self.old.channel.height }
@@ -183,9 +187,9 @@ impl<G: Gas> Feeder<G> {
     }
 
     /// Makes at most one event: a put of the next row, or, where none is left to put or the end
-    /// hands it back, a take, if fewer rows were taken than put. It answers Done where no pass is
-    /// open. A taken row of another width than the channel's is dropped, and the answer is Stray,
-    /// then and ever after.
+    /// hands it back, a take, if fewer rows were taken than put. Returns Done where no pass is
+    /// open. A taken row of another width than the channel's is dropped, and the turn returns
+    /// Stray, then and ever after.
     #[tactic(auto, using(crate::proofs::Feeds::feeds))]
     pub fn turn<P: PutEnd<Row<G>>, T: TakeEnd<Row<G>>>(
         &mut self,
@@ -194,22 +198,31 @@ impl<G: Gas> Feeder<G> {
     ) -> Turned
         ensures channel { self.new.channel ≡ self.old.channel }
         ensures put { result ≡ Turned.Put →
-            (row : RowModel) × P.puts put.old row put.new × T.rests take.old take.new × Feeds self.old (row ∷ []) [] self.new }
+            (row : RowModel) × P.puts put.old row put.new × T.rests take.old take.new
+            × Feeds self.old (row ∷ []) [] self.new }
         ensures took { result ≡ Turned.Took →
-            (row : RowModel) × T.takes take.old row take.new × P.rests put.old put.new × Feeds self.old [] (row ∷ []) self.new }
+            (row : RowModel) × T.takes take.old row take.new × P.rests put.old put.new
+            × Feeds self.old [] (row ∷ []) self.new }
         ensures took_when { result ≡ Turned.Took → self.old.to_put < self.old.to_take }
-        ensures took_after_put { result ≡ Turned.Took → 0 < self.old.to_put → 0 < length self.old.rows → P.ready put.old → ⊥ }
-        ensures idle { result ≡ Turned.Idle → T.rests take.old take.new × P.rests put.old put.new × (self.new ≡ self.old) }
-        ensures idle_putting { result ≡ Turned.Idle → 0 < self.old.to_put → 0 < length self.old.rows → P.ready put.old → ⊥ }
-        ensures idle_taking { result ≡ Turned.Idle → self.old.to_put < self.old.to_take → T.ready take.old → ⊥ }
-        ensures done { result ≡ Turned.Done → T.rests take.old take.new × P.rests put.old put.new × (self.new ≡ self.old) }
+        ensures took_after_put { result ≡ Turned.Took → 0 < self.old.to_put →
+            0 < length self.old.rows → P.ready put.old → ⊥ }
+        ensures idle { result ≡ Turned.Idle → T.rests take.old take.new × P.rests put.old put.new
+            × (self.new ≡ self.old) }
+        ensures idle_putting { result ≡ Turned.Idle → 0 < self.old.to_put →
+            0 < length self.old.rows → P.ready put.old → ⊥ }
+        ensures idle_taking { result ≡ Turned.Idle → self.old.to_put < self.old.to_take →
+            T.ready take.old → ⊥ }
+        ensures done { result ≡ Turned.Done → T.rests take.old take.new × P.rests put.old put.new
+            × (self.new ≡ self.old) }
         ensures done_when { result ≡ Turned.Done → self.old.to_take ≡ 0 }
         ensures done_if { self.old.to_take ≡ 0 → result ≡ Turned.Done }
         ensures stray { result ≡ Turned.Stray → self.new.stray ≡ true }
         ensures stray_at { result ≡ Turned.Stray → self.old.stray ≡ false →
-            (row : RowModel) × T.takes take.old row take.new × P.rests put.old put.new × (length row ≢ self.old.channel.width) }
+            (row : RowModel) × T.takes take.old row take.new × P.rests put.old put.new
+            × (length row ≢ self.old.channel.width) }
         ensures stray_ever { self.old.stray ≡ true →
-            (result ≡ Turned.Stray) × T.rests take.old take.new × P.rests put.old put.new × (self.new ≡ self.old) }
+            (result ≡ Turned.Stray) × T.rests take.old take.new × P.rests put.old put.new
+            × (self.new ≡ self.old) }
         ensures whole { self.new.to_take ≡ 0 → IsLattice G.rules self.new.channel self.new.rows }
     {
         if self.stray {
@@ -232,7 +245,7 @@ impl<G: Gas> Feeder<G> {
             return Turned::Stray;
         }
         self.accept(row);
-        self.reserve.give_spare(take);
+        self.spares.give_spare(take);
         Turned::Took
     }
 
@@ -246,19 +259,25 @@ impl<G: Gas> Feeder<G> {
     }
 }
 
-/// What a feeder put is the beginning of the rows that it began with and, behind them, those that it
-/// took, solid cells emptied: in so many passes over a lattice at most as many times the height.
-/// Where the passes are closed it has put and taken just as many, and holds the last rows that it
-/// took, as many as a lattice has, solid cells emptied.
+/// What a feeder put is the beginning of the rows that it began with and, behind them, those that
+/// it took, solid cells emptied: at most the height of the lattice times the number of passes.
+/// Where the passes are closed it has put and taken exactly that number, and holds the last rows
+/// that it took, one for each row of the lattice, solid cells emptied.
 pub fn a_feeder_in_order()
-    ensures prefix { (f : FeederModel) (passes : ℕ) (rows gave took : List RowModel) → HasFed f passes rows gave took →
+    ensures prefix { (f : FeederModel) (passes : ℕ) (rows gave took : List RowModel) →
+        HasFed f passes rows gave took →
         IsPrefix gave (rows ++ emptied_from f.channel 0 took) }
-    ensures few { (f : FeederModel) (passes : ℕ) (rows gave took : List RowModel) → HasFed f passes rows gave took →
+    ensures few { (f : FeederModel) (passes : ℕ) (rows gave took : List RowModel) →
+        HasFed f passes rows gave took →
         length gave ≤ passes * f.channel.height }
-    ensures put_all { (f : FeederModel) (passes : ℕ) (rows gave took : List RowModel) → HasFed f passes rows gave took →
+    ensures put_all { (f : FeederModel) (passes : ℕ) (rows gave took : List RowModel) →
+        HasFed f passes rows gave took →
         f.to_take ≡ 0 → length gave ≡ passes * f.channel.height }
-    ensures taken_all { (f : FeederModel) (passes : ℕ) (rows gave took : List RowModel) → HasFed f passes rows gave took →
+    ensures taken_all { (f : FeederModel) (passes : ℕ) (rows gave took : List RowModel) →
+        HasFed f passes rows gave took →
         f.to_take ≡ 0 → length took ≡ passes * f.channel.height }
-    ensures holds { (f : FeederModel) (n : ℕ) (rows gave took : List RowModel) → HasFed f (n + 1) rows gave took →
-        length rows ≡ f.channel.height → f.to_take ≡ 0 → f.rows ≡ emptied_from f.channel 0 (drop (n * f.channel.height) took) }
+    ensures holds { (f : FeederModel) (n : ℕ) (rows gave took : List RowModel) →
+        HasFed f (n + 1) rows gave took →
+        length rows ≡ f.channel.height → f.to_take ≡ 0 →
+        f.rows ≡ emptied_from f.channel 0 (drop (n * f.channel.height) took) }
 {}

@@ -1,5 +1,5 @@
-//! The members of a line, over any two ends: the worker and the feeder; the plan that they follow;
-//! and belts with both ends on one thread.
+//! The members of a line, the worker and the feeder, over any two ends of belts; the plan that they
+//! follow; and belts with both ends on one thread.
 #![tactic(auto)]
 
 mod belt_ends;
@@ -9,6 +9,6 @@ pub mod feeder;
 pub mod input;
 pub mod plain_belt;
 pub mod plan;
-mod reserve;
 pub mod schedule;
+mod spares;
 pub mod worker;

@@ -38,7 +38,7 @@ impl<G: Gas> PlainBelt<G> {
     pub fn new(alloc: Global, capacity: u32) -> Result<Self, AllocError>
         requires some_places { 1 ≤ capacity }
         requires few_places { capacity ≤ 1024 }
-        ensures { IfOk result (λ b. b ≡ record { rows = []; capacity = capacity }) }
+        ensures made { IfOk result (λ b. b ≡ record { rows = []; capacity = capacity }) }
     {
         Ok(PlainBelt {
             rows: VecDeque::with_capacity(alloc, capacity as usize)?,
@@ -56,7 +56,8 @@ impl<G: Gas> PlainBelt<G> {
 }
 
 impl<G: Gas> PutEnd<Row<G>> for PlainBelt<G> {
-    ghost puts = { λ old row new. (length old.rows < old.capacity) × (new ≡ record old { rows = old.rows ++ row ∷ [] }) };
+    ghost puts = { λ old row new. (length old.rows < old.capacity)
+        × (new ≡ record old { rows = old.rows ++ row ∷ [] }) };
 
     ghost rests = { λ old new. new ≡ old };
 
@@ -95,7 +96,8 @@ impl<G: Gas> TakeEnd<Row<G>> for PlainBelt<G> {
         self.rows.pop_front()
     }
 
-    ghost takes_and_rests = { λ a row b c step rests. step ∙ ap (λ (end : BeltModel). record end { rows = row ∷ end.rows }) (sym rests) };
+    ghost takes_and_rests = { λ a row b c step rests.
+        step ∙ ap (λ (end : BeltModel). record end { rows = row ∷ end.rows }) (sym rests) };
 
     fn give(&mut self, row: Row<G>) {
         drop(row);

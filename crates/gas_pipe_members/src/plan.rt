@@ -1,4 +1,5 @@
-//! The plan of a run: the stages of its line, the rows that a belt holds, the generations to compute.
+//! The plan of a run: the stages of its line, the rows that a belt holds, and the generations that
+//! it computes.
 
 ghost use Rattle.std.specs.Prelude.{◌≡◌, ◌≤◌, ◌<◌, ◌*◌, IfOk, IfErr, None, Some};
 ghost use Rattle.std.specs.Int.{div_ceil};

@@ -24,12 +24,12 @@ impl Schedule {
     }
 
     /// The generation that worker `who`, counted from 1, computes the step from in a pass, counted
-    /// from 0, or None where it passes rows on.
+    /// from 0, or None where it hands rows on unchanged.
     pub fn generation(&self, pass: u64, who: u32) -> Option<u64>
         requires pass { pass * self.now.plan.stages < self.now.plan.generations }
         requires some { 1 ≤ who }
         requires one_of { who ≤ self.now.plan.stages }
-        ensures { result ≡ computes_from self.now.first self.now.plan pass who }
+        ensures value { result ≡ computes_from self.now.first self.now.plan pass who }
     {
         let before = pass * u64::from(self.plan.stages()) + u64::from(who - 1);
         if before < self.plan.generations() {

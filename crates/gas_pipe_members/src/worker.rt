@@ -60,8 +60,8 @@ impl<'a, G: Gas> Worker<'a, G> {
         })
     }
 
-    /// Opens a pass that computes the step from a generation, or, with None, one that passes rows
-    /// on.
+    /// Opens a pass that computes the step from a generation, or, with None, one that hands rows on
+    /// unchanged.
     pub fn begin(&mut self, generation: Option<u64>)
         requires closed { IsClosed self.old }
         ensures channel { self.new.stage.channel ≡ self.old.stage.channel }
@@ -73,7 +73,8 @@ impl<'a, G: Gas> Worker<'a, G> {
 
     /// The number of rows that it took in its pass, or in the pass that it closed last.
     pub fn taken(&self) -> u32
-        ensures value { (e : Option ℕ) (took gave : List RowModel) → HasDone G.rules self.now e took gave → result ≡ length took }
+        ensures value { (e : Option ℕ) (took gave : List RowModel) →
+            HasDone G.rules self.now e took gave → result ≡ length took }
         ensures few { result ≤ 65536 }
     {
         let height = self.size.height();
@@ -93,14 +94,17 @@ impl<'a, G: Gas> Worker<'a, G> {
         ensures no_stray { self.new.stray ≡ false }
         ensures none_waits { self.new.waiting ≡ None }
         ensures put { IfSome result (λ row. AfterPut G.rules self.old row self.new) }
-        ensures waits { IfSome result (λ row. AfterNone G.rules self.old (record self.new { waiting = Some row })) }
+        ensures waits { IfSome result (λ row.
+            AfterNone G.rules self.old (record self.new { waiting = Some row })) }
         ensures owing { IsSome result → (e : Option ℕ) (took gave : List RowModel) →
             HasDone G.rules self.old e took gave → gave ≡ owes G.rules self.old e took → ⊥ }
         ensures none { IsNone result → AfterNone G.rules self.old self.new }
         ensures put_all { IsNone result → HasPutAll G.rules self.old }
-        ensures taken_all { IsNone result → self.new.stage.pass ≡ None → HasTakenAll G.rules self.old }
+        ensures taken_all { IsNone result → self.new.stage.pass ≡ None →
+            HasTakenAll G.rules self.old }
         ensures more { IsNone result → IsSome self.new.stage.pass →
-            (self.new ≡ self.old) × (self.new.stage.fed < self.new.stage.channel.height) × HasMoreToTake G.rules self.old }
+            (self.new ≡ self.old) × (self.new.stage.fed < self.new.stage.channel.height)
+            × HasMoreToTake G.rules self.old }
         ensures closed { IsClosed self.old → IsNone result × (self.new ≡ self.old) }
     {
         if let Some(row) = self.waiting.take() {
@@ -127,7 +131,8 @@ impl<'a, G: Gas> Worker<'a, G> {
         ensures take { T.rests take.old take.new }
         ensures put_or_idle { result ≢ Turned.Put → result ≡ Turned.Idle }
         ensures put { result ≡ Turned.Put → P.puts put.old row put.new × (self.new ≡ self.old) }
-        ensures idle { result ≡ Turned.Idle → P.rests put.old put.new × (P.ready put.old → ⊥) × (self.new ≡ record self.old { waiting = Some row }) }
+        ensures idle { result ≡ Turned.Idle → P.rests put.old put.new × (P.ready put.old → ⊥)
+            × (self.new ≡ record self.old { waiting = Some row }) }
     {
         match put.try_put(row) {
             Ok(()) => {
@@ -156,9 +161,9 @@ impl<'a, G: Gas> Worker<'a, G> {
     }
 
     /// Makes at most one event: a put of the next row that it owes, or, where it has put all of
-    /// them, a take. It answers Done where no pass is open, or where all rows of the pass were
-    /// taken and put before. A taken row of another width than the channel's is dropped, and the
-    /// answer is Stray, then and ever after.
+    /// them, a take. Returns Done where no pass is open, or where all rows of the pass were taken
+    /// and put before. A taken row of another width than the channel's is dropped, and the turn
+    /// returns Stray, then and ever after.
     #[tactic(auto, using(crate::proofs::Steps::does))]
     pub fn turn<T: TakeEnd<Row<G>>, P: PutEnd<Row<G>>>(
         &mut self,
@@ -168,28 +173,41 @@ impl<'a, G: Gas> Worker<'a, G> {
         ensures channel { self.new.stage.channel ≡ self.old.stage.channel }
         ensures chirality { self.new.stage.chirality ≡ self.old.stage.chirality }
         ensures took { result ≡ Turned.Took →
-            (row : RowModel) × T.takes take.old row take.new × P.rests put.old put.new × Does G.rules self.old (row ∷ []) [] self.new }
-        ensures took_when { result ≡ Turned.Took → HasPutAll G.rules self.old × HasMoreToTake G.rules self.old }
+            (row : RowModel) × T.takes take.old row take.new × P.rests put.old put.new
+            × Does G.rules self.old (row ∷ []) [] self.new }
+        ensures took_when { result ≡ Turned.Took → HasPutAll G.rules self.old
+            × HasMoreToTake G.rules self.old }
         ensures put { result ≡ Turned.Put →
-            (row : RowModel) × P.puts put.old row put.new × T.rests take.old take.new × Does G.rules self.old [] (row ∷ []) self.new }
+            (row : RowModel) × P.puts put.old row put.new × T.rests take.old take.new
+            × Does G.rules self.old [] (row ∷ []) self.new }
         ensures idle { result ≡ Turned.Idle →
-            T.rests take.old take.new × P.rests put.old put.new × Does G.rules self.old [] [] self.new }
+            T.rests take.old take.new × P.rests put.old put.new
+            × Does G.rules self.old [] [] self.new }
         ensures idle_owing { result ≡ Turned.Idle → (e : Option ℕ) (took gave : List RowModel) →
-            HasDone G.rules self.old e took gave → length gave < length (owes G.rules self.old e took) → P.ready put.old → ⊥ }
+            HasDone G.rules self.old e took gave →
+            length gave < length (owes G.rules self.old e took) → P.ready put.old → ⊥ }
         ensures idle_taking { result ≡ Turned.Idle → (e : Option ℕ) (took gave : List RowModel) →
-            HasDone G.rules self.old e took gave → gave ≡ owes G.rules self.old e took → T.ready take.old → ⊥ }
+            HasDone G.rules self.old e took gave → gave ≡ owes G.rules self.old e took →
+            T.ready take.old → ⊥ }
         ensures done { result ≡ Turned.Done →
-            T.rests take.old take.new × P.rests put.old put.new × Does G.rules self.old [] [] self.new × IsClosed self.new }
-        ensures done_when { result ≡ Turned.Done → HasTakenAll G.rules self.old × HasPutAll G.rules self.old }
+            T.rests take.old take.new × P.rests put.old put.new
+            × Does G.rules self.old [] [] self.new × IsClosed self.new }
+        ensures done_when { result ≡ Turned.Done → HasTakenAll G.rules self.old
+            × HasPutAll G.rules self.old }
         ensures done_if_closed { IsClosed self.old → result ≡ Turned.Done }
-        ensures done_if_all { (e : Option ℕ) (took gave : List RowModel) → HasDone G.rules self.old e took gave →
-            length took ≡ self.old.stage.channel.height → gave ≡ owes G.rules self.old e took → result ≡ Turned.Done }
+        ensures done_if_all { (e : Option ℕ) (took gave : List RowModel) →
+            HasDone G.rules self.old e took gave →
+            length took ≡ self.old.stage.channel.height → gave ≡ owes G.rules self.old e took →
+            result ≡ Turned.Done }
         ensures stray { result ≡ Turned.Stray → self.new.stray ≡ true }
         ensures stray_at { result ≡ Turned.Stray → self.old.stray ≡ false →
-            (row : RowModel) × T.takes take.old row take.new × P.rests put.old put.new × (length row ≢ self.old.stage.channel.width) }
-        ensures stray_when { result ≡ Turned.Stray → HasPutAll G.rules self.old × HasMoreToTake G.rules self.old }
+            (row : RowModel) × T.takes take.old row take.new × P.rests put.old put.new
+            × (length row ≢ self.old.stage.channel.width) }
+        ensures stray_when { result ≡ Turned.Stray → HasPutAll G.rules self.old
+            × HasMoreToTake G.rules self.old }
         ensures stray_ever { self.old.stray ≡ true →
-            (result ≡ Turned.Stray) × T.rests take.old take.new × P.rests put.old put.new × (self.new ≡ self.old) }
+            (result ≡ Turned.Stray) × T.rests take.old take.new × P.rests put.old put.new
+            × (self.new ≡ self.old) }
     {
         if self.stray {
             return Turned::Stray;
@@ -212,13 +230,14 @@ impl<'a, G: Gas> Worker<'a, G> {
     }
 }
 
-/// What a worker put in its pass is the beginning of what it owes for the rows that it took, of
-/// which there are never more than the lattice has. A pass is closed only where all rows were
-/// taken, and all that is owed for them was put.
+/// What a worker put in its pass is the beginning of what it owes for the rows that it took. These
+/// are never more than the lattice has. A pass is closed only where all rows were taken, and all that
+/// is owed for them was put.
 pub fn a_pass_in_order()
     ensures prefix { (gas : Rules) (w : WorkerModel) (e : Option ℕ) (took gave : List RowModel) →
         HasDone gas w e took gave → IsPrefix gave (owes gas w e took) }
     ensures few { (gas : Rules) (w : WorkerModel) (e : Option ℕ) (took gave : List RowModel) →
         HasDone gas w e took gave → length took ≤ w.stage.channel.height }
-    ensures closed { (gas : Rules) (w : WorkerModel) → IsClosed w → HasTakenAll gas w × HasPutAll gas w }
+    ensures closed { (gas : Rules) (w : WorkerModel) → IsClosed w → HasTakenAll gas w
+        × HasPutAll gas w }
 {}

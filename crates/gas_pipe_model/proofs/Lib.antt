@@ -8,5 +8,5 @@ pub mod Opens
 pub mod Generations
 pub mod Wide
 pub mod Boundaries
-pub mod Ring
-pub mod Rings
+pub mod Circle
+pub mod PlanCircle

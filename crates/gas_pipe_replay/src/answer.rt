@@ -31,7 +31,7 @@ impl<G: Gas> Model for Replay<G> {
 }
 
 impl<G: Gas> Replay<G> {
-    /// A pass that stands so. It has 65 belts at most.
+    /// Where a pass stands that has at most 65 belts.
     pub(crate) fn new(lattice: Option<Lattice<G>>, belts: Vec<Counts>) -> Self
         requires { length belts.items ≤ 65 }
         ensures { result ≡ record { lattice = lattice; belts = belts.items } }
@@ -41,7 +41,7 @@ impl<G: Gas> Replay<G> {
 
     /// Whether the pass is done: all rows came back to the feeder.
     pub fn done(&self) -> bool
-        ensures { IsTrue result ↔ IsSome self.now.lattice }
+        ensures value { IsTrue result ↔ IsSome self.now.lattice }
     {
         self.lattice.is_some()
     }
@@ -57,14 +57,15 @@ impl<G: Gas> Replay<G> {
     /// How many belts there are: one more than workers, or none where there was no generation to
     /// compute.
     pub fn belts(&self) -> u32
-        ensures { result ≡ length self.now.belts }
+        ensures value { result ≡ length self.now.belts }
     {
         self.belts.len() as u32
     }
 
     /// How many rows were put on a belt, if there is such a belt.
     pub fn put(&self, belt: u32) -> Option<u32>
-        ensures some { IfSome result (λ rows. (belt < length self.now.belts) × (rows ≡ (slice_index_or self.now.belts belt (record { put = 0; taken = 0 })).put)) }
+        ensures some { IfSome result (λ rows. (belt < length self.now.belts)
+            × (rows ≡ (slice_index_or self.now.belts belt (record { put = 0; taken = 0 })).put)) }
         ensures none { IfNone result (length self.now.belts ≤ belt) }
     {
         self.belts.get(belt as usize).map(|counts| counts.put)
@@ -72,7 +73,8 @@ impl<G: Gas> Replay<G> {
 
     /// How many rows were taken from a belt, if there is such a belt.
     pub fn taken(&self, belt: u32) -> Option<u32>
-        ensures some { IfSome result (λ rows. (belt < length self.now.belts) × (rows ≡ (slice_index_or self.now.belts belt (record { put = 0; taken = 0 })).taken)) }
+        ensures some { IfSome result (λ rows. (belt < length self.now.belts)
+            × (rows ≡ (slice_index_or self.now.belts belt (record { put = 0; taken = 0 })).taken)) }
         ensures none { IfNone result (length self.now.belts ≤ belt) }
     {
         self.belts.get(belt as usize).map(|counts| counts.taken)

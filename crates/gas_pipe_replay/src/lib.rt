@@ -22,9 +22,9 @@ use gas_rows::chirality::Chirality;
 use gas_rows::lattice::Lattice;
 use std::alloc::Global;
 
-/// One pass over a lattice of generation `first` on one thread, in which each of these numbers lets that
-/// member make a turn: 0 is the feeder, k is worker k, and a number above the workers' names nobody.
-/// A plan that needs more than one pass is refused.
+/// Makes one pass over a lattice of generation `first` on one thread, in which each of these
+/// numbers lets that member make a turn: 0 is the feeder, k is worker k, and a number above the
+/// workers' is no member's. A plan that needs more than one pass is refused.
 pub fn replay<G: Gas>(
     alloc: Global,
     lattice: &Lattice<G>,
@@ -35,10 +35,14 @@ pub fn replay<G: Gas>(
 ) -> Result<Replay<G>, RunError>
     requires room { first + plan.generations < 2 ^ 64 }
     ensures more_passes { 1 < div_ceil plan.generations plan.stages ↔ result ≡ Err RunError.MorePasses }
-    ensures state { IfOk result (λ r. r ≡ replay_of G.rules chirality first lattice.now plan turns.now) }
-    ensures done { IfOk result (λ r. HasRounds plan.stages (2 * lattice.now.channel.height * (plan.stages + 1)) turns.now → IsSome r.lattice) }
+    ensures state { IfOk result (λ r.
+        r ≡ replay_of G.rules chirality first lattice.now plan turns.now) }
+    ensures done { IfOk result (λ r.
+        HasRounds plan.stages (2 * lattice.now.channel.height * (plan.stages + 1)) turns.now →
+        IsSome r.lattice) }
     ensures number { IfOk result (λ _. (n : ℕ) → n ≤ plan.generations →
-        count G.rules (lattice_after G.rules chirality first lattice.now n).rows ≡ count G.rules lattice.now.rows) }
+        count G.rules (lattice_after G.rules chirality first lattice.now n).rows
+        ≡ count G.rules lattice.now.rows) }
 {
     if plan.passes() > 1 {
         return Err(RunError::MorePasses);

@@ -53,13 +53,14 @@ fn turn_feeder<G: Gas>(feeder: &mut Feeder<G>, belts: &mut [PlainBelt<G>]) -> Tu
     feeder.turn(&mut before[0], &mut behind[0])
 }
 
-// The workers of a pass, which have begun it.
-fn begun_workers<'a, G: Gas>(
+// Makes the workers of a pass, and lets each begin it.
+fn begin_workers<'a, G: Gas>(
     alloc: Global,
     input: &RunInput<'a, G>,
 ) -> Result<Vec<Worker<'a, G>>, AllocError>
     requires some { 0 < input.now.plan.generations }
-    ensures begun { IfOk result (λ workers. HaveBegun G.rules input.now workers.items input.now.plan.stages) }
+    ensures begun { IfOk result (λ workers.
+        HaveBegun G.rules input.now workers.items input.now.plan.stages) }
     ensures some { 0 < input.now.plan.stages }
     ensures few { input.now.plan.stages ≤ 64 }
 {
@@ -73,8 +74,8 @@ fn begun_workers<'a, G: Gas>(
     Ok(workers)
 }
 
-// The plan's belts, one more than it has workers.
-fn unused_belts<G: Gas>(alloc: Global, plan: Plan) -> Result<Vec<PlainBelt<G>>, AllocError>
+// Makes the plan's belts, one more than it has workers.
+fn make_belts<G: Gas>(alloc: Global, plan: Plan) -> Result<Vec<PlainBelt<G>>, AllocError>
     ensures unused { IfOk result (λ belts. AreUnused plan.capacity belts.items (plan.stages + 1)) }
     ensures some { 0 < plan.capacity }
 {
@@ -92,7 +93,8 @@ pub struct LocalLine<'a, G: Gas> {
     feeder: Feeder<G>,
     workers: Vec<Worker<'a, G>>,
     belts: Vec<PlainBelt<G>>,
-    ghost sizes: { (length belts.items ≡ length workers.items + 1) × (0 < length workers.items) × (length workers.items ≤ 64) },
+    ghost sizes: { (length belts.items ≡ length workers.items + 1) × (0 < length workers.items)
+        × (length workers.items ≤ 64) },
 }
 
 impl<'a, G: Gas> LocalLine<'a, G> {
@@ -100,22 +102,26 @@ impl<'a, G: Gas> LocalLine<'a, G> {
     pub(crate) fn new(alloc: Global, input: &RunInput<'a, G>) -> Result<Self, AllocError>
         requires some { 0 < input.now.plan.generations }
         ensures input { IfOk result (λ _. IsRunInput G.rules input.now) }
-        ensures shows { IfOk result (λ c. Shows G.rules input.now c.feeder c.workers.items c.belts.items (after G.rules input.now [])) }
+        ensures shows { IfOk result (λ c.
+            Shows G.rules input.now c.feeder c.workers.items c.belts.items
+            (after G.rules input.now [])) }
     {
         let mut feeder = Feeder::new(alloc, input.lattice)?;
         feeder.begin();
         Ok(LocalLine {
             feeder,
-            workers: begun_workers(alloc, input)?,
-            belts: unused_belts(alloc, input.schedule.plan)?,
+            workers: begin_workers(alloc, input)?,
+            belts: make_belts(alloc, input.schedule.plan)?,
         })
     }
 
-    /// One turn of a member; a number above the workers' names nobody.
+    /// Makes one turn of a member. A number above the workers' is no member's.
     pub(crate) fn turn(&mut self, who: u32)
         ensures { (input : RunInputModel) (turns : List ℕ) →
-            Shows G.rules input self.old.feeder self.old.workers.items self.old.belts.items (after G.rules input turns) →
-            Shows G.rules input self.new.feeder self.new.workers.items self.new.belts.items (after G.rules input (turns ++ who ∷ [])) }
+            Shows G.rules input self.old.feeder self.old.workers.items self.old.belts.items
+            (after G.rules input turns) →
+            Shows G.rules input self.new.feeder self.new.workers.items self.new.belts.items
+            (after G.rules input (turns ++ who ∷ [])) }
     {
         let who = who as usize;
         if who == 0 {
@@ -125,22 +131,26 @@ impl<'a, G: Gas> LocalLine<'a, G> {
         }
     }
 
-    /// These turns, one after another.
+    /// Makes these turns, one after another.
     pub(crate) fn run(&mut self, turns: &[u32])
         ensures { (input : RunInputModel) →
-            Shows G.rules input self.old.feeder self.old.workers.items self.old.belts.items (after G.rules input []) →
-            Shows G.rules input self.new.feeder self.new.workers.items self.new.belts.items (after G.rules input turns.now) }
+            Shows G.rules input self.old.feeder self.old.workers.items self.old.belts.items
+            (after G.rules input []) →
+            Shows G.rules input self.new.feeder self.new.workers.items self.new.belts.items
+            (after G.rules input turns.now) }
     {
         for who in turns {
             self.turn(*who);
         }
     }
 
-    // How far the belt is from which this member takes: a worker counted from 0, or the feeder behind
-    // the last of them.
-    fn taken_by(&self, k: usize) -> u32
+    // The number of rows that a member took from its belt: a worker counted from 0, or the feeder
+    // behind the last of them.
+    fn count_taken(&self, k: usize) -> u32
         requires { k ≤ length self.now.workers.items }
-        ensures value { (input : RunInputModel) (s : State) → Shows G.rules input self.now.feeder self.now.workers.items self.now.belts.items s → result ≡ length (s.taken k) }
+        ensures value { (input : RunInputModel) (s : State) →
+            Shows G.rules input self.now.feeder self.now.workers.items self.now.belts.items s →
+            result ≡ length (s.taken k) }
         ensures few { result ≤ MOST_SIDE }
     {
         match self.workers.get(k) {
@@ -149,7 +159,7 @@ impl<'a, G: Gas> LocalLine<'a, G> {
         }
     }
 
-    /// How far each belt is.
+    /// The numbers of rows that were put on each belt and taken from it.
     pub(crate) fn counts(&self, alloc: Global) -> Result<Vec<Counts>, AllocError>
         ensures few { IfOk result (λ counts. length counts.items ≤ 65) }
         ensures value { IfOk result (λ counts. (input : RunInputModel) (s : State) →
@@ -158,7 +168,7 @@ impl<'a, G: Gas> LocalLine<'a, G> {
     {
         let mut counts = Vec::with_capacity(alloc, self.belts.len())?;
         for k in 0..self.belts.len() {
-            let taken = self.taken_by(k);
+            let taken = self.count_taken(k);
             let put = taken + self.belts[k].len();
             counts.push(Counts { put, taken })?;
         }
@@ -168,8 +178,11 @@ impl<'a, G: Gas> LocalLine<'a, G> {
     /// The lattice of the last belt, where the pass is done.
     pub(crate) fn finish(self) -> Option<Lattice<G>>
         ensures { (input : RunInputModel) (turns : List ℕ) →
-            Shows G.rules input self.entry.feeder self.entry.workers.items self.entry.belts.items (after G.rules input turns) →
-            result ≡ (if is_done (line_of G.rules input 0) (after G.rules input turns) then Some (record input.lattice { rows = rows_on G.rules input 0 input.plan.stages }) else None) }
+            Shows G.rules input self.entry.feeder self.entry.workers.items self.entry.belts.items
+            (after G.rules input turns) →
+            result ≡ (if is_done (line_of G.rules input 0) (after G.rules input turns)
+            then Some (record input.lattice { rows = rows_on G.rules input 0 input.plan.stages })
+            else None) }
     {
         if self.feeder.is_closed() {
             Some(self.feeder.finish())

@@ -13,11 +13,11 @@ use Rattle.gas_rows.specs.Row.{RowModel}
 use Rattle.gas_pipe_model.specs.Plan.{PlanModel}
 use Rattle.gas_pipe_model.specs.Pass.{RunInputModel, computes_from, rows_on}
 use Rattle.gas_pipe_model.specs.Inner.Input.{IsRunInput}
-use Rattle.gas_pipe_model.specs.Inner.Ring.{owed_in, owes_in}
+use Rattle.gas_pipe_model.specs.Inner.Circle.{owed_in, owes_in}
 use Rattle.gas_pipe_run.specs.Inner.Job.{JobModel, EndedModel, Ran}
 use Rattle.gas_pipe_run.specs.Inner.Links.{Takes, Linked, last_belt, job_of, whole, on, on_first, Advanced, Reached}
-use Rattle.gas_pipe_model.proofs.Ring.{on_high, on_next}
-use Rattle.gas_pipe_model.proofs.Rings.{is_ring}
+use Rattle.gas_pipe_model.proofs.Circle.{on_high, on_next}
+use Rattle.gas_pipe_model.proofs.PlanCircle.{is_circle}
 
 abbrev pub Handle : Type 0
 Handle = PromisedHandle (Option EndedModel) (WorkPromise JobModel)
@@ -35,7 +35,7 @@ on_more gas input b k =
 module _ (gas : Rules) (input : RunInputModel) (is : IsRunInput gas input) (b : List RowModel) (long : length b ≡ all_rows input) where
   pub on_long : (k : ℕ) → length (on gas input b k) ≡ all_rows input
   on_long k =
-      on_high input.lattice.channel.height input.plan.stages (owes_in gas input) (λ q. q) (rows_on gas input) (is_ring gas input is (λ q. q) (λ m q. refl) (λ n. refl))
+      on_high input.lattice.channel.height input.plan.stages (owes_in gas input) (λ q. q) (rows_on gas input) (is_circle gas input is (λ q. q) (λ m q. refl) (λ n. refl))
       (div_ceil input.plan.generations input.plan.stages) b long k
 
   module _ (k : ℕ) (s : Sender) (j : JobModel) (e : EndedModel) (now : List CarriedModel)

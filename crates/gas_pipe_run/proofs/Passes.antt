@@ -10,7 +10,7 @@ use Rattle.gas_rows.specs.Row.{RowModel}
 use Rattle.gas_pipe_members.specs.Worker.{WorkerModel, HasDone, Does, HasTakenAll, HasPutAll}
 use Rattle.gas_pipe_model.specs.Plan.{PlanModel}
 use Rattle.gas_pipe_model.specs.Pass.{computes_from}
-use Rattle.gas_pipe_model.proofs.Ring.{owed_pass}
+use Rattle.gas_pipe_model.proofs.Circle.{owed_pass}
 use Rattle.gas_pipe_run.specs.Inner.Job.{OnePass, owes_until}
 
 -- what a step does to an end of a belt, whatever its buffers

@@ -14,11 +14,11 @@ use Rattle.gas_belt.specs.Belt.{CarriedModel}
 use Rattle.gas_rows.specs.Row.{RowModel}
 use Rattle.gas_pipe_model.specs.Pass.{RunInputModel, ring, rings, rows_on}
 use Rattle.gas_pipe_model.specs.Inner.Input.{IsRunInput}
-use Rattle.gas_pipe_model.specs.Inner.Ring.{joined, IsRing, owes_in}
+use Rattle.gas_pipe_model.specs.Inner.Circle.{joined, IsCircle, owes_in}
 use Rattle.gas_pipe_model.proofs.Boundaries.{enough_passes, some_passes}
 use Rattle.gas_pipe_model.proofs.Generations.{begins_first, ends_last, same_lattice}
-use Rattle.gas_pipe_model.proofs.Ring.{joined_high, ring_law, left_over}
-use Rattle.gas_pipe_model.proofs.Rings.{is_ring, joined_is, round}
+use Rattle.gas_pipe_model.proofs.Circle.{joined_high, circle_law, left_over}
+use Rattle.gas_pipe_model.proofs.PlanCircle.{is_circle, joined_is, round}
 use Rattle.gas_pipe_model.proofs.Wide.{after_is_lattice}
 use Rattle.gas_pipe_members.specs.Feeder.{FeederModel, HasFed}
 use Rattle.gas_pipe_members.specs.Inner.Steps.{emptied}
@@ -116,7 +116,7 @@ module _ (input : RunInputModel) (f : FeederModel) (b took : List RowModel) (cha
   pub taken_long : length took ≡ div_ceil input.plan.generations input.plan.stages * input.lattice.channel.height
   taken_long = fed_taken f _ input.lattice.rows b took fed over ∙ as_high
 
--- the workers' ring, of which the feeder empties the solid cells
+-- the workers in a circle, in which the feeder empties the solid cells
 module _ (gas : Rules) (laws : IsGas gas) (input : RunInputModel) (is : IsRunInput gas input) where
   abbrev high : ℕ
   high = input.lattice.channel.height
@@ -127,10 +127,10 @@ module _ (gas : Rules) (laws : IsGas gas) (input : RunInputModel) (is : IsRunInp
   abbrev last_rows : ℕ → List RowModel
   last_rows = λ i. rows_on gas input i input.plan.stages
 
-  ring_of_workers : IsRing high input.plan.stages (owes_in gas input) (emptied input.lattice.channel) (rows_on gas input)
-  ring_of_workers =
-      let plain = is_ring gas input is (λ q. q) (λ m q. refl) (λ n. refl) in
-      is_ring gas input is (emptied input.lattice.channel) (take-emptied input.lattice.channel)
+  circle_of_workers : IsCircle high input.plan.stages (owes_in gas input) (emptied input.lattice.channel) (rows_on gas input)
+  circle_of_workers =
+      let plain = is_circle gas input is (λ q. q) (λ m q. refl) (λ n. refl) in
+      is_circle gas input is (emptied input.lattice.channel) (take-emptied input.lattice.channel)
       (λ n. emptied_joined gas input.lattice.channel last_rows (λ i. after_is_lattice gas input laws is i input.plan.stages) n
       (joined_high high input.plan.stages (owes_in gas input) (λ q. q) (rows_on gas input) plain input.plan.stages n))
 
@@ -159,7 +159,7 @@ module _ (gas : Rules) (laws : IsGas gas) (input : RunInputModel) (is : IsRunInp
         ∙ ap (take (passes * high)) came
 
     carries : (k : ℕ) → on gas input b k ≡ joined (λ i. rows_on gas input i k) passes
-    carries k = ring_law high input.plan.stages (owes_in gas input) (emptied input.lattice.channel) (rows_on gas input) ring_of_workers passes b all_put_on put_round k
+    carries k = circle_law high input.plan.stages (owes_in gas input) (emptied input.lattice.channel) (rows_on gas input) circle_of_workers passes b all_put_on put_round k
 
     -- each belt has carried the rows of all passes
     pub belts_are : on_first gas input b (input.plan.stages + 1) ≡ map whole (rings gas input)
@@ -185,9 +185,9 @@ module _ (gas : Rules) (laws : IsGas gas) (input : RunInputModel) (is : IsRunInp
         ∙ ap (λ (h : ℕ). drop (passes * h) (input.lattice.rows ++ emptied f.channel took)) height
         ∙ ap (drop (passes * high)) came
         ∙ ap (λ (l : List RowModel). drop (passes * high) (rows_on gas input 0 0 ++ emptied input.lattice.channel l)) (carries input.plan.stages)
-        ∙ ap (λ (l : List RowModel). drop (passes * high) (rows_on gas input 0 0 ++ l)) (ring_of_workers.kept passes)
+        ∙ ap (λ (l : List RowModel). drop (passes * high) (rows_on gas input 0 0 ++ l)) (circle_of_workers.kept passes)
         ∙ ap (λ (n : ℕ). drop (n * high) (rows_on gas input 0 0 ++ joined last_rows n)) one_more
-        ∙ left_over high input.plan.stages (owes_in gas input) (emptied input.lattice.channel) (rows_on gas input) ring_of_workers before
+        ∙ left_over high input.plan.stages (owes_in gas input) (emptied input.lattice.channel) (rows_on gas input) circle_of_workers before
         ∙ ends_last gas input before enough
       where
         enough : input.plan.generations ≤ (before + 1) * input.plan.stages

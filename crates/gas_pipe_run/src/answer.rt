@@ -46,37 +46,38 @@ impl<G: Gas> Run<G> {
 
     /// The lattice after the generations of the plan.
     pub fn lattice(&self) -> &Lattice<G>
-        ensures { result.now ≡ self.now.lattice }
+        ensures value { result.now ≡ self.now.lattice }
     {
         &self.lattice
     }
 
     /// The number of passes.
     pub fn passes(&self) -> u64
-        ensures { result ≡ self.now.passes }
+        ensures value { result ≡ self.now.passes }
     {
         self.plan.passes()
     }
 
-    /// What each belt carried in all passes, one after another: from the belt that the feeder puts on
-    /// to the one that it takes from. There is none where no generation was to be computed.
+    /// What each belt carried in all passes, one after another: from the belt that the feeder puts
+    /// on to the one that it takes from. There is none where no generation was to be computed.
     pub fn belts(&self) -> &[Carried<G>]
-        ensures { result.now ≡ self.now.belts }
+        ensures value { result.now ≡ self.now.belts }
     {
         &self.belts
     }
 
     /// The number of belts that were made.
     pub fn belts_made(&self) -> u64
-        ensures { result ≡ length self.now.belts }
+        ensures value { result ≡ length self.now.belts }
     {
         self.belts.len() as u64
     }
 
-    /// How many rows went through a belt in a pass, both counted from 0, if there were such a pass
-    /// and such a belt: the height of the lattice.
+    /// The number of rows that went through a belt in a pass, both counted from 0, if there were
+    /// such a pass and such a belt: the height of the lattice.
     pub fn rows_through(&self, pass: u64, belt: u32) -> Option<u32>
-        ensures some { IfSome result (λ rows. (pass < self.now.passes) × (belt ≤ self.now.stages) × (rows ≡ self.now.lattice.channel.height)) }
+        ensures some { IfSome result (λ rows. (pass < self.now.passes) × (belt ≤ self.now.stages)
+            × (rows ≡ self.now.lattice.channel.height)) }
         ensures none { IfNone result ((pass < self.now.passes) × (belt ≤ self.now.stages) → ⊥) }
     {
         let is_there = pass < self.passes() && belt <= self.plan.stages();

@@ -1,9 +1,10 @@
-//! When a member of the line that waits spins, yields and parks. It is internal: public for tests alone.
+//! When a member of the line that waits spins, yields and parks. It is internal: public for tests
+//! alone.
 
 use crossbeam_utils::CachePadded;
 use std::sync::atomic::{AtomicU64, Ordering};
 
-// The numbers of the policy. docs/DECISIONS.md gives their reasons at length ("How a member waits").
+// The numbers of the policy. docs/DECISIONS.md gives their reasons ("How a member waits").
 
 // Spins before the first yield: more of them were as fast or slower.
 const SPINS: u32 = 32;
@@ -168,7 +169,7 @@ impl Backoff {
         Some(phase)
     }
 
-    /// A park is over. The wait is missed if nobody ended the park while neighbours might yield.
+    /// A park is over. The wait is missed if no neighbour ended the park while they might yield.
     pub fn count_park(&mut self, was_woken: bool) {
         self.is_missed |= !was_woken && self.mode != Mode::Banned;
     }

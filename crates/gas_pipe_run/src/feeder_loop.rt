@@ -12,8 +12,8 @@ use gas_pipe_members::ends::Turned;
 use gas_pipe_members::feeder::Feeder;
 use std::sync::Wait;
 
-/// Makes the feeder's turns, and says whether its passes are over. It is not where the flag is raised,
-/// or a row of another width came.
+/// Makes the feeder's turns, and returns whether its passes are over. They are not where the stop
+/// flag is raised, or a row of another width came.
 pub(crate) fn feed<G: Gas, R: Wait>(
     rt: &R,
     wake_ups: &WakeUps,
@@ -26,7 +26,8 @@ pub(crate) fn feed<G: Gas, R: Wait>(
     ensures channel { feeder.new.channel ≡ feeder.old.channel }
     ensures closed { IsTrue result → feeder.new.to_take ≡ 0 }
     ensures fed { IsTrue result → (passes : ℕ) (rows : List RowModel) →
-        HasFed feeder.old passes rows tx.old.put rx.old.taken → HasFed feeder.new passes rows tx.new.put rx.new.taken }
+        HasFed feeder.old passes rows tx.old.put rx.old.taken →
+        HasFed feeder.new passes rows tx.new.put rx.new.taken }
 {
     let mut waiter = Waiter::new(wake_ups, 0);
     for _ in rt.forever() {
@@ -37,8 +38,8 @@ pub(crate) fn feed<G: Gas, R: Wait>(
                     return false;
                 }
             }
-            Turned::Took => waiter.took(),
-            Turned::Put => waiter.put(),
+            Turned::Took => waiter.wake_before(),
+            Turned::Put => waiter.wake_behind(),
             Turned::Stray => return false,
         }
     }

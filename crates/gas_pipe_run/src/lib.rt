@@ -3,14 +3,14 @@
 
 pub mod answer;
 pub mod backoff;
-mod build;
 mod feeder_loop;
 pub mod gate;
-mod gather;
 mod job;
-mod ring;
+mod join;
+mod line;
 mod shared;
 mod start;
+mod started_line;
 mod waiter;
 pub mod wake_ups;
 mod work;
@@ -24,7 +24,7 @@ ghost use Rattle.gas_pipe_model.specs.Pass.{rings};
 
 use crate::answer::Run;
 use crate::gate::Gate;
-use crate::ring::run_ring;
+use crate::line::run_line;
 use gas_geom::gas::Gas;
 use gas_pipe_members::error::RunError;
 use gas_pipe_members::feeder::Feeder;
@@ -37,8 +37,8 @@ use std::alloc::Global;
 use std::sync::Wait;
 use std::thread::Threads;
 
-/// Advances a lattice of generation `first` by the generations of a plan. It blocks until all passes are
-/// over: it makes the belts, starts a thread for each worker, which calls the gate round each of
+/// Advances a lattice of generation `first` by the generations of a plan. It blocks until all passes
+/// are over: it makes the belts, starts a thread for each worker, which calls the gate round each of
 /// its passes, makes the feeder's turns on the caller's thread, and joins all threads. The rows of
 /// a pass follow those of the pass before on the same belts. Each belt carries one list of rows,
 /// which is both all that was put on it and all that was taken from it. No memory is taken while
@@ -54,17 +54,24 @@ pub fn run<G: Gas + Send, H: Gate + Sync, R: Threads + Wait + Sync>(
     gate: &H,
 ) -> Result<Run<G>, RunError>
     requires room { first + plan.generations < 2 ^ 64 }
-    ensures put { IfOk result (λ r. map (λ b. b.put) r.belts ≡ rings G.rules (record { chirality = chirality; first = first; lattice = lattice.now; plan = plan })) }
-    ensures taken { IfOk result (λ r. map (λ b. b.taken) r.belts ≡ rings G.rules (record { chirality = chirality; first = first; lattice = lattice.now; plan = plan })) }
-    ensures go_round { IfOk result (λ r. take ((r.passes - 1) * lattice.now.channel.height) (get_or (map (λ b. b.taken) r.belts) r.stages [])
+    ensures put { IfOk result (λ r. map (λ b. b.put) r.belts ≡ rings G.rules
+        (record { chirality = chirality; first = first; lattice = lattice.now; plan = plan })) }
+    ensures taken { IfOk result (λ r. map (λ b. b.taken) r.belts ≡ rings G.rules
+        (record { chirality = chirality; first = first; lattice = lattice.now; plan = plan })) }
+    ensures go_round { IfOk result (λ r.
+        take ((r.passes - 1) * lattice.now.channel.height)
+        (get_or (map (λ b. b.taken) r.belts) r.stages [])
         ≡ drop lattice.now.channel.height (get_or (map (λ b. b.put) r.belts) 0 [])) }
     ensures belts_made { 0 < plan.generations → IfOk result (λ r. length r.belts ≡ r.stages + 1) }
-    ensures lattice { IfOk result (λ r. r.lattice ≡ lattice_after G.rules chirality first lattice.now plan.generations) }
+    ensures lattice { IfOk result (λ r.
+        r.lattice ≡ lattice_after G.rules chirality first lattice.now plan.generations) }
     ensures number { IfOk result (λ _. (n : ℕ) → n ≤ plan.generations →
-        count G.rules (lattice_after G.rules chirality first lattice.now n).rows ≡ count G.rules lattice.now.rows) }
+        count G.rules (lattice_after G.rules chirality first lattice.now n).rows
+        ≡ count G.rules lattice.now.rows) }
     ensures stages { IfOk result (λ r. r.stages ≡ plan.stages) }
     ensures passes { IfOk result (λ r. r.passes ≡ div_ceil plan.generations plan.stages) }
-    ensures no_generation { plan.generations ≡ 0 → IfOk result (λ r. (r.lattice ≡ lattice.now) × (r.belts ≡ [])) }
+    ensures no_generation { plan.generations ≡ 0 →
+        IfOk result (λ r. (r.lattice ≡ lattice.now) × (r.belts ≡ [])) }
     ensures refused { IfErr result (λ e. e ≡ RunError.Memory) }
 {
     let feeder = Feeder::new(alloc, lattice)?;
@@ -76,5 +83,5 @@ pub fn run<G: Gas + Send, H: Gate + Sync, R: Threads + Wait + Sync>(
         chirality,
         schedule: Schedule { first, plan },
     };
-    Ok(run_ring(rt, alloc, gate, &input, feeder)?)
+    Ok(run_line(rt, alloc, gate, &input, feeder)?)
 }

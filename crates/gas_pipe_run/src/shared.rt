@@ -2,8 +2,8 @@
 
 use crate::wake_ups::WakeUps;
 
-/// What all threads of a run share: the runtime, the wake-ups by which they wait for one another, and
-/// the gate that they go through.
+/// What all threads of a run share: the runtime, the wake-ups by which they wait for one another,
+/// and the gate that they go through.
 #[derive(Drop)]
 pub struct Shared<'a, H, R> {
     pub rt: &'a R,

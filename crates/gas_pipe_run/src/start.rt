@@ -1,5 +1,5 @@
 //! Starting the workers' threads.
-ghost use Rattle.std.specs.Prelude.{◌≡◌, [], IsTrue, map, vec_len};
+ghost use Rattle.std.specs.Prelude.{◌≡◌, IfSome, map};
 ghost use Rattle.gas_pipe_run.specs.Inner.Links.{AllReady, job_of};
 
 use crate::gate::Gate;
@@ -7,36 +7,48 @@ use crate::job::{Ended, Job};
 use crate::shared::Shared;
 use crate::work::{WorkPromise, start_work};
 use gas_geom::gas::Gas;
+use std::alloc::Global;
 use std::sync::Wait;
-use std::thread::{PromisedHandle, Scope};
+use std::thread::{PromisedHandle, Scope, Threads};
 
 /// A worker's thread.
-pub type Started<'e, G> = PromisedHandle<Option<Ended<G>>, WorkPromise<Job<'e, G>>>;
+pub type WorkerThread<'e, G> = PromisedHandle<Option<Ended<G>>, WorkPromise<Job<'e, G>>>;
 
-/// Starts a thread for each job, and says whether all were started. Where a start is refused, the
-/// flag is raised.
-pub(crate) fn start<'s, 'e: 's, G: Gas + Send + 'e, H: Gate + Sync, R: Wait + Sync>(
+/// Raises the stop flag, and joins the threads.
+pub(crate) fn give_up<G: Gas, H: Gate, R: Threads + Wait>(
+    shared: &Shared<'_, H, R>,
+    threads: Vec<WorkerThread<'_, G>>,
+) {
+    shared.wake_ups.stop();
+    for thread in threads {
+        drop(thread.join(shared.rt));
+    }
+}
+
+/// Starts a thread for each job. None where memory or a start was refused, and then the threads
+/// that were started are joined.
+pub(crate) fn start_workers<
+    's,
+    'e: 's,
+    G: Gas + Send + 'e,
+    H: Gate + Sync,
+    R: Threads + Wait + Sync,
+>(
     scope: &'s Scope<'s, &'e ()>,
+    alloc: Global,
     shared: &'e Shared<'e, H, R>,
     jobs: Vec<Job<'e, G>>,
-    handles: Vec<Started<'e, G>>,
-) -> (Vec<Started<'e, G>>, bool)
-    requires ready { AllReady jobs.items }
-    requires none { handles.items ≡ [] }
-    requires empty { vec_len handles ≡ 0 }
-    ensures jobs { IsTrue result.1 → map job_of result.0.items ≡ jobs.entry.items }
-    ensures count { IsTrue result.1 → vec_len result.0 ≡ vec_len jobs.entry }
+) -> Option<Vec<WorkerThread<'e, G>>>
+    requires { AllReady jobs.items }
+    ensures { IfSome result (λ threads. map job_of threads.items ≡ jobs.entry.items) }
 {
-    let mut handles = handles;
+    let mut threads = Vec::with_capacity(alloc, jobs.len()).ok()?;
     for job in jobs {
-        let Some(handle) = start_work(scope, shared, job) else {
-            shared.wake_ups.stop();
-            return (handles, false);
+        let Some(thread) = start_work(scope, shared, job) else {
+            give_up(shared, threads);
+            return None;
         };
-        let Ok(()) = handles.push(handle) else {
-            shared.wake_ups.stop();
-            return (handles, false);
-        };
+        threads.push_reserved(thread);
     }
-    (handles, true)
+    Some(threads)
 }

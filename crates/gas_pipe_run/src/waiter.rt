@@ -52,21 +52,22 @@ impl<'a> Waiter<'a> {
         }
     }
 
-    /// A row was put: the member behind may wait for it.
-    pub(crate) fn put(&mut self) {
+    /// A row was put, so the wait is over. Wakes the member behind, which may wait for the row.
+    pub(crate) fn wake_behind(&mut self) {
         self.end_wait();
         let behind = self.member.wrapping_add(1);
         let is_last = behind >= self.wake_ups.members();
         self.wake_ups.wake(if is_last { 0 } else { behind });
     }
 
-    /// Shows the member behind the rows that gathered on the belt, and returns whether there were any.
+    /// Shows the member behind the rows that gathered on the belt, and returns whether there were
+    /// any.
     pub(crate) fn publish<G: Gas>(&mut self, tx: &mut Tx<G>) -> bool
         ensures { tx.new ≡ tx.old }
     {
         let any = tx.publish();
         if any {
-            self.put();
+            self.wake_behind();
         }
         any
     }
@@ -84,8 +85,8 @@ impl<'a> Waiter<'a> {
         }
     }
 
-    /// A row was taken: the member before may wait for its room.
-    pub(crate) fn took(&mut self) {
+    /// A row was taken, so the wait is over. Wakes the member before, which may wait for its room.
+    pub(crate) fn wake_before(&mut self) {
         self.end_wait();
         let is_first = self.member == 0;
         let before = if is_first {

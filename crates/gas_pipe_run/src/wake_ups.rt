@@ -70,8 +70,9 @@ impl WakeUps {
         self.set(member, AWAKE);
     }
 
-    /// Parks a member until it is woken, but not for long, so that it also sees the stop flag. Returns
-    /// at once if it was woken since it announced the park, and returns whether it was woken.
+    /// Parks a member until it is woken, but not for long, so that it also sees the stop flag.
+    /// Returns at once if it was woken since it announced the park, and returns whether it was
+    /// woken.
     pub fn park<R: Wait>(&self, rt: &R, member: usize) -> bool {
         let Some(state) = self.states.get(member) else {
             return true;

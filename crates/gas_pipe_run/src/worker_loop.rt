@@ -15,9 +15,9 @@ use gas_pipe_members::schedule::Schedule;
 use gas_pipe_members::worker::Worker;
 use std::sync::Wait;
 
-// Makes one pass of a worker, and says whether it is over. It is not where the worker stopped
-// early: because the flag is raised, or because a row of another width came, and then the worker
-// raises the flag.
+// Makes one pass of a worker, and returns whether it is over. It is not where the worker stopped
+// early: because the stop flag is raised, or because a row of another width came, and then the
+// worker raises the flag.
 fn make_pass<G: Gas, H, R: Wait>(
     shared: &Shared<'_, H, R>,
     waiter: &mut Waiter<'_>,
@@ -32,7 +32,8 @@ fn make_pass<G: Gas, H, R: Wait>(
     ensures channel { worker.new.stage.channel ≡ worker.old.stage.channel }
     ensures chirality { worker.new.stage.chirality ≡ worker.old.stage.chirality }
     ensures closed { IsTrue result → IsClosed worker.new }
-    ensures whole { IsTrue result → OnePass G.rules worker.old generation rx.old.taken tx.old.put rx.new.taken tx.new.put }
+    ensures whole { IsTrue result →
+        OnePass G.rules worker.old generation rx.old.taken tx.old.put rx.new.taken tx.new.put }
 {
     worker.begin(generation);
     for _ in shared.rt.forever() {
@@ -46,8 +47,8 @@ fn make_pass<G: Gas, H, R: Wait>(
                     return false;
                 }
             }
-            Turned::Took => waiter.took(),
-            Turned::Put => waiter.put(),
+            Turned::Took => waiter.wake_before(),
+            Turned::Put => waiter.wake_behind(),
             Turned::Stray => {
                 shared.wake_ups.stop();
                 return false;
@@ -74,9 +75,12 @@ pub(crate) fn make_passes<G: Gas, H: Gate, R: Wait>(
     requires nothing_put { tx.old.put ≡ [] }
     ensures rx { rx.new.belt ≡ rx.old.belt }
     ensures tx { tx.new.belt ≡ tx.old.belt }
-    ensures whole { IsTrue result → length rx.new.taken ≡ div_ceil schedule.now.plan.generations schedule.now.plan.stages * worker.old.stage.channel.height }
+    ensures whole { IsTrue result → length rx.new.taken
+        ≡ div_ceil schedule.now.plan.generations schedule.now.plan.stages
+        * worker.old.stage.channel.height }
     ensures owes { IsTrue result → tx.new.put
-        ≡ owes_until G.rules worker.old schedule.now.first schedule.now.plan who (div_ceil schedule.now.plan.generations schedule.now.plan.stages) rx.new.taken }
+        ≡ owes_until G.rules worker.old schedule.now.first schedule.now.plan who
+        (div_ceil schedule.now.plan.generations schedule.now.plan.stages) rx.new.taken }
 {
     let passes = schedule.passes();
     let mut waiter = Waiter::new(shared.wake_ups, who);

@@ -6,17 +6,17 @@ use Rattle.gas_geom.specs.Channel.{ChannelModel, is_solid}
 use Rattle.gas_geom.specs.Lattice.{cell}
 use Rattle.gas_rows.specs.Row.{RowModel}
 
--- The rows that a feeder holds, where so many rows are still to be put and taken and row `next` comes back next: rows of a
--- lattice, where row y has the place y + to_put, counted round the height.
+-- The rows that a feeder holds, where to_put rows are still to be put, to_take rows still to be taken, and row `next` of a lattice
+-- comes back next: rows of a lattice, of which row y stands at y + to_put, modulo the height.
 pub record IsQueue (gas : Rules) (channel : ChannelModel) (rows : List RowModel) (to_put to_take next : ℕ) : Type 0 where
   pub long : length rows + to_take ≡ channel.height + to_put
   -- the last row that comes back is a lattice's last
-  pub place : (next + to_take) % channel.height ≡ 0
+  pub last : (next + to_take) % channel.height ≡ 0
   pub wide : (i : ℕ) → i < length rows → length (slice_index_or rows i []) ≡ channel.width
   pub sets : (x i : ℕ) → cell rows x i < 2 ^ gas.dirs
   pub empty : (x y : ℕ) → y < channel.height → is_solid channel x y ≡ true → cell rows x ((y + to_put) % channel.height) ≡ 0
 
 -- spare rows, and how many there can be
-pub record ReserveModel : Type 0 where
+pub record SparesModel : Type 0 where
   pub rows : List RowModel
-  pub places : ℕ
+  pub most : ℕ

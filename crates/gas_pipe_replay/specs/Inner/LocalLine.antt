@@ -36,10 +36,10 @@ pub record Shows (gas : Rules) (input : RunInputModel) (f : FeederModel) (worker
   pub holds : (k : ℕ) → k ≤ input.plan.stages → s.taken k ++ (belt belts k).rows ≡ s.put k
   pub capacity : (k : ℕ) → k ≤ input.plan.stages → (belt belts k).capacity ≡ input.plan.capacity
 
--- the first n workers, of which each has begun its pass
+-- the workers are n, and each has begun its pass
 abbrev pub HaveBegun : Rules → RunInputModel → List WorkerModel → ℕ → Type 0
 HaveBegun gas input workers n = (length workers ≡ n) × ((k : ℕ) (d : WorkerModel) → k < n → IsAt gas input k (get_or workers k d) [] [])
 
--- so many unused belts
+-- the belts are n unused ones
 abbrev pub AreUnused : ℕ → List BeltModel → ℕ → Type 0
 AreUnused capacity belts n = (length belts ≡ n) × ((k : ℕ) → k < n → belt belts k ≡ record { rows = []; capacity = capacity })

@@ -6,10 +6,10 @@ use Rattle.gas_pipe_run.proofs.Settled.{all_put, all_taken, rings_made, go_round
 use Rattle.gas_pipe_run.proofs.run.Goals as goal
 
 pub returns-clause-put : goal.returns-clause-put
-returns-clause-put g c = ap (map (λ (b : CarriedModel). b.put)) c.in_ok-run_ring.ensures.belts ∙ all_put _
+returns-clause-put g c = ap (map (λ (b : CarriedModel). b.put)) c.in_ok-run_line.ensures.belts ∙ all_put _
 
 pub returns-clause-taken : goal.returns-clause-taken
-returns-clause-taken g c = ap (map (λ (b : CarriedModel). b.taken)) c.in_ok-run_ring.ensures.belts ∙ all_taken _
+returns-clause-taken g c = ap (map (λ (b : CarriedModel). b.taken)) c.in_ok-run_line.ensures.belts ∙ all_taken _
 
 pub returns-clause-go_round : goal.returns-clause-go_round
 returns-clause-go_round g c =
@@ -18,11 +18,11 @@ returns-clause-go_round g c =
     let some : 0 < c.args.plan.generations = omega (arith, c.if-generations-eq0.false, c.generations.ensures.value) in
     go_round g.G.Gas.rules (record { chirality = c.args.chirality; first = c.args.first; lattice = c.args.lattice.now; plan = c.args.plan })
     (record { lattice = is_lattice g.G.Gas.rules c.args.lattice.now c.in_ok-feeder.feeder from.channel from.rows from.whole; room = search rules })
-    (search rules) some c.in_ok-run_ring.field-0 c.in_ok-run_ring.ensures
+    (search rules) some c.in_ok-run_line.field-0 c.in_ok-run_line.ensures
 
 pub returns-clause-belts_made : goal.returns-clause-belts_made
 returns-clause-belts_made g c more =
-    let ran = c.in_ok-run_ring.ensures in
+    let ran = c.in_ok-run_line.ensures in
     ap (λ (l : List CarriedModel). length l) ran.belts
     ∙ rings_made g.G.Gas.rules (record { chirality = c.args.chirality; first = c.args.first; lattice = c.args.lattice.now; plan = c.args.plan }) more
     ∙ ap (λ (n : ℕ). n + 1) (sym ran.stages)

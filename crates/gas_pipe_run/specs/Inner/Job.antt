@@ -7,7 +7,7 @@ use Rattle.gas_belt.specs.Belt.{Sender, Receiver}
 use Rattle.gas_rows.specs.Row.{RowModel}
 use Rattle.gas_pipe_model.specs.Plan.{PlanModel}
 use Rattle.gas_pipe_model.specs.Pass.{computes_from}
-use Rattle.gas_pipe_model.specs.Inner.Ring.{owed_in}
+use Rattle.gas_pipe_model.specs.Inner.Circle.{owed_in}
 use Rattle.gas_pipe_members.specs.Worker.{WorkerModel, IsClosed, owes}
 
 -- a worker's number, counted from 1, the first generation and the plan, and the ends that it takes from and puts on

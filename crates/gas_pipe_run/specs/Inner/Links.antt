@@ -10,7 +10,7 @@ use Rattle.gas_pipe_run.specs.declared.work.WorkPromise.{WorkPromise}
 use Rattle.gas_rows.specs.Row.{RowModel}
 use Rattle.gas_stage.specs.Evolution.{lattice_after}
 use Rattle.gas_pipe_model.specs.Pass.{RunInputModel, rings}
-use Rattle.gas_pipe_model.specs.Inner.Ring.{on_belt, owes_in}
+use Rattle.gas_pipe_model.specs.Inner.Circle.{on_belt, owes_in}
 use Rattle.gas_pipe_run.specs.Run.{RunModel}
 use Rattle.gas_pipe_run.specs.Inner.Job.{JobModel, EndedModel, IsReady}
 

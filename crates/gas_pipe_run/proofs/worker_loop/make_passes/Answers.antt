@@ -2,7 +2,7 @@ use Rattle.std.proofs.Common.{◌∙◌, refl, sym, ap, length, subst, ℕ, Opti
 use Rattle.std.proofs.Math.Nat.{zero-mul}
 use Rattle.gas_stage.specs.Stage.{owed}
 use Rattle.gas_pipe_model.specs.Pass.{computes_from}
-use Rattle.gas_pipe_model.proofs.Ring.{owed_none}
+use Rattle.gas_pipe_model.proofs.Circle.{owed_none}
 use Rattle.gas_pipe_run.specs.Inner.Job.{OnePass}
 use Rattle.gas_pipe_run.proofs.Passes.{one_pass_more}
 use Rattle.gas_pipe_run.proofs.worker_loop.make_passes.Goals as goal
@@ -27,7 +27,7 @@ loop-pass-preserved g c =
     let was = c.loop-pass.invariant in
     let now = c.make_pass in
     let pass : OnePass g.G.Gas.rules c.loop-pass.worker (computes_from c.args.schedule.now.first c.args.schedule.now.plan c.loop-pass.pass c.args.who) c.loop-pass.rx.taken c.loop-pass.tx.put now.new.rx.taken now.new.tx.put =
-    subst (λ (e : Option ℕ). OnePass g.G.Gas.rules c.loop-pass.worker e c.loop-pass.rx.taken c.loop-pass.tx.put now.new.rx.taken now.new.tx.put) c.generation-generation.ensures
+    subst (λ (e : Option ℕ). OnePass g.G.Gas.rules c.loop-pass.worker e c.loop-pass.rx.taken c.loop-pass.tx.put now.new.rx.taken now.new.tx.put) c.generation-generation.ensures.value
     (c.if-not-make_pass.ensures.whole refl) in
     let more =
     one_pass_more g.G.Gas.rules c.args.worker.now c.loop-pass.worker c.args.schedule.now.first c.args.schedule.now.plan c.args.who c.loop-pass.pass c.loop-pass.rx.taken c.loop-pass.tx.put now.new.rx.taken now.new.tx.put

@@ -9,12 +9,12 @@ use Rattle.gas_pipe_replay.proofs.local_line.LocalLine.counts.Goals as goal
 
 pub loop-k-preserved : goal.loop-k-preserved
 loop-k-preserved g c = (
-  omega (arith, length_push c.loop-k.counts.items (record { put = c.taken_by-taken.result + c.len-in-loop-k.result; taken = c.taken_by-taken.result }), ap length c.in_ok-push.ensures.items, c.loop-k.invariant.0),
+  omega (arith, length_push c.loop-k.counts.items (record { put = c.count_taken-taken.result + c.len-in-loop-k.result; taken = c.count_taken-taken.result }), ap length c.in_ok-push.ensures.items, c.loop-k.invariant.0),
   λ input s sh.
       rw c.in_ok-push.ensures.items
       (counts_more g.G.Gas.rules input c.args.self.now.feeder c.args.self.now.workers.items c.args.self.now.belts.items s sh
       c.loop-k.k (omega (arith, c.loop-k-test.true, c.len-k-end.ensures, sh.belts_are)) c.loop-k.counts.items (c.loop-k.invariant.1 input s sh)
-      c.taken_by-taken.result c.len-in-loop-k.result (c.taken_by-taken.ensures.value input s sh) (c.len-in-loop-k.ensures.value ∙ ap (λ (b : BeltModel). length b.rows) (let e : c.index.result.now ≡ belt c.args.self.now.belts.items c.loop-k.k = get_or_read c.args.self.now.belts.items c.loop-k.k c.index.result.now (omega (arith, c.loop-k-test.true, c.len-k-end.ensures)) c.index.ensures (record { rows = []; capacity = 0 }) in e))),
+      c.count_taken-taken.result c.len-in-loop-k.result (c.count_taken-taken.ensures.value input s sh) (c.len-in-loop-k.ensures.value ∙ ap (λ (b : BeltModel). length b.rows) (let e : c.index.result.now ≡ belt c.args.self.now.belts.items c.loop-k.k = get_or_read c.args.self.now.belts.items c.loop-k.k c.index.result.now (omega (arith, c.loop-k-test.true, c.len-k-end.ensures)) c.index.ensures (record { rows = []; capacity = 0 }) in e))),
 )
 
 pub returns-clause-value : goal.returns-clause-value

@@ -9,7 +9,7 @@ use Rattle.gas_pipe_replay.proofs.local_line.LocalLine.finish.Goals as goal
 pub returns-then-is_closed : goal.returns-then-is_closed
 returns-then-is_closed g c input turns sh =
     let chain = c.args.self in
-    let over = c.is_closed.ensures.0 c.if-is_closed.true in
+    let over = c.is_closed.ensures.closed.0 c.if-is_closed.true in
     let end = finished g.G.Gas.rules input chain.feeder chain.workers.items chain.belts.items turns g.met.G.Gas.laws sh over in
     rw end.0
     (ap (λ (l : LatticeModel). Some l)
@@ -19,4 +19,4 @@ pub returns-else-is_closed : goal.returns-else-is_closed
 returns-else-is_closed g c input turns sh =
     let chain = c.args.self in
     rw (unfinished g.G.Gas.rules input chain.feeder chain.workers.items chain.belts.items turns g.met.G.Gas.laws sh
-    (λ over. both_ways c.is_closed.result c.if-is_closed.false (c.is_closed.ensures.1 over))) refl
+    (λ over. both_ways c.is_closed.result c.if-is_closed.false (c.is_closed.ensures.closed.1 over))) refl

@@ -1,5 +1,0 @@
-use Rattle.gas_pipe_replay.specs.Inner.LocalLine.{HaveBegun}
-use Rattle.gas_pipe_replay.proofs.local_line.begun_workers.Given as goal
-
-abbrev pub invariant-loop-k : goal.invariant-loop-k
-invariant-loop-k g l = HaveBegun g.G.Gas.rules l.fn.input l.workers.items l.k
