@@ -2,13 +2,9 @@
 ghost use Rattle.std.specs.Prelude.{◌≡◌, ◌+◌, ◌<◌, ◌≤◌, ◌++◌, ◌∷◌, ℕ, [], List, length, Option, Some, None, IsSome, IfSome, IfOk, IsTrue, ◌↔◌};
 ghost use Rattle.std.specs.Option.{option_to_list};
 ghost use Rattle.gas_geom.specs.Channel.{IsChannel};
-ghost use Rattle.gas_geom.specs.Lattice.{streamed, row_of};
-ghost use Rattle.gas_stage.specs.Inside.{AreWide};
-ghost use Rattle.gas_stage.specs.Streaming.{AreRowsAbout};
 ghost use Rattle.gas_stage.specs.Stage.{StageModel, Fits, owed, given};
 
-use crate::moving::{is_far, moved_row};
-use crate::stream::stream_row;
+use crate::neighbourhood::Neighbourhood;
 use gas_geom::gas::Gas;
 use gas_rows::channel::Channel;
 use gas_rows::chirality::Chirality;
@@ -18,33 +14,6 @@ use gas_rows::row::Row;
 use std::alloc::{AllocError, Global};
 use std::marker::Model;
 use std::mem;
-
-// Row y after streaming, in the row `out`. The row above is not read at the top, nor the row below at the bottom.
-fn stream_between<G: Gas>(
-    channel: &Channel,
-    y: u32,
-    above: &Row<G>,
-    middle: &Row<G>,
-    below: &Row<G>,
-    mut out: Row<G>,
-) -> Row<G>
-    requires row { y < channel.now.height }
-    requires wide { AreWide channel.now above.now middle.now below.now }
-    requires out_wide { length out ≡ channel.now.width }
-    ensures wide { length result ≡ channel.now.width }
-    ensures streamed { (at : ℕ → ℕ → ℕ) →
-        AreRowsAbout channel.now at y above.now middle.now below.now →
-        result ≡ row_of channel.now.width (λ x. streamed G.rules channel.now at x y) }
-{
-    if is_far(channel, y) {
-        return moved_row(channel, y, above, middle, below, out);
-    }
-    let height = channel.size().height();
-    let up = (y > 0).then_some(above);
-    let down = (y + 1 < height).then_some(below);
-    stream_row(channel, y, up, middle, down, &mut out);
-    out
-}
 
 // What a stage does with the rows that it is fed.
 #[derive(Clone, Copy)]
@@ -73,7 +42,7 @@ impl<'a, G: Gas> Model for Stage<'a, G> {
     ghost use Rattle.std.specs.Prelude.{◌≡◌, ◌<◌, ◌≤◌, ℕ, [], length, unwrap_or, IsSome, None};
     ghost use Rattle.std.specs.Option.{ForSome};
     ghost use Rattle.gas_geom.specs.declared.size.TheConstants.{MOST_SIDE};
-    ghost use Rattle.gas_stage.specs.Inside.{open_pass};
+    ghost use Rattle.gas_stage.specs.Inner.Passes.{open_pass};
     ghost use Rattle.gas_stage.specs.Stage.{StageModel};
     ghost use Rattle.gas_stage.specs.declared.stage.Pass.TheVariants.{Closed, Passing, Computing};
 
@@ -174,14 +143,14 @@ impl<'a, G: Gas> Stage<'a, G> {
         };
         let oldest = mem::replace(&mut self.before_last, last);
         let out = mem::replace(&mut self.spare, oldest);
-        let given = stream_between(
-            self.channel,
-            y - 1,
-            &self.spare,
-            &self.before_last,
-            &row,
-            out,
-        );
+        let neighbourhood = Neighbourhood {
+            channel: self.channel,
+            y: y - 1,
+            above: &self.spare,
+            middle: &self.before_last,
+            below: &row,
+        };
+        let given = neighbourhood.stream(out);
         self.last = Some(row);
         Some(given)
     }
@@ -207,14 +176,14 @@ impl<'a, G: Gas> Stage<'a, G> {
         let last = self.last.take()?;
         let out = mem::replace(&mut self.spare, last);
         // No row is below the bottom one, and none is read.
-        Some(stream_between(
-            self.channel,
-            y - 1,
-            &self.before_last,
-            &self.spare,
-            &self.spare,
-            out,
-        ))
+        let neighbourhood = Neighbourhood {
+            channel: self.channel,
+            y: y - 1,
+            above: &self.before_last,
+            middle: &self.spare,
+            below: &self.spare,
+        };
+        Some(neighbourhood.stream(out))
     }
 
     /// The rows fed in the open pass, 0 where none is open.
