@@ -188,6 +188,7 @@ impl<'a, G: Gas> Neighbourhood<'a, G> {
     }
 
     /// The row after streaming, in the row `out`.
+    #[inline(always)]
     pub(crate) fn stream(self, mut out: Row<G>) -> Row<G>
         requires wide { length out ≡ self.channel.width }
         ensures wide { length result ≡ self.entry.channel.width }
@@ -195,9 +196,10 @@ impl<'a, G: Gas> Neighbourhood<'a, G> {
             result ≡ streamed_row G.rules self.entry at }
     {
         if has_only_fluid_around(self.channel, self.y) {
-            return self.move_row(out);
+            self.move_row(out)
+        } else {
+            self.stream_row(&mut out);
+            out
         }
-        self.stream_row(&mut out);
-        out
     }
 }

@@ -141,8 +141,8 @@ impl<'a, G: Gas> Stage<'a, G> {
             self.last = Some(row);
             return None;
         };
-        let oldest = mem::replace(&mut self.before_last, last);
-        let out = mem::replace(&mut self.spare, oldest);
+        mem::swap(&mut self.spare, &mut self.before_last);
+        let out = mem::replace(&mut self.before_last, last);
         let neighbourhood = Neighbourhood {
             channel: self.channel,
             y: y - 1,
