@@ -16,10 +16,10 @@ use std::marker::Model;
 #[derive(Drop)]
 pub(crate) struct Neighbourhood<'a, G: Gas> {
     pub(crate) channel: &'a Channel,
-    pub(crate) y: u32,
     pub(crate) above: &'a Row<G>,
     pub(crate) middle: &'a Row<G>,
     pub(crate) below: &'a Row<G>,
+    pub(crate) y: u32,
 }
 
 impl<'a, G: Gas> Model for Neighbourhood<'a, G> {

@@ -33,7 +33,9 @@ pub struct Stage<'a, G: Gas> {
     pass: Pass,
     fed: u32,
     chi: RandomBits,
-    spare: Row<G>,
+    // The last rows that were fed, collided. Once the row below the oldest of them has been
+    // streamed, the oldest is read no more, and the next row that is given takes its memory.
+    oldest: Row<G>,
     before_last: Row<G>,
     last: Option<Row<G>>,
 }
@@ -59,7 +61,7 @@ impl<'a, G: Gas> Model for Stage<'a, G> {
 
     ghost invariant = { λ s. record {
       chi_wide : length s.chi ≡ s.channel.now.width;
-      spare_wide : length s.spare ≡ s.channel.now.width;
+      oldest_wide : length s.oldest ≡ s.channel.now.width;
       before_last_wide : length s.before_last ≡ s.channel.now.width;
       last_wide : ForSome s.last (λ r. length r ≡ s.channel.now.width);
       few_rows : s.channel.now.height ≤ MOST_SIDE;
@@ -92,7 +94,7 @@ impl<'a, G: Gas> Stage<'a, G> {
             pass: Pass::Closed,
             fed: 0,
             chi: RandomBits::new(alloc, width)?,
-            spare: Row::blank(alloc, width)?,
+            oldest: Row::blank(alloc, width)?,
             before_last: Row::blank(alloc, width)?,
             last: None,
         })
@@ -141,14 +143,14 @@ impl<'a, G: Gas> Stage<'a, G> {
             self.last = Some(row);
             return None;
         };
-        mem::swap(&mut self.spare, &mut self.before_last);
-        let out = mem::replace(&mut self.before_last, last);
+        let above = mem::replace(&mut self.before_last, last);
+        let out = mem::replace(&mut self.oldest, above);
         let neighbourhood = Neighbourhood {
             channel: self.channel,
-            y: y - 1,
-            above: &self.spare,
+            above: &self.oldest,
             middle: &self.before_last,
             below: &row,
+            y: y - 1,
         };
         let given = neighbourhood.stream(out);
         self.last = Some(row);
@@ -174,14 +176,15 @@ impl<'a, G: Gas> Stage<'a, G> {
         self.fed = 0;
         self.pass = Pass::Closed;
         let last = self.last.take()?;
-        let out = mem::replace(&mut self.spare, last);
+        let upper = mem::replace(&mut self.before_last, last);
+        let out = mem::replace(&mut self.oldest, upper);
         // No row is below the bottom one, and none is read.
         let neighbourhood = Neighbourhood {
             channel: self.channel,
+            above: &self.oldest,
+            middle: &self.before_last,
+            below: &self.before_last,
             y: y - 1,
-            above: &self.before_last,
-            middle: &self.spare,
-            below: &self.spare,
         };
         Some(neighbourhood.stream(out))
     }

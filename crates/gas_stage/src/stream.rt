@@ -44,10 +44,10 @@ pub fn stream_row<G: Gas>(
 {
     let neighbourhood = Neighbourhood {
         channel,
-        y,
         above: row_or(up, mid),
         middle: mid,
         below: row_or(down, mid),
+        y,
     };
     neighbourhood.stream_row(out);
 }
