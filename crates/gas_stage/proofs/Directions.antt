@@ -14,7 +14,7 @@ use Rattle.gas_geom.proofs.Holds.{set_of-lt, holds-set_of, holds-zero}
 use Rattle.gas_bits.specs.Shift.{streamed_bit}
 use Rattle.gas_bits.proofs.Sets.{set_of-holds, set_from}
 use Rattle.gas_stage.specs.Streaming.{AreRowsAbout, IsRowAt}
-use Rattle.gas_stage.specs.Inside.{IsFar, row_about}
+use Rattle.gas_stage.specs.Inner.Neighbourhood.{HasOnlyFluidAround, NeighbourhoodModel, IsStreamedIn, row_beside}
 
 -- what a streamed cell holds
 holds-streamed : (gas : Rules) (c : ChannelModel) (at : ℕ → ℕ → ℕ) (x y i : ℕ) → i < gas.dirs
@@ -74,10 +74,14 @@ row_streamed gas c at y row wide small each =
     (λ x h. same_set gas.dirs (get_or row x 0) (streamed gas c at x y) (small x) (streamed-lt gas c at x y) (λ i lt. each i x lt h))
 
 -- ---- the row beside
-row_after-near : (h y v : ℕ) (m : Move) → row_after h y m ≡ Some v → (y ≤ v + 1) × (v ≤ y + 1)
-row_after-near h y v Back there = (grind (arith, nat_tests), grind (arith, nat_tests))
-row_after-near h y v Stay there = (grind (arith, nat_tests), grind (arith, nat_tests))
-row_after-near h y v On there = (grind (arith, nat_tests), grind (arith, nat_tests))
+row_after-back : (h y v : ℕ) → row_after h y Back ≡ Some v → (0 < y) × (y - 1 ≡ v)
+row_after-back h y v there = (grind (arith, nat_tests), grind (arith, nat_tests))
+
+row_after-stay : (h y v : ℕ) → row_after h y Stay ≡ Some v → y ≡ v
+row_after-stay h y v there = grind (arith, nat_tests)
+
+row_after-on : (h y v : ℕ) → row_after h y On ≡ Some v → (y + 1 < h) × (y + 1 ≡ v)
+row_after-on h y v there = (grind (arith, nat_tests), grind (arith, nat_tests))
 
 -- all cells of a row have their neighbours in one row
 pub neighbour-same_row : (gas : Rules) (w h x y d u v : ℕ) → neighbour_of gas w h 0 y d ≡ Some (u, v)
@@ -93,22 +97,27 @@ neighbour-same_wall gas w h x y d there = by (row_after h y (gas.step d (is_odd 
     by None e = refl
     by (Some y') e = cc
 
-pub rows_at : (gas : Rules) (c : ChannelModel) (at : ℕ → ℕ → ℕ) (y d u v : ℕ) (up mid down row : List ℕ) → y < c.height
+after_move : (c : ChannelModel) (at : ℕ → ℕ → ℕ) (y v : ℕ) (up mid down : List ℕ) (m : Move) → row_after c.height y m ≡ Some v
+    → AreRowsAbout c at y up mid down → IsRowAt c at v (row_beside m up mid down)
+after_move c at y v up mid down Back there rows =
+    let back = row_after-back c.height y v there in
+    subst (λ k. IsRowAt c at k up) back.1 (rows.up_is back.0)
+after_move c at y v up mid down Stay there rows = subst (λ k. IsRowAt c at k mid) (row_after-stay c.height y v there) rows.mid_is
+after_move c at y v up mid down On there rows =
+    let on = row_after-on c.height y v there in
+    subst (λ k. IsRowAt c at k down) on.1 (rows.down_is on.0)
+
+-- the row that a direction leads to
+pub rows_at : (gas : Rules) (c : ChannelModel) (at : ℕ → ℕ → ℕ) (y d u v : ℕ) (up mid down : List ℕ)
     → neighbour_of gas c.width c.height 0 y d ≡ Some (u, v) → AreRowsAbout c at y up mid down
-    → (v < y → row ≡ up) → (v ≡ y → row ≡ mid) → (y < v → v < c.height → row ≡ down) → IsRowAt c at v row
-rows_at gas c at y d u v up mid down row within there rows above here below =
-    let parts = neighbour-parts gas c.width c.height 0 y d u v there in
-    let near = row_after-near c.height y v (gas.step d (is_odd y)).1 parts.1 in
-    let lt = row_after-lt c.height y v (gas.step d (is_odd y)).1 within parts.1 in
-    let low = near.0 in
-    let high = near.1 in
-    elim (cases_order v y) [
-      | inl e ↦ subst (IsRowAt c at v) (sym (here e)) (subst (λ k. IsRowAt c at k mid) (sym e) rows.mid_is)
-      | inr (inl less) ↦ (let e : y - 1 ≡ v = omega arith in
-          subst (IsRowAt c at v) (sym (above less)) (subst (λ k. IsRowAt c at k up) e (rows.up_is (omega arith))))
-      | inr (inr more) ↦ (let e : y + 1 ≡ v = omega arith in
-          subst (IsRowAt c at v) (sym (below more lt)) (subst (λ k. IsRowAt c at k down) e (rows.down_is (omega arith))))
-    ]
+    → IsRowAt c at v (row_beside (gas.step d (is_odd y)).1 up mid down)
+rows_at gas c at y d u v up mid down there rows =
+    after_move c at y v up mid down (gas.step d (is_odd y)).1 (neighbour-parts gas c.width c.height 0 y d u v there).1 rows
+
+-- a direction that is streamed among the fields of a neighbourhood is so for its callers
+pub IsStreamedIn-seen : (gas : Rules) (i : ℕ) (row : List ℕ) (inside seen : NeighbourhoodModel) → inside ≡ seen
+    → IsStreamedIn gas inside i row → IsStreamedIn gas seen i row
+IsStreamedIn-seen gas i row inside seen is streams = subst (λ (n : NeighbourhoodModel). IsStreamedIn gas n i row) is streams
 
 -- ---- far from walls and solid cells
 -- the row after a move across the rows
@@ -124,8 +133,8 @@ record LeadsTo (c : ChannelModel) (at : ℕ → ℕ → ℕ) (y v : ℕ) (m : Mo
   above : v ≤ y + 1
   is : IsRowAt c at v row
 
-leads_to : (c : ChannelModel) (at : ℕ → ℕ → ℕ) (y : ℕ) (up mid down : List ℕ) (m : Move) → IsFar c y → AreRowsAbout c at y up mid down
-    → LeadsTo c at y (beside y m) m (row_about m up mid down)
+leads_to : (c : ChannelModel) (at : ℕ → ℕ → ℕ) (y : ℕ) (up mid down : List ℕ) (m : Move) → HasOnlyFluidAround c y → AreRowsAbout c at y up mid down
+    → LeadsTo c at y (beside y m) m (row_beside m up mid down)
 leads_to c at y up mid down Back far rows = record {
   there = (let no : (y == 0) ≡ false = ne_eqb y 0 (λ e. absurd (omega (arith, far.above, e))) in ap (λ t. if t then None else Some (y - 1)) no);
   below = omega arith;
@@ -141,14 +150,14 @@ leads_to c at y up mid down On far rows = record {
 }
 
 -- a particle comes from the cell that its opposite leads to
-pub streamed_far : (gas : Rules) (c : ChannelModel) (at : ℕ → ℕ → ℕ) (x y i : ℕ) (up mid down : List ℕ) → i < gas.dirs → x < c.width → IsFar c y
+pub streamed_far : (gas : Rules) (c : ChannelModel) (at : ℕ → ℕ → ℕ) (x y i : ℕ) (up mid down : List ℕ) → i < gas.dirs → x < c.width → HasOnlyFluidAround c y
     → AreRowsAbout c at y up mid down → (m : Move × Move) → gas.step (gas.opposite i) (is_odd y) ≡ m
-    → holds (get_or (row_about m.1 up mid down) (column_after c.width x m.0) 0) i ≡ holds (streamed gas c at x y) i
+    → holds (get_or (row_beside m.1 up mid down) (column_after c.width x m.0) 0) i ≡ holds (streamed gas c at x y) i
 streamed_far gas c at x y i up mid down direction inside far rows m step =
     let lead = leads_to c at y up mid down m.1 far rows in
     let u : ℕ = column_after c.width x m.0 in
     let v : ℕ = beside y m.1 in
-    streamed_from_cell gas c at x y i direction u v (holds (get_or (row_about m.1 up mid down) u 0) i) false (holds (at x y) (gas.opposite i)) false
+    streamed_from_cell gas c at x y i direction u v (holds (get_or (row_beside m.1 up mid down) u 0) i) false (holds (at x y) (gas.opposite i)) false
     (ap (λ (n : Move × Move). option_map {U = ℕ × ℕ} (λ (y' : ℕ). (column_after c.width x n.0, y')) (row_after c.height y n.1)) step
     ∙ ap (option_map {U = ℕ × ℕ} (λ (y' : ℕ). (u, y'))) lead.there)
     (sym (far.free x y (omega arith) (omega arith)))

@@ -11,7 +11,7 @@ use Rattle.gas_rows.specs.Chirality.{chirality_bit}
 use Rattle.gas_stage.specs.Streaming.{IsRowAt, AreRowsAbout}
 use Rattle.gas_stage.specs.declared.stage.Pass.{Pass}
 use Rattle.gas_stage.specs.declared.stage.Pass.TheVariants.{Closed, Passing, Computing}
-use Rattle.gas_stage.specs.Inside.{open_pass}
+use Rattle.gas_stage.specs.Inner.Passes.{open_pass}
 use Rattle.gas_stage.specs.Stage.{StageModel, Fits, given, owed}
 use Rattle.gas_stage.proofs.Local.{collided_at}
 use Rattle.gas_stage.proofs.Local.{range-cong, cell-push_at, collided_of, collided_of-append, take-next-push, next-all}

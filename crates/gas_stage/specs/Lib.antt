@@ -1,4 +1,4 @@
 pub mod Streaming
 pub mod Stage
 pub mod Evolution
-pub mod Inside
+pub mod Inner

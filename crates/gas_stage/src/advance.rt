@@ -41,11 +41,12 @@ pub fn lattice_after<G: Gas>(
     Ok(Lattice::from_rows(channel, Vec::from(rows)))
 }
 
-/// Generations add up: the lattice n generations after the one of m generations is that of m + n, where the
-/// later ones begin at the generation that was reached.
+/// Generations add up: the lattice n generations after the one of m generations is that of m + n,
+/// where the later ones begin at the generation that was reached.
 pub fn generations_add_up()
     ensures { (gas : Rules) (chirality : Chirality) (first : ℕ) (lattice : LatticeModel) (m n : ℕ) →
-        lattice_after gas chirality (first + m) (lattice_after gas chirality first lattice m) n ≡ lattice_after gas chirality first lattice (m + n) }
+        lattice_after gas chirality (first + m) (lattice_after gas chirality first lattice m) n
+        ≡ lattice_after gas chirality first lattice (m + n) }
 {}
 
 // The rows some generations after those of generation `first`.
@@ -59,7 +60,9 @@ fn advance<G: Gas>(
 ) -> Result<VecDeque<Row<G>>, AllocError>
     requires lattice { IsLattice G.rules channel.now rows.items }
     requires room { first + generations < 2 ^ 64 }
-    ensures { IfOk result (λ r. r.items ≡ generation G.rules channel.now (chirality_bit chirality channel.now.width) first rows.items generations) }
+    ensures { IfOk result (λ r. r.items
+        ≡ generation G.rules channel.now (chirality_bit chirality channel.now.width)
+        first rows.items generations) }
 {
     let mut stage = Stage::new(alloc, channel, chirality)?;
     for done in 0..generations {
@@ -77,7 +80,9 @@ fn pass<G: Gas>(stage: &mut Stage<'_, G>, generation: u64, rows: &mut VecDeque<R
     ensures channel { stage.new.channel ≡ stage.old.channel }
     ensures chirality { stage.new.chirality ≡ stage.old.chirality }
     ensures closed { stage.new.pass ≡ None }
-    ensures next { rows.new.items ≡ next G.rules stage.old.channel (chirality_bit stage.old.chirality stage.old.channel.width generation) rows.old.items }
+    ensures next { rows.new.items
+        ≡ next G.rules stage.old.channel
+        (chirality_bit stage.old.chirality stage.old.channel.width generation) rows.old.items }
 {
     stage.begin(Some(generation));
     for _ in 0..rows.len() {

@@ -2,6 +2,6 @@
 #![tactic(auto)]
 
 pub mod advance;
-mod moving;
+mod neighbourhood;
 pub mod stage;
 pub mod stream;

@@ -2,13 +2,9 @@
 ghost use Rattle.std.specs.Prelude.{◌≡◌, ◌+◌, ◌<◌, ◌≤◌, ◌++◌, ◌∷◌, ℕ, [], List, length, Option, Some, None, IsSome, IfSome, IfOk, IsTrue, ◌↔◌};
 ghost use Rattle.std.specs.Option.{option_to_list};
 ghost use Rattle.gas_geom.specs.Channel.{IsChannel};
-ghost use Rattle.gas_geom.specs.Lattice.{streamed, row_of};
-ghost use Rattle.gas_stage.specs.Inside.{AreWide};
-ghost use Rattle.gas_stage.specs.Streaming.{AreRowsAbout};
 ghost use Rattle.gas_stage.specs.Stage.{StageModel, Fits, owed, given};
 
-use crate::moving::{is_far, moved_row};
-use crate::stream::stream_row;
+use crate::neighbourhood::Neighbourhood;
 use gas_geom::gas::Gas;
 use gas_rows::channel::Channel;
 use gas_rows::chirality::Chirality;
@@ -18,33 +14,6 @@ use gas_rows::row::Row;
 use std::alloc::{AllocError, Global};
 use std::marker::Model;
 use std::mem;
-
-// Row y after streaming, in the row `out`. The row above is not read at the top, nor the row below at the bottom.
-fn stream_between<G: Gas>(
-    channel: &Channel,
-    y: u32,
-    above: &Row<G>,
-    middle: &Row<G>,
-    below: &Row<G>,
-    mut out: Row<G>,
-) -> Row<G>
-    requires row { y < channel.now.height }
-    requires wide { AreWide channel.now above.now middle.now below.now }
-    requires out_wide { length out ≡ channel.now.width }
-    ensures wide { length result ≡ channel.now.width }
-    ensures streamed { (at : ℕ → ℕ → ℕ) →
-        AreRowsAbout channel.now at y above.now middle.now below.now →
-        result ≡ row_of channel.now.width (λ x. streamed G.rules channel.now at x y) }
-{
-    if is_far(channel, y) {
-        return moved_row(channel, y, above, middle, below, out);
-    }
-    let height = channel.size().height();
-    let up = (y > 0).then_some(above);
-    let down = (y + 1 < height).then_some(below);
-    stream_row(channel, y, up, middle, down, &mut out);
-    out
-}
 
 // What a stage does with the rows that it is fed.
 #[derive(Clone, Copy)]
@@ -64,7 +33,9 @@ pub struct Stage<'a, G: Gas> {
     pass: Pass,
     fed: u32,
     chi: RandomBits,
-    spare: Row<G>,
+    // The last rows that were fed, collided. Once the row below the oldest of them has been
+    // streamed, the oldest is read no more, and the next row that is given takes its memory.
+    oldest: Row<G>,
     before_last: Row<G>,
     last: Option<Row<G>>,
 }
@@ -73,7 +44,7 @@ impl<'a, G: Gas> Model for Stage<'a, G> {
     ghost use Rattle.std.specs.Prelude.{◌≡◌, ◌<◌, ◌≤◌, ℕ, [], length, unwrap_or, IsSome, None};
     ghost use Rattle.std.specs.Option.{ForSome};
     ghost use Rattle.gas_geom.specs.declared.size.TheConstants.{MOST_SIDE};
-    ghost use Rattle.gas_stage.specs.Inside.{open_pass};
+    ghost use Rattle.gas_stage.specs.Inner.Passes.{open_pass};
     ghost use Rattle.gas_stage.specs.Stage.{StageModel};
     ghost use Rattle.gas_stage.specs.declared.stage.Pass.TheVariants.{Closed, Passing, Computing};
 
@@ -90,7 +61,7 @@ impl<'a, G: Gas> Model for Stage<'a, G> {
 
     ghost invariant = { λ s. record {
       chi_wide : length s.chi ≡ s.channel.now.width;
-      spare_wide : length s.spare ≡ s.channel.now.width;
+      oldest_wide : length s.oldest ≡ s.channel.now.width;
       before_last_wide : length s.before_last ≡ s.channel.now.width;
       last_wide : ForSome s.last (λ r. length r ≡ s.channel.now.width);
       few_rows : s.channel.now.height ≤ MOST_SIDE;
@@ -123,7 +94,7 @@ impl<'a, G: Gas> Stage<'a, G> {
             pass: Pass::Closed,
             fed: 0,
             chi: RandomBits::new(alloc, width)?,
-            spare: Row::blank(alloc, width)?,
+            oldest: Row::blank(alloc, width)?,
             before_last: Row::blank(alloc, width)?,
             last: None,
         })
@@ -172,16 +143,16 @@ impl<'a, G: Gas> Stage<'a, G> {
             self.last = Some(row);
             return None;
         };
-        let oldest = mem::replace(&mut self.before_last, last);
-        let out = mem::replace(&mut self.spare, oldest);
-        let given = stream_between(
-            self.channel,
-            y - 1,
-            &self.spare,
-            &self.before_last,
-            &row,
-            out,
-        );
+        let above = mem::replace(&mut self.before_last, last);
+        let out = mem::replace(&mut self.oldest, above);
+        let neighbourhood = Neighbourhood {
+            channel: self.channel,
+            above: &self.oldest,
+            middle: &self.before_last,
+            below: &row,
+            y: y - 1,
+        };
+        let given = neighbourhood.stream(out);
         self.last = Some(row);
         Some(given)
     }
@@ -205,16 +176,17 @@ impl<'a, G: Gas> Stage<'a, G> {
         self.fed = 0;
         self.pass = Pass::Closed;
         let last = self.last.take()?;
-        let out = mem::replace(&mut self.spare, last);
+        let upper = mem::replace(&mut self.before_last, last);
+        let out = mem::replace(&mut self.oldest, upper);
         // No row is below the bottom one, and none is read.
-        Some(stream_between(
-            self.channel,
-            y - 1,
-            &self.before_last,
-            &self.spare,
-            &self.spare,
-            out,
-        ))
+        let neighbourhood = Neighbourhood {
+            channel: self.channel,
+            above: &self.oldest,
+            middle: &self.before_last,
+            below: &self.before_last,
+            y: y - 1,
+        };
+        Some(neighbourhood.stream(out))
     }
 
     /// The rows fed in the open pass, 0 where none is open.

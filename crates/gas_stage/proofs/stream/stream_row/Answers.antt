@@ -1,13 +1,12 @@
-use Rattle.std.proofs.Common.{arith}
-use Rattle.gas_stage.proofs.Directions.{row_streamed}
+use Rattle.std.proofs.Common.{ℕ, List, get_or, ap, ◌∙◌}
 use Rattle.gas_stage.proofs.stream.stream_row.Goals as goal
 
 pub returns-clause-streamed : goal.returns-clause-streamed
-returns-clause-streamed g c at rows =
-    let laws = g.met.G.Gas.laws in
-    let two = c.stream_next-2.ensures.streamed at rows (c.stream_next.ensures.streamed at rows (λ k x none there within. absurd (omega arith))) in
-    let four = c.stream_next-4.ensures.streamed at rows (c.stream_next-3.ensures.streamed at rows two) in
-    let six = c.stream_next-6.ensures.streamed at rows (c.stream_next-5.ensures.streamed at rows four) in
-    let eight = c.stream_next-8.ensures.streamed at rows (c.stream_next-7.ensures.streamed at rows six) in
-    row_streamed g.G.Gas.rules c.args.channel.now at c.args.y c.stream_next-8.new.out c.stream_next-8.ensures.wide c.stream_next-8.ensures.states
-    (λ i x h lt. eight i x (omega (arith, laws.few_dirs)) h lt)
+returns-clause-streamed g c = λ at rows.
+    c.stream_row.ensures.streamed at (record {
+      up_is = λ above x h fluid.
+          ap (λ (r : List ℕ). get_or r x 0) (c.row_or.ensures.row (c.requires.up_there.1 above)) ∙ rows.up_is above x h fluid;
+      mid_is = rows.mid_is;
+      down_is = λ below x h fluid.
+          ap (λ (r : List ℕ). get_or r x 0) (c.row_or-2.ensures.row (c.requires.down_there.1 below)) ∙ rows.down_is below x h fluid;
+    })

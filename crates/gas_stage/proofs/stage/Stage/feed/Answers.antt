@@ -1,6 +1,6 @@
 use Rattle.std.proofs.Common.{◌≡◌, ◌-◌, ◌<◌, ℕ, List, length, ap, ◌∙◌, sym, subst}
 use Rattle.gas_stage.specs.Streaming.{AreRowsAbout}
-use Rattle.gas_stage.specs.Inside.{open_pass}
+use Rattle.gas_stage.specs.Inner.Passes.{open_pass}
 use Rattle.gas_stage.specs.Stage.{StageModel}
 use Rattle.gas_stage.proofs.Feeding.{feed-fits, feed-gives, there, there-unwrap, nothing_there}
 use Rattle.gas_stage.proofs.stage.Stage.feed.Goals as goal
@@ -21,8 +21,8 @@ returns-clause-fits g c = λ p q fits.
     c.self.invariant.chi_wide ∙ ap (λ (v : StageModel). v.channel.width) c.self.view_is ∙ sym c.requires.wide in
     feed-fits g.G.Gas.rules _ c.args.self.now c.self.view_is c.in-Computing.generation (length c.self.inside.chi) c.args.row c.collide_row.new.row
     c.mask.result.now c.mask-2.result.now (ap open_pass c.in-Computing.is) c.collide_row.ensures.collided c.mask.ensures.row
-    wide (c.mask-2.ensures.bits ∙ c.draw.ensures.bits) c.requires.wide p q c.replace-oldest.new.dest fits
-    (λ some. c.replace-oldest.ensures.after ∙ there-unwrap c.self.inside.last c.in-Some.last c.in-Some.ensures.value)
+    wide (c.mask-2.ensures.bits ∙ c.draw.ensures.bits) c.requires.wide p q c.replace-above.new.dest fits
+    (λ some. c.replace-above.ensures.after ∙ there-unwrap c.self.inside.last c.in-Some.last c.in-Some.ensures.value)
 
 pub returns-clause-gives : goal.returns-clause-gives
 returns-clause-gives g c = λ p q fits.
@@ -32,11 +32,11 @@ returns-clause-gives g c = λ p q fits.
     let held = there-unwrap c.self.inside.last c.in-Some.last some in
     feed-gives g.G.Gas.rules _ c.args.self.now c.self.view_is c.in-Computing.generation (length c.self.inside.chi) c.args.row c.collide_row.new.row
     c.mask.result.now c.mask-2.result.now (ap open_pass c.in-Computing.is) c.collide_row.ensures.collided c.mask.ensures.row
-    wide (c.mask-2.ensures.bits ∙ c.draw.ensures.bits) c.requires.wide p q c.stream_between-given.result fits
+    wide (c.mask-2.ensures.bits ∙ c.draw.ensures.bits) c.requires.wide p q c.stream-given.result fits
     (c.self.invariant.last_fed (there c.self.inside.last c.in-Some.last some))
     (subst (λ (v : StageModel). v.fed < v.channel.height) (sym c.self.view_is) c.requires.room)
-    (λ at about. c.stream_between-given.ensures.streamed at
-    (subst (λ (a : List ℕ). AreRowsAbout c.self.inside.channel.now at (c.self.inside.fed - 1) a c.replace-oldest.new.dest c.collide_row.new.row)
-    (sym (c.replace-out.ensures.after ∙ c.replace-oldest.ensures.value))
+    (λ at about. c.stream-given.ensures.streamed at
+    (subst (λ (a : List ℕ). AreRowsAbout c.self.inside.channel.now at (c.self.inside.fed - 1) a c.replace-above.new.dest c.collide_row.new.row)
+    (sym (c.replace-out.ensures.after ∙ c.replace-above.ensures.value))
     (subst (λ (m : List ℕ). AreRowsAbout c.self.inside.channel.now at (c.self.inside.fed - 1) c.self.inside.before_last m c.collide_row.new.row)
-    (sym (c.replace-oldest.ensures.after ∙ held)) about)))
+    (sym (c.replace-above.ensures.after ∙ held)) about)))

@@ -8,12 +8,14 @@ pub returns-clause-gives_all : goal.returns-clause-gives_all
 returns-clause-gives_all g c = λ p q fits.
     let some = c.in_ok-last.ensures.value in
     let held = there-unwrap c.self.inside.last c.in_ok-last.last some in
-    flush-gives g.G.Gas.rules _ c.args.self.now c.self.view_is p q c.in_ok-last.last c.stream_between.result fits
+    flush-gives g.G.Gas.rules _ c.args.self.now c.self.view_is p q c.in_ok-last.last c.stream.result fits
     (not_passing c.self.inside.pass c.self.inside.last c.in_ok-last.last some c.self.invariant.passing)
     (c.self.invariant.last_fed (there c.self.inside.last c.in_ok-last.last some))
     (subst (λ (v : StageModel). v.fed ≡ v.channel.height) (sym c.self.view_is) c.requires.all)
-    (λ at about. c.stream_between.ensures.streamed at
-    (subst (λ (b : List ℕ). AreRowsAbout c.self.inside.channel.now at (c.self.inside.fed - 1) c.self.inside.before_last c.replace-out.new.dest b)
-    (sym c.replace-out.ensures.after)
+    (λ at about. c.stream.ensures.streamed at
+    (subst (λ (a : List ℕ). AreRowsAbout c.self.inside.channel.now at (c.self.inside.fed - 1) a c.replace-upper.new.dest c.replace-upper.new.dest)
+    (sym (c.replace-out.ensures.after ∙ c.replace-upper.ensures.value))
+    (subst (λ (b : List ℕ). AreRowsAbout c.self.inside.channel.now at (c.self.inside.fed - 1) c.self.inside.before_last c.replace-upper.new.dest b)
+    (sym c.replace-upper.ensures.after)
     (subst (λ (m : List ℕ). AreRowsAbout c.self.inside.channel.now at (c.self.inside.fed - 1) c.self.inside.before_last m c.in_ok-last.last)
-    (sym (c.replace-out.ensures.after ∙ held)) about)))
+    (sym (c.replace-upper.ensures.after ∙ held)) about))))
