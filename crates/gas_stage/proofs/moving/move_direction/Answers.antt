@@ -15,8 +15,8 @@ returns-clause-streamed g c at rows x h =
     let m : Move × Move = gas.step (gas.opposite i) (is_odd y) in
     let across_fits : FitsSigned w32 c.step-along.result.0 = search rules in
     let down_fits : FitsSigned w32 c.step-along.result.1 = search rules in
-    let across = to_z-of_z w32 c.step-along.result.0 across_fits ∙ c.step-along.ensures.across ∙ ap (λ k. amount (gas.step k (is_odd y)).0) c.opposite.ensures in
-    let down = to_z-of_z w32 c.step-along.result.1 down_fits ∙ c.step-along.ensures.down ∙ ap (λ k. amount (gas.step k (is_odd y)).1) c.opposite.ensures in
+    let across = to_z-of_z w32 c.step-along.result.0 across_fits ∙ c.step-along.ensures.across ∙ ap (λ k. amount (gas.step k (is_odd y)).0) c.opposite.ensures.value in
+    let down = to_z-of_z w32 c.step-along.result.1 down_fits ∙ c.step-along.ensures.down ∙ ap (λ k. amount (gas.step k (is_odd y)).1) c.opposite.ensures.value in
     c.move_plane.ensures.moved m.0 across x (omega arith)
     ∙ ap (λ w. holds (get_or c.row_about.result.now (column_after w x m.0) 0) i) c.requires.out_wide
     ∙ ap (λ row. holds (get_or row (column_after channel.width x m.0) 0) i) (c.row_about.ensures m.1 down)

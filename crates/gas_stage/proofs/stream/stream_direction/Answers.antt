@@ -22,7 +22,7 @@ returns-clause-streamed g c at rows x h =
     let y : ℕ = c.args.y in
     let i : ℕ = c.args.i in
     let v : ℕ = c.in-Some.v in
-    let opposite : c.opposite-opposite.result ≡ gas.opposite i = c.opposite-opposite.ensures in
+    let opposite : c.opposite-opposite.result ≡ gas.opposite i = c.opposite-opposite.ensures.value in
     let there : neighbour_of gas channel.width channel.height 0 y (gas.opposite i) ≡ Some (c.in-Some.field-0-0, v) = search rules in
     let fits : FitsSigned w32 c.step-along.result.0 = search rules in
     let m : Move = (gas.step (gas.opposite i) (is_odd y)).0 in
@@ -44,7 +44,7 @@ returns-in_default-clause-streamed g c at rows x h =
     let channel = c.args.channel.now in
     let y : ℕ = c.args.y in
     let i : ℕ = c.args.i in
-    let opposite : c.opposite-opposite.result ≡ gas.opposite i = c.opposite-opposite.ensures in
+    let opposite : c.opposite-opposite.result ≡ gas.opposite i = c.opposite-opposite.ensures.value in
     let there : neighbour_of gas channel.width channel.height 0 y (gas.opposite i) ≡ None = search rules in
     c.reflect_plane.ensures.reflected x (omega arith)
     ∙ streamed_from_wall gas channel at x y i c.requires.direction _ _ (neighbour-same_wall gas channel.width channel.height x y (gas.opposite i) there)
