@@ -10,14 +10,14 @@ use Rattle.gas_pipe_run.proofs.ring.settle.Goals as goal
 pub gather-requires-clause-whole : goal.gather-requires-clause-whole
 gather-requires-clause-whole g c =
     let input = c.args.input.now in
-    ap (λ (s : Sender). length s.put) c.close.ensures
+    ap (λ (s : Sender). length s.put) c.close.ensures.spent
     ∙ long input c.args.feeder c.args.first.put c.args.last.taken c.requires.channel c.requires.closed c.requires.fed
 
 pub unreachable-requires : goal.unreachable-requires
 unreachable-requires g c =
     let input = c.args.input.now in
     let all : length c.close.result.put ≡ div_ceil input.plan.generations input.plan.stages * input.lattice.channel.height =
-    ap (λ (s : Sender). length s.put) c.close.ensures
+    ap (λ (s : Sender). length s.put) c.close.ensures.spent
     ∙ long input c.args.feeder c.args.first.put c.args.last.taken c.requires.channel c.requires.closed c.requires.fed in
     let same : length c.in_ok-spent.spent.put ≡ length c.args.last.taken =
     last_whole g.G.Gas.rules input c.requires.input c.close.result.put _ _ _ c.in_ok-spent.ensures.reached c.requires.count all
@@ -32,7 +32,7 @@ returns g c =
     let b = c.close.result.put in
     let fed : HasFed c.args.feeder (div_ceil input.plan.generations input.plan.stages) input.lattice.rows b c.args.last.taken =
     subst (λ (l : List RowModel). HasFed c.args.feeder (div_ceil input.plan.generations input.plan.stages) input.lattice.rows l c.args.last.taken)
-    (sym (ap (λ (s : Sender). s.put) c.close.ensures)) c.requires.fed in
+    (sym (ap (λ (s : Sender). s.put) c.close.ensures.spent)) c.requires.fed in
     let reached = c.in_ok-spent.ensures.reached in
     let back = c.in-Ok.ensures.equal ∙ last_on gas input c.requires.input b _ _ _ reached c.requires.count in
     let grown = c.in-Ok-push.ensures.items
