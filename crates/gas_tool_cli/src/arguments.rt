@@ -44,7 +44,7 @@ pub(crate) fn stages_arg<'a>(alloc: Global) -> Arg<'a>
     ensures local { result.global ≡ false }
 {
     default_arg(alloc, "stages", "N", "4").help(
-        "Workers in the line (stages of the pipeline), a generation each in a pass: 1 to 64",
+        "Workers (pipeline stages), one generation each: 1 to 64",
     )
 }
 
@@ -53,7 +53,7 @@ pub(crate) fn capacity_arg<'a>(alloc: Global) -> Arg<'a>
     ensures local { result.global ≡ false }
 {
     default_arg(alloc, "capacity", "C", "2").help(
-        "Rows that a belt, the queue between two workers, holds: 1 to 1024",
+        "Rows in a belt, the queue between two workers: 1 to 1024",
     )
 }
 
