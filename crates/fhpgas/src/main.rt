@@ -38,18 +38,20 @@ impl Fault {
     }
 }
 
+// The answer to the program's words.
 fn answer<R: Threads + Wait + Sync>(rt: &HostRuntime, threads: &R) -> Result<(), Fault> {
     let request = read_request(rt)?;
     tell_of_input(rt);
     answer_request(rt, threads, &request)
 }
 
+// The answer to a request on the scene on standard input.
 fn answer_request<R: Threads + Wait + Sync>(
     rt: &HostRuntime,
     threads: &R,
     request: &Request,
 ) -> Result<(), Fault>
-    requires { IsAllowed request.now }
+    requires allowed { IsAllowed request.now }
 {
     let text = slurp(rt.alloc(), &mut rt.reader())?;
     Ok(answer_on(rt, threads, request, text.as_slice())?)
@@ -62,7 +64,7 @@ fn answer_on<R: Threads + Wait + Sync>(
     request: &Request,
     text: &[u8],
 ) -> Result<(), ToolError>
-    requires { IsAllowed request.now }
+    requires allowed { IsAllowed request.now }
 {
     let progress = Progress::new(rt, request);
     perform(
@@ -75,8 +77,8 @@ fn answer_on<R: Threads + Wait + Sync>(
     )
 }
 
-// Prints a fault's line, or the texts that come with their line feeds. Nothing tells of a printing
-// that failed.
+// Prints a fault's line; the texts of help and usage have line feeds of their own. A failure to
+// print is ignored.
 fn tell(rt: &HostRuntime, fault: &Fault) {
     let _ = match fault {
         Fault::Usage(UsageFault::Help(text)) => print!(rt; "{text}"),

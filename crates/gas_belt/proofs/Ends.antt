@@ -6,7 +6,7 @@ use Rattle.rtrb.specs.declared.end.End.{End}
 use Rattle.rtrb.specs.Ends.{SameRing}
 use Rattle.gas_rows.specs.Row.{RowModel}
 use Rattle.gas_belt.specs.Belt.{Belt, Receiver}
-use Rattle.gas_belt.specs.Ring.{belt_of}
+use Rattle.gas_belt.specs.Inner.Ring.{belt_of}
 
 pub same_belt : (width now : ℕ) (a b : End ℕ Global AnyItems) → now ≡ width → SameRing a b → belt_of now b ≡ belt_of width a
 same_belt width now a b e same = search rules

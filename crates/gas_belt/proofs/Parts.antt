@@ -5,7 +5,7 @@ use mathlib.Core.List.{IsPrefix}
 use Rattle.std.proofs.lemmas.List.{append_assoc, append-nil, length-append}
 use Rattle.std.proofs.Math.Nat.{mul-div_cancel_left, div-le_of_le-mul}
 use Rattle.gas_rows.specs.Row.{RowModel}
-use Rattle.gas_belt.specs.Ring.{parts}
+use Rattle.gas_belt.specs.Inner.Ring.{parts}
 
 module _ (read : List ℕ → RowModel) where
   -- more words leave the rows that are there

@@ -1,4 +1,4 @@
--- Words that came out of a ring and wait beside it.
+-- Words that were popped from a ring and wait beside it.
 use Rattle.std.proofs.Common.{◌≡◌, ℕ, ◌+◌, ◌-◌, ◌≤◌, List, ◌++◌, length, take, drop, sym, ap, ◌∙◌, arith}
 use Rattle.std.proofs.lemmas.Grind.{common_steps}
 use Rattle.std.proofs.lemmas.List.{drop-take, take-take}
@@ -10,7 +10,7 @@ waiting-there first m filled xs there =
     let whole : filled ≡ first + (filled - first) = omega (arith, there) in
     ap (λ (n : ℕ). take m (drop first (take n xs))) whole ∙ ap (take m) (drop-take first (filled - first) xs) ∙ take-take m (filled - first) (drop first xs) (omega (arith, there))
 
--- R came out of the ring, and W are the words beside it, of which those from the first on wait
+-- R was popped from the ring, and W are the words beside it; those from the first on wait
 module _ (R W : List ℕ) (first k : ℕ) (few : k ≤ length R) (long : length W ≡ first + k)
     (waiting : drop (length R - k) R ≡ drop first W) where
   -- more words came

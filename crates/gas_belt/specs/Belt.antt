@@ -17,7 +17,7 @@ pub record Sender : Type 0 where
   pub put : List RowModel
   pub spare : Option RowModel
 
--- the end that rows are taken from: the belt that it is of, all rows taken so far, in order, and how many buffers it holds
+-- the end that rows are taken from: the belt that it is of, all rows taken so far, in order, and the number of spare rows that it holds
 pub record Receiver : Type 0 where
   pub belt : Belt
   pub taken : List RowModel

@@ -33,7 +33,7 @@ impl<G: Gas> Model for Carried<G> {
 }
 
 impl<G: Gas> Carried<G> {
-    /// How many rows the belt carried.
+    /// The number of rows that the belt carried.
     pub fn len(&self) -> u64
         ensures put { result ≡ length self.now.put }
         ensures same_rows { self.now.taken ≡ self.now.put }
@@ -42,11 +42,12 @@ impl<G: Gas> Carried<G> {
     }
 }
 
-/// Compares the two ends of a belt after the close. Where as many rows were taken as were put, they
-/// are the same rows in the same order. Where a row is left, both ends come back as they were.
+/// Compares the two ends of a belt after the close. Where the number of rows taken is that of the
+/// rows put, they are the same rows in the same order. Where a row is left on the belt, both ends
+/// come back as they were.
 #[tactic(auto, using(crate::proofs::Parts::parts_length))]
 pub fn meet<G: Gas>(spent: Spent<G>, rx: Rx<G>) -> Result<Carried<G>, (Spent<G>, Rx<G>)>
-    requires { spent.belt ≡ rx.belt }
+    requires one_belt { spent.belt ≡ rx.belt }
     ensures exactly { IsOk result ↔ (length spent.put ≡ length rx.taken) }
     ensures equal { OnOk result (rx.taken ≡ spent.put) }
     ensures carried { IfOk result (λ c. c ≡ record { put = spent.put; taken = rx.taken }) }
@@ -55,7 +56,7 @@ pub fn meet<G: Gas>(spent: Spent<G>, rx: Rx<G>) -> Result<Carried<G>, (Spent<G>,
 {
     let mut spent = spent;
     let mut rx = rx;
-    rx.inlet.ring.slots_beside(&mut spent.ring);
+    rx.buffer.ring.slots_beside(&mut spent.ring);
     if spent.count != rx.count {
         return Err((spent, rx));
     }

@@ -8,10 +8,10 @@ abbrev pub exchanges : List (ℕ × ℕ)
 exchanges = (0x41, 0x22) ∷ (0x42, 0x05) ∷ (0x44, 0x0a) ∷ (0x48, 0x14) ∷ (0x50, 0x28) ∷ (0x60, 0x11) ∷ []
 
 -- the other set of the pair that has `s`, or `none` where no pair has it
-abbrev pub exchanged : List (ℕ × ℕ) → ℕ → ℕ → ℕ
-exchanged [] s none = none
-exchanged (pair ∷ pairs) s none =
-    if s == pair.0 then pair.1 else if s == pair.1 then pair.0 else exchanged pairs s none
+abbrev pub exchange_of : List (ℕ × ℕ) → ℕ → ℕ → ℕ
+exchange_of [] s none = none
+exchange_of (pair ∷ pairs) s none =
+    if s == pair.0 then pair.1 else if s == pair.1 then pair.0 else exchange_of pairs s none
 
 -- Direction 6 rests. FHP-I has no step and no momentum for it, so it leads nowhere and has none.
 abbrev pub fhp_rest : Rules
@@ -19,6 +19,6 @@ fhp_rest = record fhp1 {
   name = codes "fhp-rest";
   dirs = 7;
   opposite = λ i. if i == 6 then 6 else fhp1.opposite i;
-  -- all sets that are not exchanged collide as in FHP-I, whether or not a particle rests beside those that move
-  collide = λ s chi. exchanged exchanges s (if nat_lt s 0x40 then fhp1.collide s chi else 0x40 + fhp1.collide (s - 0x40) chi);
+  -- all sets that no pair has collide as in FHP-I, whether or not a particle rests beside those that move
+  collide = λ s chi. exchange_of exchanges s (if nat_lt s 0x40 then fhp1.collide s chi else 0x40 + fhp1.collide (s - 0x40) chi);
 }

@@ -18,7 +18,7 @@ hpp = record {
   dirs = 4;
   opposite = λ i. (i + 2) % 4;
   step = λ i odd. slice_index_or steps i (Stay, Stay);
-  -- two particles head on, and no other, turn by a quarter
+  -- a head-on pair alone turns by a quarter
   collide = λ s chi. if s == 0x05 then 0x0a else if s == 0x0a then 0x05 else s;
   momentum = λ i. slice_index_or momenta i (pos 0, pos 0);
 }

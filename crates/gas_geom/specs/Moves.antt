@@ -1,4 +1,4 @@
--- Moves along one axis, and where they lead in a channel: the columns close on themselves, the top and the bottom are walls.
+-- Moves along one axis, and where they lead in a channel: the columns are periodic, the top and the bottom are walls.
 use Rattle.std.specs.Prelude.{ℕ, ◌+◌, ◌-◌, ◌%◌, if◌then◌else◌, ◌==◌, nat_lt, Option, Some, None, ℤ, pos, negsuc}
 
 -- a step along one axis

@@ -1,3 +1,5 @@
+//! The gas FHP-I.
+
 ghost use Rattle.std.specs.Prelude.{◌≡◌, ◌<◌, ◌≤◌, ◌^◌, ℕ, refl};
 ghost use Rattle.gas_geom.specs.Fhp1.{fhp1};
 ghost use Rattle.gas_geom.specs.Laws.Trials.{IsGas-passed};
@@ -5,7 +7,7 @@ ghost use Rattle.gas_geom.specs.Laws.Trials.{IsGas-passed};
 use crate::gas::Gas;
 
 /// The gas FHP-I of Frisch, Hasslacher and Pomeau (1986): the directions E, NE, NW, W, SW and SE
-/// of the triangular lattice, two-body and three-body collisions, no particle at rest.
+/// (0 to 5) of the triangular lattice, two-body and three-body collisions, no particle at rest.
 /// Momentum is in half units eastwards and in units of half the square root of 3 northwards.
 #[derive(Clone, Copy)]
 pub struct Fhp1;

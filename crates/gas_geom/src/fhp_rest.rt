@@ -1,3 +1,5 @@
+//! The gas fhp-rest: FHP-I's lattice with particles at rest.
+
 ghost use Rattle.std.specs.Prelude.{◌≡◌, ◌<◌, ◌≤◌, ◌^◌, ℕ, refl};
 ghost use Rattle.gas_geom.specs.FhpRest.{fhp_rest};
 ghost use Rattle.gas_geom.specs.Laws.Trials.{IsGas-passed};
@@ -6,9 +8,10 @@ use crate::fhp1::Fhp1;
 use crate::gas::Gas;
 
 /// A gas of this project's own, which is not FHP-II: the directions of FHP-I, 0 to 5, and direction
-/// 6, in which a particle rests. Beside FHP-I's collisions, which a rest particle does not hinder,
-/// one that moves and one at rest fly apart to the left and the right of it, and two that meet so
-/// become one that moves and one at rest. Momentum is in FHP-I's units.
+/// 6, in which a particle rests. FHP-I's collisions take place whether or not a particle rests in
+/// the cell. Besides, a moving particle and one at rest become two that leave to its left and its
+/// right, at a sixth of a turn from its direction, and two such particles become a moving one and
+/// one at rest. Momentum is in FHP-I's units.
 #[derive(Clone, Copy)]
 pub struct FhpRest;
 
@@ -59,14 +62,14 @@ impl Gas for FhpRest {
         let (one_e, one_ne, one_nw) = (e ^ w, ne ^ sw, nw ^ se);
         // E, NW and SW lie at equal angles, and so do NE, W and SE.
         let (first, second) = (e | nw | sw, ne | w | se);
-        // One beside a particle at rest, or two of one side beside none: each axis that has one
-        // loses it, and the others gain one of the other side.
+        // A single particle beside one at rest, or two of one such triple beside none: each axis
+        // that holds one loses it, and each other axis gains one of the other triple.
         let odd = one_e ^ one_ne ^ one_nw;
         let exchange = (first ^ second) & !((one_e & one_ne & one_nw) | (odd ^ rest));
         let at_e = exchange & (one_e ^ second);
         let at_ne = exchange & (one_ne ^ first);
         let at_nw = exchange & (one_nw ^ second);
-        // FHP-I leaves those as they are, and collides all others.
+        // FHP-I leaves the cells that exchange as they are, and collides the others.
         let [e, ne, nw, w, sw, se, _, _] = Fhp1::collide64([e, ne, nw, w, sw, se, 0, 0], chi);
         [
             e ^ at_e,

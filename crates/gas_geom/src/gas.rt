@@ -1,3 +1,5 @@
+//! What a lattice gas is: its directions, its collisions and its momenta.
+
 ghost use Rattle.std.specs.Prelude.{◌≡◌, ◌<◌, ◌≤◌, ◌^◌, ℕ};
 ghost use Rattle.gas_geom.specs.Moves.{amount};
 ghost use Rattle.gas_geom.specs.Gas.{Rules, IsGas, holds};
@@ -15,36 +17,37 @@ pub trait Gas {
 
     /// The name.
     fn name() -> &'static str
-        ensures { result.now ≡ rules.name };
+        ensures name { result.now ≡ rules.name };
 
     /// The direction that leads back.
     fn opposite(i: u32) -> u32
-        requires { i < rules.dirs }
-        ensures { result ≡ rules.opposite i };
+        requires direction { i < rules.dirs }
+        ensures value { result ≡ rules.opposite i };
 
     /// The step in a direction from an even or an odd row: the columns to the east and the rows
     /// downwards, each -1 to 1.
     fn step(i: u32, odd: bool) -> (i32, i32)
-        requires { i < rules.dirs }
+        requires direction { i < rules.dirs }
         ensures across { result.0 ≡ amount (rules.step i odd).0 }
         ensures down { result.1 ≡ amount (rules.step i odd).1 };
 
-    /// The state after a collision, where the random bit `chi` decides a choice.
+    /// The state after a collision; `chi` is the random bit that decides where there is a choice.
     fn collide(state: u8, chi: bool) -> u8
-        requires { state < 2 ^ rules.dirs }
-        ensures { result ≡ rules.collide state chi };
+        requires state { state < 2 ^ rules.dirs }
+        ensures value { result ≡ rules.collide state chi };
 
-    /// The states of 64 cells after a collision. Bit `b` of plane `i` says whether cell `b` holds
-    /// direction `i`, and bit `b` of `chi` is the random bit of cell `b`. The planes from `DIRS` on
-    /// are zero.
+    /// The states of 64 cells after a collision. Bit `b` of plane `i` is set where cell `b` holds a
+    /// particle in direction `i`, and bit `b` of `chi` is the random bit of cell `b`. The planes
+    /// from `DIRS` on are zero.
     fn collide64(planes: [u64; 8], chi: u64) -> [u64; 8]
-        requires { ZeroFrom rules.dirs planes }
-        ensures cells { (b : ℕ) → b < 64 → set_at rules.dirs result b ≡ rules.collide (set_at rules.dirs planes b) (holds chi b) }
+        requires rest { ZeroFrom rules.dirs planes }
+        ensures cells { (b : ℕ) → b < 64 → set_at rules.dirs result b
+            ≡ rules.collide (set_at rules.dirs planes b) (holds chi b) }
         ensures rest { ZeroFrom rules.dirs result };
 
     /// The momentum of a particle in a direction, eastwards and northwards, each -2 to 2.
     fn momentum(i: u32) -> (i32, i32)
-        requires { i < rules.dirs }
+        requires direction { i < rules.dirs }
         ensures eastwards { result.0 ≡ (rules.momentum i).0 }
         ensures northwards { result.1 ≡ (rules.momentum i).1 };
 

@@ -1,11 +1,13 @@
+//! The gas HPP.
+
 ghost use Rattle.std.specs.Prelude.{◌≡◌, ◌<◌, ◌≤◌, ◌^◌, ℕ, refl};
 ghost use Rattle.gas_geom.specs.Hpp.{hpp};
 ghost use Rattle.gas_geom.specs.Laws.Trials.{IsGas-passed};
 
 use crate::gas::Gas;
 
-/// The gas HPP of Hardy, de Pazzis and Pomeau (1973): the directions E, N, W and S of the square
-/// lattice, head-on collisions. It does not look at the random bit. Momentum is in whole units.
+/// The gas HPP of Hardy, de Pazzis and Pomeau (1973): the directions E, N, W and S (0 to 3) of the
+/// square lattice, head-on collisions. It ignores the random bit. Momentum is in whole units.
 #[derive(Clone, Copy)]
 pub struct Hpp;
 
@@ -47,7 +49,7 @@ impl Gas for Hpp {
 
     fn collide64(planes: [u64; 8], _chi: u64) -> [u64; 8] {
         let [e, n, w, s, _, _, _, _] = planes;
-        // One pair head on: the two of an axis are alike, and the two axes are not.
+        // One head-on pair: both directions of an axis are alike, and the two axes differ.
         let turns = (e ^ n) & !((e ^ w) | (n ^ s));
         [e ^ turns, n ^ turns, w ^ turns, s ^ turns, 0, 0, 0, 0]
     }

@@ -1,4 +1,5 @@
 //! The number law: no step makes or loses a particle.
+
 ghost use Rattle.std.specs.Prelude.{◌≡◌, ℕ, List, Bool};
 ghost use Rattle.gas_geom.specs.Channel.{ChannelModel};
 ghost use Rattle.gas_geom.specs.Lattice.{IsLattice, next, generation, count};
@@ -7,14 +8,14 @@ use crate::gas::Gas;
 
 /// The next lattice has as many particles, whatever the random bits.
 pub fn number_law<G: Gas>()
-    ensures { (channel : ChannelModel) (chi : ℕ → ℕ → Bool) (rows : List (List ℕ)) →
-        IsLattice G.rules channel rows →
+    ensures kept { (channel : ChannelModel) (chi : ℕ → ℕ → Bool)
+        (rows : List (List ℕ)) → IsLattice G.rules channel rows →
         count G.rules (next G.rules channel chi rows) ≡ count G.rules rows }
 {}
 
 /// Every generation has as many particles as the first, whatever the random bits.
 pub fn number_law_of_runs<G: Gas>()
-    ensures { (channel : ChannelModel) (chi : ℕ → ℕ → ℕ → Bool) (start : ℕ) (rows : List (List ℕ)) →
-        IsLattice G.rules channel rows → (n : ℕ) →
+    ensures kept { (channel : ChannelModel) (chi : ℕ → ℕ → ℕ → Bool) (start : ℕ)
+        (rows : List (List ℕ)) → IsLattice G.rules channel rows → (n : ℕ) →
         count G.rules (generation G.rules channel chi start rows n) ≡ count G.rules rows }
 {}

@@ -1,3 +1,5 @@
+//! The size of a channel, and the neighbour of a cell.
+
 ghost use Rattle.std.specs.Prelude.{◌≡◌, ◌<◌, ◌≤◌, ◌^◌, ◌↔◌, ℕ, IsSome, IfSome};
 ghost use Rattle.gas_geom.specs.Moves.{Move, amount, column_after, row_after};
 ghost use Rattle.gas_geom.specs.Gas.{neighbour_of};
@@ -59,10 +61,10 @@ impl Size {
     }
 }
 
-// The column after a step along a row, which closes on itself.
+// The column after a step along a row, which is periodic.
 fn column_after(width: u32, x: u32, across: i32) -> u32
-    requires { x < width }
-    ensures { (m : Move) → across ≡ amount m → result ≡ column_after width x m }
+    requires column { x < width }
+    ensures value { (m : Move) → across ≡ amount m → result ≡ column_after width x m }
 {
     if across < 0 {
         if x == 0 { width - 1 } else { x - 1 }
@@ -75,8 +77,8 @@ fn column_after(width: u32, x: u32, across: i32) -> u32
 
 // The row after a step across the rows, or None past the top or bottom row.
 fn row_after(height: u32, y: u32, down: i32) -> Option<u32>
-    requires { y < height }
-    ensures { (m : Move) → down ≡ amount m → result ≡ row_after height y m }
+    requires row { y < height }
+    ensures value { (m : Move) → down ≡ amount m → result ≡ row_after height y m }
 {
     if down < 0 {
         if y == 0 { None } else { Some(y - 1) }
@@ -87,13 +89,13 @@ fn row_after(height: u32, y: u32, down: i32) -> Option<u32>
     }
 }
 
-/// The neighbour of the cell `(x, y)` in direction `i`: its column is taken modulo the width, and
-/// it is None where it lies past the top or bottom row.
+/// The column and the row of the neighbour of the cell `(x, y)` in direction `i`. The column is
+/// taken modulo the width; None where the neighbour lies past the top or bottom row.
 pub fn neighbour<G: Gas>(size: Size, x: u32, y: u32, i: u32) -> Option<(u32, u32)>
     requires column { x < size.width }
     requires row { y < size.height }
     requires direction { i < G.rules.dirs }
-    ensures { result ≡ neighbour_of G.rules size.width size.height x y i }
+    ensures value { result ≡ neighbour_of G.rules size.width size.height x y i }
 {
     let (across, down) = G::step(i, y % 2 == 1);
     let row = row_after(size.height, y, down)?;

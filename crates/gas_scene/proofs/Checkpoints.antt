@@ -1,4 +1,4 @@
--- The table of a checkpoint is the scene of which it was made.
+-- The table of a checkpoint is the scene that it was made of.
 use Rattle.std.proofs.Common.{◌≡◌, ℕ, ◌*◌, ◌/◌, ◌%◌, ◌^◌, ◌<◌, ◌≤◌, ◌==◌, Bool, true, false, not, ◌&&◌, cond, List, [], ◌∷◌, map, length, get_or, Some, None, codes, pos, nat_le, nat_lt, ap, ap₂, sym, ◌∙◌, refl, arith, if◌then◌else◌}
 use Rattle.std.specs.Prelude.{Ok, Err, is_some, option_map, int_le}
 use Rattle.std.specs.List.{range_with_len, position, list_any}
@@ -30,7 +30,7 @@ use Rattle.gas_scene.specs.declared.error.SceneError.TheVariants.{Range, RowLeng
 use Rattle.gas_scene.specs.Table.{TableModel, table_of}
 use Rattle.gas_scene.specs.Refusals.{gas_of, is_misfit, row_length, bad_cell, map_refusal, is_common_in_range, value_refusal, refusal_of}
 use Rattle.gas_scene.specs.Scene.{map_cell, map_lattice, chirality_of, scene_of, table_answer}
-use Rattle.gas_scene.specs.Checkpoint.{told, is_told, checkpoint_table}
+use Rattle.gas_scene.specs.Checkpoint.{name_and_seed, is_told, checkpoint_table}
 use Rattle.gas_scene.specs.Inner.Maps.{row_at}
 use Rattle.gas_scene.proofs.Tables.{texts, with_rows, table_of-checkpoint, table_refusal-checkpoint}
 
@@ -55,15 +55,15 @@ few_rows : (n : ℕ) → 1 ≤ n → n ≤ MOST_SIDE → between (pos 1) (pos MO
 few_rows n some few = grind (arith, ints)
 
 -- each chirality has its name
-is_chirality : (chirality : Chirality) → list_any (bytes_eq (told chirality).0) (codes "seeded" ∷ codes "left" ∷ codes "right" ∷ []) ≡ true
+is_chirality : (chirality : Chirality) → list_any (bytes_eq (name_and_seed chirality).0) (codes "seeded" ∷ codes "left" ∷ codes "right" ∷ []) ≡ true
 is_chirality (Seeded seed) = refl
 is_chirality Left = refl
 is_chirality Right = refl
 
-chirality_of-told : (chirality : Chirality) → chirality_of (told chirality).0 (unwrap_or (told chirality).1 0) ≡ chirality
-chirality_of-told (Seeded seed) = refl
-chirality_of-told Left = refl
-chirality_of-told Right = refl
+chirality_of-name_and_seed : (chirality : Chirality) → chirality_of (name_and_seed chirality).0 (unwrap_or (name_and_seed chirality).1 0) ≡ chirality
+chirality_of-name_and_seed (Seeded seed) = refl
+chirality_of-name_and_seed Left = refl
+chirality_of-name_and_seed Right = refl
 
 natural : (n : ℕ) → int_le (pos 0) (pos n) ≡ true
 natural n = grind (arith, ints)
@@ -163,7 +163,7 @@ module _ (gas : KnownGas) (l : LatticeModel) (whole : IsLattice (rules_of gas) l
           lattice = record { gas = g; lattice = map_lattice (2 ^ (rules_of g).dirs) (texts l) };
           chirality = c;
           generation = generation;
-        }) gas_is (chirality_of-told chirality)
+        }) gas_is (chirality_of-name_and_seed chirality)
         ∙ ap (λ (m : LatticeModel). record { lattice = record { gas = gas; lattice = m }; chirality = chirality; generation = generation }) map_lattice-texts
 
     pub table_answer-checkpoint : table_answer (checkpoint_table here chirality generation) ≡ Ok (record { lattice = here; chirality = chirality; generation = generation })

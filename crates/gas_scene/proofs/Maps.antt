@@ -92,7 +92,7 @@ pub cell_is : {A : Type 0} (o : Option Cell) (f : Cell → A) (v : A) → IsSome
 cell_is None f v some is = absurd (cc)
 cell_is (Some c) f v some is = is
 
--- the state of what may be a cell is one of so many, and 0 at a solid cell
+-- the state of what may be a cell is below the number of states, and 0 at a solid cell
 below : (states n : ℕ) (b : Bool) → 0 < states → nat_lt n states ≡ b
     → (unwrap_or (if b then Some (record { solid = false; state = n }) else None) empty).state < states
 below states n true some is = ltb-true n states is

@@ -14,9 +14,9 @@ use Rattle.gas_scene.specs.declared.error.SceneError.TheVariants.{WrongType}
 use Rattle.gas_scene.specs.Table.{TableModel, text_of, list_of, table_of}
 use Rattle.gas_scene.specs.Keys.{is_text, is_typed}
 use Rattle.gas_scene.specs.Refusals.{table_refusal}
-use Rattle.gas_scene.specs.Checkpoint.{told, row_values, checkpoint_table}
+use Rattle.gas_scene.specs.Checkpoint.{name_and_seed, row_values, checkpoint_table}
 use Rattle.gas_scene.specs.Inner.Shown.{no_area}
-use Rattle.gas_scene.specs.Inner.Printing.{inserted}
+use Rattle.gas_scene.specs.Inner.Printing.{insert_all}
 
 -- the rows of a lattice as texts
 abbrev pub texts : LatticeModel → List (List ℕ)
@@ -38,24 +38,24 @@ low : (n : ℕ) → n ≡ 0 → max (suc n) 0 ≤ 80
 low n e = subst (λ k. max (suc k) 0 ≤ 80) (sym e) (omega arith)
 
 -- put together key after key, the table is that of a checkpoint
-in_order : (l : GasLattice) (chirality : Chirality) (generation : ℕ) → inserted (rules_of l.gas).name (row_values l.lattice) chirality generation ≡ checkpoint_table l chirality generation
-unfolding inserted checkpoint_table
+in_order : (l : GasLattice) (chirality : Chirality) (generation : ℕ) → insert_all (rules_of l.gas).name (row_values l.lattice) chirality generation ≡ checkpoint_table l chirality generation
+unfolding insert_all checkpoint_table
 in_order l (Seeded seed) generation = refl
 in_order l Left generation = refl
 in_order l Right generation = refl
 
 pub checkpoint_table-made : (l : GasLattice) (chirality : Chirality) (generation : ℕ) (gas : List ℕ) (cells : List Data) (ms : Members) → gas ≡ (rules_of l.gas).name → cells ≡ row_values l.lattice
-    → ms ≡ inserted gas cells chirality generation → ms ≡ checkpoint_table l chirality generation
+    → ms ≡ insert_all gas cells chirality generation → ms ≡ checkpoint_table l chirality generation
 checkpoint_table-made l chirality generation gas cells ms named rows made =
-    made ∙ ap₂ (λ (name : List ℕ) (ds : List Data). inserted name ds chirality generation) named rows ∙ in_order l chirality generation
+    made ∙ ap₂ (λ (name : List ℕ) (ds : List Data). insert_all name ds chirality generation) named rows ∙ in_order l chirality generation
 
 -- a table of version 2 with a map of these rows
 abbrev pub with_rows : GasLattice → Chirality → ℕ → List (List ℕ) → TableModel
 with_rows l chirality generation rows = record {
   version = pos 2;
   gas = (rules_of l.gas).name;
-  chirality = (told chirality).0;
-  seed = pos (unwrap_or (told chirality).1 0);
+  chirality = (name_and_seed chirality).0;
+  seed = pos (unwrap_or (name_and_seed chirality).1 0);
   generation = pos generation;
   cells = Some rows;
   area = no_area;

@@ -1,4 +1,4 @@
--- What a scene can tell of a lattice amid its generations, and the table that tells it.
+-- What a scene can say of a lattice in the course of a run, and the table that says it.
 use Rattle.std.specs.Prelude.{ℕ, ◌^◌, ◌&&◌, Bool, true, List, Option, Some, None, map, codes, pos, nat_lt, nat_le}
 use Rattle.std.specs.List.{range_with_len}
 use Rattle.std.specs.Option.{option_map_or}
@@ -11,15 +11,15 @@ use Rattle.gas_cells.specs.Cells.{row_cells}
 use Rattle.gas_catalog.specs.Catalog.{rules_of, GasLattice}
 
 -- the name of a chirality, and its seed, if it has one
-abbrev pub told : Chirality → List ℕ × Option ℕ
-told (Seeded seed) = (codes "seeded", Some seed)
-told Left = (codes "left", None)
-told Right = (codes "right", None)
+abbrev pub name_and_seed : Chirality → List ℕ × Option ℕ
+name_and_seed (Seeded seed) = (codes "seeded", Some seed)
+name_and_seed Left = (codes "left", None)
+name_and_seed Right = (codes "right", None)
 
 -- whether a scene can have this chirality and this generation: a seed must be an integer of TOML
 abbrev pub is_told : Chirality → ℕ → Bool
 is_told chirality generation =
-    option_map_or (λ seed. nat_lt seed (2 ^ 63)) (told chirality).1 true && nat_le generation 1000000000000
+    option_map_or (λ seed. nat_lt seed (2 ^ 63)) (name_and_seed chirality).1 true && nat_le generation 1000000000000
 
 -- the texts of the rows, from the top
 abbrev pub row_values : LatticeModel → List Data
@@ -30,7 +30,7 @@ unfoldable pub checkpoint_table : GasLattice → Chirality → ℕ → Members
 checkpoint_table l chirality generation =
     let version : Members = member (codes "version") (integer (pos 2)) no_members in
     member (codes "cells") (array (items_of (row_values l.lattice))) (
-    member (codes "chirality") (string (told chirality).0) (
+    member (codes "chirality") (string (name_and_seed chirality).0) (
     member (codes "gas") (string (rules_of l.gas).name) (
     member (codes "generation") (integer (pos generation)) (
-    option_map_or (λ seed. member (codes "seed") (integer (pos seed)) version) (told chirality).1 version))))
+    option_map_or (λ seed. member (codes "seed") (integer (pos seed)) version) (name_and_seed chirality).1 version))))

@@ -47,14 +47,14 @@ is_common_in_range t =
     between (pos 1) (pos 2) t.version && (int_le (pos 0) t.seed && (between (pos 0) (pos 1000000000000) t.generation
     && (is_some (gas_named t.gas) && list_any (bytes_eq t.chirality) (codes "seeded" ∷ codes "left" ∷ codes "right" ∷ []))))
 
--- an area with sides of at most `most` cells, in a gas whose cells have so many states
+-- an area with sides of at most `most` cells, in a gas whose cells have that number of states
 abbrev pub is_area_in_range : ℕ → ℕ → AreaModel → Bool
 is_area_in_range most states a =
     between (pos 1) (pos most) a.width && (between (pos 1) (pos most) a.height && (between (pos 0) (pos 1000) a.rate
     && (list_all (fits (nat_abs a.width) (nat_abs a.height)) a.solid
     && list_all (can_place states (nat_abs a.width) (nat_abs a.height) (is_covered a.solid)) a.particles)))
 
--- whether a row's length is wrong: two characters a cell, and as many as the first row has
+-- whether a row's length is wrong: it must be two characters a cell, and that of the first row
 abbrev pub is_misfit : ℕ → ℕ → List ℕ → Bool
 is_misfit most first row =
     not ((length row % 2 == 0) && (nat_le 2 (length row) && (nat_le (length row) (2 * most) && (length row == first))))

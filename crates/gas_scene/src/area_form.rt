@@ -26,14 +26,15 @@ use gas_rows::lattice::Lattice;
 use std::alloc::{AllocError, Global};
 use toml::Value;
 
-// Whether each rectangle has cells, all of them in the area.
+// Returns whether each rectangle has cells, all of them in the area.
 fn are_rectangles(values: &[Value], size: Size) -> bool
-    ensures { result ≡ list_all (λ v. fits size.width size.height (rectangle_of (view v))) values.now }
+    ensures { result
+        ≡ list_all (λ v. fits size.width size.height (rectangle_of (view v))) values.now }
 {
     values.iter().all(|value| rectangle(value).fits(size))
 }
 
-// Whether each placement is at a fluid cell of the channel, of a state of the gas.
+// Returns whether each placement is at a fluid cell of the channel, of a state of the gas.
 fn are_placements(values: &[Value], channel: &Channel, states: u16) -> bool
     ensures { result ≡ can_stand states channel.now values.now }
 {
@@ -42,10 +43,12 @@ fn are_placements(values: &[Value], channel: &Channel, states: u16) -> bool
         .all(|value| placement(value).can_stand(channel, states))
 }
 
-// The channel of an area in which the cells are solid that one of the rectangles covers.
+// The channel of an area whose solid cells are those that the rectangles cover.
 fn draw(alloc: Global, size: Size, solid: &[Value]) -> Result<Channel, AllocError>
-    requires { list_all (λ v. fits size.width size.height (rectangle_of (view v))) solid.now ≡ true }
-    ensures { IfOk result (λ c. c ≡ drawn size.width size.height (map rectangle_of (map view solid.now))) }
+    requires { list_all (λ v. fits size.width size.height (rectangle_of (view v))) solid.now
+        ≡ true }
+    ensures { IfOk result (λ c.
+        c ≡ drawn size.width size.height (map rectangle_of (map view solid.now))) }
 {
     let mut drawing = Drawing::new(alloc, size)?;
     for value in solid {
@@ -58,8 +61,9 @@ fn draw(alloc: Global, size: Size, solid: &[Value]) -> Result<Channel, AllocErro
 fn place_all<G: Gas>(lattice: &mut Lattice<G>, particles: &[Value])
     requires size { IsSize lattice.old.channel.width lattice.old.channel.height }
     requires can { can_stand (2 ^ G.rules.dirs) lattice.old.channel particles.now ≡ true }
-    ensures { (w h : ℕ) (solid : ℕ → ℕ → Bool) (at : ℕ → ℕ → ℕ) → lattice.old ≡ lattice_of w h solid at
-        → lattice.new ≡ lattice_of w h solid (λ x y. placed (map placement_of (map view particles.now)) x y (at x y)) }
+    ensures { (w h : ℕ) (solid : ℕ → ℕ → Bool) (at : ℕ → ℕ → ℕ) →
+        lattice.old ≡ lattice_of w h solid at → lattice.new ≡ lattice_of w h solid
+        (λ x y. placed (map placement_of (map view particles.now)) x y (at x y)) }
 {
     for value in particles {
         placement(value).put(lattice);
@@ -83,7 +87,8 @@ fn area_lattice<G: Gas>(
     seed: u64,
 ) -> Result<Lattice<G>, AllocError>
     requires size { IsSize (nat_abs area.now.width) (nat_abs area.now.height) }
-    requires drawn { channel ≡ drawn (nat_abs area.now.width) (nat_abs area.now.height) (area_shown area.now).solid }
+    requires drawn { channel
+        ≡ drawn (nat_abs area.now.width) (nat_abs area.now.height) (area_shown area.now).solid }
     requires can { can_stand (2 ^ G.rules.dirs) channel area.now.particles.now ≡ true }
     requires some { pos 0 ≤ℤ area.now.rate }
     requires few { area.now.rate ≤ℤ pos 1000 }
@@ -110,13 +115,17 @@ impl Area<'_> {
     // The size, with sides of at most `most` cells.
     fn size(&self, most: u32) -> Option<Size>
         requires { most ≤ MOST_SIDE }
-        ensures within { is_some result ≡ (between (pos 1) (pos most) self.now.width && between (pos 1) (pos most) self.now.height) }
-        ensures made { IfSome result (λ s. s ≡ record { width = nat_abs self.now.width; height = nat_abs self.now.height }) }
+        ensures within { is_some result ≡ (between (pos 1) (pos most) self.now.width
+            && between (pos 1) (pos most) self.now.height) }
+        ensures made { IfSome result (λ s. s ≡ record {
+          width = nat_abs self.now.width;
+          height = nat_abs self.now.height;
+        }) }
     {
         size_within(most, self.width, self.height)
     }
 
-    // Whether the rate is one in thousandths.
+    // Returns whether the rate is 0 to 1000.
     fn has_rate(&self) -> bool
         ensures { result ≡ between (pos 0) (pos 1000) self.now.rate }
     {
@@ -126,9 +135,14 @@ impl Area<'_> {
     // The channel of the area with its rectangles, where all values are in their ranges.
     fn channel(&self, alloc: Global, most: u32, states: u16) -> Result<Channel, SceneError>
         requires { most ≤ MOST_SIDE }
-        ensures refused { IfErr result (λ e. ((is_area_in_range most states (area_shown self.now) ≡ false) × (e ≡ Range)) ⊎ (e ≡ Memory)) }
-        ensures accepted { IfOk result (λ c. is_area_in_range most states (area_shown self.now) ≡ true) }
-        ensures drawn { IfOk result (λ c. c ≡ drawn (nat_abs self.now.width) (nat_abs self.now.height) (area_shown self.now).solid) }
+        ensures refused { IfErr result (λ e.
+            ((is_area_in_range most states (area_shown self.now) ≡ false) × (e ≡ Range))
+            ⊎ (e ≡ Memory)) }
+        ensures accepted { IfOk result (λ c.
+            is_area_in_range most states (area_shown self.now) ≡ true) }
+        ensures drawn { IfOk result (λ c.
+            c ≡ drawn (nat_abs self.now.width) (nat_abs self.now.height)
+            (area_shown self.now).solid) }
         ensures can { IfOk result (λ c. can_stand states c self.now.particles.now ≡ true) }
     {
         let Some(size) = self.size(most) else {
@@ -153,7 +167,9 @@ impl Area<'_> {
         seed: u64,
     ) -> Result<AnyLattice, AllocError>
         requires size { IsSize (nat_abs self.now.width) (nat_abs self.now.height) }
-        requires drawn { channel ≡ drawn (nat_abs self.now.width) (nat_abs self.now.height) (area_shown self.now).solid }
+        requires drawn { channel
+            ≡ drawn (nat_abs self.now.width) (nat_abs self.now.height)
+            (area_shown self.now).solid }
         requires can { can_stand (2 ^ (rules_of gas).dirs) channel self.now.particles.now ≡ true }
         requires some { pos 0 ≤ℤ self.now.rate }
         requires few { self.now.rate ≤ℤ pos 1000 }
@@ -165,7 +181,8 @@ impl Area<'_> {
         Ok(any_lattice!(gas, area_lattice(alloc, channel, self, seed)?))
     }
 
-    /// The lattice of the area, with sides of at most `most` cells, or that a value is out of range.
+    /// The lattice of the area, with sides of at most `most` cells, or that a value is out of
+    /// range.
     pub(crate) fn lattice(
         &self,
         alloc: Global,
@@ -174,8 +191,11 @@ impl Area<'_> {
         seed: u64,
     ) -> Result<AnyLattice, SceneError>
         requires { most ≤ MOST_SIDE }
-        ensures refused { IfErr result (λ e. ((is_area_in_range most (2 ^ (rules_of gas).dirs) (area_shown self.now) ≡ false) × (e ≡ Range)) ⊎ (e ≡ Memory)) }
-        ensures accepted { IfOk result (λ l. is_area_in_range most (2 ^ (rules_of gas).dirs) (area_shown self.now) ≡ true) }
+        ensures refused { IfErr result (λ e.
+            ((is_area_in_range most (2 ^ (rules_of gas).dirs) (area_shown self.now) ≡ false)
+            × (e ≡ Range)) ⊎ (e ≡ Memory)) }
+        ensures accepted { IfOk result (λ l.
+            is_area_in_range most (2 ^ (rules_of gas).dirs) (area_shown self.now) ≡ true) }
         ensures value { IfOk result (λ l. gas_lattice l ≡ record {
           gas = gas;
           lattice = area_lattice (rules_of gas) seed (area_shown self.now);

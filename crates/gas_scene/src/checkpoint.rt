@@ -1,4 +1,4 @@
-//! A lattice amid its generations as the text of a scene, from which its run can go on.
+//! A lattice written as the text of a scene, from which its run can be resumed.
 
 ghost use Rattle.std.specs.Prelude.{◌≡◌, ◌⊎◌, ◌↔◌, ◌<◌, ◌^◌, true, false, Some, Ok, Err, pos, map, IfSome, IfOk, IfErr, OnOk, string_bytes};
 ghost use Rattle.gas_geom.specs.Channel.{IsChannel};
@@ -10,8 +10,8 @@ ghost use Rattle.gas_cells.specs.Cells.{row_cells};
 ghost use Rattle.gas_catalog.specs.Catalog.{rules_of, gas_lattice};
 ghost use Rattle.gas_scene.specs.declared.error.SceneError.TheVariants.{Memory, Range};
 ghost use Rattle.gas_scene.specs.Scene.{scene_of_text};
-ghost use Rattle.gas_scene.specs.Checkpoint.{told, is_told, row_values, checkpoint_table};
-ghost use Rattle.gas_scene.specs.Inner.Printing.{gas_with, insert_member, insert_seed, inserted};
+ghost use Rattle.gas_scene.specs.Checkpoint.{name_and_seed, is_told, row_values, checkpoint_table};
+ghost use Rattle.gas_scene.specs.Inner.Printing.{gas_with, insert_member, insert_seed, insert_all};
 
 use crate::common::LAST_GENERATION;
 use crate::error::SceneError;
@@ -27,7 +27,8 @@ use toml::{Table, Value};
 // The characters of row `y`.
 fn row_bytes<G: Gas>(alloc: Global, lattice: &Lattice<G>, y: u32) -> Result<Vec<u8>, AllocError>
     requires { y < lattice.now.channel.height }
-    ensures row { IfOk result (λ text. text.items ≡ row_cells lattice.now.channel lattice.now.rows y) }
+    ensures row { IfOk result (λ text.
+        text.items ≡ row_cells lattice.now.channel lattice.now.rows y) }
     ensures lattice { IsLattice G.rules lattice.now.channel lattice.now.rows }
 {
     let width = lattice.channel().size().width() as usize;
@@ -41,7 +42,8 @@ fn row_bytes<G: Gas>(alloc: Global, lattice: &Lattice<G>, y: u32) -> Result<Vec<
 // The text of row `y`, whose characters are ASCII.
 fn row_text<G: Gas>(alloc: Global, lattice: &Lattice<G>, y: u32) -> Result<String, AllocError>
     requires { y < lattice.now.channel.height }
-    ensures { IfOk result (λ s. string_bytes s ≡ row_cells lattice.now.channel lattice.now.rows y) }
+    ensures { IfOk result (λ s.
+        string_bytes s ≡ row_cells lattice.now.channel lattice.now.rows y) }
 {
     match String::from_utf8(row_bytes(alloc, lattice, y)?) {
         Ok(text) => Ok(text),
@@ -65,7 +67,8 @@ fn row_values<G: Gas>(alloc: Global, lattice: &Lattice<G>) -> Result<Vec<Value>,
 
 // Sets the value at a key.
 fn insert(alloc: Global, table: &mut Table, key: &str, value: Value) -> Result<(), AllocError>
-    ensures { OnOk result (table_view table.new ≡ insert_member key.now (view value) (table_view table.old)) }
+    ensures { OnOk result (table_view table.new
+        ≡ insert_member key.now (view value) (table_view table.old)) }
 {
     let key = String::from_str(alloc, key)?;
     match table.insert(key, value) {
@@ -75,9 +78,9 @@ fn insert(alloc: Global, table: &mut Table, key: &str, value: Value) -> Result<(
 }
 
 // The name of a chirality, and its seed, if it has one.
-fn told(chirality: Chirality) -> (&'static str, Option<u64>)
-    ensures name { result.0.now ≡ (told chirality).0 }
-    ensures seed { result.1 ≡ (told chirality).1 }
+fn name_and_seed(chirality: Chirality) -> (&'static str, Option<u64>)
+    ensures name { result.0.now ≡ (name_and_seed chirality).0 }
+    ensures seed { result.1 ≡ (name_and_seed chirality).1 }
 {
     match chirality {
         Chirality::Seeded(seed) => ("seeded", Some(seed)),
@@ -106,7 +109,7 @@ fn insert_seed(alloc: Global, table: &mut Table, seed: Option<u64>) -> Result<()
 }
 
 // The table of a checkpoint.
-fn made_table(
+fn build_table(
     alloc: Global,
     gas: &str,
     cells: Vec<Value>,
@@ -114,9 +117,10 @@ fn made_table(
     generation: u64,
 ) -> Result<Table, AllocError>
     requires { is_told chirality generation ≡ true }
-    ensures { IfOk result (λ t. table_view t ≡ inserted gas.now (map view cells.items) chirality generation) }
+    ensures { IfOk result (λ t.
+        table_view t ≡ insert_all gas.now (map view cells.items) chirality generation) }
 {
-    let (name, seed) = told(chirality);
+    let (name, seed) = name_and_seed(chirality);
     let mut table = Table::new(alloc);
     let name = Value::string(alloc, name)?;
     insert(alloc, &mut table, "version", Value::Integer(2))?;
@@ -129,7 +133,7 @@ fn made_table(
 }
 
 // The text of a checkpoint of a lattice of one gas.
-fn made_text<G: Gas>(
+fn build_text<G: Gas>(
     alloc: Global,
     lattice: &Lattice<G>,
     chirality: Chirality,
@@ -142,32 +146,31 @@ fn made_text<G: Gas>(
       chirality = chirality;
       generation = generation;
     })) }
-    ensures table { IfOk result (λ s. parse_document (string_bytes s)
-        ≡ Some (checkpoint_table (record { gas = gas_with G.rules; lattice = lattice.now }) chirality generation)) }
+    ensures table { IfOk result (λ s. parse_document (string_bytes s) ≡ Some (checkpoint_table
+        (record { gas = gas_with G.rules; lattice = lattice.now }) chirality generation)) }
 {
     let cells = row_values(alloc, lattice)?;
-    let table = made_table(alloc, G::name(), cells, chirality, generation)?;
+    let table = build_table(alloc, G::name(), cells, chirality, generation)?;
     match toml::table_to_string_pretty(alloc, &table) {
         Ok(text) => Ok(text),
         Err(_) => Err(AllocError),
     }
 }
 
-// Whether a scene can have this chirality and this generation.
+// Returns whether a scene can have this chirality and this generation.
 fn is_told(chirality: Chirality, generation: u64) -> bool
     ensures { result ≡ is_told chirality generation }
 {
-    let (_, seed) = told(chirality);
+    let (_, seed) = name_and_seed(chirality);
     seed.is_none_or(|seed| seed < 1 << 63) && generation <= LAST_GENERATION
 }
 
-/// The text of a scene of version 2 that holds a lattice, where the random bits of its collisions
-/// come from, and its generation: `scene::read` gives all of them back, so that a run from the text
-/// goes on as one from the lattice.
+/// The text of a scene of version 2 with a lattice, its chirality and its generation. `scene::read`
+/// gives all three back, so that a run from the text goes on as one from the lattice would.
 ///
-/// It is a TOML document with the keys `cells`, the rows from the top in the form in which cells are
-/// printed, `chirality`, `gas`, `generation` and `version`, and `seed` exactly where the chirality is
-/// seeded.
+/// It is a TOML document with the keys `cells`, the rows from the top in the form in which cells
+/// are printed, `chirality`, `gas`, `generation` and `version`, and `seed` exactly where the
+/// chirality is seeded.
 ///
 /// `Range` exactly where the generation is above 1,000,000,000,000 or a seed above 2^63 - 1; else
 /// `Memory` where memory is refused.
@@ -190,6 +193,9 @@ pub fn checkpoint(
     if !is_told(chirality, generation) {
         return Err(SceneError::Range);
     }
-    let text = with_lattice!(lattice, lattice => made_text(alloc, lattice, chirality, generation))?;
+    let text = with_lattice!(
+        lattice,
+        lattice => build_text(alloc, lattice, chirality, generation)
+    )?;
     Ok(text)
 }

@@ -20,7 +20,7 @@ const FIRST_MOST_SIDE: u32 = 4096;
 
 /// What the scenes of both forms have.
 #[derive(Clone, Copy)]
-pub struct Common {
+pub struct CommonValues {
     pub gas: KnownGas,
     pub chirality: Chirality,
     pub seed: u64,
@@ -41,7 +41,9 @@ fn most_side(version: i64) -> u32
 
 // The chirality of this name, seeded ones with the seed.
 fn chirality(name: &str, seed: u64) -> Option<Chirality>
-    ensures known { is_some result ≡ list_any (bytes_eq name.now) (codes "seeded" ∷ codes "left" ∷ codes "right" ∷ []) }
+    ensures known { is_some result
+        ≡ list_any (bytes_eq name.now)
+        (codes "seeded" ∷ codes "left" ∷ codes "right" ∷ []) }
     ensures value { IfSome result (λ c. c ≡ chirality_of name.now seed) }
 {
     if name == "left" {
@@ -64,10 +66,11 @@ impl SceneTable<'_> {
     ghost use Rattle.gas_scene.specs.Scene.{chirality_of};
     ghost use Rattle.gas_scene.specs.Inner.Shown.{shown};
 
-    // Whether the numbers are in their ranges.
+    // Returns whether the numbers are in their ranges.
     fn has_common_numbers(&self) -> bool
         ensures { result ≡ (between (pos 1) (pos 2) self.now.version
-            && (int_le (pos 0) self.now.seed && between (pos 0) (pos 1000000000000) self.now.generation)) }
+            && (int_le (pos 0) self.now.seed
+            && between (pos 0) (pos 1000000000000) self.now.generation)) }
     {
         is_between(1, 2, self.version)
             && 0 <= self.seed
@@ -75,10 +78,11 @@ impl SceneTable<'_> {
     }
 
     /// What scenes of both forms have, and None where one of its values is out of its range.
-    pub(crate) fn common(&self) -> Option<Common>
+    pub(crate) fn common_values(&self) -> Option<CommonValues>
         ensures within { is_some result ≡ is_common_in_range (shown self.now) }
         ensures gas { IfSome result (λ c. gas_named self.now.gas.now ≡ Some c.gas) }
-        ensures chirality { IfSome result (λ c. c.chirality ≡ chirality_of self.now.chirality.now (nat_abs self.now.seed)) }
+        ensures chirality { IfSome result (λ c. c.chirality
+            ≡ chirality_of self.now.chirality.now (nat_abs self.now.seed)) }
         ensures seed { IfSome result (λ c. c.seed ≡ nat_abs self.now.seed) }
         ensures generation { IfSome result (λ c. c.generation ≡ nat_abs self.now.generation) }
         ensures few { IfSome result (λ c. c.generation ≤ LAST_GENERATION) }
@@ -88,7 +92,7 @@ impl SceneTable<'_> {
             return None;
         }
         let seed = self.seed.unsigned_abs();
-        Some(Common {
+        Some(CommonValues {
             gas: KnownGas::named(self.gas)?,
             chirality: chirality(self.chirality, seed)?,
             seed,

@@ -42,14 +42,14 @@ fn row(rows: &[Value], r: usize) -> &[u8]
     row_of(&rows[r])
 }
 
-// Whether there are 1 to `most` rows.
+// Returns whether there are 1 to `most` rows.
 fn is_height(most: u32, rows: usize) -> bool
     ensures { result ≡ between (pos 1) (pos most) (pos rows) }
 {
     1 <= rows && rows <= most as usize
 }
 
-// Whether the length of a row is wrong, where the first row has `first` characters.
+// Returns whether the length of a row is wrong, where the first row has `first` characters.
 fn is_misfit(most: u32, first: usize, row: &[u8]) -> bool
     ensures { result ≡ is_misfit most first row.now }
 {
@@ -69,7 +69,7 @@ fn first_misfit(most: u32, first: usize, rows: &[Value]) -> Option<usize>
 }
 
 // The first row in which no cell stands in some column.
-fn first_bad(states: u16, rows: &[Value]) -> Option<usize>
+fn first_bad_row(states: u16, rows: &[Value]) -> Option<usize>
     ensures { result ≡ position (λ v. is_some (bad_column states (text_of (view v)))) rows.now }
 {
     rows.iter()
@@ -93,7 +93,7 @@ fn check_cells(states: u16, rows: &[Value]) -> Result<(), SceneError>
     requires { AreShort (map text_of (map view rows.now)) }
     ensures { result ≡ verdict (bad_cell states (map text_of (map view rows.now))) }
 {
-    match first_bad(states, rows) {
+    match first_bad_row(states, rows) {
         Some(r) => {
             let c = bad_column(row(rows, r), states).unwrap_or(0);
             Err(SceneError::BadCell(r as u32, c as u32))
@@ -102,7 +102,7 @@ fn check_cells(states: u16, rows: &[Value]) -> Result<(), SceneError>
     }
 }
 
-// Puts the cells of row `y`, by way of a buffer for its solid cells and one for its states.
+// Puts the cells of row `y`. `solid` and `state_of` are buffers for the cells of a row.
 fn put_row<G: Gas>(
     lattice: &mut Lattice<G>,
     rows: &[Value],
@@ -114,15 +114,17 @@ fn put_row<G: Gas>(
     requires within { y < length rows.now }
     requires wide { length solid.old ≡ map_width (map text_of (map view rows.now)) }
     requires as_wide { length state_of.old ≡ map_width (map text_of (map view rows.now)) }
-    requires before { lattice.old ≡ map_before (2 ^ G.rules.dirs) (map text_of (map view rows.now)) y }
-    ensures { lattice.new ≡ map_before (2 ^ G.rules.dirs) (map text_of (map view rows.now)) (y + 1) }
+    requires before { lattice.old
+        ≡ map_before (2 ^ G.rules.dirs) (map text_of (map view rows.now)) y }
+    ensures { lattice.new
+        ≡ map_before (2 ^ G.rules.dirs) (map text_of (map view rows.now)) (y + 1) }
 {
     let row = row(rows, y as usize);
     read_row(row, solid, state_of);
     lattice.set_row(y, solid, state_of);
 }
 
-// Puts the cells of all rows, by way of buffers for one.
+// Puts the cells of all rows. `solid` and `state_of` are buffers for the cells of a row.
 fn put_rows<G: Gas>(
     lattice: &mut Lattice<G>,
     rows: &[Value],
@@ -130,10 +132,12 @@ fn put_rows<G: Gas>(
     state_of: &mut [u8],
 )
     requires map { IsMap (2 ^ G.rules.dirs) (map text_of (map view rows.now)) }
-    requires before { lattice.old ≡ map_before (2 ^ G.rules.dirs) (map text_of (map view rows.now)) 0 }
+    requires before { lattice.old
+        ≡ map_before (2 ^ G.rules.dirs) (map text_of (map view rows.now)) 0 }
     requires wide { length solid.old ≡ map_width (map text_of (map view rows.now)) }
     requires as_wide { length state_of.old ≡ map_width (map text_of (map view rows.now)) }
-    ensures { lattice.new ≡ map_before (2 ^ G.rules.dirs) (map text_of (map view rows.now)) (length rows.now) }
+    ensures { lattice.new
+        ≡ map_before (2 ^ G.rules.dirs) (map text_of (map view rows.now)) (length rows.now) }
 {
     for y in 0..rows.len() {
         put_row(lattice, rows, y as u32, solid, state_of);
@@ -143,7 +147,8 @@ fn put_rows<G: Gas>(
 // The lattice of a map whose rows hold cells.
 fn map_lattice<G: Gas>(alloc: Global, rows: &[Value]) -> Result<Lattice<G>, AllocError>
     requires { IsMap (2 ^ G.rules.dirs) (map text_of (map view rows.now)) }
-    ensures { IfOk result (λ l. l ≡ map_lattice (2 ^ G.rules.dirs) (map text_of (map view rows.now))) }
+    ensures { IfOk result (λ l.
+        l ≡ map_lattice (2 ^ G.rules.dirs) (map text_of (map view rows.now))) }
 {
     let width = row(rows, 0).len() / CHARACTERS;
     let size = Size::new(width as u32, rows.len() as u32).unwrap();
@@ -190,8 +195,11 @@ pub(crate) fn lattice(
     rows: &[Value],
 ) -> Result<AnyLattice, SceneError>
     requires { most ≤ MOST_SIDE }
-    ensures refused { IfErr result (λ e. (map_refusal most (2 ^ (rules_of gas).dirs) (map text_of (map view rows.now)) ≡ Some e) ⊎ (e ≡ Memory)) }
-    ensures accepted { IfOk result (λ l. map_refusal most (2 ^ (rules_of gas).dirs) (map text_of (map view rows.now)) ≡ None) }
+    ensures refused { IfErr result (λ e.
+        (map_refusal most (2 ^ (rules_of gas).dirs) (map text_of (map view rows.now)) ≡ Some e)
+        ⊎ (e ≡ Memory)) }
+    ensures accepted { IfOk result (λ l.
+        map_refusal most (2 ^ (rules_of gas).dirs) (map text_of (map view rows.now)) ≡ None) }
     ensures value { IfOk result (λ l. gas_lattice l ≡ record {
       gas = gas;
       lattice = map_lattice (2 ^ (rules_of gas).dirs) (map text_of (map view rows.now));

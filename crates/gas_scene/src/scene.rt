@@ -1,4 +1,4 @@
-//! A scene: what a text tells of a lattice and its run.
+//! Scenes, and the reading of a scene's text.
 
 ghost use Rattle.std.specs.Prelude.{◌≡◌, ◌⊎◌, Err};
 ghost use Rattle.toml.specs.View.{table_view};
@@ -6,7 +6,7 @@ ghost use Rattle.gas_scene.specs.declared.error.SceneError.TheVariants.{Memory};
 ghost use Rattle.gas_scene.specs.Scene.{table_answer, scene_of_text};
 ghost use Rattle.gas_scene.specs.Inner.Answers.{Gives};
 
-use crate::common::Common;
+use crate::common::CommonValues;
 pub use crate::common::LAST_GENERATION;
 use crate::error::SceneError;
 use crate::map_form;
@@ -33,7 +33,11 @@ impl Model for Scene {
 
     ghost Value = { SceneModel };
 
-    ghost view = { λ s. record { lattice = gas_lattice s.lattice; chirality = s.chirality; generation = s.generation } };
+    ghost view = { λ s. record {
+      lattice = gas_lattice s.lattice;
+      chirality = s.chirality;
+      generation = s.generation;
+    } };
 
     ghost invariant = { λ s. s.generation ≤ 1000000000000 };
 }
@@ -42,14 +46,16 @@ impl Scene {
     ghost use Rattle.std.specs.Prelude.{◌≡◌, ◌≤◌};
     ghost use Rattle.gas_catalog.specs.Catalog.{gas_lattice};
 
+    /// The lattice.
     pub fn lattice(&self) -> &AnyLattice
-        ensures { gas_lattice result.now ≡ self.now.lattice }
+        ensures value { gas_lattice result.now ≡ self.now.lattice }
     {
         &self.lattice
     }
 
+    /// Where the random bits of its collisions come from.
     pub fn chirality(&self) -> Chirality
-        ensures { result ≡ self.now.chirality }
+        ensures value { result ≡ self.now.chirality }
     {
         self.chirality
     }
@@ -72,12 +78,13 @@ impl SceneTable<'_> {
     ghost use Rattle.gas_scene.specs.Inner.Shown.{shown};
 
     // The lattice of the map or of the area, or its first fault.
-    fn lattice(&self, alloc: Global, common: Common) -> Result<AnyLattice, SceneError>
+    fn lattice(&self, alloc: Global, common: CommonValues) -> Result<AnyLattice, SceneError>
         requires common { is_common_in_range (shown self.now) ≡ true }
         requires gas { gas_named self.now.gas.now ≡ Some common.gas }
         requires seed { common.seed ≡ nat_abs self.now.seed }
         requires most { common.most_side ≡ most_side self.now.version }
-        ensures refused { IfErr result (λ e. (value_refusal (shown self.now) ≡ Some e) ⊎ (e ≡ Memory)) }
+        ensures refused { IfErr result (λ e.
+            (value_refusal (shown self.now) ≡ Some e) ⊎ (e ≡ Memory)) }
         ensures accepted { IfOk result (λ l. value_refusal (shown self.now) ≡ None) }
         ensures value { IfOk result (λ l. gas_lattice l ≡ (scene_of (shown self.now)).lattice) }
     {
@@ -89,11 +96,12 @@ impl SceneTable<'_> {
 
     // The scene, or the first fault of the values.
     fn scene(&self, alloc: Global) -> Result<Scene, SceneError>
-        ensures refused { IfErr result (λ e. (value_refusal (shown self.now) ≡ Some e) ⊎ (e ≡ Memory)) }
+        ensures refused { IfErr result (λ e.
+            (value_refusal (shown self.now) ≡ Some e) ⊎ (e ≡ Memory)) }
         ensures accepted { IfOk result (λ s. value_refusal (shown self.now) ≡ None) }
         ensures value { IfOk result (λ s. s ≡ scene_of (shown self.now)) }
     {
-        match self.common() {
+        match self.common_values() {
             Some(common) => Ok(Scene {
                 lattice: self.lattice(alloc, common)?,
                 chirality: common.chirality,
@@ -114,27 +122,27 @@ fn read_table(alloc: Global, table: &Table) -> Result<Scene, SceneError>
 
 /// Reads a scene, a TOML document in UTF-8 whose keys stand at the top level.
 ///
-/// Both forms: `version` is 1 or 2, `gas` (required) is `"fhp1"`, `"hpp"` or `"fhp-rest"`, `chirality` is `"seeded"`,
-/// `"left"` or `"right"`, and `seed` is 0 or more; left out, they are 1, `"seeded"` and 0. Version 2 alone
-/// has `generation`, the generation of the lattice that is given, 0 to 1,000,000,000,000, and 0 where it is
-/// left out.
+/// Both forms: `version` is 1 or 2, `gas` (required) is `"fhp1"`, `"hpp"` or `"fhp-rest"`,
+/// `chirality` is `"seeded"`, `"left"` or `"right"`, and `seed` is 0 or more; left out, they are 1,
+/// `"seeded"` and 0. Version 2 alone has `generation`, the generation of the lattice that is given,
+/// 0 to 1,000,000,000,000, and 0 where it is left out.
 ///
 /// The sides of a lattice have 1 to 4096 cells under version 1, and 1 to 65,536 under version 2.
 ///
-/// A map has `cells`, texts of one length, the rows from the top: two characters for each
-/// cell, `..` or `00` for an empty one, `##` for a solid one, and else the state as
-/// two digits of `0123456789abcdef`, where bit `i` stands for direction `i`.
+/// A map has `cells`, texts of one length, the rows from the top: two characters for each cell,
+/// `..` or `00` for an empty one, `##` for a solid one, and else the state as two digits of
+/// `0123456789abcdef`, where bit `i` stands for direction `i`.
 ///
-/// An area has `width` and `height`, and may have `solid`, rectangles
-/// `[x, y, w, h]` within it, `rate`, 0 to 1000, and `particles`, entries `[x, y, state]` at fluid
-/// cells. The rectangles are solid, each fluid cell is filled at the rate in thousandths by the key
-/// stream under the seed, and then each entry in order sets the state of its cell.
+/// An area has `width` and `height`, and may have `solid`, rectangles `[x, y, w, h]` within it,
+/// `rate`, 0 to 1000, and `particles`, entries `[x, y, state]` at fluid cells. The rectangles are
+/// solid, each fluid cell is filled at the rate in thousandths by the key stream under the seed,
+/// and then each entry in order sets the state of its cell.
 ///
 /// The first check that refuses the text gives the error: `Syntax`, `UnknownKey`, `BothForms`,
 /// `Missing`, `WrongType`, `Range`, `RowLength`, `BadCell`, in this order. `Memory` may come while
 /// the text is parsed, from the check for `Range` on, and while the lattice is built.
 pub fn read(alloc: Global, text: &[u8]) -> Result<Scene, SceneError>
-    ensures { (result ≡ scene_of_text text.now) ⊎ (result ≡ Err Memory) }
+    ensures answer { (result ≡ scene_of_text text.now) ⊎ (result ≡ Err Memory) }
 {
     match toml::table_from_slice(alloc, text) {
         Ok(table) => read_table(alloc, &table),

@@ -20,14 +20,14 @@ pub struct Area<'a> {
     pub particles: &'a [Value],
 }
 
-/// What a scene gives its lattice by: the rows of a map, from the top, or an area.
+/// How a scene describes its lattice: by the rows of a map, from the top, or by an area.
 #[derive(Clone, Copy)]
 pub enum Form<'a> {
     Map(&'a [Value]),
     Area(Area<'a>),
 }
 
-/// The table of a scene. Its values are of their types, and not yet in their ranges.
+/// The table of a scene: its values are of their types, and their ranges are not yet checked.
 #[derive(Clone, Copy)]
 pub struct SceneTable<'a> {
     pub version: i64,
@@ -38,18 +38,21 @@ pub struct SceneTable<'a> {
     pub form: Form<'a>,
 }
 
-// Whether scenes of both forms have the key.
+// Returns whether scenes of both forms have the key.
 fn is_common_key(key: &str) -> bool
-    ensures { result ≡ (bytes_eq key.now (codes "version") || (bytes_eq key.now (codes "generation") || (bytes_eq key.now (codes "seed")
+    ensures { result ≡ (bytes_eq key.now (codes "version")
+        || (bytes_eq key.now (codes "generation") || (bytes_eq key.now (codes "seed")
         || (bytes_eq key.now (codes "gas") || bytes_eq key.now (codes "chirality"))))) }
 {
     key == "version" || key == "generation" || key == "seed" || key == "gas" || key == "chirality"
 }
 
-// Whether scenes of one form have the key.
+// Returns whether scenes of one form have the key.
 fn is_form_key(key: &str) -> bool
-    ensures { result ≡ (bytes_eq key.now (codes "cells") || (bytes_eq key.now (codes "width") || (bytes_eq key.now (codes "height")
-        || (bytes_eq key.now (codes "rate") || (bytes_eq key.now (codes "solid") || bytes_eq key.now (codes "particles")))))) }
+    ensures { result ≡ (bytes_eq key.now (codes "cells")
+        || (bytes_eq key.now (codes "width") || (bytes_eq key.now (codes "height")
+        || (bytes_eq key.now (codes "rate") || (bytes_eq key.now (codes "solid")
+        || bytes_eq key.now (codes "particles")))))) }
 {
     key == "cells"
         || key == "width"
@@ -59,14 +62,14 @@ fn is_form_key(key: &str) -> bool
         || key == "particles"
 }
 
-// Whether scenes have the key.
+// Returns whether scenes have the key.
 fn is_key(key: &str) -> bool
     ensures { result ≡ list_any (λ k. bytes_eq key.now k.0) keys }
 {
     is_common_key(key) || is_form_key(key)
 }
 
-// Whether a scene of this version has the key.
+// Returns whether a scene of this version has the key.
 fn is_known(version: i64, key: &str) -> bool
     ensures { result ≡ is_known version key.now }
 {
@@ -93,15 +96,17 @@ impl<'a> Values<'a> {
         }
     }
 
-    // Whether a scene of this version has each of the table's keys.
+    // Returns whether a scene of this version has each of the table's keys.
     fn has_known_keys(&self, table: &Table) -> bool
-        ensures { result ≡ list_all (λ k. is_known (option_map_or integer_of (seen self.now.version) (pos 1)) (string_bytes k)) (map_keys table.now) }
+        ensures { result ≡ list_all (λ k. is_known
+            (option_map_or integer_of (seen self.now.version) (pos 1))
+            (string_bytes k)) (map_keys table.now) }
     {
         let version = self.version();
         table.keys().all(|key| is_known(version, key.as_str()))
     }
 
-    // Whether there is a key of the area.
+    // Returns whether there is a key of the area.
     fn has_area(&self) -> bool
         ensures { result ≡ has_area_value self.now }
     {
@@ -112,23 +117,25 @@ impl<'a> Values<'a> {
             || self.particles.is_some()
     }
 
-    // Whether there are the rows of a map and a key of the area.
+    // Returns whether there are the rows of a map and a key of the area.
     fn has_both_forms(&self) -> bool
         ensures { result ≡ (is_some (seen self.now.cells) && has_area_value self.now) }
     {
         self.cells.is_some() && self.has_area()
     }
 
-    // Whether there are the rows of a map, or the size of an area.
+    // Returns whether there are the rows of a map, or the size of an area.
     fn has_form(&self) -> bool
-        ensures { result ≡ (is_some (seen self.now.cells) || (is_some (seen self.now.width) && is_some (seen self.now.height))) }
+        ensures { result ≡ (is_some (seen self.now.cells)
+            || (is_some (seen self.now.width) && is_some (seen self.now.height))) }
     {
         self.cells.is_some() || self.width.is_some() && self.height.is_some()
     }
 
-    // Whether there is a gas, and a map or the size of an area.
+    // Returns whether there is a gas, and a map or the size of an area.
     fn is_complete(&self) -> bool
-        ensures { result ≡ (is_some (seen self.now.gas) && (is_some (seen self.now.cells) || (is_some (seen self.now.width) && is_some (seen self.now.height)))) }
+        ensures { result ≡ (is_some (seen self.now.gas) && (is_some (seen self.now.cells)
+            || (is_some (seen self.now.width) && is_some (seen self.now.height)))) }
     {
         self.gas.is_some() && self.has_form()
     }
@@ -160,7 +167,7 @@ impl<'a> Values<'a> {
     }
 
     // The table, and None where one of the values is of another type.
-    fn typed(&self) -> Option<SceneTable<'a>>
+    fn scene_table(&self) -> Option<SceneTable<'a>>
         requires { (is_some (seen self.now.cells) && has_area_value self.now) ≡ false }
         ensures typed { is_some result ≡ values_typed self.now }
         ensures value { IfSome result (λ t. shown t ≡ table_at self.now) }
@@ -199,7 +206,7 @@ impl<'a> SceneTable<'a> {
         if !values.is_complete() {
             return Err(SceneError::Missing);
         }
-        match values.typed() {
+        match values.scene_table() {
             Some(table) => Ok(table),
             None => Err(SceneError::WrongType),
         }

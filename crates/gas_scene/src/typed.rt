@@ -15,7 +15,8 @@ use toml::Value;
 /// The integer at a key, `otherwise` where the key is left out, and None for another type.
 pub(crate) fn integer(value: Option<&Value>, otherwise: i64) -> Option<i64>
     ensures typed { is_some result ≡ option_map_or is_integer (seen value.entry) true }
-    ensures value { IfSome result (λ z. z ≡ option_map_or integer_of (seen value.entry) otherwise) }
+    ensures value { IfSome result (λ z.
+        z ≡ option_map_or integer_of (seen value.entry) otherwise) }
 {
     match value {
         Some(value) => value.as_integer(),
@@ -26,7 +27,8 @@ pub(crate) fn integer(value: Option<&Value>, otherwise: i64) -> Option<i64>
 /// The text at a key, `otherwise` where the key is left out, and None for another type.
 pub(crate) fn text<'a>(value: Option<&'a Value>, otherwise: &'a str) -> Option<&'a str>
     ensures typed { is_some result ≡ option_map_or is_text (seen value.entry) true }
-    ensures value { IfSome result (λ s. s.now ≡ option_map_or text_of (seen value.entry) otherwise.now) }
+    ensures value { IfSome result (λ s.
+        s.now ≡ option_map_or text_of (seen value.entry) otherwise.now) }
 {
     match value {
         Some(value) => value.as_str(),
@@ -44,21 +46,21 @@ fn elements(value: &Value) -> &[Value]
     }
 }
 
-// Whether each value is a text.
+// Returns whether each value is a text.
 fn are_texts(values: &[Value]) -> bool
     ensures { result ≡ list_all (λ v. is_text (view v)) values.now }
 {
     values.iter().all(|value| value.is_str())
 }
 
-// Whether each value is an integer.
+// Returns whether each value is an integer.
 fn are_integers(values: &[Value]) -> bool
     ensures { result ≡ list_all (λ v. is_integer (view v)) values.now }
 {
     values.iter().all(|value| value.is_integer())
 }
 
-// Whether the value is an array of n integers.
+// Returns whether the value is an array of n integers.
 fn is_tuple(value: &Value, n: usize) -> bool
     ensures { result ≡ is_tuple n (view value.now) }
 {
@@ -69,21 +71,21 @@ fn is_tuple(value: &Value, n: usize) -> bool
     numbers.len() == n && are_integers(numbers)
 }
 
-// Whether each value is an array of n integers.
+// Returns whether each value is an array of n integers.
 fn are_tuples(values: &[Value], n: usize) -> bool
     ensures { result ≡ list_all (λ v. is_tuple n (view v)) values.now }
 {
     values.iter().all(|value| is_tuple(value, n))
 }
 
-// Whether the value is an array of texts.
+// Returns whether the value is an array of texts.
 fn is_array_of_texts(value: &Value) -> bool
     ensures { result ≡ is_array_of is_text (view value.now) }
 {
     value.is_array() && are_texts(elements(value))
 }
 
-// Whether the value is an array of arrays of n integers.
+// Returns whether the value is an array of arrays of n integers.
 fn is_array_of_tuples(value: &Value, n: usize) -> bool
     ensures { result ≡ is_array_of (is_tuple n) (view value.now) }
 {
@@ -105,8 +107,10 @@ pub(crate) fn texts(value: &Value) -> Option<&[Value]>
 /// The elements of an array of arrays of n integers, none where the key is left out, and None for
 /// another type.
 pub(crate) fn tuples(value: Option<&Value>, n: usize) -> Option<&[Value]>
-    ensures typed { is_some result ≡ option_map_or (is_array_of (is_tuple n)) (seen value.entry) true }
-    ensures value { IfSome result (λ vs. map view vs.now ≡ option_map_or elements_of (seen value.entry) []) }
+    ensures typed { is_some result
+        ≡ option_map_or (is_array_of (is_tuple n)) (seen value.entry) true }
+    ensures value { IfSome result (λ vs.
+        map view vs.now ≡ option_map_or elements_of (seen value.entry) []) }
 {
     match value {
         Some(value) if is_array_of_tuples(value, n) => Some(elements(value)),

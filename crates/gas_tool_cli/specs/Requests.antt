@@ -11,7 +11,7 @@ use Rattle.gas_tool_cli.specs.declared.faults.UsageFault.TheVariants as fault
 use Rattle.gas_tool_cli.specs.declared.request.Request.{Request}
 use Rattle.gas_tool_cli.specs.declared.request.Request.TheVariants.{Check, Run, Coarse, Replay}
 
--- a text is this decimal number, of so many bits at most
+-- a text is this decimal number, which fits in `bits` bits
 abbrev pub IsNumber : ℕ → Text → ℕ → Type 0
 IsNumber bits text n = ParsesUnsigned {E = ParseIntError} bits 10 text (Ok n)
 

@@ -44,7 +44,7 @@ pub(crate) fn stages_arg<'a>(alloc: Global) -> Arg<'a>
     ensures local { result.global ≡ false }
 {
     default_arg(alloc, "stages", "N", "4").help(
-        "Workers, each on a thread of its own, which compute a generation each in a pass: 1 to 64",
+        "Workers (pipeline stages), one generation each: 1 to 64",
     )
 }
 
@@ -53,7 +53,7 @@ pub(crate) fn capacity_arg<'a>(alloc: Global) -> Arg<'a>
     ensures local { result.global ≡ false }
 {
     default_arg(alloc, "capacity", "C", "2").help(
-        "Rows that the belt between two workers holds: 1 to 1024",
+        "Rows in a belt, the queue between two workers: 1 to 1024",
     )
 }
 
@@ -109,5 +109,5 @@ pub(crate) fn turns_arg<'a>(alloc: Global) -> Arg<'a>
         .action(ArgAction::Append)
         .num_args(0..)
         .value_parser(value_parser!(u32))
-        .help("Who takes a step, one after another")
+        .help("The schedule: who takes a step next, one after another")
 }

@@ -14,8 +14,7 @@ use crate::help;
 use clap::{Arg, Command};
 use std::alloc::{AllocError, Global};
 
-// A command with the texts of its help: how it is called, what it does, and what else there is to
-// know.
+// A command with the texts of its help: how it is called, what it does, and notes.
 fn new_command<'a>(
     alloc: Global,
     name: &'a str,
@@ -139,7 +138,8 @@ fn with_command<'a>(
 ) -> Result<Command<'a>, AllocError>
     requires local { IfOk added (λ a. (fields_of a).has_globals ≡ false) }
     ensures app { (app : App) (shape : Shape) →
-        IfOk command.entry (λ c. app_of c ≡ app) → IfOk added.entry (λ a. app_of a ≡ leaf_app shape) →
+        IfOk command.entry (λ c. app_of c ≡ app) →
+        IfOk added.entry (λ a. app_of a ≡ leaf_app shape) →
         IfOk result (λ r. app_of r ≡ with_subcommand app shape) }
 {
     command?.subcommand(added?)

@@ -5,8 +5,8 @@ ghost use Rattle.gas_tool_cli.specs.Status.{usage_status};
 
 use thiserror::Error;
 
-/// Why the words gave no request. `Usage` and `Help` hold the text to print, with its last line feed;
-/// the version is a help too.
+/// Why the words gave no request. `Usage` and `Help` hold the text to print, with its last line
+/// feed; the version is a help too.
 #[derive(Debug, Drop, Error)]
 pub enum UsageFault {
     #[error("memory refused")]
@@ -18,9 +18,9 @@ pub enum UsageFault {
 }
 
 impl UsageFault {
-    /// The program's exit status.
+    /// The program's exit status: 2 for usage, 3 for memory, 0 for help.
     pub fn status(&self) -> u8
-        ensures { result ≡ usage_status self.now }
+        ensures value { result ≡ usage_status self.now }
     {
         match self {
             UsageFault::Memory => 3,

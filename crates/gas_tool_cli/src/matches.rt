@@ -96,7 +96,7 @@ fn parse_numbers(alloc: Global, words: &[&str]) -> Result<Option<Vec<u32>>, Allo
     Ok(Some(numbers))
 }
 
-// The turns; None where a word is no number, which `clap` has refused before.
+// The turns; None where a word is no number, which cannot happen since `clap` refused such words.
 fn turns_of(alloc: Global, options: &ArgMatches) -> Result<Option<Turns>, AllocError>
     ensures { IfOk result (λ r. IfSome r (AreTurnsAt (rows_of (found_of options.now)))) }
 {

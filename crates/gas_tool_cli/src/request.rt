@@ -7,7 +7,8 @@ ghost use Rattle.gas_tool_cli.specs.Plan.{plan_numbers};
 
 use std::marker::Model;
 
-/// A list of turns of a line's members: 0 is the feeder, k is worker k.
+/// A schedule: the list of the members of a line that take a step, one after another. 0 is the
+/// feeder, k is worker k.
 #[derive(Debug, Drop)]
 pub struct Turns {
     list: Vec<u32>,
@@ -22,14 +23,16 @@ impl Model for Turns {
 }
 
 impl Turns {
+    /// The turns of a list.
     pub fn new(list: Vec<u32>) -> Turns
-        ensures { result ≡ list.items }
+        ensures value { result ≡ list.items }
     {
         Turns { list }
     }
 
+    /// The list of the turns.
     pub fn as_slice(&self) -> &[u32]
-        ensures { result.now ≡ self.now }
+        ensures value { result.now ≡ self.now }
     {
         self.list.as_slice()
     }
@@ -49,8 +52,8 @@ impl Eq for Turns {
     ghost laws = { nat_list_eq_equiv };
 }
 
-/// What the words of the command line ask for. The limits of stages, capacity and generations are a
-/// plan's to check.
+/// What the words of the command line ask for. The limits of stages, capacity and generations are
+/// checked where the plan is made.
 #[derive(Debug, Drop, PartialEq, Eq)]
 pub enum Request {
     /// Read the scene and print a line that tells what it is.
@@ -61,8 +64,8 @@ pub enum Request {
         capacity: u32,
         generations: u64,
     },
-    /// Compute generations and print a table of the lattice's blocks, `block_width` columns wide and
-    /// `block_height` rows high.
+    /// Compute generations and print a table of the lattice's blocks, `block_width` columns wide
+    /// and `block_height` rows high.
     Coarse {
         stages: u32,
         capacity: u32,
@@ -91,7 +94,7 @@ pub struct PlanNumbers {
 impl Request {
     /// The numbers of its plan, if it has one.
     pub fn plan(&self) -> Option<PlanNumbers>
-        ensures { result ≡ plan_numbers self.now }
+        ensures value { result ≡ plan_numbers self.now }
     {
         match self {
             Request::Check => None,

@@ -13,8 +13,8 @@ use crate::request::Request;
 use clap::error::ErrorKind;
 use std::alloc::Global;
 
-// The fault of matches that hold no request. `clap` gives none such for this command line, which is
-// not proved.
+// The fault of matches that hold no request. `clap` returns no such matches for this command line;
+// that is not proved.
 fn missing_value(alloc: Global) -> UsageFault
     ensures { IsFaultOf [] result }
 {

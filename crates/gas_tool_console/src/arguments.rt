@@ -11,9 +11,10 @@ use std::env;
 use std::io::ErrorKind;
 use std::rt::Env;
 
-/// The request of the words that the program is called with. A word that is not UTF-8 is wrong usage.
+/// The request of the words that the program is called with. A word that is not UTF-8 is wrong
+/// usage.
 pub fn read_request<R: Env + AllocGlobal>(rt: &R) -> Result<Request, UsageFault>
-    ensures { IfOk result IsAllowed }
+    ensures allowed { IfOk result IsAllowed }
 {
     let words = words(rt)?;
     match texts(rt.alloc(), &words) {
@@ -22,11 +23,13 @@ pub fn read_request<R: Env + AllocGlobal>(rt: &R) -> Result<Request, UsageFault>
     }
 }
 
-// The words come all or none.
+// The words that the program is called with, all of them or a fault.
 fn words<R: Env + AllocGlobal>(rt: &R) -> Result<Vec<String>, UsageFault> {
     let words = match env::args(rt) {
         Ok(words) => words,
-        Err(error) if error.kind() == ErrorKind::InvalidData => return Err(not_utf8(rt.alloc())),
+        Err(error) if error.kind() == ErrorKind::InvalidData => {
+            return Err(not_utf8_fault(rt.alloc()));
+        }
         Err(_) => return Err(UsageFault::Memory),
     };
     let mut list = Vec::new(rt.alloc());
@@ -38,13 +41,15 @@ fn words<R: Env + AllocGlobal>(rt: &R) -> Result<Vec<String>, UsageFault> {
     Ok(list)
 }
 
-fn not_utf8(alloc: Global) -> UsageFault {
+// The fault of a word that is not UTF-8.
+fn not_utf8_fault(alloc: Global) -> UsageFault {
     match String::from_str(alloc, "error: a word is not UTF-8\n") {
         Ok(text) => UsageFault::Usage(text),
         Err(_) => UsageFault::Memory,
     }
 }
 
+// The words as texts.
 fn texts<'a>(alloc: Global, words: &'a Vec<String>) -> Result<Vec<&'a str>, AllocError> {
     let mut texts = Vec::with_capacity(alloc, words.len())?;
     for word in words {

@@ -1,5 +1,5 @@
-//! What the program has of its surroundings: the words that it is called with, and the terminals that
-//! its standard input and standard error may be.
+//! What the program reads and tells beside the answer: the words that it is called with, and the
+//! terminals that its standard input and standard error may be.
 #![tactic(auto)]
 
 pub mod arguments;

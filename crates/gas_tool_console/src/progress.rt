@@ -7,13 +7,13 @@ use std::rt::{Clock, Files};
 use std::sync::atomic::{AtomicU64, Ordering};
 use std::time::Instant;
 
-// The line is written anew at most once in so many milliseconds.
+// The fewest milliseconds from one writing of the line to the next.
 const LINE_MILLISECONDS: u64 = 100;
 
 // Back to the start of the line, which is wiped.
 const WIPE: &str = "\r\x1b[K";
 
-// A run whose last worker's passes are counted: a pass that it begins tells that those before are over.
+// A run whose last worker's passes are counted: where it begins a pass, those before are over.
 #[derive(Drop)]
 struct Work {
     stages: u32,
@@ -37,13 +37,13 @@ impl Work {
         })
     }
 
-    // How many milliseconds it has taken so far.
+    // The milliseconds that it has taken so far.
     fn milliseconds<R: Clock>(&self, rt: &R) -> Option<u64> {
         let elapsed = self.begun.elapsed(rt).ok()?;
         u64::try_from(elapsed.as_millis()).ok()
     }
 
-    // Counts a pass that begins, and writes the line anew where its time has come.
+    // Counts a pass that begins, and rewrites the line where it is old enough.
     fn begin_pass<R: Clock + Eprint>(&self, rt: &R) {
         let passes = self.passes.fetch_add(1, Ordering::Relaxed);
         let now = self.milliseconds(rt).unwrap_or(0);
@@ -54,7 +54,7 @@ impl Work {
         }
     }
 
-    // Writes the line, with so many generations done.
+    // Writes the line, with `done` generations computed.
     fn write<R: Eprint>(&self, rt: &R, done: u64) {
         let generations = self.generations;
         let share = u128::from(done) * 100 / u128::from(generations.max(1));
@@ -69,9 +69,9 @@ impl Work {
     }
 }
 
-/// A gate that tells how many generations of a run are computed, and what share of all, on standard
-/// error: nothing where that is no terminal. When the last worker leaves, its line is wiped. Nothing
-/// tells of a printing that failed.
+/// A gate that writes on standard error how many generations of a run are computed, and their share
+/// of all; nothing where standard error is no terminal. The line is wiped when the last worker
+/// leaves. A failure to print is ignored.
 #[derive(Drop)]
 pub struct Progress<'a, R> {
     rt: &'a R,
@@ -79,6 +79,7 @@ pub struct Progress<'a, R> {
 }
 
 impl<'a, R: Files + Clock> Progress<'a, R> {
+    /// The gate of a request, before its run.
     pub fn new(rt: &'a R, request: &Request) -> Self {
         let work = if are_errors_shown(rt) {
             Work::of(rt, request)
@@ -90,7 +91,7 @@ impl<'a, R: Files + Clock> Progress<'a, R> {
 }
 
 impl<R> Progress<'_, R> {
-    // The work, to its last worker.
+    // The work, where `who` is its last worker.
     fn work_of(&self, who: u32) -> Option<&Work> {
         match &self.work {
             Some(work) if who == work.stages => Some(work),

@@ -1,4 +1,4 @@
-//! Whether standard input or standard error is a terminal.
+//! Standard input and standard error, where they are terminals.
 
 use std::fs;
 use std::os::unix::fs::{FileTypeExt, MetadataExt};
@@ -10,8 +10,8 @@ const INPUT: &str = "/proc/self/fd/0";
 // Its standard error.
 const ERRORS: &str = "/proc/self/fd/2";
 
-// Whether this is a terminal, by its device's number: Linux's list of devices has consoles and serial
-// lines under 4 and 5, and pseudo terminals under 136 to 143.
+// Returns whether this is a terminal, by its device's number: Linux's list of devices has consoles
+// and serial lines under 4 and 5, and pseudo terminals under 136 to 143.
 fn is_terminal<R: Files>(rt: &R, path: &str) -> bool {
     let Ok(metadata) = fs::metadata(rt, path) else {
         return false;
@@ -20,12 +20,12 @@ fn is_terminal<R: Files>(rt: &R, path: &str) -> bool {
     metadata.file_type().is_char_device() && matches!(device, 4 | 5 | 136..=143)
 }
 
-/// Whether people see what goes to standard error: whether that is a terminal.
+/// Returns whether standard error is a terminal.
 pub(crate) fn are_errors_shown<R: Files>(rt: &R) -> bool {
     is_terminal(rt, ERRORS)
 }
 
-/// Says where a scene is awaited, to people who gave none. Nothing tells of a printing that failed.
+/// Prompts for a scene where standard input is a terminal. A failure to print is ignored.
 pub fn tell_of_input<R: Files + Eprint>(rt: &R) {
     if is_terminal(rt, INPUT) {
         let _ = eprintln!(rt; "fhpgas: type a scene, and end it by Ctrl-D on a line of its own");

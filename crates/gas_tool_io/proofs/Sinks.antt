@@ -10,7 +10,7 @@ use Rattle.std.proofs.lemmas.Fmt.{contents_after_writes}
 use Rattle.std.specs.Fmt.{WritesText}
 use Rattle.arrayvec.specs.ArrayString.{ArrayString}
 use Rattle.std.specs.Prelude.{IfSome}
-use Rattle.gas_tool_io.specs.Sink.{SinkModel, HasSent, Adds}
+use Rattle.gas_tool_io.specs.Inner.Sink.{SinkModel, HasSent, Adds}
 use Rattle.gas_cells.proofs.Pairs.{texts, texts-next}
 
 -- the next part of a text went out
@@ -43,7 +43,7 @@ Adds-failed a b before after bytes e w f = subst (λ (x : Option (List ℕ)). Ad
   };
 })
 
--- a block was handed over, of which `sent` bytes went out
+-- a block was handed over, and its first `sent` bytes went out
 pub Adds-handed : (a b : Option (List ℕ)) (before after : SinkModel) (sent : ℕ) → before.failed ≡ false → sent ≤ length before.waiting
     → Appends a b (take sent before.waiting) → after.written ≡ before.written + sent → after.failed ≡ nat_lt sent (length before.waiting) → after.waiting ≡ []
     → Adds a b before after []
@@ -88,7 +88,7 @@ Adds-same a b p q text whole e h = subst (Adds a b p q) e h
 pub Adds-more : (a b c : Option (List ℕ)) (p q r : SinkModel) (text bytes whole : List ℕ) → text ++ bytes ≡ whole → Adds a b p q text → Adds b c q r bytes → Adds a c p r whole
 Adds-more a b c p q r text bytes whole e h more = Adds-same a c p r _ _ e (Adds-then a b c p q r _ _ h more)
 
--- a text of which nothing waits went out whole, and a flush adds nothing
+-- where nothing waits, the text went out whole, and a flush adds nothing
 pub HasSent-whole : (start a b : Option (List ℕ)) (s : SinkModel) (text : List ℕ) → HasSent start a s text → s.failed ≡ false → s.waiting ≡ [] → Keeps a b → Appends start b text
 HasSent-whole start a b s text h ok none kept =
     let rest : drop s.written text ≡ [] = h.waiting ok ∙ none in

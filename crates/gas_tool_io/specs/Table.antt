@@ -5,7 +5,7 @@ use Rattle.std.specs.List.{flat_map}
 use Rattle.gas_tool_io.specs.Text.{line_feed}
 use Rattle.gas_tool_coarse.specs.declared.blocks.Block.{Block}
 
--- a text at the right of so many places; one that needs more takes them
+-- a text aligned to the right in a number of places; one that needs more takes them
 abbrev pub right_aligned : ℕ → List ℕ → List ℕ
 right_aligned places text = replicate (places - length text) 32 ++ text
 

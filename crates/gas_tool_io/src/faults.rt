@@ -17,9 +17,9 @@ pub enum InputFault {
 }
 
 impl InputFault {
-    /// The program's exit status.
+    /// The program's exit status: 3 for memory, 1 for an input that was refused.
     pub fn status(&self) -> u8
-        ensures { result ≡ input_status self.now }
+        ensures value { result ≡ input_status self.now }
     {
         match self {
             InputFault::Memory => 3,

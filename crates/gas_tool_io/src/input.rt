@@ -14,11 +14,12 @@ pub const LONGEST_INPUT: usize = 67_108_864;
 
 const BLOCK: usize = 16_384;
 
-/// All bytes up to the end of `reader`. A read gives at least one byte or is the last, so there is
+/// All bytes up to the end of `reader`. Each read but the last gives at least one byte, so there is
 /// at most one read more than the longest input has bytes. Any error of the reader is `Read`, and a
 /// byte past the longest input is `TooLong`.
 pub fn slurp<R: Read>(alloc: Global, reader: &mut R) -> Result<Vec<u8>, InputFault>
-    ensures bytes { IfOk result (λ text. IfSome (R.remaining reader.old) (λ xs. text.items ≡ xs)) }
+    ensures bytes { IfOk result (λ text.
+        IfSome (R.remaining reader.old) (λ xs. text.items ≡ xs)) }
     ensures at_end { IfOk result (λ _. IsAtEnd (R.remaining reader.new)) }
     ensures short { IfOk result (λ text. vec_len text ≤ LONGEST_INPUT) }
     ensures too_long { IsErrOf result fault.TooLong →

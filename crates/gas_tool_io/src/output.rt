@@ -4,7 +4,7 @@ ghost use Rattle.std.specs.Prelude.{◌≡◌, ◌≤◌, ℕ, List, [], length,
 ghost use Rattle.std.specs.Io.KnownBytes.{Appends};
 ghost use Rattle.std.specs.Fmt.{with_newline};
 ghost use Rattle.gas_tool_io.specs.Output.{Writes};
-ghost use Rattle.gas_tool_io.specs.Sink.{HasSent, Adds};
+ghost use Rattle.gas_tool_io.specs.Inner.Sink.{HasSent, Adds};
 
 use crate::faults::WriteFault;
 use arrayvec::{ArrayString, ArrayVec};
@@ -28,7 +28,7 @@ pub(crate) struct Sink {
 }
 
 impl Model for Sink {
-    ghost use Rattle.gas_tool_io.specs.Sink.{SinkModel};
+    ghost use Rattle.gas_tool_io.specs.Inner.Sink.{SinkModel};
 
     ghost Value = { SinkModel };
 
@@ -81,7 +81,8 @@ impl Sink {
 
     /// Counts the text from here on as failed.
     pub(crate) fn fail(&mut self)
-        ensures { (now : Option (List ℕ)) (bytes : List ℕ) → Adds now now self.old self.new bytes }
+        ensures { (now : Option (List ℕ)) (bytes : List ℕ) →
+            Adds now now self.old self.new bytes }
     {
         self.failed = true;
     }
@@ -103,7 +104,7 @@ impl Sink {
     }
 }
 
-// Writes bytes until all went out or the writer fails, and says how many went out.
+// Writes bytes until all went out or the writer fails. Returns how many went out.
 fn send<W: Write>(out: &mut W, bytes: &[u8]) -> usize
     ensures within { result ≤ length bytes.now }
     ensures sent { Appends (W.contents out.old) (W.contents out.new) (take result bytes.now) }
@@ -118,7 +119,7 @@ fn send<W: Write>(out: &mut W, bytes: &[u8]) -> usize
     sent
 }
 
-/// Adds a line. One that is longer than `LINE`, which no line of ours is, counts as failed.
+/// Adds a line. One that is longer than `LINE`, which no line of this crate is, counts as failed.
 pub(crate) fn put_line<W: Write, D: Display + Drop>(sink: &mut Sink, out: &mut W, line: D)
     ensures { IfSome (with_newline (D.output line))
         (Adds (W.contents out.old) (W.contents out.new) sink.old sink.new) }

@@ -6,7 +6,7 @@ ghost use Rattle.std.specs.Fmt.{decimal};
 ghost use Rattle.std.specs.List.{flat_map, range_with_len};
 ghost use Rattle.std.specs.Option.{option_map_or};
 ghost use Rattle.gas_tool_io.specs.Output.{Writes};
-ghost use Rattle.gas_tool_io.specs.Sink.{Adds};
+ghost use Rattle.gas_tool_io.specs.Inner.Sink.{Adds};
 ghost use Rattle.gas_tool_io.specs.Text.{cells_text, line_feed};
 ghost use Rattle.gas_tool_io.specs.Replay.{belt_line, replay_text};
 
@@ -17,7 +17,7 @@ use gas_geom::gas::Gas;
 use gas_pipe_replay::answer::Replay;
 use std::io::Write;
 
-// Adds the line that says whether the pass is done.
+// Adds the line `done` or `not done` of the pass.
 fn put_done<W: Write>(sink: &mut Sink, out: &mut W, done: bool)
     ensures { (lattice : Option LatticeModel) → (IsTrue done ↔ IsSome lattice) →
         Adds (W.contents out.old) (W.contents out.new) sink.old sink.new
@@ -33,7 +33,8 @@ fn put_done<W: Write>(sink: &mut Sink, out: &mut W, done: bool)
 // Adds the line of a belt.
 fn put_belt<W: Write>(sink: &mut Sink, out: &mut W, belt: u32, put: u32, taken: u32)
     ensures { Adds (W.contents out.old) (W.contents out.new) sink.old sink.new
-        (codes "belt " ++ decimal belt ++ codes " put " ++ decimal put ++ codes " taken " ++ decimal taken ++ line_feed) }
+        (codes "belt " ++ decimal belt
+        ++ codes " put " ++ decimal put ++ codes " taken " ++ decimal taken ++ line_feed) }
 {
     put_line(
         sink,
@@ -75,15 +76,16 @@ fn put_end<G: Gas, W: Write>(sink: &mut Sink, out: &mut W, replay: &Replay<G>, g
     }
 }
 
-/// Writes where a replayed pass stands: `done` or `not done`, a line a belt, and, where it is done, the
-/// cells of its lattice, which is of that generation. Then the writer is flushed once, with the faults
-/// of `write_cells`. It takes no memory.
+/// Writes where a replayed pass stands: `done` or `not done`, a line for each belt, and, where it
+/// is done, the cells of its lattice, which is of that generation. Then the writer is flushed once,
+/// with the faults of `write_cells`. It takes no memory.
 pub fn write_replay<G: Gas, W: Write>(
     replay: &Replay<G>,
     generation: u64,
     out: &mut W,
 ) -> Result<(), WriteFault>
-    ensures { Writes (W.contents out.old) (W.contents out.new) (replay_text G.rules replay.now generation) result }
+    ensures written { Writes (W.contents out.old) (W.contents out.new)
+        (replay_text G.rules replay.now generation) result }
 {
     let mut sink = Sink::new();
     put_done(&mut sink, out, replay.done());

@@ -1,7 +1,7 @@
 //! The printed text of a coarse table.
 
 ghost use Rattle.gas_tool_io.specs.Output.{Writes};
-ghost use Rattle.gas_tool_io.specs.Sink.{Adds};
+ghost use Rattle.gas_tool_io.specs.Inner.Sink.{Adds};
 ghost use Rattle.std.specs.List.{flat_map};
 ghost use Rattle.gas_tool_io.specs.Table.{block_line, table_header, table_text};
 
@@ -41,19 +41,21 @@ fn put_block<W: Write>(sink: &mut Sink, out: &mut W, block: Block)
 
 // Adds the lines of blocks.
 fn put_blocks<W: Write>(sink: &mut Sink, out: &mut W, blocks: &[Block])
-    ensures { Adds (W.contents out.old) (W.contents out.new) sink.old sink.new (flat_map block_line blocks.now) }
+    ensures { Adds (W.contents out.old) (W.contents out.new) sink.old sink.new
+        (flat_map block_line blocks.now) }
 {
     for block in blocks {
         put_block(sink, out, *block);
     }
 }
 
-/// Writes the table of blocks: a header, then a line a block in the order given. The six columns are
-/// those of `Block`, right-aligned in 5, 5, 8, 9, 10 and 10 places with one space between; a number
-/// that needs more places takes them. Then the writer is flushed once, with the faults of
-/// `write_cells`. It takes no memory.
+/// Writes the table of blocks: a header, then a line for each block in the order given. The six
+/// columns are those of `Block`, right-aligned in 5, 5, 8, 9, 10 and 10 places with one space
+/// between; a number that needs more places takes them. Then the writer is flushed once, with the
+/// faults of `write_cells`. It takes no memory.
 pub fn write_table<W: Write>(blocks: &[Block], out: &mut W) -> Result<(), WriteFault>
-    ensures { Writes (W.contents out.old) (W.contents out.new) (table_text blocks.now) result }
+    ensures written { Writes (W.contents out.old) (W.contents out.new)
+        (table_text blocks.now) result }
 {
     let mut sink = Sink::new();
     put_table_header(&mut sink, out);

@@ -1,11 +1,11 @@
-//! The printed texts.
+//! The printed texts of a lattice: its cells, and the line of its scene.
 
 ghost use Rattle.std.specs.Prelude.{◌<◌, ◌++◌, codes};
 ghost use Rattle.std.specs.Fmt.{decimal};
 ghost use Rattle.std.specs.List.{flat_map, range_with_len};
 ghost use Rattle.gas_cells.specs.Cells.{row_cells};
 ghost use Rattle.gas_tool_io.specs.Output.{Writes};
-ghost use Rattle.gas_tool_io.specs.Sink.{Adds};
+ghost use Rattle.gas_tool_io.specs.Inner.Sink.{Adds};
 ghost use Rattle.gas_tool_io.specs.Text.{cells_text, check_text, line_feed};
 
 use crate::faults::WriteFault;
@@ -18,7 +18,8 @@ use std::io::Write;
 // Adds the line above the cells of a lattice.
 fn put_header<W: Write>(sink: &mut Sink, out: &mut W, generation: u64, particles: u64)
     ensures { Adds (W.contents out.old) (W.contents out.new) sink.old sink.new
-        (codes "generation " ++ decimal generation ++ codes " particles " ++ decimal particles ++ line_feed) }
+        (codes "generation " ++ decimal generation
+        ++ codes " particles " ++ decimal particles ++ line_feed) }
 {
     put_line(
         sink,
@@ -73,7 +74,8 @@ pub fn write_cells<G: Gas, W: Write>(
     generation: u64,
     out: &mut W,
 ) -> Result<(), WriteFault>
-    ensures { Writes (W.contents out.old) (W.contents out.new) (cells_text G.rules lattice.now generation) result }
+    ensures written { Writes (W.contents out.old) (W.contents out.new)
+        (cells_text G.rules lattice.now generation) result }
 {
     let mut sink = Sink::new();
     put_cells(&mut sink, out, lattice, generation);
@@ -90,8 +92,10 @@ fn put_check<W: Write>(
     particles: u64,
 )
     ensures { Adds (W.contents out.old) (W.contents out.new) sink.old sink.new
-        (codes "gas " ++ gas.now ++ codes " width " ++ decimal size.0 ++ codes " height " ++ decimal size.1
-        ++ codes " solid " ++ decimal solid ++ codes " particles " ++ decimal particles ++ line_feed) }
+        (codes "gas " ++ gas.now
+        ++ codes " width " ++ decimal size.0 ++ codes " height " ++ decimal size.1
+        ++ codes " solid " ++ decimal solid ++ codes " particles " ++ decimal particles
+        ++ line_feed) }
 {
     let (width, height) = size;
     put_line(
@@ -104,7 +108,8 @@ fn put_check<W: Write>(
 // Adds the line of the scene of a lattice.
 #[tactic(auto, unfolding(crate::specs::Text::check_text))]
 fn put_scene<G: Gas, W: Write>(sink: &mut Sink, out: &mut W, lattice: &Lattice<G>)
-    ensures { Adds (W.contents out.old) (W.contents out.new) sink.old sink.new (check_text G.rules lattice.now) }
+    ensures { Adds (W.contents out.old) (W.contents out.new) sink.old sink.new
+        (check_text G.rules lattice.now) }
 {
     let channel = lattice.channel();
     let size = channel.size();
@@ -118,11 +123,12 @@ fn put_scene<G: Gas, W: Write>(sink: &mut Sink, out: &mut W, lattice: &Lattice<G
     );
 }
 
-/// Writes the line of a scene: the name of its gas, its width and its height, and how many solid
-/// cells and particles it has. Then the writer is flushed once, with the faults of `write_cells`. It
-/// takes no memory.
+/// Writes the line of a scene: the name of its gas, its width and its height in cells, and its
+/// numbers of solid cells and of particles. Then the writer is flushed once, with the faults of
+/// `write_cells`. It takes no memory.
 pub fn write_check<G: Gas, W: Write>(lattice: &Lattice<G>, out: &mut W) -> Result<(), WriteFault>
-    ensures { Writes (W.contents out.old) (W.contents out.new) (check_text G.rules lattice.now) result }
+    ensures written { Writes (W.contents out.old) (W.contents out.new)
+        (check_text G.rules lattice.now) result }
 {
     let mut sink = Sink::new();
     put_scene(&mut sink, out, lattice);

@@ -1,3 +1,3 @@
 pub mod Status
 pub mod Outcome
-pub mod View
+pub mod Inner

@@ -51,15 +51,15 @@ abbrev pub outcome : List ℕ → Request → Result (List ℕ) ToolError
 outcome text request = result_flatten (result_map_both
     (λ s. gas_outcome (rules_of s.lattice.gas) s.lattice.lattice s.chirality s.generation request) Scene (scene_of_text text))
 
--- the scene of a scene's lattice so many generations on
+-- the scene of a scene's lattice n generations later
 abbrev pub scene_after : SceneModel → ℕ → SceneModel
 scene_after s n = record s {
   lattice = record s.lattice { lattice = lattice_after (rules_of s.lattice.gas) s.chirality s.generation s.lattice.lattice n };
   generation = s.generation + n;
 }
 
--- A call that is to have this outcome answers so, and what was written goes from `old` to `new`: by the whole text; or by its
--- first n bytes, where the writer failed after n; or by nothing, where the fault is the outcome's, or want of memory.
+-- what a call that is to have this outcome answers, and that what was written goes from `old` to `new`: by the whole text; or by its
+-- first n bytes, where the writer failed after n; or by nothing, where the fault is the outcome's, or memory was refused
 abbrev pub Performs : Result (List ℕ) ToolError → Option (List ℕ) → Option (List ℕ) → Result ⊤ ToolError → Type 0
 Performs expected old new (Ok _) = IsOkAnd expected (λ text. Appends old new text)
 Performs expected old new (Err (Write n)) = IsOkAnd expected (λ text. (n ≤ length text) × Appends old new (take n text))

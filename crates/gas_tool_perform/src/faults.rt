@@ -30,9 +30,10 @@ pub enum ToolError {
 }
 
 impl ToolError {
-    /// The program's exit status.
+    /// The program's exit status: 1 where something was refused, 3 for memory, 4 for a writer that
+    /// failed.
     pub fn status(&self) -> u8
-        ensures { result ≡ tool_status self.now }
+        ensures value { result ≡ tool_status self.now }
     {
         match self {
             ToolError::Memory | ToolError::Scene(SceneError::Memory) => 3,
@@ -51,7 +52,9 @@ impl From<AllocError> for ToolError {
 }
 
 impl From<SceneError> for ToolError {
-    ghost from_gives = { λ error fault. (error ≡ scene.Memory → fault ≡ Memory) × (error ≢ scene.Memory → fault ≡ Scene error) };
+    ghost from_gives = { λ error fault.
+        (error ≡ scene.Memory → fault ≡ Memory)
+        × (error ≢ scene.Memory → fault ≡ Scene error) };
 
     fn from(error: SceneError) -> ToolError {
         match error {
@@ -70,7 +73,9 @@ impl From<PlanError> for ToolError {
 }
 
 impl From<RunError> for ToolError {
-    ghost from_gives = { λ error fault. (error ≡ run.Memory → fault ≡ Memory) × (error ≡ run.MorePasses → fault ≡ MorePasses) };
+    ghost from_gives = { λ error fault.
+        (error ≡ run.Memory → fault ≡ Memory)
+        × (error ≡ run.MorePasses → fault ≡ MorePasses) };
 
     fn from(error: RunError) -> ToolError {
         match error {

@@ -6,7 +6,7 @@ ghost use Rattle.gas_stage.specs.Evolution.{lattice_after};
 ghost use Rattle.gas_scene.specs.declared.common.TheConstants.{LAST_GENERATION};
 ghost use Rattle.gas_tool_perform.specs.Outcome.{Performs, gas_outcome, outcome};
 ghost use Rattle.gas_tool_cli.specs.Requests.{IsAllowed};
-ghost use Rattle.gas_tool_perform.specs.View.{HasSomeCells, replay_outcome, view_text};
+ghost use Rattle.gas_tool_perform.specs.Inner.View.{HasSomeCells, replay_outcome, view_text};
 
 use crate::faults::ToolError;
 use gas_catalog::with_lattice;
@@ -30,7 +30,7 @@ use std::thread::Threads;
 
 /// Where threads and memory come from, and the gate that each worker's thread goes through.
 #[derive(Clone, Copy)]
-struct Means<'a, H, R> {
+struct Resources<'a, H, R> {
     rt: &'a R,
     alloc: Global,
     gate: &'a H,
@@ -48,14 +48,15 @@ struct Start {
 enum View {
     /// Its cells.
     Cells,
-    /// The table of its blocks, so many columns wide and so many rows high.
+    /// The table of its blocks of `width` columns and `height` rows.
     Blocks { width: u32, height: u32 },
 }
 
-/// Writes the answer to a request on the scene that a text holds. It is refused in this order: the
-/// scene, the plan, the passes of a replay, the work. Nothing is written before the answer is whole,
-/// and the writer is flushed once after the last byte. Want of memory is `Memory`, also while the
-/// scene is read, and so is a thread that cannot be had. Each worker's thread goes through the gate.
+/// Writes the answer to a request on the scene that a text holds, or returns the first fault, in
+/// this order: of the scene, of the plan, of the passes of a replay, of the work. Nothing is
+/// written before the answer is whole, and the writer is flushed once after the last byte. `Memory`
+/// is returned where memory is refused, also while the scene is read, and where a thread cannot be
+/// started. Each worker's thread goes through the gate.
 pub fn perform<W: Write, H: Gate + Sync, R: Threads + Wait + Sync>(
     rt: &R,
     alloc: Global,
@@ -64,21 +65,22 @@ pub fn perform<W: Write, H: Gate + Sync, R: Threads + Wait + Sync>(
     gate: &H,
     out: &mut W,
 ) -> Result<(), ToolError>
-    requires { IsAllowed request.now }
-    ensures { Performs (outcome text.now request.now) (W.contents out.old) (W.contents out.new) result }
+    requires allowed { IsAllowed request.now }
+    ensures performed { Performs (outcome text.now request.now)
+        (W.contents out.old) (W.contents out.new) result }
 {
     let scene = read(alloc, text)?;
-    let means = Means { rt, alloc, gate };
+    let resources = Resources { rt, alloc, gate };
     let start = Start {
         chirality: scene.chirality(),
         generation: scene.generation(),
     };
-    with_lattice!(scene.lattice(), lattice => perform_on(&means, lattice, start, request, out))
+    with_lattice!(scene.lattice(), lattice => perform_on(&resources, lattice, start, request, out))
 }
 
 // Writes the answer to a request on a lattice.
 fn perform_on<G: Gas + Send, W: Write, H: Gate + Sync, R: Threads + Wait + Sync>(
-    means: &Means<H, R>,
+    resources: &Resources<H, R>,
     lattice: &Lattice<G>,
     start: Start,
     request: &Request,
@@ -86,7 +88,8 @@ fn perform_on<G: Gas + Send, W: Write, H: Gate + Sync, R: Threads + Wait + Sync>
 ) -> Result<(), ToolError>
     requires allowed { IsAllowed request.now }
     requires generation { start.generation ≤ LAST_GENERATION }
-    ensures { Performs (gas_outcome G.rules lattice.now start.chirality start.generation request.now)
+    ensures { Performs
+        (gas_outcome G.rules lattice.now start.chirality start.generation request.now)
         (W.contents out.old) (W.contents out.new) result }
 {
     let Some(numbers) = request.plan() else {
@@ -96,7 +99,7 @@ fn perform_on<G: Gas + Send, W: Write, H: Gate + Sync, R: Threads + Wait + Sync>
     match request {
         // It has no plan.
         Request::Check => unreachable!(),
-        Request::Run { .. } => print_run(means, lattice, start, plan, View::Cells, out),
+        Request::Run { .. } => print_run(resources, lattice, start, plan, View::Cells, out),
         Request::Coarse {
             block_width,
             block_height,
@@ -106,18 +109,18 @@ fn perform_on<G: Gas + Send, W: Write, H: Gate + Sync, R: Threads + Wait + Sync>
                 width: *block_width,
                 height: *block_height,
             };
-            print_run(means, lattice, start, plan, view, out)
+            print_run(resources, lattice, start, plan, view, out)
         }
         Request::Replay { turns, .. } => {
-            print_replay(means.alloc, lattice, start, plan, turns.as_slice(), out)
+            print_replay(resources.alloc, lattice, start, plan, turns.as_slice(), out)
         }
     }
 }
 
-// Computes the generations of a plan over a lattice, by the line of threads, and prints the one that
-// they lead to.
+// Computes the generations of a plan over a lattice, by the line of threads, and prints the last
+// one.
 fn print_run<G: Gas + Send, W: Write, H: Gate + Sync, R: Threads + Wait + Sync>(
-    means: &Means<H, R>,
+    resources: &Resources<H, R>,
     lattice: &Lattice<G>,
     start: Start,
     plan: Plan,
@@ -127,10 +130,12 @@ fn print_run<G: Gas + Send, W: Write, H: Gate + Sync, R: Threads + Wait + Sync>(
     requires some_cells { HasSomeCells view }
     requires generation { start.generation ≤ LAST_GENERATION }
     ensures { Performs
-        (Ok (view_text view G.rules (lattice_after G.rules start.chirality start.generation lattice.now plan.generations) (start.generation + plan.generations)))
+        (Ok (view_text view G.rules
+        (lattice_after G.rules start.chirality start.generation lattice.now plan.generations)
+        (start.generation + plan.generations)))
         (W.contents out.old) (W.contents out.new) result }
 {
-    let Means { rt, alloc, gate } = means;
+    let Resources { rt, alloc, gate } = resources;
     let Start {
         chirality,
         generation,
@@ -149,7 +154,8 @@ fn print<G: Gas, W: Write>(
     out: &mut W,
 ) -> Result<(), ToolError>
     requires { HasSomeCells view }
-    ensures { Performs (Ok (view_text view G.rules lattice.now generation)) (W.contents out.old) (W.contents out.new) result }
+    ensures { Performs (Ok (view_text view G.rules lattice.now generation))
+        (W.contents out.old) (W.contents out.new) result }
 {
     match view {
         View::Cells => write_cells(lattice, generation, out)?,
@@ -161,7 +167,7 @@ fn print<G: Gas, W: Write>(
     Ok(())
 }
 
-// Lets the members of a line over a lattice make these turns, and prints where they stand.
+// Replays these turns of the members of a line over a lattice, and prints where they stand.
 fn print_replay<G: Gas, W: Write>(
     alloc: Global,
     lattice: &Lattice<G>,
@@ -171,7 +177,8 @@ fn print_replay<G: Gas, W: Write>(
     out: &mut W,
 ) -> Result<(), ToolError>
     requires generation { start.generation ≤ LAST_GENERATION }
-    ensures { Performs (replay_outcome G.rules lattice.now start.chirality start.generation plan turns.now)
+    ensures { Performs
+        (replay_outcome G.rules lattice.now start.chirality start.generation plan turns.now)
         (W.contents out.old) (W.contents out.new) result }
 {
     let Start {

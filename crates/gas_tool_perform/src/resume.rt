@@ -1,4 +1,4 @@
-//! Runs in parts.
+//! Runs in two parts.
 
 ghost use Rattle.std.specs.Prelude.{◌≡◌, ℕ, ◌+◌, List, None, Ok};
 ghost use Rattle.gas_pipe_members.specs.Plan.{plan_refusal};
@@ -7,16 +7,20 @@ ghost use Rattle.gas_tool_perform.specs.Outcome.{outcome, scene_after};
 ghost use Rattle.gas_tool_cli.specs.declared.request.Request.TheVariants.{Run, Coarse};
 
 /// A run in two parts prints what one run prints, whatever the numbers of stages and the
-/// capacities: where a text is a scene, and a later text is the scene of its lattice some
-/// generations on, then so many further generations of the later one lead to the same answer as
-/// all generations of the first.
+/// capacities: where a text is a scene, and a later text is the scene of its lattice m generations
+/// on, n generations of the later one lead to the same answer as m + n of the first.
 pub fn resumed_runs()
-    ensures cells { (text later : List ℕ) (scene : SceneModel) (m n stages capacity stages2 capacity2 : ℕ) →
+    ensures cells { (text later : List ℕ) (scene : SceneModel)
+        (m n stages capacity stages2 capacity2 : ℕ) →
         scene_of_text text ≡ Ok scene → scene_of_text later ≡ Ok (scene_after scene m) →
-        plan_refusal stages capacity (m + n) ≡ None → plan_refusal stages2 capacity2 n ≡ None →
+        plan_refusal stages capacity (m + n) ≡ None →
+        plan_refusal stages2 capacity2 n ≡ None →
         outcome later (Run stages2 capacity2 n) ≡ outcome text (Run stages capacity (m + n)) }
-    ensures table { (text later : List ℕ) (scene : SceneModel) (m n stages capacity stages2 capacity2 width height : ℕ) →
+    ensures table { (text later : List ℕ) (scene : SceneModel)
+        (m n stages capacity stages2 capacity2 width height : ℕ) →
         scene_of_text text ≡ Ok scene → scene_of_text later ≡ Ok (scene_after scene m) →
-        plan_refusal stages capacity (m + n) ≡ None → plan_refusal stages2 capacity2 n ≡ None →
-        outcome later (Coarse stages2 capacity2 n width height) ≡ outcome text (Coarse stages capacity (m + n) width height) }
+        plan_refusal stages capacity (m + n) ≡ None →
+        plan_refusal stages2 capacity2 n ≡ None →
+        outcome later (Coarse stages2 capacity2 n width height)
+        ≡ outcome text (Coarse stages capacity (m + n) width height) }
 {}

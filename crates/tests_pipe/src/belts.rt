@@ -1,4 +1,5 @@
-// Belts between threads.
+//! Belts between threads.
+
 ghost use Rattle.std.specs.Prelude.{◌≡◌};
 
 use gas_belt::belt;
@@ -13,8 +14,8 @@ use std::process::Abort;
 mod steps;
 mod threads;
 
-// A row that tells a number below 4096 by its first cell and its last, of at least two cells.
-fn numbered(alloc: Global, width: u32, number: u32) -> Result<Row<Fhp1>, AllocError> {
+// A row of at least two cells whose first and last cell hold a number below 4096.
+fn numbered_row(alloc: Global, width: u32, number: u32) -> Result<Row<Fhp1>, AllocError> {
     let width = width.clamp(2, 65536);
     let mut row = Row::blank(alloc, width)?;
     row.set(0, (number % 64) as u8);
@@ -27,7 +28,7 @@ fn number(row: &Row<Fhp1>) -> u32 {
     u32::from(row.get(0)) + 64 * u32::from(row.get(last))
 }
 
-// What is done with a belt, and what has to come of it. Rows are told by their numbers.
+// A step with a belt, and its expected outcome. Rows are named by their numbers.
 #[derive(Clone, Copy, Debug)]
 enum Step {
     // A row is put, put where rows may gather, or handed back.
@@ -35,7 +36,7 @@ enum Step {
     Gathered(u32),
     PutBack(u32),
     GatheredBack(u32),
-    // A row of another width, so many cells, is handed back.
+    // A row of another width, in cells, is handed back.
     OtherBack(u32),
     // Rows that gathered are shown, or there were none.
     Shown,
@@ -44,29 +45,33 @@ enum Step {
     NoSpare,
     Taken(u32),
     NothingTaken,
-    // A buffer of so many cells is given. So many are held.
+    // A spare row is given, of a width in cells. The number of spare rows held.
     Given(u32),
     Held(u32),
 }
 
-// Whether there is a row of so many cells, with that number.
+// Returns whether there is a row of that width, with that number.
 fn is_numbered(row: Option<Row<Fhp1>>, width: u32, n: u32) -> bool {
     row.is_some_and(|row| row.width() == width && number(&row) == n)
 }
 
-// Does a step with the end that rows are put on, and says whether it came as it has to.
+// Does a step with the end that rows are put on. Returns whether its outcome is the expected one.
 fn send(alloc: Global, tx: &mut Tx<Fhp1>, width: u32, step: Step) -> Result<bool, AllocError>
     ensures { tx.new.belt ≡ tx.old.belt }
 {
     Ok(match step {
-        Step::Put(n) => tx.try_put(numbered(alloc, width, n)?).is_ok(),
-        Step::Gathered(n) => tx.try_gather(numbered(alloc, width, n)?).is_ok(),
-        Step::PutBack(n) => is_numbered(tx.try_put(numbered(alloc, width, n)?).err(), width, n),
+        Step::Put(n) => tx.try_put(numbered_row(alloc, width, n)?).is_ok(),
+        Step::Gathered(n) => tx.try_gather(numbered_row(alloc, width, n)?).is_ok(),
+        Step::PutBack(n) => is_numbered(tx.try_put(numbered_row(alloc, width, n)?).err(), width, n),
         Step::GatheredBack(n) => {
-            is_numbered(tx.try_gather(numbered(alloc, width, n)?).err(), width, n)
+            is_numbered(
+                tx.try_gather(numbered_row(alloc, width, n)?).err(),
+                width,
+                n,
+            )
         }
         Step::OtherBack(cells) => is_numbered(
-            tx.try_put(numbered(alloc, cells, 5)?).err(),
+            tx.try_put(numbered_row(alloc, cells, 5)?).err(),
             cells,
             5,
         ),
@@ -78,7 +83,8 @@ fn send(alloc: Global, tx: &mut Tx<Fhp1>, width: u32, step: Step) -> Result<bool
     })
 }
 
-// Does a step with the end that rows are taken from, and says whether it came as it has to.
+// Does a step with the end that rows are taken from. Returns whether its outcome is the expected
+// one.
 fn receive(alloc: Global, rx: &mut Rx<Fhp1>, width: u32, step: Step) -> Result<bool, AllocError>
     ensures { rx.new.belt ≡ rx.old.belt }
 {
@@ -86,7 +92,7 @@ fn receive(alloc: Global, rx: &mut Rx<Fhp1>, width: u32, step: Step) -> Result<b
         Step::Taken(n) => is_numbered(rx.try_take(), width, n),
         Step::NothingTaken => rx.try_take().is_none(),
         Step::Given(cells) => {
-            rx.give(numbered(alloc, cells, 0)?);
+            rx.give(numbered_row(alloc, cells, 0)?);
             true
         }
         Step::Held(n) => rx.held() == n,
@@ -94,7 +100,7 @@ fn receive(alloc: Global, rx: &mut Rx<Fhp1>, width: u32, step: Step) -> Result<b
     })
 }
 
-// Does the steps one after another, each of which has to come so.
+// Does the steps one after another, and asserts the outcome of each.
 fn play(
     rt: &impl Abort,
     alloc: Global,
@@ -113,7 +119,7 @@ fn play(
     Ok(())
 }
 
-// Takes the next row, which becomes a buffer, and says whether it has this number.
+// Takes the next row and gives it back as a spare row. Returns whether it has this number.
 fn is_next(rx: &mut Rx<Fhp1>, n: u32) -> bool
     ensures { rx.new.belt ≡ rx.old.belt }
 {
@@ -135,9 +141,10 @@ fn take_last(rt: &impl Abort, rx: &mut Rx<Fhp1>, numbers: &[u32])
     assert!(rt; rx.try_take().is_none());
 }
 
-// Closes a belt on which the rows with these numbers are left. Its ends meet once these are taken and not
-// before. It says how many rows the belt carried, or None where they met otherwise.
-fn carried(rt: &impl Abort, tx: Tx<Fhp1>, rx: Rx<Fhp1>, left: &[u32]) -> Option<u64>
+// Closes a belt on which the rows with these numbers are left. Its ends have to meet once these are
+// taken and not before. Returns the number of rows that the belt carried; None where they meet
+// otherwise.
+fn count_carried(rt: &impl Abort, tx: Tx<Fhp1>, rx: Rx<Fhp1>, left: &[u32]) -> Option<u64>
     requires { tx.belt ≡ rx.belt }
 {
     if left.is_empty() {

@@ -1,9 +1,11 @@
-//! Tests of the members of the line, of replays and of runs by threads on worked examples, and
-//! of how a thread waits.
+//! Tests of belts, of the members of the line, of replays and of runs by threads on worked
+//! examples, and of how a thread waits.
 #![tactic(auto)]
 
 #[cfg(test)]
 mod belts;
+#[cfg(test)]
+mod helpers;
 #[cfg(test)]
 mod members;
 #[cfg(test)]

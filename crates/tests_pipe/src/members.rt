@@ -1,4 +1,6 @@
-// The members of the line between belts of one thread, turn by turn.
+//! The members of the line between belts of one thread, turn by turn.
+
+use super::helpers::row_is;
 use gas_geom::fhp1::Fhp1;
 use gas_geom::size::Size;
 use gas_pipe::ends::Turned::{Done, Idle, Put, Stray, Took};
@@ -23,16 +25,6 @@ fn channel(alloc: Global, height: u32) -> Result<Channel, Fail> {
     Ok(Channel::free(alloc, size)?)
 }
 
-// The row has one particle, which goes east in this column, or, where it has no such column, none.
-fn row_is(rt: &impl Abort, row: &Row<Fhp1>, column: u32) {
-    for x in 0..row.width() {
-        assert!(rt;
-            row.get(x) == if x == column { 0x01 } else { 0x00 },
-            "column {x}"
-        );
-    }
-}
-
 // The belts before and behind a worker.
 #[derive(Drop)]
 struct Belts {
@@ -41,7 +33,7 @@ struct Belts {
 }
 
 impl Belts {
-    // Two belts that hold so many rows, one at least.
+    // Two belts with room for `capacity` rows, one at least.
     fn new(alloc: Global, capacity: u32) -> Result<Belts, AllocError> {
         let capacity = capacity.clamp(1, 1024);
         Ok(Belts {
@@ -62,7 +54,7 @@ fn worker(
     Ok(worker)
 }
 
-// A feeder that has begun so many passes over a lattice with one particle, which goes east from
+// A feeder that has begun one or two passes over a lattice with one particle, which goes east from
 // (0, 0).
 fn ring_feeder(alloc: Global, channel: Channel, passes: u64) -> Result<Feeder<Fhp1>, AllocError> {
     let mut lattice = Lattice::blank(alloc, channel)?;
@@ -129,7 +121,7 @@ fn a_feeder_meets_a_stray(rt: HostRuntime) -> Result<(), Fail> {
 // column.
 fn gives(rt: &impl Abort, mut feeder: Feeder<Fhp1>, belts: &mut Belts, column: u32) {
     match feeder.turn(&mut belts.first, &mut belts.last) {
-        Done => row_is(rt, feeder.finish().row(0), column),
+        Done => row_is(rt, feeder.finish().row(0), Some(column)),
         _ => assert!(rt; false),
     }
 }
@@ -148,7 +140,7 @@ fn pass_of_one_row(
     turn_worker(rt, worker, belts, Done);
 }
 
-// One particle goes east through a line of one worker, of which each turn is made by hand.
+// One particle goes east through a line of one worker, whose turns are made by hand.
 #[test]
 fn a_pass_by_hand(rt: HostRuntime) -> Result<(), Fail> {
     let channel = channel(rt.alloc(), 1)?;
@@ -226,7 +218,7 @@ fn refused_plans(rt: HostRuntime) {
     is_refused(&rt, 1, 1, 1_000_001, PlanError::Generations);
 }
 
-// A plan is what was asked for, and has so many passes.
+// Asserts that a plan is as asked for, with that number of passes.
 fn has_passes(
     rt: &impl Abort,
     stages: u32,

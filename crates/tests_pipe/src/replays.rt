@@ -1,4 +1,6 @@
-// Replayed turns of lines over a lattice in which one particle, if any, goes east from column 0.
+//! Replayed turns of lines over a lattice in which one particle, if any, goes east from column 0.
+
+use super::helpers::row_is;
 use gas_geom::fhp1::Fhp1;
 use gas_geom::size::Size;
 use gas_pipe::answers::Replay;
@@ -8,7 +10,6 @@ use gas_pipe::replay;
 use gas_rows::channel::Channel;
 use gas_rows::chirality::Chirality;
 use gas_rows::lattice::Lattice;
-use gas_rows::row::Row;
 use std::alloc::{AllocError, Global};
 use std::process::Abort;
 use std::test::Fail;
@@ -24,7 +25,7 @@ fn lattice(alloc: Global, height: u32, y: u32) -> Result<Lattice<Fhp1>, Fail> {
 }
 
 // It promises nothing, so that no test carries the promises of `replay`.
-fn replayed(
+fn replay_of(
     alloc: Global,
     lattice: &Lattice<Fhp1>,
     plan: Plan,
@@ -33,7 +34,7 @@ fn replayed(
     replay(alloc, lattice, Chirality::Left, 0, plan, turns)
 }
 
-// So many turns, round after round.
+// `count` turns, round after round.
 fn turns(alloc: Global, round: &[u32], count: usize) -> Result<Vec<u32>, AllocError> {
     let mut turns = Vec::with_capacity(alloc, count)?;
     for who in round.iter().cycle().take(count) {
@@ -47,14 +48,14 @@ fn belt_is(rt: &impl Abort, replay: &Replay<Fhp1>, belt: u32, put: u32, taken: u
     assert!(rt; replay.taken(belt) == Some(taken), "taken from belt {belt}");
 }
 
-// There are so many belts, and no other.
+// Asserts that there are `belts` belts, and no other.
 fn belts_end(rt: &impl Abort, replay: &Replay<Fhp1>, belts: u32) {
     assert!(rt; replay.belts() == belts);
     assert!(rt; replay.put(belts).is_none());
     assert!(rt; replay.taken(belts).is_none());
 }
 
-// The belts have been put and taken so many rows, and there is no other belt.
+// Asserts how many rows were put on each belt and taken from it, and that there is no other belt.
 fn belts_are(rt: &impl Abort, replay: &Replay<Fhp1>, belts: &[(u32, u32)]) {
     let mut belt = 0;
     for (put, taken) in belts {
@@ -64,19 +65,9 @@ fn belts_are(rt: &impl Abort, replay: &Replay<Fhp1>, belts: &[(u32, u32)]) {
     belts_end(rt, replay, belt);
 }
 
-fn not_done(rt: &impl Abort, replay: &Replay<Fhp1>) {
+fn assert_not_done(rt: &impl Abort, replay: &Replay<Fhp1>) {
     assert!(rt; !replay.done());
     assert!(rt; replay.lattice().is_none());
-}
-
-// The row has one particle, in that column, or none.
-fn row_is(rt: &impl Abort, row: &Row<Fhp1>, column: Option<u32>) {
-    for x in 0..row.width() {
-        assert!(rt;
-            row.get(x) == if column == Some(x) { 0x01 } else { 0x00 },
-            "column {x}"
-        );
-    }
 }
 
 // The lattice has one particle, at that place, if it has such a place.
@@ -94,9 +85,9 @@ fn done_at(rt: &impl Abort, replay: &Replay<Fhp1>, column: u32, y: u32) -> Resul
     Ok(())
 }
 
-// Four columns and so many rows with a particle in column 0 of row `y`, if there is such a row, a line over
-// belts of one place, and so many turns of its members, round after round. What was put on each belt and
-// taken from it by then, and where the pass is done the column of the particle.
+// A lattice of four columns with a particle in column 0 of row `y`, if there is such a row, a line
+// with belts of one place, and turns of its members, round after round; then how many rows were put
+// on each belt and taken from it, and where the pass is done the column of the particle.
 struct Case {
     rows: u32,
     y: u32,
@@ -244,12 +235,12 @@ fn plays(rt: &impl Abort, alloc: Global, case: &Case) -> Result<(), Fail> {
     let lattice = lattice(alloc, case.rows, case.y)?;
     let turns = turns(alloc, case.round, case.turns)?;
     let plan = Plan::new(case.stages, 1, case.generations)?;
-    let replay = replayed(alloc, &lattice, plan, &turns)?;
+    let replay = replay_of(alloc, &lattice, plan, &turns)?;
     belts_are(rt, &replay, case.belts);
     match case.came_to {
         Some(column) => done_at(rt, &replay, column, case.y),
         None => {
-            not_done(rt, &replay);
+            assert_not_done(rt, &replay);
             Ok(())
         }
     }
@@ -266,7 +257,7 @@ fn turns_of_each_line(rt: HostRuntime) -> Result<(), Fail> {
 #[test]
 fn two_passes_are_refused(rt: HostRuntime) -> Result<(), Fail> {
     let lattice = lattice(rt.alloc(), 3, 1)?;
-    match replayed(rt.alloc(), &lattice, Plan::new(1, 1, 2)?, &[]) {
+    match replay_of(rt.alloc(), &lattice, Plan::new(1, 1, 2)?, &[]) {
         Ok(_) => assert!(rt; false),
         Err(error) => assert!(rt; error == RunError::MorePasses),
     }

@@ -1,4 +1,5 @@
-// Runs by threads on worked examples.
+//! Runs by threads on worked examples.
+
 use gas_geom::fhp_rest::FhpRest;
 use gas_geom::fhp1::Fhp1;
 use gas_geom::gas::Gas;
@@ -26,8 +27,8 @@ type Cell = (u32, u32, u8);
 
 const SOLID: u8 = 0xff;
 
-// A lattice of so many columns and rows, in which all other cells are empty, and the cells that are not
-// empty after so many generations, row by row.
+// A lattice of this size in which all but the given cells are empty, and numbers of generations,
+// each with the cells that are not empty after it, row by row.
 struct Example {
     size: (u32, u32),
     chirality: Chirality,
@@ -70,7 +71,7 @@ fn cell<G: Gas>(lattice: &Lattice<G>, x: u32, y: u32) -> u8 {
 }
 
 // The cells of a lattice that are not empty, row by row.
-fn seen<G: Gas>(alloc: Global, lattice: &Lattice<G>) -> Result<Vec<Cell>, AllocError> {
+fn nonempty_cells<G: Gas>(alloc: Global, lattice: &Lattice<G>) -> Result<Vec<Cell>, AllocError> {
     let size = lattice.channel().size();
     let mut cells = Vec::new(alloc);
     for y in 0..size.height() {
@@ -84,7 +85,7 @@ fn seen<G: Gas>(alloc: Global, lattice: &Lattice<G>) -> Result<Vec<Cell>, AllocE
     Ok(cells)
 }
 
-fn ran<G: Gas + Send, R: Threads + Wait + Sync, T: Gate + Sync>(
+fn run_from<G: Gas + Send, R: Threads + Wait + Sync, T: Gate + Sync>(
     rt: &R,
     alloc: Global,
     lattice: &Lattice<G>,
@@ -97,7 +98,8 @@ fn ran<G: Gas + Send, R: Threads + Wait + Sync, T: Gate + Sync>(
     Ok(run(rt, alloc, lattice, chirality, first, plan, gate)?)
 }
 
-// Each belt of a pass was gone through by this number of rows, and there is no further belt.
+// Asserts that this number of rows went through each belt of a pass, and that there is no further
+// belt.
 fn pass_went_through<G: Gas>(rt: &impl Abort, run: &Run<G>, pass: u64, belts: u32, rows: u32) {
     for belt in 0..belts {
         assert!(rt;
@@ -108,27 +110,27 @@ fn pass_went_through<G: Gas>(rt: &impl Abort, run: &Run<G>, pass: u64, belts: u3
     assert!(rt; run.rows_through(pass, belts).is_none(), "pass {pass}");
 }
 
-// Each belt carried this number of rows.
-fn carried<G: Gas>(rt: &impl Abort, run: &Run<G>, rows: u64) {
+// Asserts that each belt carried this number of rows.
+fn belts_carried<G: Gas>(rt: &impl Abort, run: &Run<G>, rows: u64) {
     for carried in run.belts() {
         assert!(rt; carried.len() == rows);
     }
 }
 
-// So many passes went through so many belts, each with this number of rows. Without a pass no belt
-// was made.
+// Asserts that `passes` passes went through `belts` belts, each with this number of rows. Without a
+// pass no belt was made.
 fn went_through<G: Gas>(rt: &impl Abort, run: &Run<G>, passes: u64, belts: u32, rows: u32) {
     assert!(rt; run.passes() == passes);
     assert!(rt; run.belts_made() == if passes == 0 { 0 } else { u64::from(belts) });
     assert!(rt; run.belts().len() as u64 == run.belts_made());
-    carried(rt, run, passes.wrapping_mul(u64::from(rows)));
+    belts_carried(rt, run, passes.wrapping_mul(u64::from(rows)));
     for pass in 0..passes {
         pass_went_through(rt, run, pass, belts, rows);
     }
     assert!(rt; run.rows_through(passes, 0).is_none());
 }
 
-// A run of so many stages from a generation on comes to these cells.
+// Asserts that a run of `stages` workers from generation `first` on comes to these cells.
 fn comes_to<G: Gas + Send, R: Abort + Threads + Wait + Sync>(
     rt: &R,
     alloc: Global,
@@ -139,10 +141,10 @@ fn comes_to<G: Gas + Send, R: Abort + Threads + Wait + Sync>(
 ) -> Result<(), Fail> {
     let size = lattice.channel().size();
     let plan = Plan::new(stages, 1, generations)?;
-    let run = ran(rt, alloc, lattice, chirality, first, plan, &NoGate)?;
+    let run = run_from(rt, alloc, lattice, chirality, first, plan, &NoGate)?;
     let (width, height) = (size.width(), size.height());
     assert!(rt;
-        seen(alloc, run.lattice())?.as_slice() == after,
+        nonempty_cells(alloc, run.lattice())?.as_slice() == after,
         "{generations} generations of {width} x {height}"
     );
     let passes = generations.div_ceil(u64::from(stages.max(1)));
@@ -270,7 +272,8 @@ const FHP1: [Example; 19] = [
             (2, &[(1, 0, SOLID), (3, 0, 0x08)]),
         ],
     },
-    // Pairs turned by either bit or by those of a seed, a triple, and a pair that a spectator keeps from turning.
+    // Pairs turned by either bit or by those of a seed, a triple, and a pair that a spectator keeps
+    // from turning.
     Example {
         size: (4, 3),
         chirality: Left,
@@ -341,7 +344,8 @@ fn of_hpp(rt: HostRuntime) -> Result<(), Fail> {
     play::<Hpp, _>(&rt, rt.alloc(), &HPP)
 }
 
-// A particle meets one at rest and later another particle, and a pair turns beside one at rest by either bit.
+// A particle meets one at rest and later another particle, and a pair turns beside one at rest by
+// either bit.
 const FHP_REST: [Example; 3] = [
     Example {
         size: (4, 3),
@@ -396,7 +400,7 @@ fn of_other_lines(rt: HostRuntime) -> Result<(), Fail> {
 }
 
 // Five columns and four rows of this state, with an obstacle at (2, 1).
-fn full<G: Gas>(alloc: Global, state: u8) -> Result<Lattice<G>, Fail> {
+fn full_lattice<G: Gas>(alloc: Global, state: u8) -> Result<Lattice<G>, Fail> {
     let size = Size::new(5, 4).ok_or("a size")?;
     let mut lattice = lattice(alloc, size, &[(2, 1, SOLID)])?;
     for y in 0..4 {
@@ -412,19 +416,20 @@ fn have_same_cells<G: Gas>(
     one: &Lattice<G>,
     other: &Lattice<G>,
 ) -> Result<bool, AllocError> {
-    Ok(seen(alloc, one)? == seen(alloc, other)?)
+    Ok(nonempty_cells(alloc, one)? == nonempty_cells(alloc, other)?)
 }
 
-// Full but for an obstacle, a lattice with so many particles stays as it is in three passes of three stages.
+// Asserts that a lattice that is full but for an obstacle, with that number of particles, stays as
+// it is in three passes of three stages.
 fn stays_full<G: Gas + Send, R: Abort + Threads + Wait + Sync>(
     rt: &R,
     alloc: Global,
     state: u8,
     particles: u64,
 ) -> Result<(), Fail> {
-    let full = full::<G>(alloc, state)?;
+    let full = full_lattice::<G>(alloc, state)?;
     let plan = Plan::new(3, 1, 7)?;
-    let run = ran(rt, alloc, &full, Left, 0, plan, &NoGate)?;
+    let run = run_from(rt, alloc, &full, Left, 0, plan, &NoGate)?;
     assert!(rt; have_same_cells(alloc, run.lattice(), &full)?);
     assert!(rt; run.lattice().count() == particles);
     went_through(rt, &run, 3, 4, 4);
@@ -469,7 +474,8 @@ impl Gate for Counts {
     }
 }
 
-// In a run of so many workers and five generations they enter so often and leave once, after that.
+// Asserts how often the workers of a run of five generations enter and leave, the latter once and
+// after all passes.
 fn counts_are<R: Abort + Threads + Wait + Sync>(
     rt: &R,
     alloc: Global,
@@ -482,9 +488,9 @@ fn counts_are<R: Abort + Threads + Wait + Sync>(
         left: AtomicU64::new(0),
         entered_before: AtomicU64::new(0),
     };
-    let lattice = full::<Fhp1>(alloc, 0x09)?;
+    let lattice = full_lattice::<Fhp1>(alloc, 0x09)?;
     let plan = Plan::new(stages, 2, 5)?;
-    ran(rt, alloc, &lattice, Seeded(7), 0, plan, &gate)?;
+    run_from(rt, alloc, &lattice, Seeded(7), 0, plan, &gate)?;
     assert!(rt; gate.entered.load(Ordering::SeqCst) == entered);
     assert!(rt; gate.left.load(Ordering::SeqCst) == left);
     assert!(rt; gate.entered_before.load(Ordering::SeqCst) == entered);

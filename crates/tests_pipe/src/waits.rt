@@ -1,5 +1,6 @@
-// How a member waits, stepped by hand: the phases of its waits, the bans on yields, and wake-ups. The
-// numbers are those that docs/DECISIONS.md states ("How a member waits").
+//! How a member waits, stepped by hand: the phases of its waits, the bans on yields, and wake-ups.
+//! The numbers are those that docs/DECISIONS.md states ("How a member waits").
+
 use gas_pipe_run::backoff::Phase::{Announce, Park, Spin, Yield};
 use gas_pipe_run::backoff::{Backoff, Phase, YieldBan};
 use gas_pipe_run::wake_ups::WakeUps;
@@ -15,7 +16,8 @@ fn goes_on(rt: &impl Abort, backoff: &mut Backoff, ban: &YieldBan, phase: Phase,
     }
 }
 
-// The member parks twice, and before each park it announces it and tries once more; then the wait ends.
+// The member parks twice, and before each park it announces it and tries once more; then the wait
+// ends.
 fn parks(rt: &impl Abort, backoff: &mut Backoff, ban: &YieldBan, was_woken: bool) {
     for _ in 0..2 {
         goes_on(rt, backoff, ban, Announce, 1);
@@ -55,8 +57,8 @@ fn one_wait_in_64_is_a_trial(rt: HostRuntime) {
     }
 }
 
-// Two misses are followed by a trial each, the third by a ban of 16,384 waits, in which nothing counts as
-// a miss. Then all is as at first.
+// Two misses are followed by a trial each, the third by a ban of 16,384 waits, in which nothing
+// counts as a miss. Then all is as at first.
 #[test]
 fn three_missed_waits_ban_yields(rt: HostRuntime) {
     let (mut backoff, ban) = (Backoff::new(), YieldBan::new());
@@ -110,9 +112,9 @@ fn the_stop_flag_ends_every_phase(rt: HostRuntime) {
     }
 }
 
-// A member takes a row as soon as it finds one; where it finds none it takes a step. Its neighbour puts
-// one row between a try and a step. Returns the step after which it found the row; None where it parked
-// and nobody woke it.
+// A member takes a row as soon as it finds one; where it finds none it takes a step. Its neighbour
+// puts one row between a try and a step. Returns the step after which it found the row; None where
+// it parked and was not woken.
 fn found_at(rt: &impl Wait, wake_ups: &WakeUps, put_at: u32) -> Option<u32> {
     let (mut backoff, ban) = (Backoff::new(), YieldBan::new());
     for step in 0..2000 {
@@ -139,8 +141,8 @@ fn found_at(rt: &impl Wait, wake_ups: &WakeUps, put_at: u32) -> Option<u32> {
     None
 }
 
-// Step 1,056 of the first wait is the announcement, and step 1,057 the park, counted from 0: a put before
-// the announcement is found by the try behind it, and one after it ends the park at once.
+// Step 1,056 of the first wait is the announcement, and step 1,057 the park, counted from 0: a put
+// before the announcement is found by the try behind it, and one after it ends the park at once.
 #[test]
 fn no_put_is_missed(rt: HostRuntime) -> Result<(), Fail> {
     let wake_ups = WakeUps::new(rt.alloc(), 1)?;

@@ -15,8 +15,8 @@ const MAPS: [&str; 3] = [
     "gas = \"fhp-rest\"\ncells = [\"##..7f\", \"4a4000\"]",
 ];
 
-// The scene that the lattice of a scene is written as, at a generation and with another chirality.
-fn written(
+// The scene as which the lattice of a scene is written, at a generation and with another chirality.
+fn checkpoint_text(
     alloc: Global,
     scene: &str,
     chirality: Chirality,
@@ -44,7 +44,7 @@ fn read_again(rt: HostRuntime) -> Result<(), Fail> {
             "Seeded(9223372036854775807) 0 fhp-rest\n##..7f\n4a40..",
         ),
     ] {
-        let text = written(rt.alloc(), scene, chirality, generation)??;
+        let text = checkpoint_text(rt.alloc(), scene, chirality, generation)??;
         holds(&rt, rt.alloc(), text.as_str(), wanted)?;
     }
     Ok(())
@@ -68,7 +68,7 @@ fn limits(rt: HostRuntime) -> Result<(), Fail> {
         ),
     ] {
         for scene in MAPS {
-            let answer = written(rt.alloc(), scene, chirality, generation)?;
+            let answer = checkpoint_text(rt.alloc(), scene, chirality, generation)?;
             assert!(rt; answer.err() == wanted, "{scene} {generation}");
         }
     }
@@ -82,15 +82,17 @@ fn layout(rt: HostRuntime) -> Result<(), Fail> {
         (
             DRIFT,
             Chirality::Left,
-            "cells = [\n    \"........\",\n    \"......01\",\n    \"........\",\n]\nchirality = \"left\"\ngas = \"fhp1\"\ngeneration = 10\nversion = 2\n",
+            "cells = [\n    \"........\",\n    \"......01\",\n    \"........\",\n]\n\
+             chirality = \"left\"\ngas = \"fhp1\"\ngeneration = 10\nversion = 2\n",
         ),
         (
             "gas = \"hpp\"\ncells = [\"00##\", \"0f..\"]",
             Chirality::Seeded(12),
-            "cells = [\n    \"..##\",\n    \"0f..\",\n]\nchirality = \"seeded\"\ngas = \"hpp\"\ngeneration = 10\nseed = 12\nversion = 2\n",
+            "cells = [\n    \"..##\",\n    \"0f..\",\n]\n\
+             chirality = \"seeded\"\ngas = \"hpp\"\ngeneration = 10\nseed = 12\nversion = 2\n",
         ),
     ] {
-        let text = written(rt.alloc(), scene, chirality, 10)??;
+        let text = checkpoint_text(rt.alloc(), scene, chirality, 10)??;
         assert_eq!(rt; text.as_str(), wanted);
     }
     Ok(())
@@ -102,11 +104,12 @@ fn wide_and_high(rt: HostRuntime) -> Result<(), Fail> {
     let alloc = rt.alloc();
     for (width, height, empty) in [(65536, 1, ".."), (1, 65536, "..\n")] {
         let scene = format!(in alloc;
-            "version = 2\ngas = \"fhp1\"\nwidth = {width}\nheight = {height}\nparticles = [[{x}, {y}, 1]]",
+            "version = 2\ngas = \"fhp1\"\nwidth = {width}\nheight = {height}\n\
+             particles = [[{x}, {y}, 1]]",
             x = width - 1,
             y = height - 1
         )?;
-        let text = written(alloc, scene.as_str(), Chirality::Left, 3)??;
+        let text = checkpoint_text(alloc, scene.as_str(), Chirality::Left, 3)??;
         let cells = empty.repeat(alloc, 65535)?;
         let wanted = format!(in alloc; "Left 3 fhp1\n{cells}01")?;
         holds(&rt, alloc, text.as_str(), wanted.as_str())?;

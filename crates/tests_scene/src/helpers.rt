@@ -1,5 +1,5 @@
-//! What the tests share. These helpers promise nothing: what reading a scene promises is long, and a test that makes the call itself
-//! carries it through each of its paths.
+//! What the tests share. These helpers promise nothing: what reading a scene promises is long, and
+//! a test that makes the call itself carries it through each of its paths.
 
 use gas_catalog::with_lattice;
 use gas_geom::gas::Gas;
@@ -15,7 +15,7 @@ use std::test::Fail;
 pub(super) const DRIFT: &str =
     "gas = \"fhp1\"\nchirality = \"left\"\ncells = [\"........\", \"......01\", \"........\"]\n";
 
-// What refuses a text, if anything does.
+// Why a text is refused; None where it is a scene.
 pub(super) fn refusal(alloc: Global, text: &[u8]) -> Option<SceneError> {
     read(alloc, text).err()
 }
@@ -38,7 +38,7 @@ fn push_cell<G: Gas>(text: &mut String, lattice: &Lattice<G>, x: u32, y: u32) ->
 }
 
 // The name of the gas, and then the cells as two characters each, a line for each row.
-fn shown<G: Gas>(alloc: Global, lattice: &Lattice<G>) -> Result<String, Fail> {
+fn lattice_text<G: Gas>(alloc: Global, lattice: &Lattice<G>) -> Result<String, Fail> {
     let size = lattice.channel().size();
     let mut text = String::new(alloc);
     text.push_str(G::name())?;
@@ -51,22 +51,23 @@ fn shown<G: Gas>(alloc: Global, lattice: &Lattice<G>) -> Result<String, Fail> {
     Ok(text)
 }
 
-fn shown_scene(alloc: Global, scene: &Scene) -> Result<String, Fail> {
-    with_lattice!(scene.lattice(), lattice => shown(alloc, lattice))
+fn scene_cells(alloc: Global, scene: &Scene) -> Result<String, Fail> {
+    with_lattice!(scene.lattice(), lattice => lattice_text(alloc, lattice))
 }
 
-// What the scene that a text is holds, as one text: its chirality and its generation, the name of its gas, and its cells.
-fn told(alloc: Global, text: &str) -> Result<String, Fail> {
+// The scene of a text as one text: its chirality and its generation, the name of its gas, and its
+// cells.
+fn scene_text(alloc: Global, text: &str) -> Result<String, Fail> {
     let scene = read(alloc, text.as_bytes())?;
-    let cells = shown_scene(alloc, &scene)?;
+    let cells = scene_cells(alloc, &scene)?;
     let chirality = scene.chirality();
     let generation = scene.generation();
     Ok(format!(in alloc; "{chirality:?} {generation} {cells}")?)
 }
 
-// The text is a scene that holds this.
+// Asserts that the text is a scene that holds this.
 pub(super) fn holds(rt: &impl Abort, alloc: Global, text: &str, wanted: &str) -> Result<(), Fail> {
-    let told = told(alloc, text)?;
-    assert!(rt; told.as_str() == wanted, "{text}");
+    let found = scene_text(alloc, text)?;
+    assert!(rt; found.as_str() == wanted, "{text}");
     Ok(())
 }

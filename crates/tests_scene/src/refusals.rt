@@ -6,7 +6,8 @@ use std::alloc::{AllocError, Global};
 use std::process::Abort;
 use std::test::Fail;
 
-// The texts that begin with these lines and end with those of a case are refused as the case says, or are scenes.
+// Asserts that the texts that begin with these lines and end with those of a case are refused as
+// the case says, or are scenes.
 fn have_refusals(
     rt: &impl Abort,
     alloc: Global,
@@ -129,11 +130,13 @@ fn areas(rt: HostRuntime) -> Result<(), Fail> {
                 Some(SceneError::WrongType),
             ),
             (
-                "width = 4\nheight = 2\nsolid = [[0, 0, 2, 1], [1, 0, 2, 2]]\nparticles = [[1, 0, 1]]",
+                "width = 4\nheight = 2\nsolid = [[0, 0, 2, 1], [1, 0, 2, 2]]\n\
+                 particles = [[1, 0, 1]]",
                 Some(SceneError::Range),
             ),
             (
-                "width = 4\nheight = 2\nsolid = [[0, 0, 2, 1], [1, 0, 2, 2]]\nparticles = [[0, 1, 64]]",
+                "width = 4\nheight = 2\nsolid = [[0, 0, 2, 1], [1, 0, 2, 2]]\n\
+                 particles = [[0, 1, 64]]",
                 Some(SceneError::Range),
             ),
             (
@@ -149,8 +152,8 @@ fn areas(rt: HostRuntime) -> Result<(), Fail> {
     )
 }
 
-// Each text with which a scene begins: it lacks a key where it ends with a line or with the line's value, and is a scene once the
-// map is whole. A byte that no text has is refused too.
+// Each text with which a scene begins: it lacks a key where it ends with a line or with the line's
+// value, and is a scene once the map is whole. A byte that no text has is refused too.
 #[test]
 fn cut_short(rt: HostRuntime) {
     for length in 0..DRIFT.len() + 1 {
@@ -165,7 +168,7 @@ fn cut_short(rt: HostRuntime) {
     assert!(rt; refusal(rt.alloc(), &[0xff]) == Some(SceneError::Syntax));
 }
 
-// A map of so many rows, of so many empty cells each.
+// A map of `rows` rows, of `cells` empty cells each.
 fn empty_map(alloc: Global, cells: usize, rows: usize) -> Result<String, AllocError> {
     let row = "..".repeat(alloc, cells)?;
     let mut text = String::from_str(alloc, "gas = \"fhp1\"\ncells = [")?;

@@ -64,7 +64,8 @@ fn areas(rt: HostRuntime) -> Result<(), Fail> {
             "Seeded(0) 0 fhp1\n3f3f3f3f3f\n3f3f##3f3f\n3f3f3f3f3f\n3f3f3f3f3f",
         ),
         (
-            "width = 5\nheight = 4\nsolid = [[2, 1, 1, 1]]\nrate = 1000\nparticles = [[0, 0, 9], [0, 0, 0]]",
+            "width = 5\nheight = 4\nsolid = [[2, 1, 1, 1]]\nrate = 1000\n\
+             particles = [[0, 0, 9], [0, 0, 0]]",
             "Seeded(0) 0 fhp1\n..3f3f3f3f\n3f3f##3f3f\n3f3f3f3f3f\n3f3f3f3f3f",
         ),
         (
@@ -91,13 +92,14 @@ fn widest_area(rt: HostRuntime) -> Result<(), Fail> {
     holds(
         &rt,
         alloc,
-        "version = 2\ngas = \"fhp1\"\nchirality = \"left\"\nwidth = 65536\nheight = 1\nparticles = [[65535, 0, 1]]",
+        "version = 2\ngas = \"fhp1\"\nchirality = \"left\"\nwidth = 65536\nheight = 1\n\
+         particles = [[65535, 0, 1]]",
         wanted.as_str(),
     )
 }
 
 // The state that filling at rate 500 under seed 3 gives a cell of FHP-I, asked of the key stream.
-fn filled(place: u32) -> u32 {
+fn filled_state(place: u32) -> u32 {
     let mut state = 0;
     for i in 0..6u64 {
         let mut word = [0u32];
@@ -116,7 +118,7 @@ fn filling(rt: HostRuntime) -> Result<(), Fail> {
         if place % 5 == 0 {
             wanted.push_str("\n")?;
         }
-        let state = filled(place);
+        let state = filled_state(place);
         write!(wanted, "{state:02x}")?;
     }
     holds(

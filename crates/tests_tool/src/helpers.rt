@@ -1,5 +1,6 @@
-//! Scenes, a writer and requests that several tests use. These helpers promise nothing: what a request promises is long, and a test
-//! that makes the call itself carries it through each of its paths.
+//! Scenes, a writer and requests that several tests use. These helpers promise nothing: what a
+//! request promises is long, and a test that makes the call itself carries it through each of its
+//! paths.
 
 use gas_pipe_run::gate::NoGate;
 use gas_tool_cli::request::Request;
@@ -55,7 +56,7 @@ impl Narrow {
         }
     }
 
-    /// The writer was not called.
+    /// Returns whether the writer was not called.
     pub(super) fn is_uncalled(&self) -> bool {
         self.writes == 0 && self.flushes == 0
     }
@@ -82,9 +83,10 @@ impl Write for Narrow {
     }
 }
 
-/// The writer got as much of the text as it has room for, and the fault told how much that is. Each write took a byte or was the
-/// last, and the writer was flushed once where it got all.
-pub(super) fn got(rt: &impl Abort, out: &Narrow, told: Option<u64>, text: &[u8]) {
+/// Asserts that the writer got the part of the text that it has room for, and that the fault told
+/// its length. Each write took a byte or was the last, and the writer was flushed once where it got
+/// all.
+pub(super) fn assert_got(rt: &impl Abort, out: &Narrow, told: Option<u64>, text: &[u8]) {
     let room = out.room;
     let count = room.min(text.len());
     let is_short = count < text.len();
@@ -118,7 +120,7 @@ pub(super) fn request_of(alloc: Global, line: &str) -> Result<Result<Request, u8
 }
 
 /// What `perform` answers to the scene and the request of these words.
-pub(super) fn performed<R: Abort + Threads + Wait + Sync>(
+pub(super) fn perform_words<R: Abort + Threads + Wait + Sync>(
     rt: &R,
     alloc: Global,
     scene: &str,

@@ -8,8 +8,8 @@ use std::io::{ErrorKind, Read};
 use std::process::Abort;
 use std::test::Fail;
 
-/// Gives `left` bytes, at most `most` a read: those of a text, and then what stands in the buffer. It counts its reads, of which the
-/// one with the number `fails_at` fails.
+/// Gives `left` bytes, at most `most` a read: those of a text, and then what stands in the buffer.
+/// It counts its reads, and read number `fails_at` fails.
 #[derive(Drop)]
 struct Given<'a> {
     text: &'a [u8],
@@ -54,7 +54,7 @@ fn byte_by_byte(rt: HostRuntime) -> Result<(), Fail> {
     Ok(())
 }
 
-// How many bytes come, or the fault's line.
+// The number of bytes that come, or the fault's line.
 fn answer(alloc: Global, reader: &mut Given<'_>) -> Result<String, Fail> {
     Ok(match slurp(alloc, reader) {
         Ok(text) => format!(in alloc; "{count} bytes", count = text.len())?,
@@ -71,7 +71,8 @@ fn second_read_fails(rt: HostRuntime) -> Result<(), Fail> {
     Ok(())
 }
 
-// A reader of so many bytes, so many a read, is answered so, in so many reads at most.
+// Asserts what `slurp` answers to a reader of `left` bytes, `most` a read, and that it reads no
+// more often than it may.
 fn answers(
     rt: &impl Abort,
     alloc: Global,

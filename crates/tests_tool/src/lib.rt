@@ -1,4 +1,5 @@
-//! Tests of the words of the command line, of what comes in and of what goes out, on worked examples.
+//! Tests of the words of the command line, of what comes in and of what goes out, on worked
+//! examples.
 #![tactic(auto)]
 
 #[cfg(test)]

@@ -1,6 +1,7 @@
-//! The printed texts of lattices and of tables of blocks, and writers that take little, fail, or take nothing.
+//! The printed texts of lattices and of tables of blocks, and writers that take little, fail, or
+//! take nothing.
 
-use super::helpers::{DRIFTED, End, Narrow, got};
+use super::helpers::{DRIFTED, End, Narrow, assert_got};
 use gas_geom::fhp1::Fhp1;
 use gas_geom::size::Size;
 use gas_rows::channel::Channel;
@@ -33,7 +34,7 @@ fn cells_go_to(
     let told = write_cells(lattice, generation, &mut out)
         .err()
         .map(|fault| fault.written);
-    got(rt, &out, told, text.as_bytes());
+    assert_got(rt, &out, told, text.as_bytes());
 }
 
 #[test]
@@ -74,7 +75,7 @@ fn table_goes_to(rt: &impl Abort, blocks: &[Block], mut out: Narrow, text: &str)
     let told = write_table(blocks, &mut out)
         .err()
         .map(|fault| fault.written);
-    got(rt, &out, told, text.as_bytes());
+    assert_got(rt, &out, told, text.as_bytes());
 }
 
 // Two blocks of two columns and two rows.

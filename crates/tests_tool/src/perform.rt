@@ -1,6 +1,6 @@
 //! Whole requests, from the text of a scene to what is written.
 
-use super::helpers::{DRIFT, DRIFTED, End, Narrow, got, performed};
+use super::helpers::{DRIFT, DRIFTED, End, Narrow, assert_got, perform_words};
 use gas_tool_perform::faults::ToolError;
 use std::alloc::Global;
 use std::process::Abort;
@@ -29,12 +29,12 @@ fn answers<R: Abort + Threads + Wait + Sync>(
     mut out: Narrow,
     answer: &str,
 ) -> Result<(), Fail> {
-    let told = match performed(rt, alloc, scene, words, &mut out)? {
+    let told = match perform_words(rt, alloc, scene, words, &mut out)? {
         Ok(()) => None,
         Err(ToolError::Write(written)) => Some(written),
         Err(_) => return Err(Fail::new("a refusal")),
     };
-    got(rt, &out, told, answer.as_bytes());
+    assert_got(rt, &out, told, answer.as_bytes());
     Ok(())
 }
 
@@ -53,7 +53,8 @@ fn byte_by_byte(rt: HostRuntime) -> Result<(), Fail> {
             "gas fhp1 width 4 height 2 solid 5 particles 0\n",
         ),
         (
-            "gas = \"fhp1\"\nwidth = 4\nheight = 2\nsolid = [[0, 0, 2, 1], [1, 0, 2, 2]]\nrate = 1000",
+            "gas = \"fhp1\"\nwidth = 4\nheight = 2\nsolid = [[0, 0, 2, 1], [1, 0, 2, 2]]\n\
+             rate = 1000",
             "fhpgas check",
             "gas fhp1 width 4 height 2 solid 5 particles 18\n",
         ),
@@ -64,7 +65,8 @@ fn byte_by_byte(rt: HostRuntime) -> Result<(), Fail> {
         ),
         (DRIFT, RUN, DRIFTED),
         (
-            "version = 2\ngeneration = 10\ngas = \"fhp1\"\nchirality = \"left\"\ncells = [\"........\", \"......01\", \"........\"]",
+            "version = 2\ngeneration = 10\ngas = \"fhp1\"\nchirality = \"left\"\n\
+             cells = [\"........\", \"......01\", \"........\"]",
             RUN,
             "generation 11 particles 1\n........\n01......\n........\n",
         ),
@@ -154,7 +156,7 @@ fn is_refused<R: Abort + Threads + Wait + Sync>(
     line: &str,
 ) -> Result<(), Fail> {
     let mut out = Narrow::new(alloc, 100, 1000, End::Error);
-    let Err(fault) = performed(rt, alloc, scene, words, &mut out)? else {
+    let Err(fault) = perform_words(rt, alloc, scene, words, &mut out)? else {
         return Err(Fail::new("an answer"));
     };
     let told = format!(in alloc; "{fault}")?;

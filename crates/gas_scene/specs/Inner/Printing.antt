@@ -11,7 +11,7 @@ use Rattle.gas_rows.specs.declared.chirality.Chirality.{Chirality}
 use Rattle.gas_catalog.specs.declared.catalog.KnownGas.{KnownGas}
 use Rattle.gas_catalog.specs.declared.catalog.KnownGas.TheVariants.{Fhp1}
 use Rattle.gas_catalog.specs.Catalog.{gas_named}
-use Rattle.gas_scene.specs.Checkpoint.{told}
+use Rattle.gas_scene.specs.Checkpoint.{name_and_seed}
 
 -- the gas with the name of these rules
 abbrev pub gas_with : Rules → KnownGas
@@ -28,11 +28,11 @@ abbrev pub insert_seed : Option ℕ → Members → Members
 insert_seed seed ms = option_map_or (λ n. insert_member (codes "seed") (integer (pos n)) ms) seed ms
 
 -- the table of these values, key after key
-unfoldable pub inserted : List ℕ → List Data → Chirality → ℕ → Members
-inserted gas cells chirality generation =
-    insert_seed (told chirality).1 (
+unfoldable pub insert_all : List ℕ → List Data → Chirality → ℕ → Members
+insert_all gas cells chirality generation =
+    insert_seed (name_and_seed chirality).1 (
     insert_member (codes "cells") (array (items_of cells)) (
     insert_member (codes "generation") (integer (pos generation)) (
-    insert_member (codes "chirality") (string (told chirality).0) (
+    insert_member (codes "chirality") (string (name_and_seed chirality).0) (
     insert_member (codes "gas") (string gas) (
     insert_member (codes "version") (integer (pos 2)) no_members)))))

@@ -1,16 +1,17 @@
-// What comes of one step after another on a belt of which one thread has both ends.
+//! The outcomes of one step after another on a belt whose two ends one thread has.
+
 use super::Step::{
     Gathered, GatheredBack, Given, Held, NoSpare, NothingShown, NothingTaken, OtherBack, Put,
     PutBack, Shown, Spare, Taken,
 };
-use super::{Step, carried, play};
+use super::{Step, count_carried, play};
 use gas_belt::belt;
 use std::alloc::Global;
 use std::process::Abort;
 use std::test::Fail;
 
-// The steps on a belt with so many places for rows of that width. Rows with these numbers are left on it
-// then, and it has carried so many at last.
+// The steps on a belt with this number of places for rows of this width, the numbers of the rows
+// that are left on it then, and the number of rows that it has carried in the end.
 struct Case {
     places: u32,
     width: u32,
@@ -28,7 +29,8 @@ const CASES: [Case; 8] = [
         left: &[1111],
         carried: 2,
     },
-    // A put makes the row a spare one, a take uses a buffer, and no more than two buffers are held.
+    // A put makes the row a spare one, a take uses a spare row, and no more than two of these are
+    // held.
     Case {
         places: 1,
         width: 65,
@@ -51,7 +53,7 @@ const CASES: [Case; 8] = [
         left: &[],
         carried: 2,
     },
-    // No row is taken without a buffer.
+    // No row is taken without a spare row.
     Case {
         places: 3,
         width: 7,
@@ -172,7 +174,7 @@ fn plays(rt: &impl Abort, alloc: Global, case: &Case) -> Result<(), Fail> {
     let width = case.width.clamp(2, 65536);
     let (mut tx, mut rx) = belt(alloc, case.places.clamp(1, 1024), width)?;
     play(rt, alloc, &mut tx, &mut rx, width, case.steps)?;
-    let carried = carried(rt, tx, rx, case.left);
+    let carried = count_carried(rt, tx, rx, case.left);
     assert!(rt; carried == Some(case.carried), "{} places", case.places);
     Ok(())
 }

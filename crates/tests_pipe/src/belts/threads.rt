@@ -1,6 +1,8 @@
+//! A belt whose ends two threads have.
+
 ghost use Rattle.std.specs.Prelude.{◌≡◌, ◌<◌, IfOk};
 
-use super::{number, numbered};
+use super::{number, numbered_row};
 use gas_belt::belt;
 use gas_belt::carried::meet;
 use gas_belt::rx::Rx;
@@ -32,7 +34,7 @@ fn put_all(rt: &impl Wait, alloc: Global, mut tx: Tx<Fhp1>) -> Result<Spent<Fhp1
     ensures { IfOk result (λ s. s.belt ≡ tx.belt) }
 {
     for n in 0..1000 {
-        put_one(rt, &mut tx, numbered(alloc, 4, n)?);
+        put_one(rt, &mut tx, numbered_row(alloc, 4, n)?);
     }
     Ok(tx.close())
 }
@@ -50,7 +52,7 @@ fn take_one(rt: &impl Wait, rx: &mut Rx<Fhp1>) -> Row<Fhp1>
     unreachable!()
 }
 
-// Takes 1000 rows, and says whether they were those put, in their order.
+// Takes 1000 rows. Returns whether they were those put, in their order.
 fn take_all(rt: &impl Wait, mut rx: Rx<Fhp1>) -> (Rx<Fhp1>, bool)
     ensures { result.0.belt ≡ rx.belt }
 {
@@ -63,6 +65,8 @@ fn take_all(rt: &impl Wait, mut rx: Rx<Fhp1>) -> (Rx<Fhp1>, bool)
     (rx, in_order)
 }
 
+// Sends 1000 rows through a belt between two threads. Returns how many it carried, and whether they
+// came in order; None where its ends do not meet.
 fn through_threads<R: Threads + Wait + Sync>(
     rt: &R,
     alloc: Global,

@@ -3,7 +3,7 @@ use mathlib.Core.List.{IsPrefix}
 use Rattle.rtrb.specs.Ring.{sent, received, known_items}
 use Rattle.std.proofs.lemmas.List.{append_assoc, take-append-drop}
 use Rattle.gas_rows.specs.Planes.{cells_of}
-use Rattle.gas_belt.specs.Ring.{row_words, rows_in, taken_words}
+use Rattle.gas_belt.specs.Inner.Ring.{row_words, rows_in, taken_words}
 use Rattle.gas_belt.proofs.Parts.{parts-append, parts-read, parts_length}
 use Rattle.gas_belt.proofs.carried.meet.Goals as goal
 
@@ -19,9 +19,9 @@ returns-then-spent-rx-clause-prefix g c =
     let dirs = g.G.Gas.rules.dirs in
     let width = r.spares.width in
     let same : width ≡ s.width =
-    ap (λ x. x.belt.width) c.rx.view_is ∙ ap (λ b. b.width) (sym c.requires) ∙ ap (λ x. x.belt.width) (sym c.spent.view_is) in
+    ap (λ x. x.belt.width) c.rx.view_is ∙ ap (λ b. b.width) (sym c.requires.one_belt) ∙ ap (λ x. x.belt.width) (sym c.spent.view_is) in
     let look = c.slots_beside.ensures in
-    let i = r.inlet in
+    let i = r.buffer in
     let rest = drop (length (received i.ring) - (i.filled - i.first)) (received i.ring) ++ known_items c.slots_beside.new.self in
     let all : taken_words i ++ rest ≡ sent s.ring =
     came_all (received i.ring) (received c.slots_beside.new.self) _ _ _ look.looked.1 (look.fifo ∙ look.producer.1) in
@@ -44,9 +44,9 @@ invariant_of-result g c =
     let dirs = g.G.Gas.rules.dirs in
     let width = r.spares.width in
     let same : width ≡ s.width =
-    ap (λ x. x.belt.width) c.rx.view_is ∙ ap (λ b. b.width) (sym c.requires) ∙ ap (λ x. x.belt.width) (sym c.spent.view_is) in
+    ap (λ x. x.belt.width) c.rx.view_is ∙ ap (λ b. b.width) (sym c.requires.one_belt) ∙ ap (λ x. x.belt.width) (sym c.spent.view_is) in
     let look = c.slots_beside.ensures in
-    let i = r.inlet in
+    let i = r.buffer in
     let got = received c.slots_beside.new.self in
     let rest = drop (length (received i.ring) - (i.filled - i.first)) (received i.ring) ++ known_items c.slots_beside.new.self in
     let all : taken_words i ++ rest ≡ sent c.slots_beside.new.producer =

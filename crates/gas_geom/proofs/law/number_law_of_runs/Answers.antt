@@ -2,4 +2,4 @@ use Rattle.gas_geom.proofs.Runs.{count-generation}
 use Rattle.gas_geom.proofs.law.number_law_of_runs.Goals as goal
 
 pub returns : goal.returns
-returns g c = count-generation g.G.Gas.rules g.met.G.Gas.laws
+returns g c = record { kept = count-generation g.G.Gas.rules g.met.G.Gas.laws }

@@ -17,7 +17,7 @@ returns-in-Some c =
     let here : ℕ → SceneError = λ r. BadCell r (unwrap_or (bad_column states (row_at rows r)) 0) in
     ap (λ k. Err (BadCell c.in-Some.r k)) (c.unwrap_or-c.ensures ∙ ap (λ o. unwrap_or o 0) (c.bad_column.ensures.value ∙ ap (bad_column states) c.row.ensures))
     ∙ sym (ap (λ o. verdict (option_map here o))
-    (position-rows (λ row. is_some (bad_column states row)) c.args.rows.now ∙ sym c.first_bad.ensures ∙ c.in-Some.is))
+    (position-rows (λ row. is_some (bad_column states row)) c.args.rows.now ∙ sym c.first_bad_row.ensures ∙ c.in-Some.is))
 
 pub returns-in-None : goal.returns-in-None
 returns-in-None c =
@@ -25,4 +25,4 @@ returns-in-None c =
     let rows = map text_of (map view c.args.rows.now) in
     let here : ℕ → SceneError = λ r. BadCell r (unwrap_or (bad_column states (row_at rows r)) 0) in
     sym (ap (λ o. verdict (option_map here o))
-    (position-rows (λ row. is_some (bad_column states row)) c.args.rows.now ∙ sym c.first_bad.ensures ∙ c.in-None.is))
+    (position-rows (λ row. is_some (bad_column states row)) c.args.rows.now ∙ sym c.first_bad_row.ensures ∙ c.in-None.is))

@@ -5,8 +5,12 @@ use Rattle.gas_scene.proofs.scene.read.Goals as goal
 
 pub returns-in-Ok : goal.returns-in-Ok
 returns-in-Ok c =
-    subst (Gives c.read_table.result) (sym (scene_of_text-document c.args.text.now _ c.in-Ok.ensures.ok.0 c.in-Ok.ensures.ok.1)) c.read_table.ensures
+    record {
+      answer = subst (Gives c.read_table.result) (sym (scene_of_text-document c.args.text.now _ c.in-Ok.ensures.ok.0 c.in-Ok.ensures.ok.1)) c.read_table.ensures;
+    }
 
 pub returns-else-is_memory : goal.returns-else-is_memory
 returns-else-is_memory c =
-    inl (sym (scene_of_text-none c.args.text.now (c.in-Err.ensures.refused (λ m. let bad = c.if-is_memory.ensures.1 m in cc))))
+    record {
+      answer = inl (sym (scene_of_text-none c.args.text.now (c.in-Err.ensures.refused (λ m. let bad = c.if-is_memory.ensures.1 m in cc))));
+    }

@@ -11,7 +11,7 @@ returns-in_default c =
     let found = found_of c.args.options.now in
     let stand = c.in_default.ensures ∙ raw_values-rows found (codes "turns") in
     subst (λ (o : Option (List Text)). AllZip (IsNumber 32) (unwrap_or o []) c.new-in_default.result) stand
-    (subst (AllZip (IsNumber 32) []) (sym (c.new-in_default.ensures ∙ c.new.ensures.items)) tt)
+    (subst (AllZip (IsNumber 32) []) (sym (c.new-in_default.ensures.value ∙ c.new.ensures.items)) tt)
 
 pub returns-in-Some-2 : goal.returns-in-Some-2
 returns-in-Some-2 c =
@@ -20,4 +20,4 @@ returns-in-Some-2 c =
     let texts : List Text = map (λ w. w.now) c.in-Some.words.now in
     let read = subst (λ o. IfSome o (λ numbers. AllZip (IsNumber 32) texts numbers.items)) c.in-Some-2.is c.in_ok-turns.ensures in
     subst (λ (o : Option (List Text)). AllZip (IsNumber 32) (unwrap_or o []) c.new-in-Some-2.result) stand
-    (subst (AllZip (IsNumber 32) texts) (sym c.new-in-Some-2.ensures) read)
+    (subst (AllZip (IsNumber 32) texts) (sym c.new-in-Some-2.ensures.value) read)

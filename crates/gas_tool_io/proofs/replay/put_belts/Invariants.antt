@@ -1,4 +1,4 @@
-use Rattle.gas_tool_io.specs.Sink.{Adds}
+use Rattle.gas_tool_io.specs.Inner.Sink.{Adds}
 use Rattle.std.specs.List.{flat_map, range_with_len}
 use Rattle.gas_tool_io.specs.Replay.{belt_line}
 use Rattle.gas_tool_io.proofs.replay.put_belts.Given as goal

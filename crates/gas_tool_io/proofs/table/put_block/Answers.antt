@@ -1,7 +1,7 @@
 use Rattle.std.proofs.Common.{◌≡◌, ◌∙◌, ap, subst, rules, to_z, of_z, w64, FitsSigned}
 use Rattle.std.specs.Fmt.{decimal, styled_decimal, styled_signed_decimal}
 use Rattle.std.proofs.lemmas.Int.{to_z-of_z}
-use Rattle.gas_tool_io.specs.Sink.{Adds}
+use Rattle.gas_tool_io.specs.Inner.Sink.{Adds}
 use Rattle.gas_tool_io.proofs.Lines.{padded-right, signed-right, table_made}
 use Rattle.gas_tool_io.proofs.table.put_block.Goals as goal
 

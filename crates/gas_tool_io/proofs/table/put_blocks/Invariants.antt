@@ -1,6 +1,6 @@
 use Rattle.std.proofs.Common.{take}
 use Rattle.std.specs.List.{flat_map}
-use Rattle.gas_tool_io.specs.Sink.{Adds}
+use Rattle.gas_tool_io.specs.Inner.Sink.{Adds}
 use Rattle.gas_tool_io.specs.Table.{block_line}
 use Rattle.gas_tool_io.proofs.table.put_blocks.Given as goal
 

@@ -1,5 +1,5 @@
 use Rattle.std.proofs.Common.{◌*◌, take}
-use Rattle.gas_tool_io.specs.Sink.{Adds}
+use Rattle.gas_tool_io.specs.Inner.Sink.{Adds}
 use Rattle.gas_cells.specs.Cells.{row_cells}
 use Rattle.gas_tool_io.proofs.text.put_row.Given as goal
 

@@ -1,7 +1,7 @@
 use Rattle.std.proofs.Common.{◌++◌}
 use Rattle.std.specs.List.{flat_map, range_with_len}
 use Rattle.gas_cells.specs.Cells.{row_cells}
-use Rattle.gas_tool_io.specs.Sink.{Adds}
+use Rattle.gas_tool_io.specs.Inner.Sink.{Adds}
 use Rattle.gas_tool_io.specs.Text.{line_feed}
 use Rattle.gas_tool_io.proofs.text.put_rows.Given as goal
 

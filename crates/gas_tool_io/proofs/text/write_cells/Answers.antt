@@ -1,4 +1,4 @@
 use Rattle.gas_tool_io.proofs.text.write_cells.Goals as goal
 
 pub returns : goal.returns
-returns g c = c.finish.ensures _ _ (c.put_cells.ensures.adds _ _ (c.new-sink.ensures.empty _))
+returns g c = record { written = c.finish.ensures _ _ (c.put_cells.ensures.adds _ _ (c.new-sink.ensures.empty _)) }

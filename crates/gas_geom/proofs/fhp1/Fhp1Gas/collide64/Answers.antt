@@ -62,4 +62,4 @@ after =
     Xor e along_e ∷ Xor ne along_ne ∷ Xor nw along_nw ∷ Xor w along_e ∷ Xor sw along_ne ∷ Xor se along_nw ∷ Zero ∷ Zero ∷ []
 
 pub returns-clause-cells : goal.returns-clause-cells
-returns-clause-cells c = collided fhp1 after refl c.args.planes c.args.chi (search rules) (omega arith) c.requires
+returns-clause-cells c = collided fhp1 after refl c.args.planes c.args.chi (search rules) (omega arith) c.requires.rest

@@ -53,7 +53,7 @@ returns-clause-cells c =
     let planes = c.args.planes in
     let before = c.collide64.result in
     collided_after fhp_rest (λ s r. fhp1.collide (moving s) r) after refl planes before c.args.chi (search rules)
-    (plane-lt 6 before (search rules) c.collide64.ensures.rest) (omega arith) c.requires
+    (plane-lt 6 before (search rules) c.collide64.ensures.rest) (omega arith) c.requires.rest
     (λ b i within.
     holds-column 6 before c.collide64.ensures.rest b i
     ∙ ap (λ s. holds s i) (c.collide64.ensures.cells b within)

@@ -22,4 +22,4 @@ abbrev after : List Formula
 after = Xor e turns ∷ Xor n turns ∷ Xor w turns ∷ Xor s turns ∷ Zero ∷ Zero ∷ Zero ∷ Zero ∷ []
 
 pub returns-clause-cells : goal.returns-clause-cells
-returns-clause-cells c = collided hpp after refl c.args.planes c.args._chi (search rules) (omega arith) c.requires
+returns-clause-cells c = collided hpp after refl c.args.planes c.args._chi (search rules) (omega arith) c.requires.rest

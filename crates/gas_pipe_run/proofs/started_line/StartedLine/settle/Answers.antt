@@ -15,7 +15,7 @@ join_workers-requires-clause-whole g c =
     let line = c.self.inside in
     let linked = subst (λ (l : LineModel). IsLinked g.G.Gas.rules l) (sym c.self.view_is) c.requires.linked in
     let over = subst (λ (l : LineModel). l.feeder.to_take ≡ 0) (sym c.self.view_is) c.requires.over in
-    ap (λ (s : Sender). length s.put) c.close.ensures
+    ap (λ (s : Sender). length s.put) c.close.ensures.spent
     ∙ long line.input.now line.feeder line.first.put line.last.taken linked.channel over linked.fed
 
 pub unreachable-requires : goal.unreachable-requires
@@ -26,7 +26,7 @@ unreachable-requires g c =
     let over = subst (λ (l : LineModel). l.feeder.to_take ≡ 0) (sym c.self.view_is) c.requires.over in
     let count : vec_len line.threads ≡ input.plan.stages = omega (arith, linked.count, length-map line.threads.items job_of, line.threads.ok) in
     let all : length c.close.result.put ≡ div_ceil input.plan.generations input.plan.stages * input.lattice.channel.height =
-    ap (λ (s : Sender). length s.put) c.close.ensures
+    ap (λ (s : Sender). length s.put) c.close.ensures.spent
     ∙ long input line.feeder line.first.put line.last.taken linked.channel over linked.fed in
     let same : length c.in_ok-spent.spent.put ≡ length line.last.taken =
     last_whole g.G.Gas.rules input linked.is_input c.close.result.put _ _ _ c.in_ok-spent.ensures.reached count all
@@ -45,7 +45,7 @@ returns g c =
     let b = c.close.result.put in
     let fed : HasFed line.feeder (div_ceil input.plan.generations input.plan.stages) input.lattice.rows b line.last.taken =
     subst (λ (l : List RowModel). HasFed line.feeder (div_ceil input.plan.generations input.plan.stages) input.lattice.rows l line.last.taken)
-    (sym (ap (λ (s : Sender). s.put) c.close.ensures)) linked.fed in
+    (sym (ap (λ (s : Sender). s.put) c.close.ensures.spent)) linked.fed in
     let reached = c.in_ok-spent.ensures.reached in
     let back = c.in-Ok.ensures.equal ∙ last_on gas input linked.is_input b _ _ _ reached count in
     let grown = c.in-Ok-push.ensures.items

@@ -17,9 +17,9 @@ returns-clause-streamed g c = λ at rows x h.
     let down_fits : FitsSigned w32 c.step-along.result.1 = search rules in
     let row = ap (λ (n : NeighbourhoodModel). n.y) c.self.view_is in
     let across = to_z-of_z w32 c.step-along.result.0 across_fits ∙ c.step-along.ensures.across
-    ∙ ap (λ k. amount (gas.step k (is_odd c.self.inside.y)).0) c.opposite.ensures ∙ ap (λ k. amount (gas.step (gas.opposite i) (is_odd k)).0) row in
+    ∙ ap (λ k. amount (gas.step k (is_odd c.self.inside.y)).0) c.opposite.ensures.value ∙ ap (λ k. amount (gas.step (gas.opposite i) (is_odd k)).0) row in
     let down = to_z-of_z w32 c.step-along.result.1 down_fits ∙ c.step-along.ensures.down
-    ∙ ap (λ k. amount (gas.step k (is_odd c.self.inside.y)).1) c.opposite.ensures ∙ ap (λ k. amount (gas.step (gas.opposite i) (is_odd k)).1) row in
+    ∙ ap (λ k. amount (gas.step k (is_odd c.self.inside.y)).1) c.opposite.ensures.value ∙ ap (λ k. amount (gas.step (gas.opposite i) (is_odd k)).1) row in
     c.move_plane.ensures.moved m.0 across x (subst (λ w. x < w) (sym c.requires.wide) h)
     ∙ ap (λ w. holds (get_or c.row_beside.result.now (column_after w x m.0) 0) i) c.requires.wide
     ∙ ap (λ (r : List ℕ). holds (get_or r (column_after near.channel.width x m.0) 0) i) (c.row_beside.ensures.row m.1 down)

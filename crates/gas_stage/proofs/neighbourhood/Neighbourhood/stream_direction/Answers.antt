@@ -23,7 +23,7 @@ returns-clause-streamed g c =
     let y : ℕ = c.self.inside.y in
     let i : ℕ = c.args.i in
     let v : ℕ = c.in-Some.v in
-    let opposite : c.opposite-opposite.result ≡ gas.opposite i = c.opposite-opposite.ensures in
+    let opposite : c.opposite-opposite.result ≡ gas.opposite i = c.opposite-opposite.ensures.value in
     let there : neighbour_of gas channel.width channel.height 0 y (gas.opposite i) ≡ Some (c.in-Some.field-0-0, v) = search rules in
     let across_fits : FitsSigned w32 c.step-along.result.0 = search rules in
     let down_fits : FitsSigned w32 c.step-along.result.1 = search rules in
@@ -51,7 +51,7 @@ returns-in_default-clause-streamed g c =
     let channel = c.self.inside.channel.now in
     let y : ℕ = c.self.inside.y in
     let i : ℕ = c.args.i in
-    let opposite : c.opposite-opposite.result ≡ gas.opposite i = c.opposite-opposite.ensures in
+    let opposite : c.opposite-opposite.result ≡ gas.opposite i = c.opposite-opposite.ensures.value in
     let there : neighbour_of gas channel.width channel.height 0 y (gas.opposite i) ≡ None = search rules in
     let wide = c.requires.wide ∙ ap (λ (n : NeighbourhoodModel). n.channel.width) (sym c.self.view_is) in
     IsStreamedIn-seen gas i _ _ _ c.self.view_is (λ at rows x h.

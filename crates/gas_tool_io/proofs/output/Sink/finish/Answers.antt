@@ -1,5 +1,5 @@
 use Rattle.std.proofs.Common.{◌≡◌, ◌∙◌, ap, sym, subst, false, append-nil}
-use Rattle.gas_tool_io.specs.Sink.{SinkModel, HasSent}
+use Rattle.gas_tool_io.specs.Inner.Sink.{SinkModel, HasSent}
 use Rattle.gas_tool_io.proofs.Sinks.{HasSent-whole}
 use Rattle.gas_tool_io.proofs.output.Sink.finish.Goals as goal
 

@@ -2,7 +2,7 @@ use Rattle.std.proofs.Common.{◌≡◌, ◌≤◌, ◌-◌, ◌+◌, length, ta
 use Rattle.std.proofs.lemmas.Grind.{common_steps}
 use Rattle.rtrb.specs.Ring.{received}
 use Rattle.gas_belt.proofs.Waiting.{waiting-there, waiting-less, taken-more}
-use Rattle.gas_belt.proofs.inlet.Inlet.take_waiting.Goals as goal
+use Rattle.gas_belt.proofs.pop_buffer.PopBuffer.take_waiting.Goals as goal
 
 pub invariant_of-self-2 : goal.invariant_of-self-2
 invariant_of-self-2 c =

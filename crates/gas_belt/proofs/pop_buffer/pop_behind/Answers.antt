@@ -1,7 +1,7 @@
 use Rattle.std.proofs.Common.{◌≡◌, ℕ, ◌+◌, ◌++◌, take, length, arith, ap, sym, ◌∙◌, List}
 use Rattle.std.proofs.lemmas.Grind.{common_steps}
 use Rattle.std.proofs.Math.Seq.{take-append-add}
-use Rattle.gas_belt.proofs.inlet.pop_behind.Goals as goal
+use Rattle.gas_belt.proofs.pop_buffer.pop_behind.Goals as goal
 
 pub returns-clause-came : goal.returns-clause-came
 returns-clause-came c =

@@ -1,5 +1,5 @@
 -- Inner words: what functions of this crate promise one another. No public contract cites them.
--- What a sink does to the writer.
+-- Here: what a sink does to the writer.
 use Rattle.std.specs.Prelude.{◌≡◌, ◌≤◌, ℕ, List, ◌++◌, length, take, drop, Bool, false, Option}
 use Rattle.std.specs.Io.KnownBytes.{Appends}
 
@@ -9,7 +9,7 @@ pub record SinkModel : Type 0 where
   pub written : ℕ
   pub failed : Bool
 
--- of the text as many bytes went out as were counted; unless the writer failed, the others wait
+-- the first bytes of the text, up to the count, went out; unless the writer failed, the others wait
 pub record HasSent (start now : Option (List ℕ)) (sink : SinkModel) (text : List ℕ) : Type 0 where
   pub within : sink.written ≤ length text
   pub out : Appends start now (take sink.written text)

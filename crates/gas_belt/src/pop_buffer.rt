@@ -1,54 +1,56 @@
-//! Words on their way out of a ring.
+//! The end of a ring that words are popped from.
 ghost use Rattle.std.specs.Prelude.{◌≡◌, ◌≤◌, ◌+◌, ◌-◌, ◌++◌, ℕ, List, length, take, drop, vec_len};
 ghost use Rattle.rtrb.specs.Ring.{received, SameConsumer};
 
 use core::mem::replace_with;
 use rtrb::Consumer;
 
-/// The end of a ring that the words of rows are taken from. Those of many rows may come out of the
-/// ring at once, and those that were not taken yet wait beside it.
+/// The end of a ring that the words of rows are taken from. The words of several rows may be popped
+/// at once; those that were not taken yet wait beside the ring.
 #[derive(Drop)]
-pub(crate) struct Inlet {
+pub(crate) struct PopBuffer {
     pub ring: Consumer<u64>,
     // The words of the row that was taken last.
     pub row: Vec<u64>,
-    // Of the words those from `first` on, as far as `filled`, came out of the ring and wait.
+    // The words from `first` to `filled` were popped and wait.
     pub words: Vec<u64>,
     pub first: usize,
     pub filled: usize,
     ghost order: { first ≤ filled },
     ghost within: { filled ≤ vec_len words },
     ghost enough: { filled - first ≤ length (received ring) },
-    ghost waiting: { drop (length (received ring) - (filled - first)) (received ring) ≡ drop first (take filled words.items) },
+    ghost waiting: { drop (length (received ring) - (filled - first)) (received ring)
+        ≡ drop first (take filled words.items) },
 }
 
-// Pops words to the places from `filled` on. It gives their number.
+// Pops words into `words` from index `filled` on. Returns their number.
 fn pop_behind(ring: &mut Consumer<u64>, words: &mut [u64], filled: usize) -> usize
-    requires { filled ≤ length words.old }
+    requires start { filled ≤ length words.old }
     ensures ring { SameConsumer ring.old ring.new }
     ensures within { filled + result ≤ length words.old }
-    ensures came { (part : List ℕ) × (received ring.new ≡ received ring.old ++ part) × (length part ≡ result)
+    ensures came { (part : List ℕ) × (received ring.new ≡ received ring.old ++ part)
+        × (length part ≡ result)
         × (take (filled + result) words.new ≡ take filled words.old ++ part) }
 {
     let (_, rest) = words.split_at_mut(filled);
     ring.pop_partial_slice(rest)
 }
 
-impl Inlet {
+impl PopBuffer {
     ghost use Rattle.std.specs.Prelude.{◌≡◌, ◌++◌, [], length, vec_len, IsTrue, IsFalse};
     ghost use Rattle.rtrb.specs.Ends.{SameRing};
     ghost use Rattle.rtrb.specs.Ring.{received};
-    ghost use Rattle.gas_belt.specs.Ring.{taken_words};
+    ghost use Rattle.gas_belt.specs.Inner.Ring.{taken_words};
 
-    /// An end from which nothing was taken, with places for the words of a row, and for words that
-    /// wait: none, or those of some rows.
+    /// An end from which nothing was taken. `row` has room for the words of a row, and `words` for
+    /// those of the rows that may wait, or for none.
     pub(crate) fn new(ring: Consumer<u64>, row: Vec<u64>, words: Vec<u64>) -> Self
         requires nothing { received ring ≡ [] }
         ensures ring { result.ring ≡ ring }
         ensures row { result.row ≡ row }
         ensures taken { taken_words result ≡ [] }
     {
-        Inlet {
+        PopBuffer {
             ring,
             row,
             words,
@@ -57,7 +59,7 @@ impl Inlet {
         }
     }
 
-    // Begins at the first place again, where no words wait.
+    // Starts at index 0 again where no words wait.
     fn rewind(&mut self)
         ensures ring { self.new.ring ≡ self.old.ring }
         ensures row { self.new.row ≡ self.old.row }
@@ -69,8 +71,8 @@ impl Inlet {
         }
     }
 
-    // Whether so many words have come that are still in the ring.
-    fn has_come(&mut self, count: usize) -> bool
+    // Returns whether the ring holds `count` words.
+    fn has_words(&mut self, count: usize) -> bool
         ensures ring { SameRing self.old.ring.end self.new.ring.end }
         ensures row { self.new.row ≡ self.old.row }
         ensures words { self.new.words ≡ self.old.words }
@@ -79,14 +81,14 @@ impl Inlet {
         count <= self.ring.cached_slots() || count <= self.ring.slots()
     }
 
-    // Lets words that came wait behind those that do. Like `filled` it has the end by value, so that a
-    // compiler keeps in a register where the ring lies, and copies several words at a time.
-    fn refilled(self, _nothing: ()) -> (Self, ())
+    // Pops more words behind those that wait. It takes the end by value, as `pop_row` does, so that
+    // the compiler keeps the ring's address in a register and copies several words at a time.
+    fn pop_more(self, _nothing: ()) -> (Self, ())
         ensures ring { SameRing self.ring.end result.0.ring.end }
         ensures row { result.0.row ≡ self.row }
         ensures taken { taken_words result.0 ≡ taken_words self }
     {
-        let Inlet {
+        let PopBuffer {
             mut ring,
             row,
             mut words,
@@ -94,26 +96,28 @@ impl Inlet {
             mut filled,
         } = self;
         filled += pop_behind(&mut ring, &mut words, filled);
-        let inlet = Inlet {
+        let buffer = PopBuffer {
             ring,
             row,
             words,
             first,
             filled,
         };
-        (inlet, ())
+        (buffer, ())
     }
 
-    // Takes the words of a row out of the ring, where none wait beside it, if all have come.
-    fn filled(self, _nothing: ()) -> (Self, bool)
+    // Pops the words of a row, where none wait beside the ring. Returns whether the ring held them
+    // all.
+    fn pop_row(self, _nothing: ()) -> (Self, bool)
         requires none_wait { vec_len self.words ≡ 0 }
         ensures ring { SameRing self.ring.end result.0.ring.end }
         ensures places { vec_len result.0.row ≡ vec_len self.row }
         ensures words { length result.0.row.items ≡ vec_len self.row }
-        ensures taken { IsTrue result.1 → taken_words result.0 ≡ taken_words self ++ result.0.row.items }
+        ensures taken { IsTrue result.1 →
+            taken_words result.0 ≡ taken_words self ++ result.0.row.items }
         ensures unchanged { IsFalse result.1 → taken_words result.0 ≡ taken_words self }
     {
-        let Inlet {
+        let PopBuffer {
             mut ring,
             mut row,
             words,
@@ -121,22 +125,23 @@ impl Inlet {
             filled,
         } = self;
         let is_whole = ring.pop_entire_slice(&mut row).is_ok();
-        let inlet = Inlet {
+        let buffer = PopBuffer {
             ring,
             row,
             words,
             first,
             filled,
         };
-        (inlet, is_whole)
+        (buffer, is_whole)
     }
 
-    // Takes the words of a row from those that wait, if there are so many.
+    // Takes the words of a row from those that wait. Returns whether they suffice.
     fn take_waiting(&mut self) -> bool
         ensures ring { self.new.ring ≡ self.old.ring }
         ensures places { vec_len self.new.row ≡ vec_len self.old.row }
         ensures words { length self.new.row.items ≡ vec_len self.old.row }
-        ensures taken { IsTrue result → taken_words self.new ≡ taken_words self.old ++ self.new.row.items }
+        ensures taken { IsTrue result →
+            taken_words self.new ≡ taken_words self.old ++ self.new.row.items }
         ensures unchanged { IsFalse result → taken_words self.new ≡ taken_words self.old }
     {
         if self.filled - self.first < self.row.len() {
@@ -148,22 +153,23 @@ impl Inlet {
         true
     }
 
-    /// Takes the words of a row behind all that were taken, if all have come. It says whether they
-    /// have.
+    /// Takes the words of the next row into `row`. Returns whether all of them have come; none is
+    /// taken where they have not.
     pub(crate) fn take(&mut self) -> bool
         ensures ring { SameRing self.old.ring.end self.new.ring.end }
         ensures places { vec_len self.new.row ≡ vec_len self.old.row }
         ensures words { length self.new.row.items ≡ vec_len self.old.row }
-        ensures taken { IsTrue result → taken_words self.new ≡ taken_words self.old ++ self.new.row.items }
+        ensures taken { IsTrue result →
+            taken_words self.new ≡ taken_words self.old ++ self.new.row.items }
         ensures unchanged { IsFalse result → taken_words self.new ≡ taken_words self.old }
     {
         let count = self.row.len();
         if self.words.is_empty() {
-            return self.has_come(count) && replace_with(self, (), Inlet::filled);
+            return self.has_words(count) && replace_with(self, (), PopBuffer::pop_row);
         }
-        if self.filled - self.first < count && self.has_come(1) {
+        if self.filled - self.first < count && self.has_words(1) {
             self.rewind();
-            replace_with(self, (), Inlet::refilled);
+            replace_with(self, (), PopBuffer::pop_more);
         }
         self.take_waiting()
     }

@@ -1,40 +1,40 @@
-//! Words on their way into a ring.
+//! The end of a ring that words are pushed on.
 ghost use Rattle.std.specs.Prelude.{◌≤◌, vec_len};
 ghost use Rattle.rtrb.specs.Ring.{known_free};
 
 use rtrb::Producer;
 
-/// The end of a ring that words are sent on. What is sent may gather beside the ring first, since
-/// showing words to the other thread is dear: then many go into the ring at once.
+/// The end of a ring that words are sent on. The words of several rows may gather beside the ring
+/// and be pushed at once, since showing words to the other thread is expensive.
 #[derive(Drop)]
-pub(crate) struct Outlet {
+pub(crate) struct PushBuffer {
     pub ring: Producer<u64>,
-    // The first `waiting` of the words are sent and not yet in the ring, which has room for them.
+    // The first `waiting` words were sent and are not yet in the ring, which has room for them.
     pub words: Vec<u64>,
     pub waiting: usize,
     ghost within: { waiting ≤ vec_len words },
     ghost room: { waiting ≤ known_free ring },
 }
 
-impl Outlet {
+impl PushBuffer {
     ghost use Rattle.std.specs.Prelude.{◌≡◌, ◌++◌, ◌≤◌, ◌+◌, length, vec_len, IsTrue, IsFalse};
     ghost use Rattle.rtrb.specs.Ends.{SameRing};
     ghost use Rattle.rtrb.specs.Ring.{sent, known_free};
-    ghost use Rattle.gas_belt.specs.Ring.{sent_words};
+    ghost use Rattle.gas_belt.specs.Inner.Ring.{sent_words};
 
-    /// An end on which nothing was sent, with places for words that gather.
+    /// An end on which nothing was sent. `words` is the room for those that gather.
     pub(crate) fn new(ring: Producer<u64>, words: Vec<u64>) -> Self
         ensures ring { result.ring ≡ ring }
         ensures sent { sent_words result ≡ sent ring }
     {
-        Outlet {
+        PushBuffer {
             ring,
             words,
             waiting: 0,
         }
     }
 
-    /// Puts the words that gathered into the ring, and says whether there were any.
+    /// Pushes the words that gathered into the ring. Returns whether there were any.
     pub(crate) fn publish(&mut self) -> bool
         ensures ring { SameRing self.old.ring.end self.new.ring.end }
         ensures sent { sent_words self.new ≡ sent_words self.old }
@@ -50,9 +50,9 @@ impl Outlet {
         true
     }
 
-    // Whether the ring has room for so many words beside those that gathered.
+    // Returns whether the ring has room for `count` words beside those that gathered.
     fn has_room(&mut self, count: usize) -> bool
-        requires { count ≤ vec_len self.old.words }
+        requires few { count ≤ vec_len self.old.words }
         ensures ring { SameRing self.old.ring.end self.new.ring.end }
         ensures sent { sent_words self.new ≡ sent_words self.old }
         ensures words { self.new.words ≡ self.old.words }
@@ -63,9 +63,9 @@ impl Outlet {
         needed <= self.ring.cached_slots() || needed <= self.ring.slots()
     }
 
-    // Lets words gather.
+    // Adds words to those that gather.
     fn gather(&mut self, words: &[u64])
-        requires places { self.old.waiting + length words.now ≤ vec_len self.old.words }
+        requires few { self.old.waiting + length words.now ≤ vec_len self.old.words }
         requires room { self.old.waiting + length words.now ≤ known_free self.old.ring }
         ensures ring { SameRing self.old.ring.end self.new.ring.end }
         ensures sent { sent_words self.new ≡ sent_words self.old ++ words.now }
@@ -75,7 +75,8 @@ impl Outlet {
         self.waiting = end;
     }
 
-    /// Sends words behind all that were sent, if they find a place. It says whether they did.
+    /// Sends words behind all that were sent. Returns whether the ring had room for them; none is
+    /// sent where it had not.
     pub(crate) fn send(&mut self, words: &[u64]) -> bool
         ensures ring { SameRing self.old.ring.end self.new.ring.end }
         ensures sent { IsTrue result → sent_words self.new ≡ sent_words self.old ++ words.now }

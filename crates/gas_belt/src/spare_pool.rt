@@ -1,6 +1,6 @@
-//! Rows that wait to be written to.
+//! Spare rows: rows whose cells may be overwritten.
 ghost use Rattle.std.specs.Prelude.{◌≡◌, ◌≢◌, ◌-◌, ◌+◌, ◌<◌, ◌≤◌, length, min, IfOk, IfSome, IfNone};
-ghost use Rattle.gas_belt.specs.Ring.{SparesModel};
+ghost use Rattle.gas_belt.specs.Inner.Ring.{SparePoolModel};
 
 use gas_geom::gas::Gas;
 use gas_rows::row::Row;
@@ -8,22 +8,22 @@ use std::alloc::{AllocError, Global};
 use std::collections::VecDeque;
 use std::marker::Model;
 
-/// The most rows that are kept.
+/// The most rows that a pool keeps.
 const MOST: usize = 2;
 
-/// Up to two rows of one width.
+/// Up to two spare rows of one width.
 #[derive(Drop)]
-pub(crate) struct Spares<G: Gas> {
+pub(crate) struct SparePool<G: Gas> {
     rows: VecDeque<Row<G>>,
     width: u32,
 }
 
-impl<G: Gas> Model for Spares<G> {
+impl<G: Gas> Model for SparePool<G> {
     ghost use Rattle.std.specs.Prelude.{◌≡◌, ◌≤◌, length, All};
     ghost use Rattle.std.specs.VecDeque.{deque_capacity, deque_len};
-    ghost use Rattle.gas_belt.specs.Ring.{SparesModel};
+    ghost use Rattle.gas_belt.specs.Inner.Ring.{SparePoolModel};
 
-    ghost Value = { SparesModel };
+    ghost Value = { SparePoolModel };
 
     ghost view = { λ s. record { width = s.width; count = deque_len s.rows } };
 
@@ -34,12 +34,12 @@ impl<G: Gas> Model for Spares<G> {
     } };
 }
 
-impl<G: Gas> Spares<G> {
-    /// No rows, with places for two.
+impl<G: Gas> SparePool<G> {
+    /// An empty pool with room for two rows.
     pub(crate) fn new(alloc: Global, width: u32) -> Result<Self, AllocError>
-        ensures { IfOk result (λ s. s ≡ record { width = width; count = 0 }) }
+        ensures empty { IfOk result (λ s. s ≡ record { width = width; count = 0 }) }
     {
-        Ok(Spares {
+        Ok(SparePool {
             rows: VecDeque::with_capacity(alloc, MOST)?,
             width,
         })
@@ -55,7 +55,8 @@ impl<G: Gas> Spares<G> {
 
     /// Keeps the row. It is dropped where two are kept, or its width is another.
     pub(crate) fn keep(&mut self, row: Row<G>)
-        ensures kept { length row ≡ self.old.width → self.new ≡ record self.old { count = min 2 (self.old.count + 1) } }
+        ensures kept { length row ≡ self.old.width →
+            self.new ≡ record self.old { count = min 2 (self.old.count + 1) } }
         ensures dropped { length row ≢ self.old.width → self.new ≡ self.old }
     {
         if row.width() == self.width && self.rows.len() < MOST {
@@ -66,7 +67,8 @@ impl<G: Gas> Spares<G> {
     /// Hands out the row that was kept last.
     pub(crate) fn take(&mut self) -> Option<Row<G>>
         ensures row { IfSome result (λ row. length row ≡ self.old.width) }
-        ensures one_less { IfSome result (λ _. self.old ≡ record self.new { count = self.new.count + 1 }) }
+        ensures one_less { IfSome result (λ _.
+            self.old ≡ record self.new { count = self.new.count + 1 }) }
         ensures none { IfNone result (self.old.count ≡ 0) }
     {
         self.rows.pop_back()
