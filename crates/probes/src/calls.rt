@@ -1,7 +1,7 @@
 //! The calls that take memory, by their names.
 
 use crate::drift::Advance;
-use crate::obstacle::{Lending, written_down};
+use crate::obstacle::{Lending, checkpoint_outcome};
 use crate::outcome::Outcome;
 use crate::performing::Performing;
 use crate::rows::Making;
@@ -87,7 +87,7 @@ pub const CALLS: [(&str, Call); 29] = [
 
 impl Call {
     /// The call of this name.
-    pub fn named(word: &str) -> Option<Call> {
+    pub fn of_name(word: &str) -> Option<Call> {
         for (name, call) in CALLS {
             if name == word {
                 return Some(call);
@@ -96,7 +96,7 @@ impl Call {
         None
     }
 
-    /// Makes the call, and says how it ended. What is made to be lent to it may be refused too.
+    /// Makes the call. Returns how it ended; memory for what the call is lent may be refused too.
     pub fn outcome<R: Threads + Wait + Sync>(self, threads: &R, alloc: Global) -> Outcome {
         match self {
             Call::Make(making) => making.outcome(alloc),
@@ -104,7 +104,7 @@ impl Call {
             Call::Advance(advance) => advance.outcome(threads, alloc),
             Call::ReadMap => scene(alloc, MAP),
             Call::ReadArea => scene(alloc, AREA),
-            Call::Checkpoint => written_down(alloc),
+            Call::Checkpoint => checkpoint_outcome(alloc),
             Call::Slurp => input(alloc),
             Call::ParseWords => words(alloc),
             Call::Perform(performing) => performing.outcome(threads, alloc),

@@ -45,21 +45,21 @@ impl Advance {
         lattice: &Lattice<Fhp1>,
     ) -> Outcome {
         match self {
-            Advance::Alone => alone(alloc, lattice),
-            Advance::Replay => replayed(alloc, lattice),
+            Advance::Alone => advance_alone(alloc, lattice),
+            Advance::Replay => replay_outcome(alloc, lattice),
             Advance::Run {
                 workers,
                 capacity,
                 generations,
             } => match Plan::new(workers, capacity, generations) {
-                Ok(plan) => ran(threads, alloc, lattice, plan),
+                Ok(plan) => run_outcome(threads, alloc, lattice, plan),
                 Err(_) => Outcome::Wrong,
             },
         }
     }
 }
 
-fn alone(alloc: Global, lattice: &Lattice<Fhp1>) -> Outcome {
+fn advance_alone(alloc: Global, lattice: &Lattice<Fhp1>) -> Outcome {
     match lattice_after(alloc, lattice, Chirality::Left, 0, 5) {
         Ok(after) => Outcome::of_answer(has_drifted_to(&after, 5)),
         Err(_) => Outcome::Refused,
@@ -71,7 +71,7 @@ const ROUNDS: [u32; 24] = [
     0, 1, 0, 1, 0, 1, 0, 1, 0, 1, 0, 1, 0, 1, 0, 1, 0, 1, 0, 1, 0, 1, 0, 1,
 ];
 
-fn replayed(alloc: Global, lattice: &Lattice<Fhp1>) -> Outcome {
+fn replay_outcome(alloc: Global, lattice: &Lattice<Fhp1>) -> Outcome {
     let Ok(plan) = Plan::new(1, 1, 1) else {
         return Outcome::Wrong;
     };
@@ -84,7 +84,7 @@ fn replayed(alloc: Global, lattice: &Lattice<Fhp1>) -> Outcome {
     }
 }
 
-fn ran<R: Threads + Wait + Sync>(
+fn run_outcome<R: Threads + Wait + Sync>(
     threads: &R,
     alloc: Global,
     lattice: &Lattice<Fhp1>,

@@ -4,7 +4,7 @@ use gas_rows::key::key_words;
 
 const WORDS: usize = 4096;
 
-/// The last word of so many rows of 4096 words, under the seed 1.
+/// The last word of `rows` rows of 4096 words, under the seed 1.
 pub fn last_word(rows: u32) -> u32 {
     let mut words = [0u32; WORDS];
     for row in 0..rows {

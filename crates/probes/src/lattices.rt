@@ -30,22 +30,22 @@ pub fn drifting_lattice(alloc: Global) -> Result<Lattice<Fhp1>, AllocError> {
     Ok(lattice)
 }
 
-// Whether the channel has seven columns and three rows.
+// Returns whether the channel has seven columns and three rows.
 fn is_seven_by_three(channel: &Channel) -> bool
-    ensures { IsTrue result → (channel.now.width ≡ 7) × (channel.now.height ≡ 3) }
+    ensures size { IsTrue result → (channel.now.width ≡ 7) × (channel.now.height ≡ 3) }
 {
     let size = channel.size();
     size.width() == 7 && size.height() == 3
 }
 
-/// Whether the channel is that of the lattice with an obstacle.
+/// Returns whether the channel is that of the lattice with an obstacle.
 pub fn has_obstacle(channel: &Channel) -> bool
-    ensures { IsTrue result → (channel.now.width ≡ 7) × (channel.now.height ≡ 3) }
+    ensures size { IsTrue result → (channel.now.width ≡ 7) × (channel.now.height ≡ 3) }
 {
     is_seven_by_three(channel) && channel.count_solid() == 1 && channel.is_solid(3, 1)
 }
 
-/// Whether this is the lattice with an obstacle.
+/// Returns whether this is the lattice with an obstacle.
 pub fn is_with_obstacle(lattice: &Lattice<Fhp1>) -> bool {
     has_obstacle(lattice.channel())
         && lattice.count() == 3
@@ -53,7 +53,7 @@ pub fn is_with_obstacle(lattice: &Lattice<Fhp1>) -> bool {
         && lattice.cell(6, 2) == 0x02
 }
 
-/// Whether this is the lattice with one particle, after it has come to this column.
+/// Returns whether this is the lattice with one particle, after it has come to this column.
 pub fn has_drifted_to(lattice: &Lattice<Fhp1>, column: u32) -> bool {
     is_seven_by_three(lattice.channel())
         && lattice.channel().count_solid() == 0

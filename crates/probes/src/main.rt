@@ -1,14 +1,14 @@
 //! Makes calls of the crates one by one, for tests and benchmarks:
 //!
-//! - `probes CALL` makes one call that takes memory, and tells by its status how that ended: 0 with the
-//!   usual answer, 3 where memory was refused and what the call was lent is as before, 1 in another way.
-//!   It is run beside a library that refuses requests for memory.
-//! - `probes single_stage GENERATIONS` computes generations of the scene on standard input by one stage
-//!   on one thread, and prints the cells.
-//! - `probes key_stream ROWS` makes so many rows of 4096 words of a seed's key stream, and prints the last
-//!   word.
-//! - `probes every` makes each call in turn and prints how it ended, and then does the other two, with one
-//!   row and one generation.
+//! - `probes CALL` makes one call that takes memory, and tells by its status how that ended: 0 with
+//!   the usual answer, 3 where memory was refused and what the call was lent is as before, 1 in
+//!   another way. It is run beside a library that refuses requests for memory.
+//! - `probes single_stage GENERATIONS` computes generations of the scene on standard input by one
+//!   stage on one thread, and prints the cells.
+//! - `probes key_stream ROWS` makes `ROWS` rows of 4096 words of a seed's key stream, and prints
+//!   the last word.
+//! - `probes every` makes each call in turn and prints how it ended, and then does the other two,
+//!   with one row and one generation.
 #![tactic(auto)]
 
 mod calls;
@@ -51,7 +51,7 @@ impl Task {
                 rows: u32::try_from(number?).ok()?,
             }),
             "every" => Some(Task::Every),
-            _ => Some(Task::One(Call::named(word)?)),
+            _ => Some(Task::One(Call::of_name(word)?)),
         }
     }
 
@@ -65,6 +65,7 @@ impl Task {
     }
 }
 
+// The status of a task that is done, or not.
 fn success(done: Option<()>) -> ExitCode {
     match done {
         Some(()) => ExitCode::SUCCESS,
@@ -86,7 +87,7 @@ fn print_all<R: Threads + Wait + Sync>(rt: &HostRuntime, threads: &R) -> Option<
 }
 
 // What the command line asks for. It fails only where memory is refused.
-fn asked(rt: &HostRuntime) -> io::Result<Option<Task>> {
+fn read_task(rt: &HostRuntime) -> io::Result<Option<Task>> {
     let mut words = env::args(rt)?;
     words.next();
     let Some(word) = words.next() else {
@@ -100,7 +101,7 @@ fn asked(rt: &HostRuntime) -> io::Result<Option<Task>> {
 }
 
 fn main(rt: HostRuntime) -> ExitCode {
-    match asked(&rt) {
+    match read_task(&rt) {
         Ok(Some(task)) => task.status(&rt, &rt),
         Ok(None) => ExitCode::FAILURE,
         Err(_) => ExitCode::from(3),

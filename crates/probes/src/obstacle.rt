@@ -63,19 +63,19 @@ fn copied_lattice(alloc: Global, lattice: &Lattice<Fhp1>) -> Outcome {
 }
 
 fn stage(alloc: Global, lattice: &Lattice<Fhp1>) -> Outcome {
-    made(Stage::<Fhp1>::new(alloc, lattice.channel(), Chirality::Left).is_ok())
+    outcome_of_making(Stage::<Fhp1>::new(alloc, lattice.channel(), Chirality::Left).is_ok())
 }
 
 fn worker(alloc: Global, lattice: &Lattice<Fhp1>) -> Outcome {
-    made(Worker::<Fhp1>::new(alloc, lattice.channel(), Chirality::Left).is_ok())
+    outcome_of_making(Worker::<Fhp1>::new(alloc, lattice.channel(), Chirality::Left).is_ok())
 }
 
 fn feeder(alloc: Global, lattice: &Lattice<Fhp1>) -> Outcome {
-    made(Feeder::new(alloc, lattice).is_ok())
+    outcome_of_making(Feeder::new(alloc, lattice).is_ok())
 }
 
-// What came of making something.
-fn made(is_made: bool) -> Outcome {
+// The outcome of making something.
+fn outcome_of_making(is_made: bool) -> Outcome {
     if is_made {
         Outcome::Answered
     } else {
@@ -110,8 +110,8 @@ fn blocks(alloc: Global, lattice: &Lattice<Fhp1>) -> Outcome {
     }
 }
 
-/// The lattice at the last generation that a scene can tell, written down and read again.
-pub fn written_down(alloc: Global) -> Outcome {
+/// The outcome of writing the lattice as a scene of the last generation, which is read again.
+pub fn checkpoint_outcome(alloc: Global) -> Outcome {
     let Ok(lattice) = lattice_with_obstacle(alloc) else {
         return Outcome::Refused;
     };

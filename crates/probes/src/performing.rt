@@ -28,8 +28,8 @@ const DRIFT: &[u8] =
 /// Its cells after one generation.
 const DRIFTED: &[u8] = b"generation 1 particles 1\n........\n01......\n........\n";
 
-/// The table of the blocks of the lattice with an obstacle, which have as many particles and as much
-/// momentum a generation later.
+/// The table of the blocks of the lattice with an obstacle, which keep their numbers of particles
+/// and their momenta for a generation.
 const TABLE: &[u8] = b"  col   row    fluid particles         px         py
     0     0       11         2          0          0
     1     0        9         1          1          1
@@ -48,7 +48,7 @@ impl Performing {
                     capacity: 2,
                     generations: 1,
                 };
-                answered(threads, alloc, DRIFT, &request, DRIFTED)
+                request_outcome(threads, alloc, DRIFT, &request, DRIFTED)
             }
             Performing::Coarse => {
                 let request = Request::Coarse {
@@ -58,7 +58,7 @@ impl Performing {
                     block_width: 4,
                     block_height: 4,
                 };
-                answered(threads, alloc, AREA, &request, TABLE)
+                request_outcome(threads, alloc, AREA, &request, TABLE)
             }
             Performing::Replay => {
                 let request = Request::Replay {
@@ -67,7 +67,7 @@ impl Performing {
                     generations: 2,
                     turns: Turns::new(Vec::new(alloc)),
                 };
-                answered(threads, alloc, MAP, &request, BEGUN)
+                request_outcome(threads, alloc, MAP, &request, BEGUN)
             }
         }
     }
@@ -102,15 +102,15 @@ impl Write for Page<'_> {
     }
 }
 
-// A whole request: this answer, or not a byte.
-fn answered<R: Threads + Wait + Sync>(
+// The outcome of a whole request, which writes this answer or not a byte.
+fn request_outcome<R: Threads + Wait + Sync>(
     threads: &R,
     alloc: Global,
     text: &[u8],
     request: &Request,
     answer: &[u8],
 ) -> Outcome
-    requires { IsAllowed request.now }
+    requires allowed { IsAllowed request.now }
 {
     let register = Register::new();
     let mut page = Page {
@@ -135,7 +135,7 @@ fn status<R: Threads + Wait + Sync>(
     register: &Register,
     page: &mut Page<'_>,
 ) -> Option<u8>
-    requires { IsAllowed request.now }
+    requires allowed { IsAllowed request.now }
 {
     match perform(threads, alloc, text, request, register, page) {
         Ok(()) => None,

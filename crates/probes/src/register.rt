@@ -19,7 +19,7 @@ impl Register {
         }
     }
 
-    /// Whether the workers that entered are those that left.
+    /// Returns whether the workers that entered are those that left.
     pub fn is_closed(&self) -> bool {
         self.entered.load(Ordering::SeqCst) == self.left.load(Ordering::SeqCst)
     }

@@ -1,4 +1,5 @@
-//! Calls that make rows, masks, random bits, channels and belts, and are lent a row or a mask at most.
+//! Calls that make rows, masks, random bits, channels and belts, and are lent a row or a mask at
+//! most.
 
 use crate::outcome::Outcome;
 use gas_belt::belt;
@@ -76,7 +77,7 @@ fn copy_of_row(alloc: Global, row: &Row<Fhp1>) -> Outcome {
     }
 }
 
-// Whether the mask has 70 cells, of which the first and the last alone are true.
+// Returns whether the mask has 70 cells, and the first and the last alone are true.
 fn has_ends(mask: &Mask) -> bool {
     mask.width() == 70 && mask.words() == [1, 0x20].as_slice()
 }

@@ -23,8 +23,8 @@ fn block(place: (u32, u32), fluid: u64, particles: u64, momentum: (i64, i64)) ->
     }
 }
 
-/// The lattice has these blocks, so many columns wide and so many rows high. It promises nothing, so
-/// that no test carries the promises of `coarse`.
+/// Asserts that the lattice has these blocks of `width` columns and `height` rows. It promises
+/// nothing, so that no test carries the promises of `coarse`.
 fn has_blocks<G: Gas>(
     rt: &impl Abort,
     alloc: Global,

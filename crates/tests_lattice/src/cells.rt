@@ -1,4 +1,5 @@
-// How a cell is printed.
+//! How a cell is printed.
+
 use gas_cells::cells::cell_pair;
 
 #[test]

@@ -1,4 +1,5 @@
-// The collisions of each gas beside its table: of one cell, of a row and of a word of 64 cells.
+//! The collisions of each gas beside its table: of one cell, of a row and of a word of 64 cells.
+
 ghost use Rattle.std.specs.Prelude.{◌<◌, ◌^◌};
 
 use gas_geom::fhp_rest::FhpRest;
@@ -50,8 +51,8 @@ const FHP_REST: [Collision; 22] = [
     (0x11, 0x60, 0x60),
 ];
 
-// What the table says of a state. One that it does not list stays.
-fn listed(table: &[Collision], state: u8) -> (u8, u8) {
+// The states after a collision, by the table. One that it does not list stays.
+fn table_entry(table: &[Collision], state: u8) -> (u8, u8) {
     for (before, left, right) in table {
         if *before == state {
             return (*left, *right);
@@ -65,7 +66,7 @@ fn cells_collide<G: Gas>(rt: &impl Abort, table: &[Collision]) {
     for state in 0..=255u8 {
         if u32::from(state) < 2u32.pow(G::DIRS) {
             let found = (G::collide(state, true), G::collide(state, false));
-            assert!(rt; found == listed(table, state), "{state:02x}");
+            assert!(rt; found == table_entry(table, state), "{state:02x}");
         }
     }
 }
@@ -84,8 +85,8 @@ fn state_at<G: Gas>(first: u32, x: u32) -> u8
     (first.wrapping_add(x) % 2u32.pow(G::DIRS)) as u8
 }
 
-// A row of 65 cells with these states after its collisions. The random bits of even cells are `even`,
-// those of odd cells are not, and the last cell is solid.
+// A row of 65 cells with these states after its collisions. The random bits of even cells are
+// `even`, those of odd cells are not, and the last cell is solid.
 fn collided_row<G: Gas>(alloc: Global, first: u32, even: bool) -> Result<Row<G>, AllocError> {
     let mut row = Row::blank(alloc, 65)?;
     let mut bits = Mask::blank(alloc, 65)?;
@@ -115,7 +116,7 @@ fn row_collides<G: Gas>(
     for x in 0..row.width() {
         let (left, right) = match x {
             64 => (0x00, 0x00),
-            _ => listed(table, state_at::<G>(first, x)),
+            _ => table_entry(table, state_at::<G>(first, x)),
         };
         let wanted = if (x % 2 == 0) == even { left } else { right };
         assert!(rt; row.get(x) == wanted, "cell {x} from {first:02x}");

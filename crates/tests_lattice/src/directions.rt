@@ -1,4 +1,5 @@
-// The directions of each gas, sizes and neighbours.
+//! The directions of each gas, sizes and neighbours.
+
 use gas_geom::fhp_rest::FhpRest;
 use gas_geom::fhp1::Fhp1;
 use gas_geom::gas::Gas;

@@ -1,4 +1,5 @@
-//! Tests of the gases' tables, of rows, random bits, cells as text, blocks and stages on worked examples.
+//! Tests of the gases' tables, of rows, random bits, cells as text, blocks and stages on worked
+//! examples.
 #![tactic(auto)]
 
 #[cfg(test)]

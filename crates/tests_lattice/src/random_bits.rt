@@ -1,4 +1,5 @@
-// The key stream and the random bits that are read from it.
+//! The key stream and the random bits that are read from it.
+
 use gas_rows::chirality::{Chirality, chi_row};
 use gas_rows::key::key_words;
 use gas_rows::mask::Mask;

@@ -1,4 +1,5 @@
-// Rows, masks and lattices that are made and copied, and the words of a row.
+//! Rows, masks and lattices that are made and copied, and the words of a row.
+
 use gas_geom::fhp1::Fhp1;
 use gas_geom::hpp::Hpp;
 use gas_geom::size::Size;
@@ -47,7 +48,8 @@ fn a_blank_lattice_and_its_copy(rt: HostRuntime) -> Result<(), Fail> {
     Ok(())
 }
 
-// The last cell of 65 stands alone in the second word of each direction, and bits past it are dropped.
+// The last cell of 65 stands alone in the second word of each direction, and bits past it are
+// dropped.
 #[test]
 fn the_last_cell_of_65(rt: HostRuntime) -> Result<(), Fail> {
     let mut row = Row::<Fhp1>::blank(rt.alloc(), 65)?;

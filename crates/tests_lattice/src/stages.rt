@@ -1,4 +1,5 @@
-// Passes of a stage, and rows that are streamed by themselves.
+//! Passes of a stage, and rows that are streamed by themselves.
+
 ghost use Rattle.std.specs.Prelude.{◌≡◌, length, IfOk, IsOk, None};
 ghost use Rattle.gas_geom.specs.Channel.{free_channel};
 
@@ -37,12 +38,12 @@ fn row_with(alloc: Global, size: Size, cell: OneCell) -> Result<Row<Fhp1>, Fail>
     Ok(row)
 }
 
-// Whether the particles of a row are those of one cell.
+// Returns whether the particles of a row are those of one cell.
 fn has_only(row: &Row<Fhp1>, (x, state): OneCell) -> bool {
     x < row.width() && row.get(x) == state && row.count() == state.count_ones()
 }
 
-// Whether a row was given as wanted, or none was.
+// Returns whether the row is as wanted, or none is given where none is wanted.
 fn is_given(row: Option<Row<Fhp1>>, wanted: Option<OneCell>) -> bool {
     match (row, wanted) {
         (Some(row), Some(cell)) => has_only(&row, cell),
@@ -158,7 +159,8 @@ fn east_across_the_seam(rt: HostRuntime) -> Result<(), Fail> {
     Ok(())
 }
 
-// An obstacle in the last column sends back what would come round to it, and what stands there is not read.
+// An obstacle in the last column sends back a particle that would come round to it, and the
+// particles that stand in it are not read.
 #[test]
 fn an_obstacle_at_the_seam(rt: HostRuntime) -> Result<(), Fail> {
     let mut channel = channel_of(rt.alloc(), 65, 1)?;

@@ -1,11 +1,12 @@
 //! The next lattice, computed cell by cell.
+
 ghost use Rattle.std.specs.Prelude.{◌+◌, ◌≡◌, ◌<◌, ◌≤◌, ◌^◌, IfOk};
 ghost use Rattle.gas_geom.specs.Gas.{holds};
 ghost use Rattle.gas_geom.specs.declared.size.TheConstants.{MOST_SIDE};
 ghost use Rattle.gas_geom.specs.Lattice.{arriving, streamed, row_of, next};
 ghost use Rattle.gas_rows.specs.Chirality.{chirality_bit};
 ghost use Rattle.gas_stage.specs.Evolution.{lattice_after};
-ghost use Rattle.tests_reference.specs.Inside.{collided_cells};
+ghost use Rattle.tests_reference.specs.Inner.Collisions.{collided_cells};
 
 use gas_geom::gas::Gas;
 use gas_geom::size::neighbour;
@@ -59,7 +60,7 @@ fn collided_state<G: Gas>(
     )
 }
 
-// Whether a set holds a direction.
+// Returns whether a set holds a direction.
 fn holds(state: u8, i: u32) -> bool
     requires { i < 8 }
     ensures { result ≡ holds state i }
@@ -67,8 +68,8 @@ fn holds(state: u8, i: u32) -> bool
     (state >> i) & 1 == 1
 }
 
-// Whether a particle comes to a fluid cell in direction `i`.
-fn arriving<G: Gas>(
+// Returns whether a particle comes to a fluid cell in direction `i`.
+fn arrives<G: Gas>(
     lattice: &Lattice<G>,
     chirality: Chirality,
     generation: u64,
@@ -79,7 +80,8 @@ fn arriving<G: Gas>(
     requires column { x < lattice.now.channel.width }
     requires row { y < lattice.now.channel.height }
     requires direction { i < G.rules.dirs }
-    ensures { result ≡ arriving G.rules lattice.now.channel (collided_cells G.rules chirality lattice.now generation) x y i }
+    ensures { result ≡ arriving G.rules lattice.now.channel
+        (collided_cells G.rules chirality lattice.now generation) x y i }
 {
     let back = G::opposite(i);
     match neighbour::<G>(lattice.channel().size(), x, y, back) {
@@ -101,14 +103,15 @@ fn streamed_state<G: Gas>(
     requires column { x < lattice.now.channel.width }
     requires row { y < lattice.now.channel.height }
     ensures set { result < 2 ^ G.rules.dirs }
-    ensures value { result ≡ streamed G.rules lattice.now.channel (collided_cells G.rules chirality lattice.now generation) x y }
+    ensures value { result ≡ streamed G.rules lattice.now.channel
+        (collided_cells G.rules chirality lattice.now generation) x y }
 {
     if lattice.channel().is_solid(x, y) {
         return 0;
     }
     let mut state = 0u8;
     for i in 0..G::DIRS {
-        state |= u8::from(arriving(lattice, chirality, generation, x, y, i)) << i;
+        state |= u8::from(arrives(lattice, chirality, generation, x, y, i)) << i;
     }
     state
 }
@@ -123,7 +126,8 @@ fn next_row<G: Gas>(
 ) -> Result<Row<G>, AllocError>
     requires { y < lattice.now.channel.height }
     ensures { IfOk result (λ r. r ≡ row_of lattice.now.channel.width
-        (λ x. streamed G.rules lattice.now.channel (collided_cells G.rules chirality lattice.now generation) x y)) }
+        (λ x. streamed G.rules lattice.now.channel
+        (collided_cells G.rules chirality lattice.now generation) x y)) }
 {
     let width = lattice.channel().size().width();
     let mut row = Row::blank(alloc, width)?;
@@ -133,15 +137,16 @@ fn next_row<G: Gas>(
     Ok(row)
 }
 
-/// The lattice after the step from a generation.
+/// The lattice after the step from generation `generation`.
 pub fn next_lattice<G: Gas>(
     alloc: Global,
     lattice: &Lattice<G>,
     chirality: Chirality,
     generation: u64,
 ) -> Result<Lattice<G>, AllocError>
-    ensures { IfOk result (λ l. l ≡ record lattice.now {
-      rows = next G.rules lattice.now.channel (chirality_bit chirality lattice.now.channel.width generation) lattice.now.rows;
+    ensures value { IfOk result (λ l. l ≡ record lattice.now {
+      rows = next G.rules lattice.now.channel
+          (chirality_bit chirality lattice.now.channel.width generation) lattice.now.rows;
     }) }
 {
     let height = lattice.channel().size().height();
@@ -152,7 +157,7 @@ pub fn next_lattice<G: Gas>(
     Ok(Lattice::from_rows(lattice.channel().copy(alloc)?, rows))
 }
 
-/// The lattice after that many generations, from generation `first`.
+/// The lattice `generations` generations after generation `first`.
 pub fn lattice_after<G: Gas>(
     alloc: Global,
     lattice: &Lattice<G>,
@@ -161,7 +166,8 @@ pub fn lattice_after<G: Gas>(
     generations: u64,
 ) -> Result<Lattice<G>, AllocError>
     requires room { first + generations < 2 ^ 64 }
-    ensures { IfOk result (λ l. l ≡ lattice_after G.rules chirality first lattice.now generations) }
+    ensures value { IfOk result (λ l.
+        l ≡ lattice_after G.rules chirality first lattice.now generations) }
 {
     let mut current = lattice.copy(alloc)?;
     for passed in 0..generations {

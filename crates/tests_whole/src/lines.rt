@@ -1,4 +1,5 @@
-// Replayed turns beside a plain machine: the line as the lengths of its histories.
+//! Replayed turns beside a plain machine: the line as the lengths of its histories.
+
 ghost use Rattle.std.specs.Prelude.{◌≡◌, ◌≤◌};
 
 use crate::tests::{assert_same, random_lattice};
@@ -42,7 +43,7 @@ fn count(lengths: &mut [u32], place: u32) {
 }
 
 impl Lengths {
-    fn owed(&self, member: u32) -> u32 {
+    fn owed_rows(&self, member: u32) -> u32 {
         if member == 0 {
             return self.rows;
         }
@@ -59,7 +60,7 @@ impl Lengths {
             return;
         }
         let put = at(&self.put, member);
-        let owed = self.owed(member);
+        let owed = self.owed_rows(member);
         if put < owed && put < at(&self.taken, member).saturating_add(self.capacity) {
             count(&mut self.put, member);
             return;
@@ -91,7 +92,7 @@ fn assert_stands(rt: &impl Abort, replay: &Replay<Fhp1>, lengths: &Lengths) {
     }
 }
 
-// Turns of random members, of which one in so many is nobody's.
+// Turns of random members; one number in `workers + 2` is that of no member.
 fn random_turns(
     alloc: Global,
     count: usize,
@@ -113,7 +114,7 @@ const FIRST: u64 = 1_000_000;
 const CHIRALITY: Chirality = Chirality::Seeded(11);
 
 // It promises nothing, so that no test carries the promises of `replay`.
-fn replayed(
+fn replay_of(
     alloc: Global,
     lattice: &Lattice<Fhp1>,
     plan: Plan,
@@ -150,7 +151,7 @@ fn compare(
     for member in turns {
         lengths.turn(*member);
     }
-    let replay = replayed(alloc, lattice, plan, turns)?;
+    let replay = replay_of(alloc, lattice, plan, turns)?;
     assert_stands(rt, &replay, &lengths);
     if let Some(found) = replay.lattice() {
         assert_same(rt, found, &plain_lattice(alloc, lattice, plan)?);
@@ -158,8 +159,8 @@ fn compare(
     Ok(replay.done())
 }
 
-// A replay of so many turns of a random line with so many workers over so many rows. It says whether the
-// line is done.
+// A replay of `count` turns of a random line with `workers` workers over `height` rows. Returns
+// whether the line is done.
 fn compare_random(
     rt: &impl Abort,
     alloc: Global,

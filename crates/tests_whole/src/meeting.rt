@@ -1,4 +1,5 @@
-// A gate in which the workers of a run wait for one another: that they run at the same time.
+//! A gate in which the workers of a run wait for one another: that they run at the same time.
+
 ghost use Rattle.gas_tool_cli.specs.Requests.{IsAllowed};
 
 use gas_geom::fhp1::Fhp1;
@@ -62,7 +63,7 @@ impl Meeting {
         false
     }
 
-    // Nobody waited in vain, and so many threads ended.
+    // Asserts that no worker waited in vain, and how many threads ended.
     fn was_kept(&self, rt: &impl Abort, threads: u64) {
         assert_eq!(rt; self.missed.load(Ordering::SeqCst), 0);
         assert_eq!(rt; self.left.load(Ordering::SeqCst), threads);
@@ -102,16 +103,16 @@ fn assert_prints<R: Abort + Threads + Wait + Sync>(
 }
 
 // One particle on seven columns and three rows.
-fn drifting(alloc: Global) -> Result<Lattice<Fhp1>, Fail> {
+fn drifting_lattice(alloc: Global) -> Result<Lattice<Fhp1>, Fail> {
     let size = Size::new(7, 3).ok_or("a size")?;
     let mut lattice = Lattice::blank(alloc, Channel::free(alloc, size)?)?;
     lattice.set_cell(0, 1, 0x01);
     Ok(lattice)
 }
 
-// A run of four workers for five generations. It promises nothing, so that no test carries the promises
-// of `run`.
-fn ran<R: Threads + Wait + Sync>(
+// A run of four workers for five generations. It promises nothing, so that no test carries the
+// promises of `run`.
+fn run_through<R: Threads + Wait + Sync>(
     rt: &R,
     alloc: Global,
     lattice: &Lattice<Fhp1>,
@@ -136,9 +137,9 @@ fn workers_meet<R: Abort + Threads + Wait + Sync>(
     alloc: Global,
     capacity: u32,
 ) -> Result<(), Fail> {
-    let lattice = drifting(alloc)?;
+    let lattice = drifting_lattice(alloc)?;
     let gate = Meeting::of(alloc, 4)?;
-    let run = ran(rt, alloc, &lattice, capacity, &gate)?;
+    let run = run_through(rt, alloc, &lattice, capacity, &gate)?;
     gate.was_kept(rt, 4);
     has_drifted(rt, run.lattice());
     Ok(())

@@ -99,7 +99,7 @@ fn split<R: Abort + Threads + Wait + Sync>(rt: &R, alloc: Global, text: &str) ->
 }
 
 // The scene that a text is, at generation 0 and with another chirality.
-fn turned(alloc: Global, text: &str, chirality: Chirality) -> Result<String, Fail> {
+fn with_chirality(alloc: Global, text: &str, chirality: Chirality) -> Result<String, Fail> {
     let scene = read(alloc, text.as_bytes())?;
     Ok(checkpoint(alloc, scene.lattice(), chirality, 0)?)
 }
@@ -109,7 +109,7 @@ fn every_split_of_seven_generations(rt: HostRuntime) -> Result<(), Fail> {
     let alloc = rt.alloc();
     for text in [FHP1, HPP, FHP_REST, FHP1_CELL, HPP_CELL, FHP_REST_CELL] {
         for chirality in [Chirality::Seeded(0), Chirality::Left, Chirality::Right] {
-            let scene = turned(alloc, text, chirality)?;
+            let scene = with_chirality(alloc, text, chirality)?;
             split(&rt, alloc, scene.as_str())?;
         }
     }

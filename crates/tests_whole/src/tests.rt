@@ -1,3 +1,5 @@
+//! The stage beside the reference, which goes cell by cell.
+
 ghost use Rattle.std.specs.Prelude.{◌≡◌, ◌<◌, ◌^◌};
 
 use gas_geom::fhp_rest::FhpRest;
@@ -39,6 +41,7 @@ fn scatter<G: Gas>(lattice: &mut Lattice<G>, y: u32, random: &mut Pcg32)
     }
 }
 
+/// A lattice of this size with random states and solid cells.
 pub fn random_lattice<G: Gas>(
     alloc: Global,
     size: Size,
@@ -51,6 +54,7 @@ pub fn random_lattice<G: Gas>(
     Ok(lattice)
 }
 
+/// Asserts that two lattices have the same cells.
 pub fn assert_same<G: Gas>(rt: &impl Abort, found: &Lattice<G>, wanted: &Lattice<G>) {
     let size = wanted.channel().size();
     assert!(rt; found.channel().size().width() == size.width());

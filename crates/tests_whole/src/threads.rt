@@ -1,5 +1,6 @@
-// Runs by threads beside the stage on one thread, with one place in each belt, two, and more than a low
-// lattice has rows, which then gather by four or by sixteen.
+//! Runs by threads beside the stage on one thread, with one place in each belt, two, and more than
+//! a low lattice has rows, which then gather by four or by sixteen.
+
 use crate::tests::{assert_same, random_lattice};
 use gas_geom::fhp_rest::FhpRest;
 use gas_geom::fhp1::Fhp1;
@@ -22,9 +23,9 @@ use std::sync::Wait;
 use std::test::Fail;
 use std::thread::Threads;
 
-// A run whose lattice is of a generation below 2^63. It promises nothing, so that no test carries the
-// promises of `run`.
-fn ran<G: Gas + Send, R: Threads + Wait + Sync>(
+// A run whose lattice is of a generation below 2^63. It promises nothing, so that no test carries
+// the promises of `run`.
+fn run_from<G: Gas + Send, R: Threads + Wait + Sync>(
     rt: &R,
     alloc: Global,
     lattice: &Lattice<G>,
@@ -49,8 +50,8 @@ fn one_stage_after<G: Gas>(
     Ok(lattice_after(alloc, lattice, chirality, first, generations)?)
 }
 
-// A run comes to the lattice that one stage comes to, with as many particles, and each belt carried all
-// rows of all passes.
+// Asserts that a run comes to the lattice that one stage comes to, that no particle is made or
+// lost, and that each belt carried all rows of all passes.
 fn compare<G: Gas + Send, R: Abort + Threads + Wait + Sync>(
     rt: &R,
     alloc: Global,
@@ -60,7 +61,7 @@ fn compare<G: Gas + Send, R: Abort + Threads + Wait + Sync>(
     plan: Plan,
 ) -> Result<(), Fail> {
     let wanted = one_stage_after(alloc, lattice, chirality, first, plan)?;
-    let run = ran(rt, alloc, lattice, chirality, first, plan)?;
+    let run = run_from(rt, alloc, lattice, chirality, first, plan)?;
     assert_same(rt, run.lattice(), &wanted);
     assert_eq!(rt; run.lattice().count(), lattice.count());
     let height = lattice.channel().size().height();
@@ -74,8 +75,8 @@ fn compare<G: Gas + Send, R: Abort + Threads + Wait + Sync>(
     Ok(())
 }
 
-// A run of a random lattice of a random generation, of up to so many rows, for a random number of
-// generations.
+// A run of a random lattice of a random generation, of up to `most_rows` rows, for a random number
+// of generations.
 fn compare_random<G: Gas + Send, R: Abort + Threads + Wait + Sync>(
     rt: &R,
     alloc: Global,
@@ -95,9 +96,9 @@ fn compare_random<G: Gas + Send, R: Abort + Threads + Wait + Sync>(
     compare(rt, alloc, &lattice, chirality, first, plan)
 }
 
-// Random runs of a gas through lines of all lengths up to 8, a hundred rounds of low lattices and ten of
-// higher ones. Each comes to its end. Each gas and capacity is a test of its own, so that none takes long
-// where other programs keep the machine busy.
+// Random runs of a gas through lines of all lengths up to 8, a hundred rounds of low lattices and
+// ten of higher ones. Each comes to its end. Each gas and capacity is a test of its own, so that
+// none takes long where other programs keep the machine busy.
 fn soak<G: Gas + Send, R: Abort + Threads + Wait + Sync>(
     rt: &R,
     alloc: Global,

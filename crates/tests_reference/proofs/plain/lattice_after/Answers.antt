@@ -6,7 +6,7 @@ use Rattle.tests_reference.proofs.plain.lattice_after.Goals as goal
 
 pub loop-passed-preserved : goal.loop-passed-preserved
 loop-passed-preserved g c =
-    c.in_ok-current-2.ensures
+    c.in_ok-current-2.ensures.value
     ∙ ap (λ (l : LatticeModel). record l {
       rows = next g.G.Gas.rules l.channel (chirality_bit c.args.chirality l.channel.width (c.args.first + c.loop-passed.passed)) l.rows;
     }) c.loop-passed.invariant

@@ -1,6 +1,6 @@
 use Rattle.std.proofs.Common.{◌≡◌}
 use Rattle.gas_geom.specs.Lattice.{rows_of, streamed}
-use Rattle.tests_reference.specs.Inside.{collided_cells}
+use Rattle.tests_reference.specs.Inner.Collisions.{collided_cells}
 use Rattle.tests_reference.proofs.plain.next_lattice.Given as goal
 
 -- the rows before y are made

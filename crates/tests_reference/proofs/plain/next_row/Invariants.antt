@@ -1,6 +1,6 @@
 use Rattle.std.proofs.Common.{◌≡◌, ℕ, ◌<◌, length, get_or}
 use Rattle.gas_geom.specs.Lattice.{streamed}
-use Rattle.tests_reference.specs.Inside.{collided_cells}
+use Rattle.tests_reference.specs.Inner.Collisions.{collided_cells}
 use Rattle.tests_reference.proofs.plain.next_row.Given as goal
 
 -- the cells before x are made

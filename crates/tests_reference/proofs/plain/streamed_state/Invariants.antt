@@ -1,6 +1,6 @@
 use Rattle.std.proofs.Common.{◌≡◌, ◌<◌, ◌^◌}
 use Rattle.gas_geom.specs.Lattice.{arriving, set_of}
-use Rattle.tests_reference.specs.Inside.{collided_cells}
+use Rattle.tests_reference.specs.Inner.Collisions.{collided_cells}
 use Rattle.tests_reference.proofs.plain.streamed_state.Given as goal
 
 -- the set has the directions before i

@@ -1,4 +1,5 @@
 -- Inner words: what functions of this crate promise one another. No public contract cites them.
+-- Here: the cells of a lattice after their collisions.
 use Rattle.std.specs.Prelude.{ℕ}
 use Rattle.gas_geom.specs.Gas.{Rules}
 use Rattle.gas_geom.specs.Lattice.{LatticeModel, cell, collided}
