@@ -435,7 +435,7 @@ cpu=${FHPGAS_CPU:-x86-64-v2}
 processors=$(nproc)
 # proofs at one time: most take 1 to 2 GB of memory, those of programs 2.5
 fit=$(awk '/^MemAvailable/ { print int($2 / 3000000) }' /proc/meminfo)
-most=$((processors < fit ? processors : fit))
+most=$((processors + 2 < fit ? processors + 2 : fit)) # two more than processors, since crates give way to those of the longest chain
 most=$((most > 1 ? most : 1))
 pace=100 # seconds of this machine for a hundred of build.seconds
 ticker=
