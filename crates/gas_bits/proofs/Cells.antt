@@ -1,4 +1,4 @@
--- The cells that the words of a row hold: what a cell is, and what a write of one word changes.
+-- What the words of all directions say of a cell, before and after a write of one word.
 use Rattle.std.proofs.Common.{◌≡◌, ◌≢◌, ℕ, zero, suc, ◌+◌, ◌-◌, ◌*◌, ◌/◌, ◌%◌, ◌^◌, ◌<◌, ◌≤◌, Bool, false, not, ◌&&◌, ◌==◌, if◌then◌else◌, List, length, get_or, set, replicate, ltb, leb, refl, sym, ap, ap₂, ◌∙◌, arith, ◌⊎◌, inl, inr, eq-eqb, ne_eqb, take, drop, rules}
 use Rattle.std.proofs.lemmas.Bool.{cases_eq, cases_order, cases_lt}
 use Rattle.std.proofs.lemmas.Bool.Decides.{nat_tests}

@@ -1,4 +1,4 @@
--- The particles of a row are the ones of its words.
+-- The ones of a word are its bits.
 use Rattle.std.proofs.Common.{◌≡◌, ℕ, zero, suc, ◌+◌, ◌^◌, ◌<◌, ◌≤◌, ◌==◌, Bool, false, cond, ◌∷◌, map, refl, sym, ap, ◌∙◌, subst, arith, inl, inr}
 use Rattle.std.specs.Prelude.{count_by, count_ones}
 use Rattle.std.specs.List.{range_with_len}

@@ -1,4 +1,4 @@
--- The ones of words are the cells that are true.
+-- The ones of words are the set bits of a range of cells.
 use Rattle.std.proofs.Common.{◌≡◌, ℕ, zero, suc, ◌+◌, ◌-◌, ◌*◌, ◌/◌, ◌^◌, ◌<◌, ◌≤◌, min, max, Bool, true, false, ◌&&◌, cond, List, [], ◌∷◌, ◌++◌, map, get_or, refl, sym, ap, ap₂, ◌∙◌, arith, inl, inr}
 use Rattle.std.specs.Prelude.{count_ones, nat_le}
 use Rattle.std.specs.List.{range_with_len, count_by}

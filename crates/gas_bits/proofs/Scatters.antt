@@ -1,4 +1,4 @@
--- A row collided 64 cells at a time: one word of each direction written, and then one word more of the row done.
+-- Words written at one place of each direction, and what that makes of their cells.
 use Rattle.std.proofs.Common.{◌≡◌, ◌≢◌, ℕ, ◌+◌, ◌*◌, ◌/◌, ◌%◌, ◌<◌, ◌≤◌, Bool, true, false, not, ◌&&◌, ◌==◌, if◌then◌else◌, List, length, get_or, set, ltb, length-set, refl, sym, ap, ap₂, ◌∙◌, arith, inl, inr, eq-eqb, ne_eqb}
 use mathlib.Core.Bool.{and-false, and-true}
 use Rattle.std.proofs.lemmas.Bool.{cases_eq}

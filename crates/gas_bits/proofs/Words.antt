@@ -1,4 +1,4 @@
--- What words say of a row of cells, and masks as the lists of their cells' truth values.
+-- What the words of a plane say of its cells, before and after writes of words.
 use Rattle.std.proofs.Common.{◌≡◌, ◌≢◌, ℕ, ◌+◌, ◌-◌, ◌*◌, ◌/◌, ◌%◌, ◌^◌, ◌<◌, ◌≤◌, Bool, true, false, ◌&&◌, ◌||◌, ◌⊎◌, inl, inr, take, drop, length-drop, if◌then◌else◌, List, length, get_or, set, replicate, refl, sym, ap, ap₂, ◌∙◌, arith, ⊎_elim, eq-eqb, ne_eqb, get_or-set_same, get_or-set_other}
 use mathlib.Core.Bool.{and-false, or-false}
 use Rattle.std.specs.Prelude.{◌==◌, nat_lt, nat_le}

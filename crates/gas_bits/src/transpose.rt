@@ -66,7 +66,7 @@ fn swap_bytes(words: [u64; 8], apart: usize, mask: u64) -> [u64; 8]
     out
 }
 
-// Returns the words of which word `k` has byte `k` of each given one.
+// Returns eight words: word `k` has byte `k` of each given one.
 #[inline(always)]
 fn transpose_bytes(words: [u64; 8]) -> [u64; 8]
     ensures { (k i b : ℕ) → k < 8 → i < 8 → b < 8 →

@@ -1,5 +1,5 @@
 -- Inner words: what functions of this crate promise one another. No public contract cites them.
--- Where the bits of a word go when 8 rows of 8 bits are turned about their diagonal, and the bytes of 8 words likewise.
+-- Where the bits of a word go when 8 rows of 8 bits are transposed, and the bytes of 8 words likewise.
 use Rattle.std.specs.Prelude.{ℕ, ◌+◌, ◌-◌, ◌*◌, ◌/◌, ◌%◌, Bool, ◌&&◌, if◌then◌else◌, nat_le}
 use Rattle.gas_geom.specs.Gas.{holds}
 
