@@ -298,8 +298,8 @@ impl<G: Gas> Row<G> {
     }
 
     /// Streams direction `i` into this row where its particles would come from past a wall: those
-    /// of the opposite direction, whose words in the streamed row are `back`, bounce back. `own` are
-    /// the streamed row's solid cells.
+    /// of the opposite direction, whose words in the streamed row are `back`, bounce back. `own`
+    /// are the streamed row's solid cells.
     #[inline(always)]
     pub fn reflect_plane(&mut self, i: u32, back: &[u64], own: &[u64])
         requires direction { i < G.rules.dirs }

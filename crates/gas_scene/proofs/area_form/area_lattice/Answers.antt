@@ -13,7 +13,7 @@ returns g c =
     let h = nat_abs a.height in
     let solid : ℕ → ℕ → Bool = λ x y. is_covered a.solid (pos x) (pos y) in
     let made : c.in_ok-lattice.lattice ≡ lattice_of w h solid (λ _ _. 0) =
-    c.in_ok-lattice.ensures ∙ ap empty_lattice c.requires.drawn ∙ lattice_of-drawn w h a.solid in
+    c.in_ok-lattice.ensures.value ∙ ap empty_lattice c.requires.drawn ∙ lattice_of-drawn w h a.solid in
     c.place_all.ensures w h solid (λ x y. if solid x y then 0 else filling gas c.args.seed c.rate.result w x y)
     (c.in_ok-fill.ensures.cells w h solid made)
     ∙ area_lattice-is gas c.args.seed c.rate.result a c.rate.ensures

@@ -14,8 +14,8 @@ put_rows-requires-clause-before g c =
     let values = c.args.rows.now in
     let rows = map text_of (map view values) in
     let size = rw c.unwrap-size.ensures at c.new.ensures.made in
-    c.in_ok-lattice.ensures
-    ∙ ap empty_lattice (c.in_ok-free.ensures ∙ ap (λ (s : SizeModel). free_channel s.width s.height) size
+    c.in_ok-lattice.ensures.value
+    ∙ ap empty_lattice (c.in_ok-free.ensures.value ∙ ap (λ (s : SizeModel). free_channel s.width s.height) size
     ∙ ap (λ w. free_channel w (length values)) (ap (λ r. length r / 2) c.row.ensures) ∙ ap (free_channel (map_width rows)) (sym (length-rows values)))
     ∙ map_before-none states rows
 

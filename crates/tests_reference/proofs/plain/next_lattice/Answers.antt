@@ -26,7 +26,7 @@ from_rows-requires g c = record {
       streamed g.G.Gas.rules channel (collided_cells g.G.Gas.rules c.args.chirality c.args.lattice.now c.args.generation) in
       let all : c.loop-y.y ≡ channel.height =
       omega (arith, ap (λ (ch : ChannelModel). ch.height) c.channel.ensures.channel) in
-      subst (λ (ch : ChannelModel). IsLattice g.G.Gas.rules ch c.loop-y.rows.items) (sym (c.in_ok-copy.ensures ∙ c.channel-2.ensures.channel))
+      subst (λ (ch : ChannelModel). IsLattice g.G.Gas.rules ch c.loop-y.rows.items) (sym (c.in_ok-copy.ensures.equal ∙ c.channel-2.ensures.channel))
       (subst (λ (rows : List (List ℕ)). IsLattice g.G.Gas.rules channel rows)
       (sym (c.loop-y.invariant ∙ ap (λ n. rows_of channel.width n cells) all))
       (IsLattice-next g.G.Gas.rules g.met.G.Gas.laws channel (chirality_bit c.args.chirality channel.width c.args.generation) c.args.lattice.now.rows));
