@@ -24,7 +24,8 @@ pub enum AnyLattice {
     FhpRest(Lattice<FhpRest>),
 }
 
-/// The lattice of a gas, by an expression for its `Lattice<G>`, which is written once for all gases.
+/// The lattice of a gas, by an expression for its `Lattice<G>`, which is written once for all
+/// gases.
 #[macro_export]
 macro_rules! any_lattice {
     ($gas:expr, $lattice:expr) => {

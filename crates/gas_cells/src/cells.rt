@@ -41,7 +41,8 @@ pub fn cell_pair(solid: bool, state: u8) -> [u8; CHARACTERS]
 // The characters of 64 cells, of their bits in a mask and their states.
 fn cell_pairs(solid: u64, states: [u8; 64]) -> [u8; CHARACTERS * 64]
     ensures { (cells : ℕ) → cells ≤ 64 → take (2 * cells) result
-        ≡ flat_map (λ b. cell_text (holds solid b) (slice_index states b)) (range_with_len 0 cells) }
+        ≡ flat_map (λ b. cell_text (holds solid b) (slice_index states b))
+        (range_with_len 0 cells) }
 {
     let mut pairs = [0; CHARACTERS * 64];
     for b in 0..64 {
@@ -78,10 +79,11 @@ impl RowBlock {
     }
 }
 
-/// How many blocks the characters of a row of a lattice take.
+/// The number of blocks that the characters of a row of a lattice take.
 pub fn row_blocks<G: Gas>(lattice: &Lattice<G>) -> u32
     ensures blocks { result ≡ words_in lattice.now.channel.width }
-    ensures all { (y : ℕ) → length (row_cells lattice.now.channel lattice.now.rows y) ≤ 128 * result }
+    ensures all { (y : ℕ) →
+        length (row_cells lattice.now.channel lattice.now.rows y) ≤ 128 * result }
 {
     lattice.channel().size().width().div_ceil(64)
 }
@@ -90,7 +92,8 @@ pub fn row_blocks<G: Gas>(lattice: &Lattice<G>) -> u32
 pub fn row_block<G: Gas>(lattice: &Lattice<G>, y: u32, j: u32) -> RowBlock
     requires row { y < lattice.now.channel.height }
     requires block { j < words_in lattice.now.channel.width }
-    ensures { result ≡ take 128 (drop (128 * j) (row_cells lattice.now.channel lattice.now.rows y)) }
+    ensures { result
+        ≡ take 128 (drop (128 * j) (row_cells lattice.now.channel lattice.now.rows y)) }
 {
     let row = lattice.row(y);
     let solid = lattice.channel().mask(y);

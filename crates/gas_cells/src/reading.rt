@@ -117,9 +117,11 @@ pub fn read_row(row: &[u8], solid: &mut [bool], state_of: &mut [u8])
     ensures wide { length solid.new ≡ length row.now / 2 }
     ensures as_wide { length state_of.new ≡ length row.now / 2 }
     ensures solid { (states x : ℕ) → x < length row.now / 2
-        → IfSome (cell_at states row.now x) (λ cell. slice_index_or solid.new x false ≡ cell.solid) }
+        → IfSome (cell_at states row.now x)
+        (λ cell. slice_index_or solid.new x false ≡ cell.solid) }
     ensures states { (states x : ℕ) → x < length row.now / 2
-        → IfSome (cell_at states row.now x) (λ cell. slice_index state_of.new x ≡ cell.state) }
+        → IfSome (cell_at states row.now x)
+        (λ cell. slice_index state_of.new x ≡ cell.state) }
 {
     for x in 0..solid.len() {
         let cell = read(row[CHARACTERS * x], row[CHARACTERS * x + 1]);

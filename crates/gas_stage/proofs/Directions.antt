@@ -1,12 +1,12 @@
 -- One direction of a streamed cell, by the row that its particles come from, and a row whose directions are all streamed.
-use Rattle.std.proofs.Common.{◌≡◌, ℕ, ◌+◌, ◌-◌, ◌^◌, ◌<◌, ◌≤◌, ◌==◌, ne_eqb, inl, inr, subst, option_map, Bool, true, false, if◌then◌else◌, Option, Some, None, List, length, get_or, ap, ◌∙◌, sym, arith, refl}
-use Rattle.std.proofs.lemmas.Bool.{cases_order, lt-ltb}
+use Rattle.std.proofs.Common.{◌≡◌, ℕ, ◌+◌, ◌-◌, ◌^◌, ◌<◌, ◌≤◌, ◌==◌, ne_eqb, subst, option_map, Bool, true, false, if◌then◌else◌, Option, Some, None, List, length, get_or, ap, ◌∙◌, sym, arith, refl}
+use Rattle.std.proofs.lemmas.Bool.{lt-ltb}
 use Rattle.std.proofs.lemmas.Bool.Decides.{nat_tests}
 use Rattle.std.proofs.lemmas.List.FromFn.{fill_by_all}
 use Rattle.std.proofs.lemmas.Nat.{pow_pos}
 use Rattle.gas_geom.specs.Gas.{Rules, holds, neighbour_of}
 use Rattle.gas_geom.specs.Moves.{Move, Back, Stay, On, row_after, column_after}
-use Rattle.gas_geom.specs.Laws.Steps.{is_odd, neighbour-parts, row_after-lt, column_after-lt}
+use Rattle.gas_geom.specs.Laws.Steps.{is_odd, neighbour-parts, column_after-lt}
 use Rattle.gas_geom.specs.Channel.{ChannelModel, is_solid}
 use Rattle.gas_geom.specs.Lattice.{arriving, streamed, set_of, row_of}
 use Rattle.gas_geom.proofs.Arriving.{arrives_from}

@@ -11,7 +11,7 @@ use Rattle.gas_geom.specs.declared.size.TheConstants.{MOST_SIDE}
 use Rattle.std.specs.Int.{bit_at}
 use Rattle.gas_geom.proofs.Sets.{bit_of-holds}
 use Rattle.gas_geom.proofs.Sums.{sum_below, sum_below-cong, sum_below-zero, sum_below-add}
-use Rattle.gas_tool_coarse.specs.Tally.{HasRoom, most_cells, plus_cell, plus_particles}
+use Rattle.gas_tool_coarse.specs.Inner.Tally.{HasRoom, most_cells, plus_cell, plus_particles}
 use Rattle.gas_tool_coarse.specs.declared.blocks.Block.{Block}
 use Rattle.gas_tool_coarse.proofs.Tallies.{IsSmall, Within, Within-add, Within-le}
 

@@ -13,7 +13,7 @@ use Rattle.std.proofs.Math.Seq.{take-append_seam, drop-append_seam}
 use Rattle.std.proofs.lemmas.List.Edits.{map_over_more}
 use Rattle.std.proofs.Math.ListN.{set}
 use Rattle.gas_bits.proofs.Ones.{range-append}
-use Rattle.gas_tool_coarse.specs.Tally.{part}
+use Rattle.gas_tool_coarse.specs.Inner.Tally.{part}
 
 filter_none : (p : ℕ → Bool) (a n : ℕ) → ((i : ℕ) → a ≤ i → i < a + n → p i ≡ false) → filter p (range_with_len a n) ≡ []
 filter_none p a zero h = refl

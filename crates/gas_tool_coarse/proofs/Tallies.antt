@@ -19,7 +19,7 @@ use Rattle.gas_geom.specs.Lattice.{LatticeModel, cell}
 use Rattle.gas_bits.proofs.Counting.{bits-le}
 use Rattle.gas_bits.proofs.Ones.{range-append}
 use Rattle.gas_tool_coarse.specs.Blocks.{cells_of, block_of_cells}
-use Rattle.gas_tool_coarse.specs.Tally.{HasRoom, empty_block, most_cells, part, plus_cell, plus_cell_of, plus_row, strip_of}
+use Rattle.gas_tool_coarse.specs.Inner.Tally.{HasRoom, empty_block, most_cells, part, plus_cell, plus_cell_of, plus_row, strip_of}
 use Rattle.gas_tool_coarse.specs.declared.blocks.Block.{Block}
 use Rattle.gas_tool_coarse.proofs.Ranges.{part-range, part-short, begins-within}
 

@@ -6,7 +6,7 @@ ghost use Rattle.std.specs.List.{range_with_len};
 ghost use Rattle.gas_geom.specs.Gas.{holds};
 ghost use Rattle.gas_geom.specs.declared.size.TheConstants.{MOST_SIDE};
 ghost use Rattle.gas_tool_coarse.specs.Blocks.{blocks_of};
-ghost use Rattle.gas_tool_coarse.specs.Tally.{HasRoom, empty_block, most_cells, part, plus_cell_of, plus_particles, plus_row, strip_of};
+ghost use Rattle.gas_tool_coarse.specs.Inner.Tally.{HasRoom, empty_block, most_cells, part, plus_cell_of, plus_particles, plus_row, strip_of};
 
 use gas_geom::gas::Gas;
 use gas_rows::lattice::Lattice;
@@ -14,10 +14,10 @@ use gas_rows::mask::Mask;
 use gas_rows::row::Row;
 use std::alloc::{AllocError, Global};
 
-/// A block of cells, and what a coarse table tells of it. `col` and `row` are the block's place among
-/// the blocks, from 0 at the left and at the top; `fluid` is the number of its fluid cells, and
-/// `particles` that of its particles. `px` and `py` are the sums of the particles' momenta, eastwards
-/// and northwards, in the units of `Gas::momentum`.
+/// A block of cells, and what a coarse table tells of it. `col` and `row` are the block's place
+/// among the blocks, from 0 at the left and at the top; `fluid` is the number of its fluid cells,
+/// and `particles` that of its particles. `px` and `py` are the sums of the particles' momenta,
+/// eastwards and northwards, in the units of `Gas::momentum`.
 #[derive(Clone, Copy, Debug, PartialEq, Eq)]
 pub struct Block {
     pub col: u32,
@@ -65,7 +65,8 @@ impl Block {
         requires few { to ≤ MOST_SIDE }
         requires same { length solid.now ≡ length row.now }
         requires room { HasRoom self (most_cells - MOST_SIDE) }
-        ensures { result ≡ fold (plus_cell_of G.rules solid.now row.now) self (range_with_len from (to - from)) }
+        ensures { result
+            ≡ fold (plus_cell_of G.rules solid.now row.now) self (range_with_len from (to - from)) }
     {
         let mut block = Block {
             fluid: self.fluid + u64::from(to - from - solid.count_in(from, to)),
@@ -110,7 +111,8 @@ fn fill_strip<G: Gas>(strip: &mut [Block], lattice: &Lattice<G>, row: u32, width
     requires some_columns { 1 ≤ width }
     requires some_rows { 1 ≤ height }
     requires begins { row * height < lattice.now.channel.height }
-    requires empty { strip.old ≡ map (λ col. empty_block col row) (range_with_len 0 (div_ceil lattice.now.channel.width width)) }
+    requires empty { strip.old ≡ map (λ col. empty_block col row)
+        (range_with_len 0 (div_ceil lattice.now.channel.width width)) }
     ensures { strip.new ≡ strip_of G.rules lattice.now width height row }
 {
     let rows = lattice.channel().size().height();
@@ -144,7 +146,8 @@ fn push_strip<G: Gas>(
     requires some_columns { 1 ≤ width }
     requires some_rows { 1 ≤ height }
     requires begins { row * height < lattice.now.channel.height }
-    ensures { OnOk result (blocks.new.items ≡ blocks.old.items ++ strip_of G.rules lattice.now width height row) }
+    ensures { OnOk result (blocks.new.items
+        ≡ blocks.old.items ++ strip_of G.rules lattice.now width height row) }
 {
     let columns = lattice.channel().size().width().div_ceil(width);
     let start = blocks.len();
@@ -154,9 +157,9 @@ fn push_strip<G: Gas>(
     Ok(())
 }
 
-/// The blocks of a lattice, `width` columns wide and `height` rows high and smaller where the lattice
-/// ends: row of blocks by row of blocks, from the left in each. It goes over the lattice once, row by
-/// row.
+/// Returns the blocks of a lattice, `width` columns wide and `height` rows high and smaller where
+/// the lattice ends: row of blocks by row of blocks, from the left in each. It goes over the
+/// lattice once, row by row.
 pub fn coarse<G: Gas>(
     alloc: Global,
     lattice: &Lattice<G>,

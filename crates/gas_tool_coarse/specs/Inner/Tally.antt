@@ -1,5 +1,5 @@
 -- Inner words: what functions of this crate promise one another. No public contract cites them.
--- How a block's numbers come together: cells, directions and rows.
+-- Here: how a block's numbers come together: cells, directions and rows.
 use Rattle.std.specs.Prelude.{ℕ, ◌+◌, ◌*◌, ◌/◌, ◌==◌, ◌≤◌, Bool, false, not, if◌then◌else◌, List, filter, map, fold, length, slice_index, slice_index_or, pos, neg_ℤ, ◌+ℤ◌, ◌*ℤ◌, ◌≤ℤ◌}
 use Rattle.std.specs.Int.{div_ceil}
 use Rattle.std.specs.List.{range_with_len}
@@ -41,7 +41,7 @@ plus_cell_of gas solid row b x = plus_cell gas b (slice_index_or solid x false) 
 abbrev pub plus_row : Rules → ℕ → List Bool → List ℕ → Block → Block
 plus_row gas width solid row b = fold (plus_cell_of gas solid row) b (part (length row) width b.col)
 
--- a block with so many particles of direction i more
+-- a block with `count` more particles of direction i
 abbrev pub plus_particles : Rules → Block → ℕ → ℕ → Block
 plus_particles gas b i count = record {
   col = b.col;

@@ -1,4 +1,4 @@
-use Rattle.gas_tool_coarse.specs.Tally.{plus_row}
+use Rattle.gas_tool_coarse.specs.Inner.Tally.{plus_row}
 use Rattle.gas_tool_coarse.proofs.Ranges.{over_more}
 use Rattle.gas_tool_coarse.proofs.blocks.add_row.Goals as goal
 

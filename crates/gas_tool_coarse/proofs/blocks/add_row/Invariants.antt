@@ -1,5 +1,5 @@
 use Rattle.std.proofs.Common.{◌≡◌, ◌++◌, map, take, drop}
-use Rattle.gas_tool_coarse.specs.Tally.{plus_row}
+use Rattle.gas_tool_coarse.specs.Inner.Tally.{plus_row}
 use Rattle.gas_tool_coarse.proofs.blocks.add_row.Given as goal
 
 -- the blocks so far have the row, the others are as they were

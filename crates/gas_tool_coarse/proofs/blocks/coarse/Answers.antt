@@ -1,4 +1,4 @@
-use Rattle.gas_tool_coarse.specs.Tally.{strip_of}
+use Rattle.gas_tool_coarse.specs.Inner.Tally.{strip_of}
 use Rattle.gas_tool_coarse.proofs.Ranges.{strips-more}
 use Rattle.gas_tool_coarse.proofs.blocks.coarse.Goals as goal
 

@@ -1,6 +1,6 @@
 use Rattle.std.proofs.Common.{◌≡◌}
 use Rattle.std.specs.List.{range_with_len, flat_map}
-use Rattle.gas_tool_coarse.specs.Tally.{strip_of}
+use Rattle.gas_tool_coarse.specs.Inner.Tally.{strip_of}
 use Rattle.gas_tool_coarse.proofs.blocks.coarse.Given as goal
 
 -- the rows of the blocks so far

@@ -3,7 +3,7 @@ use Rattle.std.specs.Int.{div_ceil}
 use Rattle.std.specs.List.{range_with_len}
 use Rattle.gas_geom.specs.Channel.{ChannelModel}
 use Rattle.gas_geom.specs.declared.size.TheConstants.{MOST_SIDE}
-use Rattle.gas_tool_coarse.specs.Tally.{plus_row}
+use Rattle.gas_tool_coarse.specs.Inner.Tally.{plus_row}
 use Rattle.gas_tool_coarse.proofs.Tallies.{block_from, strip-begins, strip-room, strip-more, strip-whole}
 use Rattle.gas_tool_coarse.proofs.blocks.fill_strip.Goals as goal
 

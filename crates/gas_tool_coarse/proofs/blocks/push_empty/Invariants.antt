@@ -1,6 +1,6 @@
 use Rattle.std.proofs.Common.{◌≡◌, ◌++◌, map}
 use Rattle.std.specs.List.{range_with_len}
-use Rattle.gas_tool_coarse.specs.Tally.{empty_block}
+use Rattle.gas_tool_coarse.specs.Inner.Tally.{empty_block}
 use Rattle.gas_tool_coarse.proofs.blocks.push_empty.Given as goal
 
 -- the blocks of the columns so far were appended

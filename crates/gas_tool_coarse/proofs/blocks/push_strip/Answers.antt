@@ -2,7 +2,7 @@ use Rattle.std.proofs.Common.{◌≡◌, ◌∙◌, ◌++◌, ap, map, take, ◌
 use Rattle.std.specs.Int.{div_ceil}
 use Rattle.std.specs.List.{range_with_len}
 use Rattle.gas_geom.specs.Channel.{ChannelModel}
-use Rattle.gas_tool_coarse.specs.Tally.{empty_block}
+use Rattle.gas_tool_coarse.specs.Inner.Tally.{empty_block}
 use Rattle.gas_tool_coarse.specs.declared.blocks.Block.{Block}
 use Rattle.gas_tool_coarse.proofs.Ranges.{tail_is, tail_written}
 use Rattle.gas_tool_coarse.proofs.blocks.push_strip.Goals as goal

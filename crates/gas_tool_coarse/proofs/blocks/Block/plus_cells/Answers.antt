@@ -2,7 +2,7 @@ use Rattle.std.proofs.Common.{◌≡◌, ◌∙◌, ◌+◌, ◌-◌, ◌≤◌,
 use Rattle.std.specs.List.{range_with_len}
 use Rattle.std.proofs.lemmas.Int.{ints}
 use Rattle.std.proofs.lemmas.List.FromFn.{length-range_with_len}
-use Rattle.gas_tool_coarse.specs.Tally.{HasRoom, most_cells, plus_particles}
+use Rattle.gas_tool_coarse.specs.Inner.Tally.{HasRoom, most_cells, plus_particles}
 use Rattle.gas_tool_coarse.specs.declared.blocks.Block.{Block}
 use Rattle.gas_tool_coarse.proofs.Counts.{counted, counted-none, counted-more, counted-all, counted-room}
 use Rattle.gas_bits.proofs.Ones.{count-le}
