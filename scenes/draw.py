@@ -47,7 +47,9 @@ def options():
     blocks = shapes.add_parser("blocks", parents=[common], help="rectangles")
     blocks.add_argument("--block", type=int, nargs=4, action="append", default=[], metavar=("X", "Y", "W", "H"))
     discs = shapes.add_parser("discs", parents=[common], help="discs, round as the lattice lies")
-    discs.add_argument("--disc", type=int, nargs=3, action="append", default=[], metavar=("X", "Y", "RADIUS"))
+    discs.add_argument("--disc", type=int, nargs=3, action="append", default=[], metavar=("X", "Y", "RADIUS"),
+                       help="middle (column and row) and radius in cells' widths: a disc of radius 16 takes 33 columns and 37 rows of the"
+                       " triangular lattice; may be given again; wraps at the left and right end, is cut at the walls")
     nozzle = shapes.add_parser("nozzle", parents=[common], help="the channel narrows to a throat and widens again")
     nozzle.add_argument("--throat", type=int, default=6, metavar="ROWS", help="open rows of the narrowest column; 6 if left out")
     nozzle.add_argument("--length", type=int, default=40, metavar="COLUMNS", help="from full to full height; 40 if left out")
@@ -99,8 +101,11 @@ def fault(asked):
         return "a patch leaves the channel or is empty"
     if asked.shape == "blocks" and not all(is_inside(*block) for block in asked.block):
         return "a block leaves the channel or is empty"
-    if asked.shape == "discs" and not all(is_inside(x, y, 1, 1) and radius >= 0 for x, y, radius in asked.disc):
-        return "a disc's middle is outside the channel, or its radius is negative"
+    for x, y, radius in asked.disc if asked.shape == "discs" else ():
+        if not is_inside(x, y, 1, 1):
+            return f"a disc's middle, column {x} and row {y}, is outside the channel of {asked.width} x {asked.height} cells"
+        if radius < 0:
+            return f"a disc's radius is {radius}, and must not be negative"
     if asked.shape == "nozzle" and not (1 <= asked.throat <= asked.height and 1 <= asked.length <= asked.width):
         return "throat must be 1 to the height, length 1 to the width"
     if asked.shape == "porous" and not (0 <= asked.percent <= 100 and asked.radius >= 0):

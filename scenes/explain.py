@@ -15,6 +15,7 @@ import scene_reader
 import toml_document
 
 MOST_REASONS = 8
+NOT_REFUSED = "the scene is not refused\n"
 
 
 def explained(text):
@@ -26,6 +27,16 @@ def explained(text):
         places = toml_document.Places(source) if any(path for path, _ in refused.reasons) else None
         return str(refused), [(position(source, places, path) if path else "") + why for path, why in refused.reasons]
     return None, []
+
+
+def explanation(text):
+    """What is printed for the bytes of a scene: the line that refuses it, and under it the first reasons."""
+    line, reasons = explained(text)
+    if line is None:
+        return NOT_REFUSED
+    more = len(reasons) - MOST_REASONS
+    lines = [line, *(f"  {reason}" for reason in reasons[:MOST_REASONS])] + ([f"  and {more} more of the kind"] if more > 0 else [])
+    return "\n".join(lines) + "\n"
 
 
 def position(source, places, path):
@@ -47,16 +58,9 @@ def main():
         text = sys.stdin.buffer.read() if asked.scene == "-" else pathlib.Path(asked.scene).read_bytes()
     except OSError as fault:
         sys.exit(f"explain.py: {asked.scene}: {fault.strerror}")
-    line, reasons = explained(text)
-    if line is None:
-        print("the scene is not refused")
-        return
-    print(line)
-    for reason in reasons[:MOST_REASONS]:
-        print(f"  {reason}")
-    if reasons[MOST_REASONS:]:
-        print(f"  and {len(reasons) - MOST_REASONS} more of the kind")
-    sys.exit(1)
+    told = explanation(text)
+    print(told, end="")
+    sys.exit(told != NOT_REFUSED)
 
 
 if __name__ == "__main__":

@@ -24,7 +24,7 @@ SETTLED = 1000
 EAST, WEST = 1, 8
 DISTANCE = math.sqrt(3) / 2  # of two rows
 HALVES = (2, 1, -1, -2, -1, 1)  # momentum eastwards of each direction, in halves of that of a particle that moves east
-MOMENTUM = {f"{state:02x}": sum(half for i, half in enumerate(HALVES) if state >> i & 1) / 2 for state in range(1, 64)} | {"..": 0}
+MOMENTUM = [sum(half for i, half in enumerate(HALVES) if state >> i & 1) / 2 for state in range(64)]
 TRIES = 100_000
 HEIGHTS = [DISTANCE * (y - (HEIGHT - 1) / 2) for y in range(HEIGHT)]  # of the rows' middles from that of the channel
 
@@ -37,13 +37,12 @@ def options():
     return reader
 
 
-def turned(line, lots):
-    """A row in which one particle that moved west moves east."""
+def turned(row, lots):
+    """A row of states in which one particle that moved west moves east."""
     for _ in range(TRIES):
-        at = 2 * lots.randrange(WIDTH)
-        state = 0 if line[at] == "." else int(line[at : at + 2], 16)
-        if state & WEST and not state & EAST:
-            return f"{line[:at]}{state ^ WEST ^ EAST:02x}{line[at + 2:]}"
+        x = lots.randrange(WIDTH)
+        if row[x] & WEST and not row[x] & EAST:
+            return *row[:x], row[x] ^ WEST ^ EAST, *row[x + 1 :]
     raise fhpgas.Fault("a row has no particle to turn to the east: the flow is too fast, or the gas too thin")
 
 
@@ -51,16 +50,16 @@ def profile(asked, seed):
     """The mean velocity of each row eastwards, of one seed."""
     lots = random.Random(seed)
     rate = round(1000 * asked.density)
-    scene = fhpgas.text_of({"gas": "fhp1", "seed": seed, "width": WIDTH, "height": HEIGHT, "rate": rate})
-    keys, sums, times = fhpgas.keys_of(scene), [0] * HEIGHT, 0
-    particles = fhpgas.run(scene, 0).particles
+    first = fhpgas.text_of({"gas": "fhp1", "seed": seed, "width": WIDTH, "height": HEIGHT, "rate": rate})
+    scene, sums, times = first, [0] * HEIGHT, 0
+    particles = fhpgas.run(first, 0).particles
     for done in range(0, asked.generations, STEP):
         cells = fhpgas.run(scene, STEP if done else 0)
         if done > SETTLED:
             times += 1
-            for y, line in enumerate(cells.lines):
-                sums[y] += sum(MOMENTUM[line[at : at + 2]] for at in range(0, len(line), 2))
-        scene = fhpgas.continued(keys, cells, [turned(line, lots) for line in cells.lines])
+            for y, row in enumerate(cells.states):
+                sums[y] += sum(map(MOMENTUM.__getitem__, row))
+        scene = fhpgas.resume_changed(first, cells, [turned(row, lots) for row in cells.states])
     return [momentum / times * HEIGHT / particles for momentum in sums]
 
 

@@ -58,10 +58,26 @@ def faults(function, *arguments, part=""):
 
 def printed_cells_are_read():
     cells = fhpgas.read_cells(HEAD_ON)
-    assert (cells.generation, cells.particles, cells.lines) == (1, 2, ["....02..", "........", "##10...."])
-    assert cells.states == [[0, 0, 2, 0], [0, 0, 0, 0], [0, 16, 0, 0]]
-    assert cells.solid == [[False] * 4, [False] * 4, [True, False, False, False]]
-    assert fhpgas.read_cells("generation 0 particles 13\n7f3f\n").states == [[127, 63]]
+    assert (cells.generation, cells.particles, cells.lines) == (1, 2, ("....02..", "........", "##10...."))
+    assert cells.states == ((0, 0, 2, 0), (0, 0, 0, 0), (0, 16, 0, 0))
+    assert cells.solid == ((False,) * 4, (False,) * 4, (True, False, False, False))
+    assert fhpgas.read_cells("generation 0 particles 13\n7f3f\n").states == ((127, 63),)
+
+
+def read_cells_cannot_be_changed():
+    cells = fhpgas.read_cells(HEAD_ON)
+    for rows in (cells.states, cells.solid, cells.lines):
+        for place in (0, (0, 0)):
+            try:
+                (rows if place == 0 else rows[0])[0] = 1
+            except TypeError:
+                continue
+            raise AssertionError((rows, place))
+    try:
+        cells.states = ((1,),)
+    except AttributeError:
+        return
+    raise AssertionError("other states were taken")
 
 
 def a_text_that_is_no_cells_is_refused():
@@ -81,6 +97,7 @@ def a_table_is_read():
     assert east == [[3 / 16, None]] and north[0][1] is None and math.isclose(north[0][0], math.sqrt(3) / 16)
     assert faults(table.velocity, "FHP1", part="there is no gas 'FHP1'")
     assert table.velocity("fhp-rest")[0] == east and table.velocity("hpp") == ([[3 / 8, None]], [[1 / 8, None]])
+    assert faults(table.velocity, part="the gas of a table that was read is not known") and faults(table.velocity, 1, part="a gas is a text")
     assert fhpgas.read_table(TABLE.replace("        4 ", "        0 ")).density() == [[8 / 3, None]]
 
 
@@ -103,19 +120,60 @@ def what_the_program_prints_is_read_as_it_stands():
         assert sum(map(sum, table.fluid)) == sum(not solid for row in cells.solid for solid in row)
 
 
+def a_table_holds_the_gas_of_its_scene():
+    """A particle that moves east has velocity 1 in each gas; a gas on the other lattice is refused, and one on the same is not."""
+    for gas, other, same in (("fhp1", "hpp", "fhp-rest"), ("fhp-rest", "hpp", "fhp1"), ("hpp", "fhp1", "hpp")):
+        for line in (f'gas = "{gas}"', f"  gas\t= '{gas}' # \"hpp\"", f'# gas = "{other}"\n"gas" = """{gas}"""', f'"\\u0067as" = "{gas}"'):
+            table = fhpgas.coarse(f'cells = ["..01", "...."]\n{line}\n', 5, 2, 2)
+            assert table.gas == gas and table.velocity() == table.velocity(same) == ([[1]], [[0]]), (gas, line, table)
+            assert faults(table.velocity, other, part="is on another lattice")
+    assert fhpgas.coarse(AREA, 1, 66, 9) == fhpgas.read_table(fhpgas.coarse(AREA, 1, 66, 9).text())
+
+
 def arrays_are_those_lists():
     scene = fhpgas.read_scene(SCENES / "channel.toml")
     cells, table = fhpgas.run(scene, 3), fhpgas.coarse(scene, 3, 16, 8)
     states, solid = cells.arrays()
-    assert states.tolist() == cells.states and solid.tolist() == cells.solid and states.dtype == numpy.uint8 and solid.dtype == bool
+    assert tuple(map(tuple, states.tolist())) == cells.states and tuple(map(tuple, solid.tolist())) == cells.solid
+    assert states.dtype == numpy.uint8 and solid.dtype == bool
     assert table.arrays().tolist() == [table.fluid, table.particles, table.px, table.py]
     assert fhpgas.scene_of(states, "fhp1", solid, seed=3) == fhpgas.scene_of(cells.states, "fhp1", cells.solid, seed=3)
+
+
+def integers_of_numpy_are_integers():
+    seed, generation = numpy.int64(3), numpy.uint8(5)
+    states = [[numpy.uint8(1), numpy.int64(0)], numpy.array([0, 63])]
+    assert fhpgas.scene_of(states, "fhp1", None, "seeded", seed, generation) == fhpgas.scene_of([[1, 0], [0, 63]], "fhp1", None, "seeded", 3, 5)
+    assert fhpgas.with_seed(AREA, seed) == fhpgas.with_seed(AREA, 3) and fhpgas.draw("discs", seed) == fhpgas.draw("discs", 3)
+    assert fhpgas.run(AREA, generation) == fhpgas.run(AREA, 5)
+    keys = {"gas": "fhp1", "width": numpy.int32(4), "height": 2, "solid": [list(numpy.array([0, 0, 1, 1]))]}
+    assert fhpgas.run(fhpgas.text_of(keys), 0).solid == ((True, False, False, False), (False,) * 4)
+
+
+def arrays_that_are_no_lattice_make_no_scene():
+    for states, part in ((numpy.zeros(4, int), "two-dimensional"), (numpy.zeros((2, 2, 2), int), "two-dimensional"), (numpy.array(3), "two-dimensional"),
+                         (numpy.array([[0, 0.5]]), "row 0 column 1 has state 0.5"), (numpy.array([[0], [-3]]), "row 1 column 0 has state -3")):
+        assert faults(fhpgas.scene_of, states, "fhp1", part=part), states
+    states, solid = numpy.ones((3, 4), int), numpy.zeros((3, 4), bool)
+    solid[2, 3] = True
+    assert faults(fhpgas.scene_of, states, "fhp1", solid, part="row 2 column 3 is solid and holds a particle: numpy.where(solid, 0, states)")
+    assert fhpgas.run(fhpgas.scene_of(numpy.where(solid, 0, states), "fhp1", solid), 0).particles == 11
+    assert faults(fhpgas.scene_of, states, solid, part="a gas is a text")
+    assert faults(fhpgas.text_of, {"gas": "fhp1", "cells": numpy.array(["..", "01"])}, part="`cells` cannot hold a value of type ndarray")
 
 
 def what_is_no_lattice_makes_no_scene():
     for states, gas, solid in (([[64]], "fhp1", None), ([[16]], "hpp", None), ([[-1]], "fhp1", None), ([[0.5]], "fhp1", None), ([[0]], "fhp2", None),
                                ([[1]], "fhp1", [[True]]), ([[1, 2]], "fhp1", [[False]]), ([["01"]], "fhp1", None)):
         assert faults(fhpgas.scene_of, states, gas, solid), (states, gas)
+    for states, solid, part in (([[0, 1], [2, 64]], None, "row 1 column 1 has state 64, and a state of fhp1 is an integer from 0 to 63"),
+                                ([[0, -1]], None, "row 0 column 1 has state -1"), ([[0, None]], None, "row 0 column 1 has state None"),
+                                ([[0, -1]], [[0, 1]], "row 0 column 1 has state -1"), ([1, 2], None, "two-dimensional"),
+                                ([[[1]]], None, "two-dimensional"), (None, None, "two-dimensional"), ([[1]], [True], "two-dimensional"),
+                                ([[0, 1], [0, 5]], [[1, 0], [0, 1]], "row 1 column 1 is solid and holds a particle")):
+        assert faults(fhpgas.scene_of, states, "fhp1", solid, part=part), (states, solid)
+    for key, value in (("seed", None), ("seed", 1.0), ("generation", None), ("generation", "3"), ("chirality", None)):
+        assert faults(lambda: fhpgas.run(fhpgas.scene_of([[1]], "fhp1", **{key: value}), 0)), key
     assert faults(fhpgas.run, fhpgas.scene_of([[1, 2], [3]], "fhp1"), 0, part="scene: row 1 has a wrong length")
 
 
@@ -129,6 +187,39 @@ def a_run_goes_on():
             assert [cells for cells, _ in fhpgas.series(scene, [3, 4])] == [fhpgas.run(scene, 0), fhpgas.run(scene, 3), whole]
     later = fhpgas.read_scene(SCENES / "later.toml")
     assert fhpgas.run(fhpgas.resume(later, fhpgas.run(later, 2)), 3) == fhpgas.run(later, 5)
+
+
+def a_run_goes_on_from_changed_cells():
+    """Unchanged states go on as `resume` does, after each of several parts; a particle that is put into an empty cell is one more."""
+    for gas, chirality in (("fhp1", "seeded"), ("fhp-rest", "right"), ("hpp", "left")):
+        first = AREA.replace('"fhp1"', f'"{gas}"\nchirality = "{chirality}"')
+        scene = first
+        for generation in (3, 6):
+            cells = fhpgas.run(scene, 3)
+            assert cells == fhpgas.run(first, generation)
+            scene = fhpgas.resume_changed(first if generation == 3 else scene, cells, cells.states)
+            assert scene == fhpgas.resume(first, cells)
+    states, solid = ([list(row) for row in rows] for rows in (cells.states, cells.solid))
+    y, x = next((y, x) for y, row in enumerate(states) for x, state in enumerate(row) if not state and not solid[y][x])
+    states[y][x] = 1
+    more = fhpgas.run(fhpgas.resume_changed(first, cells, states), 0)
+    assert (more.generation, more.particles, more.solid) == (6, cells.particles + 1, cells.solid)
+    states[y][x], solid[y][x] = 0, True
+    walled = fhpgas.run(fhpgas.resume_changed(scene, cells, states, solid), 0)
+    assert (walled.particles, walled.states) == (cells.particles, cells.states) and walled.solid[y][x] and not cells.solid[y][x]
+
+
+def changed_cells_that_do_not_fit_are_refused():
+    cells = fhpgas.run(AREA, 3)
+    y, x = next((y, x) for y, row in enumerate(cells.solid) for x, wall in enumerate(row) if wall)
+    held = [[1 if (row, column) == (y, x) else 0 for column in range(66)] for row in range(9)]
+    narrow = [row[1:] for row in cells.states]
+    for arguments, part in (((AREA, cells, held), f"row {y} column {x} is solid and holds a particle"), ((AREA, cells, narrow), "different sizes"),
+                            ((AREA, cells, narrow, [row[1:] for row in cells.solid]), "the states are of another size than the cells"),
+                            ((AREA, cells.states, cells), "cells are passed as"), ((cells, AREA, cells.states), "a scene is passed as its text"),
+                            ((AREA.replace("fhp1", "fhp2"), cells, cells.states), "there is no gas 'fhp2'"),
+                            (("gas = ", cells, cells.states), "scene: not TOML"), (("", cells, cells.states), "a gas is a text")):
+        assert faults(fhpgas.resume_changed, *arguments, part=part), part
 
 
 def cells_of_another_scene_are_refused():
@@ -164,7 +255,9 @@ def another_seed_of_the_same_start_is_refused():
 def tables_are_summed():
     table = fhpgas.read_table(TABLE)
     assert fhpgas.total([table, table, table]) == fhpgas.Table([[9, 12]], [[24, 0]], [[9, 0]], [[3, 0]])
-    for tables in ([], [table, fhpgas.coarse(AREA, 0, 66, 9)]):
+    other = fhpgas.coarse(AREA, 0, 66, 9)
+    assert fhpgas.total([other, other]).gas == "fhp1" and fhpgas.total([table, table]).gas is None
+    for tables in ([], [table, other], [other, fhpgas.coarse(AREA.replace("fhp1", "hpp"), 0, 66, 9)]):
         assert faults(fhpgas.total, tables, part="tables can be summed")
 
 
@@ -172,8 +265,26 @@ def a_mean_has_its_error():
     """The standard deviation of 1, 2, 3 is 1, and their mean's a third of the root of 3; of 2 and 4 the root of 2, and their mean's 1."""
     mean, error = fhpgas.mean([1, 2, 3])
     assert mean == 2 and math.isclose(error, math.sqrt(3) / 3) and fhpgas.mean(x for x in (2, 4)) == (3, 1)
-    for values in ([], [1]):
+    for values in ([], [1], [[1, 2]]):
         assert faults(fhpgas.mean, values, part="two values or more")
+
+
+def a_mean_of_lists_is_taken_place_by_place():
+    assert fhpgas.mean([[2, 5], [4, 5]]) == ([3, 5], [1, 0])
+    assert fhpgas.mean([([[2, None]], [[0, 1]]), ([[4, 6]], [[0, 3]])]) == ([[[3, None]], [[0, 2]]], [[[1, None]], [[0, 1]]])
+    tables = [fhpgas.coarse(fhpgas.with_seed(AREA, seed), 2, 33, 9) for seed in (1, 2, 3)]
+    (east, north), (east_error, _) = fhpgas.mean(table.velocity() for table in tables)
+    assert (east[0][1], east_error[0][1]) == fhpgas.mean(table.velocity()[0][0][1] for table in tables) and len(north[0]) == 2
+    for values in ([[1, 2], [1]], [[1], 1], [[[1], [2]], [[1], 2]]):
+        assert faults(fhpgas.mean, values, part="lists of one shape"), values
+
+
+def a_mean_of_arrays_is_one_of_lists():
+    values = [[[2, 5], [1, 1]], [[4, 5], [1, 3]]]
+    assert fhpgas.mean(map(numpy.array, values)) == fhpgas.mean(values) == ([[3, 5], [1, 2]], [[1, 0], [0, 1]])
+    assert fhpgas.mean(numpy.array([1, 2, 3])) == fhpgas.mean([1, 2, 3])
+    density = fhpgas.read_table(TABLE.replace("        4 ", "        0 ")).density()
+    assert numpy.isnan(numpy.array(density, float)).tolist() == [[False, True]]
 
 
 def calls_go_side_by_side_in_order():
@@ -186,6 +297,15 @@ def a_refusal_of_the_program_is_a_fault():
     assert faults(fhpgas.run, AREA + "colour = 1", 1, part="scene: unknown key")
     assert faults(fhpgas.run, AREA, 1_000_001, part="plan: generations must be 0 to 1000000")
     assert faults(fhpgas.coarse, AREA, 1, 0, 1, part="block") and faults(fhpgas.run, "a.toml", 1, part="read_scene('a.toml')")
+    cells = fhpgas.run(AREA, 0)
+    for function, arguments in ((fhpgas.run, (SCENES / "wind.toml", 1)), (fhpgas.coarse, (cells, 0, 8, 8)), (fhpgas.resume, (cells, AREA)),
+                                (fhpgas.run, (None, 0)), (fhpgas.run, (AREA.encode(), 0)), (fhpgas.with_seed, (SCENES / "channel.toml", 1)),
+                                (fhpgas.keys_of, (cells,)), (fhpgas.explain, (cells,)), (lambda scene: list(fhpgas.series(scene, [1])), (cells,))):
+        assert faults(function, *arguments, part="a scene is passed as its text: read_scene(path), or resume(scene, cells) for cells"), function
+    assert faults(fhpgas.resume, AREA, fhpgas.call(AREA, "run", "--generations", 1), part="cells are passed as `run` and `read_cells`")
+    for seed in (None, 1.5, "1"):
+        assert faults(fhpgas.with_seed, AREA, seed, part=f"`seed` cannot hold a value of type {type(seed).__name__}"), seed
+    assert faults(fhpgas.draw, "discs", None, part="--seed") and faults(fhpgas.run, AREA, None) and faults(fhpgas.run, AREA, 1.5)
     assert faults(fhpgas.read_scene, "no/such.toml", part="no/such.toml: No such file") and faults(fhpgas.read_scene, SCENES)
     with tempfile.NamedTemporaryFile() as file:
         file.write(b"\xff")
@@ -205,7 +325,7 @@ def the_program_beside_the_scripts_is_found():
     with tempfile.TemporaryDirectory() as folder:
         room = pathlib.Path(folder)
         (room / "scenes").mkdir()
-        for name in ("fhpgas.py", "over_time.py"):
+        for name in ("fhpgas.py", "over_time.py", "explain.py", "scene_reader.py", "toml_document.py"):
             (room / "scenes" / name).write_bytes((SCENES / name).read_bytes())
         (room / "fhpgas").symlink_to(PROGRAM)
         words = [sys.executable, room / "scenes/over_time.py", SCENES / "wind.toml", "0", "1", "32", "16"]
@@ -403,7 +523,10 @@ def refused_scenes_are_explained():
         assert told == line and any(reason in found for found in reasons), (text, told, reasons)
         done = script("explain.py", "-", text=text)
         assert done.returncode == 1 and not done.stderr and done.stdout.startswith(f"{line}\n  ") and reason in done.stdout, done
-        assert faults(fhpgas.call, text, "check", part=line)
+        assert faults(fhpgas.call, text, "check", part=line) and fhpgas.explain(text) == done.stdout
+    many = fhpgas.explain('gas = "fhp1"\nwidth = 4\nheight = 3\nparticles = [' + "[9, 0, 1], " * 11 + "]\n").splitlines()
+    assert len(many) == 10 and many[0] == "scene: out of range" and many[-1] == "  and 3 more of the kind", many
+    assert fhpgas.explain(AREA) == "the scene is not refused\n" and faults(fhpgas.explain, "a.toml", part="read_scene")
     assert explain.explained(b"#" * 67_108_865)[0] == "input: too long"
     line, reasons = explain.explained(b'gas = "\xff"\n')
     assert (line, reasons) == ("scene: not TOML", ["line 1, byte 8: no UTF-8"]), reasons
@@ -441,11 +564,13 @@ def the_guide_paints_blocks_without_fluid():
     assert tried >= 4, tried
 
 
-NEED_NUMPY = [arrays_are_those_lists]
+NEED_NUMPY = [arrays_are_those_lists, integers_of_numpy_are_integers, arrays_that_are_no_lattice_make_no_scene, a_mean_of_arrays_is_one_of_lists]
 TESTS = [
-    printed_cells_are_read, a_text_that_is_no_cells_is_refused, a_table_is_read, a_text_that_is_no_table_is_refused,
-    what_the_program_prints_is_read_as_it_stands, what_is_no_lattice_makes_no_scene, a_run_goes_on, cells_of_another_scene_are_refused,
+    printed_cells_are_read, read_cells_cannot_be_changed, a_text_that_is_no_cells_is_refused, a_table_is_read, a_text_that_is_no_table_is_refused,
+    what_the_program_prints_is_read_as_it_stands, a_table_holds_the_gas_of_its_scene, what_is_no_lattice_makes_no_scene, a_run_goes_on,
+    a_run_goes_on_from_changed_cells, changed_cells_that_do_not_fit_are_refused, cells_of_another_scene_are_refused,
     another_seed_is_another_start, another_seed_of_the_same_start_is_refused, tables_are_summed, a_mean_has_its_error,
+    a_mean_of_lists_is_taken_place_by_place,
     calls_go_side_by_side_in_order, a_refusal_of_the_program_is_a_fault, a_missing_program_is_a_fault, the_program_beside_the_scripts_is_found,
     every_script_has_help_and_refuses_other_words, every_script_is_tried_here, tables_over_time_are_those_of_runs_from_the_start,
     a_step_that_does_not_divide_is_refused, a_long_run_is_told_by_a_short_one, a_run_that_cannot_be_is_not_timed,

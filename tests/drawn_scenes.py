@@ -61,6 +61,22 @@ def a_disc_goes_on_past_the_last_column():
     assert solid_of("discs --gas hpp --width 30 --disc 0 8 1") == {(0, 8), (1, 8), (29, 8), (0, 7), (0, 9)}
 
 
+def a_disc_is_as_wide_and_as_high_as_the_help_says():
+    for row in (30, 31):
+        solid = solid_of(f"discs --width 80 --height 64 --disc 40 {row} 16")
+        assert (len({x for x, y in solid if y == row}), len({y for _, y in solid})) == (33, 37), row
+        assert all(sum(1 for x, y in solid if y == other) <= 33 for other in range(64))
+    cut, whole = (solid_of(f"discs --width 80 --height 64 --disc 40 {row} 16") for row in (0, 30))
+    assert cut == {(x, y - 30) for x, y in whole if y >= 30}
+
+
+def a_disc_outside_is_told_with_its_place():
+    for words, part in (("--disc 64 64 3", "a disc's middle, column 64 and row 64, is outside the channel of 64 x 24 cells"),
+                        ("--disc 3 3 2 --disc 5 -1 2", "a disc's middle, column 5 and row -1, is outside"), ("--disc 5 5 -2", "radius is -2")):
+        ran = drawn(f"discs {words}")
+        assert ran.returncode == 2 and part in ran.stderr.decode(), ran
+
+
 def a_nozzle_has_its_throat_and_open_ends():
     for throat, height in ((1, 24), (6, 24), (7, 31), (24, 24)):
         rows = lattice(f"nozzle --width 64 --height {height} --throat {throat} --length 40").rows
@@ -158,7 +174,8 @@ def help_is_told():
 
 
 TESTS = [a_block_is_solid_and_nothing_else, blocks_may_overlap, discs_have_the_cells_of_a_hexagon,
-         a_disc_of_one_step_is_a_cell_with_its_neighbours, a_disc_goes_on_past_the_last_column, a_nozzle_has_its_throat_and_open_ends,
+         a_disc_of_one_step_is_a_cell_with_its_neighbours, a_disc_goes_on_past_the_last_column,
+         a_disc_is_as_wide_and_as_high_as_the_help_says, a_disc_outside_is_told_with_its_place, a_nozzle_has_its_throat_and_open_ends,
          a_porous_medium_has_its_share, another_seed_is_another_medium, a_patch_is_filled_at_its_own_rate,
          a_wind_has_its_speed_and_its_rate,
          the_fastest_wind_is_drawn_and_told, a_side_above_4096_makes_a_scene_of_version_2, closed_ends_are_a_solid_column, keys_are_those_asked_for, what_cannot_be_drawn_is_refused,
