@@ -1,6 +1,7 @@
 #!/usr/bin/env python3
 """Looks up each link of the Markdown files that leads into the repository: its file must exist, and its anchor must be that of a heading
-there, by the rule of hosts such as GitHub. Links to other places are not tried. Ends with the counts."""
+there, by the rule of hosts such as GitHub. Links to other places are not tried. The map of the code must have each crate of crates.txt in
+its table, and no other. Ends with the counts."""
 
 import collections
 import pathlib
@@ -52,8 +53,18 @@ def fault(document, link):
     return None
 
 
+def crates():
+    """Returns the crates that crates.txt lists, and those in the first column of the table in docs/ARCHITECTURE.md."""
+    listed = set(re.findall(r"^(\w+):", (ROOT / "crates.txt").read_text(), re.M))
+    table = (ROOT / "docs/ARCHITECTURE.md").read_text().split("| crate |")[1].split("\n\n")[0]
+    return listed, {name for row in table.split("\n") if row.startswith("| `") for name in re.findall(r"`(\w+)`", row.split("|")[1])}
+
+
 def main():
     passed = failed = 0
+    for name in sorted(set.symmetric_difference(*crates())):
+        failed += 1
+        print(f"FAILED: {name} stands in crates.txt or in the table of docs/ARCHITECTURE.md, and not in both")
     for document in documents():
         for link, line in links(document.read_text()):
             if ELSEWHERE.match(link):
