@@ -35,7 +35,7 @@ abbrev pub fits : ℕ → ℕ → Rectangle → Bool
 fits width height r = fits_along width r.x r.width && fits_along height r.y r.height
 
 -- whether the cell of a placement lies in an area of this size and is not solid, and its state is
--- one of so many
+-- below the number of states
 abbrev pub can_place : ℕ → ℕ → ℕ → (ℤ → ℤ → Bool) → Placement → Bool
 can_place states width height solid p =
     (is_index width p.x && is_index height p.y) && (is_index states p.state && not (solid p.x p.y))

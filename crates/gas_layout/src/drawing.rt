@@ -37,8 +37,7 @@ impl Model for Drawing {
     ghost invariant = { λ d. AreStrips d.size.width d.size.height d.rows.items };
 }
 
-// Makes the cells of the channel solid that one of the strips covers, by way of what is solid of a
-// row.
+// Makes the cells of the channel solid that one of the strips covers; `solid` is a buffer for a row.
 fn make_solid(channel: &mut Channel, rows: &[Vec<Strip>], skyline: &mut Skyline, solid: &mut [bool])
     requires few { channel.old.width ≤ MOST_SIDE }
     requires wide { length solid.old ≡ channel.old.width }

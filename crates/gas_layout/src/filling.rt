@@ -35,8 +35,8 @@ fn particle(word: u32, rate: u32, i: u32) -> u8
     u8::from(is_particle(word, rate)) << i
 }
 
-// Adds direction `i` to the states of row `y` where filling puts a particle into it, by way of a
-// buffer for the words of the row.
+// Adds direction `i` to the states of row `y` where filling puts a particle into it; `words` is a
+// buffer for a row.
 fn add_direction(
     states: &mut [u8],
     words: &mut [u32],
@@ -85,7 +85,7 @@ fn fill_states<G: Gas>(
     }
 }
 
-// Fills the fluid cells of row `y`, by way of a buffer for its states and one for words.
+// Fills the fluid cells of row `y`; `states` and `words` are buffers for a row.
 fn fill_row<G: Gas>(
     lattice: &mut Lattice<G>,
     states: &mut [u8],
@@ -108,7 +108,7 @@ fn fill_row<G: Gas>(
     lattice.set_states(y, states);
 }
 
-// Fills the fluid cells, by way of buffers for a row.
+// Fills the fluid cells; `states` and `words` are buffers for a row.
 fn fill_rows<G: Gas>(
     lattice: &mut Lattice<G>,
     states: &mut [u8],

@@ -42,7 +42,7 @@ impl Placement {
         !channel.is_solid(self.x as u32, self.y as u32)
     }
 
-    /// Whether the cell lies in the channel and is fluid, and its state is one of so many.
+    /// Whether the cell lies in the channel and is fluid, and its state is below `states`.
     pub fn can_stand(self, channel: &Channel, states: u16) -> bool
         ensures { result ≡ can_place states channel.now.width channel.now.height
             (λ x y. is_solid channel.now (nat_abs x) (nat_abs y)) self }
@@ -53,7 +53,8 @@ impl Placement {
     /// Sets the state of the cell.
     pub fn put<G: Gas>(self, lattice: &mut Lattice<G>)
         requires size { IsSize lattice.old.channel.width lattice.old.channel.height }
-        requires can { can_place (2 ^ G.rules.dirs) lattice.old.channel.width lattice.old.channel.height
+        requires can { can_place (2 ^ G.rules.dirs)
+            lattice.old.channel.width lattice.old.channel.height
             (λ x y. is_solid lattice.old.channel (nat_abs x) (nat_abs y)) self ≡ true }
         ensures channel { lattice.new.channel ≡ lattice.old.channel }
         ensures cells { (w h : ℕ) (solid : ℕ → ℕ → Bool) (at : ℕ → ℕ → ℕ)

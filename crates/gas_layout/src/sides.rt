@@ -20,8 +20,8 @@ pub(crate) fn is_index(limit: u32, n: i64) -> bool
     0 <= n && n < i64::from(limit)
 }
 
-/// The size of an area of so many cells along and across, or None where one of the two is not 1 up
-/// to `most`, which is at most 65536.
+/// The size of an area, or None where its width or its height is not 1 to `most`, which is at most
+/// 65536.
 pub fn size_within(most: u32, width: i64, height: i64) -> Option<Size>
     requires { most ≤ MOST_SIDE }
     ensures within { is_some result

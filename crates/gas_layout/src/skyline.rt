@@ -22,8 +22,8 @@ fn extend(depths: &mut [u32], strip: Strip)
     }
 }
 
-// Does so at the two ends of a strip, before and after the whole blocks of 64 columns that it
-// crosses, and gives these blocks as a strip. Where it crosses none, all of it is ends.
+// Extends the two ends of a strip, before and after the whole blocks of 64 columns that it crosses,
+// and returns these blocks as a strip. Where it crosses none, all of it is ends.
 fn extend_ends(depths: &mut [u32], strip: Strip) -> Strip
     requires { IsStrip (length depths.old) strip }
     ensures within { (n : ℕ) → length depths.old ≤ 64 * n → IsStrip n result }
@@ -98,7 +98,7 @@ pub struct Skyline {
 impl Skyline {
     ghost use Rattle.gas_layout.specs.Inner.Strips.{IsSkyline, passes};
 
-    /// No column of so many is solid.
+    /// A skyline of `width` columns, none of them solid.
     pub(crate) fn flat(alloc: Global, width: usize) -> Result<Skyline, AllocError>
         requires { width ≤ MOST_SIDE }
         ensures sized { IfOk result (λ s. IsSkyline width s) }

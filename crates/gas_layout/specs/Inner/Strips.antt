@@ -34,7 +34,7 @@ passes s x y =
     || (nat_lt y (slice_index s.blocks.items (x / 64))
     || nat_lt y (slice_index s.groups.items (x / 64 / 64)))
 
--- a number for each of so many columns, for each of their blocks, and for each of their groups
+-- a number for each of `width` columns, for each of their blocks, and for each of their groups
 pub record IsSkyline (width : ℕ) (s : Skyline) : Type 0 where
   pub columns : length s.columns.items ≡ width
   pub blocks : width ≤ 64 * length s.blocks.items
