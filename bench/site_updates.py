@@ -59,7 +59,7 @@ def build(room):
 
 @contextlib.contextmanager
 def busy_programs(count):
-    """Has so many other programs keep a processor busy each."""
+    """Has a number of other programs keep a processor busy each."""
     programs = [subprocess.Popen([sys.executable, "-c", "while True: pass"]) for _ in range(count)]
     try:
         yield
@@ -131,7 +131,7 @@ class Bench:
         self.add(name, self.seconds_of(name, program, self.generations, *words), self.generations)
 
     def slower(self, name, times, program):
-        """Such a program that computes so many times fewer generations, which bands.c computes too, to compare the cells with."""
+        """Such a program that computes fewer generations, which bands.c computes too, to compare the cells with."""
         generations = max(1, self.generations // times)
         if generations not in self.wanted:
             self.seconds_of("bands.c", [self.room / "bands"], generations, 1)

@@ -140,9 +140,9 @@ same run --generations 0001
 same run --generations +1
 same run --capacity 1 --stages=64 --generations 1
 
-# turns of nobody, and ten thousand turns
+# turns of no member, and ten thousand turns
 ends 0 "$drift" replay --generations 1 --stages 1 4294967295 && head -n 1 "$room/out" | grep -q '^not done$'
-count "the turn of nobody"
+count "the turn of no member"
 # shellcheck disable=SC2046
 ends 0 "$drift" replay --generations 1 --stages 1 $(yes '0 1' | head -n 5000) && head -n 1 "$room/out" | grep -q '^done$'
 count "ten thousand turns"

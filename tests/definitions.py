@@ -3,7 +3,7 @@
 
 A definition is an item of a crate's specs/. It must be believed where the contract of a public call names it, or another that
 must be believed does. Counted beside them are the code's types that these definitions name, and the ghost members of public
-traits that public contracts name, with what each type gives for them. Relations that calls give and keep, of which no promise
+traits that public contracts name, with what each type gives for them. Relations that calls give and keep, about which no promise
 depends on what they say, have a section of their own in DEFINITIONS.md and are counted apart.
 
 Fails where DEFINITIONS.md does not tell of one of them beside the file that holds it, names one that is gone, or tells other counts; where a

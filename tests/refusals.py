@@ -101,7 +101,7 @@ def as_many(library, name, runs):
 
 
 def run_within(limit, words, text):
-    """Runs the program in an address space of so many bytes."""
+    """Runs the program in an address space of a number of bytes."""
     return subprocess.run(
         [PROGRAM, *words],
         input=text,

@@ -360,7 +360,7 @@ def hold(output, edits):
 
 
 class Slots:
-    """Lets so many checks run at once, in the order in which they ask; one that runs alone takes all."""
+    """Lets a number of checks run at once, in the order in which they ask; one that runs alone takes all."""
 
     def __init__(self, most):
         self.most, self.free, self.waiting, self.turn = most, most, collections.deque(), threading.Condition()

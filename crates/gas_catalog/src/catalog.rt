@@ -80,7 +80,7 @@ impl KnownGas {
 
     /// The gas of this name.
     pub fn named(name: &str) -> Option<KnownGas>
-        ensures { result ≡ gas_named name.now }
+        ensures known { result ≡ gas_named name.now }
     {
         if name == Fhp1::name() {
             Some(KnownGas::Fhp1)
@@ -95,7 +95,7 @@ impl KnownGas {
 
     /// The number of states that a cell can have: 2 to the power of the number of directions.
     pub fn states(self) -> u16
-        ensures { result ≡ 2 ^ (rules_of self).dirs }
+        ensures number { result ≡ 2 ^ (rules_of self).dirs }
     {
         match self {
             KnownGas::Fhp1 => states::<Fhp1>(),

@@ -27,7 +27,7 @@ fn hex_digit(digit: u8) -> u8
 
 /// The two characters of a cell.
 pub fn cell_pair(solid: bool, state: u8) -> [u8; CHARACTERS]
-    ensures { result ≡ cell_text solid state }
+    ensures text { result ≡ cell_text solid state }
 {
     if solid {
         *b"##"
@@ -92,7 +92,7 @@ pub fn row_blocks<G: Gas>(lattice: &Lattice<G>) -> u32
 pub fn row_block<G: Gas>(lattice: &Lattice<G>, y: u32, j: u32) -> RowBlock
     requires row { y < lattice.now.channel.height }
     requires block { j < words_in lattice.now.channel.width }
-    ensures { result
+    ensures text { result
         ≡ take 128 (drop (128 * j) (row_cells lattice.now.channel lattice.now.rows y)) }
 {
     let row = lattice.row(y);

@@ -57,7 +57,7 @@ fn make_solid(channel: &mut Channel, rows: &[Vec<Strip>], skyline: &mut Skyline,
 impl Drawing {
     /// A drawing with no rectangles.
     pub fn new(alloc: Global, size: Size) -> Result<Drawing, AllocError>
-        ensures { IfOk result (λ d. d ≡ drawn size.width size.height []) }
+        ensures blank { IfOk result (λ d. d ≡ drawn size.width size.height []) }
     {
         let mut rows = Vec::with_capacity(alloc, size.height() as usize)?;
         for _ in 0..size.height() {
@@ -68,7 +68,7 @@ impl Drawing {
 
     /// Adds a rectangle. Where memory is refused the drawing is as it was.
     pub fn add(&mut self, rectangle: Rectangle) -> Result<(), AllocError>
-        requires { fits self.old.width self.old.height rectangle ≡ true }
+        requires fits { fits self.old.width self.old.height rectangle ≡ true }
         ensures width { self.new.width ≡ self.old.width }
         ensures height { self.new.height ≡ self.old.height }
         ensures added { OnOk result ((w h : ℕ) (rs : List Rectangle) → self.old ≡ drawn w h rs
@@ -82,7 +82,7 @@ impl Drawing {
 
     /// The channel in which the cells are solid that one of the rectangles covers.
     pub fn channel(&self, alloc: Global) -> Result<Channel, AllocError>
-        ensures { IfOk result (λ c. c ≡ self.now) }
+        ensures drawn { IfOk result (λ c. c ≡ self.now) }
     {
         let mut channel = Channel::free(alloc, self.size)?;
         let width = self.size.width() as usize;

@@ -44,7 +44,7 @@ impl Placement {
 
     /// Whether the cell lies in the channel and is fluid, and its state is below `states`.
     pub fn can_stand(self, channel: &Channel, states: u16) -> bool
-        ensures { result ≡ can_place states channel.now.width channel.now.height
+        ensures value { result ≡ can_place states channel.now.width channel.now.height
             (λ x y. is_solid channel.now (nat_abs x) (nat_abs y)) self }
     {
         self.is_in(channel) && (is_index(u32::from(states), self.state) && self.is_fluid(channel))

@@ -28,7 +28,7 @@ impl Rectangle {
 
     /// Whether the rectangle has cells, all of them in an area of this size.
     pub fn fits(self, size: Size) -> bool
-        ensures { result ≡ fits size.width size.height self }
+        ensures value { result ≡ fits size.width size.height self }
     {
         fits_along(size.width(), self.x, self.width)
             && fits_along(size.height(), self.y, self.height)

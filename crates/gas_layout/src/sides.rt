@@ -8,7 +8,7 @@ use gas_geom::size::Size;
 
 /// Whether a number is one of `low` up to `high`.
 pub fn is_between(low: i64, high: i64, n: i64) -> bool
-    ensures { result ≡ between low high n }
+    ensures value { result ≡ between low high n }
 {
     low <= n && n <= high
 }
@@ -23,7 +23,7 @@ pub(crate) fn is_index(limit: u32, n: i64) -> bool
 /// The size of an area, or None where its width or its height is not 1 to `most`, which is at most
 /// 65536.
 pub fn size_within(most: u32, width: i64, height: i64) -> Option<Size>
-    requires { most ≤ MOST_SIDE }
+    requires most { most ≤ MOST_SIDE }
     ensures within { is_some result
         ≡ (between (pos 1) (pos most) width && between (pos 1) (pos most) height) }
     ensures made { IfSome result (λ s.

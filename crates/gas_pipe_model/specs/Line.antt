@@ -46,7 +46,7 @@ unfoldable pub grown : (ℕ → List RowModel) → ℕ → List RowModel → ℕ
 grown f k rows j = if eqb j k then f k ++ take 1 (drop (length (f k)) rows) else f j
 
 -- A turn of member m: where its put is open, the next row owed on its belt is put; else, where its take is open, the next row put on
--- the belt that it takes from is taken; else nothing. A number above the workers' names nobody.
+-- the belt that it takes from is taken; else nothing. A number above the workers' names no member.
 unfoldable pub turn : Line → State → ℕ → State
 turn l s m =
     if ltb l.workers m then s

@@ -27,7 +27,7 @@ pub fn lattice_after<G: Gas>(
     generations: u64,
 ) -> Result<Lattice<G>, AllocError>
     requires room { first + generations < 2 ^ 64 }
-    ensures { IfOk result (λ l. l ≡ lattice_after G.rules chirality first lattice.now generations) }
+    ensures lattice { IfOk result (λ l. l ≡ lattice_after G.rules chirality first lattice.now generations) }
 {
     let (channel, rows) = lattice.copy(alloc)?.into_rows();
     let rows = advance(
@@ -44,7 +44,7 @@ pub fn lattice_after<G: Gas>(
 /// Generations add up: the lattice n generations after the one of m generations is that of m + n,
 /// where the later ones begin at the generation that was reached.
 pub fn generations_add_up()
-    ensures { (gas : Rules) (chirality : Chirality) (first : ℕ) (lattice : LatticeModel) (m n : ℕ) →
+    ensures law { (gas : Rules) (chirality : Chirality) (first : ℕ) (lattice : LatticeModel) (m n : ℕ) →
         lattice_after gas chirality (first + m) (lattice_after gas chirality first lattice m) n
         ≡ lattice_after gas chirality first lattice (m + n) }
 {}

@@ -200,7 +200,7 @@ impl<'a, G: Gas> Stage<'a, G> {
 
     /// Whether a pass is open.
     pub fn is_open(&self) -> bool
-        ensures { IsTrue result ↔ IsSome self.now.pass }
+        ensures open { IsTrue result ↔ IsSome self.now.pass }
     {
         !matches!(self.pass, Pass::Closed)
     }

@@ -168,7 +168,7 @@ pub fn coarse<G: Gas>(
 ) -> Result<Vec<Block>, AllocError>
     requires some_columns { 1 ≤ width }
     requires some_rows { 1 ≤ height }
-    ensures { IfOk result (λ blocks. blocks.items ≡ blocks_of G.rules lattice.now width height) }
+    ensures blocks { IfOk result (λ blocks. blocks.items ≡ blocks_of G.rules lattice.now width height) }
 {
     let size = lattice.channel().size();
     let columns = size.width().div_ceil(width);

@@ -7,6 +7,6 @@ use Rattle.example_wind.proofs.channel.Goals as goal
 
 pub returns : goal.returns
 returns c =
-    let blank = c.in_ok-drawing.ensures ∙ ap (λ (s : SizeModel). drawn s.width s.height []) c.in-Some.ensures.made in
+    let blank = c.in_ok-drawing.ensures.blank ∙ ap (λ (s : SizeModel). drawn s.width s.height []) c.in-Some.ensures.made in
     subst (λ (a : ChannelModel). IfOk c.channel.result (λ channel. channel ≡ a))
-    (c.in_ok-add.ensures.added 32 16 [] blank) c.channel.ensures
+    (c.in_ok-add.ensures.added 32 16 [] blank) c.channel.ensures.drawn

@@ -7,7 +7,7 @@ use Rattle.gas_geom.specs.Lattice.{cell}
 use Rattle.gas_rows.specs.Row.{RowModel}
 
 -- The rows that a feeder holds, where to_put rows are still to be put, to_take rows still to be taken, and row `next` of a lattice
--- comes back next: rows of a lattice, of which row y stands at y + to_put, modulo the height.
+-- comes back next: rows of a lattice, where row y stands at y + to_put, modulo the height.
 pub record IsQueue (gas : Rules) (channel : ChannelModel) (rows : List RowModel) (to_put to_take next : ℕ) : Type 0 where
   pub long : length rows + to_take ≡ channel.height + to_put
   -- the last row that comes back is a lattice's last

@@ -10,7 +10,7 @@ pub loop-b-preserved : goal.loop-b-preserved
 loop-b-preserved c =
     let f : ℕ → List ℕ = λ b. cell_text (holds c.args.solid b) (slice_index c.args.states b) in
     let b : ℕ = c.loop-b.b in
-    let pair : c.cell_pair-pair.result ≡ f b = c.cell_pair-pair.ensures ∙ ap (λ (s : Bool). cell_text s (slice_index c.args.states b)) (holds-shr_and c.args.solid b) in
+    let pair : c.cell_pair-pair.result ≡ f b = c.cell_pair-pair.ensures.text ∙ ap (λ (s : Bool). cell_text s (slice_index c.args.states b)) (holds-shr_and c.args.solid b) in
     let long : length c.cell_pair-pair.result ≡ 2 = ap length pair ∙ cell_text-long (holds c.args.solid b) (slice_index c.args.states b) in
     let more : texts f 0 b ++ f b ≡ texts f 0 (b + 1) = sym (texts-next f b) in
     let next : ℕ = 2 * b + 1 in

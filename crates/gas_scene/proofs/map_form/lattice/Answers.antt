@@ -11,4 +11,4 @@ build-requires c =
     let rows = map text_of (map view c.args.rows.now) in
     let none = verdict-none (map_refusal c.args.most c.states.result rows) (sym c.check.ensures ∙ c.in_ok-check.was) in
     let parts = map_parts c.args.most c.states.result rows none in
-    subst (λ n. IsMap n rows) c.states.ensures (IsMap-accepted c.args.most rows c.requires parts.1.0 c.states.result parts.0 parts.1.1)
+    subst (λ n. IsMap n rows) c.states.ensures.number (IsMap-accepted c.args.most rows c.requires parts.1.0 c.states.result parts.0 parts.1.1)

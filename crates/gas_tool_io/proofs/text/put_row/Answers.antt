@@ -9,7 +9,7 @@ pub loop-j-preserved : goal.loop-j-preserved
 loop-j-preserved g c =
     let row : List ℕ = row_cells c.args.lattice.now.channel c.args.lattice.now.rows c.args.y in
     let j : ℕ = c.loop-j.j in
-    let block : c.as_bytes.result.now ≡ take 128 (drop (128 * j) row) = c.as_bytes.ensures.value ∙ c.row_block.ensures in
+    let block : c.as_bytes.result.now ≡ take 128 (drop (128 * j) row) = c.as_bytes.ensures.value ∙ c.row_block.ensures.text in
     let joined : take (128 * j) row ++ c.as_bytes.result.now ≡ take (128 * (j + 1)) row =
     ap (λ (t : List ℕ). take (128 * j) row ++ t) block ∙ blocks-next row j in
     Adds-more _ _ _ _ _ _ (take (128 * j) row) c.as_bytes.result.now (take (128 * (j + 1)) row) joined c.loop-j.invariant c.push.ensures

@@ -32,11 +32,11 @@ returns-in_err-push-clause-refused c =
 pub invariant_of-self-2 : goal.invariant_of-self-2
 invariant_of-self-2 c =
     AreStrips-added c.self.inside.size.width c.self.inside.size.height c.self.inside.rows.items c.push.new.self c.index_mut-row.result.now c.args.rectangle
-    c.args.self.now c.first_row.result c.of.result c.self.view_is c.requires c.self.invariant c.first_row.ensures c.of.ensures
+    c.args.self.now c.first_row.result c.of.result c.self.view_is c.requires.fits c.self.invariant c.first_row.ensures c.of.ensures
     (c.in_ok-push.ensures.items ∙ ap (λ (v : Vec Strip Global). v.items ++ c.of.result ∷ []) c.index_mut-row.ensures.value)
 
 pub returns-clause-added : goal.returns-clause-added
 returns-clause-added c = λ w h rs e.
     drawn-added c.self.inside.size.width c.self.inside.size.height c.self.inside.rows.items c.push.new.self c.index_mut-row.result.now c.args.rectangle
-    c.args.self.now c.first_row.result c.of.result c.self.view_is c.requires c.self.invariant c.first_row.ensures c.of.ensures
+    c.args.self.now c.first_row.result c.of.result c.self.view_is c.requires.fits c.self.invariant c.first_row.ensures c.of.ensures
     (c.in_ok-push.ensures.items ∙ ap (λ (v : Vec Strip Global). v.items ++ c.of.result ∷ []) c.index_mut-row.ensures.value) w h rs e

@@ -8,4 +8,6 @@ invariant_of-result c =
     (omega (arith, c.loop.invariant.high, c.loop-test.false, c.loop.auto.counter-end, c.height-end.ensures.value)) c.loop.invariant.empty
 
 pub returns : goal.returns
-returns c = drawn-none c.args.size.width c.args.size.height c.loop.rows.items c.loop.invariant.empty
+returns c = record {
+  blank = drawn-none c.args.size.width c.args.size.height c.loop.rows.items c.loop.invariant.empty;
+}
