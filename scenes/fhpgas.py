@@ -29,16 +29,16 @@ import re
 import subprocess
 import sys
 
-import explain as explaining
 import scene_reader
+from explain import explanation
 from scene_reader import STATES
 
 HERE = pathlib.Path(__file__).resolve().parent
 HEADER = "  col   row    fluid particles         px         py"
 ZEROS = str.maketrans("123456789abcdef", "0" * 15)
 EMPTY = str.maketrans("0123456789abcdef", "." * 16)
-STATE_OF = {tuple(f"{state:02x}"): state for state in range(128)} | {(".", "."): 0, ("#", "#"): 0}  # of a cell's two characters
-# The line of a scene that names its gas. No text in a scene that the program takes has such a line within.
+DIGITS = str.maketrans(".#", "00")
+# The line of a scene that names its gas: in a scene that the program takes, no text and no comment has such a line within.
 GAS = re.compile(r"""^[ \t]*gas[ \t]*=[ \t]*(["'])([\w-]+)\1""", re.M)
 
 
@@ -58,12 +58,12 @@ class Cells:
     def states(self):
         """The state of each cell, a bit for each direction, as tuples [y][x]; 0 where a cell is solid. To change some and go on, pass
         other states to `resume_changed`."""
-        return tuple(tuple(map(STATE_OF.__getitem__, zip(line[::2], line[1::2]))) for line in self.lines)
+        return tuple(tuple(bytes.fromhex(line.translate(DIGITS))) for line in self.lines)
 
     @functools.cached_property
     def solid(self):
         """Whether each cell is solid, as tuples [y][x]."""
-        return tuple(tuple([letter == "#" for letter in line[::2]]) for line in self.lines)
+        return tuple(tuple(map("#".__eq__, line[::2])) if "#" in line else (False,) * (len(line) // 2) for line in self.lines)
 
     def arrays(self):
         """Returns the states (uint8) and the solid cells (bool) as new numpy arrays [y, x]."""
@@ -194,7 +194,7 @@ def coarse(scene, generations, block_width, block_height, stages=1, capacity=128
 
 def explain(scene):
     """Returns what explain.py prints for a scene: the line that refuses it, and under it where in the text and why."""
-    return explaining.explanation(bytes_of(scene))
+    return explanation(bytes_of(scene))
 
 
 def side_by_side(function, values):
@@ -332,11 +332,17 @@ def lines_of(states, gas, solid):
     """Returns the rows of a map of given cells, as in `scene_of`."""
     states, solid = as_lists(states), as_lists(solid)
     of_solid, of_fluid = {0: "##"}, {state: f"{state:02x}" if state else ".." for state in range(STATES[known_gas(gas)])}
+
+    def line(row, walls):
+        if not any(walls):
+            return "".join(map(of_fluid.__getitem__, row))
+        return "".join([(of_solid if wall else of_fluid)[state] for state, wall in zip(row, walls)])
+
     try:
         solid = [[False] * len(row) for row in states] if solid is None else solid
         if [*map(len, solid)] != [*map(len, states)]:
             raise Fault("states and solid cells are of different sizes")
-        return ["".join([(of_solid if wall else of_fluid)[state] for state, wall in zip(*row)]) for row in zip(states, solid)]
+        return [*map(line, states, solid)]
     except TypeError:
         raise Fault("states and solid cells are two-dimensional, [y][x]") from None
     except KeyError:

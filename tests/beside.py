@@ -138,6 +138,7 @@ def arrays_are_those_lists():
     assert states.dtype == numpy.uint8 and solid.dtype == bool
     assert table.arrays().tolist() == [table.fluid, table.particles, table.px, table.py]
     assert fhpgas.scene_of(states, "fhp1", solid, seed=3) == fhpgas.scene_of(cells.states, "fhp1", cells.solid, seed=3)
+    assert fhpgas.resume_changed(scene, cells, states) == fhpgas.resume_changed(scene, cells, states, solid) == fhpgas.resume(scene, cells)
 
 
 def integers_of_numpy_are_integers():
