@@ -36,7 +36,7 @@ except ImportError:
 
 def script(name, *words, text="", folder=None):
     command = [sys.executable, SCENES / name, *map(str, words)]
-    return subprocess.run(command, input=text, capture_output=True, text=True, timeout=120, cwd=folder)
+    return subprocess.run(command, input=text, capture_output=True, text=True, timeout=600, cwd=folder)
 
 
 def is_refused(done, status, part):

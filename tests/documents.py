@@ -21,7 +21,7 @@ BLOCK = re.compile(r"^```(\w*)\n(.*?)^```$", re.M | re.S)
 def is_well(commands, wanted, room):
     """Whether a block ends with 0 and prints what is wanted (None: anything), and nothing on standard error; else says what it did."""
     try:
-        ran = subprocess.run(["bash", "-ec", commands], cwd=room, capture_output=True, text=True, timeout=60)
+        ran = subprocess.run(["bash", "-ec", commands], cwd=room, capture_output=True, text=True, timeout=600)
     except subprocess.TimeoutExpired as fault:
         print(fault)
         return False
