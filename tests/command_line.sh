@@ -158,7 +158,7 @@ count "the version"
 [ "$(sed -n 's/^fhpgas \([0-9.]*\) .*/\1/p' "$room/out")" = "$(sed -n 's/^version: //p' CITATION.cff)" ] \
     && grep -q "^## $(sed -n 's/^version: //p' CITATION.cff)\$" CHANGELOG.md && grep -qF "$(sed 's/.*(\(.*\))/\1/' "$room/out")" README.md
 count "the version is the one that is cited, and the kit the one that is needed"
-grep -qF "($(rt version))" "$room/out"
+grep -qF "($(rt version | sed 's/^\(rattle-kit-[0-9]*\)[a-z]* /\1 /'))" "$room/out"
 count "the kit is the one that proves it here"
 ends 2 '' coars --generations 1 && grep -q "'coarse'" "$room/err"
 count "a mistyped command gets a hint"

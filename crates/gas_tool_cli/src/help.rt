@@ -1,7 +1,7 @@
 //! The texts of the help: what each command does, how it is called, and what else there is to know.
 
-/// The program's version, and the kit by which it is proved.
-pub(crate) const VERSION: &str = "0.1.0 (rattle-kit-13f logic dac8208d650f15bf)";
+/// The program's version, and the kit by which it is proved, whatever the letter of its release.
+pub(crate) const VERSION: &str = "0.1.0 (rattle-kit-13 logic dac8208d650f15bf)";
 
 pub(crate) const ABOUT: &str = "\
 A lattice gas in a channel: particles move from cell to cell, collide, and bounce back from walls
