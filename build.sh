@@ -1,6 +1,7 @@
 #!/bin/bash
-# Builds a program, fhpgas unless another crate is named, for the level of x86-64 that FHPGAS_CPU names (x86-64-v2 if it names
-# none): proves each crate that it stands on as soon as those below it are proved, several at a time, and links.
+# Builds a program, fhpgas unless another crate is named: proves each crate that it stands on as soon as those below it are proved,
+# several at a time, and links. The level of x86-64 is the one that FHPGAS_CPU names; if it names none, the highest of v2 and v3 that
+# this machine has, or v2 for an archive, which goes to machines that nobody knows here.
 #
 #   ./build.sh [--kept] [CRATE]    builds
 #   ./build.sh --archive FILE      builds fhpgas and packs it into FILE, a .tar.gz, for machines without the kit
@@ -31,6 +32,11 @@ usage() {
 
 way=anew action='' # how crates are proved, and what else was asked for
 declare -A needs uses below jobs seconds work chain left started running
+
+# own_level: the highest level of x86-64 that this machine has and the kit builds for, as the loader tells it
+own_level() {
+    if /lib64/ld-linux-x86-64.so.2 --help 2> /dev/null | grep -q 'x86-64-v3 (supported'; then echo x86-64-v3; else echo x86-64-v2; fi
+}
 
 # lines FILE: without comments and empty lines
 lines() { sed 's/#.*//; /^[[:space:]]*$/d' "$1"; }
@@ -401,7 +407,7 @@ END
 # pack FILE: the program and what another machine needs beside it
 pack() {
     local version folder
-    if [ "$(cat crates/fhpgas/out/level 2> /dev/null)" != "$cpu" ]; then ./build.sh || exit; fi
+    if [ "$(cat crates/fhpgas/out/level 2> /dev/null)" != "$cpu" ]; then FHPGAS_CPU=$cpu ./build.sh || exit; fi
     version=$(./fhpgas --version) || exit # which builds it where a source is newer
     room=$(mktemp -d) || exit
     trap 'rm -rf "$room" "$file.new"' EXIT
@@ -431,7 +437,8 @@ while [ $# -gt 0 ]; do
     shift
 done
 cd "$(dirname "$0")" || exit 1
-cpu=${FHPGAS_CPU:-x86-64-v2}
+if [ "$action" = --archive ]; then cpu=x86-64-v2; else cpu=$(own_level); fi
+cpu=${FHPGAS_CPU:-$cpu}
 processors=$(nproc)
 # proofs at one time: most take 1 to 2 GB of memory, those of programs 2.5
 fit=$(awk '/^MemAvailable/ { print int($2 / 3000000) }' /proc/meminfo)

@@ -14,7 +14,7 @@ if grep 'only because a proof file names what the edit took away' "$log"; then
     exit 1
 fi
 if ! tests/wrong_bodies_test.py || ! tests/wrong_bodies.py; then exit 1; fi
-./build.sh --proved "$mark" # so that a build after the tests has nothing to prove
-echo x86-64-v2 > crates/fhpgas/out/level # for which rt ci builds
+FHPGAS_CPU=x86-64-v2 ./build.sh --proved "$mark" # the level that rt ci builds for; so a build after the tests proves no library
+echo x86-64-v2 > crates/fhpgas/out/level
 tests/command_line.sh && tests/scene_tables.py && tests/terminal.py && tests/documents.py && tests/library.py && tests/archive.sh \
     && tests/drawn_scenes.py && tests/beside.py && tests/mutated_scenes.py 5000 && tests/large_scenes.py 1 && tests/refusals.py
