@@ -6,14 +6,20 @@ use std::sync::atomic::{AtomicU64, Ordering};
 
 // The numbers of the policy. docs/DECISIONS.md gives their reasons ("How a member waits").
 
-// Spins before the first yield: more of them were as fast or slower.
-const SPINS: u32 = 32;
+// Spins before the first yield: few, since the neighbour that makes the row may need the processor.
+const SPINS: u32 = 4;
 
 // Yields before the first park: they last longer than a parked thread mostly takes to wake.
 const YIELDS: u32 = 1024;
 
-// One wait in 64 is a trial: rarely, since it spins where to yield may be much cheaper.
-const WAITS_A_TRIAL: u32 = 64;
+// Spins of a trial before its park: where each member has a processor, a wait is mostly shorter.
+const TRIAL_SPINS: u32 = 256;
+
+// Waits from the first trial to the next: few, so that busy processors are noticed soon.
+const FIRST_GAP: u32 = 4;
+
+// The most waits from a trial to the next: many, since a trial may cost a late wake-up.
+const LONGEST_GAP: u32 = 1024;
 
 // Missed waits in a row that ban yields: one alone may be a processor that was away for a moment.
 const MISSES: u32 = 3;
@@ -43,7 +49,7 @@ pub enum Phase {
 enum Mode {
     // It spins, then yields.
     Yielding,
-    // It spins where it would yield, to find out whether its neighbours can be woken in time.
+    // It spins and then parks, to find out whether its neighbours can wake it in time.
     Trial,
     // It spins only briefly, since yields are banned.
     Banned,
@@ -78,6 +84,38 @@ impl YieldBan {
     }
 }
 
+// When the trials of a member come: further apart each time that one was not missed.
+#[derive(Drop)]
+struct Trials {
+    // The waits before the next trial, and from that one to the one after it.
+    until_next: u32,
+    gap: u32,
+}
+
+impl Trials {
+    // The next wait is a trial.
+    fn new() -> Self {
+        Trials {
+            until_next: 0,
+            gap: FIRST_GAP,
+        }
+    }
+
+    // Counts a wait that begins, and returns whether it is a trial.
+    fn count_wait(&mut self) -> bool {
+        let is_trial = self.until_next == 0;
+        if is_trial {
+            self.until_next = self.gap;
+        }
+        self.until_next = self.until_next.saturating_sub(1);
+        is_trial
+    }
+
+    fn widen(&mut self) {
+        self.gap = LONGEST_GAP.min(self.gap.saturating_mul(2));
+    }
+}
+
 /// The policy by which one member waits: a value that is stepped after each try that failed.
 #[derive(Drop)]
 pub struct Backoff {
@@ -85,8 +123,7 @@ pub struct Backoff {
     // The failed tries of this wait, and whether the last step announced a park.
     tries: u32,
     is_announced: bool,
-    // The waits since the last in which yields were banned.
-    waits: u32,
+    trials: Trials,
     // The waits before this one that were missed one after another, and whether this one is.
     misses: u32,
     is_missed: bool,
@@ -96,40 +133,41 @@ impl Backoff {
     /// The policy before the first wait.
     pub fn new() -> Self {
         Backoff {
-            mode: Mode::Trial,
+            mode: Mode::Yielding,
             tries: 0,
             is_announced: false,
-            waits: 0,
+            trials: Trials::new(),
             misses: 0,
             is_missed: false,
         }
     }
 
-    // Counts the last wait if it was missed, and bans yields after the last miss of a row.
-    fn count_miss(&mut self, ban: &YieldBan) {
-        self.misses = if self.is_missed {
-            self.misses.saturating_add(1)
+    // Counts the last wait: after a miss the next wait is a trial, and the last miss of a row bans
+    // yields.
+    fn count_last_wait(&mut self, ban: &YieldBan) {
+        if self.is_missed {
+            self.misses = self.misses.saturating_add(1);
+            self.trials = Trials::new();
         } else {
-            0
-        };
+            self.misses = 0;
+            if self.mode == Mode::Trial {
+                self.trials.widen();
+            }
+        }
         self.is_missed = false;
         if self.misses >= MISSES {
             ban.start();
         }
     }
 
-    // Begins a wait, and chooses its mode. The first wait is a trial, and so is one after a miss.
+    // Begins a wait, and chooses its mode. The first wait is a trial.
     fn begin_wait(&mut self, ban: &YieldBan) {
-        self.count_miss(ban);
-        if ban.count_wait() {
-            self.waits = 0;
+        self.count_last_wait(ban);
+        self.mode = if ban.count_wait() {
             self.misses = 0;
-            self.mode = Mode::Banned;
-            return;
-        }
-        let is_trial = self.misses > 0 || self.waits % WAITS_A_TRIAL == 0;
-        self.waits = self.waits.wrapping_add(1);
-        self.mode = if is_trial {
+            self.trials = Trials::new();
+            Mode::Banned
+        } else if self.trials.count_wait() {
             Mode::Trial
         } else {
             Mode::Yielding
@@ -139,7 +177,8 @@ impl Backoff {
     // The phase after the failed tries of this wait.
     fn phase(&self) -> Phase {
         let tries_awake = match self.mode {
-            Mode::Yielding | Mode::Trial => SPINS + YIELDS,
+            Mode::Yielding => SPINS + YIELDS,
+            Mode::Trial => TRIAL_SPINS,
             Mode::Banned => SPINS,
         };
         if self.tries >= tries_awake {

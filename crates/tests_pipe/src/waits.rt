@@ -27,33 +27,55 @@ fn parks(rt: &impl Abort, backoff: &mut Backoff, ban: &YieldBan, was_woken: bool
     assert!(rt; !backoff.end_wait());
 }
 
-// A wait of 1,056 spins, as a trial is.
+// A wait of 256 spins, as a trial is.
 fn tries_without_yields(rt: &impl Abort, backoff: &mut Backoff, ban: &YieldBan, was_woken: bool) {
-    goes_on(rt, backoff, ban, Spin, 1056);
+    goes_on(rt, backoff, ban, Spin, 256);
     parks(rt, backoff, ban, was_woken);
 }
 
-// A wait of 32 spins and 1,024 yields.
+// A wait of 4 spins and 1,024 yields.
 fn yields(rt: &impl Abort, backoff: &mut Backoff, ban: &YieldBan, was_woken: bool) {
-    goes_on(rt, backoff, ban, Spin, 32);
+    goes_on(rt, backoff, ban, Spin, 4);
     goes_on(rt, backoff, ban, Yield, 1024);
     parks(rt, backoff, ban, was_woken);
 }
 
-// A wait of 32 spins, as it is where yields are banned.
+// A wait of 4 spins, as it is where yields are banned.
 fn spins_briefly(rt: &impl Abort, backoff: &mut Backoff, ban: &YieldBan, was_woken: bool) {
-    goes_on(rt, backoff, ban, Spin, 32);
+    goes_on(rt, backoff, ban, Spin, 4);
     parks(rt, backoff, ban, was_woken);
 }
 
+// The first of so many waits is a trial, and in the others the row comes after one yield.
+fn trial_begins(rt: &impl Abort, backoff: &mut Backoff, ban: &YieldBan, waits: u32) {
+    tries_without_yields(rt, backoff, ban, true);
+    for _ in 1..waits {
+        goes_on(rt, backoff, ban, Spin, 4);
+        goes_on(rt, backoff, ban, Yield, 1);
+        assert!(rt; !backoff.end_wait());
+    }
+}
+
+// The gap from a trial to the next is 4 waits, then twice as many each time, but at most 1,024.
 #[test]
-fn one_wait_in_64_is_a_trial(rt: HostRuntime) {
+fn trials_come_further_apart(rt: HostRuntime) {
     let (mut backoff, ban) = (Backoff::new(), YieldBan::new());
-    for _ in 0..3 {
-        tries_without_yields(&rt, &mut backoff, &ban, true);
-        for _ in 0..63 {
-            yields(&rt, &mut backoff, &ban, true);
-        }
+    for gap in [4, 8, 16, 32, 64, 128, 256, 512, 1024, 1024, 1024] {
+        trial_begins(&rt, &mut backoff, &ban, gap);
+    }
+}
+
+// After a miss the next wait is a trial, and the gaps begin anew.
+#[test]
+fn a_miss_brings_trials_near_again(rt: HostRuntime) {
+    let (mut backoff, ban) = (Backoff::new(), YieldBan::new());
+    for gap in [4, 8, 16] {
+        trial_begins(&rt, &mut backoff, &ban, gap);
+    }
+    tries_without_yields(&rt, &mut backoff, &ban, true);
+    yields(&rt, &mut backoff, &ban, false);
+    for gap in [4, 8, 16] {
+        trial_begins(&rt, &mut backoff, &ban, gap);
     }
 }
 
@@ -141,12 +163,12 @@ fn found_at(rt: &impl Wait, wake_ups: &WakeUps, put_at: u32) -> Option<u32> {
     None
 }
 
-// Step 1,056 of the first wait is the announcement, and step 1,057 the park, counted from 0: a put
+// Step 256 of the first wait is the announcement, and step 257 the park, counted from 0: a put
 // before the announcement is found by the try behind it, and one after it ends the park at once.
 #[test]
 fn no_put_is_missed(rt: HostRuntime) -> Result<(), Fail> {
     let wake_ups = WakeUps::new(rt.alloc(), 1)?;
-    for put_at in 1050..1062u32 {
+    for put_at in 250..262u32 {
         assert_eq!(rt;
             found_at(&rt, &wake_ups, put_at),
             Some(put_at.wrapping_add(1)),
