@@ -12,8 +12,8 @@ const SPINS: u32 = 4;
 // Yields before the first park: they last longer than a parked thread mostly takes to wake.
 const YIELDS: u32 = 1024;
 
-// Spins of a trial before its park: where each member has a processor, a wait is mostly shorter.
-const TRIAL_SPINS: u32 = 256;
+// Spins before the first park of a wait without yields: a park costs as much as many of them.
+const SPINS_WITHOUT_YIELDS: u32 = 128;
 
 // Waits from the first trial to the next: few, so that busy processors are noticed soon.
 const FIRST_GAP: u32 = 4;
@@ -51,7 +51,7 @@ enum Mode {
     Yielding,
     // It spins and then parks, to find out whether its neighbours can wake it in time.
     Trial,
-    // It spins only briefly, since yields are banned.
+    // It spins and then parks, since yields are banned.
     Banned,
 }
 
@@ -178,8 +178,7 @@ impl Backoff {
     fn phase(&self) -> Phase {
         let tries_awake = match self.mode {
             Mode::Yielding => SPINS + YIELDS,
-            Mode::Trial => TRIAL_SPINS,
-            Mode::Banned => SPINS,
+            Mode::Trial | Mode::Banned => SPINS_WITHOUT_YIELDS,
         };
         if self.tries >= tries_awake {
             if self.is_announced {

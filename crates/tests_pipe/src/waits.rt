@@ -27,9 +27,9 @@ fn parks(rt: &impl Abort, backoff: &mut Backoff, ban: &YieldBan, was_woken: bool
     assert!(rt; !backoff.end_wait());
 }
 
-// A wait of 256 spins, as a trial is.
+// A wait of 128 spins, as it is in a trial and where yields are banned.
 fn tries_without_yields(rt: &impl Abort, backoff: &mut Backoff, ban: &YieldBan, was_woken: bool) {
-    goes_on(rt, backoff, ban, Spin, 256);
+    goes_on(rt, backoff, ban, Spin, 128);
     parks(rt, backoff, ban, was_woken);
 }
 
@@ -37,12 +37,6 @@ fn tries_without_yields(rt: &impl Abort, backoff: &mut Backoff, ban: &YieldBan, 
 fn yields(rt: &impl Abort, backoff: &mut Backoff, ban: &YieldBan, was_woken: bool) {
     goes_on(rt, backoff, ban, Spin, 4);
     goes_on(rt, backoff, ban, Yield, 1024);
-    parks(rt, backoff, ban, was_woken);
-}
-
-// A wait of 4 spins, as it is where yields are banned.
-fn spins_briefly(rt: &impl Abort, backoff: &mut Backoff, ban: &YieldBan, was_woken: bool) {
-    goes_on(rt, backoff, ban, Spin, 4);
     parks(rt, backoff, ban, was_woken);
 }
 
@@ -94,13 +88,13 @@ fn three_missed_waits_ban_yields(rt: HostRuntime) {
     tries_without_yields(&rt, &mut backoff, &ban, false);
     tries_without_yields(&rt, &mut backoff, &ban, false);
     for _ in 0..16_384 {
-        spins_briefly(&rt, &mut backoff, &ban, false);
+        tries_without_yields(&rt, &mut backoff, &ban, false);
     }
     tries_without_yields(&rt, &mut backoff, &ban, true);
     yields(&rt, &mut backoff, &ban, true);
 }
 
-// All members of a run count a ban down.
+// All members of a run count a ban down. After it the first wait of each is a trial.
 #[test]
 fn a_ban_holds_for_all_members(rt: HostRuntime) {
     let (mut one, mut other, ban) = (Backoff::new(), Backoff::new(), YieldBan::new());
@@ -108,11 +102,13 @@ fn a_ban_holds_for_all_members(rt: HostRuntime) {
         tries_without_yields(&rt, &mut one, &ban, false);
     }
     for _ in 0..8_192 {
-        spins_briefly(&rt, &mut one, &ban, false);
-        spins_briefly(&rt, &mut other, &ban, false);
+        tries_without_yields(&rt, &mut one, &ban, false);
+        tries_without_yields(&rt, &mut other, &ban, false);
     }
-    tries_without_yields(&rt, &mut other, &ban, true);
-    tries_without_yields(&rt, &mut one, &ban, true);
+    for member in [&mut other, &mut one] {
+        tries_without_yields(&rt, member, &ban, true);
+        yields(&rt, member, &ban, true);
+    }
 }
 
 // The stop flag ends each phase of the first wait, a trial, and of the second, in which it yields.
@@ -163,12 +159,12 @@ fn found_at(rt: &impl Wait, wake_ups: &WakeUps, put_at: u32) -> Option<u32> {
     None
 }
 
-// Step 256 of the first wait is the announcement, and step 257 the park, counted from 0: a put
+// Step 128 of the first wait is the announcement, and step 129 the park, counted from 0: a put
 // before the announcement is found by the try behind it, and one after it ends the park at once.
 #[test]
 fn no_put_is_missed(rt: HostRuntime) -> Result<(), Fail> {
     let wake_ups = WakeUps::new(rt.alloc(), 1)?;
-    for put_at in 250..262u32 {
+    for put_at in 122..134u32 {
         assert_eq!(rt;
             found_at(&rt, &wake_ups, put_at),
             Some(put_at.wrapping_add(1)),
