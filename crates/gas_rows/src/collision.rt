@@ -1,4 +1,4 @@
-//! The collision of the words of a row, two words of each direction at a time.
+//! The collision of the words of a row, four words of each direction at a time.
 ghost use Rattle.std.specs.Prelude.{◌≡◌, ◌≢◌, ◌⊎◌, ◌+◌, ◌*◌, ◌/◌, ◌<◌, ◌≤◌, ◌==◌, ℕ, ◌%◌, false, IsTrue, if◌then◌else◌, length, slice_index};
 ghost use Rattle.gas_geom.specs.Gas.{holds};
 ghost use Rattle.gas_geom.specs.declared.size.TheConstants.{MOST_SIDE};
@@ -6,7 +6,7 @@ ghost use Rattle.gas_bits.specs.Words.{words_in, bit};
 ghost use Rattle.gas_bits.specs.Planes.{state};
 
 use crate::directions::directions;
-use gas_bits::planes::{words_at, write_two_at, write_words_at};
+use gas_bits::planes::{words_at, write_four_at, write_two_at, write_words_at};
 use gas_geom::gas::Gas;
 
 /// Collides each cell by the gas's table with its random bit, and empties the solid cells. If
@@ -49,8 +49,11 @@ fn collide_words<G: Gas>(words: &mut [u64], count: usize, free: bool, solid: &[u
         ≡ (if bit solid.now y then 0
         else G.rules.collide (state words.old count G.rules.dirs y) (bit chi.now y)) }
 {
-    for k in 0..count / 2 {
-        collide_pair::<G>(words, count, 2 * k, free, solid, chi);
+    for k in 0..count / 4 {
+        collide_four::<G>(words, count, 4 * k, free, solid, chi);
+    }
+    if count % 4 >= 2 {
+        collide_pair::<G>(words, count, count / 4 * 4, free, solid, chi);
     }
     if count % 2 == 1 {
         collide_word::<G>(words, count, count - 1, free, solid, chi);
@@ -67,8 +70,59 @@ fn solid_word(free: bool, solid: &[u64], j: usize) -> u64
     if free { 0 } else { solid[j] }
 }
 
-// Collides the cells of words j and j + 1. Both are read before either is written, so that a
-// compiler can vectorise.
+// Collides the cells of words j to j + 3. All are read before one is written, so that a compiler can
+// vectorise.
+#[inline(always)]
+fn collide_four<G: Gas>(
+    words: &mut [u64],
+    count: usize,
+    j: usize,
+    free: bool,
+    solid: &[u64],
+    chi: &[u64],
+)
+    requires few_words { count ≤ words_in MOST_SIDE }
+    requires long { length words.old ≡ G.rules.dirs * count }
+    requires free { IsTrue free → (y : ℕ) → bit solid.now y ≡ false }
+    requires solid { length solid.now ≡ count }
+    requires chi { length chi.now ≡ count }
+    requires within { j + 3 < count }
+    ensures collided { (y : ℕ) → j ≤ y / 64 → y / 64 < j + 4 →
+        state words.new count G.rules.dirs y
+        ≡ (if bit solid.now y then 0
+        else G.rules.collide (state words.old count G.rules.dirs y) (bit chi.now y)) }
+    ensures others { (y : ℕ) → y / 64 < count → (y / 64 < j) ⊎ (j + 4 ≤ y / 64) →
+        state words.new count G.rules.dirs y ≡ state words.old count G.rules.dirs y }
+{
+    let dirs = directions::<G>();
+    let first = words_at(words, count, dirs, j);
+    let second = words_at(words, count, dirs, j + 1);
+    let third = words_at(words, count, dirs, j + 2);
+    let fourth = words_at(words, count, dirs, j + 3);
+    let own = [
+        solid_word(free, solid, j),
+        solid_word(free, solid, j + 1),
+        solid_word(free, solid, j + 2),
+        solid_word(free, solid, j + 3),
+    ];
+    let after_first = G::collide64(first, chi[j]);
+    let after_second = G::collide64(second, chi[j + 1]);
+    let after_third = G::collide64(third, chi[j + 2]);
+    let after_fourth = G::collide64(fourth, chi[j + 3]);
+    write_four_at(
+        words,
+        count,
+        dirs,
+        j,
+        after_first,
+        after_second,
+        after_third,
+        after_fourth,
+        own,
+    );
+}
+
+// Collides the cells of words j and j + 1, like `collide_four`.
 #[inline(always)]
 fn collide_pair<G: Gas>(
     words: &mut [u64],

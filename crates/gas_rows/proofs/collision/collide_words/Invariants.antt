@@ -3,12 +3,12 @@ use Rattle.gas_bits.specs.Words.{bit}
 use Rattle.gas_bits.specs.Planes.{state}
 use Rattle.gas_rows.proofs.collision.collide_words.Given as goal
 
--- the cells of the words before 2 * k are collided, the others as they were
+-- the cells of the words before 4 * k are collided, the others as they were
 abbrev pub invariant-loop-k : goal.invariant-loop-k
 invariant-loop-k g l = record {
-  done : (y : ℕ) → y / 64 < 2 * l.k → y / 64 < l.count →
+  done : (y : ℕ) → y / 64 < 4 * l.k → y / 64 < l.count →
       state l.words l.count g.G.Gas.rules.dirs y
       ≡ (if bit l.solid y then 0 else g.G.Gas.rules.collide (state l.initial.words l.count g.G.Gas.rules.dirs y) (bit l.chi y));
-  rest : (y : ℕ) → 2 * l.k ≤ y / 64 → y / 64 < l.count →
+  rest : (y : ℕ) → 4 * l.k ≤ y / 64 → y / 64 < l.count →
       state l.words l.count g.G.Gas.rules.dirs y ≡ state l.initial.words l.count g.G.Gas.rules.dirs y;
 }
