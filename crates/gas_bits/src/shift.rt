@@ -9,6 +9,7 @@ ghost use Rattle.gas_bits.specs.Inner.Moved.{IsBefore, AreMoved};
 
 use crate::source::{Source, lift_to_top};
 use crate::word::keep_up_to;
+use std::simd::u64x4;
 
 // Streams into word `j` of a row, which is not the last. Returns the word before the next one.
 #[inline(always)]
@@ -46,27 +47,21 @@ fn move_two<S: Source>(from: &[u64], j: usize, before: u64, out: &mut [u64], wid
     second
 }
 
-// Streams into the words from `j` to `j + 3`, like `move_two`.
+// Streams into the words from `j` to `j + 3`, none of them the first or the last.
 #[inline(always)]
-fn move_four<S: Source>(from: &[u64], j: usize, before: u64, out: &mut [u64], width: u32) -> u64
+fn move_four<S: Source>(from: &[u64], j: usize, out: &mut [u64], width: u32)
     requires from { length from.now ≡ words_in width }
     requires out { length out.old ≡ words_in width }
+    requires after_first { 1 ≤ j }
     requires inner { 64 * (j + 4) < width }
-    requires before { IsBefore from.now width j before }
-    ensures before { IsBefore from.now width (j + 4) result }
     ensures moved { AreMoved S.source from.now width j out.old →
         AreMoved S.source from.now width (j + 4) out.new }
 {
-    let word = from[j];
-    let second = from[j + 1];
-    let third = from[j + 2];
-    let fourth = from[j + 3];
-    let after = from[j + 4];
-    out[j] = S::shift_word(before, word, second);
-    out[j + 1] = S::shift_word(word, second, third);
-    out[j + 2] = S::shift_word(second, third, fourth);
-    out[j + 3] = S::shift_word(third, fourth, after);
-    fourth
+    let before = u64x4::from_slice(&from[j - 1..]);
+    let words = u64x4::from_slice(&from[j..]);
+    let after = u64x4::from_slice(&from[j + 1..]);
+    let shifted = S::shift_four(before, words, after);
+    shifted.copy_to_slice(&mut out[j..]);
 }
 
 // Streams into the words from `j` on before the last one, at most three. Returns the word before
@@ -107,11 +102,16 @@ fn move_front<S: Source>(from: &[u64], out: &mut [u64], width: u32) -> u64
     ensures moved { AreMoved S.source from.now width (words_in width - 1) out.new }
 {
     let last = out.len() - 1;
-    let mut before = lift_to_top(from[last], (width - 1) % 64);
-    for k in 0..last / 4 {
-        before = move_four::<S>(from, 4 * k, before, out, width);
+    let before = lift_to_top(from[last], (width - 1) % 64);
+    if last == 0 {
+        return before;
     }
-    move_rest::<S>(from, last / 4 * 4, before, out, width)
+    move_one::<S>(from, 0, before, out, width);
+    for k in 0..(last - 1) / 4 {
+        move_four::<S>(from, 4 * k + 1, out, width);
+    }
+    let next = (last - 1) / 4 * 4 + 1;
+    move_rest::<S>(from, next, from[next - 1], out, width)
 }
 
 /// Streams one direction into a row where no cell is solid: `from` holds the direction in the row

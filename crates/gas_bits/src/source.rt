@@ -1,11 +1,12 @@
 //! The side that the particles of a direction come from along a row, for one word.
-ghost use Rattle.std.specs.Prelude.{◌≡◌, ℕ, ◌-◌, ◌<◌, ◌≤◌};
+ghost use Rattle.std.specs.Prelude.{◌≡◌, ℕ, ◌-◌, ◌<◌, ◌≤◌, length, slice_index};
 ghost use Rattle.gas_geom.specs.Moves.{Move, Back, Stay, On};
 ghost use Rattle.gas_geom.specs.Gas.{holds};
 ghost use Rattle.gas_bits.specs.Words.{bit};
 ghost use Rattle.gas_bits.specs.Inner.Moved.{moved_bit, moved_last_bit};
 
 use crate::word::keep_up_to;
+use std::simd::u64x4;
 
 /// The side that the particles of a direction come from, along the row.
 pub(crate) trait Source {
@@ -15,6 +16,14 @@ pub(crate) trait Source {
     /// after it.
     fn shift_word(before: u64, word: u64, after: u64) -> u64
         ensures { (b : ℕ) → b < 64 → holds result b ≡ moved_bit source before word after b };
+
+    /// Returns the words that stream into four words of a row, from those words and the ones one
+    /// before and one after each.
+    fn shift_four(before: u64x4, words: u64x4, after: u64x4) -> u64x4
+        requires { length words ≡ 4 }
+        ensures long { length result ≡ 4 }
+        ensures bits { (k b : ℕ) → k < 4 → b < 64 → holds (slice_index result k) b
+            ≡ moved_bit source (slice_index before k) (slice_index words k) (slice_index after k) b };
 
     /// Returns the word that streams into the last word of a row, in which the last cell is bit
     /// `last`. The row is periodic: after the last cell comes the first, bit 0 of `first`.
@@ -42,6 +51,11 @@ impl Source for West {
     }
 
     #[inline(always)]
+    fn shift_four(before: u64x4, words: u64x4, _after: u64x4) -> u64x4 {
+        (words << u64x4::splat(1)) | (before >> u64x4::splat(63))
+    }
+
+    #[inline(always)]
     fn shift_last_word(before: u64, word: u64, _last: u32, first: u64) -> u64 {
         Self::shift_word(before, word, first)
     }
@@ -56,6 +70,11 @@ impl Source for Here {
     }
 
     #[inline(always)]
+    fn shift_four(_before: u64x4, words: u64x4, _after: u64x4) -> u64x4 {
+        words
+    }
+
+    #[inline(always)]
     fn shift_last_word(_before: u64, word: u64, _last: u32, _first: u64) -> u64 {
         word
     }
@@ -67,6 +86,11 @@ impl Source for East {
     #[inline(always)]
     fn shift_word(_before: u64, word: u64, after: u64) -> u64 {
         (word >> 1) | (after << 63)
+    }
+
+    #[inline(always)]
+    fn shift_four(_before: u64x4, words: u64x4, after: u64x4) -> u64x4 {
+        (words >> u64x4::splat(1)) | (after << u64x4::splat(63))
     }
 
     #[inline(always)]
