@@ -5,7 +5,6 @@ ghost use Rattle.gas_belt.specs.Inner.Ring.{SparePoolModel};
 use gas_geom::gas::Gas;
 use gas_rows::row::Row;
 use std::alloc::{AllocError, Global};
-use std::collections::VecDeque;
 use std::marker::Model;
 
 /// The most rows that a pool keeps.
@@ -14,22 +13,21 @@ const MOST: usize = 2;
 /// Up to two spare rows of one width.
 #[derive(Drop)]
 pub(crate) struct SparePool<G: Gas> {
-    rows: VecDeque<Row<G>>,
+    rows: Vec<Row<G>>,
     width: u32,
 }
 
 impl<G: Gas> Model for SparePool<G> {
-    ghost use Rattle.std.specs.Prelude.{◌≡◌, ◌≤◌, length, All};
-    ghost use Rattle.std.specs.VecDeque.{deque_capacity, deque_len};
+    ghost use Rattle.std.specs.Prelude.{◌≡◌, ◌≤◌, length, All, vec_len, vec_capacity};
     ghost use Rattle.gas_belt.specs.Inner.Ring.{SparePoolModel};
 
     ghost Value = { SparePoolModel };
 
-    ghost view = { λ s. record { width = s.width; count = deque_len s.rows } };
+    ghost view = { λ s. record { width = s.width; count = vec_len s.rows } };
 
     ghost invariant = { λ s. record {
-      places : deque_capacity s.rows ≡ 2;
-      few : deque_len s.rows ≤ 2;
+      places : vec_capacity s.rows ≡ 2;
+      few : vec_len s.rows ≤ 2;
       wide : All (λ r. length r ≡ s.width) s.rows.items;
     } };
 }
@@ -40,7 +38,7 @@ impl<G: Gas> SparePool<G> {
         ensures empty { IfOk result (λ s. s ≡ record { width = width; count = 0 }) }
     {
         Ok(SparePool {
-            rows: VecDeque::with_capacity(alloc, MOST)?,
+            rows: Vec::with_capacity(alloc, MOST)?,
             width,
         })
     }
@@ -60,7 +58,7 @@ impl<G: Gas> SparePool<G> {
         ensures dropped { length row ≢ self.old.width → self.new ≡ self.old }
     {
         if row.width() == self.width && self.rows.len() < MOST {
-            self.rows.push_back_reserved(row);
+            self.rows.push_reserved(row);
         }
     }
 
@@ -71,6 +69,6 @@ impl<G: Gas> SparePool<G> {
             self.old ≡ record self.new { count = self.new.count + 1 }) }
         ensures none { IfNone result (self.old.count ≡ 0) }
     {
-        self.rows.pop_back()
+        self.rows.pop()
     }
 }

@@ -6,26 +6,24 @@ use crate::ends::{PutEnd, TakeEnd};
 use gas_geom::gas::Gas;
 use gas_rows::row::Row;
 use std::alloc::{AllocError, Global};
-use std::collections::VecDeque;
 use std::marker::Model;
 
 /// Spare rows, with memory for `most` of them from the start.
 #[derive(Drop)]
 pub(crate) struct Spares<G: Gas> {
-    rows: VecDeque<Row<G>>,
+    rows: Vec<Row<G>>,
     most: u32,
 }
 
 impl<G: Gas> Model for Spares<G> {
-    ghost use Rattle.std.specs.Prelude.{◌≤◌};
-    ghost use Rattle.std.specs.VecDeque.{deque_capacity};
+    ghost use Rattle.std.specs.Prelude.{◌≤◌, vec_capacity};
     ghost use Rattle.gas_pipe_members.specs.Inner.Queue.{SparesModel};
 
     ghost Value = { SparesModel };
 
     ghost view = { λ r. record { rows = r.rows.items; most = r.most } };
 
-    ghost invariant = { λ r. r.most ≤ deque_capacity r.rows };
+    ghost invariant = { λ r. r.most ≤ vec_capacity r.rows };
 }
 
 impl<G: Gas> Spares<G> {
@@ -34,7 +32,7 @@ impl<G: Gas> Spares<G> {
         ensures { IfOk result (λ r. r ≡ record { rows = []; most = most }) }
     {
         Ok(Spares {
-            rows: VecDeque::with_capacity(alloc, most as usize)?,
+            rows: Vec::with_capacity(alloc, most as usize)?,
             most,
         })
     }
@@ -46,7 +44,7 @@ impl<G: Gas> Spares<G> {
         ensures dropped { self.old.most ≤ length self.old.rows → self.new ≡ self.old }
     {
         if self.rows.len() < self.most as usize {
-            self.rows.push_back_reserved(row);
+            self.rows.push_reserved(row);
         }
     }
 
@@ -55,7 +53,7 @@ impl<G: Gas> Spares<G> {
         ensures last { self.old.rows ≡ self.new.rows ++ option_to_list result }
         ensures most { self.new.most ≡ self.old.most }
     {
-        self.rows.pop_back()
+        self.rows.pop()
     }
 
     /// Keeps the spare row of an end that rows are put on, if it has one.
