@@ -61,6 +61,9 @@ pub fn clear_planes_past(words: &mut [u64], dirs: usize, width: u32)
         has words.new (words_in width) i y
         ≡ (nat_lt y width && has words.old (words_in width) i y) }
 {
+    if width % 64 == 0 {
+        return;
+    }
     let count = words_for(width);
     for i in 0..dirs {
         let at = i * count + (count - 1);
