@@ -136,6 +136,7 @@ impl PopBuffer {
     }
 
     // Takes the words of a row from those that wait. Returns whether they suffice.
+    #[inline(always)]
     fn take_waiting(&mut self) -> bool
         ensures ring { self.new.ring ≡ self.old.ring }
         ensures places { vec_len self.new.row ≡ vec_len self.old.row }
@@ -153,8 +154,32 @@ impl PopBuffer {
         true
     }
 
+    // Takes the words of a row where fewer wait: pops more before. Returns whether all of them have
+    // come. It is not inlined, so that a take of words that wait saves few registers.
+    #[inline(never)]
+    fn pop_and_take(&mut self) -> bool
+        ensures ring { SameRing self.old.ring.end self.new.ring.end }
+        ensures places { vec_len self.new.row ≡ vec_len self.old.row }
+        ensures words { length self.new.row.items ≡ vec_len self.old.row }
+        ensures taken { IsTrue result →
+            taken_words self.new ≡ taken_words self.old ++ self.new.row.items }
+        ensures unchanged { IsFalse result → taken_words self.new ≡ taken_words self.old }
+    {
+        if self.words.is_empty() {
+            let count = self.row.len();
+            return self.has_words(count) && replace_with(self, (), PopBuffer::pop_row);
+        }
+        if !self.has_words(1) {
+            return false;
+        }
+        self.rewind();
+        replace_with(self, (), PopBuffer::pop_more);
+        self.take_waiting()
+    }
+
     /// Takes the words of the next row into `row`. Returns whether all of them have come; none is
     /// taken where they have not.
+    #[inline(always)]
     pub(crate) fn take(&mut self) -> bool
         ensures ring { SameRing self.old.ring.end self.new.ring.end }
         ensures places { vec_len self.new.row ≡ vec_len self.old.row }
@@ -163,14 +188,6 @@ impl PopBuffer {
             taken_words self.new ≡ taken_words self.old ++ self.new.row.items }
         ensures unchanged { IsFalse result → taken_words self.new ≡ taken_words self.old }
     {
-        let count = self.row.len();
-        if self.words.is_empty() {
-            return self.has_words(count) && replace_with(self, (), PopBuffer::pop_row);
-        }
-        if self.filled - self.first < count && self.has_words(1) {
-            self.rewind();
-            replace_with(self, (), PopBuffer::pop_more);
-        }
-        self.take_waiting()
+        self.take_waiting() || self.pop_and_take()
     }
 }

@@ -12,8 +12,11 @@ pub(crate) struct PushBuffer {
     // The first `waiting` words were sent and are not yet in the ring, which has room for them.
     pub words: Vec<u64>,
     pub waiting: usize,
-    ghost within: { waiting ≤ vec_len words },
-    ghost room: { waiting ≤ known_free ring },
+    // The words that gather may grow to this number: the ring is known to have room for so many.
+    limit: usize,
+    ghost within: { waiting ≤ limit },
+    ghost beside: { limit ≤ vec_len words },
+    ghost room: { limit ≤ known_free ring },
 }
 
 impl PushBuffer {
@@ -31,6 +34,7 @@ impl PushBuffer {
             ring,
             words,
             waiting: 0,
+            limit: 0,
         }
     }
 
@@ -46,53 +50,76 @@ impl PushBuffer {
         let Ok(()) = self.ring.push_entire_slice(&self.words[..self.waiting]) else {
             unreachable!()
         };
+        self.limit -= self.waiting;
         self.waiting = 0;
         true
     }
 
-    // Returns whether the ring has room for `count` words beside those that gathered.
-    fn has_room(&mut self, count: usize) -> bool
-        requires few { count ≤ vec_len self.old.words }
+    // Raises the limit, if the ring has room. Returns whether `count` more words may gather.
+    fn raise_limit(&mut self, count: usize) -> bool
+        requires few { self.old.waiting + count ≤ vec_len self.old.words }
         ensures ring { SameRing self.old.ring.end self.new.ring.end }
         ensures sent { sent_words self.new ≡ sent_words self.old }
-        ensures words { self.new.words ≡ self.old.words }
         ensures waiting { self.new.waiting ≡ self.old.waiting }
-        ensures room { IsTrue result → self.new.waiting + count ≤ known_free self.new.ring }
+        ensures room { IsTrue result → self.new.waiting + count ≤ self.new.limit }
     {
         let needed = self.waiting + count;
-        needed <= self.ring.cached_slots() || needed <= self.ring.slots()
+        let mut free = self.ring.cached_slots();
+        if free < needed {
+            free = self.ring.slots();
+        }
+        self.limit = free.min(self.words.len());
+        needed <= self.limit
     }
 
-    // Adds words to those that gather.
+    // Adds words to those that gather, and pushes all of them where no more have room beside the
+    // ring.
+    #[inline(always)]
     fn gather(&mut self, words: &[u64])
-        requires few { self.old.waiting + length words.now ≤ vec_len self.old.words }
-        requires room { self.old.waiting + length words.now ≤ known_free self.old.ring }
+        requires room { self.old.waiting + length words.now ≤ self.old.limit }
         ensures ring { SameRing self.old.ring.end self.new.ring.end }
         ensures sent { sent_words self.new ≡ sent_words self.old ++ words.now }
     {
         let end = self.waiting + words.len();
         self.words[self.waiting..end].copy_from_slice(words);
         self.waiting = end;
+        if self.waiting == self.words.len() {
+            self.publish();
+        }
     }
 
-    /// Sends words behind all that were sent. Returns whether the ring had room for them; none is
-    /// sent where it had not.
-    pub(crate) fn send(&mut self, words: &[u64]) -> bool
+    // Sends words that are more than the limit lets gather. Returns whether the ring had room for
+    // them. It is not inlined, so that words that gather need few registers.
+    #[inline(never)]
+    fn send_past_limit(&mut self, words: &[u64]) -> bool
         ensures ring { SameRing self.old.ring.end self.new.ring.end }
         ensures sent { IsTrue result → sent_words self.new ≡ sent_words self.old ++ words.now }
         ensures unchanged { IsFalse result → sent_words self.new ≡ sent_words self.old }
     {
         if self.words.len() - self.waiting < words.len() {
             self.publish();
+            self.limit = 0;
             return self.ring.push_entire_slice(words).is_ok();
         }
-        if !self.has_room(words.len()) {
+        if !self.raise_limit(words.len()) {
             return false;
         }
         self.gather(words);
-        if self.waiting == self.words.len() {
-            self.publish();
+        true
+    }
+
+    /// Sends words behind all that were sent. Returns whether the ring had room for them; none is
+    /// sent where it had not.
+    #[inline(always)]
+    pub(crate) fn send(&mut self, words: &[u64]) -> bool
+        ensures ring { SameRing self.old.ring.end self.new.ring.end }
+        ensures sent { IsTrue result → sent_words self.new ≡ sent_words self.old ++ words.now }
+        ensures unchanged { IsFalse result → sent_words self.new ≡ sent_words self.old }
+    {
+        if self.limit - self.waiting < words.len() {
+            return self.send_past_limit(words);
         }
+        self.gather(words);
         true
     }
 

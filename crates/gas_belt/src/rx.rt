@@ -59,6 +59,7 @@ impl<G: Gas> Rx<G> {
     /// Takes the oldest row on the belt, by one of the spare rows that are held. None where not all
     /// of its words have come, where no spare row is held, or where 2^64 - 1 rows were taken. It
     /// takes no memory and never waits.
+    #[inline(always)]
     #[tactic(auto, using(crate::proofs::Parts::parts_length, crate::proofs::Parts::parts_row))]
     pub fn try_take(&mut self) -> Option<Row<G>>
         ensures taken { IfSome result (λ row. self.new ≡ record self.old {

@@ -80,6 +80,7 @@ impl<G: Gas> Tx<G> {
     }
 
     // Sends the words of a row, all or none. Returns whether they were sent.
+    #[inline(always)]
     #[tactic(auto, using(crate::proofs::Parts::parts_length, crate::proofs::Parts::parts_row))]
     fn send(&mut self, row: &Row<G>) -> bool
         ensures sent { IsTrue result →
@@ -118,6 +119,7 @@ impl<G: Gas> Tx<G> {
 
     /// Puts a row as `try_put` does, but on a belt with 8 places or more short rows may gather
     /// before the other end is shown them, at the latest by `publish` or `close`.
+    #[inline(always)]
     pub fn try_gather(&mut self, row: Row<G>) -> Result<(), Row<G>>
         ensures put { OnOk result (self.new ≡ record self.old {
           put = self.old.put ++ row ∷ [];
