@@ -107,8 +107,8 @@ impl<'a, G: Gas> Worker<'a, G> {
             × HasMoreToTake G.rules self.old }
         ensures closed { IsClosed self.old → IsNone result × (self.new ≡ self.old) }
     {
-        if let Some(row) = self.waiting.take() {
-            return Some(row);
+        if self.waiting.is_some() {
+            return self.waiting.take();
         }
         if !self.stage.is_open() {
             return None;
@@ -147,6 +147,7 @@ impl<'a, G: Gas> Worker<'a, G> {
     }
 
     // Takes a row of the open pass. What its stage gives for it is the row to be put next.
+    #[inline(always)]
     fn accept(&mut self, row: Row<G>)
         requires none_waits { self.old.waiting ≡ None }
         requires open { IsSome self.old.stage.pass }
