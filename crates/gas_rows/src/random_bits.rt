@@ -59,6 +59,7 @@ impl RandomBits {
     }
 
     /// Draws the random bits of row `y`, for the step from `generation` to the next.
+    #[inline(always)]
     pub fn draw(&mut self, chirality: Chirality, generation: u64, y: u32)
         ensures wide { length self.new ≡ length self.old }
         ensures bits { self.new
@@ -72,6 +73,7 @@ impl RandomBits {
         }
     }
 
+    #[inline(never)]
     fn draw_seeded(&mut self, seed: u64, generation: u64, y: u32)
         ensures wide { length self.new ≡ length self.old }
         ensures bits { self.new
