@@ -103,8 +103,9 @@ fn move_front<S: Source>(from: &[u64], out: &mut [u64], width: u32) -> u64
 {
     let last = out.len() - 1;
     let before = lift_to_top(from[last], (width - 1) % 64);
-    if last == 0 {
-        return before;
+    // So few words take fewer instructions one by one.
+    if last < 4 {
+        return move_rest::<S>(from, 0, before, out, width);
     }
     move_one::<S>(from, 0, before, out, width);
     for k in 0..(last - 1) / 4 {

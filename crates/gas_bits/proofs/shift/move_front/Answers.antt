@@ -1,6 +1,5 @@
 use Rattle.std.proofs.Common.{◌≡◌, ℕ, ◌+◌, ◌-◌, ◌*◌, ◌/◌, length, subst, arith}
-use Rattle.gas_bits.specs.Words.{words_in}
-use Rattle.gas_bits.specs.Inner.Moved.{IsBefore, AreMoved}
+use Rattle.gas_bits.specs.Inner.Moved.{AreMoved}
 use Rattle.gas_bits.proofs.Shifts.{before_first, before_here}
 use Rattle.gas_bits.proofs.shift.move_front.Goals as goal
 
@@ -18,19 +17,17 @@ loop-k-preserved g c =
 
 pub move_rest-requires-clause-before : goal.move_rest-requires-clause-before
 move_rest-requires-clause-before g c =
+    before_first c.args.from.now c.args.width c.requires.some_cells (length c.args.out.now - 1) c.lift_to_top-before.result (omega arith) c.lift_to_top-before.ensures
+
+pub move_rest-requires-2-clause-before : goal.move_rest-requires-2-clause-before
+move_rest-requires-2-clause-before g c =
     before_here c.args.from.now c.args.width c.requires.some_cells ((length c.args.out.now - 1 - 1) / 4 * 4 + 1) (omega arith) (omega arith)
 
 pub returns-clause-moved : goal.returns-clause-moved
 returns-clause-moved g c =
-    c.move_rest.ensures.moved
+    c.move_rest-2.ensures.moved
     (subst (λ (n : ℕ). AreMoved g.S.Source.source c.args.from.now c.args.width n c.loop-k.out)
     (let e : 4 * c.loop-k.k + 1 ≡ (length c.args.out.now - 1 - 1) / 4 * 4 + 1 = omega arith in e) c.loop-k.invariant)
 
-pub returns-then-last-eq0-clause-before : goal.returns-then-last-eq0-clause-before
-returns-then-last-eq0-clause-before g c =
-    subst (λ (n : ℕ). IsBefore c.args.from.now c.args.width n c.lift_to_top-before.result)
-    (let e : 0 ≡ words_in c.args.width - 1 = omega arith in e)
-    (before_first c.args.from.now c.args.width c.requires.some_cells (length c.args.out.now - 1) c.lift_to_top-before.result (omega arith) c.lift_to_top-before.ensures)
-
-pub returns-then-last-eq0-clause-moved : goal.returns-then-last-eq0-clause-moved
-returns-then-last-eq0-clause-moved g c = λ x below inside. absurd (omega arith)
+pub returns-then-last-lt4-clause-moved : goal.returns-then-last-lt4-clause-moved
+returns-then-last-lt4-clause-moved g c = c.move_rest.ensures.moved (λ x below inside. absurd (omega arith))
