@@ -96,15 +96,6 @@ module _ (table : ℕ → Bool → ℕ) (words new : List ℕ) (n j d dirs : ℕ
       (collided (y % 64) (omega arith) ∙ ap₂ table (sym (before-is y e)) (ap (λ k. holds (get_or chi k 0) (y % 64)) (sym e)))
 
 -- which of two words beside one another
-pub first_of : (q j : ℕ) (a b c : Bool) → q ≡ j → (if q == j then a else if q == j + 1 then b else c) ≡ a
-first_of q j a b c e = grind (arith, nat_tests)
-
-pub second_of : (q j : ℕ) (a b c : Bool) → q ≡ j + 1 → (if q == j then a else if q == j + 1 then b else c) ≡ b
-second_of q j a b c e = grind (arith, nat_tests)
-
-pub neither_of : (q j : ℕ) (a b c : Bool) → q ≢ j → q ≢ j + 1 → (if q == j then a else if q == j + 1 then b else c) ≡ c
-neither_of q j a b c ne other = grind (arith, nat_tests)
-
 -- ---- 64 cells more of a row
 module _ (table : ℕ → Bool → ℕ) (old words new : List ℕ) (n j d dirs : ℕ) (planes after : List ℕ) (chi solid : List ℕ) (ed : dirs ≡ d)
     (gathered : (i : ℕ) → i < dirs → get_or planes i 0 ≡ get_or words (i * n + j) 0)

@@ -85,35 +85,6 @@ pub fn write_words_at(
     }
 }
 
-/// Writes words `j` and `j + 1` of each direction, with zeros at solid cells.
-#[inline(always)]
-pub fn write_two_at(
-    words: &mut [u64],
-    count: usize,
-    dirs: usize,
-    j: usize,
-    first: [u64; 8],
-    second: [u64; 8],
-    solid: u64,
-    solid_beside: u64,
-)
-    requires few_words { count ≤ words_in MOST_SIDE }
-    requires few_dirs { dirs ≤ 8 }
-    requires long { length words.old ≡ dirs * count }
-    requires within { j + 1 < count }
-    ensures written { (i y : ℕ) → i < dirs → y / 64 < count →
-        has words.new count i y
-        ≡ (if y / 64 == j then holds (slice_index first i) (y % 64) && not (holds solid (y % 64))
-        else if y / 64 == j + 1 then holds (slice_index second i) (y % 64)
-        && not (holds solid_beside (y % 64))
-        else has words.old count i y) }
-{
-    for i in 0..dirs {
-        words[i * count + j] = clear_bits(first[i], solid);
-        words[i * count + (j + 1)] = clear_bits(second[i], solid_beside);
-    }
-}
-
 /// Writes words `j` to `j + 3` of each direction, with zeros at solid cells.
 #[inline(always)]
 pub fn write_four_at(

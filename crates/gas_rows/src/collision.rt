@@ -6,7 +6,7 @@ ghost use Rattle.gas_bits.specs.Words.{words_in, bit};
 ghost use Rattle.gas_bits.specs.Planes.{state};
 
 use crate::directions::directions;
-use gas_bits::planes::{words_at, write_four_at, write_two_at, write_words_at};
+use gas_bits::planes::{words_at, write_four_at, write_words_at};
 use gas_geom::gas::Gas;
 
 /// Collides each cell by the gas's table with its random bit, and empties the solid cells. If
@@ -52,11 +52,33 @@ fn collide_words<G: Gas>(words: &mut [u64], count: usize, free: bool, solid: &[u
     for k in 0..count / 4 {
         collide_four::<G>(words, count, 4 * k, free, solid, chi);
     }
-    if count % 4 >= 2 {
-        collide_pair::<G>(words, count, count / 4 * 4, free, solid, chi);
-    }
-    if count % 2 == 1 {
-        collide_word::<G>(words, count, count - 1, free, solid, chi);
+    collide_rest::<G>(words, count, count / 4 * 4, free, solid, chi);
+}
+
+// Collides the cells of the words from `first` on, one at a time.
+#[inline(always)]
+fn collide_rest<G: Gas>(
+    words: &mut [u64],
+    count: usize,
+    first: usize,
+    free: bool,
+    solid: &[u64],
+    chi: &[u64],
+)
+    requires few_words { count ≤ words_in MOST_SIDE }
+    requires long { length words.old ≡ G.rules.dirs * count }
+    requires free { IsTrue free → (y : ℕ) → bit solid.now y ≡ false }
+    requires solid { length solid.now ≡ count }
+    requires chi { length chi.now ≡ count }
+    ensures collided { (y : ℕ) → first ≤ y / 64 → y / 64 < count →
+        state words.new count G.rules.dirs y
+        ≡ (if bit solid.now y then 0
+        else G.rules.collide (state words.old count G.rules.dirs y) (bit chi.now y)) }
+    ensures others { (y : ℕ) → y / 64 < count → y / 64 < first →
+        state words.new count G.rules.dirs y ≡ state words.old count G.rules.dirs y }
+{
+    for j in first..count {
+        collide_word::<G>(words, count, j, free, solid, chi);
     }
 }
 
@@ -120,39 +142,6 @@ fn collide_four<G: Gas>(
         after_fourth,
         own,
     );
-}
-
-// Collides the cells of words j and j + 1, like `collide_four`.
-#[inline(always)]
-fn collide_pair<G: Gas>(
-    words: &mut [u64],
-    count: usize,
-    j: usize,
-    free: bool,
-    solid: &[u64],
-    chi: &[u64],
-)
-    requires few_words { count ≤ words_in MOST_SIDE }
-    requires long { length words.old ≡ G.rules.dirs * count }
-    requires free { IsTrue free → (y : ℕ) → bit solid.now y ≡ false }
-    requires solid { length solid.now ≡ count }
-    requires chi { length chi.now ≡ count }
-    requires within { j + 1 < count }
-    ensures collided { (y : ℕ) → j ≤ y / 64 → y / 64 < j + 2 →
-        state words.new count G.rules.dirs y
-        ≡ (if bit solid.now y then 0
-        else G.rules.collide (state words.old count G.rules.dirs y) (bit chi.now y)) }
-    ensures others { (y : ℕ) → y / 64 < count → (y / 64 < j) ⊎ (j + 2 ≤ y / 64) →
-        state words.new count G.rules.dirs y ≡ state words.old count G.rules.dirs y }
-{
-    let dirs = directions::<G>();
-    let planes = words_at(words, count, dirs, j);
-    let planes_beside = words_at(words, count, dirs, j + 1);
-    let first = G::collide64(planes, chi[j]);
-    let second = G::collide64(planes_beside, chi[j + 1]);
-    let own = solid_word(free, solid, j);
-    let own_beside = solid_word(free, solid, j + 1);
-    write_two_at(words, count, dirs, j, first, second, own, own_beside);
 }
 
 // Collides the cells of word j.

@@ -1,7 +1,4 @@
-use Rattle.std.proofs.Common.{◌≡◌, ℕ, ◌+◌, ◌<◌, ◌*◌, ◌/◌, ◌%◌, ◌&&◌, Bool, not, get_or, length, List, ap, sym, ◌∙◌, arith, inl, inr}
-use Rattle.std.proofs.lemmas.Bool.{cases_eq}
-use Rattle.gas_geom.specs.Gas.{holds}
-use Rattle.gas_bits.specs.Planes.{has}
+use Rattle.std.proofs.Common.{ℕ, ◌+◌, ◌<◌, ◌*◌, length, ◌∙◌, arith}
 use Rattle.gas_bits.proofs.Cells.{place_in}
 use Rattle.gas_bits.proofs.Scatters.{four-first, four-second, four-third, four-fourth, four-other, four-apart, four-more}
 use Rattle.gas_bits.proofs.planes.write_four_at.Goals as goal

@@ -1,4 +1,4 @@
-use Rattle.std.proofs.Common.{◌≡◌, ℕ, ◌+◌, ◌/◌, ◌%◌, ◌&&◌, Bool, not, inl, inr, get_or, ap, ◌∙◌, arith}
+use Rattle.std.proofs.Common.{ℕ, ◌+◌, ◌/◌, ◌%◌, ◌&&◌, not, inl, inr, get_or, ap, ◌∙◌, arith}
 use Rattle.gas_geom.specs.Gas.{holds}
 use Rattle.std.proofs.lemmas.Bool.{cases_eq}
 use Rattle.gas_bits.proofs.Cells.{state-same}
