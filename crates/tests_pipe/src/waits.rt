@@ -105,10 +105,10 @@ fn a_ban_holds_for_all_members(rt: HostRuntime) {
         tries_without_yields(&rt, &mut one, &ban, false);
         tries_without_yields(&rt, &mut other, &ban, false);
     }
-    for member in [&mut other, &mut one] {
-        tries_without_yields(&rt, member, &ban, true);
-        yields(&rt, member, &ban, true);
-    }
+    tries_without_yields(&rt, &mut other, &ban, true);
+    yields(&rt, &mut other, &ban, true);
+    tries_without_yields(&rt, &mut one, &ban, true);
+    yields(&rt, &mut one, &ban, true);
 }
 
 // The stop flag ends each phase of the first wait, a trial, and of the second, in which it yields.
