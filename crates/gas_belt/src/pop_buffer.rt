@@ -154,8 +154,8 @@ impl PopBuffer {
         true
     }
 
-    // Takes the words of a row where fewer wait: pops more before. Returns whether all of them have
-    // come. It is not inlined, so that a take of words that wait saves few registers.
+    // Takes the words of a row where too few wait, by popping more first. Returns whether all of
+    // them have come. It is not inlined, so that a take of words that wait saves few registers.
     #[inline(never)]
     fn pop_and_take(&mut self) -> bool
         ensures ring { SameRing self.old.ring.end self.new.ring.end }

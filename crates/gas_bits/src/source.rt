@@ -1,4 +1,4 @@
-//! The side that the particles of a direction come from along a row, for one word.
+//! The side that the particles of a direction come from along a row, for one word or four.
 ghost use Rattle.std.specs.Prelude.{◌≡◌, ℕ, ◌-◌, ◌<◌, ◌≤◌, length, slice_index};
 ghost use Rattle.gas_geom.specs.Moves.{Move, Back, Stay, On};
 ghost use Rattle.gas_geom.specs.Gas.{holds};
