@@ -4,12 +4,11 @@
 #![tactic(auto)]
 
 ghost use Rattle.std.specs.Prelude.{◌≡◌, [], ◌∷◌, IfOk};
-ghost use Rattle.gas_catalog.specs.Catalog.{gas_lattice};
+ghost use Rattle.gas_scene.specs.Catalog.{gas_lattice};
 ghost use Rattle.gas_geom.specs.Fhp1.{fhp1};
 ghost use Rattle.gas_geom.specs.Lattice.{count};
 ghost use Rattle.gas_layout.specs.Layout.{drawn};
 
-use gas_catalog::catalog::AnyLattice;
 use gas_geom::fhp1::Fhp1;
 use gas_geom::size::Size;
 use gas_layout::drawing::Drawing;
@@ -18,6 +17,7 @@ use gas_pipe::{NoGate, Plan, PlanError, Run, RunError, run};
 use gas_rows::channel::Channel;
 use gas_rows::chirality::Chirality;
 use gas_rows::lattice::Lattice;
+use gas_scene::catalog::AnyLattice;
 use gas_scene::checkpoint::checkpoint;
 use gas_scene::error::SceneError;
 use gas_scene::scene::{Scene, read};

@@ -19,10 +19,10 @@ use Rattle.gas_cells.specs.Cells.{row_cells}
 use Rattle.gas_cells.specs.Reading.{cell_at, bad_column}
 use Rattle.gas_cells.proofs.Pairs.{length-row_cells}
 use Rattle.gas_cells.proofs.Printed.{cell_at-row_cells, bad_column-row_cells}
-use Rattle.gas_catalog.specs.declared.catalog.KnownGas.{KnownGas}
-use Rattle.gas_catalog.specs.declared.catalog.KnownGas.TheVariants.{Fhp1}
-use Rattle.gas_catalog.specs.Catalog.{rules_of, GasLattice}
-use Rattle.gas_catalog.proofs.Names.{gas_named-self}
+use Rattle.gas_scene.specs.declared.catalog.KnownGas.{KnownGas}
+use Rattle.gas_scene.specs.declared.catalog.KnownGas.TheVariants.{Fhp1}
+use Rattle.gas_scene.specs.Catalog.{rules_of, GasLattice}
+use Rattle.gas_scene.proofs.Names.{gas_named-self}
 use Rattle.gas_layout.specs.Layout.{between, lattice_of}
 use Rattle.gas_layout.proofs.Grids.{lattice_of-same}
 use Rattle.gas_scene.specs.declared.common.TheConstants.{LAST_GENERATION}

@@ -3,9 +3,9 @@ use Rattle.std.proofs.Common.{◌≡◌, ◌⊎◌, inl, inr, ℕ, ◌^◌, Bool
 use Rattle.std.specs.Prelude.{Result, Ok, Err, IfOk, IfErr}
 use Rattle.std.specs.Option.{option_or, option_map_or, unwrap_or}
 use Rattle.toml.specs.Data.{Members}
-use Rattle.gas_catalog.specs.declared.catalog.KnownGas.{KnownGas}
-use Rattle.gas_catalog.specs.declared.catalog.KnownGas.TheVariants.{Fhp1}
-use Rattle.gas_catalog.specs.Catalog.{rules_of, gas_named}
+use Rattle.gas_scene.specs.declared.catalog.KnownGas.{KnownGas}
+use Rattle.gas_scene.specs.declared.catalog.KnownGas.TheVariants.{Fhp1}
+use Rattle.gas_scene.specs.Catalog.{rules_of, gas_named}
 use Rattle.gas_scene.specs.declared.error.SceneError.{SceneError}
 use Rattle.gas_scene.specs.declared.error.SceneError.TheVariants.{Range, Memory}
 use Rattle.gas_scene.specs.Table.{TableModel, table_of}

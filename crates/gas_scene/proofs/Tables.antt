@@ -9,7 +9,7 @@ use Rattle.gas_geom.specs.Lattice.{LatticeModel}
 use Rattle.gas_rows.specs.declared.chirality.Chirality.{Chirality}
 use Rattle.gas_rows.specs.declared.chirality.Chirality.TheVariants.{Seeded, Left, Right}
 use Rattle.gas_cells.specs.Cells.{row_cells}
-use Rattle.gas_catalog.specs.Catalog.{rules_of, GasLattice}
+use Rattle.gas_scene.specs.Catalog.{rules_of, GasLattice}
 use Rattle.gas_scene.specs.declared.error.SceneError.TheVariants.{WrongType}
 use Rattle.gas_scene.specs.Table.{TableModel, text_of, list_of, table_of}
 use Rattle.gas_scene.specs.Keys.{is_text, is_typed}

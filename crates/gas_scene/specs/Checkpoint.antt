@@ -8,7 +8,7 @@ use Rattle.gas_geom.specs.Lattice.{LatticeModel}
 use Rattle.gas_rows.specs.declared.chirality.Chirality.{Chirality}
 use Rattle.gas_rows.specs.declared.chirality.Chirality.TheVariants.{Seeded, Left, Right}
 use Rattle.gas_cells.specs.Cells.{row_cells}
-use Rattle.gas_catalog.specs.Catalog.{rules_of, GasLattice}
+use Rattle.gas_scene.specs.Catalog.{rules_of, GasLattice}
 
 -- the name of a chirality, and its seed, if it has one
 abbrev pub name_and_seed : Chirality → List ℕ × Option ℕ

@@ -1,3 +1,4 @@
+pub mod Catalog
 pub mod Table
 pub mod Keys
 pub mod Refusals

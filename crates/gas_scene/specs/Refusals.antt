@@ -5,9 +5,9 @@ use Rattle.std.specs.Option.{option_or, option_map_or, unwrap_or}
 use Rattle.std.specs.Ordering.{int_eq}
 use Rattle.std.specs.Str.{bytes_eq}
 use Rattle.toml.specs.Data.{Members, get_member}
-use Rattle.gas_catalog.specs.declared.catalog.KnownGas.{KnownGas}
-use Rattle.gas_catalog.specs.declared.catalog.KnownGas.TheVariants.{Fhp1}
-use Rattle.gas_catalog.specs.Catalog.{rules_of, gas_named}
+use Rattle.gas_scene.specs.declared.catalog.KnownGas.{KnownGas}
+use Rattle.gas_scene.specs.declared.catalog.KnownGas.TheVariants.{Fhp1}
+use Rattle.gas_scene.specs.Catalog.{rules_of, gas_named}
 use Rattle.gas_layout.specs.Layout.{between, is_covered, fits, can_place}
 use Rattle.gas_scene.specs.declared.error.SceneError.{SceneError}
 use Rattle.gas_scene.specs.declared.error.SceneError.TheVariants.{UnknownKey, Missing, WrongType, Range, BothForms, RowLength, BadCell}

@@ -10,7 +10,7 @@ use Rattle.gas_rows.specs.declared.chirality.Chirality.{Chirality}
 use Rattle.gas_rows.specs.declared.chirality.Chirality.TheVariants.{Seeded, Left, Right}
 use Rattle.gas_cells.specs.declared.reading.Cell.{Cell}
 use Rattle.gas_cells.specs.Reading.{cell_at}
-use Rattle.gas_catalog.specs.Catalog.{rules_of, GasLattice}
+use Rattle.gas_scene.specs.Catalog.{rules_of, GasLattice}
 use Rattle.gas_layout.specs.Layout.{is_covered, lattice_of, filling, placed}
 use Rattle.gas_scene.specs.declared.error.SceneError.{SceneError}
 use Rattle.gas_scene.specs.declared.error.SceneError.TheVariants.{Syntax}

@@ -11,11 +11,11 @@ ghost use Rattle.gas_scene.specs.Scene.{area_lattice};
 ghost use Rattle.gas_scene.specs.Inner.Shown.{area_shown};
 ghost use Rattle.gas_scene.specs.Inner.Areas.{can_stand};
 
+use crate::any_lattice;
+use crate::catalog::{AnyLattice, KnownGas};
 use crate::error::SceneError;
 use crate::table::Area;
 use crate::typed::{placement, rectangle};
-use gas_catalog::any_lattice;
-use gas_catalog::catalog::{AnyLattice, KnownGas};
 use gas_geom::gas::Gas;
 use gas_geom::size::Size;
 use gas_layout::drawing::Drawing;
@@ -104,7 +104,7 @@ impl Area<'_> {
     ghost use Rattle.std.specs.Prelude.{◌≡◌, ◌⊎◌, ◌^◌, ◌≤◌, ◌&&◌, true, false, is_some, pos, nat_abs, IfSome, IfOk, IfErr, ◌≤ℤ◌};
     ghost use Rattle.gas_geom.specs.Size.{IsSize};
     ghost use Rattle.gas_geom.specs.declared.size.TheConstants.{MOST_SIDE};
-    ghost use Rattle.gas_catalog.specs.Catalog.{rules_of, gas_lattice};
+    ghost use Rattle.gas_scene.specs.Catalog.{rules_of, gas_lattice};
     ghost use Rattle.gas_layout.specs.Layout.{between, drawn};
     ghost use Rattle.gas_scene.specs.declared.error.SceneError.TheVariants.{Range, Memory};
     ghost use Rattle.gas_scene.specs.Refusals.{is_area_in_range};

@@ -6,8 +6,8 @@ ghost use Rattle.std.specs.Str.{bytes_eq};
 ghost use Rattle.gas_scene.specs.Refusals.{most_side};
 ghost use Rattle.gas_scene.specs.Scene.{chirality_of};
 
+use crate::catalog::KnownGas;
 use crate::table::SceneTable;
-use gas_catalog::catalog::KnownGas;
 use gas_geom::size::MOST_SIDE;
 use gas_layout::sides::is_between;
 use gas_rows::chirality::Chirality;
@@ -59,7 +59,7 @@ fn chirality(name: &str, seed: u64) -> Option<Chirality>
 
 impl SceneTable<'_> {
     ghost use Rattle.std.specs.Prelude.{◌≡◌, ◌≤◌, ◌&&◌, Some, is_some, pos, nat_abs, int_le, IfSome};
-    ghost use Rattle.gas_catalog.specs.Catalog.{gas_named, rules_of};
+    ghost use Rattle.gas_scene.specs.Catalog.{gas_named, rules_of};
     ghost use Rattle.gas_layout.specs.Layout.{between};
     ghost use Rattle.gas_scene.specs.declared.common.TheConstants.{LAST_GENERATION};
     ghost use Rattle.gas_scene.specs.Refusals.{is_common_in_range, most_side};

@@ -2,6 +2,7 @@
 #![tactic(auto)]
 
 mod area_form;
+pub mod catalog;
 pub mod checkpoint;
 mod common;
 pub mod error;
@@ -11,4 +12,4 @@ mod table;
 mod typed;
 mod values;
 
-pub use gas_catalog::catalog::AnyLattice;
+pub use crate::catalog::AnyLattice;

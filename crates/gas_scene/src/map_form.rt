@@ -6,7 +6,7 @@ ghost use Rattle.std.specs.Option.{option_map_or};
 ghost use Rattle.toml.specs.View.{view};
 ghost use Rattle.gas_geom.specs.declared.size.TheConstants.{MOST_SIDE};
 ghost use Rattle.gas_cells.specs.Reading.{bad_column};
-ghost use Rattle.gas_catalog.specs.Catalog.{rules_of, gas_lattice};
+ghost use Rattle.gas_scene.specs.Catalog.{rules_of, gas_lattice};
 ghost use Rattle.gas_layout.specs.Layout.{between};
 ghost use Rattle.gas_scene.specs.declared.error.SceneError.TheVariants.{Memory};
 ghost use Rattle.gas_scene.specs.Table.{text_of};
@@ -14,10 +14,10 @@ ghost use Rattle.gas_scene.specs.Refusals.{is_misfit, row_length, bad_cell, map_
 ghost use Rattle.gas_scene.specs.Scene.{map_lattice};
 ghost use Rattle.gas_scene.specs.Inner.Maps.{verdict, map_before, map_width, AreShort, IsMap, row_at};
 
+use crate::any_lattice;
+use crate::catalog::{AnyLattice, KnownGas};
 use crate::error::SceneError;
 use crate::typed::text_of;
-use gas_catalog::any_lattice;
-use gas_catalog::catalog::{AnyLattice, KnownGas};
 use gas_cells::cells::CHARACTERS;
 use gas_cells::reading::{bad_column, read_row};
 use gas_geom::gas::Gas;

@@ -6,12 +6,12 @@ ghost use Rattle.gas_scene.specs.declared.error.SceneError.TheVariants.{Memory};
 ghost use Rattle.gas_scene.specs.Scene.{table_answer, scene_of_text};
 ghost use Rattle.gas_scene.specs.Inner.Answers.{Gives};
 
+use crate::catalog::AnyLattice;
 use crate::common::CommonValues;
 pub use crate::common::LAST_GENERATION;
 use crate::error::SceneError;
 use crate::map_form;
 use crate::table::{Form, SceneTable};
-use gas_catalog::catalog::AnyLattice;
 use gas_rows::chirality::Chirality;
 use std::alloc::Global;
 use std::marker::Model;
@@ -28,7 +28,7 @@ pub struct Scene {
 
 impl Model for Scene {
     ghost use Rattle.std.specs.Prelude.{◌≤◌};
-    ghost use Rattle.gas_catalog.specs.Catalog.{gas_lattice};
+    ghost use Rattle.gas_scene.specs.Catalog.{gas_lattice};
     ghost use Rattle.gas_scene.specs.Scene.{SceneModel};
 
     ghost Value = { SceneModel };
@@ -44,7 +44,7 @@ impl Model for Scene {
 
 impl Scene {
     ghost use Rattle.std.specs.Prelude.{◌≡◌, ◌≤◌};
-    ghost use Rattle.gas_catalog.specs.Catalog.{gas_lattice};
+    ghost use Rattle.gas_scene.specs.Catalog.{gas_lattice};
 
     /// The lattice.
     pub fn lattice(&self) -> &AnyLattice
@@ -71,7 +71,7 @@ impl Scene {
 
 impl SceneTable<'_> {
     ghost use Rattle.std.specs.Prelude.{◌≡◌, ◌⊎◌, true, Some, None, nat_abs, IfOk, IfErr};
-    ghost use Rattle.gas_catalog.specs.Catalog.{gas_lattice, gas_named};
+    ghost use Rattle.gas_scene.specs.Catalog.{gas_lattice, gas_named};
     ghost use Rattle.gas_scene.specs.declared.error.SceneError.TheVariants.{Memory};
     ghost use Rattle.gas_scene.specs.Scene.{scene_of};
     ghost use Rattle.gas_scene.specs.Refusals.{is_common_in_range, most_side, value_refusal};

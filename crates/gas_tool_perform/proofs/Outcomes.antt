@@ -3,7 +3,7 @@ use Rattle.std.proofs.Common.{◌≡◌, List, ℕ, Option, Some, Result, Err}
 use Rattle.std.specs.Option.{option_map_or}
 use Rattle.std.specs.Result.{result_flatten, result_map_both}
 use Rattle.gas_pipe_members.specs.declared.plan.PlanError.{PlanError}
-use Rattle.gas_catalog.specs.Catalog.{rules_of}
+use Rattle.gas_scene.specs.Catalog.{rules_of}
 use Rattle.gas_scene.specs.Scene.{SceneModel}
 use Rattle.gas_scene.specs.declared.error.SceneError.{SceneError}
 use Rattle.gas_tool_cli.specs.declared.request.PlanNumbers.{PlanNumbers}

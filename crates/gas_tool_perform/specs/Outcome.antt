@@ -8,7 +8,7 @@ use Rattle.gas_geom.specs.Gas.{Rules}
 use Rattle.gas_geom.specs.Lattice.{LatticeModel}
 use Rattle.gas_rows.specs.declared.chirality.Chirality.{Chirality}
 use Rattle.gas_stage.specs.Evolution.{lattice_after}
-use Rattle.gas_catalog.specs.Catalog.{rules_of}
+use Rattle.gas_scene.specs.Catalog.{rules_of}
 use Rattle.gas_scene.specs.Scene.{SceneModel, scene_of_text}
 use Rattle.gas_pipe_model.specs.Plan.{PlanModel}
 use Rattle.gas_pipe_members.specs.Plan.{plan_refusal}

@@ -9,7 +9,6 @@ ghost use Rattle.gas_tool_cli.specs.Requests.{IsAllowed};
 ghost use Rattle.gas_tool_perform.specs.Inner.View.{HasSomeCells, replay_outcome, view_text};
 
 use crate::faults::ToolError;
-use gas_catalog::with_lattice;
 use gas_geom::gas::Gas;
 use gas_pipe_members::plan::Plan;
 use gas_pipe_replay::replay;
@@ -18,6 +17,7 @@ use gas_pipe_run::run;
 use gas_rows::chirality::Chirality;
 use gas_rows::lattice::Lattice;
 use gas_scene::scene::read;
+use gas_scene::with_lattice;
 use gas_tool_cli::request::Request;
 use gas_tool_coarse::blocks::coarse;
 use gas_tool_io::replay::write_replay;

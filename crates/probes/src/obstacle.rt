@@ -3,12 +3,12 @@
 use crate::lattices::{has_obstacle, is_with_obstacle, lattice_with_obstacle};
 use crate::outcome::Outcome;
 use crate::scenes::scene;
-use gas_catalog::catalog::AnyLattice;
 use gas_geom::fhp1::Fhp1;
 use gas_pipe::feeder::Feeder;
 use gas_pipe::worker::Worker;
 use gas_rows::chirality::Chirality;
 use gas_rows::lattice::Lattice;
+use gas_scene::catalog::AnyLattice;
 use gas_scene::checkpoint::checkpoint;
 use gas_scene::error::SceneError;
 use gas_stage::stage::Stage;

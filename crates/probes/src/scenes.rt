@@ -2,7 +2,7 @@
 
 use crate::lattices::is_with_obstacle;
 use crate::outcome::Outcome;
-use gas_catalog::catalog::AnyLattice;
+use gas_scene::catalog::AnyLattice;
 use gas_scene::error::SceneError;
 use gas_scene::scene::read;
 use gas_tool::faults::{InputFault, UsageFault};

@@ -1,9 +1,9 @@
 //! Generations of a scene by one stage on one thread, which runs by threads are measured against.
 
-use gas_catalog::with_lattice;
 use gas_geom::gas::Gas;
 use gas_rows::lattice::Lattice;
 use gas_scene::scene::{Scene, read};
+use gas_scene::with_lattice;
 use gas_stage::advance::lattice_after;
 use gas_tool::input::slurp;
 use gas_tool::text::write_cells;

@@ -1,11 +1,11 @@
 //! What the tests share. These helpers promise nothing: what reading a scene promises is long, and
 //! a test that makes the call itself carries it through each of its paths.
 
-use gas_catalog::with_lattice;
 use gas_geom::gas::Gas;
 use gas_rows::lattice::Lattice;
 use gas_scene::error::SceneError;
 use gas_scene::scene::{Scene, read};
+use gas_scene::with_lattice;
 use std::alloc::Global;
 use std::fmt::Write;
 use std::process::Abort;

@@ -1,12 +1,12 @@
 //! Runs in two parts, with a scene written down between them.
 
-use gas_catalog::map_lattice;
 use gas_geom::gas::Gas;
 use gas_pipe::gate::NoGate;
 use gas_pipe::plan::Plan;
 use gas_pipe::run;
 use gas_rows::chirality::Chirality;
 use gas_rows::lattice::Lattice;
+use gas_scene::catalog::AnyLattice;
 use gas_scene::checkpoint::checkpoint;
 use gas_scene::scene::{Scene, read};
 use std::alloc::Global;
@@ -62,10 +62,13 @@ fn scene_after<R: Threads + Wait + Sync>(
     plan: Plan,
 ) -> Result<String, Fail> {
     let last = scene.generation() + plan.generations();
-    let lattice = map_lattice!(
-        scene.lattice(),
-        lattice => lattice_after(rt, alloc, scene, lattice, plan)?
-    );
+    let lattice = match scene.lattice() {
+        AnyLattice::Fhp1(fhp1) => AnyLattice::Fhp1(lattice_after(rt, alloc, scene, fhp1, plan)?),
+        AnyLattice::Hpp(hpp) => AnyLattice::Hpp(lattice_after(rt, alloc, scene, hpp, plan)?),
+        AnyLattice::FhpRest(rest) => {
+            AnyLattice::FhpRest(lattice_after(rt, alloc, scene, rest, plan)?)
+        }
+    };
     Ok(checkpoint(alloc, &lattice, scene.chirality(), last)?)
 }
 

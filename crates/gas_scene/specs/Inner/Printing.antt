@@ -8,9 +8,9 @@ use Rattle.toml.specs.Data.{Data, string, integer, array, Members, no_members, m
 use Rattle.toml.specs.View.{items_of}
 use Rattle.gas_geom.specs.Gas.{Rules}
 use Rattle.gas_rows.specs.declared.chirality.Chirality.{Chirality}
-use Rattle.gas_catalog.specs.declared.catalog.KnownGas.{KnownGas}
-use Rattle.gas_catalog.specs.declared.catalog.KnownGas.TheVariants.{Fhp1}
-use Rattle.gas_catalog.specs.Catalog.{gas_named}
+use Rattle.gas_scene.specs.declared.catalog.KnownGas.{KnownGas}
+use Rattle.gas_scene.specs.declared.catalog.KnownGas.TheVariants.{Fhp1}
+use Rattle.gas_scene.specs.Catalog.{gas_named}
 use Rattle.gas_scene.specs.Checkpoint.{name_and_seed}
 
 -- the gas with the name of these rules

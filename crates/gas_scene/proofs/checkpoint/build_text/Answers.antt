@@ -5,7 +5,7 @@ use Rattle.toml.specs.Data.{Members}
 use Rattle.toml.specs.View.{table_view}
 use Rattle.gas_geom.specs.Gas.{Rules}
 use Rattle.gas_geom.specs.Lattice.{IsLattice}
-use Rattle.gas_catalog.specs.Catalog.{GasLattice}
+use Rattle.gas_scene.specs.Catalog.{GasLattice}
 use Rattle.gas_scene.specs.Inner.Printing.{gas_with}
 use Rattle.gas_scene.specs.Scene.{table_answer}
 use Rattle.gas_scene.proofs.Documents.{scene_of_text-document}

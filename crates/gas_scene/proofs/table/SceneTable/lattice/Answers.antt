@@ -1,7 +1,7 @@
 use Rattle.std.proofs.Common.{◌≡◌, ◌⊎◌, ◌^◌, map, Option, Some, None, ap, sym, ◌∙◌, subst}
 use Rattle.std.specs.Prelude.{IfOk, IfErr}
 use Rattle.toml.specs.View.{view}
-use Rattle.gas_catalog.specs.Catalog.{rules_of}
+use Rattle.gas_scene.specs.Catalog.{rules_of}
 use Rattle.gas_scene.specs.declared.error.SceneError.{SceneError}
 use Rattle.gas_scene.specs.declared.error.SceneError.TheVariants.{Memory}
 use Rattle.gas_scene.specs.Table.{text_of}

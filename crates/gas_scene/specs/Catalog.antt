@@ -7,10 +7,10 @@ use Rattle.gas_geom.specs.Fhp1.{fhp1}
 use Rattle.gas_geom.specs.Hpp.{hpp}
 use Rattle.gas_geom.specs.FhpRest.{fhp_rest}
 use Rattle.gas_geom.specs.Lattice.{LatticeModel}
-use Rattle.gas_catalog.specs.declared.catalog.KnownGas.{KnownGas}
-use Rattle.gas_catalog.specs.declared.catalog.KnownGas.TheVariants.{Fhp1, Hpp, FhpRest}
-use Rattle.gas_catalog.specs.declared.catalog.AnyLattice.{AnyLattice}
-use Rattle.gas_catalog.specs.declared.catalog.AnyLattice.TheVariants as lattice_of
+use Rattle.gas_scene.specs.declared.catalog.KnownGas.{KnownGas}
+use Rattle.gas_scene.specs.declared.catalog.KnownGas.TheVariants.{Fhp1, Hpp, FhpRest}
+use Rattle.gas_scene.specs.declared.catalog.AnyLattice.{AnyLattice}
+use Rattle.gas_scene.specs.declared.catalog.AnyLattice.TheVariants as lattice_of
 
 abbrev pub gases : List KnownGas
 gases = Fhp1 ∷ Hpp ∷ FhpRest ∷ []

@@ -49,24 +49,6 @@ macro_rules! with_lattice {
     };
 }
 
-/// A lattice of the same gas, by an expression for it, whichever gas it is.
-#[macro_export]
-macro_rules! map_lattice {
-    ($any:expr, $lattice:ident => $mapped:expr) => {
-        match $any {
-            $crate::catalog::AnyLattice::Fhp1($lattice) => {
-                $crate::catalog::AnyLattice::Fhp1($mapped)
-            }
-            $crate::catalog::AnyLattice::Hpp($lattice) => {
-                $crate::catalog::AnyLattice::Hpp($mapped)
-            }
-            $crate::catalog::AnyLattice::FhpRest($lattice) => {
-                $crate::catalog::AnyLattice::FhpRest($mapped)
-            }
-        }
-    };
-}
-
 // The number of states of a cell of a gas.
 fn states<G: Gas>() -> u16
     ensures { result ≡ 2 ^ G.rules.dirs }
@@ -76,7 +58,7 @@ fn states<G: Gas>() -> u16
 
 impl KnownGas {
     ghost use Rattle.std.specs.Prelude.{◌≡◌, ◌^◌};
-    ghost use Rattle.gas_catalog.specs.Catalog.{gas_named, rules_of};
+    ghost use Rattle.gas_scene.specs.Catalog.{gas_named, rules_of};
 
     /// The gas of this name.
     pub fn named(name: &str) -> Option<KnownGas>
