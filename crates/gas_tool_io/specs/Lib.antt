@@ -1,6 +1,7 @@
 pub mod Status
 pub mod Output
 pub mod Text
+pub mod Blocks
 pub mod Table
 pub mod Replay
 pub mod Inner

@@ -1,6 +1,7 @@
 //! The bytes that come in and the texts that go out.
 #![tactic(auto)]
 
+pub mod blocks;
 pub mod faults;
 pub mod input;
 mod output;

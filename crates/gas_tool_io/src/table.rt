@@ -5,9 +5,9 @@ ghost use Rattle.gas_tool_io.specs.Inner.Sink.{Adds};
 ghost use Rattle.std.specs.List.{flat_map};
 ghost use Rattle.gas_tool_io.specs.Table.{block_line, table_header, table_text};
 
+use crate::blocks::Block;
 use crate::faults::WriteFault;
 use crate::output::{Sink, put_line};
-use gas_tool_coarse::blocks::Block;
 use std::io::Write;
 
 // Adds the line above the blocks.

@@ -19,7 +19,7 @@ use gas_rows::lattice::Lattice;
 use gas_scene::scene::read;
 use gas_scene::with_lattice;
 use gas_tool_cli::request::Request;
-use gas_tool_coarse::blocks::coarse;
+use gas_tool_io::blocks::coarse;
 use gas_tool_io::replay::write_replay;
 use gas_tool_io::table::write_table;
 use gas_tool_io::text::{write_cells, write_check};

@@ -1,9 +1,6 @@
-//! Tests of the gases' tables, of rows, random bits, cells as text, blocks and stages on worked
-//! examples.
+//! Tests of the gases' tables, of rows, random bits, cells as text and stages on worked examples.
 #![tactic(auto)]
 
-#[cfg(test)]
-mod blocks;
 #[cfg(test)]
 mod cells;
 #[cfg(test)]

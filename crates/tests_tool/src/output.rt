@@ -6,7 +6,7 @@ use gas_geom::fhp1::Fhp1;
 use gas_geom::size::Size;
 use gas_rows::channel::Channel;
 use gas_rows::lattice::Lattice;
-use gas_tool_coarse::blocks::Block;
+use gas_tool_io::blocks::Block;
 use gas_tool_io::table::write_table;
 use gas_tool_io::text::write_cells;
 use std::alloc::{AllocError, Global};

@@ -7,7 +7,7 @@ use Rattle.gas_geom.specs.Lattice.{LatticeModel}
 use Rattle.gas_rows.specs.declared.chirality.Chirality.{Chirality}
 use Rattle.gas_pipe_model.specs.Plan.{PlanModel}
 use Rattle.gas_pipe_replay.specs.Replay.{replay_of}
-use Rattle.gas_tool_coarse.specs.Blocks.{blocks_of}
+use Rattle.gas_tool_io.specs.Blocks.{blocks_of}
 use Rattle.gas_tool_io.specs.Replay.{replay_text}
 use Rattle.gas_tool_io.specs.Text.{cells_text}
 use Rattle.gas_tool_io.specs.Table.{table_text}

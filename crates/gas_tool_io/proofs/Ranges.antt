@@ -1,0 +1,119 @@
+-- Lemmas on ranges of numbers, the parts that they fall into, and lists that grow.
+use Rattle.std.proofs.Common.{◌≡◌, ◌∙◌, ap, sym, cond, true, false, Bool, ℕ, zero, suc, ◌+◌, ◌-◌, ◌*◌, ◌/◌, ◌<◌, ◌≤◌, min, refl, zero-add, append_assoc, arith, List, [], ◌∷◌, ◌++◌, map, length, take, drop, get_or, append-nil, ap₂, length-append}
+use Rattle.std.specs.Prelude.{◌==◌, filter}
+use Rattle.std.specs.Int.{div_ceil}
+use Rattle.std.specs.List.{range_with_len, flat_map}
+use Rattle.std.proofs.lemmas.Bool.{ne_eqb, eq-eqb}
+use Rattle.std.proofs.Math.Nat.{div-lt_iff_lt-mul, mul-le-mul_right}
+use Rattle.std.proofs.lemmas.List.Elements.{filter-append}
+use Rattle.std.proofs.lemmas.List.FromFn.{map-range_with_len_more}
+use Rattle.std.proofs.lemmas.Grind.{flat_map-append, div_ceil_times}
+use Rattle.std.proofs.lemmas.List.{get_or-append_right, get_or-drop, length-map, length-take-le, get_or_default, take_all, drop_all}
+use Rattle.std.proofs.Math.Seq.{take-append_seam, drop-append_seam}
+use Rattle.std.proofs.lemmas.List.Edits.{map_over_more}
+use Rattle.std.proofs.Math.ListN.{set}
+use Rattle.gas_bits.proofs.Ones.{range-append}
+use Rattle.gas_tool_io.specs.Inner.Tally.{part}
+
+filter_none : (p : ℕ → Bool) (a n : ℕ) → ((i : ℕ) → a ≤ i → i < a + n → p i ≡ false) → filter p (range_with_len a n) ≡ []
+filter_none p a zero h = refl
+filter_none p a (suc n) h =
+    ap (λ b. cond b (a ∷ filter p (range_with_len (a + 1) n)) (filter p (range_with_len (a + 1) n))) (h a (omega arith) (omega arith))
+    ∙ filter_none p (a + 1) n (λ i low high. h i (omega arith) (omega arith))
+
+filter_all : (p : ℕ → Bool) (a n : ℕ) → ((i : ℕ) → a ≤ i → i < a + n → p i ≡ true) → filter p (range_with_len a n) ≡ range_with_len a n
+filter_all p a zero h = refl
+filter_all p a (suc n) h =
+    ap (λ b. cond b (a ∷ filter p (range_with_len (a + 1) n)) (filter p (range_with_len (a + 1) n))) (h a (omega arith) (omega arith))
+    ∙ ap (λ xs. a ∷ xs) (filter_all p (a + 1) n (λ i low high. h i (omega arith) (omega arith)))
+
+-- numbers below, in and past the multiple of a size that a part begins with
+below_part : (size k i : ℕ) → 1 ≤ size → i < k * size → (i / size == k) ≡ false
+below_part size k i some low =
+    let less : i / size < k = (div-lt_iff_lt-mul some).1 low in
+    ne_eqb (i / size) k (λ e. absurd (omega arith))
+
+past_part : (size k i : ℕ) → 1 ≤ size → k * size + size ≤ i → (i / size == k) ≡ false
+past_part size k i some high =
+    ne_eqb (i / size) k (λ e. let less : i < (k + 1) * size = (div-lt_iff_lt-mul some).0 (let h : i / size < k + 1 = omega arith in h) in absurd (omega arith))
+
+in_part : (size k i : ℕ) → 1 ≤ size → k * size ≤ i → i < k * size + size → (i / size == k) ≡ true
+in_part size k i some low high =
+    let less : i / size < k + 1 = (div-lt_iff_lt-mul some).1 (let h : i < (k + 1) * size = omega arith in h) in
+    let more : k ≤ i / size = by_order (i / size) k (λ h. let bad : i < k * size = (div-lt_iff_lt-mul some).0 h in omega arith) in
+    eq-eqb (i / size) k (omega arith)
+  where
+    by_order : (a b : ℕ) → (a < b → ⊥) → b ≤ a
+    by_order a b never = omega arith
+
+-- a part is a range
+pub part-range : (n size k m : ℕ) → 1 ≤ size → k * size < n → m ≡ min size (n - k * size) → part n size k ≡ range_with_len (k * size) m
+part-range n size k m some begins e =
+    let p : ℕ → Bool = λ i. i / size == k in
+    let rest : ℕ = n - (k * size + m) in
+    let whole : n ≡ k * size + (m + rest) = omega arith in
+    let front : filter p (range_with_len 0 (k * size)) ≡ [] = filter_none p 0 (k * size) (λ i low high. below_part size k i some (omega arith)) in
+    let middle : filter p (range_with_len (k * size) m) ≡ range_with_len (k * size) m =
+    filter_all p (k * size) m (λ i low high. in_part size k i some low (omega arith)) in
+    let back : filter p (range_with_len (k * size + m) rest) ≡ [] =
+    filter_none p (k * size + m) rest (λ i low high. past_part size k i some (omega arith)) in
+    ap (λ x. filter p (range_with_len 0 x)) whole
+    ∙ ap (filter p) (range-append 0 (k * size) (m + rest) ∙ ap (λ a. range_with_len 0 (k * size) ++ range_with_len a (m + rest)) (zero-add (k * size)) ∙ ap (λ xs. range_with_len 0 (k * size) ++ xs) (range-append (k * size) m rest))
+    ∙ filter-append p _ _ ∙ ap (λ xs. xs ++ filter p (range_with_len (k * size) m ++ range_with_len (k * size + m) rest)) front
+    ∙ filter-append p _ _ ∙ ap (λ xs. xs ++ filter p (range_with_len (k * size + m) rest)) middle
+    ∙ ap (λ xs. range_with_len (k * size) m ++ xs) back ∙ append-nil _
+
+-- a loop that writes over each item has not yet written the next
+pub over_item : {X : Type 0} (f : X → X) (xs ys : List X) (i : ℕ) (d : X) → i < length xs → ys ≡ map f (take i xs) ++ drop i xs → get_or ys i d ≡ get_or xs i d
+over_item f xs ys i d lt e =
+    let front : length (map f (take i xs)) ≡ i = length-map (take i xs) f ∙ length-take-le i xs (omega arith) in
+    ap (λ zs. get_or zs i d) e ∙ get_or-append_right (map f (take i xs)) (drop i xs) i i d front (omega arith)
+    ∙ get_or-drop i xs (i - i) d ∙ ap (λ k. get_or xs k d) (omega arith)
+
+-- a loop that writes over each item, one more
+pub over_more : {X : Type 0} (f : X → X) (xs ys : List X) (i : ℕ) (d r : X) → i < length xs → length ys ≡ length xs → ys ≡ map f (take i xs) ++ drop i xs
+    → r ≡ f (get_or ys i d) → set ys i r ≡ map f (take (i + 1) xs) ++ drop (i + 1) xs
+over_more f xs ys i d r lt long e is =
+    ap (set ys i) is ∙ map_over_more f xs ys i (get_or ys i d) lt e (get_or_default ys i d (get_or ys i d) (omega arith))
+
+pub part-short : (p : ℕ → Bool) (xs : List ℕ) → length (filter p xs) ≤ length xs
+part-short p [] = omega arith
+part-short p (x ∷ xs) = by_test (p x) (part-short p xs)
+  where
+    by_test : (b : Bool) → length (filter p xs) ≤ length xs → length (cond b (x ∷ filter p xs) (filter p xs)) ≤ suc (length xs)
+    by_test true h = omega arith
+    by_test false h = omega arith
+
+-- a column of blocks begins before the end of a row
+pub begins-within : (n size k : ℕ) → 1 ≤ size → k < div_ceil n size → k * size < n
+begins-within n size k some lt =
+    let less : (k + 1) * size ≤ div_ceil n size * size = mul-le-mul_right size (let h : k + 1 ≤ div_ceil n size = omega arith in h) in
+    omega (arith, less, (div_ceil_times n size some).1)
+
+-- one item more of those that a function gives for the numbers from 0 on
+pub pushed : {X : Type 0} (f : ℕ → X) (old now more : List X) (n : ℕ) (x : X) → now ≡ old ++ map f (range_with_len 0 n) → more ≡ now ++ x ∷ [] → x ≡ f n
+    → more ≡ old ++ map f (range_with_len 0 (n + 1))
+pushed f old now more n x so_far push is =
+    push ∙ ap₂ (λ ys y. ys ++ y ∷ []) so_far is ∙ append_assoc old (map f (range_with_len 0 n)) (f n ∷ [])
+    ∙ ap (λ ys. old ++ ys) (sym (map-range_with_len_more f 0 n n (zero-add n)))
+
+-- one list more of those that a function gives for the numbers from 0 on
+pub strips-more : {X : Type 0} (f : ℕ → List X) (now more : List X) (n : ℕ) → now ≡ flat_map f (range_with_len 0 n) → more ≡ now ++ f n
+    → more ≡ flat_map f (range_with_len 0 (n + 1))
+strips-more f now more n so_far is =
+    is ∙ ap (λ ys. ys ++ f n) so_far ∙ ap (λ ys. flat_map f (range_with_len 0 n) ++ ys) (sym (append-nil (f n)) ∙ ap (λ k. f k ++ []) (sym (zero-add n)))
+    ∙ sym (flat_map-append f (range_with_len 0 n) (range_with_len (0 + n) 1)) ∙ ap (flat_map f) (sym (range-append 0 n 1))
+
+-- the end of a list, after what was appended was written over
+pub tail_written : {X : Type 0} (old added all front back new : List X) (start len : ℕ) → all ≡ old ++ added → start ≡ length old → front ≡ take start all
+    → length back + start ≡ length all → length new ≡ length back → len ≡ length all
+    → take len ((front ++ new) ++ drop (length (front ++ new)) all) ≡ old ++ new
+tail_written old added all front back new start len is begins first last same whole =
+    let kept : front ≡ old = first ∙ ap₂ take begins is ∙ take-append_seam old added in
+    let long : length (front ++ new) ≡ length all = omega (arith, length-append front new, ap length kept, same, last, begins) in
+    ap (λ ys. take len ((front ++ new) ++ ys)) (drop_all _ all (omega (arith, long)))
+    ∙ ap (take len) (append-nil (front ++ new)) ∙ take_all len (front ++ new) (omega (arith, long, whole)) ∙ ap (λ ys. ys ++ new) kept
+
+-- what stands after what was there is what was appended
+pub tail_is : {X : Type 0} (old added all back : List X) (start : ℕ) → all ≡ old ++ added → start ≡ length old → back ≡ drop start all → back ≡ added
+tail_is old added all back start is begins last = last ∙ ap₂ drop begins is ∙ drop-append_seam old added

@@ -1,0 +1,223 @@
+-- Lemmas on how a block's numbers come together.
+use Rattle.std.proofs.Common.{◌≡◌, ◌∙◌, ap, sym, subst, true, false, Bool, ℕ, zero, suc, ◌+◌, ◌-◌, ◌*◌, ◌/◌, ◌<◌, ◌≤◌, min, refl, pos, negsuc, ◌+ℤ◌, ◌≤ℤ◌, neg_ℤ, ℤ, add-zero, zero-add, arith, List, [], ◌∷◌, ◌++◌, map, fold, length, slice_index_or, append-nil, ap₂, length-append}
+use Rattle.std.specs.Prelude.{All, ◌==◌, if◌then◌else◌, not, unsigned_abs}
+use Rattle.std.specs.Int.{div_ceil}
+use Rattle.std.specs.List.{range_with_len, flat_map}
+use Rattle.std.proofs.lemmas.Int.{ints}
+use Rattle.std.proofs.Math.Nat.{mul-le-mul, suc-mul}
+use Rattle.std.proofs.lemmas.List.Elements.{All-from_get_or}
+use Rattle.std.proofs.lemmas.List.FromFn.{length-range_with_len, length-map-range_with_len, get_or-map-range_with_len}
+use Rattle.std.proofs.lemmas.Grind.{flat_map-append}
+use Rattle.std.proofs.lemmas.List.Sums.{fold-append}
+use Rattle.std.proofs.lemmas.List.{length-map}
+use Rattle.std.proofs.lemmas.List.Folds.{fold-map}
+use Rattle.gas_geom.specs.Gas.{Rules, IsGas, holds, particles, momentum_of}
+use Rattle.gas_geom.proofs.Held.{sum_held, sum-held, particles-bits}
+use Rattle.gas_geom.specs.declared.size.TheConstants.{MOST_SIDE}
+use Rattle.gas_geom.specs.Channel.{is_solid}
+use Rattle.gas_geom.specs.Lattice.{LatticeModel, cell}
+use Rattle.gas_bits.proofs.Counting.{bits-le}
+use Rattle.gas_bits.proofs.Ones.{range-append}
+use Rattle.gas_tool_io.specs.Blocks.{cells_of, block_of_cells}
+use Rattle.gas_tool_io.specs.Inner.Tally.{HasRoom, empty_block, most_cells, part, plus_cell, plus_cell_of, plus_row, strip_of}
+use Rattle.gas_tool_io.specs.declared.blocks.Block.{Block}
+use Rattle.gas_tool_io.proofs.Ranges.{part-range, part-short, begins-within}
+
+-- a number from -m to m
+pub record Within (m : ℕ) (z : ℤ) : Type 0 where
+  pub low : neg_ℤ (pos m) ≤ℤ z
+  pub high : z ≤ℤ pos m
+
+-- a number from -2 to 2
+abbrev pub IsSmall : ℤ → Type 0
+IsSmall z = unsigned_abs z ≤ 2
+
+pub small-within : (z : ℤ) → IsSmall z → Within 2 z
+small-within (pos a) h = record { low = omega (arith, ints); high = omega (arith, ints, h) }
+small-within (negsuc a) h = record { low = omega (arith, ints, h); high = omega (arith, ints) }
+
+if_small : (b : Bool) (z : ℤ) → IsSmall z → Within 2 (if b then z else pos 0)
+if_small true z h = small-within z h
+if_small false z h = record { low = omega (arith, ints); high = omega (arith, ints) }
+
+pub Within-add : (m n : ℕ) (y z : ℤ) → Within m y → Within n z → Within (m + n) (y +ℤ z)
+Within-add m n y z h k = record { low = omega (arith, ints, h.low, k.low); high = omega (arith, ints, h.high, k.high) }
+
+pub Within-le : (m n : ℕ) (z : ℤ) → m ≤ n → Within m z → Within n z
+Within-le m n z le h = record { low = omega (arith, ints, h.low); high = omega (arith, ints, h.high) }
+
+sum_held_small : (n s : ℕ) (f : ℕ → ℤ) → ((i : ℕ) → i < n → IsSmall (f i)) → Within (2 * n) (sum_held n s f)
+sum_held_small zero s f h = record { low = omega (arith, ints); high = omega (arith, ints) }
+sum_held_small (suc n) s f h =
+    Within-le _ _ _ (omega arith) (Within-add _ _ _ _ (sum_held_small n s f (λ i lt. h i (omega arith))) (if_small (holds s n) (f n) (h n (omega arith))))
+
+-- the momentum of a set is small
+pub momentum_within : (gas : Rules) → IsGas gas → (s : ℕ) → Within 16 (momentum_of gas s).0 × Within 16 (momentum_of gas s).1
+momentum_within gas laws s =
+    let few = laws.few_dirs in (
+      subst (Within 16) (sym (sum-held gas.dirs s (λ i. (gas.momentum i).0)))
+          (Within-le _ _ _ (omega arith) (sum_held_small gas.dirs s (λ i. (gas.momentum i).0) (λ i lt. (laws.momentum_small i lt).0))),
+      subst (Within 16) (sym (sum-held gas.dirs s (λ i. (gas.momentum i).1)))
+          (Within-le _ _ _ (omega arith) (sum_held_small gas.dirs s (λ i. (gas.momentum i).1) (λ i lt. (laws.momentum_small i lt).1))),
+    )
+
+solid_counts : (b : Bool) → (if not b then 1 else 0) ≤ 1
+solid_counts true = omega arith
+solid_counts false = omega arith
+
+-- a cell takes the room of a cell
+pub HasRoom-cell : (gas : Rules) → IsGas gas → (b : Block) (solid : Bool) (s n : ℕ) → HasRoom b n → HasRoom (plus_cell gas b solid s) (n + 1)
+HasRoom-cell gas laws b solid s n h =
+    let m = momentum_within gas laws s in
+    record {
+      fluid = omega (arith, h.fluid, solid_counts solid);
+      particles = omega (arith, h.particles, particles-bits gas s, bits-le gas.dirs s, laws.few_dirs);
+      west = omega (arith, ints, h.west, m.0.low);
+      east = omega (arith, ints, h.east, m.0.high);
+      south = omega (arith, ints, h.south, m.1.low);
+      north = omega (arith, ints, h.north, m.1.high);
+    }
+
+pub HasRoom-le : (b : Block) (m n : ℕ) → m ≤ n → HasRoom b m → HasRoom b n
+HasRoom-le b m n le h = record {
+  fluid = omega (arith, h.fluid);
+  particles = omega (arith, h.particles);
+  west = omega (arith, ints, h.west);
+  east = omega (arith, ints, h.east);
+  south = omega (arith, ints, h.south);
+  north = omega (arith, ints, h.north);
+}
+
+-- the cells of a row that stand in a block's column of blocks are those of a range
+pub row_is : (gas : Rules) (width : ℕ) (solid : List Bool) (row : List ℕ) (b r : Block) (m : ℕ) → 1 ≤ width → b.col * width < length row
+    → m ≡ min width (length row - b.col * width) → r ≡ fold (plus_cell_of gas solid row) b (range_with_len (b.col * width) (b.col * width + m - b.col * width))
+    → r ≡ plus_row gas width solid row b
+row_is gas width solid row b r m some begins e is =
+    let long : b.col * width + m - b.col * width ≡ m = omega arith in
+    is ∙ ap (λ n. fold (plus_cell_of gas solid row) b (range_with_len (b.col * width) n)) long
+    ∙ ap (fold (plus_cell_of gas solid row) b) (sym (part-range (length row) width b.col m some begins e))
+
+-- a block with the cell of a lattice at a place
+abbrev pub plus_place : Rules → LatticeModel → Block → ℕ × ℕ → Block
+plus_place gas lattice b c = plus_cell gas b (is_solid lattice.channel c.0 c.1) (cell lattice.rows c.0 c.1)
+
+-- the cells of n rows, from row `from` on, that stand in a column of blocks
+abbrev pub cells_from : LatticeModel → ℕ → ℕ → ℕ → ℕ → List (ℕ × ℕ)
+cells_from lattice width col from n = flat_map (λ y. map (λ x. (x, y)) (part lattice.channel.width width col)) (range_with_len from n)
+
+-- a block with those cells
+abbrev pub block_from : Rules → LatticeModel → ℕ → ℕ → ℕ → ℕ → ℕ → Block
+block_from gas lattice width row from n col = fold (plus_place gas lattice) (empty_block col row) (cells_from lattice width col from n)
+
+-- what the cells add to each number of a block
+folded : (gas : Rules) (lattice : LatticeModel) (cells : List (ℕ × ℕ)) (b : Block)
+    → let sums : Block = record {
+      col = b.col;
+      row = b.row;
+      fluid = fold (λ a c. a + (if not (is_solid lattice.channel c.0 c.1) then 1 else 0)) b.fluid cells;
+      particles = fold (λ a c. a + particles gas (cell lattice.rows c.0 c.1)) b.particles cells;
+      px = fold (λ a c. a +ℤ (momentum_of gas (cell lattice.rows c.0 c.1)).0) b.px cells;
+      py = fold (λ a c. a +ℤ (momentum_of gas (cell lattice.rows c.0 c.1)).1) b.py cells;
+    } in fold (plus_place gas lattice) b cells ≡ sums
+folded gas lattice [] b = refl
+folded gas lattice (c ∷ cells) b = folded gas lattice cells (plus_place gas lattice b c)
+
+-- the block of cells, one added after the other
+pub block_folded : (gas : Rules) (lattice : LatticeModel) (col row : ℕ) (cells : List (ℕ × ℕ))
+    → fold (plus_place gas lattice) (empty_block col row) cells ≡ block_of_cells gas lattice col row cells
+block_folded gas lattice col row cells = folded gas lattice cells (empty_block col row)
+
+HasRoom-fold : (gas : Rules) → IsGas gas → (lattice : LatticeModel) (cells : List (ℕ × ℕ)) (b : Block) (n : ℕ) → HasRoom b n
+    → HasRoom (fold (plus_place gas lattice) b cells) (n + length cells)
+HasRoom-fold gas laws lattice [] b n h = subst (HasRoom b) (sym (add-zero n)) h
+HasRoom-fold gas laws lattice (c ∷ cells) b n h =
+    HasRoom-le _ (n + 1 + length cells) (n + suc (length cells)) (omega arith)
+    (HasRoom-fold gas laws lattice cells (plus_place gas lattice b c) (n + 1) (HasRoom-cell gas laws b _ _ n h))
+
+-- n rows have at most n times as many cells as one
+cells_few : (lattice : LatticeModel) (width col from n : ℕ) → length (cells_from lattice width col from n) ≤ n * lattice.channel.width
+cells_few lattice width col from zero = omega arith
+cells_few lattice width col from (suc n) =
+    let xs : List ℕ = part lattice.channel.width width col in
+    let row : List (ℕ × ℕ) = map (λ x. (x, from)) xs in
+    let short : length xs ≤ lattice.channel.width = omega (arith, part-short (λ i. i / width == col) (range_with_len 0 lattice.channel.width), length-range_with_len 0 lattice.channel.width) in
+    let long : length row ≡ length xs = length-map xs _ in
+    omega (arith, length-append row (cells_from lattice width col (from + 1) n), long, short, cells_few lattice width col (from + 1) n, suc-mul n lattice.channel.width)
+
+-- a block of less than MOST_SIDE rows has room for one more
+pub block_from-room : (gas : Rules) → IsGas gas → (lattice : LatticeModel) (width row from n col : ℕ) → lattice.channel.width ≤ MOST_SIDE → n < MOST_SIDE
+    → HasRoom (block_from gas lattice width row from n col) (most_cells - MOST_SIDE)
+block_from-room gas laws lattice width row from n col wide few =
+    let none : HasRoom (empty_block col row) 0 = record {
+      fluid = omega arith;
+      particles = omega arith;
+      west = omega (arith, ints);
+      east = omega (arith, ints);
+      south = omega (arith, ints);
+      north = omega (arith, ints);
+    } in
+    let cells : List (ℕ × ℕ) = cells_from lattice width col from n in
+    let most : n * lattice.channel.width ≤ (MOST_SIDE - 1) * MOST_SIDE = mul-le-mul (let h : n ≤ MOST_SIDE - 1 = omega arith in h) wide in
+    HasRoom-le _ (0 + length cells) (most_cells - MOST_SIDE) (omega (arith, cells_few lattice width col from n, most)) (HasRoom-fold gas laws lattice cells (empty_block col row) 0 none)
+
+-- a block with the cells of one row more
+block_from-more : (gas : Rules) (lattice : LatticeModel) (width row from n y col : ℕ) → from + n ≡ y → length (slice_index_or lattice.rows y []) ≡ lattice.channel.width
+    → plus_row gas width (slice_index_or lattice.channel.solid y []) (slice_index_or lattice.rows y []) (block_from gas lattice width row from n col) ≡ block_from gas lattice width row from (n + 1) col
+block_from-more gas lattice width row from n y col e wide =
+    let now : Block = block_from gas lattice width row from n col in
+    let f = plus_cell_of gas (slice_index_or lattice.channel.solid y []) (slice_index_or lattice.rows y []) in
+    let at : now.col ≡ col = ap (λ (b : Block). b.col) (folded gas lattice (cells_from lattice width col from n) (empty_block col row)) in
+    let g : ℕ → List (ℕ × ℕ) = λ z. map (λ x. (x, z)) (part lattice.channel.width width col) in
+    let cells : cells_from lattice width col from (n + 1) ≡ cells_from lattice width col from n ++ g y =
+    ap (flat_map g) (range-append from n 1) ∙ flat_map-append g (range_with_len from n) _ ∙ ap (λ z. cells_from lattice width col from n ++ (g z ++ [])) e
+    ∙ ap (λ zs. cells_from lattice width col from n ++ zs) (append-nil (g y)) in
+    ap₂ (λ w k. fold f now (part w width k)) wide at
+    ∙ sym (fold-map (plus_place gas lattice) (λ x. (x, y)) now (part lattice.channel.width width col))
+    ∙ sym (fold-append (plus_place gas lattice) (empty_block col row) (cells_from lattice width col from n) (g y))
+    ∙ ap (fold (plus_place gas lattice) (empty_block col row)) (sym cells)
+
+map-map : {X Y Z : Type 0} (f : Y → Z) (g : X → Y) (h : X → Z) (xs : List X) → ((x : X) → f (g x) ≡ h x) → map f (map g xs) ≡ map h xs
+map-map f g h [] e = refl
+map-map f g h (x ∷ xs) e = ap₂ (λ y ys. y ∷ ys) (e x) (map-map f g h xs e)
+
+-- a strip with the cells of one row more
+pub strip-more : (gas : Rules) (lattice : LatticeModel) (width row from n y : ℕ) (cols : List ℕ) (strip more : List Block) → from + n ≡ y
+    → length (slice_index_or lattice.rows y []) ≡ lattice.channel.width → strip ≡ map (block_from gas lattice width row from n) cols
+    → more ≡ map (plus_row gas width (slice_index_or lattice.channel.solid y []) (slice_index_or lattice.rows y [])) strip
+    → more ≡ map (block_from gas lattice width row from (n + 1)) cols
+strip-more gas lattice width row from n y cols strip more e wide is added =
+    added ∙ ap (map _) is ∙ map-map _ _ _ cols (λ col. block_from-more gas lattice width row from n y col e wide)
+
+-- what holds of the block of each column holds of each block of a strip
+pub strip-all : (P : Block → Type 0) (f : ℕ → Block) (n : ℕ) (strip : List Block) → strip ≡ map f (range_with_len 0 n) → ((col : ℕ) → col < n → P (f col)) → All P strip
+strip-all P f n strip is each =
+    subst (All P) (sym is) (All-from_get_or P (map f (range_with_len 0 n)) (empty_block 0 0) (λ i lt.
+    let below : i < n = omega (arith, length-map-range_with_len f 0 n, lt) in
+    subst P (sym (get_or-map-range_with_len f 0 n i i (empty_block 0 0) below (zero-add i))) (each i below)))
+
+-- and each block of a strip is at its place
+pub strip-begins : (gas : Rules) (lattice : LatticeModel) (width row from n : ℕ) (strip : List Block) (cells : ℕ) → 1 ≤ width → cells ≡ lattice.channel.width
+    → strip ≡ map (block_from gas lattice width row from n) (range_with_len 0 (div_ceil lattice.channel.width width)) → All (λ b. b.col * width < cells) strip
+strip-begins gas lattice width row from n strip cells some wide is =
+    strip-all (λ b. b.col * width < cells) (block_from gas lattice width row from n) _ strip is (λ col lt.
+    let at = ap (λ (b : Block). b.col * width) (folded gas lattice (cells_from lattice width col from n) (empty_block col row)) in
+    let within : col * width < cells = subst (λ k. col * width < k) (sym wide) (begins-within lattice.channel.width width col some lt) in
+    subst (λ k. k < cells) (sym at) within)
+
+pub strip-room : (gas : Rules) → IsGas gas → (lattice : LatticeModel) (width row from n : ℕ) (strip : List Block) → lattice.channel.width ≤ MOST_SIDE → n < MOST_SIDE
+    → strip ≡ map (block_from gas lattice width row from n) (range_with_len 0 (div_ceil lattice.channel.width width)) → All (λ b. HasRoom b (most_cells - MOST_SIDE)) strip
+strip-room gas laws lattice width row from n strip wide few is =
+    strip-all (λ b. HasRoom b (most_cells - MOST_SIDE)) (block_from gas lattice width row from n) _ strip is (λ col lt. block_from-room gas laws lattice width row from n col wide few)
+
+-- a strip with all of its rows
+pub strip-whole : (gas : Rules) (lattice : LatticeModel) (width height row n : ℕ) (strip : List Block) → 1 ≤ height → row * height < lattice.channel.height
+    → n ≡ min height (lattice.channel.height - row * height)
+    → strip ≡ map (block_from gas lattice width row (row * height) n) (range_with_len 0 (div_ceil lattice.channel.width width)) → strip ≡ strip_of gas lattice width height row
+strip-whole gas lattice width height row n strip some begins long is =
+    is ∙ map_same _ _ _ (λ col.
+    ap (λ ys. fold (plus_place gas lattice) (empty_block col row) (flat_map (λ y. map (λ x. (x, y)) (part lattice.channel.width width col)) ys)) (sym (part-range lattice.channel.height height row n some begins long))
+    ∙ block_folded gas lattice col row (cells_of lattice.channel width height col row))
+  where
+    map_same : (f g : ℕ → Block) (xs : List ℕ) → ((x : ℕ) → f x ≡ g x) → map f xs ≡ map g xs
+    map_same f g [] e = refl
+    map_same f g (x ∷ xs) e = ap₂ (λ y ys. y ∷ ys) (e x) (map_same f g xs e)

@@ -1,0 +1,45 @@
+use Rattle.std.proofs.Common.{◌≡◌, ◌∙◌, ◌+◌, ◌-◌, ◌≤◌, false, ap, ap₂, sym, subst, refl, slice_index, slice_index_or, arith}
+use Rattle.std.specs.List.{range_with_len}
+use Rattle.std.proofs.lemmas.Int.{ints}
+use Rattle.std.proofs.lemmas.List.FromFn.{length-range_with_len}
+use Rattle.gas_tool_io.specs.Inner.Tally.{HasRoom, most_cells, plus_particles}
+use Rattle.gas_tool_io.specs.declared.blocks.Block.{Block}
+use Rattle.gas_tool_io.proofs.Counts.{counted, counted-none, counted-more, counted-all, counted-room}
+use Rattle.gas_bits.proofs.Ones.{count-le}
+use Rattle.gas_tool_io.proofs.blocks.Block.plus_cells.Goals as goal
+
+pub overflow_sub-to-2 : goal.overflow_sub-to-2
+overflow_sub-to-2 g c =
+    omega (arith, c.count_in.ensures.count, count-le (λ x. slice_index_or c.args.solid.now x false) c.args.from (c.args.to - c.args.from))
+
+pub loop-i-init : goal.loop-i-init
+loop-i-init g c =
+    let cells = range_with_len c.args.from (c.args.to - c.args.from) in
+    counted-none g.G.Gas.rules (λ x. slice_index_or c.args.solid.now x false) (λ x. slice_index c.args.row.now x) c.args.self _ cells refl refl
+    (ap (λ k. c.args.self.fluid + k) (c.from.ensures ∙ ap₂ (λ m n. m - n) (sym (length-range_with_len c.args.from (c.args.to - c.args.from))) c.count_in.ensures.count))
+    refl (omega (arith, ints)) (omega (arith, ints))
+
+pub plus_particles-block-requires-clause-room : goal.plus_particles-block-requires-clause-room
+plus_particles-block-requires-clause-room g c =
+    let cells = range_with_len c.args.from (c.args.to - c.args.from) in
+    let few : c.loop-i.i ≤ g.G.Gas.rules.dirs = omega (arith, g.met.G.Gas.dirs_are) in
+    subst (λ (b : Block). HasRoom b most_cells) (sym c.loop-i.invariant)
+    (counted-room g.G.Gas.rules g.met.G.Gas.laws (λ x. slice_index_or c.args.solid.now x false) (λ x. slice_index c.args.row.now x) c.args.self cells c.loop-i.i few
+    (omega (arith, length-range_with_len c.args.from (c.args.to - c.args.from))) c.requires.room)
+
+pub loop-i-preserved : goal.loop-i-preserved
+loop-i-preserved g c =
+    let gas = g.G.Gas.rules in
+    let cells = range_with_len c.args.from (c.args.to - c.args.from) in
+    c.plus_particles-block.ensures
+    ∙ ap₂ (λ (b : Block) n. plus_particles gas b c.loop-i.i n) c.loop-i.invariant c.count_in-in-loop-i.ensures.count
+    ∙ counted-more gas (λ x. slice_index_or c.args.solid.now x false) (λ x. slice_index c.args.row.now x) c.args.self cells c.loop-i.i
+
+pub returns : goal.returns
+returns g c =
+    let gas = g.G.Gas.rules in
+    let cells = range_with_len c.args.from (c.args.to - c.args.from) in
+    let all : c.loop-i.i ≡ gas.dirs = omega (arith, g.met.G.Gas.dirs_are) in
+    c.loop-i.invariant
+    ∙ ap (counted gas (λ x. slice_index_or c.args.solid.now x false) (λ x. slice_index c.args.row.now x) c.args.self cells) all
+    ∙ counted-all gas (λ x. slice_index_or c.args.solid.now x false) (λ x. slice_index c.args.row.now x) c.args.self cells
