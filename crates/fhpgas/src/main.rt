@@ -1,13 +1,17 @@
 //! The program `fhpgas`: words, a scene on standard input, the answer on standard output.
 #![tactic(auto)]
 
+mod arguments;
+mod progress;
+mod terminal;
+
 ghost use Rattle.gas_tool_cli.specs.Requests.{IsAllowed};
 
+use crate::arguments::read_request;
+use crate::progress::Progress;
+use crate::terminal::tell_of_input;
 use gas_tool_cli::faults::UsageFault;
 use gas_tool_cli::request::Request;
-use gas_tool_console::arguments::read_request;
-use gas_tool_console::progress::Progress;
-use gas_tool_console::terminal::tell_of_input;
 use gas_tool_io::faults::InputFault;
 use gas_tool_io::input::slurp;
 use gas_tool_perform::faults::ToolError;

@@ -13,7 +13,7 @@ use std::rt::Env;
 
 /// The request of the words that the program is called with. A word that is not UTF-8 is wrong
 /// usage.
-pub fn read_request<R: Env + AllocGlobal>(rt: &R) -> Result<Request, UsageFault>
+pub(crate) fn read_request<R: Env + AllocGlobal>(rt: &R) -> Result<Request, UsageFault>
     ensures allowed { IfOk result IsAllowed }
 {
     let words = words(rt)?;

@@ -73,14 +73,14 @@ impl Work {
 /// of all; nothing where standard error is no terminal. The line is wiped when the last worker
 /// leaves. A failure to print is ignored.
 #[derive(Drop)]
-pub struct Progress<'a, R> {
+pub(crate) struct Progress<'a, R> {
     rt: &'a R,
     work: Option<Work>,
 }
 
 impl<'a, R: Files + Clock> Progress<'a, R> {
     /// The gate of a request, before its run.
-    pub fn new(rt: &'a R, request: &Request) -> Self {
+    pub(crate) fn new(rt: &'a R, request: &Request) -> Self {
         let work = if are_errors_shown(rt) {
             Work::of(rt, request)
         } else {

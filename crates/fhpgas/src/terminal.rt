@@ -26,7 +26,7 @@ pub(crate) fn are_errors_shown<R: Files>(rt: &R) -> bool {
 }
 
 /// Prompts for a scene where standard input is a terminal. A failure to print is ignored.
-pub fn tell_of_input<R: Files + Eprint>(rt: &R) {
+pub(crate) fn tell_of_input<R: Files + Eprint>(rt: &R) {
     if is_terminal(rt, INPUT) {
         let _ = eprintln!(rt; "fhpgas: type a scene, and end it by Ctrl-D on a line of its own");
     }
