@@ -1,9 +1,11 @@
-//! Tests of the words of the command line, of what comes in and of what goes out, on worked
-//! examples.
+//! Tests of scenes, of the words of the command line, of what comes in and of what goes out, on
+//! worked examples.
 #![tactic(auto)]
 
 #[cfg(test)]
 mod blocks;
+#[cfg(test)]
+mod checkpoints;
 #[cfg(test)]
 mod helpers;
 #[cfg(test)]
@@ -14,5 +16,9 @@ mod memory;
 mod output;
 #[cfg(test)]
 mod perform;
+#[cfg(test)]
+mod refusals;
+#[cfg(test)]
+mod scenes;
 #[cfg(test)]
 mod words;
