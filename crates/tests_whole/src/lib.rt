@@ -6,6 +6,8 @@ mod lines;
 #[cfg(test)]
 mod meeting;
 #[cfg(test)]
+mod reference;
+#[cfg(test)]
 mod resumed;
 #[cfg(test)]
 mod tests;

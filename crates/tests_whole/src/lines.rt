@@ -2,6 +2,7 @@
 
 ghost use Rattle.std.specs.Prelude.{◌≡◌, ◌≤◌};
 
+use super::reference::lattice_after;
 use crate::tests::{assert_same, random_lattice};
 use gas_geom::fhp1::Fhp1;
 use gas_geom::size::Size;
@@ -15,7 +16,6 @@ use rand_pcg::Pcg32;
 use std::alloc::{AllocError, Global};
 use std::process::Abort;
 use std::test::Fail;
-use tests_reference::plain::lattice_after;
 
 // How many rows were put on each belt and taken from it. The feeder is member 0 and owes all rows;
 // a worker that computes owes one row fewer than came, and all of them once all came; behind the

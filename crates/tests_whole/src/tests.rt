@@ -2,6 +2,7 @@
 
 ghost use Rattle.std.specs.Prelude.{◌≡◌, ◌<◌, ◌^◌};
 
+use super::reference::lattice_after;
 use gas_geom::fhp_rest::FhpRest;
 use gas_geom::fhp1::Fhp1;
 use gas_geom::gas::Gas;
@@ -17,7 +18,6 @@ use rand_pcg::Pcg32;
 use std::alloc::{AllocError, Global};
 use std::process::Abort;
 use std::test::Fail;
-use tests_reference::plain::lattice_after;
 
 // A set of the gas's directions.
 fn random_state<G: Gas>(random: &mut Pcg32) -> u8

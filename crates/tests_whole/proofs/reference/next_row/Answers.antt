@@ -4,8 +4,8 @@ use Rattle.std.proofs.lemmas.List.{get_or-set_same, get_or-set_other, length-set
 use Rattle.std.proofs.lemmas.List.FromFn.{fill_by_all}
 use Rattle.gas_geom.specs.Channel.{ChannelModel}
 use Rattle.gas_geom.specs.Lattice.{streamed}
-use Rattle.tests_reference.specs.Inner.Collisions.{collided_cells}
-use Rattle.tests_reference.proofs.plain.next_row.Goals as goal
+use Rattle.tests_whole.specs.Inner.Collisions.{collided_cells}
+use Rattle.tests_whole.proofs.reference.next_row.Goals as goal
 
 -- one more cell is made
 one_more : (row new : List ℕ) (f : ℕ → ℕ) (width x state : ℕ) → length row ≡ width → x < width → new ≡ set row x state → state ≡ f x →

@@ -1,4 +1,4 @@
-//! The next lattice, computed cell by cell.
+//! The next lattice, computed cell by cell: plain and slow, to compare with.
 
 ghost use Rattle.std.specs.Prelude.{◌+◌, ◌≡◌, ◌<◌, ◌≤◌, ◌^◌, IfOk};
 ghost use Rattle.gas_geom.specs.Gas.{holds};
@@ -6,7 +6,7 @@ ghost use Rattle.gas_geom.specs.declared.size.TheConstants.{MOST_SIDE};
 ghost use Rattle.gas_geom.specs.Lattice.{arriving, streamed, row_of, next};
 ghost use Rattle.gas_rows.specs.Chirality.{chirality_bit};
 ghost use Rattle.gas_stage.specs.Evolution.{lattice_after};
-ghost use Rattle.tests_reference.specs.Inner.Collisions.{collided_cells};
+ghost use Rattle.tests_whole.specs.Inner.Collisions.{collided_cells};
 
 use gas_geom::gas::Gas;
 use gas_geom::size::neighbour;
@@ -138,7 +138,7 @@ fn next_row<G: Gas>(
 }
 
 /// The lattice after the step from generation `generation`.
-pub fn next_lattice<G: Gas>(
+pub(super) fn next_lattice<G: Gas>(
     alloc: Global,
     lattice: &Lattice<G>,
     chirality: Chirality,
@@ -158,7 +158,7 @@ pub fn next_lattice<G: Gas>(
 }
 
 /// The lattice `generations` generations after generation `first`.
-pub fn lattice_after<G: Gas>(
+pub(super) fn lattice_after<G: Gas>(
     alloc: Global,
     lattice: &Lattice<G>,
     chirality: Chirality,

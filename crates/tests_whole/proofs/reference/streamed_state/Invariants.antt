@@ -1,7 +1,7 @@
 use Rattle.std.proofs.Common.{◌≡◌, ◌<◌, ◌^◌}
 use Rattle.gas_geom.specs.Lattice.{arriving, set_of}
-use Rattle.tests_reference.specs.Inner.Collisions.{collided_cells}
-use Rattle.tests_reference.proofs.plain.streamed_state.Given as goal
+use Rattle.tests_whole.specs.Inner.Collisions.{collided_cells}
+use Rattle.tests_whole.proofs.reference.streamed_state.Given as goal
 
 -- the set has the directions before i
 abbrev pub invariant-loop-i : goal.invariant-loop-i

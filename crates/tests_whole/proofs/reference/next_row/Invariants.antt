@@ -1,7 +1,7 @@
 use Rattle.std.proofs.Common.{◌≡◌, ℕ, ◌<◌, length, get_or}
 use Rattle.gas_geom.specs.Lattice.{streamed}
-use Rattle.tests_reference.specs.Inner.Collisions.{collided_cells}
-use Rattle.tests_reference.proofs.plain.next_row.Given as goal
+use Rattle.tests_whole.specs.Inner.Collisions.{collided_cells}
+use Rattle.tests_whole.proofs.reference.next_row.Given as goal
 
 -- the cells before x are made
 abbrev pub invariant-loop-x : goal.invariant-loop-x

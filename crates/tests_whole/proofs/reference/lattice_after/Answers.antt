@@ -2,7 +2,7 @@ use Rattle.std.proofs.Common.{◌+◌, ap, ◌∙◌, sym, add-one}
 use Rattle.gas_geom.specs.Lattice.{LatticeModel, next}
 use Rattle.gas_stage.specs.Evolution.{lattice_after}
 use Rattle.gas_rows.specs.Chirality.{chirality_bit}
-use Rattle.tests_reference.proofs.plain.lattice_after.Goals as goal
+use Rattle.tests_whole.proofs.reference.lattice_after.Goals as goal
 
 pub loop-passed-preserved : goal.loop-passed-preserved
 loop-passed-preserved g c =

@@ -1,8 +1,8 @@
 use Rattle.std.proofs.Common.{◌<◌, arith}
 use Rattle.gas_geom.specs.Lattice.{arriving}
-use Rattle.tests_reference.specs.Inner.Collisions.{collided_cells}
+use Rattle.tests_whole.specs.Inner.Collisions.{collided_cells}
 use Rattle.gas_geom.proofs.Sets.{or_one_more-lt, set_of-or}
-use Rattle.tests_reference.proofs.plain.streamed_state.Goals as goal
+use Rattle.tests_whole.proofs.reference.streamed_state.Goals as goal
 
 pub loop-i-preserved : goal.loop-i-preserved
 loop-i-preserved g c =

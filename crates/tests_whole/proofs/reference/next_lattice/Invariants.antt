@@ -1,7 +1,7 @@
 use Rattle.std.proofs.Common.{◌≡◌}
 use Rattle.gas_geom.specs.Lattice.{rows_of, streamed}
-use Rattle.tests_reference.specs.Inner.Collisions.{collided_cells}
-use Rattle.tests_reference.proofs.plain.next_lattice.Given as goal
+use Rattle.tests_whole.specs.Inner.Collisions.{collided_cells}
+use Rattle.tests_whole.proofs.reference.next_lattice.Given as goal
 
 -- the rows before y are made
 abbrev pub invariant-loop-y : goal.invariant-loop-y

@@ -3,9 +3,9 @@ use Rattle.std.proofs.lemmas.List.FromFn.{map-range_with_len_more}
 use Rattle.gas_geom.specs.Channel.{ChannelModel}
 use Rattle.gas_geom.specs.Lattice.{IsLattice, row_of, rows_of, streamed}
 use Rattle.gas_rows.specs.Chirality.{chirality_bit}
-use Rattle.tests_reference.specs.Inner.Collisions.{collided_cells}
+use Rattle.tests_whole.specs.Inner.Collisions.{collided_cells}
 use Rattle.gas_geom.proofs.Runs.{IsLattice-next}
-use Rattle.tests_reference.proofs.plain.next_lattice.Goals as goal
+use Rattle.tests_whole.proofs.reference.next_lattice.Goals as goal
 
 pub loop-y-preserved : goal.loop-y-preserved
 loop-y-preserved g c =
