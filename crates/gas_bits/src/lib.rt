@@ -12,6 +12,6 @@ mod shift;
 mod sides;
 mod source;
 pub mod span;
+pub mod states;
 mod stream;
-pub mod transpose;
 pub mod word;

@@ -6,7 +6,7 @@ ghost use Rattle.gas_bits.specs.Words.{words_in};
 ghost use Rattle.gas_bits.specs.Planes.{has};
 
 use crate::planes::write_words_at;
-use crate::transpose::planes_of;
+use crate::states::planes_of;
 use crate::word::{keep_up_to, words_for};
 
 /// Writes the states of all cells, and clears the bits past the width.
@@ -20,20 +20,9 @@ pub fn load_states(words: &mut [u64], count: usize, dirs: usize, states: &[u8])
 {
     for j in 0..count {
         let end = states.len().min(64 * j + 64);
-        let planes = planes_of(block_of(&states[64 * j..end]));
+        let planes = planes_of(&states[64 * j..end], dirs);
         write_words_at(words, count, dirs, j, planes, 0);
     }
-}
-
-// Returns the states of 64 cells, 0 past the given ones.
-#[inline(always)]
-fn block_of(states: &[u8]) -> [u8; 64]
-    requires { length states.now ≤ 64 }
-    ensures { (b : ℕ) → slice_index result b ≡ slice_index states.now b }
-{
-    let mut block = [0; 64];
-    block[..states.len()].copy_from_slice(states);
-    block
 }
 
 /// Copies the words of a row, and clears the bits past its width.

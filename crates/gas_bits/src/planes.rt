@@ -7,6 +7,7 @@ ghost use Rattle.gas_geom.specs.declared.size.TheConstants.{MOST_SIDE};
 ghost use Rattle.gas_bits.specs.Words.{words_in, bit};
 ghost use Rattle.gas_bits.specs.Planes.{has, state};
 
+use crate::states::state_at;
 use crate::word::{clear_bits, has_bit, with_bit};
 
 /// Returns the set of the directions that cell `x` holds.
@@ -18,13 +19,7 @@ pub fn read_cell(words: &[u64], count: usize, dirs: usize, x: u32) -> u8
     requires within { x / 64 < count }
     ensures value { result ≡ state words.now count dirs x }
 {
-    let mut set = 0;
-    for i in 0..dirs {
-        if has_bit(words[i * count + x as usize / 64], x % 64) {
-            set += 1 << i;
-        }
-    }
-    set
+    state_at(words_at(words, count, dirs, x as usize / 64), dirs, x % 64)
 }
 
 /// Sets the directions that cell `x` holds.

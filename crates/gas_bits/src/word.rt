@@ -1,5 +1,5 @@
 //! One word of 64 cells, bit by bit.
-ghost use Rattle.std.specs.Prelude.{◌≡◌, ◌+◌, ◌-◌, ◌*◌, ◌<◌, ◌≤◌, ◌==◌, ◌&&◌, ℕ, not, nat_le, nat_lt, if◌then◌else◌, false, length, slice_index_or};
+ghost use Rattle.std.specs.Prelude.{◌≡◌, ◌+◌, ◌-◌, ◌*◌, ◌<◌, ◌≤◌, ◌==◌, ◌&&◌, ◌||◌, ℕ, not, nat_le, nat_lt, if◌then◌else◌, false, length, slice_index_or};
 ghost use Rattle.gas_geom.specs.Gas.{holds};
 ghost use Rattle.gas_geom.specs.declared.size.TheConstants.{MOST_SIDE};
 ghost use Rattle.gas_bits.specs.Words.{words_in};
@@ -33,6 +33,15 @@ pub fn with_bit(word: u64, bit: u32, value: bool) -> u64
     } else {
         word & !(1 << bit)
     }
+}
+
+/// Returns the word with bit `bit`, 0 to 63, set if the value is true.
+#[inline(always)]
+pub fn add_bit(word: u64, bit: u32, value: bool) -> u64
+    requires within { bit < 64 }
+    ensures bits { (b : ℕ) → holds result b ≡ (((b == bit) && value) || holds word b) }
+{
+    if value { word | (1 << bit) } else { word }
 }
 
 /// Returns the word whose 64 bits have this value.

@@ -20,9 +20,9 @@ length-cells d width words = length-map-range_with_len _ 0 width
 
 pub get_or-cells : (d width : ℕ) (words : List ℕ) (x : ℕ) → x < width →
     get_or (cells_of d width words) x 0 ≡ state words (words_in width) d x
-unfolding cells_of state has
+unfolding cells_of
 get_or-cells d width words x h =
-    get_or-map-range_with_len (λ y. state words (words_in width) d y) 0 width x x 0 h (omega arith)
+    get_or-map-range_with_len (state words (words_in width) d) 0 width x x 0 h (omega arith)
 
 -- a cell is a set of the directions
 pub cells-lt : (d width : ℕ) (words : List ℕ) (x : ℕ) → get_or (cells_of d width words) x 0 < 2 ^ d

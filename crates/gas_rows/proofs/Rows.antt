@@ -8,13 +8,14 @@ use Rattle.std.proofs.lemmas.List.FromFn.{get_or-map-range_with_len, length-map-
 use Rattle.std.proofs.lemmas.Grind.{same_number_lists}
 use Rattle.gas_geom.specs.Gas.{holds}
 use Rattle.gas_geom.specs.Lattice.{row_of}
+use Rattle.gas_geom.specs.Planes.{set_at}
 use Rattle.gas_geom.specs.declared.size.TheConstants.{MOST_SIDE}
 use Rattle.gas_bits.specs.Words.{words_in, bit}
 use Rattle.gas_bits.specs.Planes.{has, state}
 use Rattle.gas_rows.specs.Inner.Planes.{ArePlanes, IsClear}
 use Rattle.gas_rows.specs.Planes.{cells_of, AreWordsOf}
-use Rattle.gas_bits.proofs.Sets.{same_sets}
-use Rattle.gas_rows.proofs.Cells.{length-cells, holds-cells, width_of, get_or-cells, holds-cells_all, cells-from, cells-written, IsClear-written}
+use Rattle.gas_bits.proofs.Sets.{set_from}
+use Rattle.gas_rows.proofs.Cells.{length-cells, cells-lt, holds-cells, width_of, get_or-cells, holds-cells_all, cells-from, cells-written, IsClear-written}
 use Rattle.gas_bits.proofs.Cells.{has-set, place_in, state-lt, state-same, state-from, has_word, part_get, part_length, whole_plane}
 use Rattle.gas_geom.proofs.Holds.{holds-zero, holds-above}
 
@@ -110,27 +111,14 @@ module _ (d width : ℕ) (words row : List ℕ) (inside : ArePlanes d width word
     row-written =
         cells-written words new d width x s (let e = wide in omega arith) hs each_here ∙ ap (λ r. set r x s) view
 
-  -- 64 cells of the row, of a word for each direction
-  pub states-of_planes : (planes states : List ℕ) (n dirs j : ℕ) → n ≡ words_in width → dirs ≡ d → d ≤ 8 → j < words_in width →
-      ((i : ℕ) → i < dirs → get_or planes i 0 ≡ get_or words (i * n + j) 0) → ((i : ℕ) → dirs ≤ i → get_or planes i 0 ≡ 0) →
-      ((i b : ℕ) → i < 8 → b < 64 → holds (get_or states b 0) i ≡ holds (get_or planes i 0) b) →
-      (b : ℕ) → b < 64 → get_or states b 0 < 2 ^ 8 → get_or states b 0 ≡ get_or row (64 * j + b) 0
-  states-of_planes planes states n dirs j en ed few hj gathered rest each b hb byte =
-      same_sets (get_or states b 0) (get_or row (64 * j + b) 0) (λ i. elim (cases_lt i d) [
-        | inl lt ↦ each i b (omega arith) hb ∙ ap (λ w. holds w b) (gathered i (omega arith) ∙ ap (λ m. get_or words (i * m + j) 0) en)
-            ∙ held_word i j b lt hj hb
-        | inr le ↦ high i le (cases_lt i 8) ∙ sym (none i le)
-      ])
-    where
-      high : (i : ℕ) → d ≤ i → (i < 8) ⊎ (8 ≤ i) → holds (get_or states b 0) i ≡ false
-      high i le (inl lt) = each i b lt hb ∙ ap (λ w. holds w b) (rest i (omega arith)) ∙ holds-zero b
-      high i le (inr past) = holds-above (get_or states b 0) 8 i byte past
-
-      none : (i : ℕ) → d ≤ i → holds (get_or row (64 * j + b) 0) i ≡ false
-      none i le = elim (cases_lt (64 * j + b) (length row)) [
-        | inl lt ↦ holds-above (get_or row (64 * j + b) 0) d i (read-lt (64 * j + b) lt) le
-        | inr past ↦ ap (λ s. holds s i) (get_or_past row (64 * j + b) 0 past) ∙ holds-zero i
-      ]
+  -- a cell of the row, of a word for each direction
+  pub state-of_planes : (planes : List ℕ) (n dirs j b : ℕ) → n ≡ words_in width → dirs ≡ d → j < words_in width → b < 64 →
+      ((i : ℕ) → i < dirs → get_or planes i 0 ≡ get_or words (i * n + j) 0) → set_at dirs planes b ≡ get_or row (64 * j + b) 0
+  state-of_planes planes n dirs j b en ed hj hb gathered =
+      ap (λ k. set_at k planes b) ed
+      ∙ set_from d (get_or row (64 * j + b) 0) (λ i. holds (get_or planes i 0) b)
+      (subst (λ r. get_or r (64 * j + b) 0 < 2 ^ d) view (cells-lt d width words (64 * j + b)))
+      (λ i hi. ap (λ w. holds w b) (gathered i (omega arith) ∙ ap (λ m. get_or words (i * m + j) 0) en) ∙ held_word i j b hi hj hb)
 
   -- a row of other words
   module _ (new : List ℕ) (same_long : length new ≡ length words) where

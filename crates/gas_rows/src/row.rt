@@ -16,7 +16,7 @@ use gas_bits::load::{clear_planes_past, load_states, load_words};
 use gas_bits::part::{move_part, reflect_part, stream_part};
 use gas_bits::planes::{empty_solid, read_cell, words_at, write_cell};
 use gas_bits::span::count_in;
-use gas_bits::transpose::states_of;
+use gas_bits::states::states_of;
 use gas_bits::word::{clear_past_width, words_for};
 use gas_geom::gas::Gas;
 use std::alloc::{AllocError, Global};
@@ -213,7 +213,7 @@ impl<G: Gas> Row<G> {
     {
         let count = words_for(self.width);
         let planes = words_at(&self.words, count, directions::<G>(), j as usize);
-        states_of(planes)
+        states_of(planes, directions::<G>())
     }
 
     /// Empties the solid cells. The row and the mask have the same width.
