@@ -1,0 +1,95 @@
+# Proves each crate over what the crates below it state, several side by side, and links the programs.
+#
+#   make                  builds fhpgas for this machine (CPU=x86-64-v2: for that level); also make NAME, for a crate of crates.txt
+#   make quick            runs the tests that prove nothing
+#   make test             proves all from nothing, and runs every test
+#   make archive FILE=F   packs fhpgas, built for x86-64-v2, into F, a .tar.gz for machines without the kit
+#   make clean            removes all that was built
+#
+# A crate is proved again only if what its proof reads has another content: the kit, its line of crates.txt, its files, the libraries
+# below it. To edit a crate, use rt in its folder.
+SHELL := /bin/bash
+.SHELLFLAGS := -O extglob -euo pipefail -c
+.ONESHELL:
+.DEFAULT_GOAL := fhpgas
+CPU := $(if $(filter archive,$(MAKECMDGOALS)),x86-64-v2,$(shell tools/level))
+$(if $(filter archive,$(MAKECMDGOALS)),$(if $(FILE),,$(error usage: make archive FILE=NAME.tar.gz)))
+kit := $(patsubst %/START-HERE.md,%,$(shell rt doc 2> /dev/null))
+processors := $(shell nproc)
+
+# A proof takes up to 3 GB. There is room for two more proofs than processors, because some give way to the others.
+MAKEFLAGS += --no-print-directory -j$(shell awk -v most=$$(($(processors) + 2)) \
+    '/^MemAvailable/ { n = int($$2 / 3e6); print (n < 1 ? 1 : (n > most ? most : n)) }' /proc/meminfo)
+unexport MAKEFLAGS
+
+# The order in which crates begin. Those of the longest chains come first, and take all processors; the others take one and give way.
+order := gas_geom gas_bits gas_rows gas_tool_cli gas_layout gas_cells gas_scene gas_belt gas_stage gas_pipe_model gas_pipe_members \
+    gas_pipe_run gas_tool_perform fhpgas
+yields = $(filter gas_tool_cli,$@)$(if $(is_program),,$(filter-out $(order),$@))
+jobs = $(if $(yields)$(filter gas_scene,$@),1,$(processors))
+
+# From crates.txt, in which lower crates stand first: uses_NAME is what the line of a crate names, own_NAME what of that is built here,
+# and below_NAME all built here that it stands on.
+comma := ,
+lines := $(shell sed -n 's/ /,/g; /^[a-z]/p' crates.txt)
+names := $(foreach l,$(lines),$(firstword $(subst :, ,$l)))
+$(foreach l,$(lines),$(eval uses_$(subst :,:=,$(subst $(comma), ,$l))))
+$(foreach c,$(names),$(eval own_$c := $(filter $(names),$(uses_$c))))
+$(foreach c,$(names),$(eval below_$c := $(sort $(own_$c) $(foreach d,$(own_$c),$(below_$d)))))
+$(foreach c,$(names),$(eval $c: $(filter $(below_$c),$(order)) $(filter-out $(order),$(own_$c))))
+wanted := $(sort $(foreach c,$(or $(filter $(names),$(MAKECMDGOALS)),fhpgas),$c $(below_$c)))
+is_program = $(wildcard crates/$@/src/main.rt)
+
+flags = --crate-name $@ --links $@= --jobs $(jobs) -L dependency=$(kit)/rlibs \
+    $(foreach d,std $(filter-out $(names),$(uses_$@)),--extern $d=$(kit)/rlibs/$d.rlib) \
+    $(foreach d,$(own_$@),--extern $d=../$d/out/rlib/$d.rlib) $(foreach d,$(below_$@),-L dependency=../$d/out/rlib) \
+    --antt-project $(kit)/rattle/logic/antt-project.json --logic-built $(kit)/logic_built
+library = src/lib.rt --statements -o out/rlib/$@.rlib
+program = src/main.rt --cpu $(CPU) --toolchain $(kit)/toolchain -o out/new/$@.o
+link = $(kit)/bin/rattle-link --target x86_64-unknown-linux-gnu --toolchain $(kit)/toolchain -o out/new/$@ out/new/$@.o \
+    $(kit)/c/libos_c.a $(kit)/c/liblibc_c.a && mv out/new/$@ out/$@ && rm -r out/new && echo $(CPU) > out/level
+
+# Where a crate is made, what stands for all that is made, and by what it was made. rt removes the last with the library.
+new = $(if $(is_program),out/new,out/rlib)
+made = $(if $(is_program),out/$@,out/rlib/$@.rlib/format)
+sums = $(if $(is_program),out/sums,out/rlib/sums)
+tally := ../fhpgas/out/tally
+$(if $(filter quick test clean help,$(MAKECMDGOALS)),,$(shell mkdir -p crates/fhpgas/out; : > crates/fhpgas/out/tally))
+
+# While it is proved, a crate's folder has rt's own lock, and the folders of those below a shared one.
+.PHONY: $(names) quick test archive clean help
+$(names):
+	@$(if $(kit),,$(error the Rattle kit's command rt is not on the PATH: see README.md))
+	cd crates/$@ && mkdir -p out
+	for crate in $(sort $@ $(below_$@)); do
+	    exec {held}< ../$$crate
+	    way=$$([ $$crate = $@ ] && echo -x || echo -s)
+	    flock -n $$way $$held || { echo "$@: waiting for another run in crates/$$crate to end"; flock $$way $$held; }
+	done
+	sum() {
+	    { echo '$(uses_$@)$(if $(is_program), $(CPU))'
+	        cat $(kit)/KIT-ID $(kit)/WHAT $(foreach d,$(below_$@),../$d/out/rlib/$d.rlib/format)
+	        find @(src|specs|proofs) -type f -print0 | LC_ALL=C sort -z | xargs -0 sha256sum; } | sha256sum
+	}
+	sum=$$(sum)
+	if [ "$$(cat $(sums) 2>&1)" = "$$sum $$(sha256sum $(made) 2>&1)" ]; then
+	    $(if $(is_program),touch $(made))
+	    echo >> $(tally)
+	    exit
+	fi
+	trap 'kill $${!-} 2> /dev/null || :; rm -rf $(new)' EXIT
+	rm -rf $(new) $(sums) && mkdir -p $(new)
+	nice -n $(if $(yields),10,0) $(kit)/bin/rattle build $(if $(is_program),$(program),$(library)) $(flags) > out/build.log 2>&1 < /dev/null &
+	wait $$! || { echo "crate $@ was not built; the end of its log:"; tail -n 20 out/build.log; exit 1; } >&2
+	[ "$$(sum)" = "$$sum" ] || { echo "crate $@: a file that its proof reads changed meanwhile" >&2; exit 1; }
+	$(if $(is_program),$(link))
+	trap - EXIT
+	echo "$$sum $$(sha256sum $(made))" > $(sums)
+	echo >> $(tally)
+	echo "$@ proved in $$SECONDS s ($$(wc -l < $(tally)) of $(words $(wanted)))"
+
+quick: ; @tests/quick.sh
+test: ; @tests/all.sh
+archive: fhpgas ; @tools/archive.sh "$(FILE)"
+clean: ; rm -rf crates/*/out
+help: ; @sed -n 's/^#   //p' Makefile

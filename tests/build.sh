@@ -1,0 +1,98 @@
+#!/bin/bash
+# Tries ./fhpgas and the Makefile on three small crates, with stubs for the kit: its prover only notes which crate it was called for, and
+# "proves" a crate unless a file `refused` stands in it. A library states the first line of its source. Ends with the counts.
+. "$(dirname "$0")/try.sh"
+
+top=$room/top kit=$room/kit
+mkdir -p "$kit/bin" "$kit/rlibs" "$top"/crates/{low,high,fhpgas}/src
+cp -r Makefile fhpgas tools "$top"
+printf '# the crates\nlow: core\nhigh: low clap\n\nfhpgas: high\n' > "$top/crates.txt"
+tee "$top"/crates/{low,high}/src/lib.rt > "$top/crates/fhpgas/src/main.rt" <<< $'stated\nproved'
+echo 1 | tee "$kit/KIT-ID" > "$kit/WHAT"
+cat > "$kit/bin/rt" << END
+#!/bin/sh
+[ -e "$room/no_kit" ] || echo "$kit/START-HERE.md"
+END
+cat > "$kit/bin/rattle" << END
+#!/bin/bash
+echo "\${PWD##*/}" >> "$room/proved"
+[ ! -e refused ] || { echo "refused, as \$* shows"; exit 1; }
+[ ! -e slow ] || { touch "$room/begun"; sleep 5; }
+while [ "\$1" != -o ]; do shift; done
+case \$2 in *.rlib) mkdir "\$2" && head -n 1 src/lib.rt > "\$2/format" ;; *) cp src/main.rt "\$2" ;; esac
+END
+cat > "$kit/bin/rattle-link" << 'END'
+#!/bin/bash
+while [ "$1" != -o ]; do shift; done
+printf '#!/bin/sh\necho "words $*"\ncat\nexit 3\n' > "$2" && chmod +x "$2"
+END
+chmod +x "$kit"/bin/*
+PATH=$kit/bin:$PATH
+cd "$top" || exit 1
+
+# proves WANTED COMMAND..: whether the command ends well and these crates are proved for it, one after another
+proves() {
+    : > "$room/proved"
+    if "${@:2}" && [ "$(paste -sd ' ' "$room/proved")" = "$1" ]; then return; fi
+    cat "$room/proved" "$room/told"
+    return 1
+}
+
+# shellcheck disable=SC2120 # words come through proves
+build() { make "$@" > "$room/told" 2>&1; }
+
+# launch: ./fhpgas hands on words, input and status
+launch() {
+    printf 'a scene' | ./fhpgas 'two words' x > "$room/printed" 2> "$room/told"
+    [ $? = 3 ] && [ "$(cat "$room/printed")" = $'words two words x\na scene' ]
+}
+
+quietly() { launch && [ ! -s "$room/told" ]; }
+
+# fails: ./fhpgas ends with status 70, prints nothing, and tells of the log
+fails() {
+    ./fhpgas > "$room/printed" 2> "$room/told" < /dev/null
+    [ $? = 70 ] && [ ! -s "$room/printed" ] && grep -q "$1" "$room/told"
+}
+
+try 'a missing program is built' proves 'low high fhpgas' launch
+try 'each crate is told as it is done' grep -qE '^high proved in [0-9]+ s \(2 of 3\)$' "$room/told"
+try 'what is built is run' proves '' quietly
+touch crates/low/src/lib.rt
+try 'a source with another time alone proves nothing' proves '' launch
+try 'and is looked at once' proves '' quietly
+echo 'proved otherwise' >> crates/high/src/lib.rt
+try 'a crate is proved again where its source changed' proves 'high' launch
+sed -i 's/stated/stated otherwise/' crates/low/src/lib.rt
+try 'and those above where its statements did' proves 'low high fhpgas' launch
+echo 2 > "$kit/KIT-ID"
+try 'another kit proves all' proves 'low high fhpgas' build
+rm -r crates/low/out
+try 'what rt took away is built again' proves 'low' build
+rm crates/high/out/rlib/high.rlib/format
+try 'so is what was changed since' proves 'high' build
+try 'another level needs the program alone' proves 'fhpgas' build CPU=x86-64-v0
+try 'one of a level that no machine has is built again' proves 'fhpgas' launch
+try 'a crate is built by its name' proves '' build high
+
+touch crates/high/refused
+echo 'proved again' >> crates/high/src/lib.rt
+try 'a build that fails ends with status 70' fails 'refused, as build src/lib.rt'
+try 'and leaves no library' [ ! -e crates/high/out/rlib ]
+rm crates/high/refused
+touch "$room/no_kit"
+try 'so does one without the kit' fails 'rt is not on the PATH'
+rm "$room/no_kit"
+touch crates/high/slow
+setsid make > "$room/told" 2>&1 &
+while [ ! -e "$room/begun" ]; do sleep 0.1; done
+kill -- -$!
+wait $! 2> /dev/null
+try 'one that is interrupted leaves no library' [ ! -e crates/high/out/rlib ]
+rm crates/high/slow
+: > "$room/proved"
+make > /dev/null & make > /dev/null
+wait
+try 'two at once prove each crate once' [ "$(paste -sd ' ' "$room/proved")" = 'high' ]
+try 'and then it is run' quietly
+tell
