@@ -1,84 +1,52 @@
 #!/bin/bash
-# Packs the built program, unpacks it where no kit and no source is at hand, and runs it there. Ends with the counts.
-cd "$(dirname "$0")/.." || exit 1
-room=$(mktemp -d) || exit 1
-trap 'rm -rf "$room"' EXIT
-passed=0
-failed=0
+# Packs the built program, unpacks it where neither kit nor source is at hand, and runs the program and the Python package there. Ends
+# with the counts.
+. "$(dirname "$0")/try.sh"
 
-# count NAME: whether the test before it passed
-count() {
-    if [ $? = 0 ]; then
-        passed=$((passed + 1))
-    else
-        echo "FAILED: $1"
-        failed=$((failed + 1))
-    fi
+# alone WORDS..: a command in the unpacked folder, with nothing of this machine's environment
+alone() { (cd "$folder" && exec env -i PATH="${path-/nowhere}" PYTHONPATH=python "$@"); }
+
+# prints FILE SCENE: the unpacked program's answer to the scene, with nothing on standard error
+prints() { alone ./fhpgas run --generations 1 < "$2" > "$room/printed" 2> "$room/told" && cmp "$room/printed" "$1" && [ ! -s "$room/told" ]; }
+
+refuses() { ! alone ./fhpgas check < /dev/null > "$room/printed" 2> "$room/told" && [ ! -s "$room/printed" ] && [ -s "$room/told" ]; }
+
+needs_libc() {
+    ldd "$folder/fhpgas" > "$room/needed" && ! grep -vE '^\s*(linux-vdso\.so\.1|(/lib64/)?ld-linux-x86-64\.so\.2|lib(c|m)\.so\.6) ' "$room/needed"
 }
 
-# alone WORDS..: the unpacked program, in its folder, with nothing of this machine's environment
-alone() { (cd "$folder" && exec env -i PATH=/nowhere ./fhpgas "$@"); }
+# draws: the package makes a PNG of what the program prints
+draws() {
+    alone ./fhpgas coarse --generations 12 --block-width 8 --block-height 4 < "$folder/scenes/wind.toml" > "$room/table" &&
+        alone python3 -m fhpgas picture speed "$room/wind.png" "$room/table" > "$room/told" && [ "$(head -c 4 "$room/wind.png")" = $'\x89PNG' ]
+}
 
-[ -x crates/fhpgas/out/fhpgas ] || { echo 'tests: build fhpgas first'; exit 1; }
-[ -f crates/fhpgas/out/level ] || { echo 'tests: it is not known for which level fhpgas was built: run ./build.sh'; exit 1; }
-level=$(cat crates/fhpgas/out/level)
 mkdir "$room/other place"
-(cd "$room" && FHPGAS_CPU=$level "$OLDPWD/build.sh" --archive packed.tar.gz) > "$room/log" 2>&1
-count "build.sh --archive ends well: $(tail -n 3 "$room/log")"
-[ "$(cd "$room" && echo *)" = 'log other place packed.tar.gz' ]
-count 'nothing but the archive is left where it is written'
-tar -xzf "$room/packed.tar.gz" -C "$room/other place"
-count 'the archive unpacks'
+try 'the archive is packed' tools/archive.sh "$room/packed.tar.gz"
+try 'nothing but the archive is left where it is written' [ "$(cd "$room" && echo *)" = 'other place packed.tar.gz' ]
+try 'it unpacks' tar -xzf "$room/packed.tar.gz" -C "$room/other place"
 folder=$(echo "$room/other place"/*)
-[ -d "$folder" ]
-count 'it holds one folder'
-[ -z "$(find "$folder" ! -type f ! -type d)" ]
-count 'and in it nothing but files and folders'
+try 'it holds one folder' [ -d "$folder" ]
+try 'and in it nothing but files and folders' [ -z "$(find "$folder" ! -type f ! -type d)" ]
+try 'it is the built program' cmp "$folder/fhpgas" crates/fhpgas/out/fhpgas
 
-cat > "$room/wanted" << 'END'
-generation 1 particles 2
-....02..
-........
-..10....
-END
+printf 'generation 1 particles 2\n....02..\n........\n..10....\n' > "$room/wanted"
 printf 'gas = "fhp1"\nchirality = "left"\ncells = ["........", "..09....", "........"]\n' > "$room/scene"
-alone run --generations 1 < "$room/scene" > "$room/printed" 2> "$room/told"
-count 'a run ends well'
-cmp "$room/printed" "$room/wanted"
-count 'it prints the two particles flown apart'
-[ ! -s "$room/told" ]
-count 'and tells nothing, of a build least of all'
-alone run --generations 1 < "$folder/head_on.toml" | cmp - "$room/wanted"
-count 'so does the scene that comes with it'
-alone check < /dev/null > "$room/printed" 2> "$room/told"
-[ $? = 1 ] && [ ! -s "$room/printed" ] && [ -s "$room/told" ]
-count 'a scene of no text is refused'
-cmp "$folder/fhpgas" crates/fhpgas/out/fhpgas
-count 'it is the built program'
-ldd "$folder/fhpgas" > "$room/needed" && ! grep -vE '^\s*(linux-vdso\.so\.1|(/lib64/)?ld-linux-x86-64\.so\.2|lib(c|m)\.so\.6) ' "$room/needed"
-count 'it needs the C library alone'
+try 'it prints the two particles flown apart' prints "$room/wanted" "$room/scene"
+try 'so it does for the scene that comes with it' prints "$room/wanted" "$folder/scenes/head_on.toml"
+try 'a scene of no text is refused' refuses
+try 'it needs the C library alone' needs_libc
 
-grep -qF "$level" "$folder/README"
-count 'README names the level'
-grep -q 'taken on the word of who made it' "$folder/README" && grep -q 'holds no proof' "$folder/README"
-count 'and says that there is no proof in hand'
-for file in LICENSE-MIT LICENSE-APACHE; do
-    cmp "$file" "$folder/licences/$file"
-    count "$file"
-done
+path=$(dirname "$(python3 -c 'import sys; print(sys.executable)')")
+try 'the Python package says what it can do' alone python3 -m fhpgas --help > "$room/help"
+try 'and draws what the program computed' draws
+
+try 'README names the level' grep -qE 'built for x86-64-v[23]$' "$folder/README"
+try 'README says that there is no proof in hand' grep -q 'holds no proof' "$folder/README"
+for file in LICENSE-MIT LICENSE-APACHE; do try "$file" cmp "$file" "$folder/$file"; done
 for file in clap/LICENSE-MIT crossbeam_utils/LICENSE-MIT rand_chacha/LICENSE-MIT rtrb/LICENSE-MIT toml/LICENSE-MIT \
     arrayvec/LICENSE-MIT serde/LICENSE-MIT thiserror/LICENSE strsim/LICENSE ryu/LICENSE ryu/LICENSE-ZMIJ core/LICENSE-UNICODE; do
-    [ -s "$folder/licences/$file" ]
-    count "the notice $file"
+    try "the notice $file" [ -s "$folder/licences/$file" ]
 done
-grep -q 'UNICODE LICENSE V3' "$folder/licences/core/LICENSE-UNICODE"
-count "Unicode's notice is its licence, version 3"
-
-./build.sh --archive > /dev/null 2>&1
-[ $? = 2 ]
-count '--archive with no file is refused'
-./build.sh no_such_program > /dev/null 2>&1
-[ $? = 1 ]
-count 'a program that crates.txt does not name is refused'
-echo "archive: $passed passed, $failed failed"
-[ $failed = 0 ]
+try "Unicode's notice is its licence, version 3" grep -q 'UNICODE LICENSE V3' "$folder/licences/core/LICENSE-UNICODE"
+tell
