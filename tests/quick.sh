@@ -1,10 +1,9 @@
 #!/bin/bash
 # The quick tests, for the time between edits: none of them proves anything, so tests/all.sh decides.
-# Always: the links of the documents, and the definitions beside their list. Where ./fhpgas is built and no older than the sources: the
-# built program from outside, in about a minute. Where it is not: a few worked examples by `rt try`, which compiles the same sources
-# without a proof, in some minutes. Ends with the parts that failed.
+# Always: the linters, the links of the documents, and the definitions beside their list. If ./fhpgas is built and no older than the
+# sources: the built program from outside, in about a minute. If it is not: a few worked examples by `rt try`, which compiles the same
+# sources without a proof, in some minutes. Ends with the parts that failed.
 cd "$(dirname "$0")/.." || exit 1
-program=crates/fhpgas/out/fhpgas
 room=$(mktemp -d) || exit 1
 trap 'rm -rf "$room"' EXIT
 failed=()
@@ -21,13 +20,6 @@ part() {
     fi
 }
 
-# is_built: by the rule of ./fhpgas
-is_built() {
-    local built=crates/fhpgas/out/built
-    [ "$built" -nt $program ] || built=$program
-    [ -x $program ] && [ -z "$(find crates.txt crates -name out -prune -o -type f -newer $built -print -quit)" ]
-}
-
 # examples NAME..: whether the sources print what these worked examples want, compiled once and without a proof
 examples() {
     local name
@@ -40,11 +32,11 @@ examples() {
     (cd crates/fhpgas && rt try --cases "$room/cases")
 }
 
+part tests/lint.sh
 part tests/links.py
 part tests/definitions.py
-if is_built; then
-    part tests/command_line.sh
-    part tests/scene_tables.py
+if tools/is_built; then
+    part tests/command_line.py
     part tests/mutated_scenes.py 300
     part tests/documents.py
 else
