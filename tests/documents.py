@@ -1,8 +1,9 @@
 #!/usr/bin/env python3
-"""Runs the commands of the documents as they are printed: each block marked `sh` must end with 0, and where the block after it is
-marked `text`, it must print that. A block that imports numpy is left out where the `python3` that it calls has none. Ends with the
-counts."""
+"""Runs the commands of the documents as they are printed: each block marked `sh` must end with 0, and if the block after it is marked
+`text`, it must print that. The blocks of a document follow one another in a folder of their own; documents go side by side. A block that
+imports numpy is left out if there is none. Ends with the counts."""
 
+import concurrent.futures
 import os
 import pathlib
 import re
@@ -13,44 +14,46 @@ import tempfile
 import needs
 
 PROGRAM = needs.built_program()
-os.environ["FHPGAS"] = str(PROGRAM)  # which the scripts of the blocks run
-DOCUMENTS = ["README.md", "docs/FORMATS.md", "docs/GUIDE.md", "docs/PHYSICS.md", "docs/TEXTBOOK.md", "docs/LIBRARY.md"]
+DOCUMENTS = [needs.ROOT / "README.md", *sorted((needs.ROOT / "docs").glob("*.md"))]
 BLOCK = re.compile(r"^```(\w*)\n(.*?)^```$", re.M | re.S)
+NUMPY = re.compile(r"^import .*\bnumpy\b", re.M)
 
 
-def is_well(commands, wanted, room):
-    """Whether a block ends with 0 and prints what is wanted (None: anything), and nothing on standard error; else says what it did."""
+def fault(commands, wanted, room):
+    """What is wrong if a block does not end with 0, or prints something else (None: anything goes), or something on standard error."""
     try:
         ran = subprocess.run(["bash", "-ec", commands], cwd=room, capture_output=True, text=True, timeout=600)
-    except subprocess.TimeoutExpired as fault:
-        print(fault)
-        return False
+    except subprocess.TimeoutExpired as late:
+        return str(late)
     if ran.returncode == 0 and not ran.stderr and wanted in (None, ran.stdout):
-        return True
-    print(f"status {ran.returncode}: {ran.stdout}{ran.stderr}")
-    return False
+        return None
+    return f"status {ran.returncode}: {ran.stdout}{ran.stderr}"
+
+
+def tried(document):
+    """For each block of a document its commands, and what is wrong with it; of a block that is left out, no commands."""
+    blocks = BLOCK.findall(document.read_text())
+    with tempfile.TemporaryDirectory() as room:
+        for name, path in {"fhpgas": PROGRAM, **{name: needs.ROOT / name for name in ("scenes", "python", "experiments")}}.items():
+            (pathlib.Path(room) / name).symlink_to(path)
+        for (kind, commands), (after, text) in zip(blocks, blocks[1:] + [("", "")]):
+            if kind == "sh" and NUMPY.search(commands) and not HAS_NUMPY:
+                yield None, None
+            elif kind == "sh":
+                yield commands, fault(commands, text if after == "text" else None, room)
 
 
 def main():
     passed = failed = left_out = 0
-    has_numpy = subprocess.run(["python3", "-c", "import numpy"], stderr=subprocess.DEVNULL).returncode == 0
-    with tempfile.TemporaryDirectory() as room:
-        (pathlib.Path(room) / "scenes").symlink_to(needs.ROOT / "scenes")
-        (pathlib.Path(room) / "fhpgas").symlink_to(PROGRAM)
-        for name in DOCUMENTS:
-            blocks = BLOCK.findall((needs.ROOT / name).read_text())
-            for (kind, commands), (after, text) in zip(blocks, blocks[1:] + [("", "")]):
-                if kind != "sh":
-                    continue
-                if re.search(r"^import .*\bnumpy\b", commands, re.M) and not has_numpy:
-                    left_out += 1
-                elif is_well(commands, text if after == "text" else None, room):
-                    passed += 1
-                else:
-                    failed += 1
-                    print(f"FAILED: {name}: {commands}")
-    print(f"{passed} passed, {failed} failed" + (f", {left_out} left out, since numpy is missing" if left_out else ""))
+    with concurrent.futures.ThreadPoolExecutor(os.cpu_count()) as pool:
+        for document, blocks in zip(DOCUMENTS, pool.map(lambda document: list(tried(document)), DOCUMENTS)):
+            for commands, wrong in blocks:
+                left_out, passed, failed = left_out + (not commands), passed + bool(commands and not wrong), failed + bool(wrong)
+                if wrong:
+                    print(f"FAILED: {document.relative_to(needs.ROOT)}: {commands}{wrong}")
+    print(f"{passed} passed, {failed} failed{needs.left_out(left_out)}")
     return 1 if failed or not passed else 0
 
 
+HAS_NUMPY = needs.numpy()
 sys.exit(main())

@@ -1,0 +1,395 @@
+#!/usr/bin/env python3
+"""Gives the built program the cases of tables: words, scenes and streams of each kind, with what it must print, on standard output and
+on standard error, and the status that it must end with. The cells of scenes with many rectangles come from a second reading of the text.
+Ends with the counts."""
+
+import concurrent.futures
+import itertools
+import os
+import pathlib
+import re
+import subprocess
+import sys
+import tempfile
+
+import needs
+from fhpgas import reader
+
+PROGRAM = needs.built_program()
+SOMETHING = re.compile(r"(?s).+")
+MOST_CELLS = 400_000  # that the second reader takes
+
+# What `check` is given beside each scene that is refused, and the lines that refuse it.
+SYNTAX, UNKNOWN_KEY, BOTH_FORMS, MISSING, WRONG_TYPE, RANGE = (
+    f"scene: {reason}" for reason in ("not TOML", "unknown key", "both forms", "missing key", "wrong type", "out of range")
+)
+STAGES, CAPACITY, GENERATIONS = (
+    f"plan: {limit}" for limit in ("stages must be 1 to 64", "capacity must be 1 to 1024", "generations must be 0 to 1000000")
+)
+PASSES = "replay: the plan needs more than one pass"
+
+DRIFT = 'gas = "fhp1"\nchirality = "left"\ncells = ["........", "......01", "........"]\n'
+DRIFTED = "generation 1 particles 1\n........\n01......\n........\n"
+MAP = 'gas = "fhp1"\ncells = ["01"]\n'
+AREA = 'gas = "fhp1"\nwidth = 4\nheight = 2\n'
+STEPS = AREA + "solid = [[0, 0, 2, 1], [1, 0, 2, 2]]\n"
+WIDE = 'gas = "fhp1"\nwidth = 4096\nheight = 512\n'
+
+# What the program is refused as usage, with status 2.
+USAGE = [
+    "", "run", "dance --generations 1", "run --generations", "run --generations -1", "run --generations 1 --generations 1",
+    "run --generations 1 --capacity many", "check --generations 1", "coarse --generations 1 --block-width 2", "replay 0 1",
+    "replay --generations 18446744073709551616",
+    "replay --generations 1 0 feeder", "replay --generations 1 -- -1", "run extra --generations 1", "run -- --generations 1",
+]
+OPTIONS = {"--generations": "1", "--stages": "1", "--capacity": "1", "--block-width": "1", "--block-height": "1"}
+NO_NUMBERS = ["", " 1", "-1", "1e3", "0x10", "1.0", "one", "99999999999999999999"]
+
+# The limits of each option: None if a value is taken, a line if it is refused, and USAGE if it is no such number.
+LIMITS = {
+    "stages": {0: STAGES, 1: None, 64: None, 65: STAGES, 2**32 - 1: STAGES, 2**32: USAGE},
+    "capacity": {0: CAPACITY, 1: None, 1024: None, 1025: CAPACITY, 2**32 - 1: CAPACITY, 2**32: USAGE},
+    "generations": {0: None, 1_000_000: None, 1_000_001: GENERATIONS, 2**64 - 1: GENERATIONS, 2**64: USAGE},
+    "block-width": {0: USAGE, 1: None, 4096: None, 4097: USAGE},
+    "block-height": {0: USAGE, 1: None, 4096: None, 4097: USAGE},
+}
+
+# Words that the program is given with the scene DRIFT: the status and what it prints.
+WORDS = [
+    *((f"run {words}", 0, DRIFTED, "") for words in ("--generations 1", "--generations=1", "--generations 0001", "--generations +1",
+                                                     "--capacity 1 --stages=64 --generations 1")),
+    # the scene's faults come before the plan's, and the plan's before the number of passes
+    ("replay --generations 2 --stages 1", 1, "", PASSES + "\n"),
+    ("replay --generations 2 --stages 1 --capacity 0", 1, "", CAPACITY + "\n"),
+    ("replay --generations 1000001", 1, "", GENERATIONS + "\n"),
+    # a turn is a number of 32 bits, and one of a member that is not there changes nothing
+    ("replay --generations 0 4294967295", 0, "done\n" + DRIFTED.replace("generation 1", "generation 0").replace("01......", "......01"), ""),
+    ("replay --generations 0 4294967296", 2, "", SOMETHING),
+    *((f"{command} --help", 0, SOMETHING, "") for command in ("", "run", "check", "coarse", "replay")),
+    ("coars --generations 1", 2, "", re.compile(r"(?s).*'coarse'.*")),
+    ("run --generation 1", 2, "", re.compile(r"(?s).*--generations.*")),
+]
+
+# Lines of bash, run where `drift` and `wide` are scenes: the status and what is printed.
+FAILED = re.compile(r"write: failed after \d+ bytes\n")
+STREAMS = [
+    ("./fhpgas run --generations 1 < drift > /dev/full", 4, "", "write: failed after 0 bytes\n"),
+    ("./fhpgas run --generations 1 --stages 0 < drift > /dev/full", 1, "", STAGES + "\n"),
+    ("./fhpgas replay --generations 2 --stages 1 < drift > /dev/full", 1, "", PASSES + "\n"),
+    ("./fhpgas run --generations 1 < drift >&-", 4, "", "write: failed after 0 bytes\n"),
+    ("./fhpgas run --generations 1 --stages 0 < drift 2>&-", 1, "", ""),
+    ("./fhpgas run --generations 1 < drift 2>&-", 0, DRIFTED, ""),
+    ("./fhpgas run --generations 0 < wide | head -c 10 > /dev/null; exit ${PIPESTATUS[0]}", 4, "", FAILED),
+    ("(trap '' XFSZ; ulimit -f 1; ./fhpgas run --generations 0 < wide > cut); status=$?; wc -c < cut; exit $status", 4, "1024\n",
+     "write: failed after 1024 bytes\n"),
+    ("./fhpgas run --generations 1 <&-", 1, "", "input: read failed\n"),
+    ("./fhpgas run --generations 1 < .", 1, "", "input: read failed\n"),
+    ("./fhpgas run --generations x < .", 2, "", SOMETHING),
+    ("./fhpgas run --generations 1 $'\\xff' < drift", 2, "", SOMETHING),
+    ("head -c 67108865 /dev/zero | ./fhpgas run --generations 1", 1, "", "input: too long\n"),
+]
+
+
+def row_length(row):
+    return f"scene: row {row} has a wrong length"
+
+
+def bad_cell(row, column):
+    return f"scene: row {row} cell {column} is not a cell"
+
+
+# What refuses a text; None where it is a scene.
+TEXTS = [
+    ("", MISSING),
+    ("gas = ", SYNTAX),
+    (b"\xff", SYNTAX),
+    ("[gas]\n", MISSING),
+    ('gas = "fhp1"', MISSING),
+    ('gas = "fhp1"\nchirality = "left"', MISSING),
+    ('gas = "fhp1"\nchirality = "left"\ncells = ["01"', SYNTAX),
+    ('gas = "fhp1"\nchirality = "both"\ncells = ["01"]', RANGE),
+    ('gas = "fhp1"\nseed = true\ncells = ["01"]', WRONG_TYPE),
+    ('gas = "fhp1"\ncells = ["01", 1]', WRONG_TYPE),
+    ('gas = "fhp1"\ncells = ["01"]\ncolour = 1', UNKNOWN_KEY),
+    ('gas = "fhp1"\nwidth = 4', MISSING),
+    ('gas = "fhp1"\nheight = 4', MISSING),
+    ('gas = "fhp1"\ngas.a = 1\ncells = ["01"]', SYNTAX),
+    ('gas = 1\ncells = ["01"]', WRONG_TYPE),
+    ('gas.a = 1\ncells = ["01"]', WRONG_TYPE),
+    ('gas = "fhp1"\ncells = ["0101", "0g"]', row_length(1)),
+    ('gas = "fhp1"\ncells = [' + '"..",' * 7 + '"....",]', row_length(7)),
+    ('gas = "fhp1"\ncells = [' + f'"{".." * 13}",' * 7 + f'"{".." * 12}0.",]', bad_cell(7, 12)),
+    # the first of several refusals, in their order
+    ("colour = 1\ngas = ", SYNTAX),
+    ('colour = 1\ncells = ["01"]\nwidth = 4', UNKNOWN_KEY),
+    ('cells = ["01"]\nwidth = 4', BOTH_FORMS),
+    ("cells = 1", MISSING),
+    ('gas = "fhp2"\ncells = [1]', WRONG_TYPE),
+    ('gas = "fhp2"\ncells = ["010"]', RANGE),
+    ('gas = "fhp1"\ncells = ["0g01", "0101", "01"]', row_length(2)),
+    ('gas = "fhp1"\ncells = ["0101", "010g", "0g01"]', bad_cell(1, 1)),
+    # the keys of an area
+    (STEPS + "rate = 1000", None),
+    (STEPS + "particles = [[1, 0, 1]]", RANGE),
+    (STEPS + "particles = [[0, 1, 63]]", None),
+    (STEPS + "particles = [[0, 1, 64]]", RANGE),
+    (AREA + "solid = [[3, 0, 1, 2]]", None),
+    (AREA + "solid = [[3, 0, 2, 1]]", RANGE),
+    (AREA + "solid = [[0, 1, 1, 2]]", RANGE),
+    (AREA + "solid = [[0, 0, 0, 1]]", RANGE),
+    (AREA + "solid = [[0, -1, 1, 1]]", RANGE),
+    (AREA + "solid = [[0, 0, 9223372036854775807, 1]]", RANGE),
+    (AREA + "solid = [[9223372036854775807, 0, 9223372036854775807, 1]]", RANGE),
+    (AREA + "particles = [[4, 0, 1]]", RANGE),
+    (AREA + "particles = [[-1, 0, 1]]", RANGE),
+    (AREA + "particles = [[0, 2, 1]]", RANGE),
+    (AREA + "particles = [[0, 0, -1]]", RANGE),
+    (AREA + "seed = -1", RANGE),
+    (AREA + "rate = -1", RANGE),
+    (AREA + "rate = 1001", RANGE),
+    (AREA + "rate = 1.0", WRONG_TYPE),
+    (AREA + "[[solid]]", WRONG_TYPE),
+    (AREA + "[x]", UNKNOWN_KEY),
+    (AREA + "solid = [[0, 0, 1]]", WRONG_TYPE),
+    (AREA + "solid = [[0, 0, 1, 1, 1]]", WRONG_TYPE),
+    (AREA + "particles = [[0, 0, 1, 1]]", WRONG_TYPE),
+    (AREA + "particles = [[0, 0]]", WRONG_TYPE),
+]
+
+# What stands beside a map of one cell, or an area. The version decides whether there may be a generation; what is no version counts as 1.
+VERSIONS = [
+    ("version = 1", None),
+    ("version = 2", None),
+    ("version = 0", RANGE),
+    ("version = 3", RANGE),
+    ("version = -2", RANGE),
+    ('version = "1"', WRONG_TYPE),
+    ('version = "2"', WRONG_TYPE),
+    ("version = 2.0", WRONG_TYPE),
+    ("generation = 3", UNKNOWN_KEY),
+    ("generation = 3\nversion = 1", UNKNOWN_KEY),
+    ("generation = 3\nversion = 3", UNKNOWN_KEY),
+    ('generation = 3\nversion = "2"', UNKNOWN_KEY),
+    ("generation = 3\nversion = 2", None),
+    ("generation = -1\nversion = 2", RANGE),
+    ("generation = 1000000000000\nversion = 2", None),
+    ("generation = 1000000000001\nversion = 2", RANGE),
+    ('generation = "1"\nversion = 2', WRONG_TYPE),
+]
+
+# The limits of each version: of an area, and of a map, whose rows are told by their lengths.
+SIDES = [
+    ("", 4096, 1, None),
+    ("", 4097, 1, RANGE),
+    ("", 1, 4096, None),
+    ("", 1, 4097, RANGE),
+    ("", 0, 1, RANGE),
+    ("", 1, -1, RANGE),
+    ("version = 1\n", 4097, 1, RANGE),
+    ("version = 2\n", 65536, 1, None),
+    ("version = 2\n", 65537, 1, RANGE),
+    ("version = 2\n", 1, 65536, None),
+    ("version = 2\n", 1, 65537, RANGE),
+    ("version = 2\n", 0, 1, RANGE),
+]
+MAPS = [
+    ("", 4096, 1, None),
+    ("", 4097, 1, row_length(0)),
+    ("", 1, 4096, None),
+    ("", 1, 4097, RANGE),
+    ("version = 2\n", 4097, 1, None),
+    ("version = 2\n", 65537, 1, row_length(0)),
+    ("version = 2\n", 1, 65537, RANGE),
+]
+
+# Two characters are a cell only if both are marks of one kind, or digits of a state that the gas has.
+CELLS = [
+    ("hpp", "##", None),
+    ("hpp", "..", None),
+    ("hpp", "#.", bad_cell(0, 0)),
+    ("hpp", ".#", bad_cell(0, 0)),
+    ("hpp", "..#0", bad_cell(0, 1)),
+    ("hpp", "##.0", bad_cell(0, 1)),
+    ("hpp", "0f", None),
+    ("hpp", "10", bad_cell(0, 0)),
+    ("fhp1", "3f", None),
+    ("fhp1", "40", bad_cell(0, 0)),
+    ("fhp1", "0A", bad_cell(0, 0)),
+    ("fhp1", "0g", bad_cell(0, 0)),
+    ("fhp1", "é.", row_length(0)),
+    ("fhp1", "é", bad_cell(0, 0)),
+    ("fhp1", "", row_length(0)),
+    ("fhp-rest", "7f", None),
+    ("fhp-rest", "80", bad_cell(0, 0)),
+]
+
+# Rectangles that overlap, and their seams at whole blocks of 64 columns and whole groups of 64 blocks.
+RECTANGLES = [
+    "width = 200\nheight = 6\nsolid = [[3, 1, 190, 2], [64, 0, 64, 4], [100, 2, 100, 3], [0, 4, 63, 1], [127, 0, 2, 1], [199, 0, 1, 6], "
+    "[3, 1, 190, 1], [10, 3, 20, 1]]",
+    "width = 65536\nheight = 6\nsolid = [[0, 0, 65536, 1], [63, 1, 1, 1], [65, 1, 1, 2], [128, 1, 64, 1], [256, 1, 65, 1], [447, 1, 65, 1], "
+    "[4095, 1, 1, 1], [4097, 1, 4095, 1], [65535, 1, 1, 1], [4096, 2, 4096, 2], [8192, 2, 4096, 1], [12289, 2, 8190, 1], "
+    "[32767, 2, 8194, 1], [61440, 2, 4096, 1], [1, 3, 65534, 1], [0, 5, 4096, 1], [4160, 5, 61376, 1]]",
+]
+WIDTHS = [1, 63, 64, 65, 127, 128, 4095, 4096, 4097, 4160, 8191, 8192, 65535, 65536]
+
+
+def scenes():
+    """Each text of the tables, and what refuses it."""
+    yield from TEXTS
+    for (keys, wanted), form in itertools.product(VERSIONS, (MAP, AREA)):
+        yield form + keys, wanted
+    for version, width, height, wanted in SIDES:
+        yield f'{version}gas = "fhp1"\nwidth = {width}\nheight = {height}', wanted
+    for gas, row, wanted in CELLS:
+        yield f'gas = "{gas}"\ncells = ["{row}"]', wanted
+    for version, cells, rows, wanted in MAPS:
+        yield f'{version}gas = "fhp1"\ncells = [' + f'"{".." * cells}",' * rows + "]", wanted
+
+
+def rectangles():
+    """Each text with rectangles, the line of `check` and the printed cells."""
+    for keys in RECTANGLES:
+        text = f'version = 2\ngas = "hpp"\n{keys}'
+        lattice = reader.read(text.encode(), MOST_CELLS)
+        yield text, lattice.check_line(), lattice.printed()
+    for width in WIDTHS:
+        text = f'version = 2\ngas = "fhp1"\nrate = 1000\nwidth = {width}\nheight = 2\nsolid = [[0, 0, {width}, 2]]'
+        line = f"gas fhp1 width {width} height 2 solid {2 * width} particles 0\n"
+        yield text, line, "generation 0 particles 0\n" + ("##" * width + "\n") * 2
+
+
+def usage():
+    yield from (words.split() for words in USAGE)
+    for option, value in itertools.product(OPTIONS, NO_NUMBERS):
+        yield ["coarse", *itertools.chain(*({**OPTIONS, option: value}).items())]
+    whole = ["coarse", *itertools.chain(*OPTIONS.items())]
+    for option in OPTIONS:
+        others = [word for name, value in OPTIONS.items() if name != option for word in (name, value)]
+        yield from ([*whole, option, "1"], ["coarse", *others, option], ["coarse", *others, f"{option}="])
+
+
+def drifted(generation):
+    """The cells of DRIFT, whose particle moves a column to the east in each generation."""
+    row = ["..", "..", "..", ".."]
+    row[(3 + generation) % 4] = "01"
+    return f"generation {generation} particles 1\n........\n{''.join(row)}\n........\n"
+
+
+def blocks(width, height):
+    """The table of DRIFT after one generation, when its particle is at (0, 1)."""
+    yield "  col   row    fluid particles         px         py\n"
+    for (row, top), (column, left) in itertools.product(enumerate(range(0, 3, height)), enumerate(range(0, 4, width))):
+        fluid, held = min(width, 4 - left) * min(height, 3 - top), left == 0 and top <= 1 < top + height
+        yield f"{column:5} {row:5} {fluid:8} {held:9} {2 * held:10} {0:10}\n"
+
+
+def of_limits():
+    for option, limits in LIMITS.items():
+        for number, refusal in limits.items():
+            values = {"generations": 1, **({"block-width": 2, "block-height": 2} if option.startswith("block") else {}), option: number}
+            words = ["coarse" if len(values) > 2 else "run", *(f"--{name}={value}" for name, value in values.items())]
+            if refusal is USAGE:
+                yield words, DRIFT, 2, "", SOMETHING
+            elif refusal:
+                yield words, DRIFT, 1, "", refusal + "\n"
+            else:
+                told = "".join(blocks(values["block-width"], values["block-height"])) if len(values) > 2 else drifted(values["generations"])
+                yield words, DRIFT, 0, told, ""
+
+
+def many_turns():
+    """Twelve thousand turns and a hundred thousand on a column of cells, of which each counts: without the last one a row is missing."""
+    for rows in 3_000, 25_050:
+        scene = f'version = 2\ngas = "fhp1"\nchirality = "left"\nwidth = 1\nheight = {rows}\nparticles = [[0, {rows - 1}, 1]]\n'
+        turns = "0 1 0 1 1 0 1 " + "0 0 1 1 " * (rows - 3) + "0 1 0 1 0"
+        words = ["replay", "--generations", "1", "--stages", "1", "--capacity", "1", *turns.split()]
+        belts = f"belt 0 put {rows} taken {rows}\nbelt 1 put {rows} taken "
+        yield words, scene, 0, f"done\n{belts}{rows}\ngeneration 1 particles 1\n" + "..\n" * (rows - 1) + "01\n", ""
+        yield words[:-1], scene, 0, f"not done\n{belts}{rows - 1}\n", ""
+
+
+def examples():
+    """The worked examples: NAME.toml, or else the scene of that name, with the words NAME.words prints NAME.wanted."""
+    for wanted in sorted((needs.ROOT / "tests/examples").glob("*.wanted")):
+        own = wanted.with_suffix(".toml")
+        scene = own if own.exists() else needs.ROOT / "scenes" / own.name
+        yield wanted.with_suffix(".words").read_text().split(), scene.read_text(), 0, wanted.read_text(), ""
+
+
+def stored():
+    """Each scene of scenes/ runs, from its own generation."""
+    for path in sorted((needs.ROOT / "scenes").glob("*.toml")):
+        scene = path.read_text()
+        first = int((re.findall(r"^generation = (\d+)$", scene, re.M) or ["0"])[0])
+        yield ["run", "--generations", "3"], scene, 0, re.compile(rf"(?s)generation {first + 3} particles .+"), ""
+
+
+def version():
+    """The version is the one that is cited and that the changes end with, and the kit the one that is needed and that proves it here."""
+    cited = re.search(r"^version: (.*)$", (needs.ROOT / "CITATION.cff").read_text(), re.M).group(1)
+    kit = re.sub(r"^(rattle-kit-\d+)[a-z]* ", r"\1 ", subprocess.run(["rt", "version"], capture_output=True, text=True).stdout.strip())
+    told = f"## {cited}\n" in (needs.ROOT / "CHANGELOG.md").read_text() and kit in (needs.ROOT / "README.md").read_text()
+    yield ["--version"], "", 0, f"fhpgas {cited} ({kit})\n" if told else "what CHANGELOG and README tell", ""
+
+
+def programs():
+    """Each case of the program: its words, its standard input, its status and what it prints."""
+    yield from ((words, DRIFT, 2, "", SOMETHING) for words in usage())
+    yield from ((words.split(), DRIFT, *wanted) for words, *wanted in WORDS)
+    yield ["run", "--generations", "1", "--stages", "0"], "", 1, "", MISSING + "\n"
+    for text, wanted in scenes():
+        yield (["check"], text, 1, "", wanted + "\n") if wanted else (["check"], text, 0, re.compile("gas .*\n"), "")
+    for text, line, cells in rectangles():
+        yield ["check"], text, 0, line, ""
+        yield ["run", "--generations", "0"], text, 0, cells, ""
+    for cases in of_limits, many_turns, examples, stored, version:
+        yield from cases()
+
+
+def answer(words, text, room):
+    ran = subprocess.run(words, input=text if isinstance(text, bytes) else text.encode(), capture_output=True, timeout=120, cwd=room)
+    return ran.returncode, ran.stdout.decode(errors="replace"), ran.stderr.decode(errors="replace")
+
+
+def is_like(came, wanted):
+    return bool(wanted.fullmatch(came)) if isinstance(wanted, re.Pattern) else came == wanted
+
+
+def fault(case, room):
+    """What is wrong with the answer to a case; None where nothing is."""
+    words, text, *wanted = case
+    came = answer(words, text, room)
+    if all(map(is_like, came, wanted)):
+        return None
+    return f"{words[:12]} on {text[:200]!r}: {wanted!r:.300} was expected, and came {came!r:.300}"
+
+
+def resumed(room):
+    """Three generations and then four of what was printed print what seven do."""
+    for gas, chirality in itertools.product(("fhp1", "hpp", "fhp-rest"), ("left", "right", "seeded")):
+        keys = f'gas = "{gas}"\nchirality = "{chirality}"\nseed = 7\n'
+        scene = keys + "width = 67\nheight = 9\nrate = 400\nsolid = [[20, 2, 3, 4], [66, 8, 1, 1]]\n"
+        runs = {count: answer([PROGRAM, "run", "--generations", str(count), "--stages", "2"], scene, room)[1] for count in (3, 7)}
+        head, *rows = runs[3].splitlines()
+        later = f"version = 2\n{keys}generation = {head.split()[1]}\ncells = {rows}\n"
+        yield [PROGRAM, "run", "--generations", "4"], later, 0, runs[7] if len(rows) == 9 else SOMETHING, ""
+
+
+def main():
+    with tempfile.TemporaryDirectory() as folder, concurrent.futures.ThreadPoolExecutor(os.cpu_count()) as pool:
+        room = pathlib.Path(folder)
+        (room / "fhpgas").symlink_to(PROGRAM)
+        (room / "drift").write_text(DRIFT)
+        (room / "wide").write_text(WIDE)
+        cases = [([PROGRAM, *words], *case) for words, *case in programs()]
+        cases += [(["bash", "-c", line], "", *wanted) for line, *wanted in STREAMS]
+        cases += resumed(room)
+        faults = [found for found in pool.map(lambda case: fault(case, room), cases) if found]
+    for found in faults:
+        print(f"FAILED: {found}")
+    print(f"{len(cases) - len(faults)} passed, {len(faults)} failed")
+    return 1 if faults else 0
+
+
+sys.exit(main())
