@@ -1,14 +1,15 @@
 /* FHP-I in plain C on bit planes, to compare the speed and the answers of fhpgas with. The lattice is cut into bands of rows, one for each
    thread, which meet once in each generation; a band is updated in place, through a window of three collided rows. A thread leaves
    copies of its first row and its last for its neighbours, each of which collides that row once more. With one thread it is the plainest
-   fast program: the whole lattice in place. It reads the cells that `fhpgas run --generations 0` prints, computes G generations under
-   chirality "left", or "seeded" where a seed is given, and prints the cells; on standard error the seconds that the generations took.
-   Usage: bands G THREADS [SEED] < CELLS */
+   fast program: the whole lattice in place. It reads cells as `fhpgas run` prints them, computes G generations and prints the cells; on
+   standard error the seconds that the generations took. CHIRALITY is left, right or a seed.
+   Usage: bands G THREADS [CHIRALITY] < CELLS */
 #include "planes.h"
 #include "waiting.h"
 
 static const struct channel *channel;
 static struct chirality chirality;
+static const RowBits right[MOST_SIDE / 64]; /* a row of bits that are 0 */
 static Word *rows, *copies;
 static long first, generations;
 static int threads;
@@ -41,7 +42,7 @@ static void make_generation(long generation, int band, Word *window, struct key_
     const int lowest = begin ? begin - 1 : 0, past = stop < c->height ? stop + 1 : c->height;
     if (chirality.seeded) start_stream(key, (uint64_t)(first + generation), (uint64_t)lowest * (uint64_t)c->random_words);
     for (int y = lowest; y < past; y++) {
-        const RowBits *bits = chirality.seeded ? next_row_bits(key, c->random_words) : NULL;
+        const RowBits *bits = chirality.seeded ? next_row_bits(key, c->random_words) : chirality.left ? NULL : right;
         collide_row(c, y, row_before(generation, band, y, begin, stop), in_window(c, window, y), bits);
         if (y > begin)
             stream_row(c, y - 1, in_window(c, window, y + 1), in_window(c, window, y - 1), in_window(c, window, y), row_at(y - 1));
@@ -80,7 +81,7 @@ static double run(void) {
 }
 
 int main(int count, char **given) {
-    if (count < 3 || count > 4) stop("usage: bands G THREADS [SEED] < CELLS");
+    if (count < 3 || count > 4) stop("usage: bands G THREADS [CHIRALITY] < CELLS");
     generations = atol(given[1]);
     threads = atoi(given[2]);
     chirality = chirality_of(given[3]);

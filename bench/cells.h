@@ -86,16 +86,17 @@ static double seconds_now(void) {
     return (double)now.tv_sec + 1e-9 * (double)now.tv_nsec;
 }
 
-/* which way head-on pairs turn: a seed is given for bits of their own, else they turn left */
+/* Which way head-on pairs turn: to the left, to the right, or by bits of a seed. */
 struct chirality {
-    int seeded;
+    int left, seeded;
     uint64_t seed;
 };
 
+/* of the word `left`, `right` or a seed; left without one */
 static struct chirality chirality_of(const char *word) {
-    struct chirality left = {0, 0};
-    if (!word) return left;
-    struct chirality seeded = {1, strtoull(word, NULL, 10)};
-    return seeded;
+    struct chirality found = {!word || !strcmp(word, "left"), 0, 0};
+    if (found.left || !strcmp(word, "right")) return found;
+    found.seeded = 1, found.seed = strtoull(word, NULL, 10);
+    return found;
 }
 #endif

@@ -1,5 +1,5 @@
-/* FHP-I on bit planes, in a channel that is periodic in x and has walls at the top and the bottom: what bands.c and pipeline.c share. A
-   row is six planes, one for each direction, and a plane has a bit for each cell, 64 in a word, the first cell in the least bit. A
+/* FHP-I on bit planes, in a channel that is periodic in x and has walls at the top and the bottom: what bands.c computes with. A row
+   is six planes, one for each direction, and a plane has a bit for each cell, 64 in a word, the first cell in the least bit. A
    generation goes through a window of three collided rows. A collided row has words beside each of its planes, in which stand the cells
    that come round the ends. */
 #ifndef PLANES_H

@@ -1,8 +1,8 @@
 #!/usr/bin/env python3
 """Site updates per second (cells times generations by seconds) of `fhpgas run`, beside other programs that compute the same lattice of
-FHP-I, filled at rate 300: one stage on one thread (probes), C on bit planes in place, on one thread and in bands on all (bands.c), C as
-a line of workers and rings (pipeline.c), and what one would write in an afternoon, in C (bytes.c) and in numpy (bytes.py, where numpy
-is installed, and with chirality "left" alone). Under a seed it also makes the random bits of as many updates alone.
+FHP-I, filled at rate 300: one stage on one thread (probes), C on bit planes in place, on one thread and in bands on all (bands.c), and
+what one would write in an afternoon, in C (bytes.c) and in numpy (bytes.py, if numpy is installed, and with chirality "left" alone).
+Under a seed it also makes the random bits of as many updates alone.
 
 Every program takes its turn in each round; a figure is the best of the rounds, and behind it how many times longer the worst one
 took. What reading and printing cost is taken off by a run of no generation. All must print the same cells. All are built for the
@@ -30,7 +30,7 @@ KEY_STREAM = [PROBES, "key_stream"]
 CELLS_OF_KEY_ROW = 4096 * 32
 LATTICES = ["256x256x8000:left", "256x256x8000:seeded", "1024x1024x1500:left", "1024x1024x1000:seeded", "4096x1024x600:left",
             "4096x1024x300:seeded"]
-C_PROGRAMS = ["bands", "pipeline", "bytes"]
+C_PROGRAMS = ["bands", "bytes"]
 SEED = "1"
 
 
@@ -38,19 +38,10 @@ def numbers(text):
     return [int(word) for word in text.split(",")]
 
 
-def level_of_program():
-    """The level that the program was built for. Where it was built by `rt ci` alone, which writes no level down, it is built again."""
-    subprocess.run([ROOT / "fhpgas", "--help"], check=True, stdout=subprocess.DEVNULL)
-    if not LEVEL.exists() or LEVEL.stat().st_mtime < PROGRAM.stat().st_mtime:
-        subprocess.run([ROOT / "build.sh"], check=True)
-    return LEVEL.read_text().strip()
-
-
 def build(room):
-    """Builds all that is measured, the C programs into a folder. Gives the level."""
-    level = level_of_program()
-    print("building what is measured beside the program: some minutes where it was not built before", file=sys.stderr, flush=True)
-    subprocess.run([ROOT / "build.sh", "probes"], env={**os.environ, "FHPGAS_CPU": level}, check=True)
+    """Builds all that is measured, the C programs into a folder. Returns the level that all are built for."""
+    subprocess.run(["make", "-C", ROOT, "fhpgas", "probes"], stdout=sys.stderr, check=True)
+    level = LEVEL.read_text().strip()
     for name in C_PROGRAMS:
         words = ["-O3", "-march=" + level, "-pthread", "-o", room / name, ROOT / f"bench/{name}.c"]
         subprocess.run(["cc", *words], check=True)
@@ -153,8 +144,6 @@ class Bench:
             for stages in self.options.stages:
                 plan = f"N = {stages}, C = {capacity}"
                 self.ours(plan, [PROGRAM, "run", "--stages", str(stages), "--capacity", str(capacity), "--generations"])
-                if self.options.pipeline:
-                    self.other(f"C, a line, {plan}", [self.room / "pipeline"], stages, capacity)
         self.slower("C, a byte a cell", 20, [self.room / "bytes"])
         if self.chirality == "left" and importlib.util.find_spec("numpy"):
             self.slower("numpy", 200, [sys.executable, ROOT / "bench/bytes.py"])
@@ -173,7 +162,6 @@ def main():
     words.add_argument("--busy", type=int, default=0, metavar="B")
     words.add_argument("--stages", type=numbers, default=[1, 2, 3, 4, 8, 16, 32], metavar="N,N..")
     words.add_argument("--capacities", type=numbers, default=[2, 32, 128], metavar="C,C..")
-    words.add_argument("--pipeline", action="store_true", help="measure pipeline.c with each plan too")
     words.add_argument("lattices", nargs="*", default=LATTICES, metavar="WIDTHxHEIGHTxGENERATIONS[:left|seeded]")
     options = words.parse_args()
     with tempfile.TemporaryDirectory() as folder:

@@ -1,4 +1,4 @@
-/* How the threads of bands.c and pipeline.c wait: they look again some times, then let others run, and never sleep. */
+/* How the threads of bands.c wait: they look again some times, then let others run, and never sleep. */
 #ifndef WAITING_H
 #define WAITING_H
 #include <immintrin.h>
