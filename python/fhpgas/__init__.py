@@ -1,0 +1,31 @@
+"""Lattice gases from Python: scenes from fields and shapes, runs of the program, observables and pictures.
+
+    import fhpgas                                     # pip install ./python, or PYTHONPATH=python
+    scene = fhpgas.gas(0.2, east=0.1, solid=fhpgas.Obstacles(512, 256).disc(128, 128, 20), seed=1)
+    cells = fhpgas.run(scene, 1000)                   # cells.states[y][x], cells.solid[y][x], cells.particles
+    table = fhpgas.coarse(scene, 1000, 8, 9)          # table.density(), table.velocity(), table.px[row][column]
+    fhpgas.picture("speed.png", "speed", table)
+    later = fhpgas.run(fhpgas.resume(scene, cells), 1000)
+    mean, error = fhpgas.mean(fhpgas.side_by_side(measure, range(1, 9)))
+
+A scene is passed as its text. Bit i of a state is a particle to E, NE, NW, W, SW, SE (fhp1; fhp-rest has rest as bit 6) or to E, N, W, S
+(hpp). Row 0 is the top, and north is up: the middle of cell [y][x] lies at x + (y % 2) / 2, -sqrt(3)/2 y on the triangular lattice.
+Input that does not fit raises a `Fault` of one line; `explain(scene)` says where and why a scene is refused. Only `arrays()` needs a
+package, numpy. Nothing here is proved: the program is.
+"""
+from .fault import Fault
+from .fields import equilibrium, gas
+from .gases import GASES, SOLID, Gas, gas_named
+from .observe import average, counts, fluid, flux, forces, smooth, staggered, vorticity
+from .pictures import animation, picture, svg
+from .program import Summary, check, coarse, plan, program, run, side_by_side
+from .scenes import keys_of, long_run, read_scene, resume, resume_changed, scene_of, series, text_of, with_seed
+from .shapes import Obstacles
+from .tables import Cells, Table, mean, read_cells, read_table, total
+
+__all__ = [
+    "Cells", "Fault", "GASES", "Gas", "Obstacles", "SOLID", "Summary", "Table", "animation", "average", "check", "coarse", "counts",
+    "equilibrium", "fluid", "flux", "forces", "gas", "gas_named", "keys_of", "long_run", "mean", "picture", "plan", "program",
+    "read_cells", "read_scene", "read_table", "resume", "resume_changed", "run", "scene_of", "series", "side_by_side", "smooth",
+    "staggered", "svg", "text_of", "total", "vorticity", "with_seed",
+]

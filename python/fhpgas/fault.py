@@ -1,0 +1,52 @@
+"""What is raised and printed for input that does not fit."""
+import argparse
+import contextlib
+import os
+import sys
+from collections.abc import Callable, Iterator
+
+
+class Fault(Exception):
+    """Why an input does not fit, in one line that names the culprit."""
+
+
+@contextlib.contextmanager
+def one_line_faults(name: str) -> Iterator[None]:
+    """Ends a script with status 1: with one line for a Fault, and silently if the reader of its output has left."""
+    try:
+        yield
+        sys.stdout.flush()
+    except Fault as fault:
+        sys.exit(f"{name}: {fault}")
+    except BrokenPipeError:
+        os.dup2(os.open(os.devnull, os.O_WRONLY), 1)
+        sys.exit(1)
+
+
+def whole(least: int, most: int) -> Callable[[str], int]:
+    """A type of argparse: integers from `least` to `most`."""
+
+    def integer(word: str) -> int:
+        value = int(word)
+        if not least <= value <= most:
+            raise argparse.ArgumentTypeError(f"{word} is not {least} to {most}")
+        return value
+
+    return integer
+
+
+def number(least: float, most: float) -> Callable[[str], float]:
+    """A type of argparse: decimal numbers from `least` to `most`."""
+
+    def decimal(word: str) -> float:
+        value = float(word)
+        if not least <= value <= most:
+            raise argparse.ArgumentTypeError(f"{word} is not {least} to {most}")
+        return value
+
+    return decimal
+
+
+def as_lists(values):
+    """A numpy array as lists, and any other value as it is."""
+    return values.tolist() if hasattr(values, "tolist") else values

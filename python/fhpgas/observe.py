@@ -1,0 +1,133 @@
+"""Observables of tables and of cells. Lengths are in cells' widths, times in generations, momenta in that of a particle of speed 1."""
+import math
+from collections.abc import Callable, Iterable
+
+from .fault import Fault
+from .gases import SOLID, known_gas
+from .tables import IS_FLUID, Cells, Table
+
+Field = list[list[float | None]]
+
+
+def vorticity(table: Table, gas: str | None = None) -> Field:
+    """dv/dx - du/dy of each block, by differences of the blocks beside it, of one side if the other is solid, empty or past a wall; None if
+    the block itself is. The table must be of whole blocks whose size is known."""
+    if table.block is None:
+        raise Fault("the size of the blocks is not known: dataclasses.replace(table, block=(width, height))")
+    east, north = table.velocity(gas)
+    across, down = table.block[0], table.block[1] * known_gas(gas, table.gas).row_distance
+    columns, rows = len(east[0]), len(east)
+
+    def at(values, row, column):
+        value = values[row][column % columns] if 0 <= row < rows else None
+        return None if value is None or math.isnan(value) else value
+
+    def slope(before, here, after, distance):
+        if before is not None and after is not None:
+            return (after - before) / 2 / distance
+        return 0.0 if before is after else ((after - here) if before is None else (here - before)) / distance
+
+    def here(row, column):
+        u, v = at(east, row, column), at(north, row, column)
+        if u is None:
+            return None
+        return slope(at(north, row, column - 1), v, at(north, row, column + 1), across) - slope(
+            at(east, row + 1, column), u, at(east, row - 1, column), down)
+
+    return [[here(row, column) for column in range(columns)] for row in range(rows)]
+
+
+def smooth(table: Table, times: int = 1) -> Table:
+    """A table in which the numbers of each block are sums over it and the blocks beside it, with weights 1, 2, 1 in both directions; a
+    solid block stays solid. Momenta and particles are summed alike, so velocities are means."""
+    def along(values: list, closes: bool) -> list:
+        before, after = ([values[-1], *values[:-1]], [*values[1:], values[0]]) if closes else ([values[0], *values[:-1]], [*values[1:], values[-1]])
+        return [a + 2 * b + c for a, b, c in zip(before, values, after)]
+
+    columns = table.columns()
+    for _ in range(times):
+        columns = [[along(row, True) for row in map(list, zip(*(along(list(column), False) for column in zip(*rows))))] for rows in columns]
+    kept = [[[n if fluid else 0 for n, fluid in zip(*pair)] for pair in zip(rows, table.fluid)] for rows in columns]
+    return Table(*kept, gas=table.gas, block=table.block)
+
+
+def counts(cells: Cells, block_width: int | None = None, block_height: int | None = None, gas: str | None = None) -> list:
+    """The number of particles in each direction: of all cells, or as a list [row][column] of blocks."""
+    named = known_gas(gas, cells.gas)
+    width, height = block_width or len(cells.rows[0]), block_height or len(cells.rows)
+    bits = [bytes(state >> i & 1 for state in range(SOLID)) + bytes(SOLID) for i in range(named.directions)]
+    found = [cells.sums(bit, width, height) for bit in bits]
+    return found if block_width or block_height else [blocks[0][0] for blocks in found]
+
+
+def fluid(cells: Cells) -> int:
+    """The number of cells that are not solid."""
+    return cells.sums(IS_FLUID, len(cells.rows[0]), len(cells.rows))[0][0]
+
+
+def flux(numbers: Iterable[float], gas: str) -> tuple[float, float, float]:
+    """The momentum flux xx, xy, yy of particles of these numbers in each direction: the sum of c_i c_i times the number. Divide by the
+    cells for the flux per cell, and by the area of a cell, the rows' distance, for that per area."""
+    pairs = list(zip(numbers, known_gas(gas).velocities, strict=True))
+    return tuple(sum(n * c[a] * c[b] for n, c in pairs) for a, b in ((0, 0), (0, 1), (1, 1)))
+
+
+def forces(cells: Cells, gas: str | None = None, part: Callable[[int, int], bool] | None = None) -> dict[str, tuple[float, float]]:
+    """The momentum, eastwards and northwards, that the `upper` wall, the `lower` wall and the `solid` cells were given in the generation
+    that ended with these cells. A particle that moves away from a wall or solid cell beside it was just reflected by it, so it gave
+    twice its momentum. `part` says of a column and row whether a solid cell counts, for one obstacle of several."""
+    named, columns, rows = known_gas(gas, cells.gas), len(cells.rows[0]), len(cells.rows)
+    solid = [bytes(wall and (part is None or part(x, y)) for x, wall in enumerate(row)) for y, row in enumerate(cells.solid)] if part else cells.solid
+    wall, none, found = b"\1" * columns, bytes(columns), {name: [0.0, 0.0] for name in ("upper", "lower", "solid")}
+    for y, states in enumerate(cells.states):
+        packed, near = int.from_bytes(states), solid[max(0, y - 1) : y + 2]
+        if 0 < y < rows - 1 and not any(map(any, near)):
+            continue
+        for i, velocity in enumerate(named.velocities):
+            across, down = named.steps[y % 2][named.opposite(i)]
+            name = "upper" if y + down < 0 else "lower" if y + down == rows else "solid"
+            beside = wall if name != "solid" else solid[y + down] if (across, down) != (0, 0) else none
+            beside = beside[across:] + beside[:across] if across >= 0 else beside[across:] + beside[:across]
+            struck = (packed >> i & int.from_bytes(beside)).bit_count()
+            for axis in (0, 1):
+                found[name][axis] -= 2 * struck * velocity[axis]
+    return {name: tuple(force) for name, force in found.items()}
+
+
+def staggered(cells: Cells, gas: str | None = None) -> tuple[int, ...]:
+    """The three staggered momenta: (-1)^generation times the sum, over the lines that are parallel to a direction, of (-1)^line times the
+    momentum across the line, in units of sqrt(3)/2. They stay constant, with walls and obstacles too; those of the two slanted axes only
+    if the width is even, so for an odd width the first alone is returned."""
+    named, columns = known_gas(gas, cells.gas), len(cells.rows[0])
+    if named.name == "hpp":
+        raise Fault("hpp keeps the momentum along each row instead: `px` of a table of rows")
+    odd = int.from_bytes(bytes(x % 2 for x in range(columns)))
+    masks, found = (odd ^ int.from_bytes(b"\1" * columns), odd), []
+    for axis in range(1 if columns % 2 else 3):
+        total = 0
+        for y, row in enumerate(cells.states):
+            packed, shift = int.from_bytes(row), y // 2
+            for i, sign in ((axis + 1, 1), (axis + 2, 1), (axis + 4, -1), (axis + 5, -1)):
+                plane = packed >> i % 6
+                if axis == 0:
+                    total += sign * (-1) ** y * (plane & (masks[0] | masks[1])).bit_count()
+                    continue
+                start = (y - shift if axis == 1 else -shift) % 2  # the parity of the line of column 0
+                total += sign * ((plane & masks[start]).bit_count() - (plane & masks[1 - start]).bit_count())
+        found.append((-1) ** cells.generation * total)
+    return tuple(found)
+
+
+def average(values: Iterable[float], least: int = 16) -> tuple[float, float]:
+    """The mean of a series in time and its standard error by blocking: neighbours are averaged in pairs, again and again while `least` blocks
+    are left, and the largest of the errors is taken, since values near in time are alike (Flyvbjerg and Petersen, J. Chem. Phys. 91
+    (1989) 461)."""
+    values = list(map(float, values))
+    if len(values) < least:
+        raise Fault(f"an average over time needs {least} values or more, and there are {len(values)}")
+    middle, error, blocks = math.fsum(values) / len(values), 0.0, values
+    while len(blocks) >= least:
+        centre = math.fsum(blocks) / len(blocks)
+        error = max(error, math.sqrt(math.fsum((b - centre) ** 2 for b in blocks) / (len(blocks) - 1) / len(blocks)))
+        blocks = [(a + b) / 2 for a, b in zip(blocks[::2], blocks[1::2])]
+    return middle, error

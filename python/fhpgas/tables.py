@@ -1,0 +1,208 @@
+"""What `run` and `coarse` print: cells and tables, as dataclasses and as arrays.
+
+Rows are listed from the top of the lattice, the cells of a row from the left; row 0 is the top, north is up.
+"""
+import dataclasses
+import functools
+import math
+import re
+from collections.abc import Iterable
+
+from .fault import Fault, as_lists
+from .gases import SOLID, Gas, known_gas
+
+HEADER = "  col   row    fluid particles         px         py"
+PAIRS = [f"{state:02x}" if state else ".." for state in range(SOLID)] + ["##"] * SOLID
+NO_CELLS = "these are no printed cells: "
+WITHOUT_SOLID = bytes(range(SOLID)) + bytes(SOLID)
+IS_SOLID = bytes(SOLID) + b"\1" * SOLID
+BITS = bytes(state.bit_count() for state in range(SOLID)) + bytes(SOLID)
+
+
+@dataclasses.dataclass(frozen=True)
+class Cells:
+    """The cells of a lattice: `rows` has a byte per cell, its state or SOLID. `gas` is None for a printed text, which does not name it."""
+
+    generation: int
+    particles: int
+    rows: tuple[bytes, ...] = dataclasses.field(repr=False)
+    gas: str | None = dataclasses.field(default=None, compare=False)
+
+    @functools.cached_property
+    def states(self) -> tuple[bytes, ...]:
+        """The state of each cell [y][x], a bit for each direction; 0 if the cell is solid."""
+        return tuple(row.translate(WITHOUT_SOLID) for row in self.rows)
+
+    @functools.cached_property
+    def solid(self) -> tuple[bytes, ...]:
+        """Whether each cell is solid [y][x], as 0 or 1."""
+        return tuple(row.translate(IS_SOLID) for row in self.rows)
+
+    def changed(self, rows: Iterable[bytes]) -> "Cells":
+        """Other cells of the same generation and gas."""
+        rows = tuple(map(bytes, rows))
+        return Cells(self.generation, sum(sum(row.translate(BITS)) for row in rows), rows, self.gas)
+
+    def text(self) -> str:
+        """The cells as `run` prints them."""
+        return f"generation {self.generation} particles {self.particles}\n" + "".join(line + "\n" for line in self.lines())
+
+    def lines(self) -> list[str]:
+        """The rows as text, two characters per cell."""
+        return ["".join(map(PAIRS.__getitem__, row)) for row in self.rows]
+
+    def table(self, block_width: int, block_height: int, gas: str | None = None) -> "Table":
+        """The table that `coarse` prints for these cells."""
+        if not (1 <= block_width <= 4096 and 1 <= block_height <= 4096):
+            raise Fault("the sides of a block are 1 to 4096")
+        momenta = known_gas(gas, self.gas).momenta
+        counted = [self.sums(IS_FLUID, block_width, block_height), self.sums(BITS, block_width, block_height)]
+        for axis in (0, 1):
+            signed = [sum(p[axis] for i, p in enumerate(momenta) if state >> i & 1) for state in range(SOLID)]
+            plus, minus = (bytes(max(0, sign * p) for p in signed) + bytes(SOLID) for sign in (1, -1))
+            counted.append(difference(*(self.sums(part, block_width, block_height) for part in (plus, minus))))
+        return Table(*counted, gas=known_gas(gas, self.gas).name, block=(block_width, block_height))
+
+    def sums(self, of_state: bytes, block_width: int, block_height: int) -> list[list[int]]:
+        """The sums over the blocks [row][column] of a number of each state; 0 for solid cells."""
+        starts = range(0, len(self.rows[0]), block_width)
+        found = []
+        for top in range(0, len(self.rows), block_height):
+            rows = [row.translate(of_state) for row in self.rows[top : top + block_height]]
+            found.append([sum(sum(row[start : start + block_width]) for row in rows) for start in starts])
+        return found
+
+    def arrays(self):
+        """The states (uint8) and the solid cells (bool) as new numpy arrays [y, x]."""
+        import numpy
+
+        rows = numpy.frombuffer(b"".join(self.rows), numpy.uint8).reshape(len(self.rows), -1)
+        return numpy.where(rows < SOLID, rows, 0).astype(numpy.uint8), rows >= SOLID
+
+
+IS_FLUID = b"\1" * SOLID + bytes(SOLID)
+
+
+@dataclasses.dataclass(frozen=True)
+class Table:
+    """A coarse table: fluid cells, particles, and their momentum eastwards and northwards in the table's units, of each block, as lists
+    [row][column]. `gas` and `block`, its width and height in cells, are None if they are not known."""
+
+    fluid: list[list[int]]
+    particles: list[list[int]]
+    px: list[list[int]]
+    py: list[list[int]]
+    gas: str | None = dataclasses.field(default=None, compare=False)
+    block: tuple[int, int] | None = dataclasses.field(default=None, compare=False)
+
+    def columns(self) -> tuple[list, list, list, list]:
+        """The four columns of numbers in the order of the fields."""
+        return self.fluid, self.particles, self.px, self.py
+
+    def density(self) -> list[list[float | None]]:
+        """The particles per fluid cell of each block; None if the block is solid."""
+        return pairwise(lambda particles, fluid: particles / fluid if fluid else None, self.particles, self.fluid)
+
+    def velocity(self, gas: str | None = None) -> tuple[list[list[float | None]], list[list[float | None]]]:
+        """The mean velocity of the particles of each block, eastwards and northwards, in cells' widths per generation: None if the block is
+        solid, and nan if it is fluid and empty. The gas is needed for a table that was read; one of another lattice raises a Fault."""
+        named = known_gas(gas, self.gas)
+        if self.gas and (named.name == "hpp") != (self.gas == "hpp"):
+            raise Fault(f"the table is of {self.gas}, and {named.name} is on another lattice")
+        nothing = pairwise(lambda fluid, _: math.nan if fluid else None, self.fluid, self.fluid)
+        return tuple(
+            [[unit * p / n if n else none for p, n, none in zip(*rows)] for rows in zip(momenta, self.particles, nothing)]
+            for unit, momenta in zip(named.units, (self.px, self.py))
+        )
+
+    def text(self) -> str:
+        """The table as `coarse` prints it."""
+        lines = [HEADER]
+        for row, blocks in enumerate(zip(*self.columns())):
+            lines += (f"{column:5} {row:5} {f:8} {n:9} {px:10} {py:10}" for column, (f, n, px, py) in enumerate(zip(*blocks)))
+        return "\n".join(lines) + "\n"
+
+    def arrays(self):
+        """The four columns as a numpy array [4, row, column], in the order of the fields."""
+        import numpy
+
+        return numpy.array(self.columns())
+
+
+def pairwise(function, first, second) -> list[list]:
+    """The results of the function for each two numbers of two lists of rows."""
+    return [[function(a, b) for a, b in zip(*rows)] for rows in zip(first, second)]
+
+
+def difference(first, second) -> list[list[int]]:
+    return pairwise(int.__sub__, first, second)
+
+
+def read_cells(text: str, gas: str | Gas | None = None) -> Cells:
+    """The cells of a text that `run` printed. A text that is not whole raises a Fault."""
+    first, *lines = text.split("\n")
+    words = re.fullmatch(r"generation (\d+) particles (\d+)", first)
+    if not words or not lines or lines.pop() != "":
+        raise Fault(NO_CELLS + "they begin with `generation g particles c` and end with a line feed")
+    try:
+        rows = tuple(bytes.fromhex(line.translate(HEXADECIMAL)).translate(STATES) for line in lines)
+    except ValueError:
+        rows = ()
+    if not rows or not rows[0] or {*map(len, rows)} != {len(rows[0])}:
+        raise Fault(NO_CELLS + "a row is of another length, or contains something else than cells")
+    cells = Cells(int(words[1]), int(words[2]), rows, gas and known_gas(gas).name)
+    if cells.lines() != lines:
+        raise Fault(NO_CELLS + "a row contains something else than cells")
+    if (found := cells.changed(rows).particles) != cells.particles:
+        raise Fault(f"the cells contain {found} particles, and their first line says {cells.particles}")
+    return cells
+
+
+HEXADECIMAL = str.maketrans(".#", "08")
+STATES = bytes(state if state < SOLID else SOLID for state in range(256))
+
+
+def read_table(text: str) -> Table:
+    """The table of a text that `coarse` printed, which does not name the gas. A text that is not whole raises a Fault."""
+    first, *lines = text.rstrip("\n").split("\n")
+    try:
+        numbers = [[int(word) for word in line.split()] for line in lines]
+    except ValueError:
+        numbers = []
+    columns = max((line[0] for line in numbers if line), default=-1) + 1
+    if first != HEADER or not columns or any(line[:2] != [k % columns, k // columns] or len(line) != 6 for k, line in enumerate(numbers)):
+        raise Fault("this is no whole table of `coarse`")
+    if len(numbers) % columns:
+        raise Fault("this is no whole table of `coarse`: its last row of blocks ends early")
+    rows = [numbers[at : at + columns] for at in range(0, len(numbers), columns)]
+    return Table(*([[line[k] for line in row] for row in rows] for k in range(2, 6)))
+
+
+def total(tables: Iterable[Table]) -> Table:
+    """The sum of tables of the same blocks and the same gas, number by number."""
+    tables = list(tables)
+    gases, blocks = ({getattr(table, name) for table in tables} - {None} for name in ("gas", "block"))
+    if len({(len(table.fluid), len(table.fluid[0])) for table in tables}) != 1 or len(gases) > 1 or len(blocks) > 1:
+        raise Fault("only tables of the same blocks and of one gas can be summed, and at least one")
+    sums = tables[0].columns()
+    for table in tables[1:]:
+        sums = [pairwise(int.__add__, *columns) for columns in zip(sums, table.columns())]
+    return Table(*sums, gas=min(gases, default=None), block=min(blocks, default=None))
+
+
+def mean(values: Iterable):
+    """The mean of two or more values and its standard error, their standard deviation divided by the square root of their number. Values
+    are numbers, or lists or arrays of one shape, whose means are lists; a place that is None in one value is None in both."""
+    values = [as_lists(value) for value in values]
+    if len(values) < 2:
+        raise Fault("a standard error needs two values or more")
+    sizes = {len(value) if isinstance(value, (list, tuple)) else None for value in values}
+    if len(sizes) > 1:
+        raise Fault("the values of a mean are all numbers, or lists of one shape")
+    if sizes != {None}:
+        pairs = [mean(places) for places in zip(*values)]
+        return [middle for middle, _ in pairs], [error for _, error in pairs]
+    if None in values:
+        return None, None
+    middle = math.fsum(values) / len(values)
+    return middle, math.sqrt(math.fsum((value - middle) ** 2 for value in values) / (len(values) - 1) / len(values))
