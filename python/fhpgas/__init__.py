@@ -13,19 +13,24 @@ A scene is passed as its text. Bit i of a state is a particle to E, NE, NW, W, S
 Input that does not fit raises a `Fault` of one line; `explain(scene)` says where and why a scene is refused. Only `arrays()` needs a
 package, numpy. Nothing here is proved: the program is.
 """
+from .drawing import draw
+from .drive import driven
 from .fault import Fault
 from .fields import equilibrium, gas
 from .gases import GASES, SOLID, Gas, gas_named
 from .observe import average, counts, fluid, flux, forces, smooth, staggered, vorticity
-from .pictures import animation, picture, svg
-from .program import Summary, check, coarse, plan, program, run, side_by_side
+from .pictures import picture, svg
+from .program import Summary, check, coarse, plan, run, side_by_side
+from .refusals import explain
+from .reversal import returned, reverse
 from .scenes import keys_of, long_run, read_scene, resume, resume_changed, scene_of, series, text_of, with_seed
 from .shapes import Obstacles
 from .tables import Cells, Table, mean, read_cells, read_table, total
+from .theory import Numbers, numbers
 
 __all__ = [
-    "Cells", "Fault", "GASES", "Gas", "Obstacles", "SOLID", "Summary", "Table", "animation", "average", "check", "coarse", "counts",
-    "equilibrium", "fluid", "flux", "forces", "gas", "gas_named", "keys_of", "long_run", "mean", "picture", "plan", "program",
-    "read_cells", "read_scene", "read_table", "resume", "resume_changed", "run", "scene_of", "series", "side_by_side", "smooth",
-    "staggered", "svg", "text_of", "total", "vorticity", "with_seed",
+    "average", "Cells", "check", "coarse", "counts", "draw", "driven", "equilibrium", "explain", "Fault", "fluid", "flux", "forces",
+    "Gas", "gas", "gas_named", "GASES", "keys_of", "long_run", "mean", "Numbers", "numbers", "Obstacles", "picture", "plan",
+    "read_cells", "read_scene", "read_table", "resume", "resume_changed", "returned", "reverse", "run", "scene_of", "series",
+    "side_by_side", "smooth", "SOLID", "staggered", "Summary", "svg", "Table", "text_of", "total", "vorticity", "with_seed",
 ]

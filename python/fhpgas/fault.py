@@ -10,6 +10,16 @@ class Fault(Exception):
     """Why an input does not fit, in one line that names the culprit."""
 
 
+class Parser(argparse.ArgumentParser):
+    """A reader of words whose refusals are Faults; a module's docstring is shown as it stands."""
+
+    def __init__(self, *words, **options):
+        super().__init__(*words, formatter_class=argparse.RawDescriptionHelpFormatter, **options)
+
+    def error(self, message: str):
+        raise Fault(f"{message} (--help says more)")
+
+
 @contextlib.contextmanager
 def one_line_faults(name: str) -> Iterator[None]:
     """Ends a script with status 1: with one line for a Fault, and silently if the reader of its output has left."""

@@ -23,7 +23,7 @@ _cores = 0  # of a run, in a worker of `side_by_side`; else 0
 
 
 @functools.cache
-def program() -> pathlib.Path:
+def program_path() -> pathlib.Path:
     """The path of the program: the one that the environment variable FHPGAS names, that of the repository or archive which contains this
     package, or the first on the PATH. The launcher of a repository builds; it is started once, and afterwards what it built."""
     named, own, found = os.environ.get("FHPGAS"), ABOVE / "fhpgas", shutil.which("fhpgas")
@@ -58,7 +58,7 @@ def call(scene: str, *words) -> str:
     shows = not _cores and words[0] != "check" and sys.stderr.isatty()
     if shows:
         call(scene, "check")
-    done = subprocess.run([program(), *map(str, words)], input=text, stdout=subprocess.PIPE, stderr=None if shows else subprocess.PIPE)
+    done = subprocess.run([program_path(), *map(str, words)], input=text, stdout=subprocess.PIPE, stderr=None if shows else subprocess.PIPE)
     if done.returncode:
         raise Fault((done.stderr or b"").decode(errors="replace").split("\n")[0] or f"fhpgas ended with status {done.returncode}")
     return done.stdout.decode()
@@ -151,7 +151,7 @@ def side_by_side(function: Callable, values: Iterable, executor: concurrent.futu
     values = list(values)
     if executor is not None:
         return _gathered([executor.submit(_alone, function, value) for value in values])
-    program()
+    program_path()
     workers = min(len(values), os.cpu_count() or 1) or 1
     # a forked worker has the function without pickling it, so it may be a lambda
     with concurrent.futures.ProcessPoolExecutor(workers, multiprocessing.get_context("fork"), _take, (function, max(1, (os.cpu_count() or 1) // workers))) as pool:

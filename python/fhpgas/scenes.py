@@ -15,12 +15,18 @@ from .tables import Cells
 INTEGERS = ("version", "generation", "seed", "width", "height", "rate")
 
 
+def read_bytes(path) -> bytes:
+    """The bytes of a file, or of standard input for `-`."""
+    try:
+        return sys.stdin.buffer.read() if str(path) == "-" else pathlib.Path(path).read_bytes()
+    except OSError as fault:
+        raise Fault(f"{path}: {fault.strerror}") from None
+
+
 def read_scene(path) -> str:
     """The text of a file, or of standard input for `-`."""
     try:
-        return (sys.stdin.buffer.read() if str(path) == "-" else pathlib.Path(path).read_bytes()).decode()
-    except OSError as fault:
-        raise Fault(f"{path}: {fault.strerror}") from None
+        return read_bytes(path).decode()
     except UnicodeDecodeError:
         raise Fault(f"{path}: not UTF-8") from None
 

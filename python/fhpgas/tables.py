@@ -14,8 +14,11 @@ from .gases import SOLID, Gas, known_gas
 HEADER = "  col   row    fluid particles         px         py"
 PAIRS = [f"{state:02x}" if state else ".." for state in range(SOLID)] + ["##"] * SOLID
 NO_CELLS = "these are no printed cells: "
+HEXADECIMAL, KINDS = str.maketrans(".#", "08"), str.maketrans("123456789abcdef", "0" * 15)
+STATES = bytes(state if state < SOLID else SOLID for state in range(256))
 WITHOUT_SOLID = bytes(range(SOLID)) + bytes(SOLID)
 IS_SOLID = bytes(SOLID) + b"\1" * SOLID
+IS_FLUID = b"\1" * SOLID + bytes(SOLID)
 BITS = bytes(state.bit_count() for state in range(SOLID)) + bytes(SOLID)
 
 
@@ -51,6 +54,12 @@ class Cells:
         """The rows as text, two characters per cell."""
         return ["".join(map(PAIRS.__getitem__, row)) for row in self.rows]
 
+    def differing(self, other: "Cells") -> int:
+        """The number of cells that differ from those of another lattice of the same size."""
+        if [*map(len, self.rows)] != [*map(len, other.rows)]:
+            raise Fault("the lattices are of different sizes")
+        return sum(len(a) - bytes(x ^ y for x, y in zip(a, b)).count(0) for a, b in zip(self.rows, other.rows) if a != b)
+
     def table(self, block_width: int, block_height: int, gas: str | None = None) -> "Table":
         """The table that `coarse` prints for these cells."""
         if not (1 <= block_width <= 4096 and 1 <= block_height <= 4096):
@@ -78,9 +87,6 @@ class Cells:
 
         rows = numpy.frombuffer(b"".join(self.rows), numpy.uint8).reshape(len(self.rows), -1)
         return numpy.where(rows < SOLID, rows, 0).astype(numpy.uint8), rows >= SOLID
-
-
-IS_FLUID = b"\1" * SOLID + bytes(SOLID)
 
 
 @dataclasses.dataclass(frozen=True)
@@ -144,22 +150,17 @@ def read_cells(text: str, gas: str | Gas | None = None) -> Cells:
     words = re.fullmatch(r"generation (\d+) particles (\d+)", first)
     if not words or not lines or lines.pop() != "":
         raise Fault(NO_CELLS + "they begin with `generation g particles c` and end with a line feed")
-    try:
-        rows = tuple(bytes.fromhex(line.translate(HEXADECIMAL)).translate(STATES) for line in lines)
-    except ValueError:
-        rows = ()
-    if not rows or not rows[0] or {*map(len, rows)} != {len(rows[0])}:
+    body = "".join(lines)
+    firsts, seconds = body[::2], body[1::2].translate(KINDS)
+    if not body or {len(line) for line in lines} != {len(lines[0])} or not {*firsts} <= {*"01234567.#"} or firsts.translate(KINDS) != seconds:
         raise Fault(NO_CELLS + "a row is of another length, or contains something else than cells")
+    rows = tuple(bytes.fromhex(line.translate(HEXADECIMAL)).translate(STATES) for line in lines)
     cells = Cells(int(words[1]), int(words[2]), rows, gas and known_gas(gas).name)
-    if cells.lines() != lines:
-        raise Fault(NO_CELLS + "a row contains something else than cells")
     if (found := cells.changed(rows).particles) != cells.particles:
         raise Fault(f"the cells contain {found} particles, and their first line says {cells.particles}")
     return cells
 
 
-HEXADECIMAL = str.maketrans(".#", "08")
-STATES = bytes(state if state < SOLID else SOLID for state in range(256))
 
 
 def read_table(text: str) -> Table:

@@ -1,0 +1,142 @@
+"""Lattice gases at the command line: draws scenes and pictures, explains refusals, and runs scenes over seeds, over time and in parts.
+
+SCENE, CELLS and TABLE are files, or - for standard input. A fault is one line on standard error, and status 1.
+"""
+import dataclasses
+import sys
+import time
+
+from . import drawing, pictures, scenes, theory
+from .fault import Fault, Parser, one_line_faults, whole
+from .gases import GASES
+from .observe import smooth
+from .program import call, check, coarse, plan, side_by_side
+from .refusals import NOT_REFUSED, explanation
+from .tables import mean, read_cells, read_table
+
+GENERATIONS, SIDE = whole(0, 1_000_000), whole(1, 4096)
+UNITS = ("days", 86400), ("hours", 3600), ("minutes", 60)
+
+
+def explain(asked) -> None:
+    told = explanation(scenes.read_bytes(asked.scene))
+    print(told, end="")
+    if told != NOT_REFUSED:
+        sys.exit(1)
+
+
+def picture(asked) -> None:
+    found = []
+    for path in asked.sources:
+        text = scenes.read_scene(path)
+        is_cells = text.startswith("generation ")
+        found.append(read_cells(text, asked.gas) if is_cells else dataclasses.replace(read_table(text), gas=asked.gas, block=tuple(asked.block)))
+    if asked.file.endswith(".svg"):
+        return pictures.svg(asked.file, found[0])
+    tables = [smooth(source.table(*asked.block) if hasattr(source, "rows") else source, asked.smooth) for source in found]
+    low, high = pictures.picture(asked.file, asked.what, *tables, low=asked.low, high=asked.high, scale=asked.scale)
+    print(f"{asked.what} from {low:.4g} to {high:.4g}")
+
+
+def how_long(asked) -> None:
+    """Times a few short runs with the same plan, and scales. On a machine that does other work the figure changes every minute."""
+    scene = scenes.read_scene(asked.scene)
+    size = check(scene)
+    stages, capacity = plan(size.width, size.height, asked.generations)
+    stages, capacity = asked.stages or stages, asked.capacity or capacity
+
+    def timed(generations):
+        begun = time.perf_counter()
+        call(scene, "coarse", "--generations", generations, "--stages", stages, "--capacity", capacity, "--block-width", 4096, "--block-height", 4096)
+        return time.perf_counter() - begun
+
+    around, generations, seconds = min(timed(0), timed(0)), stages, 0.0
+    while (seconds := timed(generations) - around) < asked.seconds and 10 * generations <= 1_000_000:
+        generations *= max(2, min(10, int(asked.seconds / max(seconds, 1e-6))))
+    of_one = max(seconds, 1e-6) / generations
+    cells, whole_run = size.width * size.height, around + asked.generations * of_one
+    unit, length = next(((unit, length) for unit, length in UNITS if whole_run >= 2 * length), ("seconds", 1))
+    print(f"{cells / of_one / 1e6:,.0f} MLUPS with {stages} workers and {capacity} rows per belt")
+    print(f"{asked.generations} generations of {cells} cells: about {whole_run / length:.2g} {unit}")
+
+
+def resume(asked) -> None:
+    print(scenes.resume(scenes.read_scene(asked.scene), read_cells(scenes.read_scene(asked.cells))), end="")
+
+
+def long_run(asked) -> None:
+    for cells in scenes.long_run(scenes.read_scene(asked.scene), asked.generations, asked.step, asked.kept):
+        print(f"generation {cells.generation} particles {cells.particles}", flush=True)
+
+
+def over_time(asked) -> None:
+    if asked.last % asked.step:
+        raise Fault(f"LAST is {asked.last}, which is no multiple of STEP, {asked.step}")
+    for cells, _ in scenes.series(scenes.read_scene(asked.scene), [asked.step] * (asked.last // asked.step)):
+        print(f"generation {cells.generation} particles {cells.particles}")
+        print(cells.table(*asked.block).text(), end="", flush=True)
+
+
+def over_seeds(asked) -> None:
+    scene = None if asked.drawn else scenes.read_scene(asked.scene or "-")
+
+    def table(seed):
+        return coarse(drawing.draw(asked.drawn, seed) if asked.drawn else scenes.with_seed(scene, seed), asked.generations, *asked.block)
+
+    tables = side_by_side(table, range(1, asked.seeds + 1))
+    names = "particles", "u", "v"
+    print("  col   row    fluid" + "".join(f"{name:>12}{name + '_error':>16}" for name in names))
+    found = [mean((table.particles, *table.velocity()) for table in tables), mean(table.fluid for table in tables)[0]]
+    for row, fluid in enumerate(found[1]):
+        for column, cells in enumerate(fluid):
+            pairs = [(middle[row][column], error[row][column]) for middle, error in zip(*found[0])]
+            print(f"{column:5} {row:5} {cells:8.1f}" + "".join("           -               -" if m is None else f"{m:12.5g}{e:16.2g}" for m, e in pairs))
+
+
+def numbers(asked) -> None:
+    for name, value in dataclasses.asdict(theory.numbers(asked.gas, asked.density, asked.speed, asked.length, asked.chirality)).items():
+        print(f"{name.replace('_', ' '):18}{value:12.4g}")
+
+
+def reader() -> Parser:
+    """The words of the command line."""
+    top = Parser("python3 -m fhpgas", description=__doc__)
+    commands = top.add_subparsers(dest="command", required=True, metavar="COMMAND")
+
+    def command(function, name, about, **words):
+        made = commands.add_parser(name, help=about, description=function.__doc__ or about)
+        made.set_defaults(function=function)
+        for word, options in words.items():
+            made.add_argument(word if word.islower() and word in POSITIONS else "--" + word, **options)
+        return made
+
+    POSITIONS = {"scene", "cells", "what", "file", "sources", "generations", "step", "kept", "last"}
+    block = {"type": SIDE, "nargs": 2, "metavar": ("COLUMNS", "ROWS"), "default": (8, 9), "help": "of a block; default 8 9, nearly square"}
+    gas = {"choices": GASES, "default": "fhp1", "help": "default fhp1"}
+    scene = {"metavar": "SCENE"}
+    drawing.add_words(command(lambda asked: print(drawing.drawn(asked), end=""), "draw", "draw a scene"))
+    command(explain, "explain", "say where and why a scene is refused", scene=scene)
+    command(picture, "picture", "a PNG of tables or cells (several: animated), or an SVG of few cells", what={"choices": pictures.KINDS},
+            file={"metavar": "FILE", "help": "to write: .png or .svg"}, sources={"metavar": "TABLE", "nargs": "+", "help": "or CELLS"}, gas=gas, block=block,
+            low={"type": float}, high={"type": float}, scale={"type": whole(1, 64), "default": 0, "help": "pixels across a block"},
+            smooth={"type": whole(0, 20), "default": 0, "help": "average neighbours this often; default 0"})
+    command(how_long, "how-long", "say how long a run will take", scene=scene, generations={"type": GENERATIONS}, stages={"type": whole(1, 64)},
+            capacity={"type": whole(1, 1024)}, seconds={"type": whole(1, 3600), "default": 2, "help": "the least that is timed; default 2"})
+    command(resume, "resume", "print the scene that continues a run from printed cells", scene=scene, cells={"metavar": "CELLS"})
+    command(long_run, "long-run", "run in parts, each kept in a file; the same command continues an ended run", scene=scene,
+            generations={"type": whole(0, 10**12)}, step={"type": whole(1, 1_000_000)}, kept={"metavar": "KEPT", "help": "the file, a scene"})
+    command(over_time, "over-time", "tables every STEP generations up to LAST", scene=scene, last={"type": whole(0, 10**12)},
+            step={"type": whole(1, 1_000_000)}, block=block)
+    many = command(over_seeds, "over-seeds", "the mean over seeds of a table, with standard errors", seeds={"type": whole(2, 10**6), "default": 8},
+                   generations={"type": GENERATIONS}, block=block)
+    many.add_argument("scene", nargs="?", metavar="SCENE", help="an area without particles")
+    many.add_argument("--drawn", nargs="...", metavar="WORD", help="words of `draw` to the end of the line: the scene is drawn for each seed")
+    command(numbers, "numbers", "Mach and Reynolds number of a flow, and the rest", gas=gas, density={"type": float, "required": True},
+            speed={"type": float, "required": True}, length={"type": float, "required": True}, chirality={"default": "seeded"})
+    return top
+
+
+if __name__ == "__main__":
+    with one_line_faults("fhpgas"):
+        given = reader().parse_args()
+        given.function(given)
