@@ -4,12 +4,13 @@ A particle that is turned gives the gas the momentum of two. Which ones are turn
 proportion to its fluid cells; so a driven run is repeatable, and the force that acted is known exactly.
 """
 import dataclasses
+import functools
 import random
 from collections.abc import Iterator
 
 from .fault import Fault
 from .gases import SOLID, Gas, gas_named
-from .observe import fluid
+from .observe import counts as counts_of, fluid
 from .program import run, tell
 from .scenes import keys_of, later_scene
 from .tables import Cells
@@ -29,56 +30,57 @@ class Point:
     scene: str = dataclasses.field(repr=False)
 
 
-def momentum(cells: Cells, gas: Gas) -> float:
-    """The momentum eastwards of all particles, in that of a particle that moves east."""
-    weights = [sum(x for i, (x, _) in enumerate(gas.momenta) if state >> i & 1) + 4 for state in range(SOLID)]
-    table = bytes(weights) + b"\4" * SOLID
-    return gas.units[0] * sum(sum(row.translate(table)) - 4 * len(row) for row in cells.rows)
-
-
 def driven(scene: str, generations: int, every: int = 10, *, force: float | None = None, flow: float | None = None, seed: int = 0,
            **plan) -> Iterator[Point]:
     """Yields the points of a driven run: at its start, and after each `every` generations. Either a body force acts eastwards, a momentum per
-    fluid cell and generation; or as many particles are turned as keep the mean velocity at `flow`, and `Point.force` is the force that this
-    takes. The plan is as in `run`."""
+    fluid cell and generation; or as many particles are turned as bring the mean velocity to `flow`, and `Point.force` is the force that
+    this takes. The plan is as in `run`."""
     if (force is None) == (flow is None):
         raise Fault("a flow is driven either by a force or towards a mean flow: force=.. or flow=..")
     if every < 1 or generations % every:
         raise Fault(f"{generations} generations are not a multiple of {every}, those from one point to the next")
-    keys, lots = keys_of(scene), random.Random(seed)
-    gas, cells = gas_named(keys["gas"]), run(scene, 0, **plan)
-    cells_of_row = [len(row) - row.count(SOLID) for row in cells.rows]
-    number = fluid(cells)
-    if not number:
-        raise Fault("all cells of the scene are solid")
-    owed = [lots.random() - 0.5 for _ in cells_of_row]
+    keys, lots, cells = keys_of(scene), random.Random(seed), run(scene, 0, **plan)
+    gas, number = gas_named(keys["gas"]), fluid(cells)
+    if not cells.particles:
+        raise Fault("the scene has no particle that could be turned")
+    shares = [(len(row) - row.count(SOLID)) / number for row in cells.rows]
+    owed = [lots.random() - 0.5 for _ in shares]
     for done in range(0, generations + 1, every):
         tell(f"{done} of {generations} generations")
         cells = run(scene, every, **plan) if done else cells
         before = momentum(cells, gas)
         wanted = force * every * number / 2 if flow is None else (flow * cells.particles - before) / 2
-        owed = [part + wanted * here / number for part, here in zip(owed, cells_of_row)]
-        shares = [round(part) for part in owed]
-        owed = [part - share for part, share in zip(owed, shares)]
-        after = cells.changed(turned(row, share, gas, lots, y) if share else row for y, (row, share) in enumerate(zip(cells.rows, shares)))
-        scene, count = later_scene(keys, after), sum(shares)
+        owed = [part + wanted * share for part, share in zip(owed, shares)]
+        counts = [round(part) for part in owed]
+        owed = [part - count for part, count in zip(owed, counts)]
+        after = cells.changed(turned(row, count, gas, lots, y) if count else row for y, (row, count) in enumerate(zip(cells.rows, counts)))
+        scene, count = later_scene(keys, after), sum(counts)
         tell("")
-        yield Point(cells, after, count, 2 * count / every / number, (before + count) / max(1, cells.particles), scene)
+        yield Point(cells, after, count, 2 * count / every / number, (before + count) / cells.particles, scene)
+
+
+def momentum(cells: Cells, gas: Gas) -> float:
+    """The momentum eastwards of all particles, in that of a particle that moves east."""
+    return sum(n * velocity[0] for n, velocity in zip(counts_of(cells, gas=gas.name), gas.velocities))
+
+
+@functools.cache
+def turnable(gas: Gas, old: int, new: int) -> bytes:
+    """Whether each state has the particle `old` and not `new`, as 0 or 1; 0 for solid cells."""
+    return bytes(state & old != 0 == state & new for state in range(SOLID)) + bytes(SOLID)
 
 
 def turned(row: bytes, number: int, gas: Gas, lots: random.Random, y: int) -> bytes:
-    """A row in which a number of particles that moved west move east, or east west if it is negative: the next ones, eastwards, from
-    random fluid cells. The opposite direction of their cells is empty."""
+    """A row in which a number of particles that moved west move east, or east west if it is negative: from random fluid cells the next one,
+    eastwards, whose opposite direction is empty."""
     east, west = 1, 1 << gas.opposite(0)
-    old, new = (west, east) if number > 0 else (east, west)
-    cells, free = bytearray(row), bytearray(row.translate(gas.table(lambda state: state & old != 0 == state & new)).replace(b"\x80", b"\0"))
+    cells, free = bytearray(row), bytearray(row.translate(turnable(gas, *((west, east) if number > 0 else (east, west)))))
     for _ in range(abs(number)):
-        x = lots.randrange(len(row))
-        while row[x] == SOLID:
-            x = lots.randrange(len(row))
-        x = free.find(1, x) if 1 in free[x:] else free.find(1)
+        start = next(x for x in iter(lambda: lots.randrange(len(row)), None) if row[x] != SOLID)
+        x = free.find(1, start)
+        x = free.find(1) if x < 0 else x
         if x < 0:
             raise Fault(f"row {y} has no particle to turn: the flow is too fast, the force too large, or the gas too thin")
-        cells[x] ^= old | new
+        cells[x] ^= east | west
         free[x] = 0
     return bytes(cells)

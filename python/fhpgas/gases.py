@@ -25,7 +25,7 @@ class Gas:
     steps: tuple[tuple[tuple[int, int], ...], ...]
     row_distance: float
 
-    @property
+    @functools.cached_property
     def directions(self) -> int:
         return len(self.momenta)
 
