@@ -10,12 +10,11 @@ from . import drawing, pictures, scenes, theory
 from .fault import Fault, Parser, one_line_faults, whole
 from .gases import GASES
 from .observe import smooth
-from .program import call, check, coarse, plan, side_by_side
+from .program import check, coarse, plan, side_by_side
 from .refusals import NOT_REFUSED, explanation
 from .tables import mean, read_cells, read_table
 
-GENERATIONS, SIDE = whole(0, 1_000_000), whole(1, 4096)
-UNITS = ("days", 86400), ("hours", 3600), ("minutes", 60)
+UNITS = ("days", 86400), ("hours", 3600), ("minutes", 60), ("seconds", 1)
 
 
 def explain(asked) -> None:
@@ -26,14 +25,11 @@ def explain(asked) -> None:
 
 
 def picture(asked) -> None:
-    found = []
-    for path in asked.sources:
-        text = scenes.read_scene(path)
-        is_cells = text.startswith("generation ")
-        found.append(read_cells(text, asked.gas) if is_cells else dataclasses.replace(read_table(text), gas=asked.gas, block=tuple(asked.block)))
+    texts = [scenes.read_scene(path) for path in asked.sources]
     if asked.file.endswith(".svg"):
-        return pictures.svg(asked.file, found[0])
-    tables = [smooth(source.table(*asked.block) if hasattr(source, "rows") else source, asked.smooth) for source in found]
+        return pictures.svg(asked.file, read_cells(texts[0], asked.gas))
+    read = [read_cells(text, asked.gas).table(*asked.block) if text.startswith("generation ") else read_table(text) for text in texts]
+    tables = [smooth(dataclasses.replace(table, gas=asked.gas, block=tuple(asked.block)), asked.smooth) for table in read]
     low, high = pictures.picture(asked.file, asked.what, *tables, low=asked.low, high=asked.high, scale=asked.scale)
     print(f"{asked.what} from {low:.4g} to {high:.4g}")
 
@@ -47,15 +43,15 @@ def how_long(asked) -> None:
 
     def timed(generations):
         begun = time.perf_counter()
-        call(scene, "coarse", "--generations", generations, "--stages", stages, "--capacity", capacity, "--block-width", 4096, "--block-height", 4096)
+        coarse(scene, generations, 4096, 4096, stages, capacity)
         return time.perf_counter() - begun
 
-    around, generations, seconds = min(timed(0), timed(0)), stages, 0.0
+    around, generations = min(timed(0), timed(0)), stages
     while (seconds := timed(generations) - around) < asked.seconds and 10 * generations <= 1_000_000:
         generations *= max(2, min(10, int(asked.seconds / max(seconds, 1e-6))))
     of_one = max(seconds, 1e-6) / generations
     cells, whole_run = size.width * size.height, around + asked.generations * of_one
-    unit, length = next(((unit, length) for unit, length in UNITS if whole_run >= 2 * length), ("seconds", 1))
+    unit, length = next((pair for pair in UNITS if whole_run >= 2 * pair[1]), UNITS[-1])
     print(f"{cells / of_one / 1e6:,.0f} MLUPS with {stages} workers and {capacity} rows per belt")
     print(f"{asked.generations} generations of {cells} cells: about {whole_run / length:.2g} {unit}")
 
@@ -80,17 +76,18 @@ def over_time(asked) -> None:
 def over_seeds(asked) -> None:
     scene = None if asked.drawn else scenes.read_scene(asked.scene or "-")
 
-    def table(seed):
-        return coarse(drawing.draw(asked.drawn, seed) if asked.drawn else scenes.with_seed(scene, seed), asked.generations, *asked.block)
+    def columns(seed):
+        text = drawing.draw(asked.drawn, seed) if asked.drawn else scenes.with_seed(scene, seed)
+        table = coarse(text, asked.generations, *asked.block)
+        return table.fluid, table.particles, *table.velocity()
 
-    tables = side_by_side(table, range(1, asked.seeds + 1))
-    names = "particles", "u", "v"
-    print("  col   row    fluid" + "".join(f"{name:>12}{name + '_error':>16}" for name in names))
-    found = [mean((table.particles, *table.velocity()) for table in tables), mean(table.fluid for table in tables)[0]]
-    for row, fluid in enumerate(found[1]):
-        for column, cells in enumerate(fluid):
-            pairs = [(middle[row][column], error[row][column]) for middle, error in zip(*found[0])]
-            print(f"{column:5} {row:5} {cells:8.1f}" + "".join("           -               -" if m is None else f"{m:12.5g}{e:16.2g}" for m, e in pairs))
+    (fluid, *means), (_, *errors) = mean(side_by_side(columns, range(1, asked.seeds + 1)))
+    print("  col   row    fluid" + "".join(f"{name:>12}{name + '_error':>16}" for name in ("particles", "u", "v")))
+    for row, counts in enumerate(fluid):
+        for column, cells in enumerate(counts):
+            pairs = [(middle[row][column], error[row][column]) for middle, error in zip(means, errors)]
+            numbers = "".join(f"{'-':>12}{'-':>16}" if m is None else f"{m:12.5g}{e:16.2g}" for m, e in pairs)
+            print(f"{column:5} {row:5} {cells:8.1f}{numbers}")
 
 
 def numbers(asked) -> None:
@@ -101,38 +98,37 @@ def numbers(asked) -> None:
 def reader() -> Parser:
     """The words of the command line."""
     top = Parser("python3 -m fhpgas", description=__doc__)
-    commands = top.add_subparsers(dest="command", required=True, metavar="COMMAND")
+    commands = top.add_subparsers(required=True, metavar="COMMAND")
 
-    def command(function, name, about, **words):
+    def command(function, name, about, *words):
         made = commands.add_parser(name, help=about, description=function.__doc__ or about)
         made.set_defaults(function=function)
-        for word, options in words.items():
-            made.add_argument(word if word.islower() and word in POSITIONS else "--" + word, **options)
+        for word, options in words:
+            made.add_argument(word, **options)
         return made
 
-    POSITIONS = {"scene", "cells", "what", "file", "sources", "generations", "step", "kept", "last"}
-    block = {"type": SIDE, "nargs": 2, "metavar": ("COLUMNS", "ROWS"), "default": (8, 9), "help": "of a block; default 8 9, nearly square"}
-    gas = {"choices": GASES, "default": "fhp1", "help": "default fhp1"}
-    scene = {"metavar": "SCENE"}
-    drawing.add_words(command(lambda asked: print(drawing.drawn(asked), end=""), "draw", "draw a scene"))
-    command(explain, "explain", "say where and why a scene is refused", scene=scene)
-    command(picture, "picture", "a PNG of tables or cells (several: animated), or an SVG of few cells", what={"choices": pictures.KINDS},
-            file={"metavar": "FILE", "help": "to write: .png or .svg"}, sources={"metavar": "TABLE", "nargs": "+", "help": "or CELLS"}, gas=gas, block=block,
-            low={"type": float}, high={"type": float}, scale={"type": whole(1, 64), "default": 0, "help": "pixels across a block"},
-            smooth={"type": whole(0, 20), "default": 0, "help": "average neighbours this often; default 0"})
-    command(how_long, "how-long", "say how long a run will take", scene=scene, generations={"type": GENERATIONS}, stages={"type": whole(1, 64)},
-            capacity={"type": whole(1, 1024)}, seconds={"type": whole(1, 3600), "default": 2, "help": "the least that is timed; default 2"})
-    command(resume, "resume", "print the scene that continues a run from printed cells", scene=scene, cells={"metavar": "CELLS"})
-    command(long_run, "long-run", "run in parts, each kept in a file; the same command continues an ended run", scene=scene,
-            generations={"type": whole(0, 10**12)}, step={"type": whole(1, 1_000_000)}, kept={"metavar": "KEPT", "help": "the file, a scene"})
-    command(over_time, "over-time", "tables every STEP generations up to LAST", scene=scene, last={"type": whole(0, 10**12)},
-            step={"type": whole(1, 1_000_000)}, block=block)
-    many = command(over_seeds, "over-seeds", "the mean over seeds of a table, with standard errors", seeds={"type": whole(2, 10**6), "default": 8},
-                   generations={"type": GENERATIONS}, block=block)
-    many.add_argument("scene", nargs="?", metavar="SCENE", help="an area without particles")
-    many.add_argument("--drawn", nargs="...", metavar="WORD", help="words of `draw` to the end of the line: the scene is drawn for each seed")
-    command(numbers, "numbers", "Mach and Reynolds number of a flow, and the rest", gas=gas, density={"type": float, "required": True},
-            speed={"type": float, "required": True}, length={"type": float, "required": True}, chirality={"default": "seeded"})
+    block = "--block", {"type": whole(1, 4096), "nargs": 2, "metavar": ("COLUMNS", "ROWS"), "default": (8, 9), "help": "of a block; default 8 9"}
+    gas = "--gas", {"choices": GASES, "default": "fhp1", "help": "default fhp1"}
+    scene, cells = ("scene", {"metavar": "SCENE"}), ("cells", {"metavar": "CELLS"})
+    generations, step = {"type": whole(0, 1_000_000), "metavar": "GENERATIONS"}, ("step", {"type": whole(1, 1_000_000), "metavar": "STEP"})
+    drawing.add_words(command(lambda asked: print(drawing.drawn(asked), end=""), "draw", drawing.__doc__))
+    command(explain, "explain", "say where and why a scene is refused", scene)
+    command(picture, "picture", "a PNG of tables or cells (several: animated), or an SVG of few cells", ("what", {"choices": pictures.KINDS}),
+            ("file", {"metavar": "FILE", "help": "to write: .png or .svg"}), ("sources", {"metavar": "TABLE", "nargs": "+", "help": "or CELLS"}), gas, block,
+            ("--low", {"type": float}), ("--high", {"type": float}), ("--scale", {"type": whole(1, 64), "default": 0, "help": "pixels across a block"}),
+            ("--smooth", {"type": whole(0, 20), "default": 0, "metavar": "TIMES", "help": "average neighbours this often"}))
+    command(how_long, "how-long", "say how long a run will take", scene, ("generations", generations), ("--stages", {"type": whole(1, 64)}),
+            ("--capacity", {"type": whole(1, 1024)}), ("--seconds", {"type": whole(1, 3600), "default": 2, "help": "the least that is timed; default 2"}))
+    command(resume, "resume", "print the scene that continues a run from printed cells", scene, cells)
+    command(long_run, "long-run", "run in parts, each kept in a file; the same command continues an ended run", scene,
+            ("generations", generations | {"type": whole(0, 10**12)}), step, ("kept", {"metavar": "KEPT", "help": "the file, a scene"}))
+    command(over_time, "over-time", "tables every STEP generations up to LAST", scene, ("last", {"type": whole(0, 10**12), "metavar": "LAST"}), step, block)
+    command(over_seeds, "over-seeds", "the mean over seeds of a table, with standard errors", ("--seeds", {"type": whole(2, 10**6), "default": 8}),
+            ("--generations", generations | {"required": True}), block, ("scene", {"nargs": "?", "metavar": "SCENE", "help": "an area without particles"}),
+            ("--drawn", {"nargs": "...", "metavar": "WORD", "help": "words of `draw` to the end of the line: the scene is drawn for each seed"}))
+    wanted = {"type": float, "required": True}
+    command(numbers, "numbers", "Mach and Reynolds number of a flow, and the rest", gas, ("--density", wanted), ("--speed", wanted), ("--length", wanted),
+            ("--chirality", {"default": "seeded"}))
     return top
 
 

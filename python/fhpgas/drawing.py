@@ -86,7 +86,9 @@ def solidify(obstacles: shapes.Obstacles, asked: argparse.Namespace, lots: rando
     for disc in asked.disc if asked.shape == "discs" else ():
         obstacles.disc(*disc)
     for numbers in asked.polygon if asked.shape == "polygons" else ():
-        obstacles.polygon(zip(numbers[::2], numbers[1::2], strict=len(numbers) % 2 == 0))
+        if len(numbers) % 2:
+            raise Fault(f"a polygon has corners of two numbers each, and these are {len(numbers)}")
+        obstacles.polygon(zip(numbers[::2], numbers[1::2]))
     if asked.shape == "bitmap":
         obstacles.picture(asked.picture, asked.pixel, *asked.at)
     elif asked.shape == "nozzle":
@@ -103,7 +105,9 @@ def windy(asked: argparse.Namespace, obstacles: shapes.Obstacles) -> str:
         for left, top, w, h, rate in asked.patch:
             for row in density[top : top + h]:
                 row[left : left + w] = [rate / 1000] * w
-    speeds = [speed / 1000 for speed in (*asked.wind, 0)[:2]]
+    if len(asked.wind) > 2:
+        raise Fault("a wind has a speed eastwards and one northwards")
+    speeds = [speed / 1000 for speed in asked.wind]
     return fields.gas(density, *speeds, size=(asked.width, asked.height), solid=obstacles, gas=asked.gas, chirality=asked.chirality, seed=asked.seed)
 
 

@@ -4,7 +4,7 @@ from collections.abc import Callable, Iterable
 
 from .fault import Fault
 from .gases import SOLID, known_gas
-from .tables import IS_FLUID, Cells, Table
+from .tables import BITS, Cells, Table
 
 Field = list[list[float | None]]
 
@@ -53,16 +53,14 @@ def smooth(table: Table, times: int = 1) -> Table:
 
 def counts(cells: Cells, block_width: int | None = None, block_height: int | None = None, gas: str | None = None) -> list:
     """The number of particles in each direction: of all cells, or as a list [row][column] of blocks."""
-    named = known_gas(gas, cells.gas)
-    width, height = block_width or len(cells.rows[0]), block_height or len(cells.rows)
-    bits = [bytes(state >> i & 1 for state in range(SOLID)) + bytes(SOLID) for i in range(named.directions)]
-    found = [cells.sums(bit, width, height) for bit in bits]
+    bits = BITS[: known_gas(gas, cells.gas).directions]
+    found = [cells.sums(bit, block_width or len(cells.rows[0]), block_height or len(cells.rows)) for bit in bits]
     return found if block_width or block_height else [blocks[0][0] for blocks in found]
 
 
 def fluid(cells: Cells) -> int:
     """The number of cells that are not solid."""
-    return cells.sums(IS_FLUID, len(cells.rows[0]), len(cells.rows))[0][0]
+    return sum(len(row) - row.count(SOLID) for row in cells.rows)
 
 
 def flux(numbers: Iterable[float], gas: str) -> tuple[float, float, float]:

@@ -138,7 +138,7 @@ def read_mask(path) -> list[list[bool]]:
             return read_png(data)
     except OSError as fault:
         raise Fault(f"{path}: {fault.strerror}") from None
-    except (AttributeError, IndexError, ValueError, KeyError, struct.error, zlib.error):
+    except (TypeError, IndexError, ValueError, KeyError, struct.error, zlib.error):
         raise Fault(f"{path}: the picture is damaged, or a PNG that is interlaced, which is not read") from None
     raise Fault(f"{path}: neither PBM nor PNG")
 

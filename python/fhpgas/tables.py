@@ -15,11 +15,11 @@ HEADER = "  col   row    fluid particles         px         py"
 PAIRS = [f"{state:02x}" if state else ".." for state in range(SOLID)] + ["##"] * SOLID
 NO_CELLS = "these are no printed cells: "
 HEXADECIMAL, KINDS = str.maketrans(".#", "08"), str.maketrans("123456789abcdef", "0" * 15)
-STATES = bytes(state if state < SOLID else SOLID for state in range(256))
-WITHOUT_SOLID = bytes(range(SOLID)) + bytes(SOLID)
-IS_SOLID = bytes(SOLID) + b"\1" * SOLID
-IS_FLUID = b"\1" * SOLID + bytes(SOLID)
-BITS = bytes(state.bit_count() for state in range(SOLID)) + bytes(SOLID)
+# Tables for `bytes.translate`, from a state or SOLID: numbers of particles in each direction, of fluid cells, and of solid ones.
+BITS = [bytes(state >> i & 1 for state in range(SOLID)) + bytes(SOLID) for i in range(7)]
+PARTICLES = bytes(state.bit_count() for state in range(SOLID)) + bytes(SOLID)
+FLUID, WALL = b"\1" * SOLID + bytes(SOLID), bytes(SOLID) + b"\1" * SOLID
+STATES, CELLS = bytes(range(SOLID)) + bytes(SOLID), bytes(range(SOLID)) + bytes([SOLID]) * SOLID
 
 
 @dataclasses.dataclass(frozen=True)
@@ -34,17 +34,17 @@ class Cells:
     @functools.cached_property
     def states(self) -> tuple[bytes, ...]:
         """The state of each cell [y][x], a bit for each direction; 0 if the cell is solid."""
-        return tuple(row.translate(WITHOUT_SOLID) for row in self.rows)
+        return tuple(row.translate(STATES) for row in self.rows)
 
     @functools.cached_property
     def solid(self) -> tuple[bytes, ...]:
         """Whether each cell is solid [y][x], as 0 or 1."""
-        return tuple(row.translate(IS_SOLID) for row in self.rows)
+        return tuple(row.translate(WALL) for row in self.rows)
 
     def changed(self, rows: Iterable[bytes]) -> "Cells":
-        """Other cells of the same generation and gas."""
+        """Other cells of the same generation and gas, as rows of bytes."""
         rows = tuple(map(bytes, rows))
-        return Cells(self.generation, sum(sum(row.translate(BITS)) for row in rows), rows, self.gas)
+        return Cells(self.generation, sum(sum(row.translate(PARTICLES)) for row in rows), rows, self.gas)
 
     def text(self) -> str:
         """The cells as `run` prints them."""
@@ -62,24 +62,17 @@ class Cells:
 
     def table(self, block_width: int, block_height: int, gas: str | None = None) -> "Table":
         """The table that `coarse` prints for these cells."""
-        if not (1 <= block_width <= 4096 and 1 <= block_height <= 4096):
-            raise Fault("the sides of a block are 1 to 4096")
-        momenta = known_gas(gas, self.gas).momenta
-        counted = [self.sums(IS_FLUID, block_width, block_height), self.sums(BITS, block_width, block_height)]
-        for axis in (0, 1):
-            signed = [sum(p[axis] for i, p in enumerate(momenta) if state >> i & 1) for state in range(SOLID)]
-            plus, minus = (bytes(max(0, sign * p) for p in signed) + bytes(SOLID) for sign in (1, -1))
-            counted.append(difference(*(self.sums(part, block_width, block_height) for part in (plus, minus))))
-        return Table(*counted, gas=known_gas(gas, self.gas).name, block=(block_width, block_height))
+        named = known_gas(gas, self.gas)
+        counts = [self.sums(bit, block_width, block_height) for bit in BITS[: named.directions]]
+        weights = [1] * named.directions, *zip(*named.momenta)
+        columns = ([[sum(map(int.__mul__, of, block)) for block in zip(*rows)] for rows in zip(*counts)] for of in weights)
+        return Table(self.sums(FLUID, block_width, block_height), *columns, gas=named.name, block=(block_width, block_height))
 
     def sums(self, of_state: bytes, block_width: int, block_height: int) -> list[list[int]]:
-        """The sums over the blocks [row][column] of a number of each state; 0 for solid cells."""
-        starts = range(0, len(self.rows[0]), block_width)
-        found = []
-        for top in range(0, len(self.rows), block_height):
-            rows = [row.translate(of_state) for row in self.rows[top : top + block_height]]
-            found.append([sum(sum(row[start : start + block_width]) for row in rows) for start in starts])
-        return found
+        """The sums over blocks [row][column] of a number of each state and of solid cells, for `bytes.translate`."""
+        rows, starts = [row.translate(of_state) for row in self.rows], range(0, len(self.rows[0]), block_width)
+        parts = (rows[top : top + block_height] for top in range(0, len(rows), block_height))
+        return [[sum(sum(row[start : start + block_width]) for row in part) for start in starts] for part in parts]
 
     def arrays(self):
         """The states (uint8) and the solid cells (bool) as new numpy arrays [y, x]."""
@@ -107,7 +100,7 @@ class Table:
 
     def density(self) -> list[list[float | None]]:
         """The particles per fluid cell of each block; None if the block is solid."""
-        return pairwise(lambda particles, fluid: particles / fluid if fluid else None, self.particles, self.fluid)
+        return [[n / fluid if fluid else None for n, fluid in zip(*rows)] for rows in zip(self.particles, self.fluid)]
 
     def velocity(self, gas: str | None = None) -> tuple[list[list[float | None]], list[list[float | None]]]:
         """The mean velocity of the particles of each block, eastwards and northwards, in cells' widths per generation: None if the block is
@@ -115,9 +108,8 @@ class Table:
         named = known_gas(gas, self.gas)
         if self.gas and (named.name == "hpp") != (self.gas == "hpp"):
             raise Fault(f"the table is of {self.gas}, and {named.name} is on another lattice")
-        nothing = pairwise(lambda fluid, _: math.nan if fluid else None, self.fluid, self.fluid)
         return tuple(
-            [[unit * p / n if n else none for p, n, none in zip(*rows)] for rows in zip(momenta, self.particles, nothing)]
+            [[unit * p / n if n else math.nan if fluid else None for p, n, fluid in zip(*rows)] for rows in zip(momenta, self.particles, self.fluid)]
             for unit, momenta in zip(named.units, (self.px, self.py))
         )
 
@@ -135,15 +127,6 @@ class Table:
         return numpy.array(self.columns())
 
 
-def pairwise(function, first, second) -> list[list]:
-    """The results of the function for each two numbers of two lists of rows."""
-    return [[function(a, b) for a, b in zip(*rows)] for rows in zip(first, second)]
-
-
-def difference(first, second) -> list[list[int]]:
-    return pairwise(int.__sub__, first, second)
-
-
 def read_cells(text: str, gas: str | Gas | None = None) -> Cells:
     """The cells of a text that `run` printed. A text that is not whole raises a Fault."""
     first, *lines = text.split("\n")
@@ -154,7 +137,7 @@ def read_cells(text: str, gas: str | Gas | None = None) -> Cells:
     firsts, seconds = body[::2], body[1::2].translate(KINDS)
     if not body or {len(line) for line in lines} != {len(lines[0])} or not {*firsts} <= {*"01234567.#"} or firsts.translate(KINDS) != seconds:
         raise Fault(NO_CELLS + "a row is of another length, or contains something else than cells")
-    rows = tuple(bytes.fromhex(line.translate(HEXADECIMAL)).translate(STATES) for line in lines)
+    rows = tuple(bytes.fromhex(line.translate(HEXADECIMAL)).translate(CELLS) for line in lines)
     cells = Cells(int(words[1]), int(words[2]), rows, gas and known_gas(gas).name)
     if (found := cells.changed(rows).particles) != cells.particles:
         raise Fault(f"the cells contain {found} particles, and their first line says {cells.particles}")
@@ -168,13 +151,12 @@ def read_table(text: str) -> Table:
     first, *lines = text.rstrip("\n").split("\n")
     try:
         numbers = [[int(word) for word in line.split()] for line in lines]
-    except ValueError:
-        numbers = []
-    columns = max((line[0] for line in numbers if line), default=-1) + 1
-    if first != HEADER or not columns or any(line[:2] != [k % columns, k // columns] or len(line) != 6 for k, line in enumerate(numbers)):
+        columns = max(line[0] for line in numbers) + 1
+    except (IndexError, ValueError):
+        numbers, columns = [], 1
+    is_whole = all(line[:2] == [k % columns, k // columns] and len(line) == 6 for k, line in enumerate(numbers))
+    if first != HEADER or not numbers or not is_whole or len(numbers) % columns:
         raise Fault("this is no whole table of `coarse`")
-    if len(numbers) % columns:
-        raise Fault("this is no whole table of `coarse`: its last row of blocks ends early")
     rows = [numbers[at : at + columns] for at in range(0, len(numbers), columns)]
     return Table(*([[line[k] for line in row] for row in rows] for k in range(2, 6)))
 
@@ -185,9 +167,7 @@ def total(tables: Iterable[Table]) -> Table:
     gases, blocks = ({getattr(table, name) for table in tables} - {None} for name in ("gas", "block"))
     if len({(len(table.fluid), len(table.fluid[0])) for table in tables}) != 1 or len(gases) > 1 or len(blocks) > 1:
         raise Fault("only tables of the same blocks and of one gas can be summed, and at least one")
-    sums = tables[0].columns()
-    for table in tables[1:]:
-        sums = [pairwise(int.__add__, *columns) for columns in zip(sums, table.columns())]
+    sums = ([[*map(sum, zip(*rows))] for rows in zip(*columns)] for columns in zip(*(table.columns() for table in tables)))
     return Table(*sums, gas=min(gases, default=None), block=min(blocks, default=None))
 
 
