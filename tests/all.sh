@@ -4,7 +4,7 @@
 # a name alone says little of a contract, and fails the tests. Every part runs once the gate has passed; those that failed end the output.
 cd "$(dirname "$0")/.." || exit 1
 set -o pipefail
-tests/lint.sh && tests/definitions.py && tests/links.py && tests/build.sh || exit 1
+tests/lint.sh && tests/definitions.py && tests/links.py && tests/prose.py && tests/build.sh || exit 1
 log=$(mktemp) || exit 1
 trap 'rm -f "$log"' EXIT
 rt ci 2>&1 | tee "$log" || exit 1

@@ -1,22 +1,22 @@
 #!/usr/bin/env python3
 """Says which definitions a reader of the public contracts must believe, and compares them with docs/DEFINITIONS.md.
 
-A definition is an item of a crate's specs/. It must be believed where the contract of a public call names it, or another that
-must be believed does. Counted beside them are the code's types that these definitions name, and the ghost members of public
-traits that public contracts name, with what each type gives for them. Relations that calls give and keep, about which no promise
-depends on what they say, have a section of their own in DEFINITIONS.md and are counted apart.
+A definition is an item of a crate's specs/. It must be believed if the contract of a public call names it, or another that must be
+believed does. Beside them a reader meets the code's types that these definitions name, and the ghost members of public traits that
+public contracts name.
 
-Fails where DEFINITIONS.md does not tell of one of them beside the file that holds it, names one that is gone, or tells other counts; where a
-definition to be believed names a type that is not public; and where a file of specs/ holds a definition that need not be
-believed without saying in its first line that its words are inner ones. With --list it prints the definitions to be believed
-instead, file by file.
+Fails if DEFINITIONS.md leaves out one of them, in a section that names its crate, or has a row for one that is gone; if a definition to
+be believed names a type that is not public; and if a file of specs/ holds a definition that need not be believed without saying in its
+first line that its words are inner ones. Prints how many lines there are to believe. With --list it prints the definitions instead.
 """
 import collections
 import os
 import re
 import sys
 
-TOP = os.path.join(os.path.dirname(os.path.abspath(__file__)), "..")
+import needs
+
+TOP = str(needs.ROOT)
 INNER = re.compile(r"^-- Inner words\b")
 NAME = re.compile(r"[A-Za-z_ℕℤ⊤⊥][\w'⊤⊥ℕℤ-]*")
 
@@ -191,74 +191,31 @@ def closure(cited, known):
     return believed
 
 
-def sources(crate):
-    for path, _, names in sorted(os.walk(os.path.join(TOP, "crates", crate, "src"))):
-        for name in sorted(names):
-            if name.endswith(".rt"):
-                yield os.path.join(path, name)
-
-
-def lines_from(text, at):
-    """The lines of the item that begins at `at`, up to its closing brace or semicolon, comments and attributes left out."""
-    end = re.compile(r"[{;]").search(text, at)
-    stop = braced(text, end.start())[1] if end.group() == "{" else end.end()
-    return sum(not re.match(r"\s*(//|#\[|$)", line) for line in text[at:stop].split("\n"))
-
-
-def type_lines(crate, kind):
-    """The lines of a type's declaration, and whether callers of the crate can name it."""
-    public = {path for path, _ in public_files(crate)}
-    for path in sources(crate):
-        text = read(path)
-        found = re.search(rf"^(pub )?(?:struct|enum) {kind}\b", text, re.M)
-        if found:
-            return lines_from(text, found.start()), bool(found.group(1)) and path in public
-    sys.exit(f"definitions: no type {kind} in {crate}")
+def is_public(crate, kind):
+    """Whether callers of a crate can name one of its types."""
+    return any(re.search(rf"^pub (?:struct|enum) {kind}\b", text, re.M) for _, text in public_files(crate))
 
 
 def ghost_members(crates):
-    """The data that public traits ask of their types in public contracts: name -> lines, in the traits and their types."""
+    """The data that public traits ask of their types and that public contracts name."""
     asked, cited = set(), set()
     for crate in crates:
         for _, text in public_files(crate):
             for trait in re.finditer(r"^pub trait [^{]*\{", text, re.M):
-                body, _ = braced(text, trait.end() - 1)
-                asked |= set(re.findall(r"^    ghost (\w+):", body, re.M))
-            cited |= {word for clause in contracts(text) for word in re.findall(r"\.(\w+)|\b(\w+)\b", clause) for word in word}
-    lines = collections.Counter()
-    for crate in crates:
-        for path in sources(crate):
-            text = without_comments(read(path), "//")
-            for name in asked & cited:
-                for member in re.finditer(rf"^    ghost {name}(?::| =) \{{", text, re.M):
-                    _, stop = braced(text, member.end() - 1)
-                    lines[name] += text[member.start() : stop].count("\n") + 1
-    return lines
+                asked |= set(re.findall(r"^    ghost (\w+):", braced(text, trait.end() - 1)[0], re.M))
+            cited |= {word for clause in contracts(text) for word in re.findall(r"\w+", clause)}
+    return asked & cited
 
 
-Told = collections.namedtuple("Told", "names kept")
-
-
-def told_in(document):
-    """What DEFINITIONS.md tells: (crate, file, name) of each definition, and which of them are given and kept by calls."""
-    names, kept = set(), set()
+def told_in(document, crates):
+    """The definitions that DEFINITIONS.md tells, each with its crate, and those of them that calls give and keep."""
+    told, kept = set(), set()
     for section in re.split(r"^## ", document, flags=re.M)[1:]:
-        head, _, body = section.partition("\n")
-        crates = re.findall(r"crates/(\w+)", head)
-        for part in re.split(r"\n\n|\n(?=\| )", body):
-            group = []
-            for token in re.findall(r"`([^`]+)`", part):
-                if not token.endswith(".antt"):
-                    group += re.findall(r"^[\w'-]+$", token)
-                    continue
-                where = token.split("/")
-                file = os.path.splitext(where[-1])[0]
-                found = {(crate, file, name) for crate in crates or where[:1] for name in group}
-                names |= found
-                kept |= found if head.startswith("Given and kept") else set()
-                if not part.startswith("| "):
-                    group = []
-    return Told(names, kept)
+        names = re.findall(r"`([\w'-]+)`", section)
+        found = {(crate, name) for crate in crates if re.search(rf"\b{crate}\b", section) for name in names}
+        told |= found
+        kept |= found if section.startswith("Given and kept") else set()
+    return told, kept
 
 
 def listed(believed, known):
@@ -271,22 +228,28 @@ def listed(believed, known):
         print(f"{file}: {' '.join(names)}")
 
 
-def compare(believed, known, inner, told, document):
+def complaints(believed, known, inner, members, document):
     """What the files and DEFINITIONS.md do not agree on."""
-    names = {key[2] for key in known}
+    told, _ = told_in(document, {crate for crate, _, _ in known})
     for key in sorted(known):
         where = f"{key[0]}/specs/{key[1].replace('.', '/')}.antt: {key[2]}"
-        if key in believed:
-            if key[:2] in inner:
-                yield f"{where} is cited by a public contract, and its file says that it holds inner words"
-            if known[key].lines and (key[0], key[1].split(".")[-1], key[2]) not in told.names:
-                yield f"{where} must be believed, and docs/DEFINITIONS.md leaves it out"
-        elif key[:2] not in inner:
+        if key not in believed and key[:2] not in inner:
             yield f"{where} is cited by no public contract, and its file does not say that it holds inner words"
-    for file, text in re.findall(r"^\| (`[^|]*) \|.*`([\w/]+\.antt)`", document, re.M):
-        for name in re.findall(r"`([\w'-]+)`", file):
-            if name not in names:
-                yield f"docs/DEFINITIONS.md names {name}, which is gone"
+        if key in believed and key[:2] in inner:
+            yield f"{where} is cited by a public contract, and its file says that it holds inner words"
+        if key in believed and known[key].lines and (key[0], key[2]) not in told:
+            yield f"{where} must be believed, and docs/DEFINITIONS.md leaves it out"
+    names = {key[2] for key in known}
+    for row in re.findall(r"^\| (`[^|]*) \|.*`[\w/]+\.antt`", document, re.M):
+        yield from (f"docs/DEFINITIONS.md names {name}, which is gone" for name in re.findall(r"`([\w'-]+)`", row) if name not in names)
+    for crate, kind in sorted({kind for key in believed for kind in known[key].types}):
+        if not is_public(crate, kind):
+            yield f"{kind} of {crate} is named by a definition to be believed, and callers can't name it"
+        if f"`{kind}`" not in document:
+            yield f"{kind} of {crate} is named by a definition to be believed, and docs/DEFINITIONS.md leaves it out"
+    for name in sorted(members):
+        if f"`{name}`" not in document:
+            yield f"the ghost member {name} gives public contracts their meaning, and docs/DEFINITIONS.md leaves it out"
 
 
 def main():
@@ -297,47 +260,22 @@ def main():
         known |= {(it.crate, it.file, it.name): it for it in found}
         inner |= files
         cited |= cited_by_contracts(crate)
-    believed = closure(cited, known)
+    believed, members = closure(cited, known), ghost_members(crates)
     if sys.argv[1:] == ["--list"]:
-        listed(believed, known)
-        return
+        return listed(believed, known)
     document = read(os.path.join(TOP, "docs", "DEFINITIONS.md"))
-    told = told_in(document)
-    complaints = list(compare(believed, known, inner, told, document))
-    by_crate = collections.Counter()
-    kept = 0
+    wrong = list(complaints(believed, known, inner, members, document))
+    for line in wrong:
+        print(f"FAILED: {line}")
+    _, kept = told_in(document, crates)
+    lines = collections.Counter()
     for key in believed:
-        if (key[0], key[1].split(".")[-1], key[2]) in told.kept:
-            kept += known[key].lines
-        else:
-            by_crate[key[0]] += known[key].lines
-    types = sorted({kind for key in believed for kind in known[key].types})
-    of_types = 0
-    for crate, kind in types:
-        lines, is_public = type_lines(crate, kind)
-        of_types += lines
-        if not is_public:
-            complaints.append(f"{kind} of {crate} is named by a definition to be believed, and callers can't name it")
-        elif not re.search(rf"`{kind}`", document):
-            complaints.append(f"{kind} of {crate} is named by a definition to be believed, and docs/DEFINITIONS.md leaves it out")
-    members = ghost_members(crates)
-    for name in sorted(members):
-        if not re.search(rf"`{name}`", document):
-            complaints.append(f"the ghost member {name} gives public contracts their meaning, and docs/DEFINITIONS.md leaves it out")
-    counts = [len(believed), sum(by_crate.values()), kept, len(types), of_types, sum(members.values())]
-    if [int(number) for number in re.findall(r"\*\*(\d+)\*\*", document)] != counts:
-        complaints.append(f"docs/DEFINITIONS.md should tell these numbers, in bold and in this order: {counts}")
-    for line in complaints:
-        print(f"definitions: {line}")
-    for crate in crates:
-        if by_crate[crate]:
-            print(f"definitions: {crate}: {by_crate[crate]} lines to believe")
-    print(f"definitions: {len(believed)} definitions, {sum(by_crate.values())} lines to believe, comments left out")
-    print(f"definitions: beside them {kept} lines of relations that calls give and keep,")
-    print(f"definitions: {of_types} lines of the {len(types)} types of the code that definitions name,")
-    print(f"definitions: and {sum(members.values())} lines of the ghost members {', '.join(sorted(members))}")
-    print(f"{len(known) + len(types) + len(members) - len(complaints)} passed, {len(complaints)} failed")
-    sys.exit(1 if complaints else 0)
+        lines["relations that calls give and keep" if (key[0], key[2]) in kept else key[0]] += known[key].lines
+    for name in sorted(lines):
+        print(f"{lines[name]:5} lines of {name}")
+    print(f"{sum(lines.values()):5} lines of {len(believed)} definitions to believe, comments left out")
+    print(f"{len(known) + len(members) - len(wrong)} passed, {len(wrong)} failed")
+    sys.exit(1 if wrong else 0)
 
 
 if __name__ == "__main__":
