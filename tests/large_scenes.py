@@ -1,11 +1,13 @@
 #!/usr/bin/env python3
-"""Gives the built program large texts of one kind each, under a small stack, and prints its answer, seconds and peak memory.
+"""Gives the built program large texts of one kind each, under a small stack, and prints its answer, seconds and peak memory; then the
+largest area, and the widest rows through the longest line, if memory allows.
 
-Fails where the answer is not the one that docs/FORMATS.md says; the times and sizes are only shown. Usage:
+Fails if an answer is not the one that docs/FORMATS.md says; the times and sizes are only shown. Usage:
 tests/large_scenes.py [MEBIBYTES], 1 if it is left out; the program reads at most 64.
 """
 import os
 import random
+import re
 import subprocess
 import sys
 import tempfile
@@ -16,7 +18,8 @@ import needs
 PROGRAM = needs.built_program()
 STACK = 256  # KiB
 BLOCK = 1 << 16
-SIDE = 4096
+SIDE, MOST_SIDE = 4096, 65536
+LARGEST_BYTES = 4 << 30  # that the largest area or the longest line may take
 AREA = f'gas = "fhp1"\nwidth = {SIDE}\nheight = {SIDE}\n'
 SHOWN = f"gas fhp1 width {SIDE} height {SIDE} solid %d particles %d"
 WRONG_TYPE, UNKNOWN, SYNTAX, RANGE, MISSING = (
@@ -81,6 +84,23 @@ def texts(size):
     yield "one comment", repeated("#", "a", "\n", size)[0], MISSING
     yield "empty lines", repeated("", "\n", "", size)[0], MISSING
     yield "bytes that are not UTF-8", [b"\xff" * min(size, BLOCK)] * (size // BLOCK), SYNTAX
+    if has_memory():
+        yield "the largest area", [f'version = 2\ngas = "hpp"\nwidth = {MOST_SIDE}\nheight = {MOST_SIDE}\n'], \
+            f"gas hpp width {MOST_SIDE} height {MOST_SIDE} solid 0 particles 0"
+
+
+def has_memory():
+    with open("/proc/meminfo", encoding="ascii") as told:
+        return int(re.search(r"MemAvailable: +(\d+) kB", told.read()).group(1)) << 10 >= LARGEST_BYTES
+
+
+def is_alike_through_longest_line():
+    """Whether 64 workers with 1,024 places per belt print what one worker prints pass by pass, on the widest rows."""
+    scene = f'version = 2\ngas = "fhp1"\nseed = 5\nwidth = {MOST_SIDE}\nheight = 64\nrate = 300\nsolid = [[65000, 10, 536, 9], [0, 12, 9, 30]]\n'
+    words = [PROGRAM, "run", "--generations", "70"]
+    plans = ["--stages", "64", "--capacity", "1024"], ["--stages", "1", "--capacity", "1"]
+    longest, shortest = (subprocess.run([*words, *plan], input=scene.encode(), capture_output=True, check=True).stdout for plan in plans)
+    return longest == shortest and longest.startswith(b"generation 70 particles ")
 
 
 def answer(path):
@@ -114,6 +134,13 @@ def main():
             else:
                 failed += 1
                 print(f"FAILED: {name}: {expected} was expected")
+    if not has_memory():
+        print(f"the largest area and the longest line are left out: they want {LARGEST_BYTES >> 30} GB of free memory")
+    elif is_alike_through_longest_line():
+        passed += 1
+    else:
+        failed += 1
+        print("FAILED: the longest line prints another lattice")
     print(f"{passed} passed, {failed} failed")
     sys.exit(1 if failed else 0)
 

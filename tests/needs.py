@@ -33,7 +33,7 @@ def compiled(source, made, *words):
     """Compiles a C source of this repository."""
     if not shutil.which("cc"):
         stop("cc is missing: apt-get install gcc libc6-dev")
-    subprocess.run(["cc", "-Wall", *words, "-o", made, ROOT / source], check=True)
+    subprocess.run(["cc", "-Wall", "-o", made, ROOT / source, *words], check=True)
 
 
 def numpy():

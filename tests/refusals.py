@@ -1,22 +1,22 @@
 #!/usr/bin/env python3
 """Refuses requests for memory, starts of threads among them, of the built program and of each call that takes memory, which
 the program `probes` makes by itself: each request alone, all from each one on, and each with probability 1/8. A refused run
-must end with its status and line, with every thread joined and every byte given back, and print nothing; where nothing is
-refused it must end with 0. Then the program runs under limits of its address space. Ends with the counts."""
+must end with its status and line, with every thread joined and every byte given back, and print nothing. Where nothing is
+refused it must end with 0, and with no request between the last start of a thread and the first join. Then the program runs
+under limits of its address space. Ends with the counts."""
 
 import concurrent.futures
 import os
-import pathlib
 import re
 import resource
 import subprocess
 import sys
 import tempfile
 
-HERE = pathlib.Path(__file__).resolve().parent
-TOP = HERE.parent
-PROGRAM = TOP / "crates/fhpgas/out/fhpgas"
-PROBES = TOP / "crates/probes/out/probes"
+import needs
+
+TOP = needs.ROOT
+PROGRAM, PROBES = needs.built_program(), needs.built_program("probes")
 SECONDS = 60  # a hundred times what the slowest run takes
 SEEDS = 100
 
@@ -60,7 +60,7 @@ class Ended:
                 ran = subprocess.run(words, stdin=text, capture_output=True, env=environment, timeout=SECONDS)
             numbers = seen.read().split()
         self.status, self.out, self.err = ran.returncode, ran.stdout, ran.stderr
-        self.seen, self.refused, self.started, self.joined, self.held = map(int, numbers or [-1] * 5)
+        self.seen, self.refused, self.started, self.joined, self.held, self.since_start = map(int, numbers or [-1] * 6)
 
     def is_tidy(self):
         return self.started == self.joined and self.held == 0
@@ -77,6 +77,7 @@ def sweep(pool, library, name, words, scene, line):
     """Refuses each request alone, and all from each one on."""
     usual = Ended(library, words, scene, {})
     count(usual.status == 0 and usual.is_tidy() and usual.seen > 0, f"{name}: {usual}")
+    count(usual.since_start == (0 if usual.started else usual.seen), f"{name}: {usual.since_start} requests between last start and first join")
     tries = [{way: str(request)} for way in ("REFUSE_AT", "REFUSE_FROM") for request in range(1, usual.seen + 1)]
     for refuse, ended in zip(tries, pool.map(lambda it: Ended(library, words, scene, it), tries)):
         count(ended.is_refused(line) and ended.refused > 0, f"{name} {refuse}: {ended}")
@@ -128,14 +129,9 @@ def limits():
 
 
 def main():
-    for built, build in (PROGRAM, "./build.sh"), (PROBES, "./build.sh probes"):
-        if not built.exists():
-            print(f"tests/refusals.py: {built.relative_to(TOP)} is missing: run rt ci or {build} first", file=sys.stderr)
-            return 2
     with tempfile.TemporaryDirectory() as room, concurrent.futures.ThreadPoolExecutor(os.cpu_count()) as pool:
         library = f"{room}/refuse.so"
-        made = ["cc", "-shared", "-fPIC", "-O1", "-Wall", "-o", library, HERE / "refusal/refuse.c", "-ldl"]
-        subprocess.run(made, check=True)
+        needs.compiled("tests/refusal/refuse.c", library, "-shared", "-fPIC", "-O1", "-ldl")
         for call in re.findall(r"^(\w+) Answered$", (TOP / "crates/probes/stdout").read_text(), re.MULTILINE):
             sweep(pool, library, call, [PROBES, call], os.devnull, b"")
         for scene, words in REQUESTS:

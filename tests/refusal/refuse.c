@@ -1,8 +1,8 @@
 /* Refuses requests for memory and for threads, which are the calls of malloc, realloc and pthread_create that the program
    itself makes; what its libraries ask for is let through. REFUSE_AT=n refuses the n-th, REFUSE_FROM=n that and all after it,
    and REFUSE_SEED=s each with probability 1/8. At the end it writes to the file REFUSE_SEEN how many it saw, how many it
-   refused, how many threads were started, how many of these were joined, and how many bytes the program has not given back.
-   Loaded with LD_PRELOAD. */
+   refused, how many threads were started, how many of these were joined, how many bytes the program has not given back, and
+   how many requests it saw between the last start of a thread and the first join. Loaded with LD_PRELOAD. */
 #define _GNU_SOURCE
 #include <dlfcn.h>
 #include <errno.h>
@@ -16,7 +16,8 @@
 #include <sys/syscall.h>
 #include <unistd.h>
 
-static atomic_long seen, refused, started, joined, held;
+static atomic_long seen, refused, started, joined, held, since_start;
+static atomic_int is_joining;
 static long refuse_at = -1, refuse_from, refuse_seed;
 static char *low, *high; /* where the program's own code lies */
 
@@ -50,8 +51,8 @@ __attribute__((destructor)) static void end(void) {
     const char *file = getenv("REFUSE_SEEN");
     if (!file) return;
     char text[160];
-    int length = snprintf(text, sizeof text, "%ld %ld %ld %ld %ld\n", atomic_load(&seen), atomic_load(&refused),
-                          atomic_load(&started), atomic_load(&joined), atomic_load(&held));
+    int length = snprintf(text, sizeof text, "%ld %ld %ld %ld %ld %ld\n", atomic_load(&seen), atomic_load(&refused),
+                          atomic_load(&started), atomic_load(&joined), atomic_load(&held), atomic_load(&since_start));
     int to = open(file, O_WRONLY | O_CREAT | O_TRUNC, 0644);
     if (to < 0) return;
     if (write(to, text, length) < 0) abort();
@@ -80,6 +81,7 @@ static int is_drawn(long request) {
 static int is_refused(void *caller) {
     if (!is_own(caller)) return 0;
     long request = atomic_fetch_add(&seen, 1) + 1;
+    if (!atomic_load(&is_joining)) atomic_fetch_add(&since_start, 1);
     int refuse = request == refuse_at || (refuse_from && request >= refuse_from) || (refuse_seed && is_drawn(request));
     if (refuse) atomic_fetch_add(&refused, 1);
     return refuse;
@@ -126,6 +128,7 @@ int pthread_create(pthread_t *thread, const pthread_attr_t *attributes, void *(*
     static int (*real)(pthread_t *, const pthread_attr_t *, void *(*)(void *), void *);
     if (!real) *(void **)&real = dlsym(RTLD_NEXT, "pthread_create");
     if (is_refused(__builtin_return_address(0))) return EAGAIN;
+    atomic_store(&since_start, 0);
     int status = real(thread, attributes, run, argument);
     if (status == 0) atomic_fetch_add(&started, 1);
     return status;
@@ -134,6 +137,7 @@ int pthread_create(pthread_t *thread, const pthread_attr_t *attributes, void *(*
 int pthread_join(pthread_t thread, void **value) {
     static int (*real)(pthread_t, void **);
     if (!real) *(void **)&real = dlsym(RTLD_NEXT, "pthread_join");
+    atomic_store(&is_joining, 1);
     int status = real(thread, value);
     if (status == 0) atomic_fetch_add(&joined, 1);
     return status;
