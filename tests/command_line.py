@@ -98,130 +98,56 @@ def bad_cell(row, column):
     return f"scene: row {row} cell {column} is not a cell"
 
 
-# What refuses a text; None where it is a scene.
-TEXTS = [
-    ("", MISSING),
-    ("gas = ", SYNTAX),
-    (b"\xff", SYNTAX),
-    ("[gas]\n", MISSING),
-    ('gas = "fhp1"', MISSING),
-    ('gas = "fhp1"\nchirality = "left"', MISSING),
-    ('gas = "fhp1"\nchirality = "left"\ncells = ["01"', SYNTAX),
-    ('gas = "fhp1"\nchirality = "both"\ncells = ["01"]', RANGE),
-    ('gas = "fhp1"\nseed = true\ncells = ["01"]', WRONG_TYPE),
-    ('gas = "fhp1"\ncells = ["01", 1]', WRONG_TYPE),
-    ('gas = "fhp1"\ncells = ["01"]\ncolour = 1', UNKNOWN_KEY),
-    ('gas = "fhp1"\nwidth = 4', MISSING),
-    ('gas = "fhp1"\nheight = 4', MISSING),
-    ('gas = "fhp1"\ngas.a = 1\ncells = ["01"]', SYNTAX),
-    ('gas = 1\ncells = ["01"]', WRONG_TYPE),
-    ('gas.a = 1\ncells = ["01"]', WRONG_TYPE),
-    ('gas = "fhp1"\ncells = ["0101", "0g"]', row_length(1)),
-    ('gas = "fhp1"\ncells = [' + '"..",' * 7 + '"....",]', row_length(7)),
-    ('gas = "fhp1"\ncells = [' + f'"{".." * 13}",' * 7 + f'"{".." * 12}0.",]', bad_cell(7, 12)),
-    # the first of several refusals, in their order
-    ("colour = 1\ngas = ", SYNTAX),
-    ('colour = 1\ncells = ["01"]\nwidth = 4', UNKNOWN_KEY),
-    ('cells = ["01"]\nwidth = 4', BOTH_FORMS),
-    ("cells = 1", MISSING),
-    ('gas = "fhp2"\ncells = [1]', WRONG_TYPE),
-    ('gas = "fhp2"\ncells = ["010"]', RANGE),
-    ('gas = "fhp1"\ncells = ["0g01", "0101", "01"]', row_length(2)),
-    ('gas = "fhp1"\ncells = ["0101", "010g", "0g01"]', bad_cell(1, 1)),
-    # the keys of an area
-    (STEPS + "rate = 1000", None),
-    (STEPS + "particles = [[1, 0, 1]]", RANGE),
-    (STEPS + "particles = [[0, 1, 63]]", None),
-    (STEPS + "particles = [[0, 1, 64]]", RANGE),
-    (AREA + "solid = [[3, 0, 1, 2]]", None),
-    (AREA + "solid = [[3, 0, 2, 1]]", RANGE),
-    (AREA + "solid = [[0, 1, 1, 2]]", RANGE),
-    (AREA + "solid = [[0, 0, 0, 1]]", RANGE),
-    (AREA + "solid = [[0, -1, 1, 1]]", RANGE),
-    (AREA + "solid = [[0, 0, 9223372036854775807, 1]]", RANGE),
-    (AREA + "solid = [[9223372036854775807, 0, 9223372036854775807, 1]]", RANGE),
-    (AREA + "particles = [[4, 0, 1]]", RANGE),
-    (AREA + "particles = [[-1, 0, 1]]", RANGE),
-    (AREA + "particles = [[0, 2, 1]]", RANGE),
-    (AREA + "particles = [[0, 0, -1]]", RANGE),
-    (AREA + "seed = -1", RANGE),
-    (AREA + "rate = -1", RANGE),
-    (AREA + "rate = 1001", RANGE),
-    (AREA + "rate = 1.0", WRONG_TYPE),
-    (AREA + "[[solid]]", WRONG_TYPE),
-    (AREA + "[x]", UNKNOWN_KEY),
-    (AREA + "solid = [[0, 0, 1]]", WRONG_TYPE),
-    (AREA + "solid = [[0, 0, 1, 1, 1]]", WRONG_TYPE),
-    (AREA + "particles = [[0, 0, 1, 1]]", WRONG_TYPE),
-    (AREA + "particles = [[0, 0]]", WRONG_TYPE),
-]
-
-# What stands beside a map of one cell, or an area. The version decides whether there may be a generation; what is no version counts as 1.
-VERSIONS = [
-    ("version = 1", None),
-    ("version = 2", None),
-    ("version = 0", RANGE),
-    ("version = 3", RANGE),
-    ("version = -2", RANGE),
-    ('version = "1"', WRONG_TYPE),
-    ('version = "2"', WRONG_TYPE),
-    ("version = 2.0", WRONG_TYPE),
-    ("generation = 3", UNKNOWN_KEY),
-    ("generation = 3\nversion = 1", UNKNOWN_KEY),
-    ("generation = 3\nversion = 3", UNKNOWN_KEY),
-    ('generation = 3\nversion = "2"', UNKNOWN_KEY),
-    ("generation = 3\nversion = 2", None),
-    ("generation = -1\nversion = 2", RANGE),
-    ("generation = 1000000000000\nversion = 2", None),
-    ("generation = 1000000000001\nversion = 2", RANGE),
-    ('generation = "1"\nversion = 2', WRONG_TYPE),
-]
-
-# The limits of each version: of an area, and of a map, whose rows are told by their lengths.
-SIDES = [
-    ("", 4096, 1, None),
-    ("", 4097, 1, RANGE),
-    ("", 1, 4096, None),
-    ("", 1, 4097, RANGE),
-    ("", 0, 1, RANGE),
-    ("", 1, -1, RANGE),
-    ("version = 1\n", 4097, 1, RANGE),
-    ("version = 2\n", 65536, 1, None),
-    ("version = 2\n", 65537, 1, RANGE),
-    ("version = 2\n", 1, 65536, None),
-    ("version = 2\n", 1, 65537, RANGE),
-    ("version = 2\n", 0, 1, RANGE),
-]
-MAPS = [
-    ("", 4096, 1, None),
-    ("", 4097, 1, row_length(0)),
-    ("", 1, 4096, None),
-    ("", 1, 4097, RANGE),
-    ("version = 2\n", 4097, 1, None),
-    ("version = 2\n", 65537, 1, row_length(0)),
-    ("version = 2\n", 1, 65537, RANGE),
-]
-
-# Two characters are a cell only if both are marks of one kind, or digits of a state that the gas has.
-CELLS = [
-    ("hpp", "##", None),
-    ("hpp", "..", None),
-    ("hpp", "#.", bad_cell(0, 0)),
-    ("hpp", ".#", bad_cell(0, 0)),
-    ("hpp", "..#0", bad_cell(0, 1)),
-    ("hpp", "##.0", bad_cell(0, 1)),
-    ("hpp", "0f", None),
-    ("hpp", "10", bad_cell(0, 0)),
-    ("fhp1", "3f", None),
-    ("fhp1", "40", bad_cell(0, 0)),
-    ("fhp1", "0A", bad_cell(0, 0)),
-    ("fhp1", "0g", bad_cell(0, 0)),
-    ("fhp1", "é.", row_length(0)),
-    ("fhp1", "é", bad_cell(0, 0)),
-    ("fhp1", "", row_length(0)),
-    ("fhp-rest", "7f", None),
-    ("fhp-rest", "80", bad_cell(0, 0)),
-]
+# What refuses texts, None if they are scenes: texts as they stand, which may have several faults, of which the first in the order counts;
+TEXTS = {
+    SYNTAX: ["gas = ", b"\xff", 'gas = "fhp1"\nchirality = "left"\ncells = ["01"', 'gas = "fhp1"\ngas.a = 1\ncells = ["01"]', "colour = 1\ngas = "],
+    UNKNOWN_KEY: [MAP + "colour = 1", 'colour = 1\ncells = ["01"]\nwidth = 4'],
+    BOTH_FORMS: ['cells = ["01"]\nwidth = 4'],
+    MISSING: ["", "[gas]\n", 'gas = "fhp1"', 'gas = "fhp1"\nchirality = "left"', 'gas = "fhp1"\nwidth = 4', 'gas = "fhp1"\nheight = 4', "cells = 1"],
+    WRONG_TYPE: [MAP + "seed = true", 'gas = "fhp1"\ncells = ["01", 1]', 'gas = 1\ncells = ["01"]', 'gas.a = 1\ncells = ["01"]',
+                 'gas = "fhp2"\ncells = [1]'],
+    RANGE: [MAP + 'chirality = "both"', 'gas = "fhp2"\ncells = ["010"]'],
+    row_length(1): ['gas = "fhp1"\ncells = ["0101", "0g"]'],
+    row_length(2): ['gas = "fhp1"\ncells = ["0g01", "0101", "01"]'],
+    row_length(7): ['gas = "fhp1"\ncells = [' + '"..",' * 7 + '"....",]'],
+    bad_cell(1, 1): ['gas = "fhp1"\ncells = ["0101", "010g", "0g01"]'],
+    bad_cell(7, 12): ['gas = "fhp1"\ncells = [' + f'"{".." * 13}",' * 7 + f'"{".." * 12}0.",]'],
+}
+# the keys of an area;
+AREAS = {
+    None: ["solid = [[3, 0, 1, 2]]", STEPS + "rate = 1000", STEPS + "particles = [[0, 1, 63]]"],
+    RANGE: [STEPS + "particles = [[1, 0, 1]]", STEPS + "particles = [[0, 1, 64]]", "solid = [[3, 0, 2, 1]]", "solid = [[0, 1, 1, 2]]",
+            "solid = [[0, 0, 0, 1]]", "solid = [[0, -1, 1, 1]]", "solid = [[0, 0, 9223372036854775807, 1]]",
+            "solid = [[9223372036854775807, 0, 9223372036854775807, 1]]", "particles = [[4, 0, 1]]", "particles = [[-1, 0, 1]]",
+            "particles = [[0, 2, 1]]", "particles = [[0, 0, -1]]", "seed = -1", "rate = -1", "rate = 1001"],
+    WRONG_TYPE: ["rate = 1.0", "[[solid]]", "solid = [[0, 0, 1]]", "solid = [[0, 0, 1, 1, 1]]", "particles = [[0, 0, 1, 1]]", "particles = [[0, 0]]"],
+    UNKNOWN_KEY: ["[x]"],
+}
+# what stands beside a map or an area: the version decides whether there may be a generation, and what is no version counts as 1;
+VERSIONS = {
+    None: ["version = 1", "version = 2", "generation = 3\nversion = 2", "generation = 1000000000000\nversion = 2"],
+    RANGE: ["version = 0", "version = 3", "version = -2", "generation = -1\nversion = 2", "generation = 1000000000001\nversion = 2"],
+    WRONG_TYPE: ['version = "1"', 'version = "2"', "version = 2.0", 'generation = "1"\nversion = 2'],
+    UNKNOWN_KEY: ["generation = 3", "generation = 3\nversion = 1", "generation = 3\nversion = 3", 'generation = 3\nversion = "2"'],
+}
+# the width and the height of an area, and the cells of a row and the rows of a map, by the most that a version allows;
+SIDES = {
+    None: lambda most: [(most, 1), (1, most)],
+    RANGE: lambda most: [(most + 1, 1), (1, most + 1), (0, 1), (1, 0), (1, -1)],
+}
+MAPS = {
+    None: lambda most: [(most, 1), (1, most)],
+    row_length(0): lambda most: [(most + 1, 1)],
+    RANGE: lambda most: [(1, most + 1)],
+}
+MOST_SIDE = {"": 4096, "version = 1\n": 4096, "version = 2\n": 65536}
+# and the cells of a row: two characters are a cell only if both are marks of one kind, or digits of a state that the gas has.
+CELLS = {
+    None: ["hpp ##", "hpp ..", "hpp 0f", "fhp1 3f", "fhp-rest 7f"],
+    bad_cell(0, 0): ["hpp #.", "hpp .#", "hpp 10", "fhp1 40", "fhp1 0A", "fhp1 0g", "fhp1 é", "fhp-rest 80"],
+    bad_cell(0, 1): ["hpp ..#0", "hpp ##.0"],
+    row_length(0): ["fhp1 é.", "fhp1 "],
+}
 
 # Rectangles that overlap, and their seams at whole blocks of 64 columns and whole groups of 64 blocks.
 RECTANGLES = [
@@ -236,15 +162,19 @@ WIDTHS = [1, 63, 64, 65, 127, 128, 4095, 4096, 4097, 4160, 8191, 8192, 65535, 65
 
 def scenes():
     """Each text of the tables, and what refuses it."""
-    yield from TEXTS
-    for (keys, wanted), form in itertools.product(VERSIONS, (MAP, AREA)):
-        yield form + keys, wanted
-    for version, width, height, wanted in SIDES:
-        yield f'{version}gas = "fhp1"\nwidth = {width}\nheight = {height}', wanted
-    for gas, row, wanted in CELLS:
-        yield f'gas = "{gas}"\ncells = ["{row}"]', wanted
-    for version, cells, rows, wanted in MAPS:
-        yield f'{version}gas = "fhp1"\ncells = [' + f'"{".." * cells}",' * rows + "]", wanted
+    for wanted, texts in TEXTS.items():
+        yield from ((text, wanted) for text in texts)
+    for wanted, texts in AREAS.items():
+        yield from ((text if text.startswith("gas") else AREA + text, wanted) for text in texts)
+    for wanted, keys in VERSIONS.items():
+        yield from ((form + key, wanted) for form in (MAP, AREA) for key in keys)
+    for wanted, rows in CELLS.items():
+        yield from (('gas = "{}"\ncells = ["{}"]'.format(*row.split(" ")), wanted) for row in rows)
+    for version, most in MOST_SIDE.items():
+        for wanted, sides in SIDES.items():
+            yield from ((f'{version}gas = "fhp1"\nwidth = {width}\nheight = {height}', wanted) for width, height in sides(most))
+        for wanted, sides in MAPS.items():
+            yield from ((f'{version}gas = "fhp1"\ncells = [' + f'"{".." * cells}",' * rows + "]", wanted) for cells, rows in sides(most))
 
 
 def rectangles():
