@@ -1,0 +1,61 @@
+"""What the experiments share: the way to the package, a command line, lines of output, and a fit."""
+import math
+import pathlib
+import sys
+import time
+
+sys.path.insert(0, str(pathlib.Path(__file__).resolve().parents[1] / "python"))
+
+import fhpgas
+from fhpgas.fault import Parser, number, one_line_faults, whole
+
+
+class Options(Parser):
+    """A command line whose faults are one line. `--small` chooses other defaults, with which the tests run the experiment."""
+
+    def __init__(self, text, *gases):
+        super().__init__(description=text, allow_abbrev=False)
+        self.is_small = "--small" in sys.argv[1:]
+        self.add_argument("--small", action="store_true", help="other defaults: a run of some seconds")
+        if gases:
+            self.add_argument("--gas", choices=gases, default=gases[0], help=f"default {gases[0]}")
+
+    def option(self, name, kind, default, small, text, **more):
+        value = small if self.is_small else default
+        shown = " ".join(map(str, value)) if isinstance(value, list) else value
+        self.add_argument(name, type=kind, default=value, help=f"{text}; default {shown}", **more)
+
+
+def experiment(main):
+    """Runs a script: a fault is one line and status 1; a terminal is told the seconds."""
+    begun = time.perf_counter()
+    with one_line_faults(pathlib.Path(sys.argv[0]).name):
+        main()
+    if sys.stderr.isatty():
+        print(f"{time.perf_counter() - begun:.1f} seconds", file=sys.stderr)
+
+
+def compare(name, values, theory, digits=3):
+    """Prints the mean of some values and its standard error, and what theory says."""
+    mean, error = fhpgas.mean(values)
+    print(f"{name:34} measured {mean:8.{digits}f} +- {error:.{digits}f}  theory {theory:8.{digits}f}")
+
+
+def wave(step, values, frequency, rate):
+    """The frequency and the rate of exp(-rate t) (A cos + B sin)(frequency t) that fit values at the times 0, step, 2 step .. best, from a guess:
+    one after the other they move to the lowest point of the parabola through three places."""
+    def residual(place):
+        basis = [[math.exp(-place[1] * step * n) * f(place[0] * step * n) for n in range(len(values))] for f in (math.cos, math.sin)]
+        (aa, ab, bb), (a, b) = [sum(map(float.__mul__, *pair)) for pair in ((basis[0], basis[0]), basis, (basis[1], basis[1]))], [
+            sum(map(float.__mul__, one, values)) for one in basis]
+        det = aa * bb - ab * ab
+        return sum(v * v for v in values) - (a * (a * bb - b * ab) + b * (b * aa - a * ab)) / det
+
+    place, widths = [frequency, rate], [frequency / 20, rate / 2]
+    for _ in range(60):
+        for k in (0, 1):
+            low, here, high = (residual([p + shift * widths[k] * (j == k) for j, p in enumerate(place)]) for shift in (-1, 0, 1))
+            bend = low + high - 2 * here
+            place[k] += widths[k] * max(-2, min(2, (low - high) / 2 / bend)) if bend > 0 else widths[k] * (1 if high < low else -1)
+            widths[k] *= 0.8
+    return place
