@@ -1,8 +1,8 @@
 //! The gas FHP-I.
 
-ghost use Rattle.std.specs.Prelude.{◌≡◌, ◌<◌, ◌≤◌, ◌^◌, ℕ, refl};
+ghost use Rattle.std.specs.Prelude.{◌≡◌, ◌<◌, ◌≤◌, ◌^◌, ℕ, true, refl};
 ghost use Rattle.gas_geom.specs.Fhp1.{fhp1};
-ghost use Rattle.gas_geom.specs.Laws.Trials.{IsGas-passed};
+ghost use Rattle.gas_geom.specs.Laws.Trials.{IsGas-passed, uses-chirality};
 
 use crate::gas::Gas;
 
@@ -17,11 +17,17 @@ impl Gas for Fhp1 {
 
     ghost DIRS = { 6 };
 
+    ghost USES_CHIRALITY = { true };
+
     const DIRS: u32 = 6;
+
+    const USES_CHIRALITY: bool = true;
 
     ghost dirs_are = { refl };
 
     ghost laws = { IsGas-passed fhp1 refl };
+
+    ghost ignores = { uses-chirality fhp1 };
 
     fn name() -> &'static str {
         "fhp1"

@@ -1,8 +1,8 @@
 //! The gas fhp-rest: FHP-I's lattice with particles at rest.
 
-ghost use Rattle.std.specs.Prelude.{◌≡◌, ◌<◌, ◌≤◌, ◌^◌, ℕ, refl};
+ghost use Rattle.std.specs.Prelude.{◌≡◌, ◌<◌, ◌≤◌, ◌^◌, ℕ, true, refl};
 ghost use Rattle.gas_geom.specs.FhpRest.{fhp_rest};
-ghost use Rattle.gas_geom.specs.Laws.Trials.{IsGas-passed};
+ghost use Rattle.gas_geom.specs.Laws.Trials.{IsGas-passed, uses-chirality};
 
 use crate::fhp1::Fhp1;
 use crate::gas::Gas;
@@ -20,11 +20,17 @@ impl Gas for FhpRest {
 
     ghost DIRS = { 7 };
 
+    ghost USES_CHIRALITY = { true };
+
     const DIRS: u32 = 7;
+
+    const USES_CHIRALITY: bool = true;
 
     ghost dirs_are = { refl };
 
     ghost laws = { IsGas-passed fhp_rest refl };
+
+    ghost ignores = { uses-chirality fhp_rest };
 
     fn name() -> &'static str {
         "fhp-rest"

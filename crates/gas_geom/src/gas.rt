@@ -1,8 +1,8 @@
 //! What a lattice gas is: its directions, its collisions and its momenta.
 
-ghost use Rattle.std.specs.Prelude.{◌≡◌, ◌<◌, ◌≤◌, ◌^◌, ℕ};
+ghost use Rattle.std.specs.Prelude.{◌≡◌, ◌<◌, ◌≤◌, ◌^◌, ℕ, Bool, false};
 ghost use Rattle.gas_geom.specs.Moves.{amount};
-ghost use Rattle.gas_geom.specs.Gas.{Rules, IsGas, holds};
+ghost use Rattle.gas_geom.specs.Gas.{Rules, IsGas, IgnoresChirality, holds};
 ghost use Rattle.gas_geom.specs.Planes.{set_at, ZeroFrom};
 
 /// A lattice gas. A direction is a number below `DIRS`, and a cell's state is the set of the
@@ -12,8 +12,13 @@ pub trait Gas {
 
     ghost DIRS: { ℕ };
 
+    ghost USES_CHIRALITY: { Bool };
+
     /// The number of directions, 1 to 8.
     const DIRS: u32;
+
+    /// Whether a collision looks at its random bit. If not, a stage draws none.
+    const USES_CHIRALITY: bool;
 
     /// The name.
     fn name() -> &'static str
@@ -54,4 +59,6 @@ pub trait Gas {
     ghost dirs_are: { rules.dirs ≡ DIRS };
 
     ghost laws: { IsGas rules };
+
+    ghost ignores: { USES_CHIRALITY ≡ false → IgnoresChirality rules };
 }

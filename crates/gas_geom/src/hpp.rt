@@ -1,6 +1,6 @@
 //! The gas HPP.
 
-ghost use Rattle.std.specs.Prelude.{◌≡◌, ◌<◌, ◌≤◌, ◌^◌, ℕ, refl};
+ghost use Rattle.std.specs.Prelude.{◌≡◌, ◌<◌, ◌≤◌, ◌^◌, ℕ, false, refl};
 ghost use Rattle.gas_geom.specs.Hpp.{hpp};
 ghost use Rattle.gas_geom.specs.Laws.Trials.{IsGas-passed};
 
@@ -16,11 +16,17 @@ impl Gas for Hpp {
 
     ghost DIRS = { 4 };
 
+    ghost USES_CHIRALITY = { false };
+
     const DIRS: u32 = 4;
+
+    const USES_CHIRALITY: bool = false;
 
     ghost dirs_are = { refl };
 
     ghost laws = { IsGas-passed hpp refl };
+
+    ghost ignores = { λ _ s chi chi'. refl };
 
     fn name() -> &'static str {
         "hpp"

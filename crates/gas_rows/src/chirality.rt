@@ -1,9 +1,8 @@
 //! The random bits of collisions, and those of one row.
 ghost use Rattle.std.specs.Prelude.{◌≡◌, ◌<◌, ◌≤◌, ◌+◌, ◌*◌, ℕ, length, map};
 ghost use Rattle.std.specs.List.{range_with_len};
-ghost use Rattle.rand_chacha.specs.ChaCha.{key_of};
-ghost use Rattle.gas_rows.specs.Key.{key_bytes};
-ghost use Rattle.gas_rows.specs.Chirality.{chirality_bit};
+ghost use Rattle.gas_rows.specs.Chirality.{chirality_bit, chirality_row};
+ghost use Rattle.gas_rows.specs.Inner.Key.{IsGeneratorOf};
 
 use crate::key::{generator_of, seek};
 use crate::mask::Mask;
@@ -37,12 +36,12 @@ pub fn chi_row(chirality: Chirality, generation: u64, y: u32, width: u32, out: &
 
 /// Writes the seeded random bits of row `y`. Each row begins at a key word of its own, so a
 /// generator that wrote the row above goes on where it ended.
+#[inline(never)]
 pub(crate) fn write_seeded_row(generator: &mut ChaCha20Rng, generation: u64, y: u32, out: &mut Mask)
     ensures wide { length out.new ≡ length out.old }
     ensures key { generator.new.key ≡ generator.old.key }
-    ensures bits { (seed : ℕ) → generator.old.key ≡ key_of (key_bytes seed) →
-        out.new ≡ map (λ x. chirality_bit (Chirality.Seeded seed) (length out.old) generation x y)
-        (range_with_len 0 (length out.old)) }
+    ensures bits { (chirality : Chirality) → IsGeneratorOf chirality generator.old →
+        out.new ≡ chirality_row chirality (length out.old) generation y }
 {
     let key_words = out.width().div_ceil(32);
     seek(generator, generation, u64::from(y) * u64::from(key_words));

@@ -1,99 +1,95 @@
 //! The random bits of one row after another, from one generator.
-ghost use Rattle.std.specs.Prelude.{◌≡◌, ◌≤◌, ℕ, length, map, replicate, IfOk};
-ghost use Rattle.std.specs.List.{range_with_len};
-ghost use Rattle.gas_rows.specs.Chirality.{chirality_bit};
+ghost use Rattle.std.specs.Prelude.{◌≡◌, ◌≤◌, ◌<◌, ℕ, length, map, slice_index_or, false, IfOk};
+ghost use Rattle.gas_rows.specs.Chirality.{chirality_bit, chirality_row};
 
 use crate::chirality::{Chirality, write_seeded_row};
 use crate::key::generator_of;
 use crate::mask::Mask;
+use gas_geom::gas::Gas;
 use rand_chacha::ChaCha20Rng;
 use std::alloc::{AllocError, Global};
 use std::marker::Model;
 
 /// The random bits of the row that was drawn last. Rows cost least when they are drawn from the top
-/// down, since each then goes on in the block of the key stream where the row above ended.
+/// down, because each then continues in the block of the key stream where the row above ended.
 #[derive(Drop)]
 pub struct RandomBits {
+    chirality: Chirality,
     bits: Mask,
-    // The value that all bits have; None where they may differ.
-    uniform: Option<bool>,
-    seed: u64,
-    generator: ChaCha20Rng,
+    // Only seeded bits are drawn; others are the same in every row.
+    generator: Option<ChaCha20Rng>,
 }
 
 impl Model for RandomBits {
-    ghost use Rattle.std.specs.Prelude.{◌≡◌, Bool, List, Some, length, replicate};
-    ghost use Rattle.rand_chacha.specs.ChaCha.{key_of};
-    ghost use Rattle.gas_rows.specs.Key.{key_bytes};
+    ghost use Rattle.std.specs.Prelude.{◌≡◌, ℕ, length};
+    ghost use Rattle.std.specs.Option.{ForSome, ForNone};
+    ghost use Rattle.gas_rows.specs.Chirality.{RandomBitsModel, chirality_row};
+    ghost use Rattle.gas_rows.specs.Inner.Key.{IsGeneratorOf};
 
-    ghost Value = { List Bool };
+    ghost Value = { RandomBitsModel };
 
-    ghost view = { λ r. r.bits };
+    ghost view = { λ r. record { chirality = r.chirality; bits = r.bits } };
 
     ghost invariant = { λ r. record {
-      key : r.generator.key ≡ key_of (key_bytes r.seed);
-      uniform : (b : Bool) → r.uniform ≡ Some b → r.bits ≡ replicate (length r.bits) b;
+      drawn : ForSome r.generator (IsGeneratorOf r.chirality);
+      alike : ForNone r.generator ((g y : ℕ) → r.bits ≡ chirality_row r.chirality (length r.bits) g y);
     } };
 }
 
 impl RandomBits {
-    /// Returns the bits of a row of 1 to 65536 cells, before any was drawn.
-    pub fn new(alloc: Global, width: u32) -> Result<Self, AllocError>
+    /// Returns the random bits of rows of 1 to 65536 cells. No row is drawn yet.
+    pub fn new(alloc: Global, chirality: Chirality, width: u32) -> Result<Self, AllocError>
         requires some_cells { 1 ≤ width }
         requires few_cells { width ≤ 65536 }
-        ensures wide { IfOk result (λ r. length r ≡ width) }
+        ensures chirality { IfOk result (λ r. r.chirality ≡ chirality) }
+        ensures wide { IfOk result (λ r. length r.bits ≡ width) }
     {
+        let mut bits = Mask::blank(alloc, width)?;
+        let generator = match chirality {
+            Chirality::Seeded(seed) => Some(generator_of(seed)),
+            Chirality::Left => {
+                bits.fill(true);
+                None
+            }
+            Chirality::Right => None,
+        };
         Ok(RandomBits {
-            bits: Mask::blank(alloc, width)?,
-            uniform: Some(false),
-            seed: 0,
-            generator: generator_of(0),
+            chirality,
+            bits,
+            generator,
         })
     }
 
     /// Returns the bits that were drawn last.
     pub fn mask(&self) -> &Mask
-        ensures bits { result.now ≡ self.now }
+        ensures bits { result.now ≡ self.now.bits }
     {
         &self.bits
     }
 
-    /// Draws the random bits of row `y`, for the step from `generation` to the next.
+    /// Draws the random bits of row `y`, for the step from `generation` to the next, if the
+    /// collisions of the gas use them.
     #[inline(always)]
-    pub fn draw(&mut self, chirality: Chirality, generation: u64, y: u32)
-        ensures wide { length self.new ≡ length self.old }
-        ensures bits { self.new
-            ≡ map (λ x. chirality_bit chirality (length self.old) generation x y)
-            (range_with_len 0 (length self.old)) }
+    pub fn draw_for<G: Gas>(&mut self, generation: u64, y: u32)
+        ensures chirality { self.new.chirality ≡ self.old.chirality }
+        ensures wide { length self.new.bits ≡ length self.old.bits }
+        ensures collisions { (s x : ℕ) → x < length self.old.bits →
+            G.rules.collide s (slice_index_or self.new.bits x false)
+            ≡ G.rules.collide s
+            (chirality_bit self.old.chirality (length self.old.bits) generation x y) }
     {
-        match chirality {
-            Chirality::Seeded(seed) => self.draw_seeded(seed, generation, y),
-            Chirality::Left => self.fill(true),
-            Chirality::Right => self.fill(false),
+        if G::USES_CHIRALITY {
+            self.draw(generation, y);
         }
     }
 
-    #[inline(never)]
-    fn draw_seeded(&mut self, seed: u64, generation: u64, y: u32)
-        ensures wide { length self.new ≡ length self.old }
-        ensures bits { self.new
-            ≡ map (λ x. chirality_bit (Chirality.Seeded seed) (length self.old) generation x y)
-            (range_with_len 0 (length self.old)) }
+    fn draw(&mut self, generation: u64, y: u32)
+        ensures chirality { self.new.chirality ≡ self.old.chirality }
+        ensures bits { self.new.bits
+            ≡ chirality_row self.old.chirality (length self.old.bits) generation y }
     {
-        if self.seed != seed {
-            self.seed = seed;
-            self.generator = generator_of(seed);
-        }
-        self.uniform = None;
-        write_seeded_row(&mut self.generator, generation, y, &mut self.bits);
-    }
-
-    fn fill(&mut self, value: bool)
-        ensures { self.new ≡ replicate (length self.old) value }
-    {
-        if self.uniform != Some(value) {
-            self.bits.fill(value);
-            self.uniform = Some(value);
+        if let Some(generator) = &mut self.generator {
+            write_seeded_row(generator, generation, y, &mut self.bits);
         }
     }
 }

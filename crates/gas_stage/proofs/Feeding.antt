@@ -1,13 +1,13 @@
 -- What one more row, and the flush, bring to a stage that computes. The rows that it holds are the last two of those fed,
 -- collided; with the next row they are the rows about the last but one, so streaming gives that row of the next lattice.
-use Rattle.std.proofs.Common.{◌≡◌, ℕ, ◌+◌, ◌-◌, ◌<◌, ◌≤◌, Bool, true, false, if◌then◌else◌, ◌==◌, Option, Some, None, List, [], ◌∷◌, ◌++◌, map, take, length, get_or, ap, ◌∙◌, sym, refl, subst, arith, eq-eqb, IsSome, unwrap_or}
-use Rattle.std.specs.List.{range_with_len}
+use Rattle.std.proofs.Common.{◌≡◌, ℕ, ◌+◌, ◌-◌, ◌<◌, ◌≤◌, Bool, true, false, if◌then◌else◌, ◌==◌, Option, Some, None, List, [], ◌∷◌, ◌++◌, take, length, get_or, ap, ◌∙◌, sym, refl, subst, arith, eq-eqb, IsSome, unwrap_or}
 use Rattle.std.proofs.lemmas.List.{length-append, take-take}
 use Rattle.std.proofs.lemmas.List.FromFn.{get_or-map-range_with_len}
 use Rattle.gas_geom.specs.Gas.{Rules}
 use Rattle.gas_geom.specs.Channel.{ChannelModel, is_solid}
 use Rattle.gas_geom.specs.Lattice.{cell, row_of, streamed, next}
 use Rattle.gas_rows.specs.Chirality.{chirality_bit}
+use Rattle.gas_rows.specs.declared.chirality.Chirality.{Chirality}
 use Rattle.gas_stage.specs.Streaming.{IsRowAt, AreRowsAbout}
 use Rattle.gas_stage.specs.declared.stage.Pass.{Pass}
 use Rattle.gas_stage.specs.declared.stage.Pass.TheVariants.{Closed, Passing, Computing}
@@ -25,22 +25,21 @@ length-push : (q : List (List ℕ)) (row : List ℕ) → length (q ++ row ∷ []
 length-push q row = length-append q (row ∷ [])
 
 module _ (gas : Rules) (c : ChannelModel) (chi : ℕ → ℕ → Bool) (q : List (List ℕ)) where
-  -- the row that was fed, collided
+  -- the row that was fed, collided by random bits that make no difference from those of its cells
   collided_row-push : (row : List ℕ) (solid bits : List Bool) (y : ℕ) → y ≡ length q → length row ≡ c.width →
-      solid ≡ get_or c.solid y [] → bits ≡ map (λ x. chi x y) (range_with_len 0 c.width) →
+      solid ≡ get_or c.solid y [] →
+      ((s x : ℕ) → x < c.width → gas.collide s (get_or bits x false) ≡ gas.collide s (chi x y)) →
       collided_row gas solid bits row ≡ collided_at gas c chi (q ++ row ∷ []) y
-  collided_row-push row solid bits y here wide solid_is bits_are =
+  collided_row-push row solid bits y here wide solid_is collides =
       ap (λ n. row_of n (λ x. if get_or solid x false then 0 else gas.collide (get_or row x 0) (get_or bits x false))) wide
       ∙ range-cong
       (λ x. if get_or solid x false then 0 else gas.collide (get_or row x 0) (get_or bits x false))
       (λ x. collided_of gas c chi (q ++ row ∷ []) x y) c.width 0
       (λ x h.
       let set : get_or row x 0 ≡ cell (q ++ row ∷ []) x y = sym (cell-push_at q row x y here) in
-      let bit : get_or bits x false ≡ chi x y =
-      ap (λ (l : List Bool). get_or l x false) bits_are ∙ get_or-map-range_with_len (λ x'. chi x' y) 0 c.width x x false h (omega arith) in
       ap (λ (l : List Bool). if get_or l x false then 0 else gas.collide (get_or row x 0) (get_or bits x false)) solid_is
       ∙ ap (λ v. if is_solid c x y then 0 else gas.collide v (get_or bits x false)) set
-      ∙ ap (λ b. if is_solid c x y then 0 else gas.collide (cell (q ++ row ∷ []) x y) b) bit)
+      ∙ ap (λ v. if is_solid c x y then 0 else v) (collides (cell (q ++ row ∷ []) x y) x h))
 
   -- a row that was fed before stays as it was
   collided_at-push : (row : List ℕ) (y : ℕ) → y < length q → collided_at gas c chi q y ≡ collided_at gas c chi (q ++ row ∷ []) y
@@ -183,7 +182,8 @@ module _ (gas : Rules) (s old : StageModel) (view : s ≡ old) where
       (collides : fed_row ≡ collided_row gas solid bits row)
       (solid_is : solid ≡ get_or s.channel.solid s.fed [])
       (width_is : width ≡ length row)
-      (bits_are : bits ≡ map (λ x. chirality_bit s.chirality width gen x s.fed) (range_with_len 0 width))
+      (collides_alike : (set x : ℕ) → x < width →
+      gas.collide set (get_or bits x false) ≡ gas.collide set (chirality_bit s.chirality width gen x s.fed))
       (wide : length row ≡ old.channel.width) where
     wide_here : length row ≡ s.channel.width
     wide_here = wide ∙ ap (λ (v : StageModel). v.channel.width) (sym view)
@@ -196,19 +196,22 @@ module _ (gas : Rules) (s old : StageModel) (view : s ≡ old) where
     collides-push g q fits =
         let chi : ℕ → ℕ → Bool = chirality_bit s.chirality s.channel.width g in
         let w : width ≡ s.channel.width = width_is ∙ wide_here in
-        let bits_here : bits ≡ map (λ x. chi x s.fed) (range_with_len 0 s.channel.width) =
-        bits_are ∙ (λ t. map (λ x. chirality_bit s.chirality (w t) (same_pass g fits.pass t) x s.fed) (range_with_len 0 (w t))) in
         collides
-        ∙ collided_row-push gas s.channel chi q row solid bits s.fed fits.fed wide_here solid_is bits_here
+        ∙ collided_row-push gas s.channel chi q row solid bits s.fed fits.fed wide_here solid_is
+        (λ set x h.
+        collides_alike set x (omega (arith, w))
+        ∙ (λ t. gas.collide set (chirality_bit s.chirality (w t) (same_pass g fits.pass t) x s.fed)))
         ∙ ap (collided_at gas s.channel chi (q ++ row ∷ [])) fits.fed
 
-    pub feed-fits : (p : Option ℕ) (q : List (List ℕ)) (before_last : List ℕ) → Fits gas old p q →
-        (0 < s.fed → before_last ≡ s.last) →
-        Fits gas (record s { fed = s.fed + 1; before_last = before_last; last = fed_row }) p (q ++ row ∷ [])
-    feed-fits None q before_last fits moved = absurd (let e = (here None q fits).pass in cc)
-    feed-fits (Some g) q before_last fits moved =
+    pub feed-fits : (p : Option ℕ) (q : List (List ℕ)) (chirality : Chirality) (before_last : List ℕ) → Fits gas old p q →
+        chirality ≡ s.chirality → (0 < s.fed → before_last ≡ s.last) →
+        Fits gas (record s { chirality = chirality; fed = s.fed + 1; before_last = before_last; last = fed_row }) p (q ++ row ∷ [])
+    feed-fits None q chirality before_last fits same moved = absurd (let e = (here None q fits).pass in cc)
+    feed-fits (Some g) q chirality before_last fits same moved =
         let now = here (Some g) q fits in
-        fits-push gas s g q now row fed_row (collides-push g q now) before_last (λ one. moved (omega (arith, now.fed)))
+        subst (λ v. Fits gas (record s { chirality = v; fed = s.fed + 1; before_last = before_last; last = fed_row }) (Some g) (q ++ row ∷ []))
+        (sym same)
+        (fits-push gas s g q now row fed_row (collides-push g q now) before_last (λ one. moved (omega (arith, now.fed))))
 
     pub feed-gives : (p : Option ℕ) (q : List (List ℕ)) (out : List ℕ) → Fits gas old p q → 0 < s.fed → s.fed < s.channel.height →
         ((at : ℕ → ℕ → ℕ) → AreRowsAbout s.channel at (s.fed - 1) s.before_last s.last fed_row →

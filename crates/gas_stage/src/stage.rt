@@ -29,10 +29,9 @@ enum Pass {
 #[derive(Drop)]
 pub struct Stage<'a, G: Gas> {
     channel: &'a Channel,
-    chirality: Chirality,
     pass: Pass,
     fed: u32,
-    chi: RandomBits,
+    random_bits: RandomBits,
     // The last rows that were fed, collided. Once the row below the oldest of them has been
     // streamed, the oldest is read no more, and the next row that is given takes its memory.
     oldest: Row<G>,
@@ -52,7 +51,7 @@ impl<'a, G: Gas> Model for Stage<'a, G> {
 
     ghost view = { λ s. record {
       channel = s.channel.now;
-      chirality = s.chirality;
+      chirality = s.random_bits.chirality;
       pass = open_pass s.pass;
       fed = s.fed;
       before_last = s.before_last;
@@ -60,7 +59,7 @@ impl<'a, G: Gas> Model for Stage<'a, G> {
     } };
 
     ghost invariant = { λ s. record {
-      chi_wide : length s.chi ≡ s.channel.now.width;
+      bits_wide : length s.random_bits.bits ≡ s.channel.now.width;
       oldest_wide : length s.oldest ≡ s.channel.now.width;
       before_last_wide : length s.before_last ≡ s.channel.now.width;
       last_wide : ForSome s.last (λ r. length r ≡ s.channel.now.width);
@@ -90,10 +89,9 @@ impl<'a, G: Gas> Stage<'a, G> {
         let width = channel.size().width();
         Ok(Stage {
             channel,
-            chirality,
             pass: Pass::Closed,
             fed: 0,
-            chi: RandomBits::new(alloc, width)?,
+            random_bits: RandomBits::new(alloc, chirality, width)?,
             oldest: Row::blank(alloc, width)?,
             before_last: Row::blank(alloc, width)?,
             last: None,
@@ -137,8 +135,8 @@ impl<'a, G: Gas> Stage<'a, G> {
         let Pass::Computing(generation) = self.pass else {
             return Some(row);
         };
-        self.chi.draw(self.chirality, generation, y);
-        collide_row(&mut row, self.channel.mask(y), self.chi.mask());
+        self.random_bits.draw_for::<G>(generation, y);
+        collide_row(&mut row, self.channel.mask(y), self.random_bits.mask());
         let Some(last) = self.last.take() else {
             self.last = Some(row);
             return None;

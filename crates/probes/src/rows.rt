@@ -7,6 +7,7 @@ use gas_geom::fhp1::Fhp1;
 use gas_geom::size::Size;
 use gas_pipe::plain_belt::PlainBelt;
 use gas_rows::channel::Channel;
+use gas_rows::chirality::Chirality;
 use gas_rows::lattice::Lattice;
 use gas_rows::mask::Mask;
 use gas_rows::random_bits::RandomBits;
@@ -106,7 +107,7 @@ fn copy_of_mask(alloc: Global, mask: &Mask) -> Outcome {
 }
 
 fn random_bits(alloc: Global) -> Outcome {
-    match RandomBits::new(alloc, 70) {
+    match RandomBits::new(alloc, Chirality::Seeded(0), 70) {
         Ok(bits) => Outcome::of_answer(bits.mask().width() == 70),
         Err(_) => Outcome::Refused,
     }

@@ -6,7 +6,7 @@ use Rattle.std.specs.Ordering.{int_eq}
 use Rattle.std.proofs.lemmas.Bool.{agree_below, agree_below_at, and_parts, eqb-true, ltb-true}
 use Rattle.std.proofs.lemmas.Bool.Decides.{Decides-int_eq}
 use Rattle.gas_geom.specs.Moves.{Move, Back, Stay, On}
-use Rattle.gas_geom.specs.Gas.{Rules, IsGas, particles, momentum_of}
+use Rattle.gas_geom.specs.Gas.{Rules, IsGas, IgnoresChirality, particles, momentum_of}
 use Rattle.gas_geom.specs.Laws.Steps.{reversed, odd_after, neighbour-back}
 
 -- a test that holds at each number below n, which computes at a written-out n
@@ -15,6 +15,10 @@ holds_below test n = agree_below test (λ _. true) n
 
 pub each_below : (test : ℕ → Bool) (n k : ℕ) → holds_below test n ≡ true → k < n → test k ≡ true
 each_below test n k passes h = agree_below_at test (λ _. true) n k passes h
+
+-- nothing is asked of a gas that uses its random bit
+pub uses-chirality : (gas : Rules) → true ≡ false → IgnoresChirality gas
+uses-chirality gas e = absurd (cc)
 
 -- ---- equal numbers, small numbers, equal steps
 same_ℤ : (x y : ℤ) → int_eq x y ≡ true → x ≡ y

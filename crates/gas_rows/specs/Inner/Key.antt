@@ -1,10 +1,19 @@
 -- Inner words: what functions of this crate promise one another. No public contract cites them.
--- The bits that a generator of the key stream draws next.
-use Rattle.std.specs.Prelude.{ℕ, ◌+◌, ◌/◌, ◌%◌, Bool}
-use Rattle.rand_chacha.specs.ChaCha.{ChaCha, word_at}
+-- Generators of the key stream, and the bits that they draw next.
+use Rattle.std.specs.Prelude.{◌≡◌, ℕ, ◌+◌, ◌/◌, ◌%◌, Bool}
+use Rattle.rand_chacha.specs.ChaCha.{ChaCha, word_at, key_of}
 use Rattle.gas_geom.specs.Gas.{holds}
+use Rattle.gas_rows.specs.Key.{key_bytes}
+use Rattle.gas_rows.specs.declared.chirality.Chirality.{Chirality}
+use Rattle.gas_rows.specs.declared.chirality.Chirality.TheVariants.{Seeded, Left, Right}
 
 -- bit x of those that come next, 32 to a word of the key stream, the least first
 abbrev pub drawn_bit : ChaCha → ℕ → Bool
 drawn_bit generator x =
     holds (word_at 10 generator.key generator.stream (generator.word_pos + x / 32)) (x % 32)
+
+-- seeded bits come from a generator under the key of their seed, and others from none
+abbrev pub IsGeneratorOf : Chirality → ChaCha → Type 0
+IsGeneratorOf (Seeded seed) generator = generator.key ≡ key_of (key_bytes seed)
+IsGeneratorOf Left generator = ⊥
+IsGeneratorOf Right generator = ⊥

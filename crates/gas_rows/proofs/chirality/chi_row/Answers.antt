@@ -1,6 +1,7 @@
 use Rattle.std.proofs.Common.{true, false, replicate, map, sym, ap, ap₂, ◌∙◌}
 use Rattle.std.specs.List.{range_with_len}
 use Rattle.gas_rows.specs.Chirality.{chirality_bit}
+use Rattle.gas_rows.specs.declared.chirality.Chirality.TheVariants.{Seeded}
 use Rattle.gas_rows.proofs.Masks.{replicate-map}
 use Rattle.gas_rows.proofs.chirality.chi_row.Goals as goal
 
@@ -18,5 +19,5 @@ returns-in-Right-clause-bits c =
 
 pub returns-in-Seeded-clause-bits : goal.returns-in-Seeded-clause-bits
 returns-in-Seeded-clause-bits c =
-    c.write_seeded_row.ensures.bits c.in-Seeded.seed c.generator_of.ensures
+    c.write_seeded_row.ensures.bits (Seeded c.in-Seeded.seed) c.generator_of.ensures
     ∙ ap₂ (λ q n. map (λ x. chirality_bit q n c.args.generation x c.args.y) (range_with_len 0 n)) (sym c.in-Seeded.is) c.requires.wide

@@ -4,7 +4,7 @@ use Rattle.rand_chacha.specs.ChaCha.{ChaCha, word_at}
 use Rattle.std.specs.Int.{div_ceil}
 use Rattle.gas_geom.specs.Gas.{holds}
 use Rattle.gas_rows.specs.Chirality.{chirality_bit}
-use Rattle.gas_rows.specs.declared.chirality.Chirality.TheVariants.{Seeded}
+use Rattle.gas_rows.specs.declared.chirality.Chirality.TheVariants.{Seeded, Left, Right}
 use Rattle.gas_rows.specs.Key.{key_word}
 use Rattle.gas_rows.proofs.Masks.{map-same}
 use Rattle.gas_rows.proofs.chirality.write_seeded_row.Goals as goal
@@ -14,7 +14,9 @@ returns-clause-wide c = ap (λ (cells : List Bool). length cells) c.draw.ensures
 
 pub returns-clause-bits : goal.returns-clause-bits
 unfolding key_word
-returns-clause-bits c seed key =
+returns-clause-bits c Left none = absurd none
+returns-clause-bits c Right none = absurd none
+returns-clause-bits c (Seeded seed) key =
     let width = length c.args.out.now in
     let first_is : c.from.result * c.from-2.result ≡ c.args.y * div_ceil width 32 =
     ap₂ (λ a b. a * b) c.from.ensures (c.from-2.ensures ∙ c.div_ceil-key_words.ensures ∙ ap (λ w. div_ceil w 32) c.width.ensures.value) in

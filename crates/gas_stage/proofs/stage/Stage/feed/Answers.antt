@@ -1,4 +1,4 @@
-use Rattle.std.proofs.Common.{◌≡◌, ◌-◌, ◌<◌, ℕ, List, length, ap, ◌∙◌, sym, subst}
+use Rattle.std.proofs.Common.{◌≡◌, ◌-◌, ◌<◌, ℕ, Bool, false, List, length, get_or, ap, ◌∙◌, sym, subst}
 use Rattle.gas_stage.specs.Streaming.{AreRowsAbout}
 use Rattle.gas_stage.specs.Inner.Passes.{open_pass}
 use Rattle.gas_stage.specs.Stage.{StageModel}
@@ -7,32 +7,38 @@ use Rattle.gas_stage.proofs.stage.Stage.feed.Goals as goal
 
 pub returns-in_default-take-clause-fits : goal.returns-in_default-take-clause-fits
 returns-in_default-take-clause-fits g c = λ p q fits.
-    let wide : length c.self.inside.chi ≡ length c.args.row =
-    c.self.invariant.chi_wide ∙ ap (λ (v : StageModel). v.channel.width) c.self.view_is ∙ sym c.requires.wide in
-    feed-fits g.G.Gas.rules _ c.args.self.now c.self.view_is c.in-Computing.generation (length c.self.inside.chi) c.args.row c.collide_row.new.row
+    let wide : length c.self.inside.random_bits.bits ≡ length c.args.row =
+    c.self.invariant.bits_wide ∙ ap (λ (v : StageModel). v.channel.width) c.self.view_is ∙ sym c.requires.wide in
+    feed-fits g.G.Gas.rules _ c.args.self.now c.self.view_is c.in-Computing.generation (length c.self.inside.random_bits.bits) c.args.row c.collide_row.new.row
     c.mask.result.now c.mask-2.result.now (ap open_pass c.in-Computing.is) c.collide_row.ensures.collided c.mask.ensures.row
-    wide (c.mask-2.ensures.bits ∙ c.draw.ensures.bits) c.requires.wide p q c.self.inside.before_last fits
+    wide
+    (λ set x h. ap (λ (bits : List Bool). g.G.Gas.rules.collide set (get_or bits x false)) c.mask-2.ensures.bits ∙ c.draw_for.ensures.collisions set x h)
+    c.requires.wide p q c.draw_for.new.self.chirality c.self.inside.before_last fits c.draw_for.ensures.chirality
     (λ some. absurd (nothing_there c.self.inside.last c.in_default-take.ensures.value
     (c.self.invariant.computing c.in-Computing.generation c.in-Computing.is some)))
 
 pub returns-clause-fits : goal.returns-clause-fits
 returns-clause-fits g c = λ p q fits.
-    let wide : length c.self.inside.chi ≡ length c.args.row =
-    c.self.invariant.chi_wide ∙ ap (λ (v : StageModel). v.channel.width) c.self.view_is ∙ sym c.requires.wide in
-    feed-fits g.G.Gas.rules _ c.args.self.now c.self.view_is c.in-Computing.generation (length c.self.inside.chi) c.args.row c.collide_row.new.row
+    let wide : length c.self.inside.random_bits.bits ≡ length c.args.row =
+    c.self.invariant.bits_wide ∙ ap (λ (v : StageModel). v.channel.width) c.self.view_is ∙ sym c.requires.wide in
+    feed-fits g.G.Gas.rules _ c.args.self.now c.self.view_is c.in-Computing.generation (length c.self.inside.random_bits.bits) c.args.row c.collide_row.new.row
     c.mask.result.now c.mask-2.result.now (ap open_pass c.in-Computing.is) c.collide_row.ensures.collided c.mask.ensures.row
-    wide (c.mask-2.ensures.bits ∙ c.draw.ensures.bits) c.requires.wide p q c.replace-above.new.dest fits
+    wide
+    (λ set x h. ap (λ (bits : List Bool). g.G.Gas.rules.collide set (get_or bits x false)) c.mask-2.ensures.bits ∙ c.draw_for.ensures.collisions set x h)
+    c.requires.wide p q c.draw_for.new.self.chirality c.replace-above.new.dest fits c.draw_for.ensures.chirality
     (λ some. c.replace-above.ensures.after ∙ there-unwrap c.self.inside.last c.in-Some.last c.in-Some.ensures.value)
 
 pub returns-clause-gives : goal.returns-clause-gives
 returns-clause-gives g c = λ p q fits.
-    let wide : length c.self.inside.chi ≡ length c.args.row =
-    c.self.invariant.chi_wide ∙ ap (λ (v : StageModel). v.channel.width) c.self.view_is ∙ sym c.requires.wide in
+    let wide : length c.self.inside.random_bits.bits ≡ length c.args.row =
+    c.self.invariant.bits_wide ∙ ap (λ (v : StageModel). v.channel.width) c.self.view_is ∙ sym c.requires.wide in
     let some = c.in-Some.ensures.value in
     let held = there-unwrap c.self.inside.last c.in-Some.last some in
-    feed-gives g.G.Gas.rules _ c.args.self.now c.self.view_is c.in-Computing.generation (length c.self.inside.chi) c.args.row c.collide_row.new.row
+    feed-gives g.G.Gas.rules _ c.args.self.now c.self.view_is c.in-Computing.generation (length c.self.inside.random_bits.bits) c.args.row c.collide_row.new.row
     c.mask.result.now c.mask-2.result.now (ap open_pass c.in-Computing.is) c.collide_row.ensures.collided c.mask.ensures.row
-    wide (c.mask-2.ensures.bits ∙ c.draw.ensures.bits) c.requires.wide p q c.stream-given.result fits
+    wide
+    (λ set x h. ap (λ (bits : List Bool). g.G.Gas.rules.collide set (get_or bits x false)) c.mask-2.ensures.bits ∙ c.draw_for.ensures.collisions set x h)
+    c.requires.wide p q c.stream-given.result fits
     (c.self.invariant.last_fed (there c.self.inside.last c.in-Some.last some))
     (subst (λ (v : StageModel). v.fed < v.channel.height) (sym c.self.view_is) c.requires.room)
     (λ at about. c.stream-given.ensures.streamed at
