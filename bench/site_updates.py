@@ -6,12 +6,11 @@ Under a seed it also makes the random bits of as many updates alone.
 
 Every program takes its turn in each round; a figure is the best of the rounds, and behind it how many times longer the worst one
 took. What reading and printing cost is taken off by a run of no generation. All must print the same cells. All are built for the
-level of the processor that the program was built for. Have nothing else running, but for B busy programs that it starts itself.
+level of the processor that the program was built for. Have nothing else running.
 Programs that keep a byte a cell compute a twentieth of the generations, and numpy a two-hundredth; their cells are compared with
 those of bands.c.
 """
 import argparse
-import contextlib
 import hashlib
 import importlib.util
 import os
@@ -46,18 +45,6 @@ def build(room):
         words = ["-O3", "-march=" + level, "-pthread", "-o", room / name, ROOT / f"bench/{name}.c"]
         subprocess.run(["cc", *words], check=True)
     return level
-
-
-@contextlib.contextmanager
-def busy_programs(count):
-    """Has a number of other programs keep a processor busy each."""
-    programs = [subprocess.Popen([sys.executable, "-c", "while True: pass"]) for _ in range(count)]
-    try:
-        yield
-    finally:
-        for program in programs:
-            program.kill()
-            program.wait()
 
 
 def timed(words, given, out):
@@ -159,7 +146,6 @@ class Bench:
 def main():
     words = argparse.ArgumentParser(description=__doc__, formatter_class=argparse.RawDescriptionHelpFormatter)
     words.add_argument("--rounds", type=int, default=3)
-    words.add_argument("--busy", type=int, default=0, metavar="B")
     words.add_argument("--stages", type=numbers, default=[1, 2, 3, 4, 8, 16, 32], metavar="N,N..")
     words.add_argument("--capacities", type=numbers, default=[2, 32, 128], metavar="C,C..")
     words.add_argument("lattices", nargs="*", default=LATTICES, metavar="WIDTHxHEIGHTxGENERATIONS[:left|seeded]")
@@ -167,13 +153,11 @@ def main():
     with tempfile.TemporaryDirectory() as folder:
         room = pathlib.Path(folder)
         level = build(room)
-        beside = f", beside {options.busy} busy programs" if options.busy else ""
-        print(f"{os.cpu_count()} processors, built for {level}, best of {options.rounds}{beside}")
+        print(f"{os.cpu_count()} processors, built for {level}, best of {options.rounds}")
         for lattice in options.lattices:
             bench = Bench(room, lattice, options)
-            with busy_programs(options.busy):
-                for _ in range(options.rounds):
-                    bench.round()
+            for _ in range(options.rounds):
+                bench.round()
             bench.table()
 
 

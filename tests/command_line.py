@@ -295,17 +295,6 @@ def fault(case, room):
     return f"{words[:12]} on {text[:200]!r}: {wanted!r:.300} was expected, and came {came!r:.300}"
 
 
-def resumed(room):
-    """Three generations and then four of what was printed print what seven do."""
-    for gas, chirality in itertools.product(("fhp1", "hpp", "fhp-rest"), ("left", "right", "seeded")):
-        keys = f'gas = "{gas}"\nchirality = "{chirality}"\nseed = 7\n'
-        scene = keys + "width = 67\nheight = 9\nrate = 400\nsolid = [[20, 2, 3, 4], [66, 8, 1, 1]]\n"
-        runs = {count: answer([PROGRAM, "run", "--generations", str(count), "--stages", "2"], scene, room)[1] for count in (3, 7)}
-        head, *rows = runs[3].splitlines()
-        later = f"version = 2\n{keys}generation = {head.split()[1]}\ncells = {rows}\n"
-        yield [PROGRAM, "run", "--generations", "4"], later, 0, runs[7] if len(rows) == 9 else SOMETHING, ""
-
-
 def main():
     with tempfile.TemporaryDirectory() as folder, concurrent.futures.ThreadPoolExecutor(os.cpu_count()) as pool:
         room = pathlib.Path(folder)
@@ -314,7 +303,6 @@ def main():
         (room / "wide").write_text(WIDE)
         cases = [([PROGRAM, *words], *case) for words, *case in programs()]
         cases += [(["bash", "-c", line], "", *wanted) for line, *wanted in STREAMS]
-        cases += resumed(room)
         faults = [found for found in pool.map(lambda case: fault(case, room), cases) if found]
     for found in faults:
         print(f"FAILED: {found}")
