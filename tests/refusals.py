@@ -60,7 +60,7 @@ class Ended:
                 ran = subprocess.run(words, stdin=text, capture_output=True, env=environment, timeout=SECONDS)
             numbers = seen.read().split()
         self.status, self.out, self.err = ran.returncode, ran.stdout, ran.stderr
-        self.seen, self.refused, self.started, self.joined, self.held, self.since_start = map(int, numbers or [-1] * 6)
+        self.seen, self.refused, self.started, self.joined, self.held, self.since_start, self.asked = map(int, numbers or [-1] * 7)
 
     def is_tidy(self):
         return self.started == self.joined and self.held == 0
@@ -99,6 +99,15 @@ def as_many(library, name, runs):
     seen = {Ended(library, words, scene, {}).seen for words, scene in runs}
     count(len(seen) == 1, f"{name}: requests {sorted(seen)}")
     print(f"{name}: {sorted(seen)} requests")
+
+
+def holds_places(library, scene, row_bytes):
+    """Belts of a line with 512 places more each ask for as many rows more of memory."""
+    for stages in 1, 2, 5:
+        words = [PROGRAM, "run", "--generations", "3", "--stages", str(stages), "--capacity"]
+        few, many = (Ended(library, [*words, places], scene, {}).asked for places in ("512", "1024"))
+        least = 512 * (stages + 1) * row_bytes
+        count(least <= many - few < 2 * least, f"{stages + 1} belts with 512 places more ask for {many - few} bytes more, and not for {least}")
 
 
 def run_within(limit, words, text):
@@ -141,6 +150,7 @@ def main():
             draw(pool, library, f"{scene} {words}", [PROGRAM, *words.split()], TOP / f"scenes/{scene}.toml")
         drift = TOP / "scenes/drift.toml"
         words = ["run", "--stages", "2", "--generations"]
+        holds_places(library, drift, 6 * 8)  # a row of four cells: a word for each direction
         as_many(library, "5, 50 and 5000 generations", [([PROGRAM, *words, str(many)], drift) for many in (5, 50, 5000)])
         as_many(library, "run_2 and run_2_long", [([PROBES, call], os.devnull) for call in ("run_2", "run_2_long")])
     limits()

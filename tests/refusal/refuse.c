@@ -1,8 +1,9 @@
 /* Refuses requests for memory and for threads, which are the calls of malloc, realloc and pthread_create that the program
    itself makes; what its libraries ask for is let through. REFUSE_AT=n refuses the n-th, REFUSE_FROM=n that and all after it,
    and REFUSE_SEED=s each with probability 1/8. At the end it writes to the file REFUSE_SEEN how many it saw, how many it
-   refused, how many threads were started, how many of these were joined, how many bytes the program has not given back, and
-   how many requests it saw between the last start of a thread and the first join. Loaded with LD_PRELOAD. */
+   refused, how many threads were started, how many of these were joined, how many bytes the program has not given back, how many
+   requests it saw between the last start of a thread and the first join, and how many bytes were asked for in all. Loaded with
+   LD_PRELOAD. */
 #define _GNU_SOURCE
 #include <dlfcn.h>
 #include <errno.h>
@@ -16,7 +17,7 @@
 #include <sys/syscall.h>
 #include <unistd.h>
 
-static atomic_long seen, refused, started, joined, held, since_start;
+static atomic_long seen, refused, started, joined, held, since_start, asked;
 static atomic_int is_joining;
 static long refuse_at = -1, refuse_from, refuse_seed;
 static char *low, *high; /* where the program's own code lies */
@@ -50,9 +51,10 @@ __attribute__((constructor)) static void begin(void) {
 __attribute__((destructor)) static void end(void) {
     const char *file = getenv("REFUSE_SEEN");
     if (!file) return;
+    const atomic_long *told[] = {&seen, &refused, &started, &joined, &held, &since_start, &asked};
     char text[160];
-    int length = snprintf(text, sizeof text, "%ld %ld %ld %ld %ld %ld\n", atomic_load(&seen), atomic_load(&refused),
-                          atomic_load(&started), atomic_load(&joined), atomic_load(&held), atomic_load(&since_start));
+    int length = 0;
+    for (size_t i = 0; i < sizeof told / sizeof *told; i++) length += sprintf(text + length, "%ld ", atomic_load(told[i]));
     int to = open(file, O_WRONLY | O_CREAT | O_TRUNC, 0644);
     if (to < 0) return;
     if (write(to, text, length) < 0) abort();
@@ -87,8 +89,11 @@ static int is_refused(void *caller) {
     return refuse;
 }
 
-static void *kept(void *caller, void *block) {
-    if (block && is_own(caller)) atomic_fetch_add(&held, (long)malloc_usable_size(block));
+static void *kept(void *caller, void *block, size_t size) {
+    if (block && is_own(caller)) {
+        atomic_fetch_add(&held, (long)malloc_usable_size(block));
+        atomic_fetch_add(&asked, (long)size);
+    }
     return block;
 }
 
@@ -105,7 +110,7 @@ void *malloc(size_t size) {
         errno = ENOMEM;
         return 0;
     }
-    return kept(__builtin_return_address(0), __libc_malloc(size));
+    return kept(__builtin_return_address(0), __libc_malloc(size), size);
 }
 
 void free(void *block) {
@@ -120,8 +125,8 @@ void *realloc(void *old, size_t size) {
     }
     size_t before = old ? malloc_usable_size(old) : 0;
     void *block = __libc_realloc(old, size);
-    if (block && is_own(__builtin_return_address(0))) atomic_fetch_add(&held, (long)malloc_usable_size(block) - (long)before);
-    return block;
+    if (block && is_own(__builtin_return_address(0))) atomic_fetch_sub(&held, (long)before);
+    return kept(__builtin_return_address(0), block, size);
 }
 
 int pthread_create(pthread_t *thread, const pthread_attr_t *attributes, void *(*run)(void *), void *argument) {
