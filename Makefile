@@ -17,16 +17,16 @@ $(if $(filter archive,$(MAKECMDGOALS)),$(if $(FILE),,$(error usage: make archive
 kit := $(patsubst %/START-HERE.md,%,$(shell rt doc 2> /dev/null))
 processors := $(shell nproc)
 
-# A proof takes up to 3 GB. There is room for two more proofs than processors, because some give way to the others.
+# A proof takes up to 3 GB. There are two more than processors at a time, because the end of a proof is one processor's.
 MAKEFLAGS += --no-print-directory -j$(shell awk -v most=$$(($(processors) + 2)) \
     '/^MemAvailable/ { n = int($$2 / 3e6); print (n < 1 ? 1 : (n > most ? most : n)) }' /proc/meminfo)
 unexport MAKEFLAGS
 
-# The order in which crates begin. Those of the longest chains come first, and take all processors; the others take one and give way.
+# The order in which crates begin: those first for which the longest chains of others wait. A crate that has several processors is
+# proved sooner with a third more work, so the two that have time take one.
 order := gas_geom gas_bits gas_rows gas_tool_cli gas_layout gas_cells gas_scene gas_belt gas_stage gas_pipe_model gas_pipe_members \
-    gas_pipe_run gas_tool_perform fhpgas
-yields = $(filter gas_tool_cli,$@)$(if $(is_program),,$(filter-out $(order),$@))
-jobs = $(if $(yields)$(filter gas_scene,$@),1,$(processors))
+    gas_pipe_run gas_pipe_replay gas_tool_io gas_tool_perform fhpgas
+jobs = $(if $(filter gas_tool_cli gas_scene,$@),1,$(processors))
 
 # From crates.txt, in which lower crates stand first: uses_NAME is what the line of a crate names, own_NAME what of that is built here,
 # and below_NAME all built here that it stands on.
@@ -79,7 +79,7 @@ $(names):
 	fi
 	trap 'kill $${!-} 2> /dev/null || :; rm -rf $(new)' EXIT
 	rm -rf $(new) $(sums) && mkdir -p $(new)
-	nice -n $(if $(yields),10,0) $(kit)/bin/rattle build $(if $(is_program),$(program),$(library)) $(flags) > out/build.log 2>&1 < /dev/null &
+	$(kit)/bin/rattle build $(if $(is_program),$(program),$(library)) $(flags) > out/build.log 2>&1 < /dev/null &
 	wait $$! || { echo "crate $@ was not built; the end of its log:"; tail -n 20 out/build.log; exit 1; } >&2
 	[ "$$(sum)" = "$$sum" ] || { echo "crate $@: a file that its proof reads changed meanwhile" >&2; exit 1; }
 	$(if $(is_program),$(link))
