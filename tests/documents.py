@@ -37,7 +37,7 @@ def tried(document):
         for name, path in {"fhpgas": PROGRAM, **{name: needs.ROOT / name for name in ("scenes", "python", "experiments")}}.items():
             (pathlib.Path(room) / name).symlink_to(path)
         for (kind, commands), (after, text) in zip(blocks, blocks[1:] + [("", "")]):
-            if kind == "sh" and NUMPY.search(commands) and not HAS_NUMPY:
+            if kind == "sh" and NUMPY.search(commands) and not needs.HAS_NUMPY:
                 yield None, None
             elif kind == "sh":
                 yield commands, fault(commands, text if after == "text" else None, room)
@@ -55,5 +55,4 @@ def main():
     return 1 if failed or not passed else 0
 
 
-HAS_NUMPY = needs.numpy()
 sys.exit(main())

@@ -1,5 +1,5 @@
 """What the scripts beside this one need. If it is missing, a script says so in one line and ends with 2. They may import the package in
-python/."""
+python/. A script that imports this module goes on in the system's Python if that has numpy and its own has not."""
 
 import importlib.util
 import os
@@ -36,21 +36,16 @@ def compiled(source, made, *words):
     subprocess.run(["cc", "-Wall", "-o", made, ROOT / source, *words], check=True)
 
 
-def numpy():
-    """Whether there is numpy. If this Python lacks it and the system's has it, the script goes on in the system's, which then is also the
-    `python3` of commands."""
-    if importlib.util.find_spec("numpy"):
-        return True
-    if sys.executable != SYSTEM and subprocess.run([SYSTEM, "-c", "import numpy"], stderr=subprocess.DEVNULL).returncode == 0:
-        os.environ["PATH"] = f"{os.path.dirname(SYSTEM)}:{os.environ['PATH']}"
-        os.execv(SYSTEM, [SYSTEM, *sys.argv])
-    return False
-
-
 def left_out(count):
     """What a script adds to its counts if parts of it need numpy and there is none."""
     return f", {count} left out, because numpy is missing: apt-get install python3-numpy" if count else ""
 
 
+if not importlib.util.find_spec("numpy") and sys.executable != SYSTEM:
+    asks = "import numpy, sys; sys.exit(sys.version_info < (3, 11))"
+    if os.path.exists(SYSTEM) and subprocess.run([SYSTEM, "-c", asks], stderr=subprocess.DEVNULL).returncode == 0:
+        os.environ["PATH"] = f"{os.path.dirname(SYSTEM)}:{os.environ['PATH']}"  # for the `python3` of commands
+        os.execv(SYSTEM, [SYSTEM, *sys.argv])
+HAS_NUMPY = importlib.util.find_spec("numpy") is not None
 if sys.version_info < (3, 11):
     stop("this Python is too old: run it by Python 3.11 or later")
