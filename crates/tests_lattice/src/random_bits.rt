@@ -7,15 +7,28 @@ use std::alloc::Global;
 use std::process::Abort;
 use std::test::Fail;
 
-// RFC 8439, appendix A.1, test vector 1: the key and the stream are zero.
+// At this place of the stream stand these words.
+fn has_words(rt: &impl Abort, seed: u64, stream: u64, place: u32, wanted: [u32; 4]) {
+    let mut words = [0u32; 4];
+    key_words(seed, stream, u64::from(place), &mut words);
+    assert!(rt;
+        words == wanted,
+        "seed {seed}, stream {stream}, place {place}"
+    );
+}
+
+// RFC 8439, appendix A.1: test vector 1, at its places 0 and 2; 4, whose key and counter are not
+// zero (a block has 16 places); and 5, whose nonce is not, in the upper half of the stream's number.
 #[test]
 fn the_key_stream_is_that_of_the_standard(rt: HostRuntime) {
-    let mut words = [0u32; 4];
-    key_words(0, 0, 0, &mut words);
-    assert!(rt; words == [0xade0_b876, 0x903d_f1a0, 0xe56a_5d40, 0x28bd_8653]);
-    let mut later = [0u32; 2];
-    key_words(0, 0, 2, &mut later);
-    assert!(rt; later == [0xe56a_5d40, 0x28bd_8653]);
+    let first = [0xade0_b876, 0x903d_f1a0, 0xe56a_5d40, 0x28bd_8653];
+    has_words(&rt, 0, 0, 0, first);
+    let later = [0xe56a_5d40, 0x28bd_8653, 0xb819_d2bd, 0x1aed_8da0];
+    has_words(&rt, 0, 0, 2, later);
+    let fourth = [0xfb4d_d572, 0x4bc4_2ef1, 0xdf92_2636, 0x327f_1394];
+    has_words(&rt, 0xff00, 0, 32, fourth);
+    let fifth = [0x374d_c6c2, 0x3736_d58c, 0xb904_e24a, 0xcd3f_93ef];
+    has_words(&rt, 0, 2 << 56, 0, fifth);
 }
 
 // Of the first eight cells of row `y` and of cell 32 these have the random bit 1 at seed 0.
