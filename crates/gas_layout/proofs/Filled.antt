@@ -3,12 +3,12 @@ use Rattle.std.proofs.Common.{◌≡◌, ℕ, zero, suc, ◌+◌, ◌^◌, ◌<�
 use Rattle.std.proofs.lemmas.Bool.Decides.{nat_tests}
 use Rattle.std.proofs.lemmas.List.FromFn.{get_or-map-range_with_len, length-map-range_with_len}
 use Rattle.gas_geom.specs.Gas.{Rules}
-use Rattle.gas_geom.specs.Lattice.{LatticeModel, set_of, row_of}
+use Rattle.gas_geom.specs.Lattice.{LatticeModel, set_of, row_of, empty_lattice}
 use Rattle.gas_geom.proofs.Holds.{set_of-lt}
 use Rattle.gas_rows.proofs.Lattices.{fluid_state}
-use Rattle.gas_layout.specs.Layout.{lattice_of, filled, filling}
+use Rattle.gas_layout.specs.Layout.{channel_of, lattice_of, filled, filling}
 use Rattle.gas_layout.specs.Inner.Steps.{filled_before}
-use Rattle.gas_layout.proofs.Grids.{value-rows_of, rows_of-set_row, lattice_of-same, if_same}
+use Rattle.gas_layout.proofs.Grids.{value-rows_of, rows_of-set_row, rows_of-replicate, lattice_of-same, if_same}
 use Rattle.gas_layout.proofs.Steps.{before-here, before-other, before-none, before-all}
 
 pub set_of-filled-below : (n seed rate width x y : ℕ) → set_of n (filled seed rate width x y) < 2 ^ n
@@ -43,6 +43,13 @@ nothing false n none = sym none
 -- the lattice with states for the fluid cells of row y
 abbrev pub with_states : LatticeModel → ℕ → List ℕ → LatticeModel
 with_states l y states = record l { rows = set l.rows y (row_of l.channel.width (fluid_state l.channel y states)) }
+
+-- an empty lattice by its solid cells
+pub no_particles : (w h : ℕ) (solid : ℕ → ℕ → Bool) (l : LatticeModel) → l ≡ empty_lattice l.channel → l.channel ≡ channel_of w h solid
+    → l ≡ lattice_of w h solid (λ _ _. 0)
+no_particles w h solid l empty is =
+    empty ∙ ap empty_lattice is
+    ∙ ap (λ rows. record { channel = channel_of w h solid; rows = rows }) (rows_of-replicate w h (λ _ _. 0) 0 (λ _ _. refl))
 
 module _ (gas : Rules) (seed rate w h : ℕ) (solid : ℕ → ℕ → Bool) where
   abbrev state : ℕ → ℕ → ℕ

@@ -4,7 +4,8 @@
 ghost use Rattle.std.specs.Prelude.{◌≡◌, ℕ, ◌+◌, ◌*◌, ◌%◌, ◌<◌, ◌≤◌, ◌^◌, Bool, length, slice_index, OnOk, OnErr, nat_lt, if◌then◌else◌};
 ghost use Rattle.gas_geom.specs.Size.{IsSize};
 ghost use Rattle.gas_geom.specs.declared.size.TheConstants.{MOST_SIDE};
-ghost use Rattle.gas_layout.specs.Layout.{lattice_of, filled, filling};
+ghost use Rattle.gas_geom.specs.Lattice.{empty_lattice};
+ghost use Rattle.gas_layout.specs.Layout.{channel_of, lattice_of, filled, filling};
 ghost use Rattle.gas_layout.specs.Inner.Steps.{filled_before};
 
 use gas_geom::gas::Gas;
@@ -15,24 +16,13 @@ use std::alloc::{AllocError, Global};
 // The number of the key stream that fills direction 0.
 const FIRST_STREAM: u64 = 1 << 63;
 
-// Just above 2^64 / 1000.
-const SCALE: u64 = u64::MAX / 1000 + 1;
-
-// Whether a word is a particle at the rate, by one multiplication: SCALE takes the word 1000 q + r
-// to 384 q + SCALE r modulo 2^64, and 384 q is below SCALE.
-fn is_particle(word: u32, rate: u32) -> bool
-    ensures { result ≡ nat_lt (word % 1000) rate }
-{
-    u64::from(word).wrapping_mul(SCALE) < u64::from(rate).saturating_mul(SCALE)
-}
-
-// The bit of direction `i` where a word is a particle at the rate, and else 0. There is no branch:
-// the processor would guess it wrong for random words.
+// The bit of direction `i` if a word is a particle at the rate, and else 0. There is no branch,
+// because a processor mispredicts branches on random words.
 fn particle(word: u32, rate: u32, i: u32) -> u8
     requires { i < 8 }
     ensures { result ≡ (if nat_lt (word % 1000) rate then 2 ^ i else 0) }
 {
-    u8::from(is_particle(word, rate)) << i
+    u8::from(word % 1000 < rate) << i
 }
 
 // Adds direction `i` to the states of row `y` where filling puts a particle into it; `words` is a
@@ -130,9 +120,9 @@ fn fill_rows<G: Gas>(
 }
 
 /// Fills the fluid cells of a lattice with no particles at a rate in thousandths, 0 to 1000:
-/// direction `i` of the cell `(x, y)` gets a particle where the word at place `y * width + x` of
-/// stream `2^63 + i` of the seed's key stream, modulo 1000, is below the rate. Where memory is
-/// refused the lattice is as it was.
+/// direction `i` of the cell `(x, y)` gets a particle if the word at place `y * width + x` of
+/// stream `2^63 + i` of the seed's key stream, modulo 1000, is below the rate. If memory is
+/// refused, the lattice is unchanged.
 pub fn fill<G: Gas>(
     alloc: Global,
     lattice: &mut Lattice<G>,
@@ -140,9 +130,11 @@ pub fn fill<G: Gas>(
     rate: u32,
 ) -> Result<(), AllocError>
     requires size { IsSize lattice.old.channel.width lattice.old.channel.height }
+    requires empty { lattice.old ≡ empty_lattice lattice.old.channel }
+    requires rate { rate ≤ 1000 }
     ensures channel { lattice.new.channel ≡ lattice.old.channel }
     ensures cells { OnOk result ((w h : ℕ) (solid : ℕ → ℕ → Bool)
-        → lattice.old ≡ lattice_of w h solid (λ _ _. 0)
+        → lattice.old.channel ≡ channel_of w h solid
         → lattice.new
         ≡ lattice_of w h solid (λ x y. if solid x y then 0 else filling G.rules seed rate w x y)) }
     ensures refused { OnErr result (lattice.new ≡ lattice.old) }

@@ -10,11 +10,10 @@ use Rattle.toml.specs.Data.{Data}
 use Rattle.toml.specs.View.{view}
 use Rattle.toml.specs.declared.value.Value.{Value}
 use Rattle.gas_geom.specs.Gas.{Rules}
-use Rattle.gas_geom.specs.Lattice.{empty_lattice}
 use Rattle.gas_layout.specs.declared.rectangle.Rectangle.{Rectangle}
 use Rattle.gas_layout.specs.declared.placement.Placement.{Placement}
 use Rattle.gas_layout.specs.Layout.{is_covered, fits, is_index, can_place, drawn, lattice_of, filling, placed}
-use Rattle.gas_layout.proofs.Grids.{value-rows_of, rows_of-replicate}
+use Rattle.gas_layout.proofs.Grids.{value-rows_of}
 use Rattle.gas_scene.specs.Table.{AreaModel, rectangle_of, placement_of}
 use Rattle.gas_scene.specs.Scene.{area_lattice}
 use Rattle.gas_scene.specs.Inner.Areas.{solid_in, can_stand}
@@ -33,10 +32,6 @@ passes_at test vs k v all within is = ap test is ∙ AllPass-from_list_all test 
 pub placed-more : (ps : List Placement) (p : Placement) (x y s : ℕ) → placed (p ∷ []) x y (placed ps x y s) ≡ placed (ps ++ p ∷ []) x y s
 placed-more [] p x y s = refl
 placed-more (q ∷ ps) p x y s = placed-more ps p x y (if int_eq q.x (pos x) && int_eq q.y (pos y) then nat_abs q.state else s)
-
--- a channel of rectangles with no particle
-pub lattice_of-drawn : (w h : ℕ) (rs : List Rectangle) → empty_lattice (drawn w h rs) ≡ lattice_of w h (λ x y. is_covered rs (pos x) (pos y)) (λ _ _. 0)
-lattice_of-drawn w h rs = ap (λ rows. record { channel = drawn w h rs; rows = rows }) (rows_of-replicate w h (λ _ _. 0) 0 (λ _ _. refl))
 
 pub area_lattice-is : (gas : Rules) (seed rate : ℕ) (a : AreaModel) → rate ≡ nat_abs a.rate
     → lattice_of (nat_abs a.width) (nat_abs a.height) (λ x y. is_covered a.solid (pos x) (pos y))

@@ -1,8 +1,8 @@
 use Rattle.std.proofs.Common.{◌≡◌, ℕ, Bool, pos, nat_abs, ap, ◌∙◌, if◌then◌else◌}
-use Rattle.gas_geom.specs.Lattice.{empty_lattice}
-use Rattle.gas_layout.specs.Layout.{is_covered, lattice_of, filling}
+use Rattle.gas_geom.specs.Lattice.{LatticeModel}
+use Rattle.gas_layout.specs.Layout.{is_covered, channel_of, filling}
 use Rattle.gas_scene.specs.Inner.Shown.{area_shown}
-use Rattle.gas_scene.proofs.Areas.{lattice_of-drawn, area_lattice-is}
+use Rattle.gas_scene.proofs.Areas.{area_lattice-is}
 use Rattle.gas_scene.proofs.area_form.area_lattice.Goals as goal
 
 pub returns : goal.returns
@@ -12,8 +12,8 @@ returns g c =
     let w = nat_abs a.width in
     let h = nat_abs a.height in
     let solid : ℕ → ℕ → Bool = λ x y. is_covered a.solid (pos x) (pos y) in
-    let made : c.in_ok-lattice.lattice ≡ lattice_of w h solid (λ _ _. 0) =
-    c.in_ok-lattice.ensures.value ∙ ap empty_lattice c.requires.drawn ∙ lattice_of-drawn w h a.solid in
+    let made : c.in_ok-lattice.lattice.channel ≡ channel_of w h solid =
+    ap (λ (l : LatticeModel). l.channel) c.in_ok-lattice.ensures.value ∙ c.requires.drawn in
     c.place_all.ensures w h solid (λ x y. if solid x y then 0 else filling gas c.args.seed c.rate.result w x y)
     (c.in_ok-fill.ensures.cells w h solid made)
     ∙ area_lattice-is gas c.args.seed c.rate.result a c.rate.ensures
