@@ -37,7 +37,7 @@ def experiment(main):
 
 def compare(name, values, theory, digits=3):
     """Prints the mean of some values and its standard error, and what theory says."""
-    mean, error = fhpgas.mean(values)
+    mean, error, theory = (round(value, digits) + 0.0 for value in (*fhpgas.mean(values), theory))  # without a sign of 0
     print(f"{name:34} measured {mean:8.{digits}f} +- {error:.{digits}f}  theory {theory:8.{digits}f}")
 
 

@@ -3,8 +3,9 @@
 
 At the start the filling of a row is d (1 + a cos k y), k = pi / height, and the gas is at rest. The amplitude of this cosine in the density
 swings and dies away; exp(-D k^2 t) (A cos(c k t) + B sin(c k t)) is fitted to it. Theory: the same fit to the noise-free Boltzmann
-equation of the same channel. In hpp a second wave runs along the diagonals, where sound is as fast and has no damping at all. Published:
-c = 1 / sqrt 2 or sqrt(3/7), D = (viscosity + bulk viscosity) / 2 (Frisch and others, Complex Systems 1 (1987) 649).
+equation of the same channel. In hpp a second wave stands along the diagonals, on which every particle of two directions keeps its place in
+the wave: sound is as fast there, without noise or damping. Published for a long wave: c = 1 / sqrt 2, in fhp-rest sqrt(3/7), and
+D = (viscosity + bulk viscosity) / 2 (Frisch and others, Complex Systems 1 (1987) 649).
 """
 import math
 
@@ -30,15 +31,12 @@ def amplitude(shape, density):
 
 def measured(asked, shape, seed):
     """The amplitude after each STEP generations."""
-    width = asked.width // len(shape[0])
-    filling = [[asked.density * (1 + AMPLITUDE * s) for s in row * width] if len(row) > 1 else asked.density * (1 + AMPLITUDE * row[0]) for row in shape]
-    scene = fhpgas.gas(filling, size=(width * len(shape[0]), len(shape)), gas=asked.gas, seed=seed)
-    found = []
-    for cells, _ in fhpgas.series(scene, [STEP] * SAMPLES):
-        rows = cells.table(1 if len(shape[0]) > 1 else asked.width, 1).particles
-        folded = [[sum(row[x :: len(shape[0])]) for x in range(len(shape[0]))] for row in rows]
-        found.append(amplitude(shape, folded))
-    return found
+    filling = [[asked.density * (1 + AMPLITUDE * s) for s in row] for row in shape]
+    is_flat = len(shape[0]) == 1
+    width, block = (asked.width, 4096) if is_flat else (len(shape[0]), 1)
+    scene = fhpgas.gas([row[0] for row in filling] if is_flat else filling, size=(width, len(shape)), gas=asked.gas, seed=seed)
+    tables = (cells.table(block, 1).particles for cells, _ in fhpgas.series(scene, [STEP] * SAMPLES))
+    return [amplitude(shape, [[sum(row)] if is_flat else row for row in rows]) for rows in tables]
 
 
 def predicted(asked, shape):
@@ -54,7 +52,7 @@ def predicted(asked, shape):
 def main():
     reader = common.Options(__doc__, "fhp1", "fhp-rest", "hpp")
     reader.option("--density", common.number(0.05, 0.9), 0.3, 0.3, "the filling d", metavar="D")
-    reader.option("--height", common.whole(16, 512), 128, 48, "rows")
+    reader.option("--height", common.whole(16, 512), 128, 32, "rows")
     reader.option("--width", common.whole(256, 65536), 4096, 2048, "columns")
     reader.option("--seeds", common.whole(2, 1000), 8, 4, "how many")
     asked = reader.parse_args()

@@ -1,56 +1,70 @@
 #!/usr/bin/env python3
-"""A vortex street behind a cylinder: its Strouhal number, and a picture of the vorticity.
+"""A vortex street behind a cylinder: its Strouhal number, and a picture of its vorticity.
 
-fhp-rest, d = 0.18, flows past a disc in a channel ten diameters long, and is kept at its mean speed by turning particles. The flow across
-is measured one to two diameters behind the disc; its changes of sign give the period T, and St = D / (T g u). Reynolds numbers
-are g u D / viscosity. A free cylinder has St = 0.212 (1 - 21.2 / Re) (A. Roshko, NACA Report 1191, 1954), and vortices from Re = 47 on; a
-channel raises both, and here the wake meets the disc again. Four cores take about two minutes.
+The gas fhp-rest, d = 0.18, flows past a disc of diameter D in a channel 20 D long and 5.5 D high. Its mean speed u is kept by turning
+particles (`fhpgas.driven`). The flow across is measured one to two D behind the disc. Half a period T is the time from one change of
+its sign to the next, in the last two thirds of the run; its error is the standard error over these. St = D / (T g u) and
+Re = g u D / viscosity, since a flow is carried along by g u. Beside it stands a free cylinder, St = 0.212 (1 - 21.2 / Re) (A. Roshko, NACA
+Report 1191, 1954), which sheds vortices from Re = 47 on; the walls of a channel raise St.
 """
+import math
+
 import common
 import fhpgas
 
-GAS, DENSITY = "fhp-rest", 0.18
+GAS, DENSITY, FIRST = "fhp-rest", 0.18, 47
 
 
 def options():
     reader = common.Options(__doc__)
-    reader.option("--radius", common.whole(4, 400), 100, 12, "of the disc, in cells")
-    reader.option("--flow", common.number(0.02, 0.35), 0.3, 0.3, "the mean velocity", metavar="U")
-    reader.option("--generations", common.whole(100, 1_000_000), 60_000, 600, "in all")
-    reader.option("--every", common.whole(1, 10_000), 500, 50, "from one turning to the next")
+    reader.option("--radius", common.whole(8, 400), 80, 16, "of the disc, in cells")
+    reader.option("--flow", common.number(0.02, 0.35), 0.3, 0.15, "the mean speed u", metavar="U")
+    reader.option("--parts", common.whole(6, 10_000), 60, 10, "from one turning of particles to the next")
+    reader.option("--part", common.whole(10, 10_000), 1000, 50, "generations of a part")
     reader.option("--seed", common.whole(0, 2**31), 1, 1, "of the gas")
     reader.add_argument("--picture", metavar="FILE", help="write the vorticity at the end as a PNG")
     return reader
 
 
 def across(cells, column, row, radius):
-    """The mean velocity northwards behind the disc."""
+    """The mean velocity northwards one to two diameters behind the middle of the disc."""
     rows = cells.rows[row - radius // 2 : row + radius // 2]
-    behind = fhpgas.Cells(cells.generation, 0, tuple(line[column + 3 * radius : column + 5 * radius] for line in rows), cells.gas)
-    return behind.table(4096, 4096).velocity()[1][0][0]
+    behind = tuple(line[column + 2 * radius : column + 4 * radius] for line in rows)
+    return fhpgas.Cells(0, 0, behind, cells.gas).table(4096, 4096).velocity()[1][0][0]
 
 
-def crossings(times, values):
-    """The times at which a series changes its sign, by straight lines between its points."""
-    pairs = zip(times, times[1:], values, values[1:])
-    return [s - a * (t - s) / (b - a) for s, t, a, b in pairs if a * b < 0]
+def crossings(step, values):
+    """The times at which a series changes its sign, on straight lines between its points."""
+    pairs = enumerate(zip(values, values[1:]))
+    return [step * (n + a / (a - b)) for n, (a, b) in pairs if a * b < 0]
 
 
 def main():
     asked = options().parse_args()
-    radius, width = asked.radius, 40 * asked.radius
-    height = 2 * round(5.5 * radius / fhpgas.gas_named(GAS).row_distance)
-    column, row = 5 * radius, height // 2 + radius // 20
-    solid = fhpgas.Obstacles(width, height, GAS).disc(column, row, radius)
-    scene = fhpgas.gas(DENSITY, asked.flow, solid=solid, gas=GAS, seed=asked.seed)
-    points, last = [], None
-    for point in fhpgas.driven(scene, asked.generations, asked.every, flow=asked.flow, seed=asked.seed):
-        points.append((point.before.generation, across(point.before, column, row, radius), point.velocity))
+    radius, width, rows = asked.radius, 40 * asked.radius, 2 * round(5.5 * asked.radius / fhpgas.gas_named(GAS).row_distance)
+    column, row = 5 * radius, rows // 2 + radius // 20
+    scene = fhpgas.gas(DENSITY, asked.flow, solid=fhpgas.Obstacles(width, rows, GAS).disc(column, row, radius), gas=GAS, seed=asked.seed)
+    sides, speeds, last = [], [], None
+    for point in fhpgas.driven(scene, asked.parts * asked.part, asked.part, flow=asked.flow, seed=asked.seed):
+        sides.append(across(point.before, column, row, radius))
+        speeds.append(point.velocity)
         last = point.before
-        import sys; print(points[-1], file=sys.stderr, flush=True)
-    print(points)
+    settled = asked.parts // 3
+    u = math.fsum(speeds[settled:]) / len(speeds[settled:])
+    numbers = fhpgas.numbers(GAS, DENSITY, u, 2 * radius)
+    print(f"{GAS}, d = {DENSITY}, {width} x {rows} cells, {asked.parts * asked.part} generations, disc {2 * radius} cells across")
+    print(f"mean speed {u:.3f}, Mach {numbers.mach:.2f}, Reynolds {numbers.reynolds:.0f}")
+    times = crossings(asked.part, sides[settled:])
+    if numbers.reynolds < FIRST or len(times) < 4:
+        print(f"no vortex street is expected below Reynolds {FIRST}" if numbers.reynolds < FIRST else "no vortex street yet")
+    else:
+        half, error = fhpgas.mean([b - a for a, b in zip(times, times[1:])])
+        strouhal = radius / (half * numbers.galilean_factor * u)
+        print(f"half a period, mean of {len(times) - 1}: {half:.0f} +- {error:.0f} generations")
+        print(f"Strouhal number {strouhal:.3f} +- {strouhal * error / half:.3f}, a free cylinder's {0.212 * (1 - 21.2 / numbers.reynolds):.3f}")
     if asked.picture:
-        fhpgas.picture(asked.picture, "vorticity", fhpgas.smooth(last.table(16, 18), 3))
+        most = 3 * asked.flow / radius / 2
+        fhpgas.picture(asked.picture, "vorticity", fhpgas.smooth(last.table(8, 9), 8), low=-most, high=most, scale=3)
 
 
 if __name__ == "__main__":
