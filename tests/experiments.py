@@ -13,7 +13,7 @@ import sys
 import needs
 
 os.environ["FHPGAS"] = str(needs.built_program())
-sys.path.append(str(needs.ROOT / "python"))
+sys.path.insert(0, str(needs.ROOT / "python"))
 
 from fhpgas import boltzmann, theory
 
@@ -89,7 +89,7 @@ def keeps():
     assert len(groups) == 2
     for group in groups:
         assert len(group) == 5 and len({kept for _, _, kept in group}) == 1 and len({east for east, _, _ in group}) == 5, group
-    streams = [[line.split()[1:] for line in part.splitlines()[1:6]] for part in output.split("generation\n")[1:]]
+    streams = [[line.split()[1:] for line in part.splitlines()[:5]] for part in output.split("generation\n")[1:]]
     assert len({*map(tuple, streams[0])}) == 1 and len({*map(tuple, streams[1])}) == 5, streams
 
 
