@@ -7,10 +7,12 @@ import time
 sys.path.insert(0, str(pathlib.Path(__file__).resolve().parents[1] / "python"))
 
 import fhpgas
-from fhpgas.fault import Parser, number, one_line_faults, whole
+from fhpgas import fault
+
+number, whole = fault.number, fault.whole  # types of options
 
 
-class Options(Parser):
+class Options(fault.Parser):
     """A command line whose faults are one line. `--small` chooses other defaults, with which the tests run the experiment."""
 
     def __init__(self, text, *gases):
@@ -25,11 +27,19 @@ class Options(Parser):
         shown = " ".join(map(str, value)) if isinstance(value, list) else value
         self.add_argument(name, type=kind, default=value, help=f"{text}; default {shown}", **more)
 
+    def picture(self, text):
+        def writable(path):
+            if not pathlib.Path(path).absolute().parent.is_dir():
+                raise fhpgas.Fault(f"{path}: there is no such folder")
+            return path
+
+        self.add_argument("--picture", type=writable, metavar="FILE", help=f"write {text} as a PNG")
+
 
 def experiment(main):
     """Runs a script: a fault is one line and status 1; a terminal is told the seconds."""
     begun = time.perf_counter()
-    with one_line_faults(pathlib.Path(sys.argv[0]).name):
+    with fault.one_line_faults(pathlib.Path(sys.argv[0]).name):
         main()
     if sys.stderr.isatty():
         print(f"{time.perf_counter() - begun:.1f} seconds", file=sys.stderr)

@@ -12,7 +12,7 @@ import common
 import fhpgas
 from fhpgas import boltzmann
 
-GENERATIONS = 0, 1, 2, 4, 8, 16, 32
+GENERATIONS = 0, 1, 2, 4, 8, 16, 32, 64
 START = {"fhp1": (0.6, 0, 0.3, 0, 0.3, 0), "fhp-rest": (0.6, 0, 0.3, 0, 0.3, 0, 0.2), "hpp": (0.6, 0.1, 0.2, 0.1)}
 
 
@@ -39,8 +39,8 @@ def h_of(chances):
 
 def main():
     reader = common.Options(__doc__, *START)
-    reader.option("--size", common.whole(80, 4096), 1024, 128, "columns and rows")
-    reader.option("--seeds", common.whole(2, 1000), 8, 4, "how many")
+    reader.option("--size", common.whole(160, 4096), 1024, 192, "columns and rows")
+    reader.option("--seeds", common.whole(2, 1000), 8, 8, "how many")
     asked = reader.parse_args()
     gas = fhpgas.gas_named(asked.gas)
     runs = fhpgas.side_by_side(lambda seed: filled(asked, seed), range(1, asked.seeds + 1))

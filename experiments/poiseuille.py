@@ -77,7 +77,7 @@ def main():
     for name, values, value in zip(names, zip(*runs), predicted(asked)):
         common.compare(name, values, value)
     print(f"published for an infinite gas: {theory.viscosity(asked.gas, asked.density, asked.chirality):.3f}, odd",
-          f"{theory.odd_viscosity(asked.gas, asked.density, asked.chirality):.3f}")
+          f"{round(theory.odd_viscosity(asked.gas, asked.density, asked.chirality), 3) + 0.0:.3f}")
 
 
 if __name__ == "__main__":

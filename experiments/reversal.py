@@ -36,7 +36,7 @@ def main():
     reader = common.Options(__doc__, "fhp1", "fhp-rest", "hpp")
     reader.option("--size", common.whole(40, 2048), 256, 64, "columns and rows")
     reader.option("--generations", common.whole(1, 10_000), 200, 60, "each way")
-    reader.add_argument("--picture", metavar="FILE", help="write the density at four times as an animated PNG")
+    reader.picture("the density at the start, before the way back, and after both ways back")
     asked = reader.parse_args()
     scene = letter(asked.gas, asked.size)
     start, late = fhpgas.run(scene, 0), fhpgas.run(scene, asked.generations)

@@ -22,7 +22,7 @@ def options():
     reader.option("--parts", common.whole(6, 10_000), 60, 10, "from one turning of particles to the next")
     reader.option("--part", common.whole(10, 10_000), 1000, 50, "generations of a part")
     reader.option("--seed", common.whole(0, 2**31), 1, 1, "of the gas")
-    reader.add_argument("--picture", metavar="FILE", help="write the vorticity at the end as a PNG")
+    reader.picture("the vorticity at the end")
     return reader
 
 

@@ -121,7 +121,7 @@ CASES = [
     *((collides, gas, *numbers) for gas, *numbers in (("fhp1", 5, 64), ("fhp-rest", 22, 128), ("hpp", 2, 16))),
     *((returns, gas) for gas in ("fhp1", "fhp-rest", "hpp")), (keeps,), (street,),
     *((is_viscous, *key) for key in FORMULAS), *((decays_as_published, *key) for key in FORMULAS),
-    *((are_as_in_theory, f"equilibrium.py --small --gas {gas}", ["direction"], 0.05) for gas in ("fhp1", "fhp-rest", "hpp")),
+    *((are_as_in_theory, f"equilibrium.py --small --gas {gas}", ["direction"], 0.05) for gas in ("fhp1", "fhp-rest")),
     *((are_as_in_theory, f"sound.py --small --gas {gas}", ["speed of sound", "damping"]) for gas in ("fhp1", "fhp-rest")),
     (are_as_in_theory, "sound.py --small --gas hpp", ["speed of sound diagonal", "damping D diagonal"]),
     *((are_as_in_theory, f"galilean.py --small --gas {gas}", [gas]) for gas in ("fhp1", "fhp-rest")),
