@@ -1,4 +1,6 @@
--- A gas of this project's own: the six directions of FHP-I, and in each cell at most one particle at rest. It is not FHP-II.
+-- The gas fhp-rest: the six directions of FHP-I, and in each cell at most one particle at rest. Its collision rules are those published
+-- as FHP-II by U. Frisch and others, "Lattice gas hydrodynamics in two and three dimensions", Complex Systems 1 (1987) 649, but this
+-- project claims no more than its own table.
 use Rattle.std.specs.Prelude.{ℕ, ◌+◌, ◌-◌, ◌==◌, nat_lt, if◌then◌else◌, List, [], ◌∷◌, codes}
 use Rattle.gas_geom.specs.Gas.{Rules}
 use Rattle.gas_geom.specs.Fhp1.{fhp1}

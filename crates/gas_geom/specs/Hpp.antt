@@ -1,4 +1,4 @@
--- HPP, the gas of J. Hardy, O. de Pazzis and Y. Pomeau, "Time evolution of a two-dimensional model system",
+-- HPP, the gas of J. Hardy, Y. Pomeau and O. de Pazzis, "Time evolution of a two-dimensional model system",
 -- Journal of Mathematical Physics 14 (1973) 1746: four directions on the square lattice.
 use Rattle.std.specs.Prelude.{◌+◌, ◌%◌, if◌then◌else◌, ◌==◌, List, [], ◌∷◌, slice_index_or, codes, ℤ, pos, negsuc}
 use Rattle.gas_geom.specs.Moves.{Move, Back, Stay, On}

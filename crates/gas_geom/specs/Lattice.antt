@@ -36,9 +36,13 @@ empty_lattice channel = record { channel = channel; rows = replicate channel.hei
 abbrev pub with_cell : List (List ℕ) → ℕ → ℕ → ℕ → List (List ℕ)
 with_cell rows x y state = slice_set rows y (slice_set (slice_index_or rows y []) x state)
 
+-- the set at a cell after a collision with a random bit: a solid cell is empty
+abbrev pub collided_set : Rules → Bool → Bool → ℕ → ℕ
+collided_set gas solid chi s = if solid then 0 else gas.collide s chi
+
 -- the collided lattice, where `chi` is the random bit of each cell
 abbrev pub collided : Rules → ChannelModel → (ℕ → ℕ → Bool) → (ℕ → ℕ → ℕ) → ℕ → ℕ → ℕ
-collided gas channel chi at x y = if is_solid channel x y then 0 else gas.collide (at x y) (chi x y)
+collided gas channel chi at x y = collided_set gas (is_solid channel x y) (chi x y) (at x y)
 
 -- whether a particle comes to the fluid cell (x, y) in direction i from the neighbour against i, or, where that is the wall or
 -- solid, the cell's own that goes towards it is sent back

@@ -7,11 +7,12 @@ ghost use Rattle.gas_geom.specs.Laws.Trials.{IsGas-passed, uses-chirality};
 use crate::fhp1::Fhp1;
 use crate::gas::Gas;
 
-/// A gas of this project's own, which is not FHP-II: the directions of FHP-I, 0 to 5, and direction
-/// 6, in which a particle rests. FHP-I's collisions take place whether or not a particle rests in
-/// the cell. Besides, a moving particle and one at rest become two that leave to its left and its
-/// right, at a sixth of a turn from its direction, and two such particles become a moving one and
-/// one at rest. Momentum is in FHP-I's units.
+/// The gas fhp-rest: the directions of FHP-I, 0 to 5, and direction 6, in which a particle rests.
+/// FHP-I's collisions take place whether or not a particle rests in the cell. Besides, a moving
+/// particle and one at rest become two that leave to its left and its right, at a sixth of a turn
+/// from its direction, and two such particles become a moving one and one at rest. These collision
+/// rules are those published as FHP-II (Frisch and others 1987), but this project claims no more
+/// than its own table. Momentum is in FHP-I's units.
 #[derive(Clone, Copy)]
 pub struct FhpRest;
 

@@ -6,7 +6,7 @@ ghost use Rattle.gas_geom.specs.Laws.Trials.{IsGas-passed};
 
 use crate::gas::Gas;
 
-/// The gas HPP of Hardy, de Pazzis and Pomeau (1973): the directions E, N, W and S (0 to 3) of the
+/// The gas HPP of Hardy, Pomeau and de Pazzis (1973): the directions E, N, W and S (0 to 3) of the
 /// square lattice, head-on collisions. It ignores the random bit. Momentum is in whole units.
 #[derive(Clone, Copy)]
 pub struct Hpp;

@@ -1,6 +1,6 @@
 //! The collision of a row.
-ghost use Rattle.std.specs.Prelude.{◌≡◌, false, if◌then◌else◌, length, slice_index, slice_index_or};
-ghost use Rattle.gas_geom.specs.Lattice.{row_of};
+ghost use Rattle.std.specs.Prelude.{◌≡◌, false, length, slice_index, slice_index_or};
+ghost use Rattle.gas_geom.specs.Lattice.{row_of, collided_set};
 
 use crate::mask::Mask;
 use crate::row::Row;
@@ -13,8 +13,8 @@ pub fn collide_row<G: Gas>(row: &mut Row<G>, solid: &Mask, chi: &Mask)
     requires chi_wide { length chi.now ≡ length row.old }
     ensures wide { length row.new ≡ length row.old }
     ensures collided { row.new ≡ row_of (length row.old) (λ x.
-        if slice_index_or solid.now x false then 0
-        else G.rules.collide (slice_index row.old x) (slice_index_or chi.now x false)) }
+        collided_set G.rules (slice_index_or solid.now x false) (slice_index_or chi.now x false)
+        (slice_index row.old x)) }
 {
     row.collide(solid.is_blank(), solid.words(), chi.words());
 }
