@@ -2,7 +2,7 @@
 use Rattle.std.specs.Prelude.{◌≡◌, ℕ, ◌<◌, ◌≤◌, ◌++◌, Bool, false, Option, None, List, length, IsSome}
 use Rattle.std.specs.Option.{option_to_list}
 use Rattle.gas_geom.specs.Gas.{Rules}
-use Rattle.gas_stage.specs.Stage.{StageModel, Fits, owed, given}
+use Rattle.gas_stage.specs.Stage.{StageModel, MayHaveBeenFed, owed, given}
 use Rattle.gas_rows.specs.Row.{RowModel}
 
 -- a worker as its callers see it: its stage, the row that it has to put next, and whether a row of another width came
@@ -24,7 +24,7 @@ owes gas w e took = owed gas w.stage.channel w.stage.chirality e took
 -- waits.
 pub record IsUnderWay (gas : Rules) (w : WorkerModel) (e : Option ℕ) (took gave : List RowModel) : Type 0 where
   pub few : length took ≤ w.stage.channel.height
-  pub fed : Fits gas w.stage e took
+  pub fed : MayHaveBeenFed gas w.stage e took
   pub put : gave ++ option_to_list w.waiting ≡ given gas w.stage.channel w.stage.chirality e took
 
 -- In a pass that is closed all rows of a lattice were taken, and all that is owed for them was put, but for the row that waits.

@@ -5,21 +5,21 @@ use Rattle.std.proofs.lemmas.List.{length-append, take-take}
 use Rattle.std.proofs.lemmas.List.FromFn.{get_or-map-range_with_len}
 use Rattle.gas_geom.specs.Gas.{Rules}
 use Rattle.gas_geom.specs.Channel.{ChannelModel, is_solid}
-use Rattle.gas_geom.specs.Lattice.{cell, row_of, streamed, next}
+use Rattle.gas_geom.specs.Lattice.{cell, row_of, collided_set, streamed, next}
 use Rattle.gas_rows.specs.Chirality.{chirality_bit}
 use Rattle.gas_rows.specs.declared.chirality.Chirality.{Chirality}
 use Rattle.gas_stage.specs.Streaming.{IsRowAt, AreRowsAbout}
-use Rattle.gas_stage.specs.declared.stage.Pass.{Pass}
-use Rattle.gas_stage.specs.declared.stage.Pass.TheVariants.{Closed, Passing, Computing}
+use Rattle.gas_stage.specs.declared.stage.Mode.{Mode}
+use Rattle.gas_stage.specs.declared.stage.Mode.TheVariants.{Closed, HandsOn, Computes}
 use Rattle.gas_stage.specs.Inner.Passes.{open_pass}
-use Rattle.gas_stage.specs.Stage.{StageModel, Fits, given, owed}
+use Rattle.gas_stage.specs.Stage.{StageModel, MayHaveBeenFed, given, owed}
 use Rattle.gas_stage.proofs.Local.{collided_at}
 use Rattle.gas_stage.proofs.Local.{range-cong, cell-push_at, collided_of, collided_of-append, take-next-push, next-all}
 
 -- a collided row, from its sets, its solid cells and its random bits
 abbrev collided_row : Rules → List Bool → List Bool → List ℕ → List ℕ
 collided_row gas solid bits row =
-    row_of (length row) (λ x. if get_or solid x false then 0 else gas.collide (get_or row x 0) (get_or bits x false))
+    row_of (length row) (λ x. collided_set gas (get_or solid x false) (get_or bits x false) (get_or row x 0))
 
 length-push : (q : List (List ℕ)) (row : List ℕ) → length (q ++ row ∷ []) ≡ length q + 1
 length-push q row = length-append q (row ∷ [])
@@ -31,14 +31,14 @@ module _ (gas : Rules) (c : ChannelModel) (chi : ℕ → ℕ → Bool) (q : List
       ((s x : ℕ) → x < c.width → gas.collide s (get_or bits x false) ≡ gas.collide s (chi x y)) →
       collided_row gas solid bits row ≡ collided_at gas c chi (q ++ row ∷ []) y
   collided_row-push row solid bits y here wide solid_is collides =
-      ap (λ n. row_of n (λ x. if get_or solid x false then 0 else gas.collide (get_or row x 0) (get_or bits x false))) wide
+      ap (λ n. row_of n (λ x. collided_set gas (get_or solid x false) (get_or bits x false) (get_or row x 0))) wide
       ∙ range-cong
-      (λ x. if get_or solid x false then 0 else gas.collide (get_or row x 0) (get_or bits x false))
+      (λ x. collided_set gas (get_or solid x false) (get_or bits x false) (get_or row x 0))
       (λ x. collided_of gas c chi (q ++ row ∷ []) x y) c.width 0
       (λ x h.
       let set : get_or row x 0 ≡ cell (q ++ row ∷ []) x y = sym (cell-push_at q row x y here) in
-      ap (λ (l : List Bool). if get_or l x false then 0 else gas.collide (get_or row x 0) (get_or bits x false)) solid_is
-      ∙ ap (λ v. if is_solid c x y then 0 else gas.collide v (get_or bits x false)) set
+      ap (λ (l : List Bool). collided_set gas (get_or l x false) (get_or bits x false) (get_or row x 0)) solid_is
+      ∙ ap (collided_set gas (is_solid c x y) (get_or bits x false)) set
       ∙ ap (λ v. if is_solid c x y then 0 else v) (collides (cell (q ++ row ∷ []) x y) x h))
 
   -- a row that was fed before stays as it was
@@ -66,7 +66,7 @@ given-take gas s g q = by (length q == s.channel.height)
     by true = refl
     by false = take-take (length q - 1) (length q - 1) rows (omega arith)
 
-module _ (gas : Rules) (s : StageModel) (g : ℕ) (q : List (List ℕ)) (fits : Fits gas s (Some g) q) where
+module _ (gas : Rules) (s : StageModel) (g : ℕ) (q : List (List ℕ)) (fits : MayHaveBeenFed gas s (Some g) q) where
   abbrev c : ChannelModel
   c = s.channel
 
@@ -96,7 +96,7 @@ module _ (gas : Rules) (s : StageModel) (g : ℕ) (q : List (List ℕ)) (fits : 
 
     -- one row more
     pub fits-push : (before_last : List ℕ) → (1 ≤ length q → before_last ≡ s.last) →
-        Fits gas (record s { fed = s.fed + 1; before_last = before_last; last = fed_row }) (Some g) p
+        MayHaveBeenFed gas (record s { fed = s.fed + 1; before_last = before_last; last = fed_row }) (Some g) p
     fits-push before_last moved = record {
       pass = fits.pass;
       fed = omega (arith, fits.fed, length-push q row);
@@ -164,10 +164,10 @@ module _ (gas : Rules) (s : StageModel) (g : ℕ) (q : List (List ℕ)) (fits : 
 
 -- The same of a stage that is seen as `s` and was `old` at the call.
 module _ (gas : Rules) (s old : StageModel) (view : s ≡ old) where
-  here : (p : Option ℕ) (q : List (List ℕ)) → Fits gas old p q → Fits gas s p q
-  here p q fits = subst (λ (v : StageModel). Fits gas v p q) (sym view) fits
+  here : (p : Option ℕ) (q : List (List ℕ)) → MayHaveBeenFed gas old p q → MayHaveBeenFed gas s p q
+  here p q fits = subst (λ (v : StageModel). MayHaveBeenFed gas v p q) (sym view) fits
 
-  pub flush-gives : (p : Option ℕ) (q : List (List ℕ)) (below out : List ℕ) → Fits gas old p q → (s.pass ≡ Some None → ⊥) →
+  pub flush-gives : (p : Option ℕ) (q : List (List ℕ)) (below out : List ℕ) → MayHaveBeenFed gas old p q → (s.pass ≡ Some None → ⊥) →
       0 < s.fed → s.fed ≡ s.channel.height →
       ((at : ℕ → ℕ → ℕ) → AreRowsAbout s.channel at (s.fed - 1) s.before_last s.last below →
       out ≡ row_of s.channel.width (λ x. streamed gas s.channel at x (s.fed - 1))) →
@@ -191,7 +191,7 @@ module _ (gas : Rules) (s old : StageModel) (view : s ≡ old) where
     same_pass : (g : ℕ) → s.pass ≡ Some (Some g) → gen ≡ g
     same_pass g e = cc
 
-    collides-push : (g : ℕ) (q : List (List ℕ)) → Fits gas s (Some g) q →
+    collides-push : (g : ℕ) (q : List (List ℕ)) → MayHaveBeenFed gas s (Some g) q →
         fed_row ≡ collided_at gas s.channel (chirality_bit s.chirality s.channel.width g) (q ++ row ∷ []) (length q)
     collides-push g q fits =
         let chi : ℕ → ℕ → Bool = chirality_bit s.chirality s.channel.width g in
@@ -203,17 +203,17 @@ module _ (gas : Rules) (s old : StageModel) (view : s ≡ old) where
         ∙ (λ t. gas.collide set (chirality_bit s.chirality (w t) (same_pass g fits.pass t) x s.fed)))
         ∙ ap (collided_at gas s.channel chi (q ++ row ∷ [])) fits.fed
 
-    pub feed-fits : (p : Option ℕ) (q : List (List ℕ)) (chirality : Chirality) (before_last : List ℕ) → Fits gas old p q →
+    pub feed-fits : (p : Option ℕ) (q : List (List ℕ)) (chirality : Chirality) (before_last : List ℕ) → MayHaveBeenFed gas old p q →
         chirality ≡ s.chirality → (0 < s.fed → before_last ≡ s.last) →
-        Fits gas (record s { chirality = chirality; fed = s.fed + 1; before_last = before_last; last = fed_row }) p (q ++ row ∷ [])
+        MayHaveBeenFed gas (record s { chirality = chirality; fed = s.fed + 1; before_last = before_last; last = fed_row }) p (q ++ row ∷ [])
     feed-fits None q chirality before_last fits same moved = absurd (let e = (here None q fits).pass in cc)
     feed-fits (Some g) q chirality before_last fits same moved =
         let now = here (Some g) q fits in
-        subst (λ v. Fits gas (record s { chirality = v; fed = s.fed + 1; before_last = before_last; last = fed_row }) (Some g) (q ++ row ∷ []))
+        subst (λ v. MayHaveBeenFed gas (record s { chirality = v; fed = s.fed + 1; before_last = before_last; last = fed_row }) (Some g) (q ++ row ∷ []))
         (sym same)
         (fits-push gas s g q now row fed_row (collides-push g q now) before_last (λ one. moved (omega (arith, now.fed))))
 
-    pub feed-gives : (p : Option ℕ) (q : List (List ℕ)) (out : List ℕ) → Fits gas old p q → 0 < s.fed → s.fed < s.channel.height →
+    pub feed-gives : (p : Option ℕ) (q : List (List ℕ)) (out : List ℕ) → MayHaveBeenFed gas old p q → 0 < s.fed → s.fed < s.channel.height →
         ((at : ℕ → ℕ → ℕ) → AreRowsAbout s.channel at (s.fed - 1) s.before_last s.last fed_row →
         out ≡ row_of s.channel.width (λ x. streamed gas s.channel at x (s.fed - 1))) →
         given gas old.channel old.chirality p (q ++ row ∷ []) ≡ given gas old.channel old.chirality p q ++ out ∷ []
@@ -235,7 +235,7 @@ pub nothing_there : (o : Option (List ℕ)) → None ≡ o → IsSome o → ⊥
 nothing_there None e h = cc
 nothing_there (Some x) e h = cc
 
-pub not_passing : (p : Pass) (o : Option (List ℕ)) (r : List ℕ) → Some r ≡ o → (p ≡ Passing → o ≡ None) → open_pass p ≡ Some None → ⊥
-not_passing Closed o r e none passes = cc
-not_passing Passing o r e none passes = let n = none refl in cc
-not_passing (Computing g) o r e none passes = cc
+pub not_handing_on : (m : Mode) (o : Option (List ℕ)) (r : List ℕ) → Some r ≡ o → (m ≡ HandsOn → o ≡ None) → open_pass m ≡ Some None → ⊥
+not_handing_on Closed o r e none passes = cc
+not_handing_on HandsOn o r e none passes = let n = none refl in cc
+not_handing_on (Computes g) o r e none passes = cc

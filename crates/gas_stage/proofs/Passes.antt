@@ -7,7 +7,7 @@ use Rattle.gas_geom.specs.Lattice.{next, generation}
 use Rattle.gas_rows.specs.Chirality.{chirality_bit}
 use Rattle.gas_rows.specs.declared.chirality.Chirality.{Chirality}
 use Rattle.gas_geom.specs.Channel.{ChannelModel}
-use Rattle.gas_stage.specs.Stage.{StageModel, Fits, given, owed}
+use Rattle.gas_stage.specs.Stage.{StageModel, MayHaveBeenFed, given, owed}
 
 -- of the rows `all`, a stage that was `old` when the pass from generation g began has been fed n, and `rest` is still to come
 pub record IsUnderWay (gas : Rules) (old s : StageModel) (g : ℕ) (all queue : List (List ℕ)) (n : ℕ) : Type 0 where
@@ -17,7 +17,7 @@ pub record IsUnderWay (gas : Rules) (old s : StageModel) (g : ℕ) (all queue : 
   pub counted : length fed ≡ n
   pub channel : s.channel ≡ old.channel
   pub chirality : s.chirality ≡ old.chirality
-  pub fits : Fits gas s (Some g) fed
+  pub fits : MayHaveBeenFed gas s (Some g) fed
   pub queued : queue ≡ rest ++ given gas old.channel old.chirality (Some g) fed
 
 get_or-append_at : (fed rest : List (List ℕ)) (r d : List ℕ) → get_or (fed ++ r ∷ rest) (length fed) d ≡ r
@@ -54,7 +54,7 @@ next_of gas old s g all queue behind n row way left front = by way.rest way.join
 -- one row more
 pub under_way_next : (gas : Rules) (old s s' : StageModel) (g : ℕ) (all queue behind queue' : List (List ℕ)) (n : ℕ) (row : List ℕ)
     (gave : Option (List ℕ)) → (way : IsUnderWay gas old s g all queue n) → IsNext gas old g all way.fed row behind →
-    s'.channel ≡ s.channel → s'.chirality ≡ s.chirality → Fits gas s' (Some g) (way.fed ++ row ∷ []) →
+    s'.channel ≡ s.channel → s'.chirality ≡ s.chirality → MayHaveBeenFed gas s' (Some g) (way.fed ++ row ∷ []) →
     given gas s.channel s.chirality (Some g) (way.fed ++ row ∷ [])
     ≡ given gas s.channel s.chirality (Some g) way.fed ++ option_to_list gave →
     queue' ≡ behind ++ option_to_list gave → IsUnderWay gas old s' g all queue' (n + 1)
@@ -88,7 +88,7 @@ no_rest (r ∷ rs) e = absurd (omega arith)
 
 -- all rows were fed
 pub record IsFed (gas : Rules) (old s : StageModel) (g : ℕ) (all queue : List (List ℕ)) : Type 0 where
-  pub fits : Fits gas s (Some g) all
+  pub fits : MayHaveBeenFed gas s (Some g) all
   pub queued : queue ≡ given gas old.channel old.chirality (Some g) all
 
 pub fed_all : (gas : Rules) (old s : StageModel) (g : ℕ) (all queue : List (List ℕ)) (n : ℕ) →
@@ -99,7 +99,7 @@ fed_all gas old s g all queue n way enough =
     let whole : way.fed ≡ all =
     sym (append-nil way.fed) ∙ ap (λ (l : List (List ℕ)). way.fed ++ l) (sym none) ∙ way.joined in
     record {
-      fits = subst (Fits gas s (Some g)) whole way.fits;
+      fits = subst (MayHaveBeenFed gas s (Some g)) whole way.fits;
       queued = way.queued ∙ ap (λ (l : List (List ℕ)). l ++ given gas old.channel old.chirality (Some g) way.fed) none
           ∙ ap (given gas old.channel old.chirality (Some g)) whole;
     }

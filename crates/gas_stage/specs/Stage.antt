@@ -39,9 +39,9 @@ pub record HoldsLast (gas : Rules) (s : StageModel) (g : ℕ) (q : List (List �
   pub last : 1 ≤ length q →
       s.last ≡ row_of s.channel.width (λ x. collided gas s.channel (chirality_bit s.chirality s.channel.width g) (cell q) x (length q - 1))
 
--- The stage may have come to its state by the rows q, in the open pass p. A new pass fits the empty list, and each row fed
--- is one more: so what is promised for every list that a stage fits is promised for the rows that it was fed.
-pub record Fits (gas : Rules) (s : StageModel) (p : Option ℕ) (q : List (List ℕ)) : Type 0 where
+-- The stage may have come to its state by the rows q, in the open pass p. A stage may have been fed no row when its pass opens,
+-- and one more with each row: so what is promised for every list that it may have been fed is promised for the rows that it was.
+pub record MayHaveBeenFed (gas : Rules) (s : StageModel) (p : Option ℕ) (q : List (List ℕ)) : Type 0 where
   pub pass : s.pass ≡ Some p
   pub fed : s.fed ≡ length q
   pub held : IfSome p (λ g. HoldsLast gas s g q)

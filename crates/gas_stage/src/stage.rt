@@ -2,7 +2,7 @@
 ghost use Rattle.std.specs.Prelude.{◌≡◌, ◌+◌, ◌<◌, ◌≤◌, ◌++◌, ◌∷◌, ℕ, [], List, length, Option, Some, None, IsSome, IfSome, IfOk, IsTrue, ◌↔◌};
 ghost use Rattle.std.specs.Option.{option_to_list};
 ghost use Rattle.gas_geom.specs.Channel.{IsChannel};
-ghost use Rattle.gas_stage.specs.Stage.{StageModel, Fits, owed, given};
+ghost use Rattle.gas_stage.specs.Stage.{StageModel, MayHaveBeenFed, owed, given};
 
 use crate::neighbourhood::Neighbourhood;
 use gas_geom::gas::Gas;
@@ -17,10 +17,10 @@ use std::mem;
 
 // What a stage does with the rows that it is fed.
 #[derive(Clone, Copy)]
-enum Pass {
+enum Mode {
     Closed,
-    Passing,
-    Computing(u64),
+    HandsOn,
+    Computes(u64),
 }
 
 /// A stage of one channel. In each of its passes it is fed the rows of a lattice from the top, and
@@ -29,11 +29,11 @@ enum Pass {
 #[derive(Drop)]
 pub struct Stage<'a, G: Gas> {
     channel: &'a Channel,
-    pass: Pass,
+    mode: Mode,
     fed: u32,
     random_bits: RandomBits,
-    // The last rows that were fed, collided. Once the row below the oldest of them has been
-    // streamed, the oldest is read no more, and the next row that is given takes its memory.
+    // The last three rows fed, collided. The oldest is scratch once the row below it is out: the next
+    // row given is written into it.
     oldest: Row<G>,
     before_last: Row<G>,
     last: Option<Row<G>>,
@@ -45,14 +45,14 @@ impl<'a, G: Gas> Model for Stage<'a, G> {
     ghost use Rattle.gas_geom.specs.declared.size.TheConstants.{MOST_SIDE};
     ghost use Rattle.gas_stage.specs.Inner.Passes.{open_pass};
     ghost use Rattle.gas_stage.specs.Stage.{StageModel};
-    ghost use Rattle.gas_stage.specs.declared.stage.Pass.TheVariants.{Closed, Passing, Computing};
+    ghost use Rattle.gas_stage.specs.declared.stage.Mode.TheVariants.{Closed, HandsOn, Computes};
 
     ghost Value = { StageModel };
 
     ghost view = { λ s. record {
       channel = s.channel.now;
       chirality = s.random_bits.chirality;
-      pass = open_pass s.pass;
+      pass = open_pass s.mode;
       fed = s.fed;
       before_last = s.before_last;
       last = unwrap_or s.last [];
@@ -66,10 +66,10 @@ impl<'a, G: Gas> Model for Stage<'a, G> {
       few_rows : s.channel.now.height ≤ MOST_SIDE;
       fed_fits : s.fed ≤ s.channel.now.height;
       last_fed : IsSome s.last → 0 < s.fed;
-      computing : (g : ℕ) → s.pass ≡ Computing g → 0 < s.fed → IsSome s.last;
-      passing : s.pass ≡ Passing → s.last ≡ None;
-      closed : s.pass ≡ Closed → s.last ≡ None;
-      none_fed : s.pass ≡ Closed → s.fed ≡ 0;
+      computes : (g : ℕ) → s.mode ≡ Computes g → 0 < s.fed → IsSome s.last;
+      hands_on : s.mode ≡ HandsOn → s.last ≡ None;
+      closed : s.mode ≡ Closed → s.last ≡ None;
+      none_fed : s.mode ≡ Closed → s.fed ≡ 0;
     } };
 }
 
@@ -89,7 +89,7 @@ impl<'a, G: Gas> Stage<'a, G> {
         let width = channel.size().width();
         Ok(Stage {
             channel,
-            pass: Pass::Closed,
+            mode: Mode::Closed,
             fed: 0,
             random_bits: RandomBits::new(alloc, chirality, width)?,
             oldest: Row::blank(alloc, width)?,
@@ -103,11 +103,11 @@ impl<'a, G: Gas> Stage<'a, G> {
     pub fn begin(&mut self, generation: Option<u64>)
         requires closed { self.old.pass ≡ None }
         ensures opened { self.new ≡ record self.old { pass = Some generation } }
-        ensures fits { Fits G.rules self.new generation [] }
+        ensures fits { MayHaveBeenFed G.rules self.new generation [] }
     {
-        self.pass = match generation {
-            Some(generation) => Pass::Computing(generation),
-            None => Pass::Passing,
+        self.mode = match generation {
+            Some(generation) => Mode::Computes(generation),
+            None => Mode::HandsOn,
         };
     }
 
@@ -124,15 +124,15 @@ impl<'a, G: Gas> Stage<'a, G> {
         ensures fed { self.new.fed ≡ self.old.fed + 1 }
         ensures passes_on { self.old.pass ≡ Some None → result ≡ Some row }
         ensures wide { IfSome result (λ r. length r ≡ self.old.channel.width) }
-        ensures fits { (p : Option ℕ) (q : List (List ℕ)) → Fits G.rules self.old p q →
-            Fits G.rules self.new p (q ++ row ∷ []) }
-        ensures gives { (p : Option ℕ) (q : List (List ℕ)) → Fits G.rules self.old p q →
+        ensures fits { (p : Option ℕ) (q : List (List ℕ)) → MayHaveBeenFed G.rules self.old p q →
+            MayHaveBeenFed G.rules self.new p (q ++ row ∷ []) }
+        ensures gives { (p : Option ℕ) (q : List (List ℕ)) → MayHaveBeenFed G.rules self.old p q →
             given G.rules self.old.channel self.old.chirality p (q ++ row ∷ [])
             ≡ given G.rules self.old.channel self.old.chirality p q ++ option_to_list result }
     {
         let y = self.fed;
         self.fed += 1;
-        let Pass::Computing(generation) = self.pass else {
+        let Mode::Computes(generation) = self.mode else {
             return Some(row);
         };
         self.random_bits.draw_for::<G>(generation, y);
@@ -166,13 +166,13 @@ impl<'a, G: Gas> Stage<'a, G> {
         ensures none_fed { self.new.fed ≡ 0 }
         ensures passes_on { self.old.pass ≡ Some None → result ≡ None }
         ensures wide { IfSome result (λ r. length r ≡ self.old.channel.width) }
-        ensures gives_all { (p : Option ℕ) (q : List (List ℕ)) → Fits G.rules self.old p q →
+        ensures gives_all { (p : Option ℕ) (q : List (List ℕ)) → MayHaveBeenFed G.rules self.old p q →
             owed G.rules self.old.channel self.old.chirality p q
             ≡ given G.rules self.old.channel self.old.chirality p q ++ option_to_list result }
     {
         let y = self.fed;
         self.fed = 0;
-        self.pass = Pass::Closed;
+        self.mode = Mode::Closed;
         let last = self.last.take()?;
         let upper = mem::replace(&mut self.before_last, last);
         let out = mem::replace(&mut self.oldest, upper);
@@ -200,6 +200,6 @@ impl<'a, G: Gas> Stage<'a, G> {
     pub fn is_open(&self) -> bool
         ensures open { IsTrue result ↔ IsSome self.now.pass }
     {
-        !matches!(self.pass, Pass::Closed)
+        !matches!(self.mode, Mode::Closed)
     }
 }

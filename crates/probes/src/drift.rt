@@ -8,7 +8,7 @@ use gas_pipe::plan::Plan;
 use gas_pipe::{replay, run};
 use gas_rows::chirality::Chirality;
 use gas_rows::lattice::Lattice;
-use gas_stage::advance::lattice_after;
+use gas_stage::evolution::lattice_after;
 use std::alloc::Global;
 use std::sync::Wait;
 use std::thread::Threads;

@@ -4,7 +4,7 @@ use gas_geom::gas::Gas;
 use gas_rows::lattice::Lattice;
 use gas_scene::scene::{Scene, read};
 use gas_scene::with_lattice;
-use gas_stage::advance::lattice_after;
+use gas_stage::evolution::lattice_after;
 use gas_tool::input::slurp;
 use gas_tool::text::write_cells;
 

@@ -11,7 +11,7 @@ use gas_geom::size::Size;
 use gas_rows::channel::Channel;
 use gas_rows::chirality::Chirality;
 use gas_rows::lattice::Lattice;
-use gas_stage::advance;
+use gas_stage::evolution;
 use rand_core::Rng;
 use rand_core::utils::NextWord;
 use rand_pcg::Pcg32;
@@ -86,7 +86,7 @@ fn compare_steps<G: Gas>(
 ) -> Result<(), AllocError> {
     let first = seed % 1_000_000_000_000;
     for chirality in [Chirality::Left, Chirality::Right, Chirality::Seeded(seed)] {
-        let by_stage = advance::lattice_after(alloc, lattice, chirality, first, 3)?;
+        let by_stage = evolution::lattice_after(alloc, lattice, chirality, first, 3)?;
         let by_cells = lattice_after(alloc, lattice, chirality, first, 3)?;
         assert_same(rt, &by_stage, &by_cells);
     }
@@ -143,7 +143,7 @@ fn the_fifth_generation(rt: HostRuntime) -> Result<(), Fail> {
     let chirality = Chirality::Seeded(7);
     let size = Size::new(40, 5).ok_or("a size")?;
     let start = random_lattice::<Fhp1>(alloc, size, &mut Pcg32::new(42, 54))?;
-    let by_stage = advance::lattice_after(alloc, &start, chirality, 0, 5)?;
+    let by_stage = evolution::lattice_after(alloc, &start, chirality, 0, 5)?;
     let by_cells = lattice_after(alloc, &start, chirality, 0, 5)?;
     assert_same(&rt, &by_stage, &by_cells);
     assert_eq!(rt; by_stage.count(), start.count());

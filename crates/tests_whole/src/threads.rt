@@ -13,7 +13,7 @@ use gas_pipe::plan::Plan;
 use gas_pipe::run;
 use gas_rows::chirality::Chirality;
 use gas_rows::lattice::Lattice;
-use gas_stage::advance::lattice_after;
+use gas_stage::evolution::lattice_after;
 use rand_core::Rng;
 use rand_core::utils::NextWord;
 use rand_pcg::Pcg32;

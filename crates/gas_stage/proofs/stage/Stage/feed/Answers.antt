@@ -9,20 +9,20 @@ pub returns-in_default-take-clause-fits : goal.returns-in_default-take-clause-fi
 returns-in_default-take-clause-fits g c = λ p q fits.
     let wide : length c.self.inside.random_bits.bits ≡ length c.args.row =
     c.self.invariant.bits_wide ∙ ap (λ (v : StageModel). v.channel.width) c.self.view_is ∙ sym c.requires.wide in
-    feed-fits g.G.Gas.rules _ c.args.self.now c.self.view_is c.in-Computing.generation (length c.self.inside.random_bits.bits) c.args.row c.collide_row.new.row
-    c.mask.result.now c.mask-2.result.now (ap open_pass c.in-Computing.is) c.collide_row.ensures.collided c.mask.ensures.row
+    feed-fits g.G.Gas.rules _ c.args.self.now c.self.view_is c.in-Computes.generation (length c.self.inside.random_bits.bits) c.args.row c.collide_row.new.row
+    c.mask.result.now c.mask-2.result.now (ap open_pass c.in-Computes.is) c.collide_row.ensures.collided c.mask.ensures.row
     wide
     (λ set x h. ap (λ (bits : List Bool). g.G.Gas.rules.collide set (get_or bits x false)) c.mask-2.ensures.bits ∙ c.draw_for.ensures.collisions set x h)
     c.requires.wide p q c.draw_for.new.self.chirality c.self.inside.before_last fits c.draw_for.ensures.chirality
     (λ some. absurd (nothing_there c.self.inside.last c.in_default-take.ensures.value
-    (c.self.invariant.computing c.in-Computing.generation c.in-Computing.is some)))
+    (c.self.invariant.computes c.in-Computes.generation c.in-Computes.is some)))
 
 pub returns-clause-fits : goal.returns-clause-fits
 returns-clause-fits g c = λ p q fits.
     let wide : length c.self.inside.random_bits.bits ≡ length c.args.row =
     c.self.invariant.bits_wide ∙ ap (λ (v : StageModel). v.channel.width) c.self.view_is ∙ sym c.requires.wide in
-    feed-fits g.G.Gas.rules _ c.args.self.now c.self.view_is c.in-Computing.generation (length c.self.inside.random_bits.bits) c.args.row c.collide_row.new.row
-    c.mask.result.now c.mask-2.result.now (ap open_pass c.in-Computing.is) c.collide_row.ensures.collided c.mask.ensures.row
+    feed-fits g.G.Gas.rules _ c.args.self.now c.self.view_is c.in-Computes.generation (length c.self.inside.random_bits.bits) c.args.row c.collide_row.new.row
+    c.mask.result.now c.mask-2.result.now (ap open_pass c.in-Computes.is) c.collide_row.ensures.collided c.mask.ensures.row
     wide
     (λ set x h. ap (λ (bits : List Bool). g.G.Gas.rules.collide set (get_or bits x false)) c.mask-2.ensures.bits ∙ c.draw_for.ensures.collisions set x h)
     c.requires.wide p q c.draw_for.new.self.chirality c.replace-above.new.dest fits c.draw_for.ensures.chirality
@@ -34,8 +34,8 @@ returns-clause-gives g c = λ p q fits.
     c.self.invariant.bits_wide ∙ ap (λ (v : StageModel). v.channel.width) c.self.view_is ∙ sym c.requires.wide in
     let some = c.in-Some.ensures.value in
     let held = there-unwrap c.self.inside.last c.in-Some.last some in
-    feed-gives g.G.Gas.rules _ c.args.self.now c.self.view_is c.in-Computing.generation (length c.self.inside.random_bits.bits) c.args.row c.collide_row.new.row
-    c.mask.result.now c.mask-2.result.now (ap open_pass c.in-Computing.is) c.collide_row.ensures.collided c.mask.ensures.row
+    feed-gives g.G.Gas.rules _ c.args.self.now c.self.view_is c.in-Computes.generation (length c.self.inside.random_bits.bits) c.args.row c.collide_row.new.row
+    c.mask.result.now c.mask-2.result.now (ap open_pass c.in-Computes.is) c.collide_row.ensures.collided c.mask.ensures.row
     wide
     (λ set x h. ap (λ (bits : List Bool). g.G.Gas.rules.collide set (get_or bits x false)) c.mask-2.ensures.bits ∙ c.draw_for.ensures.collisions set x h)
     c.requires.wide p q c.stream-given.result fits

@@ -1,7 +1,7 @@
 use Rattle.std.proofs.Common.{◌≡◌, ◌-◌, ℕ, List, ◌∙◌, sym, subst}
 use Rattle.gas_stage.specs.Streaming.{AreRowsAbout}
 use Rattle.gas_stage.specs.Stage.{StageModel}
-use Rattle.gas_stage.proofs.Feeding.{flush-gives, there, there-unwrap, not_passing}
+use Rattle.gas_stage.proofs.Feeding.{flush-gives, there, there-unwrap, not_handing_on}
 use Rattle.gas_stage.proofs.stage.Stage.flush.Goals as goal
 
 pub returns-clause-gives_all : goal.returns-clause-gives_all
@@ -9,7 +9,7 @@ returns-clause-gives_all g c = λ p q fits.
     let some = c.in_ok-last.ensures.value in
     let held = there-unwrap c.self.inside.last c.in_ok-last.last some in
     flush-gives g.G.Gas.rules _ c.args.self.now c.self.view_is p q c.in_ok-last.last c.stream.result fits
-    (not_passing c.self.inside.pass c.self.inside.last c.in_ok-last.last some c.self.invariant.passing)
+    (not_handing_on c.self.inside.mode c.self.inside.last c.in_ok-last.last some c.self.invariant.hands_on)
     (c.self.invariant.last_fed (there c.self.inside.last c.in_ok-last.last some))
     (subst (λ (v : StageModel). v.fed ≡ v.channel.height) (sym c.self.view_is) c.requires.all)
     (λ at about. c.stream.ensures.streamed at

@@ -30,7 +30,7 @@ pub fn lattice_after<G: Gas>(
     ensures lattice { IfOk result (λ l. l ≡ lattice_after G.rules chirality first lattice.now generations) }
 {
     let (channel, rows) = lattice.copy(alloc)?.into_rows();
-    let rows = advance(
+    let rows = rows_after(
         alloc,
         &channel,
         chirality,
@@ -50,7 +50,7 @@ pub fn generations_add_up()
 {}
 
 // The rows some generations after those of generation `first`.
-fn advance<G: Gas>(
+fn rows_after<G: Gas>(
     alloc: Global,
     channel: &Channel,
     chirality: Chirality,

@@ -3,7 +3,7 @@ use Rattle.gas_geom.specs.Channel.{ChannelModel}
 use Rattle.gas_geom.specs.Lattice.{IsLattice}
 use Rattle.gas_rows.specs.Chirality.{chirality_bit}
 use Rattle.gas_geom.proofs.Runs.{IsLattice-generation}
-use Rattle.gas_stage.proofs.advance.lattice_after.Goals as goal
+use Rattle.gas_stage.proofs.evolution.lattice_after.Goals as goal
 
 pub from_rows-requires : goal.from_rows-requires
 from_rows-requires g c = record {

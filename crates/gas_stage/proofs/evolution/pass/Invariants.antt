@@ -1,7 +1,7 @@
 use Rattle.std.proofs.Common.{◌≡◌}
 use Rattle.std.specs.VecDeque.{deque_capacity}
 use Rattle.gas_stage.proofs.Passes.{IsUnderWay}
-use Rattle.gas_stage.proofs.advance.pass.Given as goal
+use Rattle.gas_stage.proofs.evolution.pass.Given as goal
 
 abbrev pub invariant-loop : goal.invariant-loop
 invariant-loop g l = record {

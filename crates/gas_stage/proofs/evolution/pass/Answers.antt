@@ -6,7 +6,7 @@ use Rattle.gas_geom.specs.Lattice.{next}
 use Rattle.gas_rows.specs.Chirality.{chirality_bit}
 use Rattle.gas_stage.specs.Stage.{StageModel}
 use Rattle.gas_stage.proofs.Passes.{next_of, under_way_next, fed_all, some_queued, one_held, pass_gives}
-use Rattle.gas_stage.proofs.advance.pass.Goals as goal
+use Rattle.gas_stage.proofs.evolution.pass.Goals as goal
 
 pub loop-init : goal.loop-init
 loop-init g c = record {

@@ -4,7 +4,7 @@ use Rattle.gas_geom.specs.Lattice.{IsLattice}
 use Rattle.gas_rows.specs.Chirality.{chirality_bit}
 use Rattle.gas_geom.proofs.Runs.{IsLattice-generation}
 use Rattle.gas_stage.proofs.Passes.{generation_more}
-use Rattle.gas_stage.proofs.advance.advance.Goals as goal
+use Rattle.gas_stage.proofs.evolution.rows_after.Goals as goal
 
 pub pass-requires-clause-lattice : goal.pass-requires-clause-lattice
 pass-requires-clause-lattice g c =

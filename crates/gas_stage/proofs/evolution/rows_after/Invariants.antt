@@ -1,7 +1,7 @@
 use Rattle.std.proofs.Common.{◌≡◌, None}
 use Rattle.gas_geom.specs.Lattice.{generation}
 use Rattle.gas_rows.specs.Chirality.{chirality_bit}
-use Rattle.gas_stage.proofs.advance.advance.Given as goal
+use Rattle.gas_stage.proofs.evolution.rows_after.Given as goal
 
 abbrev pub invariant-loop-done : goal.invariant-loop-done
 invariant-loop-done g l = record {
