@@ -1,13 +1,11 @@
 #!/usr/bin/env python3
 """Seconds that reading a scene takes, the best of several runs that take turns. Have nothing else running.
 
-A map of random cells, once of all kinds alike and once a third empty and a third or so solid: the
-parse (the same text with a key that no scene has is refused right after it), `check`, which checks,
-builds and counts, and `run --generations 0`, which prints the lattice too. An area of as many cells:
-`check` at rate 300 and at rate 0; and the words of the key stream that filling it takes, alone.
+A map of random cells, once of all kinds alike and once a third empty and a third or so solid: the parse (the same text with a key that no
+scene has is refused right after it), `check`, which checks, builds and counts, and `run --generations 0`, which prints the lattice too. An
+area of as many cells: `check` at rate 300 and at rate 0; and the words of the key stream that filling it takes, alone.
 Usage: bench/scene_reading.py [SIDE [RUNS]]
 """
-import os
 import pathlib
 import random
 import subprocess
@@ -22,15 +20,7 @@ runs = int(sys.argv[2]) if len(sys.argv) > 2 else 7
 text_bytes = side * (2 * side + 1)
 words_of_filling = 6 * side * side
 states = [f"{state:02x}" for state in range(64)]
-random.seed(1)
-
-
-def write_map(path, cells):
-    """Writes the map to `path`, and to `path` with `.parse` the one that is refused after the parse."""
-    rows = "".join(f'  "{"".join(random.choices(cells, k=side))}",\n' for _ in range(side))
-    for name, key in (path, ""), (path + ".parse", "unknown = 1\n"):
-        with open(name, "w") as scene:
-            scene.write(f'{key}gas = "fhp1"\ncells = [\n{rows}]\n')
+MAPS = {"map": ["..", "##", *states], "map, many empty and solid": [".."] * 64 + ["##"] * 32 + states}
 
 
 def seconds(scene, program, *words):
@@ -41,34 +31,32 @@ def seconds(scene, program, *words):
         return time.perf_counter() - begun
 
 
-with tempfile.TemporaryDirectory() as room:
-    build(pathlib.Path(room))
-    maps = {
-        "map": os.path.join(room, "map"),
-        "map, many empty and solid": os.path.join(room, "mixed"),
-    }
-    write_map(maps["map"], [".."] + ["##"] + states)
-    write_map(maps["map, many empty and solid"], [".."] * 64 + ["##"] * 32 + states)
-    jobs = {}
-    for name, path in maps.items():
-        jobs[f"{name}: parse"] = path + ".parse", PROGRAM, "check"
-        jobs[f"{name}: check"] = path, PROGRAM, "check"
-        jobs[f"{name}: run --generations 0"] = path, PROGRAM, "run", "--generations", "0"
+def jobs(room):
+    """What is measured, by its name: a scene and a command."""
+    random.seed(1)
+    for name, cells in MAPS.items():
+        rows = "".join(f'  "{"".join(random.choices(cells, k=side))}",\n' for _ in range(side))
+        whole, refused = room / name, room / f"{name}, refused"
+        whole.write_text(f'gas = "fhp1"\ncells = [\n{rows}]\n')
+        refused.write_text(f'unknown = 1\ngas = "fhp1"\ncells = [\n{rows}]\n')
+        yield from {f"{name}: parse": (refused, PROGRAM, "check"), f"{name}: check": (whole, PROGRAM, "check"),
+                    f"{name}: run --generations 0": (whole, PROGRAM, "run", "--generations", "0")}.items()
     for rate in 300, 0:
-        path = os.path.join(room, f"area{rate}")
-        with open(path, "w") as scene:
-            scene.write(f'gas = "fhp1"\nwidth = {side}\nheight = {side}\nrate = {rate}\n')
-        jobs[f"area at rate {rate}: check"] = path, PROGRAM, "check"
-    jobs["key stream: as many words"] = path, *KEY_STREAM, str(words_of_filling // 4096)
-    jobs["key stream: none"] = path, *KEY_STREAM, "0"
-    best = {job: min(times) for job, times in zip(jobs, zip(*([seconds(*words) for words in jobs.values()] for _ in range(runs))))}
-    for job, time_taken in best.items():
-        print(f"{job}: {time_taken:.3f} s")
-    for name in maps:
-        parse = best[f"{name}: parse"]
-        print(f"{name}: checks, building and counting take {(best[f'{name}: check'] - parse) / parse:.2f} times the parse")
-        read, printed = best[f"{name}: check"], best[f"{name}: run --generations 0"]
-        print(f"{name}: read at {text_bytes / read / 1e6:.0f} MB/s, printed at {text_bytes / (printed - read) / 1e6:.0f} MB/s")
-    for name, whole, none in (("filling", "area at rate 300: check", "area at rate 0: check"),
-                              ("key stream alone", "key stream: as many words", "key stream: none")):
-        print(f"{name}: {words_of_filling / (best[whole] - best[none]) / 1e6:.0f} million words a second")
+        area = room / f"area{rate}"
+        area.write_text(f'gas = "fhp1"\nwidth = {side}\nheight = {side}\nrate = {rate}\n')
+        yield f"area at rate {rate}: check", (area, PROGRAM, "check")
+        yield f"key stream at rate {rate}", (area, *KEY_STREAM, str(words_of_filling // 4096 if rate else 0))
+
+
+with tempfile.TemporaryDirectory() as folder:
+    build(pathlib.Path(folder))
+    measured = dict(jobs(pathlib.Path(folder)))
+    best = {job: min(times) for job, times in zip(measured, zip(*([seconds(*words) for words in measured.values()] for _ in range(runs))))}
+for job, time_taken in best.items():
+    print(f"{job}: {time_taken:.3f} s")
+for name in MAPS:
+    parse, read, printed = (best[f"{name}: {job}"] for job in ("parse", "check", "run --generations 0"))
+    print(f"{name}: checks, building and counting take {(read - parse) / parse:.2f} times the parse")
+    print(f"{name}: read at {text_bytes / read / 1e6:.0f} MB/s, printed at {text_bytes / (printed - read) / 1e6:.0f} MB/s")
+for name, job in ("filling", "area at rate {}: check"), ("key stream alone", "key stream at rate {}"):
+    print(f"{name}: {words_of_filling / (best[job.format(300)] - best[job.format(0)]) / 1e6:.0f} million words a second")

@@ -28,15 +28,9 @@ WRONG_TYPE, UNKNOWN, SYNTAX, RANGE, MISSING = (
 
 
 def repeated(before, item, after, size):
-    """The text before, as many items as have room in the size, and the text after; and how many items these are."""
-    count = (size - len(before) - len(after)) // len(item)
-    return [before] + [item * (BLOCK // len(item))] * (count // (BLOCK // len(item))) + [item * (count % (BLOCK // len(item))), after], count
-
-
-def listed(rng, before, entry, after, size):
-    """Likewise for one block of random entries again and again."""
-    block = "".join(entry(rng) for _ in range(2000))
-    return repeated(before, block, after, size)[0]
+    """The text before, as many items as have room in the size, and the text after, in pieces."""
+    count, most = (size - len(before) - len(after)) // len(item), max(BLOCK // len(item), 1)
+    return [before] + [item * most] * (count // most) + [item * (count % most), after]
 
 
 def rectangle(rng):
@@ -47,20 +41,20 @@ def rectangle(rng):
 def texts(size):
     """Each text as a name, its pieces and the answer."""
     rng = random.Random(1)
-    half = size // 2
-    yield "one particle, again and again", repeated(AREA + "particles = [", "[0,0,1],", "]\n", size)[0], SHOWN % (0, 1)
-    yield "particles in a column of solid cells", repeated(AREA + f"solid = [[0,0,1,{SIDE}]]\nparticles = [", "[0,0,1],", "]\n", size)[0], RANGE
+    half, at_random = size // 2, "".join(rectangle(rng) for _ in range(2000))
+    yield "one particle, again and again", repeated(AREA + "particles = [", "[0,0,1],", "]\n", size), SHOWN % (0, 1)
+    yield "particles in a column of solid cells", repeated(AREA + f"solid = [[0,0,1,{SIDE}]]\nparticles = [", "[0,0,1],", "]\n", size), RANGE
     column = "".join(f"[{SIDE // 2 + y % 2048},{y},1]," for y in range(SIDE))
-    yield "particles all over the area", repeated(AREA + "particles = [", column, "]\n", max(size, 2 * len(column)))[0], SHOWN % (0, SIDE)
-    yield "rectangles of one cell", repeated(AREA + "solid = [", "[0,0,1,1],", "]\n", size)[0], SHOWN % (1, 0)
-    yield "rectangles of a row", repeated(AREA + "solid = [", f"[0,0,{SIDE},1],", "]\n", size)[0], SHOWN % (SIDE, 0)
-    yield "rectangles of a column", repeated(AREA + "solid = [", f"[0,0,1,{SIDE}],", "]\n", size)[0], SHOWN % (SIDE, 0)
-    yield "rectangles of the area", repeated(AREA + "solid = [", f"[0,0,{SIDE},{SIDE}],", "]\n", size)[0], SHOWN % (SIDE * SIDE, 0)
-    yield "rectangles at random", listed(rng, AREA + "solid = [[0,0,4096,4096],", rectangle, "]\n", size), SHOWN % (SIDE * SIDE, 0)
-    left = repeated(AREA + "solid = [", f"[0,0,{SIDE // 2},{SIDE}],", "]\n", half)[0]
-    yield "half rectangles, half particles", left + repeated("particles = [", column, "]\n", max(half, 2 * len(column)))[0], SHOWN % (SIDE * SIDE // 2, SIDE)
-    yield "empty arrays", repeated(AREA + "solid = [", "[],", "]\n", size)[0], WRONG_TYPE
-    yield "empty rows", repeated('gas = "fhp1"\ncells = [', '"",', "]\n", size)[0], RANGE
+    yield "particles all over the area", repeated(AREA + "particles = [", column, "]\n", max(size, 2 * len(column))), SHOWN % (0, SIDE)
+    yield "rectangles of one cell", repeated(AREA + "solid = [", "[0,0,1,1],", "]\n", size), SHOWN % (1, 0)
+    yield "rectangles of a row", repeated(AREA + "solid = [", f"[0,0,{SIDE},1],", "]\n", size), SHOWN % (SIDE, 0)
+    yield "rectangles of a column", repeated(AREA + "solid = [", f"[0,0,1,{SIDE}],", "]\n", size), SHOWN % (SIDE, 0)
+    yield "rectangles of the area", repeated(AREA + "solid = [", f"[0,0,{SIDE},{SIDE}],", "]\n", size), SHOWN % (SIDE * SIDE, 0)
+    yield "rectangles at random", repeated(AREA + "solid = [[0,0,4096,4096],", at_random, "]\n", size), SHOWN % (SIDE * SIDE, 0)
+    left = repeated(AREA + "solid = [", f"[0,0,{SIDE // 2},{SIDE}],", "]\n", half)
+    yield "half rectangles, half particles", left + repeated("particles = [", column, "]\n", max(half, 2 * len(column))), SHOWN % (SIDE * SIDE // 2, SIDE)
+    yield "empty arrays", repeated(AREA + "solid = [", "[],", "]\n", size), WRONG_TYPE
+    yield "empty rows", repeated('gas = "fhp1"\ncells = [', '"",', "]\n", size), RANGE
     rows = min(SIDE, size // (2 * SIDE + 4))
     row = '"' + "3f" * SIDE + '",\n'
     yield "a map", ['gas = "fhp1"\ncells = [\n'] + [row] * rows + ["]\n"], f"gas fhp1 width {SIDE} height {rows} solid 0 particles {6 * SIDE * rows}"
@@ -69,20 +63,20 @@ def texts(size):
     wide_map = ['version = 2\ngas = "fhp1"\ncells = [\n'] + [wide] * rows + ["]\n"]
     yield "a map of the widest rows", wide_map, f"gas fhp1 width 65536 height {rows} solid {65535 * rows} particles {rows}"
     wide_area = 'version = 2\ngas = "fhp1"\nwidth = 65536\nheight = 2\nrate = 1000\nsolid = ['
-    yield "rectangles across the widest rows", repeated(wide_area, "[0,0,65535,2],", "]\n", size)[0], "gas fhp1 width 65536 height 2 solid 131070 particles 12"
-    yield "nested arrays", repeated("cells = ", "[", "", half)[0] + repeated("", "]", "\n", half)[0], SYNTAX
-    yield "nested inline tables", repeated("cells = ", "{a=", "1", 3 * size // 4)[0] + repeated("", "}", "\n", size // 4)[0], SYNTAX
-    yield "nested arrays that never end", repeated("cells = ", "[", "", size)[0], SYNTAX
-    yield "one text", repeated('gas = "', "a", '"\ncells = []\n', size)[0], RANGE
-    yield "one text that never ends", repeated('gas = "', "a", "", size)[0], SYNTAX
+    yield "rectangles across the widest rows", repeated(wide_area, "[0,0,65535,2],", "]\n", size), "gas fhp1 width 65536 height 2 solid 131070 particles 12"
+    yield "nested arrays", repeated("cells = ", "[", "", half) + repeated("", "]", "\n", half), SYNTAX
+    yield "nested inline tables", repeated("cells = ", "{a=", "1", 3 * size // 4) + repeated("", "}", "\n", size // 4), SYNTAX
+    yield "nested arrays that never end", repeated("cells = ", "[", "", size), SYNTAX
+    yield "one text", repeated('gas = "', "a", '"\ncells = []\n', size), RANGE
+    yield "one text that never ends", repeated('gas = "', "a", "", size), SYNTAX
     yield "keys", ["".join(f"k{k} = 1\n" for k in range(first, first + 10000)) for first in range(0, max(size // 13, 1), 10000)], UNKNOWN
-    yield "one key", repeated("", "k", " = 1\n", size)[0], UNKNOWN
-    yield "one key twice", repeated("", "k", " = 1\n", half)[0] * 2, SYNTAX
-    yield "one dotted key", repeated("", "k.", "k = 1\n", size)[0], SYNTAX
+    yield "one key", repeated("", "k", " = 1\n", size), UNKNOWN
+    yield "one key twice", repeated("", "k", " = 1\n", half) * 2, SYNTAX
+    yield "one dotted key", repeated("", "k.", "k = 1\n", size), SYNTAX
     yield "tables", ["".join(f"[t{t}]\n" for t in range(first, first + 10000)) for first in range(0, max(size // 11, 1), 10000)], UNKNOWN
-    yield "comments", repeated("", "#\n", "", size)[0], MISSING
-    yield "one comment", repeated("#", "a", "\n", size)[0], MISSING
-    yield "empty lines", repeated("", "\n", "", size)[0], MISSING
+    yield "comments", repeated("", "#\n", "", size), MISSING
+    yield "one comment", repeated("#", "a", "\n", size), MISSING
+    yield "empty lines", repeated("", "\n", "", size), MISSING
     yield "bytes that are not UTF-8", [b"\xff" * min(size, BLOCK)] * (size // BLOCK), SYNTAX
     if has_memory():
         yield "the largest area", [f'version = 2\ngas = "hpp"\nwidth = {MOST_SIDE}\nheight = {MOST_SIDE}\n'], \

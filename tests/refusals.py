@@ -1,9 +1,8 @@
 #!/usr/bin/env python3
-"""Refuses requests for memory, starts of threads among them, of the built program and of each call that takes memory, which
-the program `probes` makes by itself: each request alone, all from each one on, and each with probability 1/8. A refused run
-must end with its status and line, with every thread joined and every byte given back, and print nothing. Where nothing is
-refused it must end with 0, and with no request between the last start of a thread and the first join. Then the program runs
-under limits of its address space. Ends with the counts."""
+"""Refuses requests for memory, starts of threads among them, of the built program and of each call that takes memory, which the program
+`probes` makes by itself: each request alone, and all from each one on. A refused run must end with its status and line, with every thread
+joined and every byte given back, and print nothing. If nothing is refused it must end with 0, and with no request between the last start
+of a thread and the first join. Then the program runs under limits of its address space. Ends with the counts."""
 
 import concurrent.futures
 import os
@@ -18,27 +17,14 @@ import needs
 TOP = needs.ROOT
 PROGRAM, PROBES = needs.built_program(), needs.built_program("probes")
 SECONDS = 60  # a hundred times what the slowest run takes
-SEEDS = 100
 
+BLOCKS = "--generations 2 --block-width 8 --block-height 8"
 REQUESTS = [
-    ("drift", "run --generations 1"),
-    ("obstacle", "run --generations 2 --stages 1 --capacity 1"),
-    ("drift", "run --generations 3 --stages 2 --capacity 1"),
-    ("drift", "run --generations 5 --stages 4"),
-    ("channel", "run --generations 1"),
-    ("rest", "run --generations 4 --stages 2"),
-    ("later", "run --generations 3 --stages 2"),
-    ("wind", "coarse --generations 2 --block-width 8 --block-height 8"),
-    ("drift", "replay --generations 2 --stages 2 0 1 2 0 1 2"),
-    ("square", "check"),
-    ("drift", "run --help"),
+    ("drift", "run --generations 1"), ("obstacle", "run --generations 2 --stages 1 --capacity 1"),
+    ("drift", "run --generations 3 --stages 2 --capacity 1"), ("drift", "run --generations 5 --stages 4"), ("channel", "run --generations 1"),
+    ("rest", "run --generations 4 --stages 2"), ("later", "run --generations 3 --stages 2"), ("wind", f"coarse {BLOCKS}"),
+    ("drift", "replay --generations 2 --stages 2 0 1 2 0 1 2"), ("square", "check"), ("drift", "run --help"),
 ]
-DRAWN = [
-    ("drift", "run --generations 5 --stages 4"),
-    ("wind", "coarse --generations 2 --block-width 8 --block-height 8"),
-    ("rest", "replay --generations 1 --stages 1 0 1 0 1 0 1 0 1 0 1 0 1 0 1 0 1"),
-]
-
 passed = 0
 failed = 0
 
@@ -82,16 +68,6 @@ def sweep(pool, library, name, words, scene, line):
     for refuse, ended in zip(tries, pool.map(lambda it: Ended(library, words, scene, it), tries)):
         count(ended.is_refused(line) and ended.refused > 0, f"{name} {refuse}: {ended}")
     print(f"{name}: {usual.seen} requests, {usual.started} threads")
-
-
-def draw(pool, library, name, words, scene):
-    """Refuses each request with probability 1/8, for many seeds."""
-    usual = Ended(library, words, scene, {})
-    tries = [{"REFUSE_SEED": str(seed)} for seed in range(1, SEEDS + 1)]
-    for refuse, ended in zip(tries, pool.map(lambda it: Ended(library, words, scene, it), tries)):
-        is_whole = ended.refused == 0 and ended.status == 0 and ended.out == usual.out and ended.is_tidy()
-        count(is_whole or (ended.refused > 0 and ended.is_refused(b"memory refused\n")), f"{name} {refuse}: {ended}")
-    print(f"{name}: {SEEDS} seeds")
 
 
 def as_many(library, name, runs):
@@ -146,8 +122,6 @@ def main():
         for scene, words in REQUESTS:
             path = TOP / f"scenes/{scene}.toml"
             sweep(pool, library, f"{scene} {words}", [PROGRAM, *words.split()], path, b"memory refused\n")
-        for scene, words in DRAWN:
-            draw(pool, library, f"{scene} {words}", [PROGRAM, *words.split()], TOP / f"scenes/{scene}.toml")
         drift = TOP / "scenes/drift.toml"
         words = ["run", "--stages", "2", "--generations"]
         holds_places(library, drift, 6 * 8)  # a row of four cells: a word for each direction

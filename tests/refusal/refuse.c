@@ -1,9 +1,8 @@
-/* Refuses requests for memory and for threads, which are the calls of malloc, realloc and pthread_create that the program
-   itself makes; what its libraries ask for is let through. REFUSE_AT=n refuses the n-th, REFUSE_FROM=n that and all after it,
-   and REFUSE_SEED=s each with probability 1/8. At the end it writes to the file REFUSE_SEEN how many it saw, how many it
-   refused, how many threads were started, how many of these were joined, how many bytes the program has not given back, how many
-   requests it saw between the last start of a thread and the first join, and how many bytes were asked for in all. Loaded with
-   LD_PRELOAD. */
+/* Refuses requests for memory and for threads, which are the calls of malloc, realloc and pthread_create that the program itself makes;
+   what its libraries ask for is let through. REFUSE_AT=n refuses the n-th, REFUSE_FROM=n that and all after it. At the end it writes to
+   the file REFUSE_SEEN how many it saw, how many it refused, how many threads were started, how many of these were joined, how many bytes
+   the program has not given back, how many requests it saw between the last start of a thread and the first join, and how many bytes were
+   asked for in all. Loaded with LD_PRELOAD. */
 #define _GNU_SOURCE
 #include <dlfcn.h>
 #include <errno.h>
@@ -19,7 +18,7 @@
 
 static atomic_long seen, refused, started, joined, held, since_start, asked;
 static atomic_int is_joining;
-static long refuse_at = -1, refuse_from, refuse_seed;
+static long refuse_at = -1, refuse_from;
 static char *low, *high; /* where the program's own code lies */
 
 static int find_program(struct dl_phdr_info *info, size_t size, void *unused) {
@@ -44,7 +43,6 @@ __attribute__((constructor)) static void begin(void) {
     dl_iterate_phdr(find_program, 0);
     atomic_store(&seen, 0);
     refuse_from = number("REFUSE_FROM");
-    refuse_seed = number("REFUSE_SEED");
     refuse_at = number("REFUSE_AT");
 }
 
@@ -72,19 +70,11 @@ static int is_own(void *caller) {
     return refuse_at >= 0 && (char *)caller >= low && (char *)caller < high;
 }
 
-/* one in eight, by the mixing function of splitmix64 */
-static int is_drawn(long request) {
-    unsigned long x = (unsigned long)refuse_seed * 0x9e3779b97f4a7c15ul + (unsigned long)request * 0xd1b54a32d192ed03ul;
-    x = (x ^ (x >> 30)) * 0xbf58476d1ce4e5b9ul;
-    x = (x ^ (x >> 27)) * 0x94d049bb133111ebul;
-    return ((x ^ (x >> 31)) & 7) == 0;
-}
-
 static int is_refused(void *caller) {
     if (!is_own(caller)) return 0;
     long request = atomic_fetch_add(&seen, 1) + 1;
     if (!atomic_load(&is_joining)) atomic_fetch_add(&since_start, 1);
-    int refuse = request == refuse_at || (refuse_from && request >= refuse_from) || (refuse_seed && is_drawn(request));
+    int refuse = request == refuse_at || (refuse_from && request >= refuse_from);
     if (refuse) atomic_fetch_add(&refused, 1);
     return refuse;
 }
