@@ -259,7 +259,7 @@ def version():
     """The version is the one that is cited and that the changes end with, and the kit the one that is needed and that proves it here."""
     cited = re.search(r"^version: (.*)$", (needs.ROOT / "CITATION.cff").read_text(), re.M).group(1)
     kit = re.sub(r"^(rattle-kit-\d+)[a-z]* ", r"\1 ", subprocess.run(["rt", "version"], capture_output=True, text=True).stdout.strip())
-    told = f"## {cited}\n" in (needs.ROOT / "CHANGELOG.md").read_text() and kit in (needs.ROOT / "README.md").read_text()
+    told = re.search(rf"^## {re.escape(cited)}\b", (needs.ROOT / "CHANGELOG.md").read_text(), re.M) and kit in (needs.ROOT / "README.md").read_text()
     yield ["--version"], "", 0, f"fhpgas {cited} ({kit})\n" if told else "what CHANGELOG and README tell", ""
 
 
