@@ -257,6 +257,7 @@ def stored():
 
 def version():
     """The version is the one that is cited and that the changes end with, and the kit the one that is needed and that proves it here."""
+    needs.command("rt", "see README.md")
     cited = re.search(r"^version: (.*)$", (needs.ROOT / "CITATION.cff").read_text(), re.M).group(1)
     kit = re.sub(r"^(rattle-kit-\d+)[a-z]* ", r"\1 ", subprocess.run(["rt", "version"], capture_output=True, text=True).stdout.strip())
     told = re.search(rf"^## {re.escape(cited)}\b", (needs.ROOT / "CHANGELOG.md").read_text(), re.M) and kit in (needs.ROOT / "README.md").read_text()

@@ -29,10 +29,14 @@ def built_program(name="fhpgas"):
     return path
 
 
+def command(name, how):
+    if not shutil.which(name):
+        stop(f"{name} is missing: {how}")
+
+
 def compiled(source, made, *words):
     """Compiles a C source of this repository."""
-    if not shutil.which("cc"):
-        stop("cc is missing: apt-get install gcc libc6-dev")
+    command("cc", "apt-get install gcc libc6-dev")
     subprocess.run(["cc", "-Wall", "-o", made, ROOT / source, *words], check=True)
 
 
