@@ -91,8 +91,8 @@ def over_seeds(asked) -> None:
 
 
 def numbers(asked) -> None:
-    for name, value in dataclasses.asdict(theory.numbers(asked.gas, asked.density, asked.speed, asked.length, asked.chirality)).items():
-        print(f"{name.replace('_', ' '):18}{value:12.4g}")
+    for name, value in theory.numbers(asked.gas, asked.density, asked.speed, asked.length, asked.chirality)._asdict().items():
+        print(f"{name.replace('_', ' '):16}{value:12.4g}")
 
 
 def reader() -> Parser:

@@ -53,7 +53,8 @@ def driven(scene: str, generations: int, every: int = 10, *, force: float | None
         owed = [part + wanted * share for part, share in zip(owed, shares)]
         counts = [round(part) for part in owed]
         owed = [part - count for part, count in zip(owed, counts)]
-        after = cells.changed(turned(row, count, gas, lots, y) if count else row for y, (row, count) in enumerate(zip(cells.rows, counts)))
+        rows = (turned(row, count, gas, lots, y) if count else row for y, (row, count) in enumerate(zip(cells.rows, counts)))
+        after = dataclasses.replace(cells, rows=tuple(rows))
         scene, count = later_scene(keys, after), sum(counts)
         tell("")
         yield Point(cells, after, count, 2 * count / every / number, (before + count) / cells.particles, scene)

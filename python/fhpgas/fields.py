@@ -34,42 +34,36 @@ def equilibrium(gas: str, density: float, east: float = 0.0, north: float = 0.0)
 
 
 def _solved(gas: Gas, density: float, east: float, north: float) -> tuple[float, ...] | None:
-    """Newton's method on the convex function whose minimum is the equilibrium: the sum of log(1 + exp(-a_i)) and the wanted moments times
-    (h, q), where a_i = h + q.c_i."""
-    basis = [(1.0, x, y) for x, y in gas.velocities]
+    """Newton's method for (h, q), from their values at a small velocity, with steps of at most 2 so that it does not overshoot."""
     wanted = [gas.directions * density * part for part in (1.0, east, north)]
-
-    def value(at):
-        exponents = [sum(a * c for a, c in zip(at, of)) for of in basis]
-        return sum(math.log1p(math.exp(-abs(a))) + max(-a, 0.0) for a in exponents) + sum(a * w for a, w in zip(at, wanted))
-
-    at = [math.log(1 / density - 1), 0.0, 0.0]
-    for _ in range(100):
-        chances = [1 / (1 + math.exp(min(700.0, sum(a * c for a, c in zip(at, of))))) for of in basis]
-        slope = [w - sum(n * of[k] for n, of in zip(chances, basis)) for k, w in enumerate(wanted)]
-        if max(map(abs, slope)) < 1e-12:
+    mean_square = sum(x * x for x, _ in gas.velocities) / gas.directions
+    h, qx, qy = math.log(1 / density - 1), *(-u / mean_square / (1 - density) for u in (east, north))
+    for _ in range(200):
+        chances = [1 / (1 + math.exp(min(500.0, h + qx * x + qy * y))) for x, y in gas.velocities]
+        s, sx, sy = (-part for part in wanted)
+        a = b = c = d = e = f = 0.0
+        for n, (x, y) in zip(chances, gas.velocities):
+            bend = n * (1 - n)
+            s, sx, sy = s + n, sx + n * x, sy + n * y
+            a, b, c, d, e, f = a + bend, b + bend * x, c + bend * y, d + bend * x * x, e + bend * x * y, f + bend * y * y
+        if max(abs(s), abs(sx), abs(sy)) < 1e-11:
             return tuple(chances)
-        bend = [[sum(n * (1 - n) * of[j] * of[k] for n, of in zip(chances, basis)) for k in range(3)] for j in range(3)]
-        step = _divided(slope, bend)
-        if step is None or max(map(abs, at)) > 50:
+        step = _divided((s, sx, sy), a, b, c, d, e, f)
+        if step is None or abs(h) + abs(qx) + abs(qy) > 200:
             return None
-        here, share = value(at), 1.0
-        while share > 1e-9 and value([a - share * s for a, s in zip(at, step)]) > here + 1e-15:
-            share /= 2
-        at = [a - share * s for a, s in zip(at, step)]
-    return tuple(chances) if max(map(abs, slope)) < 1e-9 else None
+        share = min(1.0, 2 / max(map(abs, step)))
+        h, qx, qy = h + share * step[0], qx + share * step[1], qy + share * step[2]
+    return None
 
 
-def _divided(right: list[float], matrix: list[list[float]]) -> list[float] | None:
-    """The solution of three linear equations by Cramer's rule, or None."""
-
-    def determinant(m):
-        return sum(m[0][k] * (m[1][(k + 1) % 3] * m[2][(k + 2) % 3] - m[1][(k + 2) % 3] * m[2][(k + 1) % 3]) for k in range(3))
-
-    whole = determinant(matrix)
-    if abs(whole) < 1e-30:
+def _divided(right, a, b, c, d, e, f) -> tuple[float, float, float] | None:
+    """The solution of three linear equations whose symmetric matrix has the rows (a, b, c), (b, d, e), (c, e, f), or None."""
+    minors = d * f - e * e, c * e - b * f, b * e - c * d
+    whole = a * minors[0] + b * minors[1] + c * minors[2]
+    if abs(whole) < 1e-40:
         return None
-    return [determinant([[*row[:k], r, *row[k + 1 :]] for row, r in zip(matrix, right)]) / whole for k in range(3)]
+    rows = minors, (minors[1], a * f - c * c, b * c - a * e), (minors[2], b * c - a * e, a * d - b * b)
+    return tuple(sum(m * r for m, r in zip(row, right)) / whole for row in rows)
 
 
 def gas(density: FIELD, east: FIELD = 0.0, north: FIELD = 0.0, *, size: tuple[int, int] | None = None, solid=None, gas: str = "fhp1",

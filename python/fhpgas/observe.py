@@ -11,51 +11,47 @@ Field = list[list[float | None]]
 
 def vorticity(table: Table, gas: str | None = None) -> Field:
     """dv/dx - du/dy of each block, by differences of the blocks beside it, of one side if the other is solid, empty or past a wall; None if
-    the block itself is. The table must be of whole blocks whose size is known."""
+    the block itself is."""
     if table.block is None:
         raise Fault("the size of the blocks is not known: dataclasses.replace(table, block=(width, height))")
-    east, north = table.velocity(gas)
-    across, down = table.block[0], table.block[1] * known_gas(gas, table.gas).row_distance
-    columns, rows = len(east[0]), len(east)
+    velocity, (width, height) = table.velocity(gas), table.block
+    columns, rows, apart = len(table.fluid[0]), len(table.fluid), (width, height * known_gas(gas, table.gas).row_distance)
 
-    def at(values, row, column):
-        value = values[row][column % columns] if 0 <= row < rows else None
+    def at(axis, row, column):
+        value = velocity[axis][row][column % columns] if 0 <= row < rows else None
         return None if value is None or math.isnan(value) else value
 
-    def slope(before, here, after, distance):
-        if before is not None and after is not None:
-            return (after - before) / 2 / distance
-        return 0.0 if before is after else ((after - here) if before is None else (here - before)) / distance
+    def slope(axis, row, column, right, up):
+        before, here, after = (at(axis, row - k * up, column + k * right) for k in (-1, 0, 1))
+        known = (before is not None) + (after is not None)
+        return ((here if after is None else after) - (here if before is None else before)) / max(1, known) / apart[up]
 
-    def here(row, column):
-        u, v = at(east, row, column), at(north, row, column)
-        if u is None:
-            return None
-        return slope(at(north, row, column - 1), v, at(north, row, column + 1), across) - slope(
-            at(east, row + 1, column), u, at(east, row - 1, column), down)
+    def of(row, column):
+        return None if at(0, row, column) is None else slope(1, row, column, 1, 0) - slope(0, row, column, 0, 1)
 
-    return [[here(row, column) for column in range(columns)] for row in range(rows)]
+    return [[of(row, column) for column in range(columns)] for row in range(rows)]
 
 
 def smooth(table: Table, times: int = 1) -> Table:
-    """A table in which the numbers of each block are sums over it and the blocks beside it, with weights 1, 2, 1 in both directions; a
-    solid block stays solid. Momenta and particles are summed alike, so velocities are means."""
-    def along(values: list, closes: bool) -> list:
-        before, after = ([values[-1], *values[:-1]], [*values[1:], values[0]]) if closes else ([values[0], *values[:-1]], [*values[1:], values[-1]])
-        return [a + 2 * b + c for a, b, c in zip(before, values, after)]
+    """A table in which the numbers of each block are sums over it and the blocks beside it, with weights 1, 2, 1 in both directions; a solid
+    block stays solid. Momenta and particles are summed alike, so velocities are means."""
+    def spread(rows: list[list]) -> list[list]:
+        rows = [[a + 2 * b + c for a, b, c in zip(*three)] for three in zip(rows[:1] + rows[:-1], rows, rows[1:] + rows[-1:])]
+        return [[a + 2 * b + c for a, b, c in zip(row[-1:] + row[:-1], row, row[1:] + row[:1])] for row in rows]
 
     columns = table.columns()
     for _ in range(times):
-        columns = [[along(row, True) for row in map(list, zip(*(along(list(column), False) for column in zip(*rows))))] for rows in columns]
-    kept = [[[n if fluid else 0 for n, fluid in zip(*pair)] for pair in zip(rows, table.fluid)] for rows in columns]
+        columns = [spread(rows) for rows in columns]
+    kept = ([[n if fluid else 0 for n, fluid in zip(*pair)] for pair in zip(rows, table.fluid)] for rows in columns)
     return Table(*kept, gas=table.gas, block=table.block)
 
 
 def counts(cells: Cells, block_width: int | None = None, block_height: int | None = None, gas: str | None = None) -> list:
     """The number of particles in each direction: of all cells, or as a list [row][column] of blocks."""
     bits = BITS[: known_gas(gas, cells.gas).directions]
-    found = [cells.sums(bit, block_width or len(cells.rows[0]), block_height or len(cells.rows)) for bit in bits]
-    return found if block_width or block_height else [blocks[0][0] for blocks in found]
+    if not block_width and not block_height:
+        return [sum(row.translate(bit).count(1) for row in cells.rows) for bit in bits]
+    return [cells.counted(bit, block_width or len(cells.rows[0]), block_height or len(cells.rows)) for bit in bits]
 
 
 def fluid(cells: Cells) -> int:
@@ -75,20 +71,17 @@ def forces(cells: Cells, gas: str | None = None, part: Callable[[int, int], bool
     that ended with these cells. A particle that moves away from a wall or solid cell beside it was just reflected by it, so it gave
     twice its momentum. `part` says of a column and row whether a solid cell counts, for one obstacle of several."""
     named, columns, rows = known_gas(gas, cells.gas), len(cells.rows[0]), len(cells.rows)
-    solid = [bytes(wall and (part is None or part(x, y)) for x, wall in enumerate(row)) for y, row in enumerate(cells.solid)] if part else cells.solid
-    wall, none, found = b"\1" * columns, bytes(columns), {name: [0.0, 0.0] for name in ("upper", "lower", "solid")}
+    solid = [bytes(wall and part(x, y) for x, wall in enumerate(row)) for y, row in enumerate(cells.solid)] if part else cells.solid
+    found, wall = {name: [0.0, 0.0] for name in ("upper", "lower", "solid")}, b"\1" * columns
     for y, states in enumerate(cells.states):
-        packed, near = int.from_bytes(states), solid[max(0, y - 1) : y + 2]
-        if 0 < y < rows - 1 and not any(map(any, near)):
+        if 0 < y < rows - 1 and not any(map(any, solid[y - 1 : y + 2])):
             continue
-        for i, velocity in enumerate(named.velocities):
+        for i, velocity in enumerate(named.velocities[: 4 if named.name == "hpp" else 6]):
             across, down = named.steps[y % 2][named.opposite(i)]
             name = "upper" if y + down < 0 else "lower" if y + down == rows else "solid"
-            beside = wall if name != "solid" else solid[y + down] if (across, down) != (0, 0) else none
-            beside = beside[across:] + beside[:across] if across >= 0 else beside[across:] + beside[:across]
-            struck = (packed >> i & int.from_bytes(beside)).bit_count()
-            for axis in (0, 1):
-                found[name][axis] -= 2 * struck * velocity[axis]
+            beside = solid[y + down] if name == "solid" else wall
+            struck = (int.from_bytes(states) >> i & int.from_bytes(beside[across:] + beside[:across])).bit_count()
+            found[name] = [total - 2 * struck * part for total, part in zip(found[name], velocity)]
     return {name: tuple(force) for name, force in found.items()}
 
 
@@ -96,22 +89,18 @@ def staggered(cells: Cells, gas: str | None = None) -> tuple[int, ...]:
     """The three staggered momenta: (-1)^generation times the sum, over the lines that are parallel to a direction, of (-1)^line times the
     momentum across the line, in units of sqrt(3)/2. They stay constant, with walls and obstacles too; those of the two slanted axes only
     if the width is even, so for an odd width the first alone is returned."""
-    named, columns = known_gas(gas, cells.gas), len(cells.rows[0])
-    if named.name == "hpp":
+    if known_gas(gas, cells.gas).name == "hpp":
         raise Fault("hpp keeps the momentum along each row instead: `px` of a table of rows")
-    odd = int.from_bytes(bytes(x % 2 for x in range(columns)))
-    masks, found = (odd ^ int.from_bytes(b"\1" * columns), odd), []
+    columns, found = len(cells.rows[0]), []
+    odd, every = (int.from_bytes(bytes(x % 2 or whole for x in range(columns))) for whole in (0, 1))
     for axis in range(1 if columns % 2 else 3):
         total = 0
         for y, row in enumerate(cells.states):
-            packed, shift = int.from_bytes(row), y // 2
+            packed, first = int.from_bytes(row), (y, y - y // 2, -(y // 2))[axis] % 2  # the parity of the line of column 0
             for i, sign in ((axis + 1, 1), (axis + 2, 1), (axis + 4, -1), (axis + 5, -1)):
-                plane = packed >> i % 6
-                if axis == 0:
-                    total += sign * (-1) ** y * (plane & (masks[0] | masks[1])).bit_count()
-                    continue
-                start = (y - shift if axis == 1 else -shift) % 2  # the parity of the line of column 0
-                total += sign * ((plane & masks[start]).bit_count() - (plane & masks[1 - start]).bit_count())
+                plane = packed >> i % 6 & every
+                on_odd = (plane & odd).bit_count() if axis else 0
+                total += sign * (-1) ** first * (plane.bit_count() - 2 * on_odd)
         found.append((-1) ** cells.generation * total)
     return tuple(found)
 

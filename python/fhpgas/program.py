@@ -19,7 +19,7 @@ ABOVE = pathlib.Path(__file__).resolve().parents[2]  # the repository, or the un
 GAS = re.compile(r"""^[ \t]*gas[ \t]*=[ \t]*(["'])([\w-]+)\1""", re.M)
 SIDE = re.compile(r"^[ \t]*(width|height)[ \t]*=[ \t]*(\d+)", re.M)
 MOST_STAGES, CAPACITY = 64, 128
-_cores = 0  # of a run, in a worker of `side_by_side`; else 0
+_function, _cores = None, 0  # of a worker of `side_by_side`: what it calls, and the cores of its runs
 
 
 @functools.cache
@@ -81,13 +81,6 @@ def check(scene: str) -> Summary:
     return Summary(words[1], *map(int, words[3::2]))
 
 
-def size_of(scene: str) -> tuple[int, int]:
-    """The width and height of a scene, unchecked; those of a map are estimated from the length of its text."""
-    sides = {key: int(value) for key, value in SIDE.findall(scene[:10_000])}
-    rows = scene.count("\n") or 1
-    return sides.get("width", max(1, len(scene) // rows // 2 - 3)), sides.get("height", rows)
-
-
 def plan(width: int, height: int, generations: int, cores: int | None = None) -> tuple[int, int]:
     """Good numbers of stages and rows per belt (docs/PERFORMANCE.md): four workers per core, each with 16 rows or more, and no more than
     generations; a single worker if other runs keep the other cores busy."""
@@ -96,8 +89,11 @@ def plan(width: int, height: int, generations: int, cores: int | None = None) ->
 
 
 def _planned(scene: str, generations: int, stages: int | None, capacity: int | None) -> list:
-    known = isinstance(generations, int) and isinstance(scene, str)
-    good = plan(*size_of(scene), generations) if known and not (stages and capacity) else (1, CAPACITY)
+    """The words of a plan. A scene that is a map does not say its size; its lines are counted."""
+    good = (1, CAPACITY)
+    if isinstance(scene, str) and isinstance(generations, int):
+        sides = {key: int(value) for key, value in SIDE.findall(scene[:10_000])}
+        good = plan(sides.get("width", 0), sides.get("height", scene.count("\n")), generations)
     return ["--generations", generations, "--stages", good[0] if stages is None else stages, "--capacity", good[1] if capacity is None else capacity]
 
 
@@ -113,8 +109,8 @@ def run(scene: str, generations: int, stages: int | None = None, capacity: int |
 
 
 def coarse(scene: str, generations: int, block_width: int, block_height: int, stages: int | None = None, capacity: int | None = None) -> Table:
-    """The table of a scene after some generations, in blocks of some columns and rows, each 1 to 4096. On the triangular lattice blocks of
-    8 x 9 cells are nearly square."""
+    """The table of a scene after some generations, in blocks of some columns and rows, each 1 to 4096; blocks of 8 x 9 cells of the
+    triangular lattice are nearly square. The plan is as in `run`."""
     blocks = "--block-width", block_width, "--block-height", block_height
     table = read_table(call(scene, "coarse", *_planned(scene, generations, stages, capacity), *blocks))
     return dataclasses.replace(table, gas=gas_of(scene), block=(block_width, block_height))
@@ -124,9 +120,6 @@ def tell(text: str) -> None:
     """Shows a line on the terminal, in place of the one before; an empty text wipes it. Nothing if standard error is no terminal."""
     if sys.stderr.isatty():
         print(f"\r\033[K{text}", end="", file=sys.stderr, flush=True)
-
-
-_function: Callable | None = None
 
 
 def _take(function: Callable, cores: int) -> None:
@@ -148,13 +141,13 @@ def side_by_side(function: Callable, values: Iterable, executor: concurrent.futu
     """The results of the function for each value, in their order: in as many local processes as there are processors, or by an executor of
     `concurrent.futures` (Dask's `Client.get_executor()`, mpi4py's `MPIPoolExecutor()`). An executor sends the function to its workers,
     so it must stand at the top of a module that they have, and they need this package and the program."""
-    values = list(values)
+    values, cores = list(values), os.cpu_count() or 1
     if executor is not None:
         return _gathered([executor.submit(_alone, function, value) for value in values])
     program_path()
-    workers = min(len(values), os.cpu_count() or 1) or 1
+    workers = max(1, min(len(values), cores))
     # a forked worker has the function without pickling it, so it may be a lambda
-    with concurrent.futures.ProcessPoolExecutor(workers, multiprocessing.get_context("fork"), _take, (function, max(1, (os.cpu_count() or 1) // workers))) as pool:
+    with concurrent.futures.ProcessPoolExecutor(workers, multiprocessing.get_context("fork"), _take, (function, cores // workers)) as pool:
         return _gathered([pool.submit(_taken, value) for value in values])
 
 

@@ -82,19 +82,15 @@ def rows_of(states, gas: str, solid=None) -> list[bytes]:
         if [*map(len, solid)] != [*map(len, states)]:
             raise Fault("states and solid cells are of different sizes")
         for y, (row, walls) in enumerate(zip(states, solid)):
-            for x, (state, wall) in enumerate(zip(row, walls)) if not _fits(row, walls, most) else ():
+            is_plain = isinstance(row, bytes) and max(row, default=0) < most and not any(walls)
+            for x, (state, wall) in enumerate(zip(row, walls)) if not is_plain else ():
                 if wall and state:
                     raise Fault(f"row {y} column {x} is solid and contains a particle: numpy.where(solid, 0, states) clears them")
-                if not (isinstance(state, int) or hasattr(state, "__index__")) or not 0 <= state < most:
+                if not hasattr(state, "__index__") or not 0 <= state < most:
                     raise Fault(f"row {y} column {x} has state {state!r}, and a state of {gas} is an integer from 0 to {most - 1}")
         return [bytes(SOLID if wall else state for state, wall in zip(*rows)) for rows in zip(states, solid)]
     except TypeError:
         raise Fault("states and solid cells are two-dimensional, [y][x]") from None
-
-
-def _fits(row, walls, most: int) -> bool:
-    """Whether a row of bytes is one of states, without solid cells that contain particles; other rows are looked at cell by cell."""
-    return isinstance(row, bytes) and max(row, default=0) < most and not any(walls)
 
 
 def later_scene(keys: dict, cells: Cells) -> str:
@@ -146,32 +142,25 @@ def series(scene: str, steps: Iterable[int], **plan) -> Iterator[tuple[Cells, st
     """Yields pairs of the cells and a scene that begins with them: at the start of a scene, and at each point after it. `steps` are the
     generations from each point to the next. The plan is as in `run`."""
     keys, steps = keys_of(scene), [0, *steps]
-    for done, step in enumerate(steps):
-        tell(f"{done} of {len(steps)} parts")
+    for done, step in enumerate(steps, start=1):
         cells = run(scene, step, **plan)
         scene = later_scene(keys, cells)
-        tell("")
+        tell(f"{done} of {len(steps)} parts" if done < len(steps) else "")
         yield cells, scene
 
 
 def long_run(scene: str, generations: int, step: int, kept, **plan) -> Iterator[Cells]:
-    """Runs a scene to a number of generations after its own, `step` of them at a time, and yields the cells after each. After each part the
-    file `kept` contains the scene that goes on, so the same call continues a run that a time limit or a failure ended."""
-    kept, keys = pathlib.Path(kept), keys_of(scene)
-    first = run(scene, 0)
-    here = scene
-    if kept.exists():
-        cells = run(read_scene(kept), 0)
-        here = resume(scene, cells)
-    last, done = first.generation + generations, (cells if kept.exists() else first).generation
-    while done < last:
-        tell(f"generation {done} of {last}")
-        cells = run(here, min(step, last - done), **plan)
-        here, done = later_scene(keys, cells), cells.generation
+    """Runs a scene for some generations, `step` of them at a time, and yields the cells after each part. Then the file `kept` contains the
+    scene that goes on, so the same call continues a run that a time limit or a failure ended."""
+    kept, last = pathlib.Path(kept), run(scene, 0).generation + generations
+    here = resume(scene, run(read_scene(kept), 0)) if kept.exists() else scene
+    left = last - run(here, 0).generation
+    parts = series(here, [step] * (left // step) + [left % step] * (left % step > 0), **plan)
+    next(parts)
+    for cells, later in parts:
         unfinished = kept.with_name(kept.name + ".part")
-        unfinished.write_text(here)
+        unfinished.write_text(later)
         os.replace(unfinished, kept)
-        tell("")
         yield cells
 
 

@@ -27,7 +27,7 @@ class Obstacles:
         return self.rows[row]
 
     def block(self, column: int, row: int, columns: int, rows: int) -> "Obstacles":
-        """A rectangle of cells."""
+        """A rectangle of cells; a plate, if it is thin."""
         check_inside("a block", (column, row, columns, rows), self.columns, len(self))
         for y in range(row, row + rows):
             self._run(y, column, columns)
@@ -62,17 +62,6 @@ class Obstacles:
             for left, right in zip(crossed[::2], crossed[1::2]):
                 self._span(row, left, right)
         return self
-
-    def plate(self, start: Sequence[float], end: Sequence[float], thickness: float = 2.0) -> "Obstacles":
-        """A straight plate from one place to another, each a column and a row."""
-        distance = self.gas.row_distance
-        along = end[0] - start[0], (end[1] - start[1]) * distance
-        length = math.hypot(*along)
-        if not length or thickness <= 0:
-            raise Fault("a plate has two ends and a thickness")
-        x, y = -along[1] * thickness / 2 / length, along[0] * thickness / 2 / length / distance
-        corners = (start[0] + x, start[1] + y), (end[0] + x, end[1] + y), (end[0] - x, end[1] - y), (start[0] - x, start[1] - y)
-        return self.polygon(corners)
 
     def nozzle(self, throat: int, length: int) -> "Obstacles":
         """The channel narrows to `throat` open rows in its middle column and widens again, over `length` columns in all."""

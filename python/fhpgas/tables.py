@@ -15,9 +15,8 @@ HEADER = "  col   row    fluid particles         px         py"
 PAIRS = [f"{state:02x}" if state else ".." for state in range(SOLID)] + ["##"] * SOLID
 NO_CELLS = "these are no printed cells: "
 HEXADECIMAL, KINDS = str.maketrans(".#", "08"), str.maketrans("123456789abcdef", "0" * 15)
-# Tables for `bytes.translate`, from a state or SOLID: numbers of particles in each direction, of fluid cells, and of solid ones.
+# Tables for `bytes.translate`: which states have a particle in each direction, which cells are fluid, and which are solid.
 BITS = [bytes(state >> i & 1 for state in range(SOLID)) + bytes(SOLID) for i in range(7)]
-PARTICLES = bytes(state.bit_count() for state in range(SOLID)) + bytes(SOLID)
 FLUID, WALL = b"\1" * SOLID + bytes(SOLID), bytes(SOLID) + b"\1" * SOLID
 STATES, CELLS = bytes(range(SOLID)) + bytes(SOLID), bytes(range(SOLID)) + bytes([SOLID]) * SOLID
 
@@ -44,7 +43,7 @@ class Cells:
     def changed(self, rows: Iterable[bytes]) -> "Cells":
         """Other cells of the same generation and gas, as rows of bytes."""
         rows = tuple(map(bytes, rows))
-        return Cells(self.generation, sum(sum(row.translate(PARTICLES)) for row in rows), rows, self.gas)
+        return Cells(self.generation, sum(int.from_bytes(row.translate(STATES)).bit_count() for row in rows), rows, self.gas)
 
     def text(self) -> str:
         """The cells as `run` prints them."""
@@ -63,16 +62,16 @@ class Cells:
     def table(self, block_width: int, block_height: int, gas: str | None = None) -> "Table":
         """The table that `coarse` prints for these cells."""
         named = known_gas(gas, self.gas)
-        counts = [self.sums(bit, block_width, block_height) for bit in BITS[: named.directions]]
+        counts = [self.counted(bit, block_width, block_height) for bit in BITS[: named.directions]]
         weights = [1] * named.directions, *zip(*named.momenta)
         columns = ([[sum(map(int.__mul__, of, block)) for block in zip(*rows)] for rows in zip(*counts)] for of in weights)
-        return Table(self.sums(FLUID, block_width, block_height), *columns, gas=named.name, block=(block_width, block_height))
+        return Table(self.counted(FLUID, block_width, block_height), *columns, gas=named.name, block=(block_width, block_height))
 
-    def sums(self, of_state: bytes, block_width: int, block_height: int) -> list[list[int]]:
-        """The sums over blocks [row][column] of a number of each state and of solid cells, for `bytes.translate`."""
-        rows, starts = [row.translate(of_state) for row in self.rows], range(0, len(self.rows[0]), block_width)
+    def counted(self, marks: bytes, block_width: int, block_height: int) -> list[list[int]]:
+        """The number of cells of each block [row][column] whose state a table for `bytes.translate` marks by 1."""
+        rows, starts = [row.translate(marks) for row in self.rows], range(0, len(self.rows[0]), block_width)
         parts = (rows[top : top + block_height] for top in range(0, len(rows), block_height))
-        return [[sum(sum(row[start : start + block_width]) for row in part) for start in starts] for part in parts]
+        return [[sum(row.count(1, start, start + block_width) for row in part) for start in starts] for part in parts]
 
     def arrays(self):
         """The states (uint8) and the solid cells (bool) as new numpy arrays [y, x]."""

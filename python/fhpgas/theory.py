@@ -6,9 +6,9 @@ Systems 1 (1987) 649; `fhp-rest` has the collisions that are called FHP-II there
 The viscosities are summed here over the collisions themselves, so they hold for each chirality.
 """
 import cmath
-import dataclasses
 import functools
 import math
+from typing import NamedTuple
 
 from .fault import Fault
 from .gases import Gas, gas_named
@@ -87,10 +87,9 @@ def noise(gas: str, density: float, cells: float) -> float:
     return sound_speed(gas) * math.sqrt((1 - checked(density)) / (gas_named(gas).directions * density * cells))
 
 
-@dataclasses.dataclass(frozen=True)
-class Numbers:
-    """The numbers of a flow. The viscous time is length^2 / viscosity; the turnover time is length / (g speed), since a flow is carried by
-    g times its velocity."""
+class Numbers(NamedTuple):
+    """The numbers of a flow: `mach` is speed / sound speed, `reynolds` g speed length / viscosity, `viscous_time` length^2 / viscosity, and
+    `turnover_time` length / (g speed), for a flow is carried by g times its velocity."""
 
     sound_speed: float
     galilean_factor: float
@@ -102,9 +101,8 @@ class Numbers:
 
 
 def numbers(gas: str, density: float, speed: float, length: float, chirality: str = "seeded") -> Numbers:
-    """The Mach number, speed / sound, the Reynolds number g speed length / viscosity, and the rest, of a flow of this gas."""
-    g, nu = galilean_factor(gas, density), viscosity(gas, density, chirality)
-    if length <= 0:
-        raise Fault(f"a length is {length}, and must be larger than 0")
-    turnover = length / abs(g * speed) if g * speed else math.inf
-    return Numbers(sound_speed(gas), g, nu, abs(speed) / sound_speed(gas), g * abs(speed) * length / nu, length**2 / nu, turnover)
+    """The numbers of a flow of this gas."""
+    g, nu, sound = galilean_factor(gas, density), viscosity(gas, density, chirality), sound_speed(gas)
+    if length <= 0 or not g * speed:
+        raise Fault("a flow has a length and a speed, and a density at which g is not 0")
+    return Numbers(sound, g, nu, abs(speed) / sound, g * abs(speed) * length / nu, length**2 / nu, length / abs(g * speed))
