@@ -428,12 +428,12 @@ class Pictures(Case):
     def test_a_picture_has_the_colours_of_its_numbers_and_its_frames(self):
         table = tables.Table([[72, 72, 0, 72]], [[72, 144, 0, 108]], [[0] * 4], [[0] * 4], "fhp1", (8, 9))
         with self.room() as room:
-            self.assertEqual(fhpgas.picture(room / "a.png", "density", table, scale=20), (1, 2))
+            self.assertEqual(fhpgas.picture(room / "a.png", "density", table, scale=40), (1, 2))
             (_, head), (_, packed), _ = self.read((room / "a.png").read_bytes())
             width, height = struct.unpack(">II", head[:8])
             lines = zlib.decompress(packed)
-            self.assertEqual((width, height, lines[1:4], lines[61:64], lines[121:124]), (80, 32, bytes(pictures.HEAT[0]), bytes(pictures.HEAT[-1]), pictures.GREY))
-            self.assertEqual(lines[181:184], bytes(pictures.HEAT[2]))
+            self.assertEqual((width, height, lines[1:4], lines[121:124], lines[241:244]), (160, 55, bytes(pictures.HEAT[0]), bytes(pictures.HEAT[-1]), pictures.GREY))
+            self.assertEqual(lines[361:364], bytes(pictures.HEAT[2]))
             fhpgas.picture(room / "b.png", "density", table, fhpgas.total([table, table]))
             self.assertEqual([kind for kind, _ in self.read((room / "b.png").read_bytes())], [b"IHDR", b"acTL", b"fcTL", b"IDAT", b"fcTL", b"fdAT", b"IEND"])
             fhpgas.svg(room / "c.svg", fhpgas.read_cells(HEAD_ON, "fhp1"))
@@ -520,7 +520,7 @@ class Commands(Case):
             self.assertEqual(fhpgas.run(scenes.read_scene(room / "kept"), 0), fhpgas.run(AREA, 10))
             self.assertIn("density from 1", self.command("picture", "density", "a.png", "three", "--block", 66, 9, folder=room).stdout)
             told = self.command("how-long", "a.toml", 1000, "--seconds", 1, folder=room).stdout
-            self.assertRegex(told, r"^[\d,]+ MLUPS with 1 workers and 128 rows per belt\n1000 generations of 594 cells: about [\d.e-]+ seconds\n$")
+            self.assertRegex(told, r"^[\d,]+ MLUPS with 1 worker and 128 rows per belt\n1000 generations of 594 cells: about [\d.e-]+ seconds\n$")
             line = self.command("over-seeds", "--seeds", 3, "--generations", 5, "--block", 66, 9, "a.toml", folder=room).stdout.split("\n")[1].split()
             many = [fhpgas.coarse(fhpgas.with_seed(AREA, seed), 5, 66, 9) for seed in (1, 2, 3)]
             mean, error = fhpgas.mean(table.velocity()[0][0][0] for table in many)

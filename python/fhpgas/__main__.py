@@ -52,7 +52,7 @@ def how_long(asked) -> None:
     of_one = max(seconds, 1e-6) / generations
     cells, whole_run = size.width * size.height, around + asked.generations * of_one
     unit, length = next((pair for pair in UNITS if whole_run >= 2 * pair[1]), UNITS[-1])
-    print(f"{cells / of_one / 1e6:,.0f} MLUPS with {stages} workers and {capacity} rows per belt")
+    print(f"{cells / of_one / 1e6:,.0f} MLUPS with {stages} worker{'s' * (stages > 1)} and {capacity} rows per belt")
     print(f"{asked.generations} generations of {cells} cells: about {whole_run / length:.2g} {unit}")
 
 
@@ -71,6 +71,10 @@ def over_time(asked) -> None:
     for cells, _ in scenes.series(scenes.read_scene(asked.scene), [asked.step] * (asked.last // asked.step)):
         print(f"generation {cells.generation} particles {cells.particles}")
         print(cells.table(*asked.block).text(), end="", flush=True)
+
+
+def draw(asked) -> None:
+    print(drawing.drawn(asked), end="")
 
 
 def over_seeds(asked) -> None:
@@ -111,7 +115,8 @@ def reader() -> Parser:
     gas = "--gas", {"choices": GASES, "default": "fhp1", "help": "default fhp1"}
     scene, cells = ("scene", {"metavar": "SCENE"}), ("cells", {"metavar": "CELLS"})
     generations, step = {"type": whole(0, 1_000_000), "metavar": "GENERATIONS"}, ("step", {"type": whole(1, 1_000_000), "metavar": "STEP"})
-    drawing.add_words(command(lambda asked: print(drawing.drawn(asked), end=""), "draw", drawing.__doc__))
+    draw.__doc__ = drawing.__doc__
+    drawing.add_words(command(draw, "draw", "draw a scene"))
     command(explain, "explain", "say where and why a scene is refused", scene)
     command(picture, "picture", "a PNG of tables or cells (several: animated), or an SVG of few cells", ("what", {"choices": pictures.KINDS}),
             ("file", {"metavar": "FILE", "help": "to write: .png or .svg"}), ("sources", {"metavar": "TABLE", "nargs": "+", "help": "or CELLS"}), gas, block,

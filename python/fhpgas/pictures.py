@@ -69,18 +69,17 @@ def painted(values: list, low: float, high: float, scale: tuple[int, int], colou
     width = len(lines[0]) // 3
     left, right = lettered(f"{low:.3g}"), lettered(f"{high:.3g}")
     bar = max(1, width - len(left[0]) - len(right[0]) - 8)
-    for y in range(13):
-        text = y - 4 if 4 <= y < 9 else None
-        sides = [[DARK if text is not None and ink else WHITE for ink in letters[text or 0]] for letters in (left, right)]
-        line = [WHITE] * 2 + sides[0] + [WHITE] * 2
-        line += [colours[SHADES * k // bar] if 3 <= y < 10 else WHITE for k in range(bar)] + [WHITE] * 2 + sides[1] + [WHITE] * 2
-        lines.append(b"".join(line[:width]))
+    for y in range(16):
+        is_text = 3 <= y < 13
+        sides = [[DARK if is_text and ink else WHITE for ink in letters[(y - 3) // 2 if is_text else 0]] for letters in (left, right)]
+        shades = [colours[SHADES * k // bar] if is_text else WHITE for k in range(bar)]
+        lines.append(b"".join([WHITE, WHITE, *sides[0], WHITE, WHITE, *shades, WHITE, WHITE, *sides[1], WHITE, WHITE][:width]))
     return lines
 
 
 def lettered(text: str) -> list[list[int]]:
-    """Five rows of pixels of a number: three columns per character and one between."""
-    return [[GLYPHS[letter] >> 14 - 3 * y - x & 1 if x < 3 else 0 for letter in text for x in range(4)] for y in range(5)]
+    """Five rows of pixels of a number: three columns per character and one between, each twice as wide."""
+    return [[GLYPHS[letter] >> 14 - 3 * y - x // 2 & 1 if x < 6 else 0 for letter in text for x in range(8)] for y in range(5)]
 
 
 def png(frames: list[list[bytes]], pause: float = 0.1) -> bytes:
