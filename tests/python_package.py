@@ -3,7 +3,6 @@
 command line. What needs numpy or Dask is tried if they are there. Ends with the counts."""
 
 import concurrent.futures
-import contextlib
 import dataclasses
 import itertools
 import math
@@ -24,7 +23,7 @@ import needs
 os.environ["FHPGAS"] = str(needs.built_program())
 os.environ["PYTHONPATH"] = str(needs.ROOT / "python")
 import fhpgas  # noqa: E402 - finds the program by the line above
-from fhpgas import drawing, pictures, reader, refusals, scenes, tables, theory  # noqa: E402
+from fhpgas import drawing, pictures, reader, refusals, tables, theory  # noqa: E402
 
 try:
     import numpy
@@ -37,11 +36,30 @@ except ImportError:
 
 GASES = ("fhp1", "hpp", "fhp-rest")
 HEAD_ON = "generation 1 particles 2\n....02..\n........\n##10....\n"
-TABLE = "  col   row    fluid particles         px         py\n" + "".join(
-    f"    {column}     0 {numbers}\n" for column, numbers in enumerate(("       3         8          3          1", "       4         0          0          0",
-                                                                       "       0         0          0          0")))
+TABLE = """\
+  col   row    fluid particles         px         py
+    0     0        3         8          3          1
+    1     0        4         0          0          0
+    2     0        0         0          0          0
+"""
 AREA = 'gas = "fhp1"\nseed = 7\nwidth = 66\nheight = 9\nrate = 300\nsolid = [[20, 2, 3, 4]]\n'
 DISC = fhpgas.Obstacles(64, 47).disc(20, 20, 8)
+EXPLAINED = [
+    ('gas = "fhp1"\ncells = ["01"\n"01"]\n', "scene: not TOML", "line 3, column 1: Unclosed array"),
+    ("gas = \u201chpp\u201d\n", "scene: not TOML", "line 1, column 7: Invalid value: the quotes are curly"),
+    ('gas = "hpp"\nparticles = [[0, 0, 3f]]\n', "scene: not TOML", "a hexadecimal state is 0x3f"),
+    (HEAD_ON, "scene: not TOML", "the text is what `run` prints"),
+    ('gas = "fhp1"\ncells = [".."]\nseed = 9223372036854775808\n', "scene: not TOML", "line 3, column 1: 9223372036854775808 is no integer of 64 bits"),
+    ('# a\n[scene]\ngas = "fhp1"\n', "scene: unknown key", "line 2, column 2: \"scene\" is no key of a scene, and all keys stand at the top level"),
+    ('gas = "fhp1"\ncells = [".."]\n  width = 3\n', "scene: both forms", "line 3, column 3: `width` is a key of an area"),
+    ('gas = "fhp1"\nwidth = 3\n', "scene: missing key", "`height` is missing"),
+    ('gas = "fhp1"\nwidth = 3\nheight = 3\nsolid = [[0, 0, 1, 1],\n  [1, 1, 1]]\n', "scene: wrong type", "line 5, column 3: entry 1 of `solid`"),
+    ('gas = "fhp1"\nwidth = 3\nheight = 3\nsolid = [0, 0, 1, 1]\n', "scene: wrong type", "must be a list of entries: [[0, 0, 1, 1]]"),
+    ('gas = "fhp1"\nwidth = 5000\nheight = 3\n', "scene: out of range", "must be 1 to 4096 (with `version = 2` to 65536)"),
+    ('gas = "hpp"\nwidth = 4\nheight = 3\nparticles = [[1, 1, 16]]\n', "scene: out of range", "has state 16, and those of hpp are 0 to 15"),
+    ('gas = "fhp1"\ncells = ["..", "....", "...."]\n', "scene: row 1 has a wrong length", "so row 0 may be the wrong one"),
+    ('gas = "fhp1"\ncells = [\n  "0101",\n  "013F",\n]\n', "scene: row 1 cell 1 is not a cell", "line 4, column 6: `3F` has a capital digit"),
+]
 
 
 def particles_of(seed):
@@ -54,7 +72,11 @@ def momentum_of(cells):
     return [unit * sum(map(sum, momenta)) for unit, momenta in zip(fhpgas.GASES[cells.gas].units, (table.px, table.py))]
 
 
-class Case(unittest.TestCase):
+class Package(unittest.TestCase):
+    def setUp(self):
+        self.room = pathlib.Path(tempfile.mkdtemp())
+        self.addCleanup(shutil.rmtree, self.room)
+
     def fault(self, part, function, *words, **options):
         """The call has a Fault of one line with this part."""
         with self.assertRaises(fhpgas.Fault) as caught:
@@ -62,40 +84,27 @@ class Case(unittest.TestCase):
         self.assertIn(part, str(caught.exception))
         self.assertNotIn("\n", str(caught.exception))
 
-    def command(self, *words, text="", folder=None):
+    def command(self, *words, text=""):
         command = [sys.executable, "-m", "fhpgas", *map(str, words)]
-        return subprocess.run(command, input=text, capture_output=True, text=True, timeout=300, cwd=folder)
+        return subprocess.run(command, input=text, capture_output=True, text=True, timeout=300, cwd=self.room)
 
-    def refused(self, part, *words, text="", folder=None):
-        """The command prints one line with this part, and ends with status 1."""
-        done = self.command(*words, text=text, folder=folder)
-        self.assertEqual((done.returncode, done.stdout, done.stderr.count("\n")), (1, "", 1), done)
-        self.assertIn(part, done.stderr)
+    # -- tables
 
-    @contextlib.contextmanager
-    def room(self):
-        with tempfile.TemporaryDirectory() as folder:
-            yield pathlib.Path(folder)
-
-
-class Tables(Case):
     def test_printed_cells_are_read(self):
         cells = fhpgas.read_cells(HEAD_ON, "fhp1")
         self.assertEqual((cells.generation, cells.particles, [*map(list, cells.states)]), (1, 2, [[0, 0, 2, 0], [0] * 4, [0, 16, 0, 0]]))
-        self.assertEqual([*map(list, cells.solid)], [[0] * 4, [0] * 4, [1, 0, 0, 0]])
-        self.assertEqual(cells.text(), HEAD_ON)
+        self.assertEqual(([*map(list, cells.solid)], cells.text()), ([[0] * 4, [0] * 4, [1, 0, 0, 0]], HEAD_ON))
         self.assertEqual(cells.differing(cells.changed([bytes(4)] * 3)), 3)
         for text in ("", HEAD_ON[:-1], HEAD_ON + "..\n", TABLE, *(HEAD_ON.replace("02", pair) for pair in ("0g", "0A", "80", "#.", "2", " 2"))):
             self.fault("these are no printed cells", fhpgas.read_cells, text)
         self.fault("the cells contain 3 particles", fhpgas.read_cells, HEAD_ON.replace("02", "03"))
 
-    def test_a_table_is_read_and_tells_solid_blocks_from_empty_ones(self):
+    def test_a_table_tells_solid_blocks_from_empty_ones(self):
         table = fhpgas.read_table(TABLE)
         self.assertEqual((table.columns(), table.text()), (([[3, 4, 0]], [[8, 0, 0]], [[3, 0, 0]], [[1, 0, 0]]), TABLE))
         (east,), (north,) = table.velocity("fhp1")
-        self.assertEqual((table.density(), east[0], east[2]), ([[8 / 3, 0, None]], 3 / 16, None))
+        self.assertEqual((table.density(), east[0], east[2], table.velocity("hpp")[0][0][0]), ([[8 / 3, 0, None]], 3 / 16, None, 3 / 8))
         self.assertTrue(math.isnan(east[1]) and math.isclose(north[0], math.sqrt(3) / 16))
-        self.assertEqual(table.velocity("hpp")[0][0][0], 3 / 8)
         self.fault("the gas is not known", table.velocity)
         self.fault("is on another lattice", dataclasses.replace(table, gas="hpp").velocity, "fhp1")
         for text in ("", TABLE[:53], TABLE.replace("8", "x"), TABLE.replace("    1     0", "    2     0"), HEAD_ON):
@@ -104,21 +113,18 @@ class Tables(Case):
         self.fault("only tables of the same blocks", fhpgas.total, [table, fhpgas.coarse(AREA, 0, 66, 9)])
 
     def test_a_table_of_cells_is_the_one_that_the_program_prints(self):
-        for gas, block in itertools.product(GASES, ((7, 5), (64, 47), (1, 1))):
-            scene = fhpgas.gas(0.3, 0.2, 0.1, size=(64, 47), solid=DISC, gas=gas, seed=1)
+        for gas in GASES:
+            scene = fhpgas.gas(0.3, 0.2, 0.1, solid=DISC, gas=gas, seed=1)
             cells = fhpgas.run(scene, 5)
-            self.assertEqual(cells.table(*block), fhpgas.coarse(scene, 5, *block))
+            self.assertEqual([cells.table(*block) for block in ((7, 5), (64, 47))], [fhpgas.coarse(scene, 5, *block) for block in ((7, 5), (64, 47))])
             self.assertEqual(cells.particles, sum(fhpgas.counts(cells)))
 
-    def test_a_mean_has_its_error(self):
-        """The standard deviation of 1, 2, 3 is 1, and the error of their mean a third of the root of 3."""
+    def test_means_have_their_errors(self):
+        """The error of the mean of 1, 2, 3 is a third of the root of 3; of x' = 0.9 x + noise it is 10 / sqrt(n)."""
         self.assertEqual(fhpgas.mean([1, 2, 3]), (2, math.sqrt(1 / 3)))
         self.assertEqual(fhpgas.mean([([[2, None]], [[0, 1]]), ([[4, 6]], [[0, 3]])]), ([[[3, None]], [[0, 2]]], [[[1, None]], [[0, 1]]]))
         for values in ([1], [[1], [1, 2]], [[1], 1]):
             self.fault("a mean" if len(values) > 1 else "two values or more", fhpgas.mean, values)
-
-    def test_an_average_over_time_knows_that_neighbours_are_alike(self):
-        """For x' = 0.9 x + noise the error of the mean is sqrt(19) times that of independent values of the same size."""
         lots, values = random.Random(1), [0.0]
         for _ in range(1 << 16):
             values.append(0.9 * values[-1] + lots.gauss(0, 1))
@@ -135,28 +141,26 @@ class Tables(Case):
         self.assertEqual(fhpgas.resume_changed(AREA, cells, states), fhpgas.resume(AREA, cells))
         self.assertEqual(fhpgas.run(fhpgas.scene_of(states, "fhp1", solid, seed=numpy.int64(3)), 0).rows, cells.rows)
         self.assertEqual(fhpgas.gas(numpy.full((9, 66), 0.3), solid=solid), fhpgas.gas(0.3, solid=solid))
-        self.assertEqual(fhpgas.mean(map(numpy.array, ([2, 5], [4, 5]))), ([3, 5], [1, 0]))
 
+    # -- runs and scenes
 
-class Runs(Case):
     def test_the_program_is_found(self):
         """In a folder as an archive unpacks, with a program beside the package; by FHPGAS; and on the PATH."""
         words = [sys.executable, "-c", "import fhpgas; print(fhpgas.run('gas = \"hpp\"\\ncells = [\"01..\"]', 1).text(), end='')"]
-        with self.room() as room:
-            shutil.copytree(needs.ROOT / "python", room / "python")
-            shutil.copy(needs.built_program(), room / "fhpgas")
-            clean = {"PYTHONPATH": f"{room}/python", "PATH": "/nowhere"}
+        shutil.copytree(needs.ROOT / "python", self.room / "python")
+        shutil.copy(needs.built_program(), self.room / "fhpgas")
 
-            def ran(**more):
-                return subprocess.run(words, capture_output=True, text=True, env=clean | more, cwd="/")
+        def ran(**more):
+            environment = {"PYTHONPATH": f"{self.room}/python", "PATH": "/nowhere"} | more
+            return subprocess.run(words, capture_output=True, text=True, env=environment, cwd="/")
 
-            self.assertEqual(ran().stdout, "generation 1 particles 1\n..01\n")
-            self.assertIn("/no/such is missing", ran(FHPGAS="/no/such").stderr)
-            self.assertIn("/bin/false does not start", ran(FHPGAS="/bin/false").stderr)
-            (room / "bin").mkdir()
-            (room / "fhpgas").rename(room / "bin/fhpgas")
-            self.assertIn("the program fhpgas is not found", ran().stderr)
-            self.assertEqual(ran(PATH=f"{room}/bin").stdout, ran(FHPGAS=f"{room}/bin/fhpgas").stdout)
+        self.assertEqual(ran().stdout, "generation 1 particles 1\n..01\n")
+        self.assertIn("/no/such is missing", ran(FHPGAS="/no/such").stderr)
+        self.assertIn("/bin/false does not start", ran(FHPGAS="/bin/false").stderr)
+        (self.room / "bin").mkdir()
+        (self.room / "fhpgas").rename(self.room / "bin/fhpgas")
+        self.assertIn("the program fhpgas is not found", ran().stderr)
+        self.assertEqual(ran(PATH=f"{self.room}/bin").stdout, ran(FHPGAS=f"{self.room}/bin/fhpgas").stdout)
 
     def test_a_plan_is_chosen_and_changes_nothing(self):
         self.assertEqual([fhpgas.plan(1024, 1024, 1000, cores) for cores in (1, 4, 8, 64)], [(1, 128), (16, 128), (32, 128), (64, 128)])
@@ -178,65 +182,51 @@ class Runs(Case):
             with client.get_executor() as executor:
                 self.assertEqual(fhpgas.side_by_side(particles_of, range(3), executor), [particles_of(seed) for seed in range(3)])
 
-    def test_what_is_no_scene_is_a_fault(self):
-        for scene in (pathlib.Path("a.toml"), None, AREA.encode()):
-            self.fault("a scene is passed as its text", fhpgas.run, scene, 1)
-        self.fault("read_scene('a.toml')", fhpgas.run, "a.toml", 1)
-        self.fault("scene: unknown key", fhpgas.run, AREA + "colour = 1", 1)
-        self.fault("plan: generations must be 0 to 1000000", fhpgas.run, AREA, 1_000_001)
-        self.fault("no/such.toml: No such file", fhpgas.read_scene, "no/such.toml")
-        self.fault("cells are passed as", fhpgas.resume, AREA, AREA)
+    def test_what_does_not_fit_is_a_fault(self):
+        cells = fhpgas.run(AREA, 3)
+        for part, function, *words in (
+                ("a scene is passed as its text", fhpgas.run, pathlib.Path("a.toml"), 1), ("a scene is passed as its text", fhpgas.run, AREA.encode(), 1),
+                ("read_scene('a.toml')", fhpgas.run, "a.toml", 1), ("scene: unknown key", fhpgas.run, AREA + "colour = 1", 1),
+                ("plan: generations must be 0 to 1000000", fhpgas.run, AREA, 1_000_001), ("no/such: No such file", fhpgas.read_scene, "no/such"),
+                ("cells are passed as", fhpgas.resume, AREA, AREA), ("of its own generation, 0", fhpgas.resume, AREA, dataclasses.replace(cells, generation=0)),
+                ("another size", fhpgas.resume, AREA.replace("66", "64"), cells), ("other cells are solid", fhpgas.resume, AREA.replace("20,", "21,"), cells),
+                ("particles, and it has", fhpgas.resume, AREA.replace("seed = 7", "seed = 8"), cells), ("`cells`", fhpgas.with_seed, fhpgas.gas(0, size=(4, 4)), 1),
+                ("`particles`", fhpgas.with_seed, AREA + "particles = [[0, 0, 1]]\n", 1), ("`rate` is 0", fhpgas.with_seed, AREA.replace("300", "0"), 1),
+                ("row 0 column 1 has state 64, and a state of fhp1 is an integer from 0 to 63", fhpgas.scene_of, [[0, 64]], "fhp1"),
+                ("row 0 column 0 is solid and contains a particle", fhpgas.scene_of, [[1]], "fhp1", [[1]]), ("state 0.5", fhpgas.scene_of, [[0.5]], "fhp1"),
+                ("two-dimensional", fhpgas.scene_of, [1], "fhp1"), ("different sizes", fhpgas.scene_of, [[1, 2]], "fhp1", [[0]]),
+                ("there is no gas 'fhp2'", fhpgas.scene_of, [[0]], "fhp2"), ("`seed` cannot be a value of type float", fhpgas.scene_of, [[1]], "hpp", None, "left", 1.0)):
+            self.fault(part, function, *words)
 
-
-class Scenes(Case):
     def test_a_run_goes_on(self):
+        """Three generations and then four are seven; another seed is another start; changed cells go on with the same random bits."""
         for gas, chirality in itertools.product(GASES, theory.CHIRALITIES):
             scene = AREA.replace("fhp1", gas).replace("seed", f'chirality = "{chirality}"\nseed')
             whole = fhpgas.run(scene, 7)
             self.assertEqual(fhpgas.run(fhpgas.resume(scene, fhpgas.run(scene, 3)), 4), whole)
             self.assertEqual([cells for cells, _ in fhpgas.series(scene, [3, 4])], [fhpgas.run(scene, 0), fhpgas.run(scene, 3), whole])
-
-    def test_a_long_run_goes_on_where_it_was_ended(self):
-        with self.room() as room:
-            kept = room / "kept.toml"
-            self.assertEqual(next(fhpgas.long_run(AREA, 10, 4, kept)), fhpgas.run(AREA, 4))
-            self.assertEqual([*fhpgas.long_run(AREA, 10, 4, kept)], [fhpgas.run(AREA, 8), fhpgas.run(AREA, 10)])
-            self.assertEqual([*fhpgas.long_run(AREA, 10, 4, kept)], [])
-            self.fault("the cells are not of this scene", [].extend, fhpgas.long_run(AREA.replace("300", "301"), 10, 4, kept))
-
-    def test_cells_of_another_scene_are_refused(self):
-        cells = fhpgas.run(AREA, 3)
-        for old, new, part in (("66", "64", "another size"), ("20, 2", "21, 2", "other cells are solid"), ("seed = 7", "seed = 8", "particles")):
-            self.fault(part, fhpgas.resume, AREA.replace(old, new), cells)
-        self.fault("of its own generation, 0", fhpgas.resume, AREA, dataclasses.replace(cells, generation=0))
-
-    def test_changed_cells_go_on_and_what_is_no_lattice_is_refused(self):
+        self.assertEqual(fhpgas.run(fhpgas.with_seed(AREA, 8), 0), fhpgas.run(AREA.replace("seed = 7", "seed = 8"), 0))
         cells = fhpgas.run(AREA, 3)
         rows = [*map(bytearray, cells.rows)]
         rows[0][0] ^= 1
         more = fhpgas.run(fhpgas.resume_changed(AREA, cells.changed(rows)), 0)
         self.assertEqual((more.generation, abs(more.particles - cells.particles), more.differing(cells)), (3, 1, 1))
-        for states, solid, part in (([[0, 64]], None, "row 0 column 1 has state 64, and a state of fhp1 is an integer from 0 to 63"), ([[0, -1]], None, "state -1"),
-                                    ([[1]], [[1]], "row 0 column 0 is solid and contains a particle"), ([[0.5]], None, "state 0.5"), ([1], None, "two-dimensional"),
-                                    ([[1, 2]], [[0]], "different sizes")):
-            self.fault(part, fhpgas.scene_of, states, "fhp1", solid)
-        self.fault("there is no gas 'fhp2'", fhpgas.scene_of, [[0]], "fhp2")
-        self.fault("`seed` cannot be a value of type float", fhpgas.scene_of, [[1]], "fhp1", seed=1.0)
 
-    def test_another_seed_is_another_start(self):
-        self.assertEqual(fhpgas.run(fhpgas.with_seed(AREA, 8), 0), fhpgas.run(AREA.replace("seed = 7", "seed = 8"), 0))
-        for scene, part in ((fhpgas.gas(0.2, size=(4, 4)), "`cells`"), (AREA + "particles = [[0, 0, 1]]\n", "`particles`"), (AREA.replace("300", "0"), "`rate` is 0")):
-            self.fault(part, fhpgas.with_seed, scene, 2)
+    def test_a_long_run_goes_on_where_it_was_ended(self):
+        kept = self.room / "kept.toml"
+        self.assertEqual(next(fhpgas.long_run(AREA, 10, 4, kept)), fhpgas.run(AREA, 4))
+        self.assertEqual([*fhpgas.long_run(AREA, 10, 4, kept)], [fhpgas.run(AREA, 8), fhpgas.run(AREA, 10)])
+        self.assertEqual([*fhpgas.long_run(AREA, 10, 4, kept)], [])
+        self.fault("the cells are not of this scene", [].extend, fhpgas.long_run(AREA.replace("300", "301"), 10, 4, kept))
 
+    # -- fields and shapes
 
-class Fields(Case):
     def test_an_equilibrium_is_that_of_fermi_and_dirac(self):
-        """It has the wanted moments, and collisions keep it: each that the table has turns as many states back as forth."""
+        """It has the wanted moments, and collisions keep it: the odds of the particles before and after are the same."""
         for name, (density, east, north) in itertools.product(GASES, ((0.2, 0.3, 0.0), (0.5, 0.1, -0.2), (0.9, 0.02, 0.03), (0.1, 0.0, 0.4))):
             chances, gas = fhpgas.equilibrium(name, density, east, north), fhpgas.gas_named(name)
             moments = [sum(n * c for n, c in zip(chances, column)) for column in ((1,) * 7, *zip(*gas.velocities))]
-            wanted = [gas.directions * density * part for part in (1, east, north)]
-            self.assertTrue(all(math.isclose(a, b, abs_tol=1e-9) for a, b in zip(moments, wanted)), (name, moments, wanted))
+            self.assertTrue(all(math.isclose(a, gas.directions * density * b, abs_tol=1e-9) for a, b in zip(moments, (1, east, north))), (name, moments))
             odds = [math.log(n / (1 - n)) for n in chances]
             for state, after in enumerate(gas.collisions("left")[: 1 << gas.directions]):
                 self.assertAlmostEqual(*(sum(o for i, o in enumerate(odds) if s >> i & 1) for s in (state, after)), places=8)
@@ -245,102 +235,71 @@ class Fields(Case):
         self.assertEqual((fhpgas.equilibrium("hpp", 0), fhpgas.equilibrium("hpp", 1)), ((0,) * 4, (1,) * 4))
 
     def test_a_gas_is_drawn_from_its_fields(self):
-        """Each direction has as many particles as its chance says, up to five standard deviations: in halves at two densities, as numbers,
-        lists and functions of the place."""
-        for name in GASES:
-            gas, half = fhpgas.gas_named(name), [[0.1] * 128 + [0.4] * 128] * 96
-            for density in (half, lambda x, y: 0.1 if x < 127.9 else 0.4):
-                cells = fhpgas.run(fhpgas.gas(density, 0.15, -0.1, size=(256, 96), gas=name, seed=3), 0)
-                drawn = fhpgas.counts(cells, 128, 96)
-                for i, column in itertools.product(range(gas.directions), (0, 1)):
-                    chance, number = fhpgas.equilibrium(name, (0.1, 0.4)[column], 0.15, -0.1)[i], 128 * 96
-                    allowed = 5 * math.sqrt(number * chance * (1 - chance)) + (half is not density) * 96
-                    self.assertLess(abs(drawn[i][0][column] - number * chance), allowed, (name, i, column))
+        """Each direction has as many particles as its chance says, up to five standard deviations: in halves at two densities, as lists and as
+        functions of the place; and a sine between the walls has its means over quarters."""
+        for name, density in itertools.product(GASES, ([[0.1] * 128 + [0.4] * 128] * 96, lambda x, y: 0.1 if x < 127.9 else 0.4)):
+            drawn = fhpgas.counts(fhpgas.run(fhpgas.gas(density, 0.15, -0.1, size=(256, 96), gas=name, seed=3), 0), 128, 96)
+            for (i, blocks), column in itertools.product(enumerate(drawn), (0, 1)):
+                chance, number = fhpgas.equilibrium(name, (0.1, 0.4)[column], 0.15, -0.1)[i], 128 * 96
+                self.assertLess(abs(blocks[0][column] - number * chance), 5 * math.sqrt(number * chance * (1 - chance)) + callable(density) * 96)
         shear = fhpgas.run(fhpgas.gas(0.3, lambda x, y: 0.2 * math.sin(math.pi * y / (64 * math.sqrt(3) / 2)), size=(512, 64), seed=1), 0).table(512, 16)
-        for (u,), part in zip(shear.velocity()[0], (0, 1, 1, 0)):  # means of a sine over its quarters
-            self.assertAlmostEqual(u, 0.2 * 4 / math.pi * (math.sqrt(0.5), 1 - math.sqrt(0.5))[1 - part], delta=0.01)
+        for (u,), part in zip(shear.velocity()[0], (0, 1, 1, 0)):
+            self.assertAlmostEqual(u, 0.2 * 4 / math.pi * (1 - math.sqrt(0.5), math.sqrt(0.5))[part], delta=0.01)
 
     def test_a_gas_is_repeatable_and_keeps_its_solid_cells(self):
         scene = fhpgas.gas(0.3, solid=DISC, seed=2)
-        self.assertEqual(scene, fhpgas.gas([0.3] * 47, solid=DISC, seed=2))
+        self.assertEqual((scene, [*map(bytes, DISC)]), (fhpgas.gas([0.3] * 47, solid=DISC, seed=2), [*fhpgas.run(scene, 3).solid]))
         self.assertNotEqual(scene, fhpgas.gas(0.3, solid=DISC, seed=3))
-        self.assertEqual([*map(bytes, DISC)], [*fhpgas.run(scene, 3).solid])
         self.assertEqual(fhpgas.run(fhpgas.gas(1, size=(5, 4)), 0).particles, 120)
-        for words, part in (((0.2,), "the size is not known"), (([0.2] * 3, 0, 0, (4, 4)), "too few rows"), (([[0.2] * 3] * 4, 0, 0, (4, 4)), "has 3 values in row 0"),
-                            ((None, 0, 0, (4, 4)), "no number"), ((1.5, 0, 0, (4, 4)), "is the filling"), ((0.2, 0.95, 0, (4, 4)), "has the velocity")):
-            self.fault(part, lambda density, east=0, north=0, size=None: fhpgas.gas(density, east, north, size=size), *words)
+        for density, east, size, part in ((0.2, 0, None, "the size is not known"), ([0.2] * 3, 0, (4, 4), "too few rows"), ([[0.2] * 3] * 4, 0, (4, 4), "3 values in row 0"),
+                                          (None, 0, (4, 4), "no number"), (1.5, 0, (4, 4), "is the filling"), (0.2, 0.95, (4, 4), "has the velocity")):
+            self.fault(part, fhpgas.gas, density, east, size=size)
         self.fault("not of 9 columns", fhpgas.gas, 0.2, size=(9, 9), solid=DISC)
 
-
-class Shapes(Case):
-    def test_discs_are_round_as_the_lattice_lies(self):
+    def test_shapes_have_their_cells(self):
         """On the triangular lattice 1, 7 and 19 cells lie within 0, 1 and 2 steps; on the square lattice 1, 5 and 13."""
         for row, (radius, hexagon, square) in itertools.product((8, 9), ((0, 1, 1), (1, 7, 5), (2, 19, 13))):
-            for gas, wanted in (("fhp1", hexagon), ("hpp", square)):
-                self.assertEqual(fhpgas.Obstacles(40, 24, gas).disc(39, row, radius).solid, wanted)
+            self.assertEqual([fhpgas.Obstacles(40, 24, gas).disc(39, row, radius).solid for gas in ("fhp1", "hpp")], [hexagon, square])
         disc = fhpgas.Obstacles(80, 64).disc(40, 31, 16)
         self.assertEqual((disc.rows[31].count(1), sum(map(any, disc.rows))), (33, 37))
-
-    def test_shapes_have_their_area(self):
         corners = [(5, 5), (60, 12), (30, 55)]
         area = abs(sum(a * d - b * c for (a, b), (c, d) in zip(corners, corners[1:] + corners[:1]))) / 2
-        self.assertLess(abs(fhpgas.Obstacles(80, 64).polygon(corners).solid - area), 60)  # half of the cells at its rim
-        porous = fhpgas.Obstacles(60, 40).porous(25, 2, 5)
+        self.assertAlmostEqual(fhpgas.Obstacles(80, 64).polygon(corners).solid, area, delta=60)  # half of the cells at its rim
+        porous, nozzle = fhpgas.Obstacles(60, 40).porous(25, 2, 5), fhpgas.Obstacles(64, 31).nozzle(7, 40)
         self.assertTrue(600 <= porous.solid < 619 and porous.solid == sum(map(sum, porous.rows)))
-        nozzle = fhpgas.Obstacles(64, 31).nozzle(7, 40)
         openings = [31 - sum(row[x] for row in nozzle.rows) for x in range(64)]
         self.assertTrue(min(openings) == openings[32] == 7 and {31} == {*openings[:12], *openings[52:]} and openings[:33] == sorted(openings[:33])[::-1])
         covered = [(x + i, y + j) for x, y, w, h in porous.rectangles() for i in range(w) for j in range(h)]
         self.assertEqual(sorted(covered), sorted((x, y) for y in range(40) for x in range(60) if porous[y][x]))
-        for function, words, part in (("disc", (64, 0, 1), "column 64 and row 0"), ("disc", (0, 0, -1), "radius is -1"), ("block", (60, 0, 5, 1), "a block leaves"),
-                                      ("nozzle", (0, 1), "throat"), ("porous", (101, 1), "percent"), ("polygon", ([],), "three corners")):
-            self.fault(part, getattr(fhpgas.Obstacles(64, 24), function), *words)
 
     def test_a_picture_is_a_mask(self):
         """The same letter as PBM, in both kinds, and as PNG: in grey by each filter, in colours, of a palette and of one bit."""
-        letter = ["###.", "#..#", "###.", "#.#.", "#..#"]
-        dark = [[pixel == "#" for pixel in row] for row in letter]
+        dark = [[pixel == "#" for pixel in row] for row in ("###.", "#..#", "###.", "#.#.", "#..#")]
         bits = [bytes([sum(d << 7 - x for x, d in enumerate(row))]) for row in dark]
         grey = [bytes(0 if d else 255 for d in row) for row in dark]
-        kinds = [(b"P1 # letter\n4 5\n" + b"\n".join(b" ".join(b"01"[d : d + 1] for d in row) for row in dark)), b"P4\n4 5\n" + b"".join(bits)]
-        kinds += [png_of(4, 5, 8, 0, [filtered(kind, grey[y], grey[y - 1] if y else bytes(4)) for y in range(5)]) for kind in range(5)]
-        kinds.append(png_of(4, 5, 8, 6, [b"\0" + b"".join(bytes((0, 0, 0, 255 if d else 0)) for d in row) for row in dark]))
-        kinds.append(png_of(4, 5, 1, 3, [b"\0" + row for row in bits], b"PLTE" + b"\xff\xff\xff\0\0\0"))
-        with self.room() as room:
-            for data in kinds:
-                (room / "letter").write_bytes(data)
-                self.assertEqual(pictures.read_mask(room / "letter"), dark, data)
-            drawn = fhpgas.Obstacles(64, 40).picture(room / "letter", 6, 10, 4)
-            self.assertEqual({(drawn[y][x]) for y, x in ((5, 12), (30, 12), (25, 24))} | {drawn[y][x] + 2 for y, x in ((5, 30), (3, 12), (15, 20))}, {1, 2})
-            self.assertAlmostEqual(drawn.solid, sum(map(sum, dark)) * 36 / (math.sqrt(3) / 2), delta=40)
-            for data, part in ((b"GIF", "neither PBM nor PNG"), (kinds[2][:50], "damaged"), (b"P1\n4", "damaged")):
-                (room / "letter").write_bytes(data)
-                self.fault(part, pictures.read_mask, room / "letter")
+        kinds = [b"P1 # letter\n4 5\n" + b"\n".join(b" ".join(b"01"[d : d + 1] for d in row) for row in dark), b"P4\n4 5\n" + b"".join(bits)]
+        kinds += [png_of(8, 0, [filtered(kind, grey[y], grey[y - 1] if y else bytes(4)) for y in range(5)]) for kind in range(5)]
+        kinds.append(png_of(8, 6, [b"\0" + b"".join(bytes((0, 0, 0, 255 if d else 0)) for d in row) for row in dark]))
+        kinds.append(png_of(1, 3, [b"\0" + row for row in bits], b"PLTE" + b"\xff\xff\xff\0\0\0"))
+        for data in kinds:
+            (self.room / "letter").write_bytes(data)
+            self.assertEqual(pictures.read_mask(self.room / "letter"), dark, data)
+        drawn = fhpgas.Obstacles(64, 40).picture(self.room / "letter", 6, 10, 4)
+        self.assertEqual([drawn[y][x] for y, x in ((5, 12), (30, 12), (25, 24), (5, 30), (3, 12), (15, 20))], [1, 1, 1, 0, 0, 0])
+        self.assertAlmostEqual(drawn.solid, sum(map(sum, dark)) * 36 / (math.sqrt(3) / 2), delta=40)
+        for data, part in ((b"GIF", "neither PBM nor PNG"), (kinds[2][:50], "damaged"), (b"P1\n4", "damaged")):
+            (self.room / "letter").write_bytes(data)
+            self.fault(part, pictures.read_mask, self.room / "letter")
 
+    # -- flows
 
-def png_of(width, height, depth, colour, lines, *more):
-    """A PNG of lines with their filters, written by the specification."""
-    parts = [b"IHDR" + struct.pack(">IIBBBBB", width, height, depth, colour, 0, 0, 0), *more, b"IDAT" + zlib.compress(b"".join(lines)), b"IEND"]
-    return b"\x89PNG\r\n\x1a\n" + b"".join(struct.pack(">I", len(part) - 4) + part + struct.pack(">I", zlib.crc32(part)) for part in parts)
-
-
-def filtered(kind, line, above):
-    """A line of a grey PNG by one of its five filters: what its guess leaves."""
-    left, corner = b"\0" + line, b"\0" + above
-    paeth = [min((a, b, c), key=lambda v: abs(a + b - c - v)) for a, b, c in zip(left, above, corner)]
-    guess = ([0] * len(line), left, above, [(a + b) // 2 for a, b in zip(left, above)], paeth)[kind]
-    return bytes([kind]) + bytes(v - g & 255 for v, g in zip(line, guess))
-
-
-class Flows(Case):
     def test_collisions_are_those_of_the_program(self):
         """Each state alone, three cells apart on an odd row: after a generation its particles are where the program moved them."""
         for name, side in itertools.product(GASES, ("left", "right")):
             gas = fhpgas.gas_named(name)
-            number = 1 << gas.directions
-            row = [state if offset == 1 else 0 for state in range(number) for offset in range(3)]
+            row = [state if offset == 1 else 0 for state in range(1 << gas.directions) for offset in range(3)]
             after = fhpgas.run(fhpgas.scene_of([[0] * len(row), row, [0] * len(row)], name, chirality=side), 1).states
-            for state in range(number):
+            for state in range(1 << gas.directions):
                 found = sum(after[1 + dy][(3 * state + 1 + dx) % len(row)] & 1 << i for i, (dx, dy) in enumerate(gas.steps[1]))
                 self.assertEqual(found, gas.collisions(side)[state], (name, side, state))
 
@@ -362,10 +321,9 @@ class Flows(Case):
                 for old, new, *forces in zip(momentum_of(before), momentum_of(after), *fhpgas.forces(after).values()):
                     self.assertAlmostEqual(old - new, sum(forces))
             self.assertEqual(fhpgas.forces(after, part=lambda x, y: x > 60)["solid"], (0, 0))
-            if gas == "hpp":
-                self.fault("hpp keeps the momentum along each row", fhpgas.staggered, after)
-            else:
+            if gas != "hpp":
                 self.assertEqual(len({fhpgas.staggered(cells) for cells in runs}), 1)
+        self.fault("hpp keeps the momentum along each row", fhpgas.staggered, after, "hpp")
         self.assertEqual(len(fhpgas.staggered(fhpgas.run(AREA.replace("66", "65"), 1))), 1)
 
     def test_a_driven_run_is_repeatable_and_tells_its_force(self):
@@ -375,15 +333,15 @@ class Flows(Case):
             self.assertEqual(points, [*fhpgas.driven(scene, 60, 10, force=0.001, seed=4)])
             number = fhpgas.fluid(points[0].before)
             for point in points:
-                old, new = momentum_of(point.before), momentum_of(point.after)
-                self.assertEqual((new[0] - old[0], point.after.particles), (2 * point.turned, point.before.particles))
-                self.assertAlmostEqual(point.force, 2 * point.turned / 10 / number)
+                given = momentum_of(point.after)[0] - momentum_of(point.before)[0]
+                self.assertEqual((given, point.after.particles), (2 * point.turned, point.before.particles))
+                self.assertAlmostEqual(point.force, given / 10 / number)
                 self.assertEqual(fhpgas.run(point.scene, 0), point.after)
             self.assertAlmostEqual(sum(point.force for point in points) / 7, 0.001, delta=47 * 2 / 70 / number)
         for flow in (0.1, -0.1):
             point = [*fhpgas.driven(scene, 20, 10, flow=flow)][-1]
             self.assertAlmostEqual(momentum_of(point.after)[0] / point.after.particles, flow, delta=47 / point.after.particles)
-        for options, part in (({}, "either by a force"), ({"force": 1, "flow": 1}, "either by a force"), ({"force": 5.0}, "no particle to turn"), ({"force": 1, "every": 7}, "multiple of 7")):
+        for options, part in (({}, "either by a force"), ({"force": 5.0}, "no particle to turn"), ({"force": 1, "every": 7}, "multiple of 7")):
             self.fault(part, next, fhpgas.driven(scene, 20, **options))
 
     def test_theory_is_that_of_the_published_formulas(self):
@@ -396,74 +354,38 @@ class Flows(Case):
                 chances = fhpgas.equilibrium(gas, d, 0.01)
                 xx, _, yy = fhpgas.flux(chances, gas)
                 self.assertAlmostEqual((xx - yy) / sum(chances) / 0.01**2, theory.galilean_factor(gas, d), places=3)
-        self.assertEqual(round(theory.numbers("fhp1", 0.2, 0.3, 40).reynolds, 2), 6.53)
-        best = max(theory.numbers("fhp-rest", d / 1000, theory.sound_speed("fhp-rest"), 1).reynolds for d in range(100, 300))
-        self.assertEqual(round(best, 2), 1.08)  # the published largest Reynolds coefficient of FHP-II
-        table = fhpgas.coarse(fhpgas.gas(0.2, size=(512, 512), seed=1), 20, 16, 16)
-        speeds = sum(table.velocity()[0], [])
+        best = max(fhpgas.numbers("fhp-rest", d / 1000, theory.sound_speed("fhp-rest"), 1).reynolds for d in range(100, 300))
+        self.assertEqual((round(best, 2), round(fhpgas.numbers("fhp1", 0.2, 0.3, 40).mach, 3)), (1.08, 0.424))  # that of FHP-II, and 0.3 sqrt(2)
+        speeds = sum(fhpgas.coarse(fhpgas.gas(0.2, size=(512, 512), seed=1), 20, 16, 16).velocity()[0], [])
         self.assertAlmostEqual(math.sqrt(sum(u * u for u in speeds) / len(speeds)) / theory.noise("fhp1", 0.2, 256), 1, delta=0.1)
         self.fault("hpp has no viscosity", theory.viscosity, "hpp", 0.2)
         self.fault("a density is the filling", theory.noise, "fhp1", 1.5, 10)
 
     def test_vorticity_of_a_rotation(self):
-        """u = -w y, v = w x has the vorticity 2 w; smoothing leaves it, away from the seam."""
-        momenta = [[(round(-40 * (2 - row) * 9 * math.sqrt(3)), round(40 * 8 * (column - 2) * 2 / math.sqrt(3))) for column in range(5)] for row in range(5)]
-        table = tables.Table([[72] * 5] * 5, [[10_000] * 5] * 5, [[px for px, _ in row] for row in momenta], [[py for _, py in row] for row in momenta], "fhp1", (8, 9))
+        """u = -w y, v = w x has the vorticity 2 w; smoothing leaves it, away from the walls."""
+        px = [[round(-40 * (2 - row) * 9 * math.sqrt(3))] * 5 for row in range(5)]
+        py = [[round(40 * 8 * (column - 2) * 2 / math.sqrt(3)) for column in range(5)]] * 5
+        table = tables.Table([[72] * 5] * 5, [[10_000] * 5] * 5, px, py, "fhp1", (8, 9))
         for found, row in ((fhpgas.vorticity(table), 1), (fhpgas.vorticity(fhpgas.smooth(table)), 2)):
             self.assertAlmostEqual(found[row][2], 2 * 40 / 10_000, places=4)
         self.fault("the size of the blocks is not known", fhpgas.vorticity, fhpgas.read_table(TABLE), "fhp1")
 
-
-class Pictures(Case):
-    def read(self, data):
-        """The chunks of a PNG, each with its checksum in order."""
-        at, found = 8, []
-        while at < len(data):
-            length = struct.unpack(">I", data[at : at + 4])[0]
-            found.append((data[at + 4 : at + 8], data[at + 8 : at + 8 + length]))
-            self.assertEqual(struct.unpack(">I", data[at + 8 + length : at + 12 + length])[0], zlib.crc32(data[at + 4 : at + 8 + length]))
-            at += 12 + length
-        return found
-
     def test_a_picture_has_the_colours_of_its_numbers_and_its_frames(self):
-        table = tables.Table([[72, 72, 0, 72]], [[72, 144, 0, 108]], [[0] * 4], [[0] * 4], "fhp1", (8, 9))
-        with self.room() as room:
-            self.assertEqual(fhpgas.picture(room / "a.png", "density", table, scale=40), (1, 2))
-            (_, head), (_, packed), _ = self.read((room / "a.png").read_bytes())
-            width, height = struct.unpack(">II", head[:8])
-            lines = zlib.decompress(packed)
-            self.assertEqual((width, height, lines[1:4], lines[121:124], lines[241:244]), (160, 55, bytes(pictures.HEAT[0]), bytes(pictures.HEAT[-1]), pictures.GREY))
-            self.assertEqual(lines[361:364], bytes(pictures.HEAT[2]))
-            fhpgas.picture(room / "b.png", "density", table, fhpgas.total([table, table]))
-            self.assertEqual([kind for kind, _ in self.read((room / "b.png").read_bytes())], [b"IHDR", b"acTL", b"fcTL", b"IDAT", b"fcTL", b"fdAT", b"IEND"])
-            fhpgas.svg(room / "c.svg", fhpgas.read_cells(HEAD_ON, "fhp1"))
-            self.assertEqual([(room / "c.svg").read_text().count(part) for part in ("<line", 'r="16"', 'r="2"')], [2, 1, 11])
-            self.fault("there is no picture of 'heat'", fhpgas.picture, room / "d.png", "heat", table)
-            self.fault("No such file", fhpgas.picture, room / "no/d.png", "speed", table)
+        table, heat = tables.Table([[72, 72, 0, 72]], [[72, 144, 0, 108]], [[0] * 4], [[0] * 4], "fhp1", (8, 9)), pictures.HEAT
+        self.assertEqual(fhpgas.picture(self.room / "a.png", "density", table, scale=40), (1, 2))
+        (_, head), (_, packed), _ = chunks_of((self.room / "a.png").read_bytes())
+        self.assertEqual(struct.unpack(">II", head[:8]), (160, 55))
+        pixels = zlib.decompress(packed)[1:481]
+        self.assertEqual([pixels[at : at + 3] for at in (0, 120, 240, 360)], [bytes(heat[0]), bytes(heat[-1]), pictures.GREY, bytes(heat[2])])
+        fhpgas.picture(self.room / "b.png", "density", table, fhpgas.total([table, table]))
+        self.assertEqual([kind for kind, _ in chunks_of((self.room / "b.png").read_bytes())], [b"IHDR", b"acTL", b"fcTL", b"IDAT", b"fcTL", b"fdAT", b"IEND"])
+        fhpgas.svg(self.room / "c.svg", fhpgas.read_cells(HEAD_ON, "fhp1"))
+        self.assertEqual([(self.room / "c.svg").read_text().count(part) for part in ("<line", 'r="16"', 'r="2"')], [2, 1, 11])
+        self.fault("there is no picture of 'heat'", fhpgas.picture, self.room / "d.png", "heat", table)
+        self.fault("No such file", fhpgas.picture, self.room / "no/d.png", "speed", table)
 
+    # -- the command line
 
-EXPLAINED = [
-    ('gas = "fhp1"\ncells = ["01"\n"01"]\n', "scene: not TOML", "line 3, column 1: Unclosed array"),
-    ("gas = hpp\n", "scene: not TOML", "line 1, column 7: Invalid value: a text needs quotes"),
-    ("gas = \u201chpp\u201d\n", "scene: not TOML", "line 1, column 7: Invalid value: the quotes are curly"),
-    ('gas = "hpp"\nparticles = [[0, 0, 3f]]\n', "scene: not TOML", "a hexadecimal state is 0x3f"),
-    (HEAD_ON, "scene: not TOML", "the text is what `run` prints"),
-    ('gas = "fhp1"\ncells = [".."]\nseed = 9223372036854775808\n', "scene: not TOML", "line 3, column 1: 9223372036854775808 is no integer of 64 bits"),
-    ('# a\n[scene]\ngas = "fhp1"\n', "scene: unknown key", "line 2, column 2: \"scene\" is no key of a scene, and all keys stand at the top level"),
-    ('generation = 3\ngas = "fhp1"\ncells = [".."]\n', "scene: unknown key", "line 1, column 1: `generation` is a key of version 2 alone"),
-    ('gas = "fhp1"\ncells = [".."]\n  width = 3\n', "scene: both forms", "line 3, column 3: `width` is a key of an area"),
-    ('gas = "fhp1"\nwidth = 3\n', "scene: missing key", "`height` is missing"),
-    ('gas = "fhp1"\nwidth = 3\nheight = 3\nsolid = [[0, 0, 1, 1],\n  [1, 1, 1]]\n', "scene: wrong type", "line 5, column 3: entry 1 of `solid`"),
-    ('gas = "fhp1"\nwidth = 3\nheight = 3\nsolid = [0, 0, 1, 1]\n', "scene: wrong type", "must be a list of entries: [[0, 0, 1, 1]]"),
-    ('gas = "fhp1"\nwidth = 5000\nheight = 3\n', "scene: out of range", "must be 1 to 4096 (with `version = 2` to 65536)"),
-    ('gas = "fhp1"\nwidth = 4\nheight = 3\nsolid = [[0, 0, 1, 1], [3, 0, 2, 1]]\n', "scene: out of range", "line 4, column 24: rectangle 1, [3, 0, 2, 1], leaves"),
-    ('gas = "hpp"\nwidth = 4\nheight = 3\nparticles = [[1, 1, 16]]\n', "scene: out of range", "has state 16, and those of hpp are 0 to 15"),
-    ('gas = "fhp1"\ncells = ["..", "....", "...."]\n', "scene: row 1 has a wrong length", "so row 0 may be the wrong one"),
-    ('gas = "fhp1"\ncells = [\n  "0101",\n  "013F",\n]\n', "scene: row 1 cell 1 is not a cell", "line 4, column 6: `3F` has a capital digit"),
-]
-
-
-class Commands(Case):
     def test_refused_scenes_are_explained(self):
         for text, line, reason in EXPLAINED:
             told = fhpgas.explain(text)
@@ -471,7 +393,7 @@ class Commands(Case):
             self.fault(line, fhpgas.check, text)
         done = self.command("explain", "-", text='gas = "FHP1"\nwidth = 48\nhight = 24\nrate = "200"\nsolid = [[40, 2, 30, 4]]\n')
         self.assertEqual((done.returncode, done.stderr), (1, ""))
-        self.assertEqual([part for part in re.findall(r"scene: [a-z ]+|\w+`$|column 69", done.stdout, re.M)], [
+        self.assertEqual(re.findall(r"scene: [a-z ]+|\w+`$|column 69", done.stdout, re.M), [
             "scene: unknown key", "height`", "scene: wrong type", "scene: out of range", "fhp1`", "column 69"])
         for path in sorted((needs.ROOT / "scenes").glob("*.toml")):
             self.assertEqual(refusals.explanation(path.read_bytes()), refusals.NOT_REFUSED, path)
@@ -481,51 +403,73 @@ class Commands(Case):
         for words, solid in (("blocks --width 20 --height 9 --block 3 2 4 5 --block 4 3 5 2", 24), ("blocks --width 12 --height 8 --closed --gas hpp", 8),
                              ("discs --disc 10 8 1 --wind 300 -100", 7), ("nozzle --throat 24", 0), ("polygons --polygon 1.75 1.5 9.25 1.5 9.25 9.5 1.75 9.5", 60),
                              ("blocks --width 4999 --height 2 --block 4998 0 1 2", 2), ("porous --percent 100 --height 5 --wind 100", 320)):
-            done = self.command("draw", *words.split())
-            lattice, summary = reader.read(done.stdout.encode(), 10_000), fhpgas.check(done.stdout)
-            self.assertEqual((summary.solid, summary.particles), (solid, lattice.particles()), words)
-            self.assertEqual(done.stdout, fhpgas.draw(words))
-        self.assertIn("version = 2\n", fhpgas.draw("blocks --width 4999"))
-        self.assertEqual(fhpgas.draw("blocks --gas hpp --rate 30", 9), 'gas = "hpp"\nchirality = "seeded"\nseed = 9\nwidth = 64\nheight = 24\nrate = 30\n')
+            text = fhpgas.draw(words)
+            summary = fhpgas.check(text)
+            self.assertEqual((summary.solid, summary.particles), (solid, reader.read(text.encode(), 10_000).particles()), words)
+        self.assertEqual(self.command("draw", *"blocks --gas hpp --rate 30 --seed 9 --width 4999".split()).stdout,
+                         'version = 2\ngas = "hpp"\nchirality = "seeded"\nseed = 9\nwidth = 4999\nheight = 24\nrate = 30\n')
         for wind in ("", " --wind 1"):
             patch = fhpgas.run(fhpgas.draw(f"blocks --width 12 --height 8 --rate 0 --patch 2 3 4 2 600 --block 3 4 1 1{wind}", 1), 0)
             self.assertTrue(14 < patch.particles < 40 and not any(map(any, patch.states[:3])), patch)
-
-    def test_what_cannot_be_drawn_is_refused(self):
         for words in ("", "cubes", "blocks --width 0", "blocks --height 65537", "blocks --rate 1001", "blocks --seed -1", "blocks --block 60 0 5 1", "nozzle --length 65",
-                      "blocks --patch 0 0 1 1 1001", "discs --disc 64 0 1", "porous --percent 101", "blocks --gas fhp2", "blocks --rate 800 --wind 250",
-                      "blocks --width 65536 --height 512 --wind 1", "blocks --wind x", "bitmap no.png", "polygons --polygon 1 2 3 4", "polygons --polygon 1 2 3 4 5 6 7", "blocks --wind 1 2 3"):
+                      "blocks --patch 0 0 1 1 1001", "discs --disc 64 0 1", "discs --disc 0 0 -1", "porous --percent 101", "blocks --gas fhp2", "blocks --rate 800 --wind 250",
+                      "blocks --width 65536 --height 512 --wind 1", "blocks --wind x", "bitmap no.png", "polygons --polygon 1 2 3 4", "polygons --polygon 1 2 3 4 5 6 7",
+                      "blocks --wind 1 2 3"):
             self.fault("", drawing.draw, words)
-        self.refused("a block leaves the channel", "draw", "blocks", "--block", 60, 0, 5, 1)
 
-    def test_every_command_has_help_and_refuses_other_words(self):
-        for words in ((), ("draw",), ("draw", "discs"), ("explain",), ("picture",), ("how-long",), ("resume",), ("long-run",), ("over-time",), ("over-seeds",), ("numbers",)):
-            done = self.command(*words, "--help")
+    def test_every_command_has_help_and_refuses_what_does_not_fit(self):
+        commands = ("draw", "draw discs", "explain", "picture", "how-long", "resume", "long-run", "over-time", "over-seeds", "numbers", "")
+        for words in commands:
+            done = self.command(*words.split(), "--help")
             self.assertTrue(done.returncode == 0 and done.stdout and not done.stderr, words)
-            self.refused("fhpgas: ", *words, "--colour")
-        for words, part in ((("explain", "no.toml"), "no.toml: No such file"), (("how-long", "-", 10), "scene: missing key"), (("over-time", "-", 10, 3), "no multiple"),
-                            (("numbers", "--gas", "hpp", "--density", 0.2, "--speed", 0.1, "--length", 9), "hpp has no viscosity"), (("resume", "-", "no.txt"), "no.txt"),
-                            (("over-seeds", "--generations", 1, "--drawn", "discs", "--wind", 950), "velocity"), (("picture", "speed", "a.png", "-"), "no whole table")):
-            self.refused(part, *words)
+        for words, part in (*((f"{words} --colour", "fhpgas: ") for words in commands), ("explain no.toml", "no.toml: No such file"), ("how-long - 10", "scene: missing key"),
+                            ("over-time - 10 3", "no multiple"), ("numbers --gas hpp --density 0.2 --speed 0.1 --length 9", "hpp has no viscosity"),
+                            ("resume - no.txt", "no.txt"), ("over-seeds --generations 1 --drawn discs --wind 950", "velocity"),
+                            ("picture speed a.png -", "no whole table"), ("draw blocks --block 60 0 5 1", "a block leaves the channel")):
+            done = self.command(*words.split())
+            self.assertEqual((done.returncode, done.stdout, done.stderr.count("\n")), (1, "", 1), done)
+            self.assertIn(part, done.stderr)
 
     def test_commands_print_what_the_functions_return(self):
-        with self.room() as room:
-            (room / "a.toml").write_text(AREA)
-            (room / "three").write_text(fhpgas.run(AREA, 3).text())
-            self.assertEqual(self.command("resume", "a.toml", "three", folder=room).stdout, fhpgas.resume(AREA, fhpgas.run(AREA, 3)))
-            over_time = self.command("over-time", "a.toml", 20, 10, "--block", 11, 9, folder=room).stdout
-            wanted = (f"{fhpgas.run(AREA, steps).text().split(chr(10))[0]}\n{fhpgas.coarse(AREA, steps, 11, 9).text()}" for steps in (0, 10, 20))
-            self.assertEqual(over_time, "".join(wanted))
-            self.assertEqual(self.command("long-run", "a.toml", 10, 4, "kept", folder=room).stdout.count("\n"), 3)
-            self.assertEqual(fhpgas.run(scenes.read_scene(room / "kept"), 0), fhpgas.run(AREA, 10))
-            self.assertIn("density from 1", self.command("picture", "density", "a.png", "three", "--block", 66, 9, folder=room).stdout)
-            told = self.command("how-long", "a.toml", 1000, "--seconds", 1, folder=room).stdout
-            self.assertRegex(told, r"^[\d,]+ MLUPS with 1 worker and 128 rows per belt\n1000 generations of 594 cells: about [\d.e-]+ seconds\n$")
-            line = self.command("over-seeds", "--seeds", 3, "--generations", 5, "--block", 66, 9, "a.toml", folder=room).stdout.split("\n")[1].split()
-            many = [fhpgas.coarse(fhpgas.with_seed(AREA, seed), 5, 66, 9) for seed in (1, 2, 3)]
-            mean, error = fhpgas.mean(table.velocity()[0][0][0] for table in many)
-            self.assertTrue(abs(float(line[5]) - mean) < 1e-4 * abs(mean) + 1e-9 and abs(float(line[6]) - error) < 0.1 * error, (line, mean, error))
+        (self.room / "a.toml").write_text(AREA)
+        (self.room / "three").write_text(fhpgas.run(AREA, 3).text())
+        self.assertEqual(self.command("resume", "a.toml", "three").stdout, fhpgas.resume(AREA, fhpgas.run(AREA, 3)))
+        wanted = (f"{fhpgas.run(AREA, steps).text().split(chr(10))[0]}\n{fhpgas.coarse(AREA, steps, 11, 9).text()}" for steps in (0, 10, 20))
+        self.assertEqual(self.command("over-time", "a.toml", 20, 10, "--block", 11, 9).stdout, "".join(wanted))
+        self.assertEqual(self.command("long-run", "a.toml", 10, 4, "kept").stdout.count("\n"), 3)
+        self.assertEqual(fhpgas.run(fhpgas.read_scene(self.room / "kept"), 0), fhpgas.run(AREA, 10))
+        self.assertIn("density from 1", self.command("picture", "density", "a.png", "three", "--block", 66, 9).stdout)
+        told = self.command("how-long", "a.toml", 1000, "--seconds", 1).stdout
+        self.assertRegex(told, r"^[\d,]+ MLUPS with 1 worker and 128 rows per belt\n1000 generations of 594 cells: about [\d.e-]+ seconds\n$")
+        line = self.command("over-seeds", "--seeds", 3, "--generations", 5, "--block", 66, 9, "a.toml").stdout.split("\n")[1].split()
+        mean, error = fhpgas.mean(fhpgas.coarse(fhpgas.with_seed(AREA, seed), 5, 66, 9).velocity()[0][0][0] for seed in (1, 2, 3))
+        self.assertTrue(abs(float(line[5]) - mean) < 1e-4 * abs(mean) + 1e-9 and abs(float(line[6]) - error) < 0.1 * error, (line, mean, error))
         self.assertRegex(self.command("numbers", "--density", 0.2, "--speed", 0.3, "--length", 40).stdout, r"mach +0\.4243\nreynolds +6\.533\n")
+
+
+def png_of(depth, colour, lines, *more):
+    """A PNG of 4 x 5 pixels, from its lines with their filters, written by the specification."""
+    parts = [b"IHDR" + struct.pack(">IIBBBBB", 4, 5, depth, colour, 0, 0, 0), *more, b"IDAT" + zlib.compress(b"".join(lines)), b"IEND"]
+    return b"\x89PNG\r\n\x1a\n" + b"".join(struct.pack(">I", len(part) - 4) + part + struct.pack(">I", zlib.crc32(part)) for part in parts)
+
+
+def filtered(kind, line, above):
+    """A line of a grey PNG by one of its five filters: what its guess leaves."""
+    left, corner = b"\0" + line, b"\0" + above
+    paeth = [min((a, b, c), key=lambda v: abs(a + b - c - v)) for a, b, c in zip(left, above, corner)]
+    guess = ([0] * len(line), left, above, [(a + b) // 2 for a, b in zip(left, above)], paeth)[kind]
+    return bytes([kind]) + bytes(v - g & 255 for v, g in zip(line, guess))
+
+
+def chunks_of(data):
+    """The chunks of a PNG whose checksums are right."""
+    at, found = 8, []
+    while at < len(data):
+        length = struct.unpack(">I", data[at : at + 4])[0]
+        part, (checksum,) = data[at + 4 : at + 8 + length], struct.unpack(">I", data[at + 8 + length : at + 12 + length])
+        found.append((part[:4], part[4:]) if checksum == zlib.crc32(part) else None)
+        at += 12 + length
+    return found
 
 
 if __name__ == "__main__":
