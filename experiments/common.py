@@ -52,20 +52,19 @@ def compare(name, values, theory, digits=3):
 
 
 def wave(step, values, frequency, rate):
-    """The frequency and the rate of exp(-rate t) (A cos + B sin)(frequency t) that fit values at the times 0, step, 2 step .. best, from a guess:
-    one after the other they move to the lowest point of the parabola through three places."""
+    """The frequency and the rate of exp(-rate t) (A cos + B sin)(frequency t) that fit values at the times 0, step, 2 step .. best. From a
+    guess each moves in turn to the lowest point of the parabola through three places, which come closer."""
     def residual(place):
-        basis = [[math.exp(-place[1] * step * n) * f(place[0] * step * n) for n in range(len(values))] for f in (math.cos, math.sin)]
-        (aa, ab, bb), (a, b) = [sum(map(float.__mul__, *pair)) for pair in ((basis[0], basis[0]), basis, (basis[1], basis[1]))], [
-            sum(map(float.__mul__, one, values)) for one in basis]
-        det = aa * bb - ab * ab
-        return sum(v * v for v in values) - (a * (a * bb - b * ab) + b * (b * aa - a * ab)) / det
+        damped = [math.exp(-place[1] * step * n) for n in range(len(values))]
+        cos, sin = ([size * turn(place[0] * step * n) for n, size in enumerate(damped)] for turn in (math.cos, math.sin))
+        cc, cs, ss, cv, sv, vv = (sum(a * b for a, b in zip(*pair)) for pair in (
+            (cos, cos), (cos, sin), (sin, sin), (cos, values), (sin, values), (values, values)))
+        return vv - (cv * cv * ss - 2 * cv * sv * cs + sv * sv * cc) / (cc * ss - cs * cs)
 
     place, widths = [frequency, rate], [frequency / 20, rate / 2]
-    for _ in range(60):
-        for k in (0, 1):
-            low, here, high = (residual([p + shift * widths[k] * (j == k) for j, p in enumerate(place)]) for shift in (-1, 0, 1))
-            bend = low + high - 2 * here
-            place[k] += widths[k] * max(-2, min(2, (low - high) / 2 / bend)) if bend > 0 else widths[k] * (1 if high < low else -1)
-            widths[k] *= 0.8
+    for k in [0, 1] * 60:
+        low, here, high = (residual([*place[:k], place[k] + shift * widths[k], *place[k + 1 :]]) for shift in (-1, 0, 1))
+        bend = low + high - 2 * here
+        place[k] += widths[k] * (max(-2, min(2, (low - high) / 2 / bend)) if bend > 0 else 1 if high < low else -1)
+        widths[k] *= 0.8
     return place

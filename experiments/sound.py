@@ -53,7 +53,7 @@ def main():
     reader = common.Options(__doc__, "fhp1", "fhp-rest", "hpp")
     reader.option("--density", common.number(0.05, 0.9), 0.3, 0.3, "the filling d", metavar="D")
     reader.option("--height", common.whole(16, 512), 128, 32, "rows")
-    reader.option("--width", common.whole(256, 65536), 4096, 2048, "columns")
+    reader.option("--width", common.whole(256, 65536), 2048, 2048, "columns")
     reader.option("--seeds", common.whole(2, 1000), 8, 4, "how many")
     asked = reader.parse_args()
     for is_diagonal in (False, True) if asked.gas == "hpp" else (False,):
