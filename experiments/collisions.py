@@ -39,16 +39,16 @@ def summed_factor(gas, d, u=0.001):
 
 
 def in_a_channel(gas):
-    """The numbers of particles that occur, and whether each change of the momentum is what walls and disc gave."""
+    """The numbers of particles that occur, and in how many generations the momentum changes by what walls and disc gave."""
     scene = fhpgas.gas(0.2, 0.2, solid=fhpgas.Obstacles(64, 24, gas.name).disc(20, 12, 4), gas=gas.name, seed=1)
-    numbers, before, is_kept = set(), None, True
+    numbers, before, balanced = set(), None, 0
     for cells, _ in fhpgas.series(scene, [1] * 100):
         flow = [sum(n * c[axis] for n, c in zip(fhpgas.counts(cells), gas.velocities)) for axis in (0, 1)]
         taken = [sum(force[axis] for force in fhpgas.forces(cells).values()) for axis in (0, 1)]
-        is_kept &= before is None or all(abs(old - new - lost) < 1e-6 for old, new, lost in zip(before, flow, taken))
+        balanced += before is not None and all(abs(old - new - lost) < 1e-6 for old, new, lost in zip(before, flow, taken))
         numbers.add(cells.particles)
         before = flow
-    return numbers, is_kept
+    return " ".join(map(str, sorted(numbers))), balanced
 
 
 def main():
@@ -62,7 +62,7 @@ def main():
         print(f"   {state:02x}     {left[state]:02x}     {right[state]:02x}")
     print(f"tables that are those of the rules: {rules} of 2")
     print(f"states that conserve particles and momentum: {kept} of {len(left)}")
-    print("100 generations past a disc: particles {}, momentum balanced: {}".format(*in_a_channel(gas)))
+    print("past a disc: particles {}, momentum balanced in {} of 100 generations".format(*in_a_channel(gas)))
     for d in FILLINGS if gas.name in FORMULAS else ():
         nu, g = FORMULAS[gas.name](d)
         print(f"d {d}: viscosity, summed {theory.viscosity(gas.name, d):.4f} formula {nu:.4f}, g, summed {summed_factor(gas, d):.4f} formula {g:.4f}")

@@ -70,7 +70,7 @@ def is_viscous(gas, chirality):
 def collides(gas, number, states):
     output = printed(f"collisions.py --gas {gas}")
     for line in (f"{gas}: {number} of {states} states collide", "tables that are those of the rules: 2 of 2",
-                 f"states that conserve particles and momentum: {states} of {states}", "momentum balanced: True"):
+                 f"states that conserve particles and momentum: {states} of {states}", "momentum balanced in 100 of 100 generations"):
         assert line in output, line
     sums = re.findall(r"summed (\S+) formula ([\d.]+)", output)
     assert len(sums) == (0 if gas == "hpp" else 10) and all(abs(float(a) - float(b)) < 2e-4 for a, b in sums), sums
