@@ -1,7 +1,6 @@
 pub mod Bits
 pub mod Cells
 pub mod Counting
-pub mod FourWords
 pub mod Ones
 pub mod PlaneWrites
 pub mod Scatters

@@ -5,18 +5,17 @@ use lib.Bits.{bit_and, bit_or}
 use Rattle.std.proofs.lemmas.Bool.{cases_lt}
 use Rattle.std.proofs.lemmas.Bool.Decides.{nat_tests}
 use Rattle.std.proofs.Math.Dec.{eqb-suc-zero}
-use Rattle.gas_geom.specs.Moves.{Back, On}
 use Rattle.gas_geom.specs.Gas.{holds}
 use Rattle.gas_geom.proofs.Holds.{holds-and, holds-or, holds-not, holds-above}
-use Rattle.gas_bits.specs.Inner.Moved.{moved_bit, moved_last_bit}
 use Rattle.gas_bits.specs.Shift.{streamed_bit}
 use Rattle.gas_bits.proofs.Bits.{holds-shl_high, holds-shl_low, holds-shr}
 
 -- `(word << 1) | (before >> 63)`
-pub holds-from_west : (before word after b : ℕ) → before < 2 ^ 64 → b < 64 → holds (bit_or (word * 2 ^ 1 % 2 ^ 64) (before / 2 ^ 63)) b ≡ moved_bit Back before word after b
-holds-from_west before word after zero h lt =
+pub holds-from_west : (before word b : ℕ) → before < 2 ^ 64 → b < 64 → holds (bit_or (word * 2 ^ 1 % 2 ^ 64) (before / 2 ^ 63)) b
+    ≡ (if b == 0 then holds before 63 else holds word (b - 1))
+holds-from_west before word zero h lt =
     holds-or (word * 2 ^ 1 % 2 ^ 64) (before / 2 ^ 63) 0 ∙ ap₂ (λ p q. p || q) (holds-shl_low 1 0 word (omega arith) lt) (holds-shr 63 0 before)
-holds-from_west before word after (suc b) h lt =
+holds-from_west before word (suc b) h lt =
     holds-or (word * 2 ^ 1 % 2 ^ 64) (before / 2 ^ 63) (suc b)
     ∙ ap₂ (λ p q. p || q)
     (let e : 1 + b ≡ suc b = omega arith in subst (λ k. holds (word * 2 ^ 1 % 2 ^ 64) k ≡ holds word b) e (holds-shl_high 1 b word (omega arith)))
@@ -25,44 +24,30 @@ holds-from_west before word after (suc b) h lt =
     ∙ ap (holds word) (let e : b ≡ suc b - 1 = omega arith in e)
     ∙ sym (ap (λ t. if t then holds before 63 else holds word (suc b - 1)) (eqb-suc-zero b))
 
--- `(word >> 1) | (after << 63)`
-pub holds-from_east : (before word after b : ℕ) → word < 2 ^ 64 → b < 64 → holds (bit_or (word / 2 ^ 1) (after * 2 ^ 63 % 2 ^ 64)) b ≡ moved_bit On before word after b
-holds-from_east before word after b h lt =
-    holds-or (word / 2 ^ 1) (after * 2 ^ 63 % 2 ^ 64) b
-    ∙ elim (cases_lt b 63) [
-      | inl below ↦ ap₂ (λ p q. p || q) (holds-shr 1 b word) (holds-shl_low 63 b after below lt) ∙ or-false (holds word (1 + b))
-          ∙ ap (holds word) (let e : 1 + b ≡ b + 1 = omega arith in e)
-          ∙ sym (ap (λ t. if t then holds after 0 else holds word (b + 1)) (let no : (b == 63) ≡ false = grind (arith, nat_tests) in no))
-      | inr at ↦ (let top : b ≡ 63 = omega arith in
-          ap (λ i. holds (word / 2 ^ 1) i || holds (after * 2 ^ 63 % 2 ^ 64) i) top
-          ∙ ap₂ (λ p q. p || q) (holds-shr 1 63 word ∙ holds-above word 64 64 h (omega arith)) (holds-shl_high 63 0 after (omega arith))
-          ∙ sym (ap (λ t. if t then holds after 0 else holds word (b + 1)) (let yes' : (b == 63) ≡ true = grind (arith, nat_tests) in yes')))
-    ]
-
 -- `y << (63 - last)`
 pub holds-to_top : (y last : ℕ) → last < 64 → holds (y * 2 ^ (63 - last) % 2 ^ 64) 63 ≡ holds y last
 holds-to_top y last h =
     let e : 63 - last + last ≡ 63 = omega arith in
     subst (λ k. holds (y * 2 ^ (63 - last) % 2 ^ 64) k ≡ holds y last) e (holds-shl_high (63 - last) last y (omega arith))
 
--- `(cut >> 1) | (first << last)`, where `cut` is the word up to `last`
-pub holds-last_from_east : (before word cut first last b : ℕ) → last < 64 → b ≤ last → cut < 2 ^ 64
+-- `(cut >> 1) | (after << last)`, where `cut` is the word up to `last`
+pub holds-from_east : (word cut after last b : ℕ) → last < 64 → b ≤ last → cut < 2 ^ 64
     → ((k : ℕ) → k < 64 → holds cut k ≡ (nat_le k last && holds word k))
-    → holds (bit_or (cut / 2 ^ 1) (first * 2 ^ last % 2 ^ 64)) b ≡ moved_last_bit On last before word first b
-holds-last_from_east before word cut first last b h le fits is =
-    holds-or (cut / 2 ^ 1) (first * 2 ^ last % 2 ^ 64) b
+    → holds (bit_or (cut / 2 ^ 1) (after * 2 ^ last % 2 ^ 64)) b ≡ (if b == last then holds after 0 else holds word (b + 1))
+holds-from_east word cut after last b h le fits is =
+    holds-or (cut / 2 ^ 1) (after * 2 ^ last % 2 ^ 64) b
     ∙ elim (cases_lt b last) [
-      | inl below ↦ ap₂ (λ p q. p || q) (holds-shr 1 b cut) (holds-shl_low last b first below (omega arith)) ∙ or-false (holds cut (1 + b))
+      | inl below ↦ ap₂ (λ p q. p || q) (holds-shr 1 b cut) (holds-shl_low last b after below (omega arith)) ∙ or-false (holds cut (1 + b))
           ∙ ap (holds cut) (let e : 1 + b ≡ b + 1 = omega arith in e)
           ∙ is (b + 1) (omega arith) ∙ ap (λ t. t && holds word (b + 1)) (let inside : nat_le (b + 1) last ≡ true = grind (arith, nat_tests) in inside)
-          ∙ sym (ap (λ t. if t then holds first 0 else holds word (b + 1)) (let no : (b == last) ≡ false = grind (arith, nat_tests) in no))
+          ∙ sym (ap (λ t. if t then holds after 0 else holds word (b + 1)) (let no : (b == last) ≡ false = grind (arith, nat_tests) in no))
       | inr at ↦ (let top : b ≡ last = omega arith in
           let next : 1 + last ≡ last + 1 = omega arith in
           let none : last + 0 ≡ last = omega arith in
-          ap (λ i. holds (cut / 2 ^ 1) i || holds (first * 2 ^ last % 2 ^ 64) i) top
+          ap (λ i. holds (cut / 2 ^ 1) i || holds (after * 2 ^ last % 2 ^ 64) i) top
           ∙ ap₂ (λ p q. p || q) (holds-shr 1 last cut ∙ ap (holds cut) next ∙ past)
-          (subst (λ k. holds (first * 2 ^ last % 2 ^ 64) k ≡ holds first 0) none (holds-shl_high last 0 first (omega arith)))
-          ∙ sym (ap (λ t. if t then holds first 0 else holds word (b + 1)) (let yes' : (b == last) ≡ true = grind (arith, nat_tests) in yes')))
+          (subst (λ k. holds (after * 2 ^ last % 2 ^ 64) k ≡ holds after 0) none (holds-shl_high last 0 after (omega arith)))
+          ∙ sym (ap (λ t. if t then holds after 0 else holds word (b + 1)) (let yes' : (b == last) ≡ true = grind (arith, nat_tests) in yes')))
     ]
   where
     past : holds cut (last + 1) ≡ false
@@ -70,6 +55,10 @@ holds-last_from_east before word cut first last b h le fits is =
       | inl inside ↦ is (last + 1) inside ∙ ap (λ t. t && holds word (last + 1)) (let no : nat_le (last + 1) last ≡ false = grind (arith, nat_tests) in no)
       | inr above ↦ holds-above cut 64 (last + 1) fits above
     ]
+
+-- where no cell is solid, what comes is there
+pub streamed-fluid : (came met back own : Bool) → met ≡ false → own ≡ false → came ≡ streamed_bit came met back own
+streamed-fluid came met back own em eo = sym (ap₂ (λ (m o : Bool). streamed_bit came m back o) em eo)
 
 -- `((came & !met) | (met & back)) & !own`
 pub holds-streamed : (came met back own b : ℕ) → met < 2 ^ 64 → own < 2 ^ 64 → b < 64

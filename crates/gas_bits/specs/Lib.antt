@@ -1,4 +1,3 @@
 pub mod Words
 pub mod Planes
 pub mod Shift
-pub mod Inner

@@ -1,7 +1,9 @@
 //! What streams into one direction of a row.
-ghost use Rattle.std.specs.Prelude.{◌≡◌, length};
+ghost use Rattle.std.specs.Prelude.{◌≡◌, ℕ, IsTrue, false, length};
+ghost use Rattle.gas_bits.specs.Words.{bit};
 
-/// The planes that decide what streams into one direction of a row, each with as many words.
+/// What decides which particles arrive in one direction of a row. All four planes have the same
+/// length.
 #[derive(Clone, Copy)]
 pub struct Incoming<'a> {
     /// The direction in the row that the particles come from.
@@ -12,7 +14,11 @@ pub struct Incoming<'a> {
     pub opposite_here: &'a [u64],
     /// The solid cells of the streamed row.
     pub solid_here: &'a [u64],
+    /// True only if no cell of the two rows is solid.
+    pub all_fluid: bool,
     ghost there: { length solid_there.now ≡ length plane.now },
     ghost opposite: { length opposite_here.now ≡ length plane.now },
     ghost here: { length solid_here.now ≡ length plane.now },
+    ghost fluid_there: { IsTrue all_fluid → (x : ℕ) → bit solid_there.now x ≡ false },
+    ghost fluid_here: { IsTrue all_fluid → (x : ℕ) → bit solid_here.now x ≡ false },
 }

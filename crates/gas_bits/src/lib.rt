@@ -2,15 +2,11 @@
 //! of all directions of a gas. Nothing here knows rows or masks as values.
 #![tactic(auto)]
 
+pub mod direction;
 pub mod incoming;
 pub mod load;
-pub mod part;
 pub mod plane;
 pub mod planes;
-mod reflect;
-mod shift;
-mod sides;
-mod source;
 pub mod span;
 pub mod states;
 mod stream;

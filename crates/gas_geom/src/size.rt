@@ -75,9 +75,10 @@ fn column_after(width: u32, x: u32, across: i32) -> u32
     }
 }
 
-// The row after a step across the rows, or None past the top or bottom row.
-fn row_after(height: u32, y: u32, down: i32) -> Option<u32>
+/// The row after a step of -1, 0 or 1 across the rows, or None past the top or bottom row.
+pub fn row_after(height: u32, y: u32, down: i32) -> Option<u32>
     requires row { y < height }
+    ensures within { IfSome result (λ v. v < height) }
     ensures value { (m : Move) → down ≡ amount m → result ≡ row_after height y m }
 {
     if down < 0 {

@@ -1,4 +1,5 @@
 pub mod Row
+pub mod Beside
 pub mod Key
 pub mod Chirality
 pub mod Planes

@@ -1,10 +1,12 @@
 //! Channels: their size and their solid cells.
-ghost use Rattle.std.specs.Prelude.{◌≡◌, ◌<◌, [], length, slice_index_or, slice_set, IfOk};
+ghost use Rattle.std.specs.Prelude.{◌≡◌, ◌<◌, ℕ, [], false, length, slice_index_or, slice_set, IfOk};
 ghost use Rattle.gas_geom.specs.Size.{SizeModel};
+ghost use Rattle.gas_geom.specs.Moves.{Move, amount};
 ghost use Rattle.gas_geom.specs.Channel.{ChannelModel, IsChannel, is_solid, solid_cells, free_channel, with_solid};
+ghost use Rattle.gas_rows.specs.Beside.{is_solid_beside};
 
 use crate::mask::Mask;
-use gas_geom::size::Size;
+use gas_geom::size::{Size, row_after};
 use std::alloc::{AllocError, Global};
 use std::marker::Model;
 
@@ -14,9 +16,12 @@ use std::marker::Model;
 pub struct Channel {
     size: Size,
     masks: Vec<Mask>,
+    // The row past the top row and past the bottom one: its cells are all solid.
+    wall: Mask,
 }
 
 impl Model for Channel {
+    ghost use Rattle.std.specs.Prelude.{◌≡◌, replicate, true};
     ghost use Rattle.gas_geom.specs.Channel.{ChannelModel, IsChannel};
 
     ghost Value = { ChannelModel };
@@ -27,11 +32,14 @@ impl Model for Channel {
       solid = c.masks.items;
     } };
 
-    ghost invariant = { λ c. IsChannel (record {
-      width = c.size.width;
-      height = c.size.height;
-      solid = c.masks.items;
-    }) };
+    ghost invariant = { λ c. record {
+      whole : IsChannel (record {
+        width = c.size.width;
+        height = c.size.height;
+        solid = c.masks.items;
+      });
+      wall : c.wall ≡ replicate c.size.width true;
+    } };
 }
 
 impl Channel {
@@ -43,7 +51,9 @@ impl Channel {
         for _ in 0..size.height() {
             masks.push(Mask::blank(alloc, size.width())?)?;
         }
-        Ok(Channel { size, masks })
+        let mut wall = Mask::blank(alloc, size.width())?;
+        wall.fill(true);
+        Ok(Channel { size, masks, wall })
     }
 
     /// Returns an equal channel.
@@ -57,6 +67,7 @@ impl Channel {
         Ok(Channel {
             size: self.size,
             masks,
+            wall: self.wall.copy(alloc)?,
         })
     }
 
@@ -76,6 +87,21 @@ impl Channel {
         ensures wide { length result.now ≡ self.now.width }
     {
         &self.masks[y as usize]
+    }
+
+    /// Returns the solid cells of the row above row `y`, of row `y` itself, or of the row below it:
+    /// `down` is -1, 0 or 1. Past the top row and past the bottom one all cells are solid.
+    #[inline(always)]
+    pub fn mask_beside(&self, y: u32, down: i32) -> &Mask
+        requires row { y < self.now.height }
+        ensures wide { length result.now ≡ self.now.width }
+        ensures cells { (m : Move) → down ≡ amount m → (x : ℕ) → x < self.now.width →
+            slice_index_or result.now x false ≡ is_solid_beside self.now x y m }
+    {
+        match row_after(self.size.height(), y, down) {
+            Some(v) => self.mask(v),
+            None => &self.wall,
+        }
     }
 
     /// Returns whether the cell in column `x` of row `y` is solid.

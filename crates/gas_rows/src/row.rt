@@ -1,19 +1,19 @@
 //! Rows: a state for each cell, held as bit planes.
 ghost use Rattle.std.specs.Prelude.{◌≡◌, ◌≢◌, ◌⊎◌, ◌+◌, ◌-◌, ◌*◌, ◌/◌, ◌<◌, ◌≤◌, ◌^◌, ℕ, List, length, replicate, slice_index, slice_index_or, slice_set, false, IsTrue, count_by, sum_by, if◌then◌else◌, vec_len, IfOk};
 ghost use Rattle.std.specs.List.{range_with_len};
-ghost use Rattle.gas_geom.specs.Moves.{Move, amount, column_after};
+ghost use Rattle.gas_geom.specs.Moves.{Move, amount};
 ghost use Rattle.gas_geom.specs.Gas.{holds, particles};
 ghost use Rattle.gas_geom.specs.Lattice.{row_of};
-ghost use Rattle.gas_bits.specs.Shift.{streamed_bit};
+ghost use Rattle.gas_bits.specs.Shift.{streamed_cell};
 ghost use Rattle.gas_bits.specs.Words.{words_in, bit};
 ghost use Rattle.gas_rows.specs.Planes.{AreWordsOf, cells_of};
 
 use crate::collision::collide;
 use crate::directions::directions;
 use crate::mask::Mask;
+use gas_bits::direction::stream_direction;
 use gas_bits::incoming::Incoming;
 use gas_bits::load::{clear_planes_past, load_states, load_words};
-use gas_bits::part::{move_part, reflect_part, stream_part};
 use gas_bits::planes::{empty_solid, read_cell, words_at, write_cell};
 use gas_bits::span::count_in;
 use gas_bits::states::states_of;
@@ -243,75 +243,21 @@ impl<G: Gas> Row<G> {
         collide::<G>(&mut self.words, count, free, solid, chi);
     }
 
-    /// Streams direction `i` into this row. `from` holds the direction's words in the row that the
-    /// particles come from, `met` the solid cells there, and `along` is the step along the row that
-    /// leads there: -1, 0 or 1. Where that cell is solid, the particle of the opposite direction,
-    /// whose words in the streamed row are `back`, bounces back. `own` are the streamed row's solid
-    /// cells.
-    pub fn stream_plane(
-        &mut self,
-        i: u32,
-        along: i32,
-        from: &[u64],
-        met: &[u64],
-        back: &[u64],
-        own: &[u64],
-    )
+    /// Streams direction `i` into this row. `along` is -1, 0 or 1: the particles come from the west,
+    /// from this column, or from the east.
+    #[inline(always)]
+    pub fn stream_plane<'a>(&mut self, i: u32, along: i32, incoming: &Incoming<'a>)
         requires direction { i < G.rules.dirs }
-        requires from { length from.now ≡ words_in (length self.old) }
-        requires met { length met.now ≡ words_in (length self.old) }
-        requires back { length back.now ≡ words_in (length self.old) }
-        requires own { length own.now ≡ words_in (length self.old) }
+        requires wide { length incoming.now.plane.now ≡ words_in (length self.old) }
         ensures wide { length self.new ≡ length self.old }
         ensures states { (x : ℕ) → slice_index self.new x < 2 ^ G.rules.dirs }
         ensures streamed { (m : Move) → along ≡ amount m → (x : ℕ) → x < length self.old →
             holds (slice_index self.new x) i
-            ≡ streamed_bit (bit from.now (column_after (length self.old) x m))
-            (bit met.now (column_after (length self.old) x m)) (bit back.now x) (bit own.now x) }
+            ≡ streamed_cell incoming.now.plane.now incoming.now.solid_there.now
+            incoming.now.opposite_here.now incoming.now.solid_here.now (length self.old) m x }
         ensures others { (x k : ℕ) → k ≢ i → holds (slice_index self.new x) k
             ≡ holds (slice_index self.old x) k }
     {
-        let incoming = Incoming {
-            plane: from,
-            solid_there: met,
-            opposite_here: back,
-            solid_here: own,
-        };
-        stream_part(&mut self.words, i as usize, along, &incoming, self.width);
-    }
-
-    /// Streams direction `i` into this row from the row `from`, where neither has a solid cell.
-    /// `along` is the step along the row that leads to where the particles come from: -1, 0 or 1.
-    #[inline(always)]
-    pub fn move_plane(&mut self, i: u32, along: i32, from: &Row<G>)
-        requires direction { i < G.rules.dirs }
-        requires from { length from.now ≡ length self.old }
-        ensures wide { length self.new ≡ length self.old }
-        ensures states { (x : ℕ) → slice_index self.new x < 2 ^ G.rules.dirs }
-        ensures moved { (m : Move) → along ≡ amount m → (x : ℕ) → x < length self.old →
-            holds (slice_index self.new x) i
-            ≡ holds (slice_index from.now (column_after (length self.old) x m)) i }
-        ensures others { (x k : ℕ) → k ≢ i → holds (slice_index self.new x) k
-            ≡ holds (slice_index self.old x) k }
-    {
-        move_part(&mut self.words, i as usize, along, &from.words, self.width);
-    }
-
-    /// Streams direction `i` into this row where its particles would come from past a wall: those
-    /// of the opposite direction, whose words in the streamed row are `back`, bounce back. `own`
-    /// are the streamed row's solid cells.
-    #[inline(always)]
-    pub fn reflect_plane(&mut self, i: u32, back: &[u64], own: &[u64])
-        requires direction { i < G.rules.dirs }
-        requires back { length back.now ≡ words_in (length self.old) }
-        requires own { length own.now ≡ words_in (length self.old) }
-        ensures wide { length self.new ≡ length self.old }
-        ensures states { (x : ℕ) → slice_index self.new x < 2 ^ G.rules.dirs }
-        ensures reflected { (x : ℕ) → x < length self.old →
-            holds (slice_index self.new x) i ≡ (if bit own.now x then false else bit back.now x) }
-        ensures others { (x k : ℕ) → k ≢ i → holds (slice_index self.new x) k
-            ≡ holds (slice_index self.old x) k }
-    {
-        reflect_part(&mut self.words, i as usize, back, own, self.width);
+        stream_direction(&mut self.words, i as usize, along, incoming, self.width);
     }
 }

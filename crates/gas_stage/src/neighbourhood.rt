@@ -5,14 +5,14 @@ ghost use Rattle.gas_geom.specs.Moves.{Move, amount};
 ghost use Rattle.gas_geom.specs.Gas.{holds};
 ghost use Rattle.gas_stage.specs.Inner.Neighbourhood.{AreRowsOf, AreStreamed, HasOnlyFluidAround, IsStreamedIn, row_beside, streamed_row};
 
+use gas_bits::incoming::Incoming;
 use gas_geom::gas::Gas;
-use gas_geom::size::neighbour;
 use gas_rows::channel::Channel;
 use gas_rows::row::Row;
 use std::marker::Model;
 
-/// Row `y` of a channel between the rows beside it, all of them collided. What stands for the row
-/// above the top one, or for the row below the bottom one, is not read.
+/// Row `y` of a channel between the rows beside it, all of them collided. Past a wall any row of the
+/// channel's width serves.
 #[derive(Drop)]
 pub(crate) struct Neighbourhood<'a, G: Gas> {
     pub(crate) channel: &'a Channel,
@@ -44,22 +44,19 @@ impl<'a, G: Gas> Model for Neighbourhood<'a, G> {
     } };
 }
 
-// Whether it is known that row `y` is far from walls and solid cells.
+// Whether it is known that no cell is solid in row `y` or in the rows beside it.
 #[inline(always)]
 fn has_only_fluid_around(channel: &Channel, y: u32) -> bool
     requires row { y < channel.now.height }
     ensures fluid { IsTrue result → HasOnlyFluidAround channel.now y }
 {
-    let height = channel.size().height();
-    0 < y
-        && y + 1 < height
-        && channel.mask(y - 1).is_blank()
-        && channel.mask(y).is_blank()
-        && channel.mask(y + 1).is_blank()
+    channel.mask(y).is_blank()
+        && channel.mask_beside(y, -1).is_blank()
+        && channel.mask_beside(y, 1).is_blank()
 }
 
 impl<'a, G: Gas> Neighbourhood<'a, G> {
-    // The row that a step across the rows leads to from the middle one.
+    // The row above, the middle row or the row below: `down` is -1, 0 or 1.
     #[inline(always)]
     fn row_beside(&self, down: i32) -> &'a Row<G>
         ensures wide { length result.now ≡ self.now.channel.width }
@@ -75,10 +72,11 @@ impl<'a, G: Gas> Neighbourhood<'a, G> {
         }
     }
 
-    // Streams one direction, wherever walls and solid cells are.
+    // Streams one direction. If `all_fluid`, no cell is solid in the row or in the rows beside it.
     #[inline(always)]
-    fn stream_direction(&self, i: u32, out: &mut Row<G>)
+    fn stream_direction(&self, i: u32, all_fluid: bool, out: &mut Row<G>)
         requires direction { i < G.rules.dirs }
+        requires fluid { IsTrue all_fluid → HasOnlyFluidAround self.now.channel self.now.y }
         requires wide { length out.old ≡ self.now.channel.width }
         ensures wide { length out.new ≡ self.now.channel.width }
         ensures states { (x : ℕ) → slice_index out.new x < 2 ^ G.rules.dirs }
@@ -88,20 +86,22 @@ impl<'a, G: Gas> Neighbourhood<'a, G> {
     {
         let opposite = G::opposite(i);
         let (along, down) = G::step(opposite, self.y % 2 == 1);
-        let own = self.channel.mask(self.y).words();
-        let back = self.middle.plane(opposite);
-        let Some((_, v)) = neighbour::<G>(self.channel.size(), 0, self.y, opposite) else {
-            out.reflect_plane(i, back, own);
-            return;
+        let solid_there = self.channel.mask_beside(self.y, down).words();
+        let solid_here = self.channel.mask(self.y).words();
+        let incoming = Incoming {
+            plane: self.row_beside(down).plane(i),
+            solid_there,
+            opposite_here: self.middle.plane(opposite),
+            solid_here,
+            all_fluid,
         };
-        let from = self.row_beside(down).plane(i);
-        let met = self.channel.mask(v).words();
-        out.stream_plane(i, along, from, met, back, own);
+        out.stream_plane(i, along, &incoming);
     }
 
-    // Streams direction i, if the gas has it, after those before it.
+    // Streams direction `i`, if the gas has it, after those before it.
     #[inline(always)]
-    fn stream_next(&self, i: u32, out: &mut Row<G>)
+    fn stream_next(&self, i: u32, all_fluid: bool, out: &mut Row<G>)
+        requires fluid { IsTrue all_fluid → HasOnlyFluidAround self.now.channel self.now.y }
         requires wide { length out.old ≡ self.now.channel.width }
         requires states { 0 < i → (x : ℕ) → slice_index out.old x < 2 ^ G.rules.dirs }
         ensures wide { length out.new ≡ self.now.channel.width }
@@ -111,95 +111,55 @@ impl<'a, G: Gas> Neighbourhood<'a, G> {
             AreStreamed G.rules self.now at (i + 1) out.new }
     {
         if i < G::DIRS {
-            self.stream_direction(i, out);
+            self.stream_direction(i, all_fluid, out);
         }
     }
 
-    /// Writes the row after streaming, wherever walls and solid cells are.
-    pub(crate) fn stream_row(self, out: &mut Row<G>)
-        requires wide { length out.old ≡ self.channel.width }
-        ensures wide { length out.new ≡ self.entry.channel.width }
-        ensures streamed { (at : ℕ → ℕ → ℕ) → AreRowsOf self.entry at →
-            out.new ≡ streamed_row G.rules self.entry at }
-    {
-        // Each by its number, so that a compiler knows the step of each.
-        self.stream_next(0, out);
-        self.stream_next(1, out);
-        self.stream_next(2, out);
-        self.stream_next(3, out);
-        self.stream_next(4, out);
-        self.stream_next(5, out);
-        self.stream_next(6, out);
-        self.stream_next(7, out);
-    }
-
-    // Streams one direction of a row far from walls and solid cells, where every particle moves.
-    #[inline(always)]
-    fn move_direction(&self, i: u32, out: &mut Row<G>)
-        requires fluid { HasOnlyFluidAround self.now.channel self.now.y }
-        requires direction { i < G.rules.dirs }
+    // Writes the row after streaming. If `ALL_FLUID`, no cell is solid in it or in the rows beside it;
+    // a type parameter, so that a compiler leaves the masks out.
+    fn stream_directions<const ALL_FLUID: bool>(&self, out: &mut Row<G>)
+        requires fluid { IsTrue ALL_FLUID → HasOnlyFluidAround self.now.channel self.now.y }
         requires wide { length out.old ≡ self.now.channel.width }
         ensures wide { length out.new ≡ self.now.channel.width }
-        ensures states { (x : ℕ) → slice_index out.new x < 2 ^ G.rules.dirs }
-        ensures streamed { IsStreamedIn G.rules self.now i out.new }
-        ensures others { (x k : ℕ) → k ≢ i →
-            holds (slice_index out.new x) k ≡ holds (slice_index out.old x) k }
-    {
-        let (along, down) = G::step(G::opposite(i), self.y % 2 == 1);
-        out.move_plane(i, along, self.row_beside(down));
-    }
-
-    // Streams direction i there, if the gas has it, after those before it.
-    #[inline(always)]
-    fn move_next(&self, i: u32, out: &mut Row<G>)
-        requires fluid { HasOnlyFluidAround self.now.channel self.now.y }
-        requires wide { length out.old ≡ self.now.channel.width }
-        requires states { 0 < i → (x : ℕ) → slice_index out.old x < 2 ^ G.rules.dirs }
-        ensures wide { length out.new ≡ self.now.channel.width }
-        ensures states { (x : ℕ) → slice_index out.new x < 2 ^ G.rules.dirs }
         ensures streamed { (at : ℕ → ℕ → ℕ) → AreRowsOf self.now at →
-            AreStreamed G.rules self.now at i out.old →
-            AreStreamed G.rules self.now at (i + 1) out.new }
+            out.new ≡ streamed_row G.rules self.now at }
     {
-        if i < G::DIRS {
-            self.move_direction(i, out);
+        // Unrolled by hand: with a constant direction a compiler knows its step.
+        self.stream_next(0, ALL_FLUID, out);
+        self.stream_next(1, ALL_FLUID, out);
+        self.stream_next(2, ALL_FLUID, out);
+        self.stream_next(3, ALL_FLUID, out);
+        self.stream_next(4, ALL_FLUID, out);
+        self.stream_next(5, ALL_FLUID, out);
+        self.stream_next(6, ALL_FLUID, out);
+        self.stream_next(7, ALL_FLUID, out);
+    }
+
+    /// Writes the row after streaming.
+    #[inline(always)]
+    pub(crate) fn stream_into(&self, out: &mut Row<G>)
+        requires wide { length out.old ≡ self.now.channel.width }
+        ensures wide { length out.new ≡ self.now.channel.width }
+        ensures streamed { (at : ℕ → ℕ → ℕ) → AreRowsOf self.now at →
+            out.new ≡ streamed_row G.rules self.now at }
+    {
+        if has_only_fluid_around(self.channel, self.y) {
+            self.stream_directions::<true>(out);
+        } else {
+            self.stream_directions::<false>(out);
         }
     }
 
-    // The row after streaming far from walls and solid cells, in the row `out`. It has it by value,
-    // so that a compiler keeps in registers where its words lie.
-    fn move_row(self, mut out: Row<G>) -> Row<G>
-        requires fluid { HasOnlyFluidAround self.channel self.y }
-        requires wide { length out ≡ self.channel.width }
-        ensures wide { length result ≡ self.entry.channel.width }
-        ensures streamed { (at : ℕ → ℕ → ℕ) → AreRowsOf self.entry at →
-            result ≡ streamed_row G.rules self.entry at }
-    {
-        // Each by its number, so that a compiler knows the step of each.
-        self.move_next(0, &mut out);
-        self.move_next(1, &mut out);
-        self.move_next(2, &mut out);
-        self.move_next(3, &mut out);
-        self.move_next(4, &mut out);
-        self.move_next(5, &mut out);
-        self.move_next(6, &mut out);
-        self.move_next(7, &mut out);
-        out
-    }
-
-    /// The row after streaming, in the row `out`.
-    #[inline(always)]
+    /// Returns the row after streaming, in the memory of `out`. By value, so that the compiler knows
+    /// that no store changes the row's pointer.
+    #[inline(never)]
     pub(crate) fn stream(self, mut out: Row<G>) -> Row<G>
         requires wide { length out ≡ self.channel.width }
         ensures wide { length result ≡ self.entry.channel.width }
         ensures streamed { (at : ℕ → ℕ → ℕ) → AreRowsOf self.entry at →
             result ≡ streamed_row G.rules self.entry at }
     {
-        if has_only_fluid_around(self.channel, self.y) {
-            self.move_row(out)
-        } else {
-            self.stream_row(&mut out);
-            out
-        }
+        self.stream_into(&mut out);
+        out
     }
 }

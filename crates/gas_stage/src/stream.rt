@@ -49,5 +49,5 @@ pub fn stream_row<G: Gas>(
         below: row_or(down, mid),
         y,
     };
-    neighbourhood.stream_row(out);
+    neighbourhood.stream_into(out);
 }

@@ -1,10 +1,11 @@
 -- Inner words: what functions of this crate promise one another. No public contract cites them.
 -- Here: a row between the rows beside it.
-use Rattle.std.specs.Prelude.{◌≡◌, ℕ, ◌+◌, ◌<◌, ◌≤◌, false, List, slice_index}
+use Rattle.std.specs.Prelude.{◌≡◌, ℕ, ◌<◌, false, List, slice_index}
 use Rattle.gas_geom.specs.Gas.{Rules, holds}
 use Rattle.gas_geom.specs.Moves.{Move, Back, Stay, On}
-use Rattle.gas_geom.specs.Channel.{ChannelModel, is_solid}
+use Rattle.gas_geom.specs.Channel.{ChannelModel}
 use Rattle.gas_geom.specs.Lattice.{streamed, row_of}
+use Rattle.gas_rows.specs.Beside.{is_solid_beside}
 use Rattle.gas_stage.specs.Streaming.{AreRowsAbout}
 
 -- Row y of a channel between the rows above and below it. Above the top row, and below the bottom one, any row may stand.
@@ -25,11 +26,9 @@ row_beside Back above middle below = above
 row_beside Stay above middle below = middle
 row_beside On above middle below = below
 
--- no wall is beside row y, and no cell is solid there or in the rows beside it
-pub record HasOnlyFluidAround (channel : ChannelModel) (y : ℕ) : Type 0 where
-  pub above : 0 < y
-  pub below : y + 1 < channel.height
-  pub free : (x v : ℕ) → y ≤ v + 1 → v ≤ y + 1 → is_solid channel x v ≡ false
+-- no cell is solid in row y or in the rows beside it, of which those past a wall are solid
+abbrev pub HasOnlyFluidAround : ChannelModel → ℕ → Type 0
+HasOnlyFluidAround channel y = (x : ℕ) (m : Move) → x < channel.width → is_solid_beside channel x y m ≡ false
 
 -- direction i of a row is that of the middle row after streaming, in every lattice that the rows are of
 abbrev pub IsStreamedIn : Rules → NeighbourhoodModel → ℕ → List ℕ → Type 0

@@ -3,7 +3,7 @@ use Rattle.gas_stage.proofs.stream.stream_row.Goals as goal
 
 pub returns-clause-streamed : goal.returns-clause-streamed
 returns-clause-streamed g c = λ at rows.
-    c.stream_row.ensures.streamed at (record {
+    c.stream_into.ensures.streamed at (record {
       up_is = λ above x h fluid.
           ap (λ (r : List ℕ). get_or r x 0) (c.row_or.ensures.row (c.requires.up_there.1 above)) ∙ rows.up_is above x h fluid;
       mid_is = rows.mid_is;

@@ -9,7 +9,7 @@ loop-y-preserved c =
     let rows = c.args.self.now.solid in
     let there : c.loop-y.y < length rows =
     subst (λ (h : ChannelModel). c.loop-y.y < length h.solid) c.self.view_is
-    (omega (arith, c.self.invariant.high, c.height-y-end.ensures.value)) in
+    (omega (arith, c.self.invariant.whole.high, c.height-y-end.ensures.value)) in
     let of_row : List Bool → ℕ = λ row. count_by (λ b. b) row in
     record {
       so_far = ap (λ t. t + c.from-total.result) c.loop-y.invariant.so_far

@@ -1,4 +1,4 @@
-use Rattle.std.proofs.Common.{◌≡◌, ℕ, Bool, false, List, [], length, replicate, ap, ◌∙◌, sym, subst, arith}
+use Rattle.std.proofs.Common.{◌≡◌, ℕ, Bool, true, false, List, [], length, replicate, ap, ◌∙◌, sym, subst, arith}
 use Rattle.std.proofs.lemmas.List.{get_or-replicate, length-replicate}
 use Rattle.gas_geom.specs.Size.{IsSize}
 use Rattle.gas_geom.specs.Channel.{IsChannel, free_channel}
@@ -13,7 +13,11 @@ IsChannel-free width height size = record {
 
 pub invariant_of-result : goal.invariant_of-result
 invariant_of-result c =
+    let width : ℕ = c.args.size.width in
     let all : c.loop.counter ≡ c.args.size.height = omega arith in
-    subst (λ (s : List (List Bool)). IsChannel (record { width = c.args.size.width; height = c.args.size.height; solid = s }))
-    (sym (c.loop.invariant ∙ ap (λ n. replicate n (replicate c.args.size.width false)) all))
-    (IsChannel-free c.args.size.width c.args.size.height c.height.ensures.within)
+    record {
+      whole = subst (λ (s : List (List Bool)). IsChannel (record { width = width; height = c.args.size.height; solid = s }))
+          (sym (c.loop.invariant ∙ ap (λ n. replicate n (replicate width false)) all))
+          (IsChannel-free width c.args.size.height c.height.ensures.within);
+      wall = c.fill.ensures ∙ ap (λ n. replicate n true) (ap length c.in_ok-wall.ensures.value ∙ length-replicate _ false ∙ c.width-2.ensures.value);
+    }

@@ -1,61 +1,55 @@
-use Rattle.std.proofs.Common.{◌≡◌, ◌<◌, ℕ, Bool, false, Some, None, List, [], get_or, ap, ◌∙◌, sym, subst, rules, w32, FitsSigned}
+use Rattle.std.proofs.Common.{◌≡◌, ◌<◌, ℕ, Bool, true, false, List, get_or, ap, ◌∙◌, sym, subst, rules, w32, FitsSigned}
 use Rattle.std.proofs.lemmas.Int.{to_z-of_z}
-use Rattle.gas_geom.specs.Moves.{Move, amount, column_after}
-use Rattle.gas_geom.specs.Gas.{holds, neighbour_of}
-use Rattle.gas_geom.specs.Channel.{ChannelModel, is_solid}
+use Rattle.gas_geom.specs.Moves.{Move, Stay, amount, column_after}
+use Rattle.gas_geom.specs.Gas.{holds}
 use Rattle.gas_geom.specs.Laws.Steps.{is_odd, column_after-lt}
-use Rattle.gas_bits.specs.Shift.{streamed_bit}
-use Rattle.gas_bits.specs.Words.{bit}
-use Rattle.gas_stage.specs.Streaming.{IsRowAt}
-use Rattle.gas_stage.specs.Inner.Neighbourhood.{NeighbourhoodModel, row_beside}
-use Rattle.gas_stage.proofs.Directions.{neighbour-same_row, neighbour-same_wall, rows_at, streamed_from_cell, streamed_from_wall, IsStreamedIn-seen}
+use Rattle.gas_bits.specs.Shift.{streamed_cell}
+use Rattle.gas_bits.specs.Words.{words_in}
+use Rattle.gas_stage.specs.Inner.Neighbourhood.{NeighbourhoodModel, IsStreamedIn, HasOnlyFluidAround, row_beside}
+use Rattle.gas_stage.proofs.Directions.{streamed_there, none_solid}
 use Rattle.gas_stage.proofs.neighbourhood.Neighbourhood.stream_direction.Goals as goal
 
--- the words of a row's solid cells
-solid_bit : (channel : ChannelModel) (x y : ℕ) (words : List ℕ) (mask : List Bool) → bit words x ≡ get_or mask x false → mask ≡ get_or channel.solid y []
-    → bit words x ≡ is_solid channel x y
-solid_bit channel x y words mask bits row = bits ∙ ap (λ (m : List Bool). get_or m x false) row
+pub invariant_of-incoming : goal.invariant_of-incoming
+invariant_of-incoming g c =
+    let gas = g.G.Gas.rules in
+    let near = c.self.inside in
+    let width : ℕ = near.channel.now.width in
+    let m : Move × Move = gas.step (gas.opposite c.args.i) (is_odd near.y) in
+    let fits : FitsSigned w32 c.step-along.result.1 = search rules in
+    let down = to_z-of_z w32 c.step-along.result.1 fits ∙ c.step-along.ensures.down ∙ ap (λ k. amount (gas.step k (is_odd near.y)).1) c.opposite-opposite.ensures.value in
+    let beside_wide = c.row_beside.ensures.wide ∙ ap (λ (n : NeighbourhoodModel). n.channel.width) (sym c.self.view_is) in
+    let far : c.args.all_fluid ≡ true → HasOnlyFluidAround near.channel.now near.y =
+    λ all. subst (λ (n : NeighbourhoodModel). HasOnlyFluidAround n.channel n.y) (sym c.self.view_is) (c.requires.fluid all) in
+    record {
+      there = c.words-solid_there.ensures.long ∙ ap words_in (c.mask_beside.ensures.wide ∙ sym beside_wide) ∙ sym c.plane.ensures.long;
+      opposite = c.plane-2.ensures.long ∙ ap words_in (c.self.invariant.middle_wide ∙ sym beside_wide) ∙ sym c.plane.ensures.long;
+      here = c.words-solid_here.ensures.long ∙ ap words_in (c.mask.ensures.wide ∙ sym beside_wide) ∙ sym c.plane.ensures.long;
+      fluid_there = λ all. none_solid c.words-solid_there.result.now c.mask_beside.result.now width c.words-solid_there.ensures.bits c.mask_beside.ensures.wide
+          (λ x h. c.mask_beside.ensures.cells m.1 down x h ∙ far all x m.1 h);
+      fluid_here = λ all. none_solid c.words-solid_here.result.now c.mask.result.now width c.words-solid_here.ensures.bits c.mask.ensures.wide
+          (λ x h. ap (λ (mask : List Bool). get_or mask x false) c.mask.ensures.row ∙ far all x Stay h);
+    }
 
 pub returns-clause-streamed : goal.returns-clause-streamed
 returns-clause-streamed g c =
     let gas = g.G.Gas.rules in
-    let channel = c.self.inside.channel.now in
-    let y : ℕ = c.self.inside.y in
+    let near = c.self.inside in
+    let width : ℕ = near.channel.now.width in
     let i : ℕ = c.args.i in
-    let v : ℕ = c.in-Some.v in
+    let m : Move × Move = gas.step (gas.opposite i) (is_odd near.y) in
     let opposite : c.opposite-opposite.result ≡ gas.opposite i = c.opposite-opposite.ensures.value in
-    let there : neighbour_of gas channel.width channel.height 0 y (gas.opposite i) ≡ Some (c.in-Some.field-0-0, v) = search rules in
     let across_fits : FitsSigned w32 c.step-along.result.0 = search rules in
     let down_fits : FitsSigned w32 c.step-along.result.1 = search rules in
-    let m : Move × Move = gas.step (gas.opposite i) (is_odd y) in
-    let across = to_z-of_z w32 c.step-along.result.0 across_fits ∙ c.step-along.ensures.across ∙ ap (λ k. amount (gas.step k (is_odd y)).0) opposite in
-    let down = to_z-of_z w32 c.step-along.result.1 down_fits ∙ c.step-along.ensures.down ∙ ap (λ k. amount (gas.step k (is_odd y)).1) opposite in
+    let across = to_z-of_z w32 c.step-along.result.0 across_fits ∙ c.step-along.ensures.across ∙ ap (λ k. amount (gas.step k (is_odd near.y)).0) opposite in
+    let down = to_z-of_z w32 c.step-along.result.1 down_fits ∙ c.step-along.ensures.down ∙ ap (λ k. amount (gas.step k (is_odd near.y)).1) opposite in
     let wide = c.requires.wide ∙ ap (λ (n : NeighbourhoodModel). n.channel.width) (sym c.self.view_is) in
-    let beside = c.row_beside.ensures.row m.1 down
-    ∙ ap (λ (n : NeighbourhoodModel). row_beside m.1 n.above n.middle n.below) (sym c.self.view_is) in
-    IsStreamedIn-seen gas i _ _ _ c.self.view_is (λ at rows x h.
-    let u : ℕ = column_after channel.width x m.0 in
-    let row = subst (IsRowAt channel at v) (sym beside)
-    (rows_at gas channel at y (gas.opposite i) c.in-Some.field-0-0 v c.self.inside.above.now c.self.inside.middle.now c.self.inside.below.now there rows) in
+    let beside = c.row_beside.ensures.row m.1 down ∙ ap (λ (n : NeighbourhoodModel). row_beside m.1 n.above n.middle n.below) (sym c.self.view_is) in
+    subst (λ (n : NeighbourhoodModel). IsStreamedIn gas n i c.stream_plane.new.self) c.self.view_is (λ at rows x h.
+    let u : ℕ = column_after width x m.0 in
     c.stream_plane.ensures.streamed m.0 across x (subst (λ w. x < w) (sym wide) h)
-    ∙ ap (λ w. streamed_bit (bit c.plane-from.result.now (column_after w x m.0)) (bit c.words-met.result.now (column_after w x m.0)) (bit c.plane-back.result.now x) (bit c.words-own.result.now x)) wide
-    ∙ streamed_from_cell gas channel at x y i c.requires.direction u v _ _ _ _ (neighbour-same_row gas channel.width channel.height x y (gas.opposite i) c.in-Some.field-0-0 v there)
-    (solid_bit channel x y c.words-own.result.now c.mask.result.now (c.words-own.ensures.bits x) c.mask.ensures.row)
-    (solid_bit channel u v c.words-met.result.now c.mask-2.result.now (c.words-met.ensures.bits u) c.mask-2.ensures.row)
-    (λ fluid. c.plane-back.ensures.bits x ∙ ap (holds (get_or c.self.inside.middle.now x 0)) opposite ∙ ap (λ s. holds s (gas.opposite i)) (rows.mid_is x h fluid))
-    (λ fluid. c.plane-from.ensures.bits u ∙ ap (λ s. holds s i) (row u (column_after-lt channel.width x m.0 h) fluid)))
-
-pub returns-in_default-clause-streamed : goal.returns-in_default-clause-streamed
-returns-in_default-clause-streamed g c =
-    let gas = g.G.Gas.rules in
-    let channel = c.self.inside.channel.now in
-    let y : ℕ = c.self.inside.y in
-    let i : ℕ = c.args.i in
-    let opposite : c.opposite-opposite.result ≡ gas.opposite i = c.opposite-opposite.ensures.value in
-    let there : neighbour_of gas channel.width channel.height 0 y (gas.opposite i) ≡ None = search rules in
-    let wide = c.requires.wide ∙ ap (λ (n : NeighbourhoodModel). n.channel.width) (sym c.self.view_is) in
-    IsStreamedIn-seen gas i _ _ _ c.self.view_is (λ at rows x h.
-    c.reflect_plane.ensures.reflected x (subst (λ w. x < w) (sym wide) h)
-    ∙ streamed_from_wall gas channel at x y i c.requires.direction _ _ (neighbour-same_wall gas channel.width channel.height x y (gas.opposite i) there)
-    (solid_bit channel x y c.words-own.result.now c.mask.result.now (c.words-own.ensures.bits x) c.mask.ensures.row)
-    (λ fluid. c.plane-back.ensures.bits x ∙ ap (holds (get_or c.self.inside.middle.now x 0)) opposite ∙ ap (λ s. holds s (gas.opposite i)) (rows.mid_is x h fluid)))
+    ∙ ap (λ (w : ℕ). streamed_cell c.plane.result.now c.words-solid_there.result.now c.plane-2.result.now c.words-solid_here.result.now w m.0 x) wide
+    ∙ streamed_there gas near.channel.now at x near.y i near.above.now near.middle.now near.below.now _ _ _ _ c.requires.direction h rows
+    (c.plane.ensures.bits u ∙ ap (λ (r : List ℕ). holds (get_or r u 0) i) beside)
+    (c.words-solid_there.ensures.bits u ∙ c.mask_beside.ensures.cells m.1 down u (column_after-lt width x m.0 h))
+    (λ fluid. c.plane-2.ensures.bits x ∙ ap (holds (get_or near.middle.now x 0)) opposite ∙ ap (λ s. holds s (gas.opposite i)) (rows.mid_is x h fluid))
+    (c.words-solid_here.ensures.bits x ∙ ap (λ (mask : List Bool). get_or mask x false) c.mask.ensures.row))

@@ -1,6 +1,0 @@
-use Rattle.std.proofs.Common.{arith}
-use Rattle.gas_bits.proofs.ShiftedBits.{holds-from_west}
-use Rattle.gas_bits.proofs.source.WestSource.shift_word.Goals as goal
-
-pub returns : goal.returns
-returns c b h = holds-from_west c.args.before c.args.word c.args._after b (omega arith) h
