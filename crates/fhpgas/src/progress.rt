@@ -13,9 +13,9 @@ const LINE_MILLISECONDS: u64 = 100;
 // Back to the start of the line, which is wiped.
 const WIPE: &str = "\r\x1b[K";
 
-// A run whose last worker's passes are counted: where it begins a pass, those before are over.
+// A run whose last worker's passes are counted: when it begins a pass, those before are over.
 #[derive(Drop)]
-struct Work {
+struct Watched {
     stages: u32,
     generations: u64,
     begun: Instant,
@@ -24,13 +24,25 @@ struct Work {
     written: AtomicU64,
 }
 
-impl Work {
-    // The work of a request that has a plan. A replay shows none of it, since it enters no gate.
-    fn of<R: Clock>(rt: &R, request: &Request) -> Option<Work> {
-        let plan = request.plan()?;
-        Some(Work {
-            stages: plan.stages,
-            generations: plan.generations,
+impl Watched {
+    // The run of a request, if it has one: a replay enters no gate.
+    fn of<R: Clock>(rt: &R, request: &Request) -> Option<Watched> {
+        let (stages, generations) = match request {
+            Request::Run {
+                stages,
+                generations,
+                ..
+            }
+            | Request::Coarse {
+                stages,
+                generations,
+                ..
+            } => (*stages, *generations),
+            Request::Check | Request::Replay { .. } => return None,
+        };
+        Some(Watched {
+            stages,
+            generations,
             begun: Instant::now(rt).ok()?,
             passes: AtomicU64::new(0),
             written: AtomicU64::new(0),
@@ -75,26 +87,26 @@ impl Work {
 #[derive(Drop)]
 pub(crate) struct Progress<'a, R> {
     rt: &'a R,
-    work: Option<Work>,
+    run: Option<Watched>,
 }
 
 impl<'a, R: Files + Clock> Progress<'a, R> {
     /// The gate of a request, before its run.
     pub(crate) fn new(rt: &'a R, request: &Request) -> Self {
-        let work = if are_errors_shown(rt) {
-            Work::of(rt, request)
+        let run = if are_errors_shown(rt) {
+            Watched::of(rt, request)
         } else {
             None
         };
-        Progress { rt, work }
+        Progress { rt, run }
     }
 }
 
 impl<R> Progress<'_, R> {
-    // The work, where `who` is its last worker.
-    fn work_of(&self, who: u32) -> Option<&Work> {
-        match &self.work {
-            Some(work) if who == work.stages => Some(work),
+    // The run, if `who` is its last worker.
+    fn run_of(&self, who: u32) -> Option<&Watched> {
+        match &self.run {
+            Some(run) if who == run.stages => Some(run),
             _ => None,
         }
     }
@@ -102,14 +114,14 @@ impl<R> Progress<'_, R> {
 
 impl<R: Clock + Eprint> Gate for Progress<'_, R> {
     fn enter(&self, who: u32) {
-        if let Some(work) = self.work_of(who) {
-            work.begin_pass(self.rt);
+        if let Some(run) = self.run_of(who) {
+            run.begin_pass(self.rt);
         }
     }
 
     fn leave(&self, who: u32) {
-        if let Some(work) = self.work_of(who) {
-            work.wipe(self.rt);
+        if let Some(run) = self.run_of(who) {
+            run.wipe(self.rt);
         }
     }
 }

@@ -17,7 +17,7 @@
 pub mod faults;
 
 pub use faults::{InputFault, ToolError, UsageFault, WriteFault};
-pub use gas_tool_cli::request::{PlanNumbers, Request, Turns};
+pub use gas_tool_cli::request::{Request, Turns};
 pub use gas_tool_cli::words::parse_words;
 pub use gas_tool_cli::{request, words};
 pub use gas_tool_io::blocks::{Block, coarse};

@@ -1,5 +1,4 @@
 pub mod Status
 pub mod Words
 pub mod Requests
-pub mod Plan
 pub mod Inner

@@ -6,7 +6,7 @@ ghost use Rattle.clap.specs.Words.{found_of, rows_of, subcommand_rows_of};
 ghost use Rattle.gas_tool_cli.specs.Requests.{AreTurnsAt, IsNumber, IsPlanAt, IsRequestOf, IsSideAt};
 
 use crate::arguments::MOST_BLOCK_SIDE;
-use crate::request::{PlanNumbers, Request, Turns};
+use crate::request::{Request, Turns};
 use clap::ArgMatches;
 use std::alloc::{AllocError, Global};
 
@@ -27,6 +27,13 @@ pub(crate) fn request_of(alloc: Global, matches: &ArgMatches) -> Result<Option<R
 }
 
 // The numbers of a plan.
+#[derive(Clone, Copy)]
+struct PlanNumbers {
+    stages: u32,
+    capacity: u32,
+    generations: u64,
+}
+
 fn plan_of(options: &ArgMatches) -> Option<PlanNumbers>
     ensures { IfSome result
         (λ p. IsPlanAt (rows_of (found_of options.now)) p.stages p.capacity p.generations) }

@@ -3,7 +3,6 @@
 ghost use Rattle.std.specs.Prelude.{◌≡◌, nat_eq};
 ghost use Rattle.std.specs.Cmp.{partial_equiv_from_equiv};
 ghost use Rattle.std.specs.Cmp.Lexicographic.{nat_list_eq_equiv, pointwise};
-ghost use Rattle.gas_tool_cli.specs.Plan.{plan_numbers};
 
 use std::marker::Model;
 
@@ -81,44 +80,4 @@ pub enum Request {
         generations: u64,
         turns: Turns,
     },
-}
-
-/// The numbers of a plan, as the words give them.
-#[derive(Clone, Copy, Debug)]
-pub struct PlanNumbers {
-    pub stages: u32,
-    pub capacity: u32,
-    pub generations: u64,
-}
-
-impl Request {
-    /// The numbers of its plan, if it has one.
-    pub fn plan(&self) -> Option<PlanNumbers>
-        ensures value { result ≡ plan_numbers self.now }
-    {
-        match self {
-            Request::Check => None,
-            Request::Run {
-                stages,
-                capacity,
-                generations,
-            }
-            | Request::Coarse {
-                stages,
-                capacity,
-                generations,
-                ..
-            }
-            | Request::Replay {
-                stages,
-                capacity,
-                generations,
-                ..
-            } => Some(PlanNumbers {
-                stages: *stages,
-                capacity: *capacity,
-                generations: *generations,
-            }),
-        }
-    }
 }

@@ -1,12 +1,11 @@
 -- What a request leads to, step by step.
-use Rattle.std.proofs.Common.{◌≡◌, List, ℕ, Option, Some, Result, Err}
+use Rattle.std.proofs.Common.{List, ℕ, Option, Result, Err}
 use Rattle.std.specs.Option.{option_map_or}
 use Rattle.std.specs.Result.{result_flatten, result_map_both}
 use Rattle.gas_pipe_members.specs.declared.plan.PlanError.{PlanError}
 use Rattle.gas_scene.specs.Catalog.{rules_of}
 use Rattle.gas_scene.specs.Scene.{SceneModel}
 use Rattle.gas_scene.specs.declared.error.SceneError.{SceneError}
-use Rattle.gas_tool_cli.specs.declared.request.PlanNumbers.{PlanNumbers}
 use Rattle.gas_tool_cli.specs.declared.request.Request.{Request}
 use Rattle.gas_tool_perform.specs.Outcome.{gas_outcome}
 use Rattle.gas_tool_perform.specs.declared.faults.ToolError.{ToolError}
@@ -20,6 +19,3 @@ unless_refused refusal answer = option_map_or (λ error. Err (Plan error)) refus
 abbrev pub scene_outcome : Result SceneModel SceneError → Request → Result (List ℕ) ToolError
 scene_outcome r request = result_flatten (result_map_both
     (λ s. gas_outcome (rules_of s.lattice.gas) s.lattice.lattice s.chirality s.generation request) Scene r)
-
-pub same_numbers : (p q : PlanNumbers) → Some p ≡ Some q → p ≡ q
-same_numbers p q h = cc

@@ -1,5 +1,5 @@
 -- What `perform` answers and writes.
-use Rattle.std.specs.Prelude.{◌≡◌, ◌≤◌, ◌+◌, ℕ, nat_lt, List, length, take, Option, option_and_then, Result, Ok, Err, IsOkAnd, ⊤, if◌then◌else◌}
+use Rattle.std.specs.Prelude.{◌≡◌, ◌≤◌, ◌+◌, ℕ, nat_lt, List, length, take, Option, None, Result, Ok, Err, IsOkAnd, ⊤, if◌then◌else◌}
 use Rattle.std.specs.Int.{div_ceil}
 use Rattle.std.specs.Io.KnownBytes.{Appends}
 use Rattle.std.specs.Option.{option_map_or}
@@ -20,7 +20,6 @@ use Rattle.gas_tool_io.specs.Table.{table_text}
 use Rattle.gas_tool_io.specs.Replay.{replay_text}
 use Rattle.gas_tool_perform.specs.declared.faults.ToolError.{ToolError}
 use Rattle.gas_tool_perform.specs.declared.faults.ToolError.TheVariants.{Memory, Scene, Plan, Write, MorePasses}
-use Rattle.gas_tool_cli.specs.Plan.{plan_numbers}
 use Rattle.gas_tool_cli.specs.declared.request.Request.{Request}
 use Rattle.gas_tool_cli.specs.declared.request.Request.TheVariants.{Check, Run, Coarse, Replay}
 
@@ -39,7 +38,10 @@ accepted_outcome gas lattice chirality first (Replay stages capacity generations
 
 -- the refusal of a request's plan, if it has one and that is refused
 abbrev pub refusal_of : Request → Option PlanError
-refusal_of request = option_and_then (λ p. plan_refusal p.stages p.capacity p.generations) (plan_numbers request)
+refusal_of Check = None
+refusal_of (Run stages capacity generations) = plan_refusal stages capacity generations
+refusal_of (Coarse stages capacity generations width height) = plan_refusal stages capacity generations
+refusal_of (Replay stages capacity generations turns) = plan_refusal stages capacity generations
 
 -- what a request on a lattice leads to: the refusal of its plan is its fault, else it is as where the plan is accepted
 abbrev pub gas_outcome : Rules → LatticeModel → Chirality → ℕ → Request → Result (List ℕ) ToolError
