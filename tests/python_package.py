@@ -252,7 +252,7 @@ class Package(unittest.TestCase):
         self.assertNotEqual(scene, fhpgas.gas(0.3, solid=DISC, seed=3))
         self.assertEqual(fhpgas.run(fhpgas.gas(1, size=(5, 4)), 0).particles, 120)
         for density, east, size, part in ((0.2, 0, None, "the size is not known"), ([0.2] * 3, 0, (4, 4), "too few rows"), ([[0.2] * 3] * 4, 0, (4, 4), "3 values in row 0"),
-                                          (None, 0, (4, 4), "no number"), (1.5, 0, (4, 4), "is the filling"), (0.2, 0.95, (4, 4), "has the velocity")):
+                                          (None, 0, (4, 4), "no number"), (0.2, 0, (0, 4), "1 to 65536 columns"), (1.5, 0, (4, 4), "is the filling"), (0.2, 0.95, (4, 4), "has the velocity")):
             self.fault(part, fhpgas.gas, density, east, size=size)
         self.fault("not of 9 columns", fhpgas.gas, 0.2, size=(9, 9), solid=DISC)
 
@@ -371,10 +371,11 @@ class Package(unittest.TestCase):
         self.fault("the size of the blocks is not known", fhpgas.vorticity, fhpgas.read_table(TABLE), "fhp1")
 
     def test_a_picture_has_the_colours_of_its_numbers_and_its_frames(self):
-        table, heat = tables.Table([[72, 72, 0, 72]], [[72, 144, 0, 108]], [[0] * 4], [[0] * 4], "fhp1", (8, 9)), pictures.HEAT
+        heat, rest = pictures.HEAT, [[0] * 4] * 2
+        table = tables.Table([[72, 72, 20, 72], [72] * 4], [[72, 144, 99, 108], [72] * 4], rest, rest, "fhp1", (8, 9))
         self.assertEqual(fhpgas.picture(self.room / "a.png", "density", table, scale=40), (1, 2))
         (_, head), (_, packed), _ = chunks_of((self.room / "a.png").read_bytes())
-        self.assertEqual(struct.unpack(">II", head[:8]), (160, 55))
+        self.assertEqual(struct.unpack(">II", head[:8]), (160, 94))
         pixels = zlib.decompress(packed)[1:481]
         self.assertEqual([pixels[at : at + 3] for at in (0, 120, 240, 360)], [bytes(heat[0]), bytes(heat[-1]), pictures.GREY, bytes(heat[2])])
         fhpgas.picture(self.room / "b.png", "density", table, fhpgas.total([table, table]))

@@ -90,7 +90,7 @@ def over_seeds(asked) -> None:
     for row, counts in enumerate(fluid):
         for column, cells in enumerate(counts):
             pairs = [(middle[row][column], error[row][column]) for middle, error in zip(means, errors)]
-            numbers = "".join(f"{'-':>12}{'-':>16}" if m is None else f"{m:12.5g}{e:16.2g}" for m, e in pairs)
+            numbers = "".join(f"{'-':>12}{'-':>16}" if m is None or m != m else f"{m:12.5g}{e:16.2g}" for m, e in pairs)
             print(f"{column:5} {row:5} {cells:8.1f}{numbers}")
 
 

@@ -37,7 +37,7 @@ def driven(scene: str, generations: int, every: int = 10, *, force: float | None
     this takes. The plan is as in `run`."""
     if (force is None) == (flow is None):
         raise Fault("a flow is driven either by a force or towards a mean flow: force=.. or flow=..")
-    if every < 1 or generations % every:
+    if every < 1 or generations < 0 or generations % every:
         raise Fault(f"{generations} generations are not a multiple of {every}, those from one point to the next")
     keys, lots, cells = keys_of(scene), random.Random(seed), run(scene, 0, **plan)
     gas, number = gas_named(keys["gas"]), fluid(cells)

@@ -1,6 +1,7 @@
 """What is raised and printed for input that does not fit."""
 import argparse
 import contextlib
+import functools
 import os
 import sys
 from collections.abc import Callable, Iterator
@@ -33,28 +34,18 @@ def one_line_faults(name: str) -> Iterator[None]:
         sys.exit(1)
 
 
-def whole(least: int, most: int) -> Callable[[str], int]:
-    """A type of argparse: integers from `least` to `most`."""
+def within(kind: type, least: float, most: float) -> Callable[[str], float]:
+    """A type of argparse: numbers of a kind from `least` to `most`."""
 
-    def integer(word: str) -> int:
-        value = int(word)
-        if not least <= value <= most:
+    def number(word: str) -> float:
+        if not least <= kind(word) <= most:
             raise argparse.ArgumentTypeError(f"{word} is not {least} to {most}")
-        return value
+        return kind(word)
 
-    return integer
+    return number
 
 
-def number(least: float, most: float) -> Callable[[str], float]:
-    """A type of argparse: decimal numbers from `least` to `most`."""
-
-    def decimal(word: str) -> float:
-        value = float(word)
-        if not least <= value <= most:
-            raise argparse.ArgumentTypeError(f"{word} is not {least} to {most}")
-        return value
-
-    return decimal
+whole, number = functools.partial(within, int), functools.partial(within, float)
 
 
 def as_lists(values):

@@ -75,6 +75,8 @@ def gas(density: FIELD, east: FIELD = 0.0, north: FIELD = 0.0, *, size: tuple[in
     named, fields = gas_named(gas), [as_lists(field) for field in (density, east, north)]
     columns, rows = size or _size_of([solid if solid is None else as_lists(solid), *fields])
     solid = None if solid is None else as_lists(solid)
+    if not (1 <= columns <= 65536 and 1 <= rows <= 65536):
+        raise Fault(f"a lattice has 1 to 65536 columns and rows, and this one {columns} and {rows}")
     if solid is not None and (len(solid) != rows or {*map(len, solid)} != {columns}):
         raise Fault(f"the solid cells are not of {columns} columns and {rows} rows")
     draw, drawn = Drawing(named, columns, seed), []

@@ -52,9 +52,17 @@ class Gas:
         back = [self.opposite(i) for i in range(self.directions)]
         return self.table(lambda state: sum(1 << back[i] for i in range(self.directions) if state >> i & 1))
 
+    @functools.cache
     def collisions(self, side: str) -> bytes:
         """The state after a collision of each state, with head-on pairs that turn to this side, "left" or "right"."""
-        return collisions(self.name, side)
+        if side not in ("left", "right"):
+            raise Fault(f"head-on pairs turn left or right, not {side!r}")
+        pairs = (0x05, 0x0A) if self.name == "hpp" else (0x09, 0x12, 0x24) if side == "left" else (0x24, 0x12, 0x09)
+        changes = dict(zip(pairs, (*pairs[1:], pairs[0]))) | ({} if self.name == "hpp" else {0x15: 0x2A, 0x2A: 0x15})
+        if self.name == "fhp-rest":
+            changes |= {before | 0x40: after | 0x40 for before, after in changes.items()}
+            changes |= dict(EXCHANGES) | {two: one for one, two in EXCHANGES}
+        return self.table(lambda state: changes.get(state, state))
 
 
 _HEXAGON = (2, 0), (1, 1), (-1, 1), (-2, 0), (-1, -1), (1, -1)
@@ -86,18 +94,3 @@ def known_gas(*names: str | None) -> Gas:
     if name is None:
         raise Fault("the gas is not known: printed texts do not say it, so name it (gas=\"fhp1\")")
     return gas_named(name)
-
-
-@functools.cache
-def collisions(name: str, side: str) -> bytes:
-    """As `Gas.collisions`."""
-    if side not in ("left", "right"):
-        raise Fault(f"head-on pairs turn left or right, not {side!r}")
-    pairs = (0x05, 0x0A) if name == "hpp" else (0x09, 0x12, 0x24) if side == "left" else (0x24, 0x12, 0x09)
-    changes = dict(zip(pairs, (*pairs[1:], pairs[0])))
-    if name != "hpp":
-        changes |= {0x15: 0x2A, 0x2A: 0x15}
-    if name == "fhp-rest":
-        changes |= {before | 0x40: after | 0x40 for before, after in changes.items()}
-        changes |= dict(EXCHANGES) | {two: one for one, two in EXCHANGES}
-    return GASES[name].table(lambda state: changes.get(state, state))

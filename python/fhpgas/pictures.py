@@ -28,8 +28,9 @@ def field(what: str, table: Table) -> list[list[float | None]]:
     if what not in KINDS:
         raise Fault(f"there is no picture of {what!r}: {', '.join(KINDS)}")
     values = table.density() if what == "density" else vorticity(table) if what == "vorticity" else {"east": east, "north": north, "speed": speed}[what]
-    half = max(map(max, table.fluid)) / 2
-    return [[None if fluid < half or v is None or math.isnan(v) else v for v, fluid in zip(*rows)] for rows in zip(values, table.fluid)]
+    columns = [max(column) / 2 / (max(map(max, table.fluid)) or 1) for column in zip(*table.fluid)]  # blocks at the ends are smaller
+    halves = [[max(row) * column for column in columns] for row in table.fluid]
+    return [[None if fluid < half or v is None or math.isnan(v) else v for v, fluid, half in zip(*rows)] for rows in zip(values, table.fluid, halves)]
 
 
 def picture(path, what: str, *sources: Table | Cells, block: tuple[int, int] = (8, 9), low: float | None = None, high: float | None = None,
@@ -38,6 +39,8 @@ def picture(path, what: str, *sources: Table | Cells, block: tuple[int, int] = (
     together, make an animated PNG with `pause` seconds for each. The range is that of all values if none is given, and is returned.
     `scale` is the pixels across a block."""
     tables = [source.table(*block) if isinstance(source, Cells) else source for source in sources]
+    if not tables:
+        raise Fault("a picture is one of a table or of cells")
     fields = [field(what, table) for table in tables]
     values = [v for rows in fields for row in rows for v in row if v is not None] or [0.0]
     least, most = min(values), max(values)
