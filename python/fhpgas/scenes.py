@@ -142,10 +142,11 @@ def series(scene: str, steps: Iterable[int], **plan) -> Iterator[tuple[Cells, st
     """Yields pairs of the cells and a scene that begins with them: at the start of a scene, and at each point after it. `steps` are the
     generations from each point to the next. The plan is as in `run`."""
     keys, steps = keys_of(scene), [0, *steps]
-    for done, step in enumerate(steps, start=1):
+    for done, step in enumerate(steps):
+        tell(f"{done} of {len(steps)} parts")
         cells = run(scene, step, **plan)
         scene = later_scene(keys, cells)
-        tell(f"{done} of {len(steps)} parts" if done < len(steps) else "")
+        tell("")
         yield cells, scene
 
 
