@@ -1,6 +1,6 @@
 #!/usr/bin/env python3
 """Throws random, mutated and spliced scenes at the built program, and compares each answer with a second reading of the text
-(fhpgas.reader): the line that refuses it, or the line of `check` and the printed cells. If a text is refused, `explain` must say the
+(second_reader.py): the line that refuses it, or the line of `check` and the printed cells. If a text is refused, `explain` must say the
 same line and a reason. A text that may be TOML 1.1, which the second reader does not read, must be read or refused. Ends with the
 counts. Usage: tests/mutated_scenes.py [HOW_MANY [SEED]]
 """
@@ -10,7 +10,8 @@ import subprocess
 import sys
 
 import needs
-from fhpgas import reader, refusals
+import second_reader
+from fhpgas import refusals
 
 PROGRAM = needs.built_program()
 MOST_CELLS = 1000
@@ -123,8 +124,8 @@ def expected(text):
     """What `check` and `run --generations 0` must answer, by the second reading; None for a large area, and UNSURE for what may be TOML
     1.1."""
     try:
-        lattice = reader.read(text, MOST_CELLS)
-    except reader.Refused as refused:
+        lattice = second_reader.read(text, MOST_CELLS)
+    except second_reader.Refused as refused:
         return UNSURE if refused.unsure else ((1, f"{refused}\n"),) * 2
     return ((0, lattice.check_line()), (0, lattice.printed())) if lattice else None
 

@@ -19,11 +19,12 @@ import unittest
 import zlib
 
 import needs
+import second_reader
 
 os.environ["FHPGAS"] = str(needs.built_program())
 os.environ["PYTHONPATH"] = str(needs.ROOT / "python")
 import fhpgas  # noqa: E402 - finds the program by the line above
-from fhpgas import drawing, pictures, reader, refusals, tables, theory  # noqa: E402
+from fhpgas import drawing, pictures, refusals, tables, theory  # noqa: E402
 
 try:
     import numpy
@@ -406,7 +407,7 @@ class Package(unittest.TestCase):
                              ("blocks --width 4999 --height 2 --block 4998 0 1 2", 2), ("porous --percent 100 --height 5 --wind 100", 320)):
             text = fhpgas.draw(words)
             summary = fhpgas.check(text)
-            self.assertEqual((summary.solid, summary.particles), (solid, reader.read(text.encode(), 10_000).particles()), words)
+            self.assertEqual((summary.solid, summary.particles), (solid, second_reader.read(text.encode(), 10_000).particles()), words)
         self.assertEqual(self.command("draw", *"blocks --gas hpp --rate 30 --seed 9 --width 4999".split()).stdout,
                          'version = 2\ngas = "hpp"\nchirality = "seeded"\nseed = 9\nwidth = 4999\nheight = 24\nrate = 30\n')
         for wind in ("", " --wind 1"):

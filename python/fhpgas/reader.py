@@ -1,14 +1,11 @@
-"""A second reading of scenes, on Python's own TOML reader, by docs/FORMATS.md alone.
-
-`read` returns the lattice of a text, or raises the line that refuses it with the reasons, and with what else is wrong. It shares nothing
-with the program and is slow on large scenes. The tests compare the program with it, and `explain` prints its reasons.
+"""A second reading of scenes, on Python's own TOML reader, by docs/FORMATS.md alone: the line that refuses a text, the reasons, and what
+else is wrong. It shares nothing with the program. The tests compare the program with it, and `explain` prints its reasons.
 """
 import difflib
 import itertools
 import json
 import math
 import re
-import struct
 import tomllib
 
 STATES = {"fhp1": 64, "hpp": 16, "fhp-rest": 128}
@@ -44,34 +41,14 @@ class Refused(Exception):
         self.reasons, self.later, self.unsure = reasons, list(later), unsure
 
 
-class Lattice:
-    """A gas, a generation, and the rows of cells from the top: a state, or None for a solid cell."""
-
-    def __init__(self, gas, generation, rows):
-        self.gas, self.generation, self.rows = gas, generation, rows
-
-    def particles(self):
-        return sum(cell.bit_count() for row in self.rows for cell in row if cell)
-
-    def check_line(self):
-        solid = sum(row.count(None) for row in self.rows)
-        return f"gas {self.gas} width {len(self.rows[0])} height {len(self.rows)} solid {solid} particles {self.particles()}\n"
-
-    def printed(self):
-        rows = ("".join("##" if cell is None else f"{cell:02x}" if cell else ".." for cell in row) + "\n" for row in self.rows)
-        return f"generation {self.generation} particles {self.particles()}\n" + "".join(rows)
-
-
-def read(text, most_cells):
-    """The lattice of the bytes of a text, None for an area of more cells than that, or the first refusal as a Refused."""
+def read(text: bytes) -> dict:
+    """The keys of the bytes of a scene and their values, or the first refusal as a Refused."""
     if len(text) > MOST_BYTES:
         raise Refused("input: too long", [((), f"the text has {len(text)} bytes, and the program reads {MOST_BYTES}")])
     table = document(text)
     if found := faults(table):
         raise Refused(*found[0], found[1:])
-    if "cells" not in table and table["width"] * table["height"] > most_cells:
-        return None
-    return Lattice(table["gas"], table.get("generation", 0), map_rows(table) if "cells" in table else area_rows(table))
+    return table
 
 
 # -- the document --------------------------------------------------------------------------------------------------------------
@@ -316,40 +293,3 @@ def cell_fault(pair, gas):
     if re.fullmatch("[0-9a-fA-F]{2}", text):
         return f"`{text}` has a capital digit, and digits of states are small"
     return f"{shown(text)} is no cell: `..` is empty, `##` is solid, and a state of {gas} is {states}"
-
-
-def map_rows(table):
-    pairs = ([row[at : at + 2] for at in range(0, len(row), 2)] for row in table["cells"])
-    return [[None if pair == "##" else 0 if pair == ".." else int(pair, 16) for pair in row] for row in pairs]
-
-
-def area_rows(table):
-    width, height, solid = table["width"], table["height"], table.get("solid", [])
-    rows = [[0 if covering(solid, x, y) is None else None for x in range(width)] for y in range(height)]
-    for direction in range(STATES[table["gas"]].bit_length() - 1 if table.get("rate") else 0):
-        words = iter(key_words(table.get("seed", 0), 2**63 + direction, width * height))
-        for row in rows:
-            row[:] = [cell if word % 1000 >= table["rate"] or cell is None else cell | 1 << direction for cell, word in zip(row, words)]
-    for x, y, state in table.get("particles", []):
-        rows[y][x] = state
-    return rows
-
-
-def key_words(seed, stream, count):
-    """The first words of a stream of a seed's key stream."""
-    blocks = (chacha_block(seed, stream, block) for block in range((count + 15) // 16))
-    return [word for block in blocks for word in block][:count]
-
-
-def chacha_block(seed, stream, block):
-    """The 16 words of a block of ChaCha20 under the key of a seed, with a 64-bit block number and a 64-bit stream number."""
-    start = [*struct.unpack("<4I", b"expand 32-byte k"), *struct.unpack("<8I", seed.to_bytes(8, "little") + bytes(24)),
-             *struct.unpack("<4I", struct.pack("<QQ", block, stream))]
-    words = start[:]
-    for _ in range(10):
-        for a, b, c, d in ((0, 4, 8, 12), (1, 5, 9, 13), (2, 6, 10, 14), (3, 7, 11, 15), (0, 5, 10, 15), (1, 6, 11, 12), (2, 7, 8, 13), (3, 4, 9, 14)):
-            for here, other, turned, by in ((a, b, d, 16), (c, d, b, 12), (a, b, d, 8), (c, d, b, 7)):
-                words[here] = words[here] + words[other] & 0xFFFFFFFF
-                mixed = words[turned] ^ words[here]
-                words[turned] = (mixed << by | mixed >> 32 - by) & 0xFFFFFFFF
-    return [word + before & 0xFFFFFFFF for word, before in zip(words, start)]

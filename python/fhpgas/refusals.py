@@ -16,7 +16,7 @@ TOKEN = re.compile(r'"""(?:[^\\]|\\.)*?"""|' r"'''.*?'''|" r'"(?:[^"\\\n]|\\.)*"
 def explained(text: bytes) -> list[tuple[str, list[str]]]:
     """The lines that refuse the bytes of a scene, in order, each with its reasons and their places; none if it is not refused."""
     try:
-        reader.read(text, 0)
+        reader.read(text)
     except reader.Refused as refused:
         source = text.decode("utf-8-sig", errors="replace").replace("\r\n", "\n")
         found = [(str(refused), refused.reasons), *refused.later]
