@@ -2,9 +2,9 @@
 """Darcy's law: the flow through a porous medium, over the force that drives it, and the medium's permeability.
 
 Discs at random places make a part of the channel solid. `fhpgas.driven` drives the gas with a force F on each fluid cell; the flux is the
-mean velocity times the porosity, averaged over time once it is steady. Darcy: flux = permeability x force of a volume / (mass of a
-volume x viscosity), so flux / F is the same for each F. Theory: the noise-free Boltzmann equation of the same medium and kicks
-(D. H. Rothman, Geophysics 53 (1988) 509, did such flows first). The permeability is in cells' widths squared.
+mean velocity times the porosity, averaged over time once it is steady. Darcy: flux = permeability x F / (particles of a fluid cell x
+viscosity), so flux / F is the same for each F; the permeability, in cells' widths squared, is taken with Boltzmann's viscosity. Theory: the
+noise-free Boltzmann equation of the same medium and kicks. (D. H. Rothman, Geophysics 53 (1988) 509, did such flows first.)
 """
 import common
 import fhpgas
@@ -40,24 +40,24 @@ def predicted(asked, solid, force):
 def main():
     reader = common.Options(__doc__, "fhp1", "fhp-rest")
     reader.option("--density", common.number(0.1, 0.6), 0.3, 0.3, "the filling d", metavar="D")
-    reader.option("--width", common.whole(16, 4096), 192, 80, "columns")
-    reader.option("--height", common.whole(16, 4096), 128, 32, "rows")
+    reader.option("--width", common.whole(16, 4096), 128, 80, "columns")
+    reader.option("--height", common.whole(16, 4096), 96, 32, "rows")
     reader.option("--percent", common.number(0, 70), 20, 20, "of solid cells, at least")
     reader.option("--radius", common.whole(1, 64), 6, 4, "of the discs")
     reader.option("--force", common.number(1e-5, 0.02), [0.001, 0.002, 0.004], [0.003], "on a fluid cell, one or more", nargs="+", metavar="F")
-    reader.option("--settled", common.whole(100, 100_000), 500, 150, "generations before the first sample, in steps of 10")
-    reader.option("--generations", common.whole(200, 1_000_000), 3000, 1000, "in all, in steps of 10")
+    reader.option("--settled", common.whole(100, 100_000), 300, 150, "generations before the first sample, in steps of 10")
+    reader.option("--generations", common.whole(200, 1_000_000), 2300, 1000, "in all, in steps of 10")
     reader.option("--seeds", common.whole(2, 1000), 8, 4, "how many")
     asked = reader.parse_args()
     asked.settled -= asked.settled % EVERY
     solid = fhpgas.Obstacles(asked.width, asked.height, asked.gas).porous(asked.percent, asked.radius, 1)
     print(f"porosity {porosity(solid):.3f}")
     viscosity, mass = theory.viscosity(asked.gas, asked.density), fhpgas.gas_named(asked.gas).directions * asked.density
-    for force in asked.force:
+    theories = fhpgas.side_by_side(lambda force: predicted(asked, solid, force), asked.force)
+    for force, expected in zip(asked.force, theories):
         runs = fhpgas.side_by_side(lambda seed: flux(asked, solid, force, seed), range(1, asked.seeds + 1))
-        through = porosity(solid) * force  # of a volume, the solid part of which takes no force
-        factor = mass * viscosity / through
-        common.compare(f"force {force}: permeability", [factor * found for found in runs], factor * predicted(asked, solid, force))
+        unit = mass * viscosity / force
+        common.compare(f"force {force}: permeability", [unit * found for found in runs], unit * expected)
 
 
 if __name__ == "__main__":
