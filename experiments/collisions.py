@@ -65,7 +65,8 @@ def main():
     print("past a disc: particles {}, momentum balanced in {} of 100 generations".format(*in_a_channel(gas)))
     for d in FILLINGS if gas.name in FORMULAS else ():
         nu, g = FORMULAS[gas.name](d)
-        print(f"d {d}: viscosity, summed {theory.viscosity(gas.name, d):.4f} formula {nu:.4f}, g, summed {summed_factor(gas, d):.4f} formula {g:.4f}")
+        print(f"d {d}: viscosity, summed {theory.viscosity(gas.name, d):.4f} formula {nu:.4f},",
+              f"g, summed {summed_factor(gas, d):.4f} formula {g:.4f}")
 
 
 if __name__ == "__main__":

@@ -49,7 +49,8 @@ def main():
     for _ in range(GENERATIONS[-1] + 1):
         theory.append(chances)
         chances = boltzmann.collided(chances, changes)
-    print("generation" + "".join(f"{name:>8}" for name in ("E N W S" if gas.name == "hpp" else "E NE NW W SW SE rest").split()[: gas.directions]) + "       H   H of Boltzmann")
+    names = ("E N W S" if gas.name == "hpp" else "E NE NW W SW SE rest").split()[: gas.directions]
+    print("generation" + "".join(f"{name:>8}" for name in names) + "       H   H of Boltzmann")
     for generation, numbers in zip(GENERATIONS, means):
         print(f"{generation:10}" + "".join(f"{n:8.4f}" for n in numbers) + f"{h_of(numbers):9.4f}{h_of(theory[generation]):12.4f}")
     density = sum(START[asked.gas])

@@ -53,7 +53,7 @@ def predicted(asked, density):
 
 def main():
     reader = common.Options(__doc__, "fhp1", "fhp-rest")
-    reader.option("--density", common.number(0.05, 0.7), [0.1, 0.2, 0.3, 0.4, 0.5], [0.2, 0.5], "the filling, one or more", nargs="+", metavar="D")
+    reader.option("--density", common.number(0.05, 0.7), [0.1, 0.2, 0.3, 0.4, 0.5], [0.2, 0.5], "fillings", nargs="+", metavar="D")
     reader.option("--wind", common.number(0.02, 0.3), 0.2, 0.2, "the speed of the wind", metavar="U")
     reader.option("--width", common.whole(WAVE, 65536), 1024, 512, f"columns, a multiple of {WAVE}")
     reader.option("--height", common.whole(256, 4096), 1024, 256, "rows")

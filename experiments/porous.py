@@ -44,7 +44,7 @@ def main():
     reader.option("--height", common.whole(16, 4096), 96, 32, "rows")
     reader.option("--percent", common.number(0, 70), 20, 20, "of solid cells, at least")
     reader.option("--radius", common.whole(1, 64), 6, 4, "of the discs")
-    reader.option("--force", common.number(1e-5, 0.02), [0.001, 0.002, 0.004], [0.003], "on a fluid cell, one or more", nargs="+", metavar="F")
+    reader.option("--force", common.number(1e-5, 0.02), [0.001, 0.002, 0.004], [0.003], "on each fluid cell", nargs="+", metavar="F")
     reader.option("--settled", common.whole(100, 100_000), 300, 150, "generations before the first sample, in steps of 10")
     reader.option("--generations", common.whole(200, 1_000_000), 2300, 1000, "in all, in steps of 10")
     reader.option("--seeds", common.whole(2, 1000), 8, 4, "how many")

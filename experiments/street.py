@@ -61,7 +61,8 @@ def main():
         half, error = fhpgas.mean([b - a for a, b in zip(times, times[1:])])
         strouhal = radius / (half * numbers.galilean_factor * u)
         print(f"half a period, mean of {len(times) - 1}: {half:.0f} +- {error:.0f} generations")
-        print(f"Strouhal number {strouhal:.3f} +- {strouhal * error / half:.3f}, a free cylinder's {0.212 * (1 - 21.2 / numbers.reynolds):.3f}")
+        free = 0.212 * (1 - 21.2 / numbers.reynolds)
+        print(f"Strouhal number {strouhal:.3f} +- {strouhal * error / half:.3f}, a free cylinder's {free:.3f}")
     if asked.picture:
         most = 3 * asked.flow / radius / 2
         fhpgas.picture(asked.picture, "vorticity", fhpgas.smooth(last.table(8, 9), 8), low=-most, high=most, scale=3)

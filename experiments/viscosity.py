@@ -50,7 +50,7 @@ def predicted(asked, density, rows, step):
 def main():
     reader = common.Options(__doc__, "fhp1", "fhp-rest")
     reader.option("--chirality", str, "seeded", "seeded", "seeded, left or right", choices=theory.CHIRALITIES)
-    reader.option("--density", common.number(0.05, 0.6), [0.1, 0.2, 0.3, 0.4, 0.5], [0.2], "the filling, one or more", nargs="+", metavar="D")
+    reader.option("--density", common.number(0.05, 0.6), [0.1, 0.2, 0.3, 0.4, 0.5], [0.2], "fillings", nargs="+", metavar="D")
     reader.option("--height", common.whole(8, 512), [64], [32], "rows, one or more", nargs="+", metavar="ROWS")
     reader.option("--speed", common.number(0.005, 0.3), 0.15, 0.15, "u, the speed in the middle", metavar="U")
     reader.option("--seeds", common.whole(2, 1000), 16, 4, "how many")
@@ -63,7 +63,8 @@ def main():
             step = max(1, round(1 / published / k**2 / PARTS))
             rates = fhpgas.side_by_side(lambda seed: measured(asked, density, rows, step, seed), range(1, asked.seeds + 1))
             mean, error = fhpgas.mean([each / k**2 for each in rates])
-            print(f"{density:4} {rows:5} {mean:8.4f} +- {error:.4f} {predicted(asked, density, rows, step) / k**2:8.4f} {published:8.4f}", flush=True)
+            channel = predicted(asked, density, rows, step) / k**2
+            print(f"{density:4} {rows:5} {mean:8.4f} +- {error:.4f} {channel:8.4f} {published:8.4f}", flush=True)
 
 
 if __name__ == "__main__":

@@ -125,7 +125,7 @@ CASES = [
     *((are_as_in_theory, f"sound.py --small --gas {gas}", ["speed of sound", "damping"]) for gas in ("fhp1", "fhp-rest")),
     (are_as_in_theory, "sound.py --small --gas hpp", ["speed of sound diagonal", "damping D diagonal"]),
     *((are_as_in_theory, f"galilean.py --small --gas {gas}", [gas]) for gas in ("fhp1", "fhp-rest")),
-    (are_as_in_theory, "poiseuille.py --small", ["viscosity", "odd"]), (are_as_in_theory, "poiseuille.py --small --chirality left", ["viscosity", "odd"]),
+    *((are_as_in_theory, f"poiseuille.py --small --chirality {side}", ["viscosity", "odd"]) for side in ("seeded", "left")),
     (are_as_in_theory, "porous.py --small", ["force"]), *((is_refused, words) for words in REFUSED),
 ]
 

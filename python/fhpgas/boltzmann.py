@@ -85,9 +85,7 @@ class Flow:
 
     def forced(self, chances: Chances, force: float) -> Chances:
         """The chances after a force that gives each fluid cell this momentum eastwards, from west to east as `fhpgas.driven` does."""
-        west = self.gas.opposite(0)
-        fluid = [not wall for row in self.solid for wall in row]
-        shares = {0: force / 2, west: -force / 2}
+        fluid, shares = [not wall for row in self.solid for wall in row], {0: force / 2, self.gas.opposite(0): -force / 2}
         found = [[c + shares.get(i, 0) * free for c, free in zip(of_one, fluid)] for i, of_one in enumerate(chances)]
         return numpy.array(found) if numpy else found
 
@@ -97,8 +95,10 @@ class Flow:
 
     def velocity(self, chances: Chances) -> tuple[list[list[float]], list[list[float]]]:
         """The mean velocity eastwards and northwards of each cell [y][x]; 0 in solid cells."""
-        cells = [*zip(*chances)]
-        return tuple(self._rows(sum(n * c[axis] for n, c in zip(cell, self.gas.velocities)) / (sum(cell) or 1) for cell in cells) for axis in (0, 1))
+        def mean(axis):
+            return self._rows(sum(n * c[axis] for n, c in zip(cell, self.gas.velocities)) / (sum(cell) or 1) for cell in zip(*chances))
+
+        return mean(0), mean(1)
 
     def _rows(self, values) -> list[list[float]]:
         values = list(values)
