@@ -2,8 +2,8 @@
 """The Galilean factor: how fast a wind carries a wave of the flow across it, measured beside g(d).
 
 In a wind u eastwards the gas moves north and south as v = 0.1 sin(k x). In a fluid the wave would move with u; here it moves with g u, and
-at d = 1/2 it stands still. The wave's phase is taken in the middle half of the rows, far from the walls, and a line is fitted
-to it. Theory: the same fit to the noise-free Boltzmann equation of a gas without walls. Published, for a slow wind and a long wave:
+at d = 1/2 it stands still. The wave's phase is taken in the middle rows, far from the walls, and a line is fitted to it. Theory: the
+same fit to the noise-free Boltzmann equation of a gas without walls. Published, for a slow wind and a long wave:
 g = (1 - 2d) / (2 (1 - d)) in fhp1 and 7/6 of it in fhp-rest (Frisch and others, Complex Systems 1 (1987) 649).
 """
 import cmath
@@ -32,10 +32,10 @@ def speed(momenta):
 
 def measured(asked, density, seed):
     """The speed of the wave of a seed."""
-    rows = asked.height
+    rows, edge = asked.height, min(128, asked.height // 4)
     north = [across(x) for x in range(asked.width)]
     scene = fhpgas.gas(density, asked.wind, [north] * rows, size=(asked.width, rows), gas=asked.gas, seed=seed)
-    middle = (fhpgas.Cells(0, 0, cells.rows[rows // 4 : rows - rows // 4], asked.gas) for cells, _ in fhpgas.series(scene, [STEP] * PARTS))
+    middle = (fhpgas.Cells(0, 0, cells.rows[edge : rows - edge], asked.gas) for cells, _ in fhpgas.series(scene, [STEP] * PARTS))
     return speed([cells.table(BLOCK, rows).py[0] for cells in middle])
 
 
@@ -55,8 +55,8 @@ def main():
     reader = common.Options(__doc__, "fhp1", "fhp-rest")
     reader.option("--density", common.number(0.05, 0.7), [0.1, 0.2, 0.3, 0.4, 0.5], [0.2, 0.5], "fillings", nargs="+", metavar="D")
     reader.option("--wind", common.number(0.02, 0.3), 0.2, 0.2, "the speed of the wind", metavar="U")
-    reader.option("--width", common.whole(WAVE, 65536), 1024, 512, f"columns, a multiple of {WAVE}")
-    reader.option("--height", common.whole(256, 4096), 1024, 256, "rows")
+    reader.option("--width", common.whole(WAVE, 65536), 512, 512, f"columns, a multiple of {WAVE}")
+    reader.option("--height", common.whole(256, 4096), 768, 256, "rows")
     reader.option("--seeds", common.whole(2, 1000), 8, 4, "how many")
     asked = reader.parse_args()
     if asked.width % WAVE:
