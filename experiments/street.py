@@ -7,8 +7,6 @@ its sign to the next, in the last two thirds of the run; its error is the standa
 Re = g u D / viscosity, since a flow is carried along by g u. Beside it stands a free cylinder, St = 0.212 (1 - 21.2 / Re) (A. Roshko, NACA
 Report 1191, 1954), which sheds vortices from Re = 47 on; the walls of a channel raise St.
 """
-import math
-
 import common
 import fhpgas
 
@@ -50,7 +48,7 @@ def main():
         speeds.append(point.velocity)
         last = point.before
     settled = asked.parts // 3
-    u = math.fsum(speeds[settled:]) / len(speeds[settled:])
+    u = sum(speeds[settled:]) / len(speeds[settled:])
     numbers = fhpgas.numbers(GAS, DENSITY, u, 2 * radius)
     print(f"{GAS}, d = {DENSITY}, {width} x {rows} cells, {asked.parts * asked.part} generations, disc {2 * radius} cells across")
     print(f"mean speed {u:.3f}, Mach {numbers.mach:.2f}, Reynolds {numbers.reynolds:.0f}")

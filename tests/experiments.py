@@ -15,7 +15,7 @@ import needs
 os.environ["FHPGAS"] = str(needs.built_program())
 sys.path.insert(0, str(needs.ROOT / "python"))
 
-from fhpgas import boltzmann, theory
+from fhpgas import Fault, boltzmann, theory
 
 LINE = re.compile(r"^(.*?) +measured +(\S+) \+- (\S+)  theory +(\S+)$", re.M)
 ERRORS = 4  # standard errors between measurement and theory, each of which comes from few seeds
@@ -113,6 +113,14 @@ def is_refused(words):
     assert status == 1 and not output and fault.count("\n") == 1 and fault.startswith(words.split()[0]), (status, output, fault)
 
 
+def solves_no(*words):
+    try:
+        boltzmann.Flow(*words)
+    except Fault:
+        return
+    raise AssertionError("not refused")
+
+
 def street():
     assert "no vortex street is expected below Reynolds 47" in printed("street.py --small")
 
@@ -126,6 +134,7 @@ CASES = [
     (are_as_in_theory, "sound.py --small --gas hpp", ["speed of sound diagonal", "damping D diagonal"]),
     *((are_as_in_theory, f"galilean.py --small --gas {gas}", [gas]) for gas in ("fhp1", "fhp-rest")),
     *((are_as_in_theory, f"poiseuille.py --small --chirality {side}", ["viscosity", "odd"]) for side in ("seeded", "left")),
+    (solves_no, "fhp1", [[0]] * 3, "seeded", False), (solves_no, "fhp1", [[0]], "up"),
     (are_as_in_theory, "porous.py --small", ["force"]), *((is_refused, words) for words in REFUSED),
 ]
 

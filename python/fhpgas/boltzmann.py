@@ -13,6 +13,7 @@ import itertools
 import math
 from collections.abc import Callable, Sequence
 
+from .fault import Fault
 from .fields import equilibrium
 from .gases import Gas, gas_named
 from .theory import CHIRALITIES
@@ -22,11 +23,11 @@ try:
 except ImportError:
     numpy = None
 
-Chances = Sequence[Sequence[float]]
-
 
 def mean_changes(gas: Gas, chirality: str) -> list[tuple[int, list[float]]]:
     """Pairs of a state that collides and the mean change of each direction, where both sides are equally likely if seeded."""
+    if chirality not in CHIRALITIES:
+        raise Fault(f"there is no chirality {chirality!r}: {', '.join(CHIRALITIES)}")
     tables, found = [gas.collisions(side) for side in CHIRALITIES[chirality]], []
     for state in range(1 << gas.directions):
         change = [sum((table[state] >> i & 1) - (state >> i & 1) for table in tables) / len(tables) for i in range(gas.directions)]
@@ -53,6 +54,8 @@ class Flow:
     def __init__(self, gas: str, solid: Sequence, chirality: str = "seeded", has_walls: bool = True):
         self.gas, self.solid, self.rows, self.columns = gas_named(gas), solid, len(solid), len(solid[0])
         self.has_walls = has_walls
+        if self.rows % 2 and not has_walls:
+            raise Fault(f"a gas without walls has an even number of rows, and this one has {self.rows}")
         self.changes = mean_changes(self.gas, chirality)
         places = itertools.product(range(self.gas.directions), range(self.rows), range(self.columns))
         self.sources = [self._source(*place) for place in places]
@@ -69,13 +72,13 @@ class Flow:
             i, row, column = back, y, x
         return (i * self.rows + row) * self.columns + column
 
-    def at(self, place: Callable[[int, int], tuple[float, ...]]) -> Chances:
+    def at(self, place: Callable[[int, int], tuple[float, ...]]) -> Sequence:
         """The chances at equilibrium, where `place` says of a column and row the filling and the velocity eastwards and northwards."""
         empty, whole = [0.0] * self.gas.directions, [*itertools.product(range(self.rows), range(self.columns))]
         cells = [empty if self.solid[y][x] else equilibrium(self.gas.name, *place(x, y)) for y, x in whole]
         return numpy.array(cells).T if numpy else [*zip(*cells)]
 
-    def step(self, chances: Chances) -> Chances:
+    def step(self, chances: Sequence) -> Sequence:
         """The chances one generation later."""
         if numpy:
             return numpy.concatenate(collided(chances, self.changes))[self.sources].reshape(self.gas.directions, -1)
@@ -83,17 +86,17 @@ class Flow:
         cells = self.rows * self.columns
         return [[after[k] for k in self.sources[i * cells : (i + 1) * cells]] for i in range(self.gas.directions)]
 
-    def forced(self, chances: Chances, force: float) -> Chances:
+    def forced(self, chances: Sequence, force: float) -> Sequence:
         """The chances after a force that gives each fluid cell this momentum eastwards, from west to east as `fhpgas.driven` does."""
         fluid, shares = [not wall for row in self.solid for wall in row], {0: force / 2, self.gas.opposite(0): -force / 2}
         found = [[c + shares.get(i, 0) * free for c, free in zip(of_one, fluid)] for i, of_one in enumerate(chances)]
         return numpy.array(found) if numpy else found
 
-    def density(self, chances: Chances) -> list[list[float]]:
+    def density(self, chances: Sequence) -> list[list[float]]:
         """The particles of each cell [y][x]."""
         return self._rows(map(sum, zip(*chances)))
 
-    def velocity(self, chances: Chances) -> tuple[list[list[float]], list[list[float]]]:
+    def velocity(self, chances: Sequence) -> tuple[list[list[float]], list[list[float]]]:
         """The mean velocity eastwards and northwards of each cell [y][x]; 0 in solid cells."""
         def mean(axis):
             return self._rows(sum(n * c[axis] for n, c in zip(cell, self.gas.velocities)) / (sum(cell) or 1) for cell in zip(*chances))
