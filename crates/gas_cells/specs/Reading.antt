@@ -3,6 +3,7 @@ use Rattle.std.specs.Prelude.{ℕ, ◌+◌, ◌*◌, ◌/◌, true, false, List,
 use Rattle.std.specs.Option.{is_none}
 use Rattle.std.specs.List.{find, range_with_len}
 use Rattle.std.specs.Str.{bytes_eq}
+use Rattle.gas_cells.specs.declared.cells.TheConstants.{CHARACTERS}
 use Rattle.gas_cells.specs.declared.reading.Cell.{Cell}
 
 -- the value of a lower-case hexadecimal digit
@@ -22,10 +23,14 @@ cell_of states a b =
     else if bytes_eq (a ∷ b ∷ []) (codes "..") then Some (record { solid = false; state = 0 })
     else state_of states (digit_of a) (digit_of b)
 
+-- how many cells the characters of a row stand for
+abbrev pub cells_in : List ℕ → ℕ
+cells_in row = length row / CHARACTERS
+
 -- the cell in column c of a row
 abbrev pub cell_at : ℕ → List ℕ → ℕ → Option Cell
-cell_at states row c = cell_of states (slice_index row (2 * c)) (slice_index row (2 * c + 1))
+cell_at states row c = cell_of states (slice_index row (CHARACTERS * c)) (slice_index row (CHARACTERS * c + 1))
 
 -- the first column with no cell
 abbrev pub bad_column : ℕ → List ℕ → Option ℕ
-bad_column states row = find (λ c. is_none (cell_at states row c)) (range_with_len 0 (length row / 2))
+bad_column states row = find (λ c. is_none (cell_at states row c)) (range_with_len 0 (cells_in row))

@@ -40,7 +40,7 @@ pub fn cell_pair(solid: bool, state: u8) -> [u8; CHARACTERS]
 
 // The characters of 64 cells, of their bits in a mask and their states.
 fn cell_pairs(solid: u64, states: [u8; 64]) -> [u8; CHARACTERS * 64]
-    ensures { (cells : ℕ) → cells ≤ 64 → take (2 * cells) result
+    ensures { (cells : ℕ) → cells ≤ 64 → take (CHARACTERS * cells) result
         ≡ flat_map (λ b. cell_text (holds solid b) (slice_index states b))
         (range_with_len 0 cells) }
 {
@@ -62,10 +62,11 @@ pub struct RowBlock {
 
 impl Model for RowBlock {
     ghost use Rattle.std.specs.Prelude.{◌*◌, ◌≤◌, ℕ, List, take};
+    ghost use Rattle.gas_cells.specs.declared.cells.TheConstants.{CHARACTERS};
 
     ghost Value = { List ℕ };
 
-    ghost view = { λ b. take (2 * b.cells) b.pairs };
+    ghost view = { λ b. take (CHARACTERS * b.cells) b.pairs };
 
     ghost invariant = { λ b. b.cells ≤ 64 };
 }

@@ -1,9 +1,9 @@
 //! Reading cells: what their two characters stand for.
 
-ghost use Rattle.std.specs.Prelude.{◌≡◌, ℕ, ◌+◌, ◌*◌, ◌<◌, ◌/◌, [], ◌∷◌, false, length, slice_index, slice_index_or, is_some, IfSome};
+ghost use Rattle.std.specs.Prelude.{◌≡◌, ℕ, ◌+◌, ◌*◌, ◌<◌, [], ◌∷◌, false, length, slice_index, slice_index_or, is_some, IfSome};
 ghost use Rattle.std.specs.Option.{unwrap_or, is_none};
 ghost use Rattle.std.specs.Str.{bytes_eq};
-ghost use Rattle.gas_cells.specs.Reading.{digit_of, state_of, cell_of, cell_at, bad_column};
+ghost use Rattle.gas_cells.specs.Reading.{digit_of, state_of, cell_of, cells_in, cell_at, bad_column};
 
 use crate::cells::CHARACTERS;
 
@@ -95,7 +95,7 @@ fn are_cells(row: &[u8], states: u16) -> bool
 /// The first column of a row in which no cell stands, where states are below `states`.
 pub fn bad_column(row: &[u8], states: u16) -> Option<usize>
     ensures value { result ≡ bad_column states row.now }
-    ensures within { IfSome result (λ c. c < length row.now / 2) }
+    ensures within { IfSome result (λ c. c < cells_in row.now) }
 {
     // Only a row that has one is gone through cell by cell.
     if are_cells(row, states) {
@@ -112,14 +112,14 @@ pub fn bad_column(row: &[u8], states: u16) -> Option<usize>
 /// Reads which cells of a row are solid, and the states of all of them, in each column in which a
 /// cell stands.
 pub fn read_row(row: &[u8], solid: &mut [bool], state_of: &mut [u8])
-    requires wide { length solid.old ≡ length row.now / 2 }
-    requires as_wide { length state_of.old ≡ length row.now / 2 }
-    ensures wide { length solid.new ≡ length row.now / 2 }
-    ensures as_wide { length state_of.new ≡ length row.now / 2 }
-    ensures solid { (states x : ℕ) → x < length row.now / 2
+    requires wide { length solid.old ≡ cells_in row.now }
+    requires as_wide { length state_of.old ≡ cells_in row.now }
+    ensures wide { length solid.new ≡ cells_in row.now }
+    ensures as_wide { length state_of.new ≡ cells_in row.now }
+    ensures solid { (states x : ℕ) → x < cells_in row.now
         → IfSome (cell_at states row.now x)
         (λ cell. slice_index_or solid.new x false ≡ cell.solid) }
-    ensures states { (states x : ℕ) → x < length row.now / 2
+    ensures states { (states x : ℕ) → x < cells_in row.now
         → IfSome (cell_at states row.now x)
         (λ cell. slice_index state_of.new x ≡ cell.state) }
 {

@@ -1,19 +1,19 @@
 -- The lattice of a map, row by row, and what is known of rows that are not refused.
-use Rattle.std.proofs.Common.{◌≡◌, ℕ, ◌+◌, ◌*◌, ◌/◌, ◌%◌, ◌==◌, ◌<◌, ◌≤◌, Bool, true, false, not, List, [], ◌∷◌, map, length, get_or, set, Option, Some, None, pos, codes, nat_lt, ap, ap₂, sym, ◌∙◌, refl, arith, if◌then◌else◌}
+use Rattle.std.proofs.Common.{◌≡◌, inl, inr, subst, ℕ, ◌+◌, ◌*◌, ◌/◌, ◌%◌, ◌==◌, ◌<◌, ◌≤◌, Bool, true, false, not, List, [], ◌∷◌, map, length, get_or, set, Option, Some, None, pos, codes, nat_lt, ap, ap₂, sym, ◌∙◌, refl, arith, if◌then◌else◌}
 use Rattle.std.specs.Prelude.{is_some, option_map, IsSome, IfSome, Ok, Err}
 use Rattle.std.specs.Option.{option_or, unwrap_or, is_none}
 use Rattle.std.specs.Str.{bytes_eq}
-use Rattle.std.proofs.lemmas.Bool.{and_parts, ltb-true, false≢true}
+use Rattle.std.proofs.lemmas.Bool.{and_parts, cases_lt, ltb-true, false≢true}
 use Rattle.std.proofs.lemmas.Bool.Decides.{nat_tests}
 use Rattle.std.proofs.lemmas.Int.{ints}
-use Rattle.std.proofs.lemmas.List.{length-map, get_or-map}
+use Rattle.std.proofs.lemmas.List.{length-map, get_or-map, get_or_past}
 use Rattle.toml.specs.View.{view}
 use Rattle.toml.specs.declared.value.Value.{Value}
 use Rattle.gas_geom.specs.Channel.{free_channel}
 use Rattle.gas_geom.specs.Lattice.{LatticeModel, empty_lattice}
 use Rattle.gas_geom.specs.declared.size.TheConstants.{MOST_SIDE}
 use Rattle.gas_cells.specs.declared.reading.Cell.{Cell}
-use Rattle.gas_cells.specs.Reading.{digit_of, state_of, cell_of, cell_at, bad_column}
+use Rattle.gas_cells.specs.Reading.{digit_of, state_of, cell_of, cells_in, cell_at, bad_column}
 use Rattle.gas_layout.specs.Layout.{between}
 use Rattle.gas_layout.proofs.Grids.{rows_of-set_row, rows_of-replicate, lattice_of-same, if_same}
 use Rattle.gas_layout.proofs.Steps.{before-here, before-other, before-none, before-all}
@@ -32,57 +32,6 @@ row_at-view vs r v within is =
 
 pub length-rows : (vs : List Value) → length (map text_of (map view vs)) ≡ length vs
 length-rows vs = length-map (map view vs) text_of ∙ length-map vs view
-
-abbrev pub with_row : LatticeModel → ℕ → List Bool → List ℕ → LatticeModel
-with_row l y mask row = record { channel = record l.channel { solid = set l.channel.solid y mask }; rows = set l.rows y row }
-
-module _ (states : ℕ) (rows : List (List ℕ)) where
-  abbrev solid_at : ℕ → ℕ → Bool
-  solid_at u v = (map_cell states rows u v).solid
-
-  abbrev state_at : ℕ → ℕ → ℕ
-  state_at u v = (map_cell states rows u v).state
-
-  abbrev solid_before : ℕ → ℕ → ℕ → Bool
-  solid_before y u v = if nat_lt v y then solid_at u v else false
-
-  abbrev state_before : ℕ → ℕ → ℕ → ℕ
-  state_before y u v = if nat_lt v y then state_at u v else 0
-
-  pub width-map_before : (y : ℕ) → (map_before states rows y).channel.width ≡ map_width rows
-  unfolding map_before
-  width-map_before y = refl
-
-  pub height-map_before : (y : ℕ) → (map_before states rows y).channel.height ≡ length rows
-  unfolding map_before
-  height-map_before y = refl
-
-  pub map_before-next : (y : ℕ) (mask : List Bool) (row : List ℕ) → y < length rows → length mask ≡ map_width rows → length row ≡ map_width rows
-      → ((x : ℕ) → x < map_width rows → get_or mask x false ≡ solid_at x y) → ((x : ℕ) → x < map_width rows → get_or row x 0 ≡ state_at x y)
-      → with_row (map_before states rows y) y mask row ≡ map_before states rows (y + 1)
-  unfolding map_before
-  map_before-next y mask row in_rows mask_wide row_wide same_solid same_state =
-      ap₂ (λ gs rs. record { channel = record { width = map_width rows; height = length rows; solid = gs }; rows = rs })
-      (rows_of-set_row (map_width rows) (length rows) (solid_before y) (solid_before (y + 1)) y mask false in_rows mask_wide
-      (λ u in_row. same_solid u in_row ∙ sym (if_same (nat_lt y (y + 1)) true (solid_at u y) false (before-here y)))
-      (λ u k other. if_same (nat_lt k y) (nat_lt k (y + 1)) (solid_at u k) false (before-other y k other)))
-      (rows_of-set_row (map_width rows) (length rows) (state_before y) (state_before (y + 1)) y row 0 in_rows row_wide
-      (λ u in_row. same_state u in_row ∙ sym (if_same (nat_lt y (y + 1)) true (state_at u y) 0 (before-here y)))
-      (λ u k other. if_same (nat_lt k y) (nat_lt k (y + 1)) (state_at u k) 0 (before-other y k other)))
-
-  pub map_before-none : empty_lattice (free_channel (map_width rows) (length rows)) ≡ map_before states rows 0
-  unfolding map_before
-  map_before-none =
-      ap₂ (λ gs rs. record { channel = record { width = map_width rows; height = length rows; solid = gs }; rows = rs })
-      (rows_of-replicate (map_width rows) (length rows) (solid_before 0) false (λ u k. sym (if_same (nat_lt k 0) false (solid_at u k) false (before-none k))))
-      (rows_of-replicate (map_width rows) (length rows) (state_before 0) 0 (λ u k. sym (if_same (nat_lt k 0) false (state_at u k) 0 (before-none k))))
-
-  pub map_before-all : map_before states rows (length rows) ≡ map_lattice states rows
-  unfolding map_before map_lattice
-  map_before-all =
-      lattice_of-same (map_width rows) (length rows) (solid_before (length rows)) solid_at (state_before (length rows)) state_at
-      (λ u k _ in_column. if_same (nat_lt k (length rows)) true (solid_at u k) false (before-all (length rows) k in_column))
-      (λ u k _ in_column. if_same (nat_lt k (length rows)) true (state_at u k) 0 (before-all (length rows) k in_column))
 
 abbrev pub empty : Cell
 empty = record { solid = false; state = 0 }
@@ -136,6 +85,93 @@ unfolding cell_of
 solid-empty states row x is =
     marked-empty (bytes_eq (get_or row (2 * x) 0 ∷ get_or row (2 * x + 1) 0 ∷ []) (codes "##")) (bytes_eq (get_or row (2 * x) 0 ∷ get_or row (2 * x + 1) 0 ∷ []) (codes "..")) _
     (state_of-fluid states (digit_of (get_or row (2 * x) 0)) (digit_of (get_or row (2 * x + 1) 0))) is
+
+-- what a mask and states are that hold row y of a map
+pub record IsRow (states : ℕ) (rows : List (List ℕ)) (y : ℕ) (mask : List Bool) (sets : List ℕ) : Type 0 where
+  pub wide : length mask ≡ map_width rows
+  pub as_wide : length sets ≡ map_width rows
+  pub solid : (x : ℕ) → x < map_width rows → get_or mask x false ≡ (map_cell states rows x y).solid
+  pub state : (x : ℕ) → x < map_width rows → get_or sets x 0 ≡ (map_cell states rows x y).state
+
+-- so they are where they were read from the characters of a row of cells
+pub IsRow-read : (states : ℕ) (rows : List (List ℕ)) (y : ℕ) (row : List ℕ) (mask : List Bool) (sets : List ℕ) → IsMap states rows → y < length rows
+    → row ≡ row_at rows y → length mask ≡ cells_in row → length sets ≡ cells_in row
+    → ((n x : ℕ) → x < cells_in row → IfSome (cell_at n row x) (λ c. get_or mask x false ≡ c.solid))
+    → ((n x : ℕ) → x < cells_in row → IfSome (cell_at n row x) (λ c. get_or sets x 0 ≡ c.state)) → IsRow states rows y mask sets
+IsRow-read states rows y row mask sets map in_rows here wide as_wide solid state =
+    let width : cells_in row ≡ map_width rows = ap cells_in here ∙ map.wide y in_rows in
+    record {
+      wide = wide ∙ width;
+      as_wide = as_wide ∙ width;
+      solid = λ x lt. cell_is (cell_at states (row_at rows y) x) (λ c. c.solid) _ (map.cells x y lt in_rows)
+          (subst (λ r. IfSome (cell_at states r x) (λ c. get_or mask x false ≡ c.solid)) here (solid states x (omega (arith, lt, width))));
+      state = λ x lt. cell_is (cell_at states (row_at rows y) x) (λ c. c.state) _ (map.cells x y lt in_rows)
+          (subst (λ r. IfSome (cell_at states r x) (λ c. get_or sets x 0 ≡ c.state)) here (state states x (omega (arith, lt, width))));
+    }
+
+pub IsRow-within : (states : ℕ) (rows : List (List ℕ)) (y : ℕ) (mask : List Bool) (sets : List ℕ) → IsRow states rows y mask sets → 0 < states
+    → (x : ℕ) → get_or sets x 0 < states
+IsRow-within states rows y mask sets is some x = elim (cases_lt x (map_width rows)) [
+  | inl lt ↦ subst (λ s. s < states) (sym (is.state x lt)) (cell_at-within states (row_at rows y) x some)
+  | inr le ↦ subst (λ s. s < states) (sym (get_or_past sets x 0 (omega (arith, le, is.as_wide)))) some
+]
+
+pub IsRow-empty : (states : ℕ) (rows : List (List ℕ)) (y : ℕ) (mask : List Bool) (sets : List ℕ) → IsRow states rows y mask sets
+    → (x : ℕ) → get_or mask x false ≡ true → get_or sets x 0 ≡ 0
+IsRow-empty states rows y mask sets is x solid = elim (cases_lt x (map_width rows)) [
+  | inl lt ↦ is.state x lt ∙ solid-empty states (row_at rows y) x (sym (is.solid x lt) ∙ solid)
+  | inr le ↦ get_or_past sets x 0 (omega (arith, le, is.as_wide))
+]
+
+abbrev pub with_row : LatticeModel → ℕ → List Bool → List ℕ → LatticeModel
+with_row l y mask row = record { channel = record l.channel { solid = set l.channel.solid y mask }; rows = set l.rows y row }
+
+module _ (states : ℕ) (rows : List (List ℕ)) where
+  abbrev solid_at : ℕ → ℕ → Bool
+  solid_at u v = (map_cell states rows u v).solid
+
+  abbrev state_at : ℕ → ℕ → ℕ
+  state_at u v = (map_cell states rows u v).state
+
+  abbrev solid_before : ℕ → ℕ → ℕ → Bool
+  solid_before y u v = if nat_lt v y then solid_at u v else false
+
+  abbrev state_before : ℕ → ℕ → ℕ → ℕ
+  state_before y u v = if nat_lt v y then state_at u v else 0
+
+  pub width-map_before : (y : ℕ) → (map_before states rows y).channel.width ≡ map_width rows
+  unfolding map_before
+  width-map_before y = refl
+
+  pub height-map_before : (y : ℕ) → (map_before states rows y).channel.height ≡ length rows
+  unfolding map_before
+  height-map_before y = refl
+
+  pub map_before-next : (y : ℕ) (mask : List Bool) (row : List ℕ) → y < length rows → IsRow states rows y mask row
+      → with_row (map_before states rows y) y mask row ≡ map_before states rows (y + 1)
+  unfolding map_before
+  map_before-next y mask row in_rows is =
+      ap₂ (λ gs rs. record { channel = record { width = map_width rows; height = length rows; solid = gs }; rows = rs })
+      (rows_of-set_row (map_width rows) (length rows) (solid_before y) (solid_before (y + 1)) y mask false in_rows is.wide
+      (λ u in_row. is.solid u in_row ∙ sym (if_same (nat_lt y (y + 1)) true (solid_at u y) false (before-here y)))
+      (λ u k other. if_same (nat_lt k y) (nat_lt k (y + 1)) (solid_at u k) false (before-other y k other)))
+      (rows_of-set_row (map_width rows) (length rows) (state_before y) (state_before (y + 1)) y row 0 in_rows is.as_wide
+      (λ u in_row. is.state u in_row ∙ sym (if_same (nat_lt y (y + 1)) true (state_at u y) 0 (before-here y)))
+      (λ u k other. if_same (nat_lt k y) (nat_lt k (y + 1)) (state_at u k) 0 (before-other y k other)))
+
+  pub map_before-none : empty_lattice (free_channel (map_width rows) (length rows)) ≡ map_before states rows 0
+  unfolding map_before
+  map_before-none =
+      ap₂ (λ gs rs. record { channel = record { width = map_width rows; height = length rows; solid = gs }; rows = rs })
+      (rows_of-replicate (map_width rows) (length rows) (solid_before 0) false (λ u k. sym (if_same (nat_lt k 0) false (solid_at u k) false (before-none k))))
+      (rows_of-replicate (map_width rows) (length rows) (state_before 0) 0 (λ u k. sym (if_same (nat_lt k 0) false (state_at u k) 0 (before-none k))))
+
+  pub map_before-all : map_before states rows (length rows) ≡ map_lattice states rows
+  unfolding map_before map_lattice
+  map_before-all =
+      lattice_of-same (map_width rows) (length rows) (solid_before (length rows)) solid_at (state_before (length rows)) state_at
+      (λ u k _ in_column. if_same (nat_lt k (length rows)) true (solid_at u k) false (before-all (length rows) k in_column))
+      (λ u k _ in_column. if_same (nat_lt k (length rows)) true (state_at u k) 0 (before-all (length rows) k in_column))
 
 -- verdicts, and what they tell
 pub verdict-none : (o : Option SceneError) → verdict o ≡ Ok tt → o ≡ None

@@ -11,6 +11,7 @@ use Rattle.gas_scene.specs.Catalog.{rules_of, gas_named}
 use Rattle.gas_layout.specs.Layout.{between, is_covered, fits, can_place}
 use Rattle.gas_scene.specs.declared.error.SceneError.{SceneError}
 use Rattle.gas_scene.specs.declared.error.SceneError.TheVariants.{UnknownKey, Missing, WrongType, Range, BothForms, RowLength, BadCell}
+use Rattle.gas_cells.specs.declared.cells.TheConstants.{CHARACTERS}
 use Rattle.gas_cells.specs.Reading.{bad_column}
 use Rattle.gas_scene.specs.Table.{AreaModel, TableModel, table_of}
 use Rattle.gas_scene.specs.Keys.{keys_all, is_known, is_typed}
@@ -54,10 +55,11 @@ is_area_in_range most states a =
     && (list_all (fits (nat_abs a.width) (nat_abs a.height)) a.solid
     && list_all (can_place states (nat_abs a.width) (nat_abs a.height) (is_covered a.solid)) a.particles)))
 
--- whether a row's length is wrong: it must be two characters a cell, and that of the first row
+-- whether a row's length is wrong: it must be the length of some whole cells, of at most `most`, and of the first row
 abbrev pub is_misfit : ℕ → ℕ → List ℕ → Bool
 is_misfit most first row =
-    not ((length row % 2 == 0) && (nat_le 2 (length row) && (nat_le (length row) (2 * most) && (length row == first))))
+    not ((length row % CHARACTERS == 0)
+    && (nat_le CHARACTERS (length row) && (nat_le (length row) (CHARACTERS * most) && (length row == first))))
 
 -- the first row of a wrong length
 abbrev pub row_length : ℕ → List (List ℕ) → Option SceneError

@@ -1,5 +1,5 @@
 -- The scene of a text.
-use Rattle.std.specs.Prelude.{ℕ, ◌/◌, ◌^◌, Bool, false, List, [], slice_index_or, Result, Ok, Err, if◌then◌else◌, codes, length, pos, nat_abs}
+use Rattle.std.specs.Prelude.{ℕ, ◌^◌, Bool, false, List, [], slice_index_or, Result, Ok, Err, if◌then◌else◌, codes, length, pos, nat_abs}
 use Rattle.std.specs.Option.{option_map_or, unwrap_or}
 use Rattle.std.specs.Str.{bytes_eq, is_utf8}
 use Rattle.toml.specs.Data.{Members}
@@ -9,7 +9,7 @@ use Rattle.gas_geom.specs.Lattice.{LatticeModel}
 use Rattle.gas_rows.specs.declared.chirality.Chirality.{Chirality}
 use Rattle.gas_rows.specs.declared.chirality.Chirality.TheVariants.{Seeded, Left, Right}
 use Rattle.gas_cells.specs.declared.reading.Cell.{Cell}
-use Rattle.gas_cells.specs.Reading.{cell_at}
+use Rattle.gas_cells.specs.Reading.{cells_in, cell_at}
 use Rattle.gas_scene.specs.Catalog.{rules_of, GasLattice}
 use Rattle.gas_layout.specs.Layout.{is_covered, lattice_of, filling, placed}
 use Rattle.gas_scene.specs.declared.error.SceneError.{SceneError}
@@ -27,10 +27,10 @@ pub record SceneModel : Type 0 where
 abbrev pub map_cell : ℕ → List (List ℕ) → ℕ → ℕ → Cell
 map_cell states rows x y = unwrap_or (cell_at states (slice_index_or rows y []) x) (record { solid = false; state = 0 })
 
--- the lattice of a map, two characters a cell
+-- the lattice of a map
 unfoldable pub map_lattice : ℕ → List (List ℕ) → LatticeModel
 map_lattice states rows =
-    lattice_of (length (slice_index_or rows 0 []) / 2) (length rows)
+    lattice_of (cells_in (slice_index_or rows 0 [])) (length rows)
     (λ x y. (map_cell states rows x y).solid) (λ x y. (map_cell states rows x y).state)
 
 -- the lattice of an area: its rectangles are solid, its fluid cells are filled at the rate under a seed, and then each

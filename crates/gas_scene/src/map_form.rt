@@ -205,6 +205,8 @@ pub(crate) fn lattice(
       lattice = map_lattice (2 ^ (rules_of gas).dirs) (map text_of (map view rows.now));
     }) }
 {
+    // Each cell is judged before the first request for memory, so that no refusal of memory hides
+    // a bad cell further down. So a cell is gone through twice: here, and when it is read.
     check(most, gas.states(), rows)?;
     Ok(build(alloc, gas, rows)?)
 }

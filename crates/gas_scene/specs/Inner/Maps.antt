@@ -1,10 +1,11 @@
 -- Inner words: what functions of this crate promise one another. No public contract cites them.
 -- Here: what checks answer, and how far the lattice of a map is built.
-use Rattle.std.specs.Prelude.{◌≡◌, ℕ, ◌*◌, ◌/◌, ◌<◌, ◌≤◌, false, List, [], slice_index_or, Option, IsSome, Result, Ok, Err, length, nat_lt, if◌then◌else◌}
+use Rattle.std.specs.Prelude.{◌≡◌, ℕ, ◌*◌, ◌<◌, ◌≤◌, false, List, [], slice_index_or, Option, IsSome, Result, Ok, Err, length, nat_lt, if◌then◌else◌}
 use Rattle.std.specs.Option.{option_map_or}
 use Rattle.gas_geom.specs.Lattice.{LatticeModel}
 use Rattle.gas_geom.specs.declared.size.TheConstants.{MOST_SIDE}
-use Rattle.gas_cells.specs.Reading.{cell_at}
+use Rattle.gas_cells.specs.declared.cells.TheConstants.{CHARACTERS}
+use Rattle.gas_cells.specs.Reading.{cells_in, cell_at}
 use Rattle.gas_layout.specs.Layout.{lattice_of}
 use Rattle.gas_scene.specs.declared.error.SceneError.{SceneError}
 use Rattle.gas_scene.specs.Scene.{map_cell}
@@ -20,11 +21,11 @@ row_at rows r = slice_index_or rows r []
 -- rows that are not too many, nor too long
 pub record AreShort (rows : List (List ℕ)) : Type 0 where
   pub high : length rows ≤ MOST_SIDE
-  pub wide : (r : ℕ) → r < length rows → length (row_at rows r) ≤ (2 * MOST_SIDE)
+  pub wide : (r : ℕ) → r < length rows → length (row_at rows r) ≤ (CHARACTERS * MOST_SIDE)
 
--- two characters a cell: the first row sets the width
+-- the first row sets the width
 abbrev pub map_width : List (List ℕ) → ℕ
-map_width rows = length (row_at rows 0) / 2
+map_width rows = cells_in (row_at rows 0)
 
 -- some rows of some cells, and not too many
 pub record IsMap (states : ℕ) (rows : List (List ℕ)) : Type 0 where
@@ -32,7 +33,7 @@ pub record IsMap (states : ℕ) (rows : List (List ℕ)) : Type 0 where
   pub few_rows : length rows ≤ MOST_SIDE
   pub some_cells : 1 ≤ map_width rows
   pub few_cells : map_width rows ≤ MOST_SIDE
-  pub wide : (y : ℕ) → y < length rows → length (row_at rows y) / 2 ≡ map_width rows
+  pub wide : (y : ℕ) → y < length rows → cells_in (row_at rows y) ≡ map_width rows
   pub cells : (x y : ℕ) → x < map_width rows → y < length rows → IsSome (cell_at states (row_at rows y) x)
 
 -- the lattice up to row y, fluid and empty from there on
