@@ -164,8 +164,8 @@ class Package(unittest.TestCase):
         self.assertEqual(ran(PATH=f"{self.room}/bin").stdout, ran(FHPGAS=f"{self.room}/bin/fhpgas").stdout)
 
     def test_a_plan_is_chosen_and_changes_nothing(self):
-        self.assertEqual([fhpgas.plan(1024, 1024, 1000, cores) for cores in (1, 4, 8, 64)], [(1, 128), (16, 128), (32, 128), (64, 128)])
-        self.assertEqual([fhpgas.plan(256, rows, steps, 4)[0] for rows, steps in ((256, 100), (24, 100), (9, 1), (1024, 3))], [16, 1, 1, 3])
+        self.assertEqual([fhpgas.plan(1024, 1000, cores) for cores in (1, 4, 8, 64)], [(1, 128), (16, 128), (32, 128), (64, 128)])
+        self.assertEqual([fhpgas.plan(rows, steps, 4)[0] for rows, steps in ((256, 100), (24, 100), (9, 1), (1024, 3))], [16, 1, 1, 3])
         self.assertEqual(fhpgas.run(AREA, 5, stages=3, capacity=1), fhpgas.run(AREA, 5))
         self.assertEqual(fhpgas.check(AREA), fhpgas.Summary("fhp1", 66, 9, 12, fhpgas.run(AREA, 0).particles))
 

@@ -17,7 +17,7 @@ from .tables import Cells, Table, read_cells, read_table
 ABOVE = pathlib.Path(__file__).resolve().parents[2]  # the repository, or the unpacked archive
 # The line of a scene that names its gas: in a scene that the program takes, no text and no comment has such a line within.
 GAS = re.compile(r"""^[ \t]*gas[ \t]*=[ \t]*(["'])([\w-]+)\1""", re.M)
-SIDE = re.compile(r"^[ \t]*(width|height)[ \t]*=[ \t]*(\d+)", re.M)
+HEIGHT = re.compile(r"^[ \t]*height[ \t]*=[ \t]*(\d+)", re.M)
 MOST_STAGES, CAPACITY = 64, 128
 _function, _cores = None, 0  # of a worker of `side_by_side`: what it calls, and the cores of its runs
 
@@ -81,19 +81,19 @@ def check(scene: str) -> Summary:
     return Summary(words[1], *map(int, words[3::2]))
 
 
-def plan(width: int, height: int, generations: int, cores: int | None = None) -> tuple[int, int]:
+def plan(rows: int, generations: int, cores: int | None = None) -> tuple[int, int]:
     """Good numbers of stages and rows per belt (docs/PERFORMANCE.md): four workers per core, each with 16 rows or more, and no more than
     generations; a single worker if other runs keep the other cores busy."""
     cores = cores or _cores or os.cpu_count() or 1
-    return 1 if cores == 1 else max(1, min(4 * cores, height // 16, generations, MOST_STAGES)), CAPACITY
+    return 1 if cores == 1 else max(1, min(4 * cores, rows // 16, generations, MOST_STAGES)), CAPACITY
 
 
 def _planned(scene: str, generations: int, stages: int | None, capacity: int | None) -> list:
-    """The words of a plan. A scene that is a map does not say its size; its lines are counted."""
+    """The words of a plan. A scene that is a map does not say its height; its lines are counted."""
     good = (1, CAPACITY)
     if isinstance(scene, str) and isinstance(generations, int):
-        sides = {key: int(value) for key, value in SIDE.findall(scene[:10_000])}
-        good = plan(sides.get("width", 0), sides.get("height", scene.count("\n")), generations)
+        height = HEIGHT.search(scene[:10_000])
+        good = plan(int(height[1]) if height else scene.count("\n"), generations)
     return ["--generations", generations, "--stages", good[0] if stages is None else stages, "--capacity", good[1] if capacity is None else capacity]
 
 

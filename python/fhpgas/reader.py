@@ -7,6 +7,7 @@ import json
 import math
 import re
 import tomllib
+from collections.abc import Iterable, Iterator
 
 STATES = {"fhp1": 64, "hpp": 16, "fhp-rest": 128}
 CHIRALITIES = ("seeded", "left", "right")
@@ -18,6 +19,7 @@ KEYS = (*INTEGERS, "gas", "chirality", "cells", *LISTS)
 TYPES = {bool: "a truth value", int: "an integer", float: "a float", str: "a text", list: "a list", dict: "a table"}
 MOST_BYTES, DEEPEST, MOST_ROWS = 67_108_864, 80, 8
 SYNTAX = "scene: not TOML"
+Reasons = Iterator[tuple[tuple, str]]
 # What only TOML 1.1 has: Python's reader takes 1.0, and refuses more than the program does.
 NEWER = re.compile(r"\\[ex]|\{|\d:\d|0000-")
 # What a mistake that Python's reader names usually comes from.
@@ -36,7 +38,7 @@ class Refused(Exception):
     places in lists, and for a map the place of a cell in its row; empty if it lies nowhere. `later` are the lines, with their reasons, that
     follow once these are mended. A refusal is unsure if the text is not TOML 1.0 and may be 1.1."""
 
-    def __init__(self, line, reasons, later=(), unsure=False):
+    def __init__(self, line: str, reasons: list, later: Iterable = (), unsure: bool = False):
         super().__init__(line)
         self.reasons, self.later, self.unsure = reasons, list(later), unsure
 
@@ -54,7 +56,7 @@ def read(text: bytes) -> dict:
 # -- the document --------------------------------------------------------------------------------------------------------------
 
 
-def document(text):
+def document(text: bytes) -> dict:
     """The table of the bytes of a text, or a refusal."""
     try:
         letters = text.decode("utf-8-sig")
@@ -72,14 +74,14 @@ def document(text):
     return table
 
 
-def finite(word):
+def finite(word: str) -> float:
     """A float of a document, if it is one of 64 bits."""
     if math.isinf(float(word)) and "inf" not in word:
         raise Refused(SYNTAX, [((), f"{word} is no float of 64 bits")])
     return float(word)
 
 
-def beyond(value, path=(), deep=0):
+def beyond(value, path: tuple = (), deep: int = 0) -> Reasons:
     """What Python's reader takes and the program does not: integers of more than 64 bits, and what is nested too deep."""
     if deep > DEEPEST:
         yield path[:1], f"lists, tables or keys are nested more than {DEEPEST} deep"
@@ -90,7 +92,7 @@ def beyond(value, path=(), deep=0):
         yield path, f"{value} is no integer of 64 bits"
 
 
-def sentence(message, text):
+def sentence(message: str, text: str) -> str:
     """Where a text is no TOML and why, from what Python's reader says."""
     what, _, where = message.removesuffix(")").rpartition(" (at ")
     hint = MISTAKES.get(what, "the text may be TOML 1.1, which the program reads and Python does not" if NEWER.search(text) else "")
@@ -109,7 +111,7 @@ def sentence(message, text):
 # -- the checks ----------------------------------------------------------------------------------------------------------------
 
 
-def faults(table):
+def faults(table: dict) -> list[tuple[str, list]]:
     """Each line that refuses a scene with its reasons, in order. Before each further check what is at fault is mended if it is a misspelt
     word, and else left out."""
     table, found = dict(table), {}
@@ -120,7 +122,7 @@ def faults(table):
     return [*found.items(), *itertools.islice(row_faults(table), MOST_ROWS)]
 
 
-def mend(table, key=None):
+def mend(table: dict, key: str | None = None) -> None:
     """Takes a key at fault for the nearest one, or with the nearest value, or leaves it out."""
     value, near = table.pop(key, None), closest(key or "", KEYS)
     if near and near not in table and near != key:
@@ -130,38 +132,38 @@ def mend(table, key=None):
         table[key] = closest(value, known)
 
 
-def closest(word, known):
+def closest(word: str, known: Iterable[str]) -> str | None:
     """The known word that is most like this one, or None."""
     return next(iter(difflib.get_close_matches(word.lower(), known, 1, 0.5)), None)
 
 
-def nearest(word, known):
+def nearest(word: str, known: Iterable[str]) -> str:
     """A hint at the known word that is most like this one, or at all if none is."""
     found = closest(word, known)
     return f"the nearest is `{found}`" if found else "there are " + ", ".join(f"`{name}`" for name in known)
 
 
-def shown(value):
+def shown(value) -> str:
     """A value in one line, cut if it is long."""
     text = json.dumps(value, ensure_ascii=False, default=str)
     text = "".join(letter if letter.isprintable() else f"\\u{ord(letter):04x}" for letter in text)
     return text if len(text) <= 60 else text[:57] + ".."
 
 
-def type_of(value):
+def type_of(value) -> str:
     return TYPES.get(type(value), "a date or a time")
 
 
-def is_tuple(value, count):
+def is_tuple(value, count: int) -> bool:
     return type(value) is list and len(value) == count and all(type(entry) is int for entry in value)
 
 
-def version_of(table):
+def version_of(table: dict) -> int:
     """The version whose keys and limits hold: anything but 2 counts as 1."""
     return 2 if type(table.get("version")) is int and table["version"] == 2 else 1
 
 
-def unknown_keys(table):
+def unknown_keys(table: dict) -> Reasons:
     for key, value in table.items():
         if key == "generation" and version_of(table) == 1:
             yield (key,), "`generation` is a key of version 2 alone, with `version = 2` beside it"
@@ -170,13 +172,13 @@ def unknown_keys(table):
             yield (key,), f"{shown(key)} is no key of a scene{heading}; {nearest(key, KEYS)}"
 
 
-def keys_of_both_forms(table):
+def keys_of_both_forms(table: dict) -> Reasons:
     for key in AREA if "cells" in table else ():
         if key in table:
             yield (key,), f"`{key}` is a key of an area, and `cells` makes this scene a map"
 
 
-def missing_keys(table):
+def missing_keys(table: dict) -> Reasons:
     sides = [key for key in ("width", "height") if key not in table]
     if not table:
         yield (), "no key stands in the text"
@@ -186,7 +188,7 @@ def missing_keys(table):
         yield (), f"`{sides[0]}` is missing" if len(sides) == 1 else "`cells` is missing, or `width` and `height`"
 
 
-def wrong_types(table):
+def wrong_types(table: dict) -> Reasons:
     for key, value in table.items():
         wanted = "an integer" if key in INTEGERS else "a text" if key in ("gas", "chirality") else "a list"
         count, form = LISTS.get(key, (0, ""))
@@ -202,7 +204,7 @@ def wrong_types(table):
                     yield (key, place), f"entry {place} of `{key}`, {shown(entry)}, must be a list of {count} integers, {form}"
 
 
-def out_of_range(table):
+def out_of_range(table: dict) -> Reasons:
     side, version = MOST_SIDE[version_of(table)], version_of(table)
     ranges = {"version": (1, 2), "seed": (0, 2**63 - 1), "generation": (0, 10**12), "rate": (0, 1000), "width": (1, side), "height": (1, side)}
     sizes = {key: table[key] for key in ranges if key in table} | ({"cells": len(table["cells"])} if "cells" in table else {})
@@ -217,7 +219,7 @@ def out_of_range(table):
             yield (key,), f"`{key}` is {shown(table[key])}; {nearest(table[key], known)}"
 
 
-def misplaced(table):
+def misplaced(table: dict) -> Reasons:
     """The rectangles and the particles of an area that are out of it, or of the gas's states, or in one another."""
     if "width" not in table or "height" not in table:
         return
@@ -238,7 +240,7 @@ def misplaced(table):
             yield ("particles", place), f"{name} stands in rectangle {cover}, {solid[cover]}"
 
 
-def covering(solid, x, y):
+def covering(solid: list, x: int, y: int) -> int | None:
     """The place of the first rectangle that covers a cell, or None."""
     return next((k for k, (left, top, w, h) in enumerate(solid) if left <= x < left + w and top <= y < top + h), None)
 
@@ -257,7 +259,7 @@ CHECKS = [
 # -- the rows ------------------------------------------------------------------------------------------------------------------
 
 
-def row_faults(table):
+def row_faults(table: dict) -> Iterator[tuple[str, list]]:
     """The faults of a map's rows, each with its line: first those of lengths."""
     rows, whole = [row.encode() for row in table.get("cells", ())], []
     for number in range(len(rows)):
@@ -271,7 +273,7 @@ def row_faults(table):
                 yield f"scene: row {number} cell {column} is not a cell", [(("cells", number, column), why)]
 
 
-def length_fault(rows, number, most):
+def length_fault(rows: list[bytes], number: int, most: int) -> str | None:
     """Why the length of a row is wrong, or None."""
     length, first = len(rows[number]), len(rows[0])
     if number == 0:
@@ -283,7 +285,7 @@ def length_fault(rows, number, most):
     return None if length == first else f"row {number} has {length} characters, and row 0 has {first}{others}"
 
 
-def cell_fault(pair, gas):
+def cell_fault(pair: bytes, gas: str) -> str | None:
     """Why two bytes are no cell of a gas, or None."""
     text, states = pair.decode(errors="replace"), f"`00` to `{STATES[gas] - 1:02x}`"
     if text in ("..", "##") or re.fullmatch("[0-9a-f]{2}", text) and int(text, 16) < STATES[gas]:
