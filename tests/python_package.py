@@ -195,7 +195,8 @@ class Package(unittest.TestCase):
                 ("`particles`", fhpgas.with_seed, AREA + "particles = [[0, 0, 1]]\n", 1), ("`rate` is 0", fhpgas.with_seed, AREA.replace("300", "0"), 1),
                 ("row 0 column 1 has state 64, and a state of fhp1 is an integer from 0 to 63", fhpgas.scene_of, [[0, 64]], "fhp1"),
                 ("row 0 column 0 is solid and contains a particle", fhpgas.scene_of, [[1]], "fhp1", [[1]]), ("state 0.5", fhpgas.scene_of, [[0.5]], "fhp1"),
-                ("two-dimensional", fhpgas.scene_of, [1], "fhp1"), ("different sizes", fhpgas.scene_of, [[1, 2]], "fhp1", [[0]]),
+                ("two-dimensional", fhpgas.scene_of, [1], "fhp1"), ("have a --seed", fhpgas.draw, "discs --seed 2", 1), ("a seed is an integer", fhpgas.draw, "discs", 1.5),
+                ("a seed is an integer", lambda: fhpgas.gas(0.2, size=(4, 4), seed=-1)), ("a block has 1 column", cells.table, 0, 9), ("different sizes", fhpgas.scene_of, [[1, 2]], "fhp1", [[0]]),
                 ("there is no gas 'fhp2'", fhpgas.scene_of, [[0]], "fhp2"), ("`seed` cannot be a value of type float", fhpgas.scene_of, [[1]], "hpp", None, "left", 1.0)):
             self.fault(part, function, *words)
 

@@ -13,7 +13,7 @@ import argparse
 import random
 
 from . import fields, shapes
-from .fault import Fault, Parser
+from .fault import Fault, Parser, as_seed
 from .gases import GASES, gas_named
 from .scenes import text_of
 
@@ -25,7 +25,7 @@ def add_words(reader: argparse.ArgumentParser) -> None:
     common = Parser(add_help=False)
     common.add_argument("--gas", choices=GASES, default="fhp1")
     common.add_argument("--chirality", choices=("seeded", "left", "right"), default="seeded")
-    common.add_argument("--seed", type=int, default=0, help="of the scene, and of all that is drawn at random here; default 0")
+    common.add_argument("--seed", type=int, help="of the scene, and of all that is drawn at random here; default 0")
     common.add_argument("--width", type=int, default=64, metavar="COLUMNS", help="1 to 65536; default 64")
     common.add_argument("--height", type=int, default=24, metavar="ROWS", help="1 to 65536; default 24")
     common.add_argument("--rate", type=int, default=200, help="the filling of the channel, 0 to 1000; default 200")
@@ -57,9 +57,8 @@ def add_words(reader: argparse.ArgumentParser) -> None:
 
 def drawn(asked: argparse.Namespace) -> str:
     """The scene of the words that were read."""
+    asked.seed = as_seed(asked.seed or 0)
     lots, obstacles = random.Random(asked.seed), shapes.Obstacles(asked.width, asked.height, asked.gas)
-    if not 0 <= asked.seed < 2**63:
-        raise Fault("seed must be 0 to 9223372036854775807")
     for rate in (asked.rate, *(patch[4] for patch in asked.patch)):
         if not 0 <= rate <= 1000:
             raise Fault(f"rate must be 0 to 1000, and is {rate}")
@@ -126,4 +125,8 @@ def draw(words: str | list, seed: int | None = None) -> str:
     words = words.split() if isinstance(words, str) else [str(word) for word in words]
     reader = Parser("draw")
     add_words(reader)
-    return drawn(reader.parse_args(words if seed is None else [*words, "--seed", str(seed)]))
+    asked = reader.parse_args(words)
+    if seed is not None and asked.seed is not None:
+        raise Fault("the words have a --seed, and a seed is given beside them")
+    asked.seed = asked.seed if seed is None else seed
+    return drawn(asked)

@@ -2,6 +2,7 @@
 import argparse
 import contextlib
 import functools
+import operator
 import os
 import sys
 from collections.abc import Callable, Iterator
@@ -51,3 +52,10 @@ whole, number = functools.partial(within, int), functools.partial(within, float)
 def as_lists(values):
     """A numpy array as lists, and any other value as it is."""
     return values.tolist() if hasattr(values, "tolist") else values
+
+
+def as_seed(seed) -> int:
+    """A seed as an integer; a value that is none of a scene raises a Fault."""
+    if not hasattr(seed, "__index__") or not 0 <= operator.index(seed) < 2**63:
+        raise Fault(f"a seed is an integer from 0 to 9223372036854775807, and this one is {seed!r}")
+    return operator.index(seed)

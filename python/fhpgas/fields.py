@@ -9,7 +9,7 @@ import math
 import random
 from collections.abc import Callable, Sequence
 
-from .fault import Fault, as_lists
+from .fault import Fault, as_lists, as_seed
 from .gases import SOLID, Gas, gas_named
 from .scenes import map_of
 
@@ -121,7 +121,7 @@ class Drawing:
     have 16 bits for each cell: so a row is drawn at once."""
 
     def __init__(self, gas: Gas, columns: int, seed: int):
-        self.gas, self.columns, self.lots = gas, columns, random.Random(seed)
+        self.gas, self.columns, self.lots = gas, columns, random.Random(as_seed(seed))
         self.ones = self._lanes([1] * columns)
         self.numbers, self.borrow = self.ones * 0x7FFF, self.ones << 15
         self.limits = {}  # of an equilibrium: for each direction the chance in 1 / 2^15

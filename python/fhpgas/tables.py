@@ -69,6 +69,8 @@ class Cells:
 
     def counted(self, marks: bytes, block_width: int, block_height: int) -> list[list[int]]:
         """The number of cells of each block [row][column] whose state a table for `bytes.translate` marks by 1."""
+        if block_width < 1 or block_height < 1:
+            raise Fault(f"a block has 1 column and row or more, and this one {block_width} and {block_height}")
         rows, starts = [row.translate(marks) for row in self.rows], range(0, len(self.rows[0]), block_width)
         parts = (rows[top : top + block_height] for top in range(0, len(rows), block_height))
         return [[sum(row.count(1, start, start + block_width) for row in part) for start in starts] for part in parts]
