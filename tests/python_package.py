@@ -421,12 +421,12 @@ class Package(unittest.TestCase):
             self.fault("", drawing.draw, words)
 
     def test_every_command_has_help_and_refuses_what_does_not_fit(self):
-        commands = ("draw", "draw discs", "explain", "picture", "how-long", "resume", "long-run", "over-time", "over-seeds", "numbers", "")
+        commands = ("draw", "draw discs", "explain", "picture", "how-long", "resume", "long-run", "over-time", "over-seeds", "drive", "numbers", "")
         for words in commands:
             done = self.command(*words.split(), "--help")
             self.assertTrue(done.returncode == 0 and done.stdout and not done.stderr, words)
         for words, part in (*((f"{words} --colour", "fhpgas: ") for words in commands), ("explain no.toml", "no.toml: No such file"), ("how-long - 10", "scene: missing key"),
-                            ("over-time - 10 3", "no multiple"), ("numbers --gas hpp --density 0.2 --speed 0.1 --length 9", "hpp has no viscosity"),
+                            ("over-time - 10 3", "no multiple"), ("drive - 10 5", "either by a force"), ("numbers --gas hpp --density 0.2 --speed 0.1 --length 9", "hpp has no viscosity"),
                             ("resume - no.txt", "no.txt"), ("over-seeds --generations 1 --drawn discs --wind 950", "velocity"),
                             ("picture speed a.png -", "no whole table"), ("draw blocks --block 60 0 5 1", "a block leaves the channel")):
             done = self.command(*words.split())
@@ -442,6 +442,9 @@ class Package(unittest.TestCase):
         self.assertEqual(self.command("long-run", "a.toml", 10, 4, "kept").stdout.count("\n"), 3)
         self.assertEqual(fhpgas.run(fhpgas.read_scene(self.room / "kept"), 0), fhpgas.run(AREA, 10))
         self.assertIn("density from 1", self.command("picture", "density", "a.png", "three", "--block", 66, 9).stdout)
+        points = [*fhpgas.driven(AREA, 20, 10, flow=0.1)]
+        self.assertEqual([float(word) for word in self.command("drive", "a.toml", 20, 10, "--flow", 0.1).stdout.split()[3:]],
+                         [float(word) for p in points for word in (p.before.generation, f"{p.velocity:.5f}", f"{p.force:.3g}")])
         told = self.command("how-long", "a.toml", 1000, "--seconds", 1).stdout
         self.assertRegex(told, r"^[\d,]+ MLUPS with 1 worker and 128 rows per belt\n1000 generations of 594 cells: about [\d.e-]+ seconds\n$")
         line = self.command("over-seeds", "--seeds", 3, "--generations", 5, "--block", 66, 9, "a.toml").stdout.split("\n")[1].split()

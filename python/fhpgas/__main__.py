@@ -7,6 +7,7 @@ import sys
 import time
 
 from . import drawing, pictures, scenes, theory
+from .drive import driven
 from .fault import Fault, Parser, one_line_faults, whole
 from .gases import GASES
 from .observe import smooth
@@ -73,6 +74,13 @@ def over_time(asked) -> None:
         print(cells.table(*asked.block).text(), end="", flush=True)
 
 
+def drive(asked) -> None:
+    """Turns particles from west to east between short runs, and says how fast the gas flows and which force acts until the next point."""
+    points = driven(scenes.read_scene(asked.scene), asked.generations, asked.every, force=asked.force, flow=asked.flow, seed=asked.seed)
+    for number, point in enumerate(points):
+        print("generation    velocity       force\n" * (number == 0) + f"{point.before.generation:10} {point.velocity:11.5f} {point.force:11.3g}", flush=True)
+
+
 def draw(asked) -> None:
     print(drawing.drawn(asked), end="")
 
@@ -127,6 +135,9 @@ def reader() -> Parser:
     command(resume, "resume", "print the scene that continues a run from printed cells", scene, cells)
     command(long_run, "long-run", "run in parts, each kept in a file; the same command continues an ended run", scene,
             ("generations", generations | {"type": whole(0, 10**12)}), step, ("kept", {"metavar": "KEPT", "help": "the file, a scene"}))
+    command(drive, "drive", "run a scene under a force or towards a mean flow", scene, ("generations", generations), ("every", step[1] | {"metavar": "EVERY"}),
+            ("--force", {"type": float, "help": "momentum per fluid cell and generation"}), ("--flow", {"type": float, "help": "mean velocity"}),
+            ("--seed", {"type": int, "default": 0, "help": "of the particles that are turned; default 0"}))
     command(over_time, "over-time", "tables every STEP generations up to LAST", scene, ("last", {"type": whole(0, 10**12), "metavar": "LAST"}), step, block)
     command(over_seeds, "over-seeds", "the mean over seeds of a table, with standard errors", ("--seeds", {"type": whole(2, 10**6), "default": 8}),
             ("--generations", generations | {"required": True}), block, ("scene", {"nargs": "?", "metavar": "SCENE", "help": "an area without particles"}),

@@ -267,10 +267,13 @@ def row_faults(table: dict) -> Iterator[tuple[str, list]]:
             yield f"scene: row {number} has a wrong length", [(("cells", number), why)]
         else:
             whole.append(number)
-    for number in whole if table.get("gas") in STATES else ():
-        for column in range(len(rows[number]) // 2):
-            if why := cell_fault(rows[number][2 * column : 2 * column + 2], table["gas"]):
-                yield f"scene: row {number} cell {column} is not a cell", [(("cells", number, column), why)]
+    gas = table.get("gas")
+    cell = re.compile(rb"(?:\.\.|##|[0-%d][0-9a-f])*" % (STATES.get(gas, 16) // 16 - 1))
+    for number in whole if gas in STATES else ():
+        length = cell.match(rows[number]).end()  # up to the first pair that is no cell
+        if length + 1 < len(rows[number]):
+            why = cell_fault(rows[number][length : length + 2], gas)
+            yield f"scene: row {number} cell {length // 2} is not a cell", [(("cells", number, length // 2), why)]
 
 
 def length_fault(rows: list[bytes], number: int, most: int) -> str | None:
@@ -285,11 +288,9 @@ def length_fault(rows: list[bytes], number: int, most: int) -> str | None:
     return None if length == first else f"row {number} has {length} characters, and row 0 has {first}{others}"
 
 
-def cell_fault(pair: bytes, gas: str) -> str | None:
-    """Why two bytes are no cell of a gas, or None."""
+def cell_fault(pair: bytes, gas: str) -> str:
+    """Why two bytes are no cell of a gas."""
     text, states = pair.decode(errors="replace"), f"`00` to `{STATES[gas] - 1:02x}`"
-    if text in ("..", "##") or re.fullmatch("[0-9a-f]{2}", text) and int(text, 16) < STATES[gas]:
-        return None
     if re.fullmatch("[0-9a-f]{2}", text):
         return f"`{text}` is no state of {gas}, whose states are {states}"
     if re.fullmatch("[0-9a-fA-F]{2}", text):
