@@ -13,7 +13,7 @@ import sys
 import tempfile
 
 import needs
-from fhpgas import reader
+import second_reader
 
 PROGRAM = needs.built_program()
 SOMETHING = re.compile(r"(?s).+")
@@ -181,7 +181,7 @@ def rectangles():
     """Each text with rectangles, the line of `check` and the printed cells."""
     for keys in RECTANGLES:
         text = f'version = 2\ngas = "hpp"\n{keys}'
-        lattice = reader.read(text.encode(), MOST_CELLS)
+        lattice = second_reader.read(text.encode(), MOST_CELLS)
         yield text, lattice.check_line(), lattice.printed()
     for width in WIDTHS:
         text = f'version = 2\ngas = "fhp1"\nrate = 1000\nwidth = {width}\nheight = 2\nsolid = [[0, 0, {width}, 2]]'
