@@ -66,7 +66,7 @@ impl Drawing {
         Ok(Drawing { size, rows })
     }
 
-    /// Adds a rectangle. Where memory is refused the drawing is as it was.
+    /// Adds a rectangle. If memory is refused, the drawing is unchanged.
     pub fn add(&mut self, rectangle: Rectangle) -> Result<(), AllocError>
         requires fits { fits self.old.width self.old.height rectangle ≡ true }
         ensures width { self.new.width ≡ self.old.width }

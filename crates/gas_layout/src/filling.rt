@@ -25,7 +25,7 @@ fn particle(word: u32, rate: u32, i: u32) -> u8
     u8::from(word % 1000 < rate) << i
 }
 
-// Adds direction `i` to the states of row `y` where filling puts a particle into it; `words` is a
+// Adds direction `i` to the states of row `y` if filling puts a particle into it; `words` is a
 // buffer for a row.
 fn add_direction(
     states: &mut [u8],

@@ -1,7 +1,7 @@
 //! How far down each column of a channel is solid, as strips are added from the top.
 //!
-//! A strip sets one number for each whole group of 64 blocks that it crosses, one for each whole
-//! block of 64 columns beside these, and one for each column of what is left at its two ends.
+//! A strip sets one number for each whole block of 256 columns that it crosses, and one for each
+//! column before and after these blocks: at most 256 in each of these three parts.
 
 ghost use Rattle.std.specs.Prelude.{◌≡◌, ℕ, ◌+◌, ◌*◌, ◌/◌, ◌<◌, ◌≤◌, ◌&&◌, ◌||◌, false, length, slice_index, slice_index_or, IfOk, All, nat_le, nat_lt, if◌then◌else◌};
 ghost use Rattle.std.specs.List.{list_any};
@@ -11,9 +11,10 @@ ghost use Rattle.gas_layout.specs.Inner.Strips.{reaches, IsStrip};
 use crate::strip::Strip;
 use std::alloc::{AllocError, Global};
 
-// Lets the columns of a strip be solid at least up to its bottom.
+// Lets the columns of a strip be solid at least up to its bottom. It sets at most 256 numbers.
 fn extend(depths: &mut [u32], strip: Strip)
-    requires { IsStrip (length depths.old) strip }
+    requires columns { IsStrip (length depths.old) strip }
+    requires few { strip.end ≤ strip.start + 256 }
     ensures { (x y : ℕ) → nat_lt y (slice_index depths.new x)
         ≡ (nat_lt y (slice_index depths.old x) || reaches strip x y) }
 {
@@ -22,18 +23,20 @@ fn extend(depths: &mut [u32], strip: Strip)
     }
 }
 
-// Extends the two ends of a strip, before and after the whole blocks of 64 columns that it crosses,
-// and returns these blocks as a strip. Where it crosses none, all of it is ends.
+// Extends the two ends of a strip, before and after the whole blocks of 256 columns that it crosses,
+// and returns these blocks as a strip. If the strip lies within a block, it extends all of it.
 fn extend_ends(depths: &mut [u32], strip: Strip) -> Strip
-    requires { IsStrip (length depths.old) strip }
-    ensures within { (n : ℕ) → length depths.old ≤ 64 * n → IsStrip n result }
+    requires columns { IsStrip (length depths.old) strip }
+    requires few { length depths.old ≤ MOST_SIDE }
+    ensures few { result.end ≤ result.start + 256 }
+    ensures within { (n : ℕ) → length depths.old ≤ 256 * n → IsStrip n result }
     ensures cells { (x y : ℕ)
-        → (nat_lt y (slice_index depths.new x) || reaches result (x / 64) y)
+        → (nat_lt y (slice_index depths.new x) || reaches result (x / 256) y)
         ≡ (nat_lt y (slice_index depths.old x) || reaches strip x y) }
 {
-    let first = strip.start / 64 + 1;
-    let last = strip.end / 64;
-    if last <= first {
+    let first = strip.start.div_ceil(256);
+    let last = strip.end / 256;
+    if last < first {
         extend(depths, strip);
         return Strip {
             start: 0,
@@ -44,14 +47,14 @@ fn extend_ends(depths: &mut [u32], strip: Strip) -> Strip
     extend(
         depths,
         Strip {
-            end: 64 * first,
+            end: 256 * first,
             ..strip
         },
     );
     extend(
         depths,
         Strip {
-            start: 64 * last,
+            start: 256 * last,
             ..strip
         },
     );
@@ -62,17 +65,8 @@ fn extend_ends(depths: &mut [u32], strip: Strip) -> Strip
     }
 }
 
-// Whether the columns of a block are all solid up to a later row, by its number or that of its
-// group.
-fn is_whole(y: u32, block: u32, group: u32) -> bool
-    ensures { result ≡ (nat_lt y block || nat_lt y group) }
-{
-    y < block || y < group
-}
-
 // Tells of the columns `from` up to `to` which are solid up to a later row: by their own numbers,
-// or all of them where their block is. There is no branch, so that a compiler can take many at a
-// time.
+// or all of them if their block is. There is no branch, so that a compiler can take many at a time.
 fn mark_block(solid: &mut [bool], depths: &[u32], from: usize, to: usize, y: u32, whole: bool)
     requires long { length solid.old ≡ length depths.now }
     requires order { from ≤ to }
@@ -86,13 +80,12 @@ fn mark_block(solid: &mut [bool], depths: &[u32], from: usize, to: usize, y: u32
     }
 }
 
-/// How far down columns are solid: up to the greatest of the numbers of a column, of its block of
-/// 64 columns and of its group of 64 blocks.
+/// How far down columns are solid: up to the greater of the numbers of a column and of its block of
+/// 256 columns.
 #[derive(Drop)]
 pub struct Skyline {
     pub columns: Vec<u32>,
     pub blocks: Vec<u32>,
-    pub groups: Vec<u32>,
 }
 
 impl Skyline {
@@ -106,8 +99,7 @@ impl Skyline {
     {
         Ok(Skyline {
             columns: vec![in alloc; 0; width]?,
-            blocks: vec![in alloc; 0; width / 64 + 1]?,
-            groups: vec![in alloc; 0; width / 64 / 64 + 1]?,
+            blocks: vec![in alloc; 0; width / 256 + 1]?,
         })
     }
 
@@ -119,9 +111,8 @@ impl Skyline {
         ensures cells { (x y : ℕ)
             → passes self.new x y ≡ (passes self.old x y || reaches strip x y) }
     {
-        let in_blocks = extend_ends(self.columns.as_mut_slice(), strip);
-        let in_groups = extend_ends(self.blocks.as_mut_slice(), in_blocks);
-        extend(self.groups.as_mut_slice(), in_groups);
+        let blocks = extend_ends(self.columns.as_mut_slice(), strip);
+        extend(self.blocks.as_mut_slice(), blocks);
     }
 
     /// Lets the columns of each of the strips be solid at least up to its bottom.
@@ -146,12 +137,10 @@ impl Skyline {
     {
         let columns = self.columns.as_slice();
         let blocks = self.blocks.as_slice();
-        let groups = self.groups.as_slice();
         let width = columns.len();
-        for block in 0..width.div_ceil(64) {
-            let whole = is_whole(y, blocks[block], groups[block / 64]);
-            let to = width.min(64 * block + 64);
-            mark_block(solid, columns, 64 * block, to, y, whole);
+        for block in 0..width.div_ceil(256) {
+            let to = width.min(256 * block + 256);
+            mark_block(solid, columns, 256 * block, to, y, y < blocks[block]);
         }
     }
 }

@@ -3,6 +3,7 @@
 use Rattle.std.specs.Global.{Global}
 use Rattle.std.specs.Prelude.{◌≡◌, ℕ, zero, suc, ◌+◌, ◌*◌, ◌/◌, ◌<◌, ◌≤◌, ◌&&◌, ◌||◌, Bool, false, List, [], All, length, map, Vec, nat_le, nat_lt, nat_abs, slice_index, slice_index_or, ◌+ℤ◌}
 use Rattle.std.specs.List.{list_any}
+use Rattle.gas_geom.specs.declared.size.TheConstants.{MOST_SIDE}
 use Rattle.gas_layout.specs.declared.rectangle.Rectangle.{Rectangle}
 use Rattle.gas_layout.specs.declared.strip.Strip.{Strip}
 use Rattle.gas_layout.specs.declared.skyline.Skyline.{Skyline}
@@ -30,15 +31,13 @@ reaches s x y = (nat_le s.start x && nat_lt x s.end) && nat_lt y s.bottom
 -- whether the skyline of column x is below row y
 abbrev pub passes : Skyline → ℕ → ℕ → Bool
 passes s x y =
-    nat_lt y (slice_index s.columns.items x)
-    || (nat_lt y (slice_index s.blocks.items (x / 64))
-    || nat_lt y (slice_index s.groups.items (x / 64 / 64)))
+    nat_lt y (slice_index s.columns.items x) || nat_lt y (slice_index s.blocks.items (x / 256))
 
--- a number for each of `width` columns, for each of their blocks, and for each of their groups
+-- a number for each of at most MOST_SIDE columns, and for each of their blocks
 pub record IsSkyline (width : ℕ) (s : Skyline) : Type 0 where
   pub columns : length s.columns.items ≡ width
-  pub blocks : width ≤ 64 * length s.blocks.items
-  pub groups : length s.blocks.items ≤ 64 * length s.groups.items
+  pub few : width ≤ MOST_SIDE
+  pub blocks : width ≤ 256 * length s.blocks.items
 
 -- the strips of row y
 abbrev pub strips_at : List (Vec Strip Global) → ℕ → List Strip

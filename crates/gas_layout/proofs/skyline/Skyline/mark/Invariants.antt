@@ -4,4 +4,4 @@ use Rattle.gas_layout.proofs.skyline.Skyline.mark.Given as goal
 
 abbrev pub invariant-loop-block : goal.invariant-loop-block
 invariant-loop-block l =
-    (x : ℕ) → x < length l.columns → x < 64 * l.block → get_or l.solid x false ≡ passes l.self x l.y
+    (x : ℕ) → x < length l.columns → x < 256 * l.block → get_or l.solid x false ≡ passes l.self x l.y
