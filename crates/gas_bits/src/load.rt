@@ -5,23 +5,23 @@ ghost use Rattle.gas_geom.specs.declared.size.TheConstants.{MOST_SIDE};
 ghost use Rattle.gas_bits.specs.Words.{words_in};
 ghost use Rattle.gas_bits.specs.Planes.{has};
 
-use crate::planes::write_words_at;
+use crate::planes::write_planes_at;
 use crate::states::planes_of;
-use crate::word::{keep_up_to, words_for};
+use crate::word::{clear_above, words_for};
 
 /// Writes the states of all cells, and clears the bits past the width.
-pub fn load_states(words: &mut [u64], count: usize, dirs: usize, states: &[u8])
-    requires few_words { count ≤ words_in MOST_SIDE }
+pub fn load_states(words: &mut [u64], words_each: usize, dirs: usize, states: &[u8])
+    requires few_words { words_each ≤ words_in MOST_SIDE }
     requires few_dirs { dirs ≤ 8 }
-    requires long { length words.old ≡ dirs * count }
-    requires wide { words_in (length states.now) ≡ count }
-    ensures loaded { (i y : ℕ) → i < dirs → y / 64 < count → has words.new count i y
+    requires long { length words.old ≡ dirs * words_each }
+    requires wide { words_in (length states.now) ≡ words_each }
+    ensures loaded { (i y : ℕ) → i < dirs → y / 64 < words_each → has words.new words_each i y
         ≡ holds (slice_index states.now y) i }
 {
-    for j in 0..count {
+    for j in 0..words_each {
         let end = states.len().min(64 * j + 64);
         let planes = planes_of(&states[64 * j..end], dirs);
-        write_words_at(words, count, dirs, j, planes, 0);
+        write_planes_at(words, words_each, dirs, j, planes, 0);
     }
 }
 
@@ -53,9 +53,9 @@ pub fn clear_planes_past(words: &mut [u64], dirs: usize, width: u32)
     if width % 64 == 0 {
         return;
     }
-    let count = words_for(width);
+    let words_each = words_for(width);
     for i in 0..dirs {
-        let at = i * count + (count - 1);
-        words[at] = keep_up_to(words[at], (width - 1) % 64);
+        let at = i * words_each + (words_each - 1);
+        words[at] = clear_above(words[at], (width - 1) % 64);
     }
 }

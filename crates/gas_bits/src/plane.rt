@@ -3,7 +3,7 @@ ghost use Rattle.std.specs.Prelude.{◌≡◌, ◌≤◌, ◌*◌, ◌%◌, ◌+
 ghost use Rattle.std.specs.List.{All};
 ghost use Rattle.gas_bits.specs.Words.{words_in, bit};
 
-use crate::word::{fill_word, keep_up_to, pack_word};
+use crate::word::{clear_above, fill_word, pack_word};
 
 /// Returns true only if all words are 0.
 pub fn are_zero(words: &[u64]) -> bool
@@ -40,5 +40,5 @@ pub fn clear_past(words: &mut [u64], width: u32)
     ensures bits { (x : ℕ) → bit words.new x ≡ (nat_lt x width && bit words.old x) }
 {
     let end = words.len() - 1;
-    words[end] = keep_up_to(words[end], (width - 1) % 64);
+    words[end] = clear_above(words[end], (width - 1) % 64);
 }

@@ -4,7 +4,7 @@ ghost use Rattle.std.specs.List.{range_with_len};
 ghost use Rattle.gas_geom.specs.Gas.{holds};
 ghost use Rattle.gas_bits.specs.Words.{bit};
 
-use crate::word::keep_up_to;
+use crate::word::clear_above;
 
 // Returns the number of set bits from `from` to `to - 1`.
 #[inline(always)]
@@ -15,7 +15,7 @@ fn ones_in(word: u64, from: u32, to: u32) -> u32
     requires within { to ≤ 64 }
     ensures { result ≡ count_by (holds word) (range_with_len from (to - from)) }
 {
-    (keep_up_to(word, to - 1) >> from).count_ones()
+    (clear_above(word, to - 1) >> from).count_ones()
 }
 
 /// Returns the number of cells in the columns from `from` to `to - 1` whose bit is set.

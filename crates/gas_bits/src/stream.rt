@@ -7,7 +7,7 @@ ghost use Rattle.gas_bits.specs.Words.{words_in, bit};
 ghost use Rattle.gas_bits.specs.Shift.{streamed_bit, streamed_cell};
 
 use crate::incoming::Incoming;
-use crate::word::keep_up_to;
+use crate::word::clear_above;
 
 // Returns a word whose bit 63 is bit `last`.
 #[inline(always)]
@@ -36,7 +36,7 @@ fn from_east(word: u64, last: u32, after: u64) -> u64
     ensures { (b : ℕ) → b ≤ last → holds result b
         ≡ (if b == last then holds after 0 else holds word (b + 1)) }
 {
-    (keep_up_to(word, last) >> 1) | (after << last)
+    (clear_above(word, last) >> 1) | (after << last)
 }
 
 // Returns what 64 cells hold after streaming: what arrives, but the opposite direction where the

@@ -75,7 +75,7 @@ pub(crate) fn pack_word(cells: &[bool]) -> u64
 
 /// Returns the word with the bits above `last`, 0 to 63, cleared.
 #[inline(always)]
-pub(crate) fn keep_up_to(word: u64, last: u32) -> u64
+pub(crate) fn clear_above(word: u64, last: u32) -> u64
     requires { last < 64 }
     ensures { (b : ℕ) → b < 64 → holds result b ≡ (nat_le b last && holds word b) }
 {
@@ -91,7 +91,7 @@ pub fn clear_past_width(word: u64, j: u32, width: u32) -> u64
     ensures bits { (b : ℕ) → b < 64 → holds result b ≡ (nat_lt (64 * j + b) width && holds word b) }
 {
     if j == (width - 1) / 64 {
-        keep_up_to(word, (width - 1) % 64)
+        clear_above(word, (width - 1) % 64)
     } else {
         word
     }

@@ -2,3 +2,4 @@
 pub mod Planes
 pub mod Mask
 pub mod Key
+pub mod Collision

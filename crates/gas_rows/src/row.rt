@@ -8,13 +8,13 @@ ghost use Rattle.gas_bits.specs.Shift.{streamed_cell};
 ghost use Rattle.gas_bits.specs.Words.{words_in, bit};
 ghost use Rattle.gas_rows.specs.Planes.{AreWordsOf, cells_of};
 
-use crate::collision::collide;
+use crate::collision::{Collision, collide};
 use crate::directions::directions;
 use crate::mask::Mask;
 use gas_bits::direction::stream_direction;
 use gas_bits::incoming::Incoming;
 use gas_bits::load::{clear_planes_past, load_states, load_words};
-use gas_bits::planes::{empty_solid, read_cell, words_at, write_cell};
+use gas_bits::planes::{empty_solid, planes_at, read_cell, write_cell};
 use gas_bits::span::count_in;
 use gas_bits::states::states_of;
 use gas_bits::word::{clear_past_width, words_for};
@@ -92,8 +92,8 @@ impl<G: Gas> Row<G> {
         requires state { state < 2 ^ G.rules.dirs }
         ensures written { self.new ≡ slice_set self.old x state }
     {
-        let count = words_for(self.width);
-        write_cell(&mut self.words, count, directions::<G>(), x, state);
+        let words_each = words_for(self.width);
+        write_cell(&mut self.words, words_each, directions::<G>(), x, state);
     }
 
     /// Sets the states of all cells.
@@ -102,8 +102,8 @@ impl<G: Gas> Row<G> {
         requires states { (x : ℕ) → slice_index states.now x < 2 ^ G.rules.dirs }
         ensures { self.new ≡ states.now }
     {
-        let count = words_for(self.width);
-        load_states(&mut self.words, count, directions::<G>(), states);
+        let words_each = words_for(self.width);
+        load_states(&mut self.words, words_each, directions::<G>(), states);
     }
 
     /// Returns the number of particles.
@@ -176,9 +176,9 @@ impl<G: Gas> Row<G> {
         ensures long { length result.now ≡ words_in (length self.now) }
         ensures bits { (x : ℕ) → bit result.now x ≡ holds (slice_index self.now x) i }
     {
-        let count = words_for(self.width);
-        let start = i as usize * count;
-        &self.words[start..start + count]
+        let words_each = words_for(self.width);
+        let start = i as usize * words_each;
+        &self.words[start..start + words_each]
     }
 
     /// Returns word `j` of direction `i`, for the cells from `64 * j` on.
@@ -201,8 +201,8 @@ impl<G: Gas> Row<G> {
         ensures others { (x k : ℕ) → (x / 64 ≢ j) ⊎ (k ≢ i) →
             holds (slice_index self.new x) k ≡ holds (slice_index self.old x) k }
     {
-        let count = words_for(self.width);
-        self.words[i as usize * count + j as usize] = clear_past_width(word, j, self.width);
+        let words_each = words_for(self.width);
+        self.words[i as usize * words_each + j as usize] = clear_past_width(word, j, self.width);
     }
 
     /// Returns the states of the 64 cells from `64 * j` on, 0 past the width.
@@ -211,8 +211,8 @@ impl<G: Gas> Row<G> {
         ensures states { (b : ℕ) → b < 64 → slice_index result b
             ≡ slice_index self.now (64 * j + b) }
     {
-        let count = words_for(self.width);
-        let planes = words_at(&self.words, count, directions::<G>(), j as usize);
+        let words_each = words_for(self.width);
+        let planes = planes_at(&self.words, words_each, directions::<G>(), j as usize);
         states_of(planes, directions::<G>())
     }
 
@@ -223,24 +223,34 @@ impl<G: Gas> Row<G> {
             if slice_index_or solid.now x false then 0 else slice_index self.old x) }
         ensures states { (x : ℕ) → slice_index self.new x < 2 ^ G.rules.dirs }
     {
-        let count = words_for(self.width);
+        let words_each = words_for(self.width);
         if !solid.is_blank() {
-            empty_solid(&mut self.words, count, directions::<G>(), solid.words());
+            empty_solid(
+                &mut self.words,
+                words_each,
+                directions::<G>(),
+                solid.words(),
+            );
         }
     }
 
     /// Collides each fluid cell by the gas's table with its random bit, and empties the solid
-    /// cells. If `free`, no cell is solid.
-    pub(crate) fn collide(&mut self, free: bool, solid: &[u64], chi: &[u64])
-        requires free { IsTrue free → (x : ℕ) → bit solid.now x ≡ false }
+    /// cells. If `all_fluid`, no cell is solid.
+    pub(crate) fn collide(&mut self, all_fluid: bool, solid: &[u64], chi: &[u64])
+        requires fluid { IsTrue all_fluid → (x : ℕ) → bit solid.now x ≡ false }
         requires solid { length solid.now ≡ words_in (length self.old) }
         requires chi { length chi.now ≡ words_in (length self.old) }
         ensures { self.new ≡ row_of (length self.old) (λ x.
             if bit solid.now x then 0
             else G.rules.collide (slice_index self.old x) (bit chi.now x)) }
     {
-        let count = words_for(self.width);
-        collide::<G>(&mut self.words, count, free, solid, chi);
+        let collision = Collision {
+            words_each: words_for(self.width),
+            solid,
+            chi,
+            all_fluid,
+        };
+        collide::<G>(&mut self.words, &collision);
     }
 
     /// Streams direction `i` into this row. `along` is -1, 0 or 1: the particles come from the west,

@@ -3,5 +3,5 @@ use Rattle.gas_bits.proofs.plane.clear_past.Goals as goal
 
 pub returns : goal.returns
 returns c = record {
-  bits = λ x. bit-cleared c.args.words.now c.args.width c.keep_up_to.result c.requires.some_cells c.requires.long c.keep_up_to.ensures x;
+  bits = λ x. bit-cleared c.args.words.now c.args.width c.clear_above.result c.requires.some_cells c.requires.long c.clear_above.ensures x;
 }

@@ -5,7 +5,7 @@ use Rattle.gas_bits.proofs.planes.empty_solid.Given as goal
 
 abbrev pub invariant-loop-j : goal.invariant-loop-j
 invariant-loop-j l = record {
-  done : (y : ℕ) → y < 64 * l.j → y / 64 < l.count →
-      state l.words l.count l.dirs y ≡ (if bit l.solid y then 0 else state l.initial.words l.count l.dirs y);
-  rest : (i y : ℕ) → i < l.dirs → 64 * l.j ≤ y → y / 64 < l.count → has l.words l.count i y ≡ has l.initial.words l.count i y;
+  done : (y : ℕ) → y < 64 * l.j → y / 64 < l.words_each →
+      state l.words l.words_each l.dirs y ≡ (if bit l.solid y then 0 else state l.initial.words l.words_each l.dirs y);
+  rest : (i y : ℕ) → i < l.dirs → 64 * l.j ≤ y → y / 64 < l.words_each → has l.words l.words_each i y ≡ has l.initial.words l.words_each i y;
 }

@@ -10,7 +10,7 @@ loop-j-preserved g c =
       done = λ y le lt hy. elim (cases_lt (y / 64) c.loop-j.j) [
         | inl low ↦ c.collide_word.ensures.others y hy (λ e. omega (arith, e)) ∙ before.done y le low hy
         | inr here ↦ c.collide_word.ensures.collided y (omega arith)
-            ∙ ap (λ s. if bit c.args.solid.now y then 0 else g.G.Gas.rules.collide s (bit c.args.chi.now y)) (before.rest y here hy)
+            ∙ ap (λ s. if bit c.args.collision.now.solid.now y then 0 else g.G.Gas.rules.collide s (bit c.args.collision.now.chi.now y)) (before.rest y here hy)
       ];
       before = λ y lt hy. c.collide_word.ensures.others y hy (λ e. omega (arith, e)) ∙ before.before y lt hy;
       rest = λ y le hy. c.collide_word.ensures.others y hy (λ e. omega (arith, e)) ∙ before.rest y (omega arith) hy;

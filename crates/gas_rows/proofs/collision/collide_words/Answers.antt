@@ -10,7 +10,7 @@ loop-k-preserved g c =
       done = λ y lt hy. elim (cases_lt (y / 64) (4 * c.loop-k.k)) [
         | inl low ↦ c.collide_four.ensures.others y hy (inl low) ∙ before.done y low hy
         | inr le ↦ c.collide_four.ensures.collided y le (omega arith)
-            ∙ ap (λ s. if bit c.args.solid.now y then 0 else g.G.Gas.rules.collide s (bit c.args.chi.now y)) (before.rest y le hy)
+            ∙ ap (λ s. if bit c.args.collision.now.solid.now y then 0 else g.G.Gas.rules.collide s (bit c.args.collision.now.chi.now y)) (before.rest y le hy)
       ];
       rest = λ y le hy. c.collide_four.ensures.others y hy (inr (omega arith)) ∙ before.rest y (omega arith) hy;
     }

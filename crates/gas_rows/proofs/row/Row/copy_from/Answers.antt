@@ -9,15 +9,15 @@ use Rattle.gas_rows.proofs.row.Row.copy_from.Goals as goal
 pub load_states-requires-clause-wide : goal.load_states-requires-clause-wide
 load_states-requires-clause-wide g c =
     ap words_in (c.requires.wide ∙ wide g.G.Gas.rules.dirs c.self.inside.width c.self.inside.words.items c.args.self.now c.self.invariant c.self.view_is)
-    ∙ sym c.words_for-count.ensures.value
+    ∙ sym c.words_for-words_each.ensures.value
 
 pub invariant_of-self : goal.invariant_of-self
 invariant_of-self g c =
     let same = with_items_is c.self.inside.words c.load_states.new.words (c.load_states.auto.words ∙ c.deref_mut.ensures.len) in
     let wide = wide g.G.Gas.rules.dirs c.self.inside.width c.self.inside.words.items c.args.self.now c.self.invariant c.self.view_is in
     subst (ArePlanes g.G.Gas.rules.dirs c.self.inside.width) (sym same)
-    (planes-of_states g.G.Gas.rules.dirs c.self.inside.width c.load_states.new.words c.args.states.now c.words_for-count.result c.directions.result
-    c.words_for-count.ensures.value c.directions.ensures.value c.self.invariant.some_cells c.self.invariant.few_cells
+    (planes-of_states g.G.Gas.rules.dirs c.self.inside.width c.load_states.new.words c.args.states.now c.words_for-words_each.result c.directions.result
+    c.words_for-words_each.ensures.value c.directions.ensures.value c.self.invariant.some_cells c.self.invariant.few_cells
     (c.load_states.auto.words ∙ ap length c.deref_mut.ensures.value ∙ c.self.invariant.long) (c.requires.wide ∙ wide) c.requires.states c.load_states.ensures.loaded)
 
 pub returns : goal.returns
@@ -25,6 +25,6 @@ returns g c =
     let same = with_items_is c.self.inside.words c.load_states.new.words (c.load_states.auto.words ∙ c.deref_mut.ensures.len) in
     let wide = wide g.G.Gas.rules.dirs c.self.inside.width c.self.inside.words.items c.args.self.now c.self.invariant c.self.view_is in
     ap (cells_of g.G.Gas.rules.dirs c.self.inside.width) same
-    ∙ row-of_states g.G.Gas.rules.dirs c.self.inside.width c.load_states.new.words c.args.states.now c.words_for-count.result c.directions.result
-    c.words_for-count.ensures.value c.directions.ensures.value c.self.invariant.some_cells c.self.invariant.few_cells
+    ∙ row-of_states g.G.Gas.rules.dirs c.self.inside.width c.load_states.new.words c.args.states.now c.words_for-words_each.result c.directions.result
+    c.words_for-words_each.ensures.value c.directions.ensures.value c.self.invariant.some_cells c.self.invariant.few_cells
     (c.load_states.auto.words ∙ ap length c.deref_mut.ensures.value ∙ c.self.invariant.long) (c.requires.wide ∙ wide) c.requires.states c.load_states.ensures.loaded

@@ -14,7 +14,7 @@ pub empty_solid-requires-clause-solid : goal.empty_solid-requires-clause-solid
 empty_solid-requires-clause-solid g c =
     c.words.ensures.long
     ∙ ap words_in (c.requires.wide ∙ wide g.G.Gas.rules.dirs c.self.inside.width c.self.inside.words.items c.args.self.now c.self.invariant c.self.view_is)
-    ∙ sym c.words_for-count.ensures.value
+    ∙ sym c.words_for-words_each.ensures.value
 
 Emptied : (new old : List ℕ) (n d : ℕ) (solid : List ℕ) → Type 0
 Emptied new old n d solid = (y : ℕ) → y / 64 < n → state new n d y ≡ (if bit solid y then 0 else state old n d y)
@@ -24,11 +24,11 @@ unfolding Emptied
 invariant_of-self g c =
     let d = g.G.Gas.rules.dirs in
     let new = c.empty_solid.new.words in
-    let n = c.words_for-count.result in
+    let n = c.words_for-words_each.result in
     let same = with_items_is c.self.inside.words new (c.empty_solid.auto.words ∙ c.deref_mut.ensures.len) in
     subst (ArePlanes d c.self.inside.width) (sym same)
     (planes-collided d (λ s _. s) (λ _. refl) c.self.inside.width c.self.inside.words.items c.args.self.now c.self.invariant c.self.view_is
-    new n c.words.result.now c.words.result.now c.words_for-count.ensures.value (c.empty_solid.auto.words ∙ ap length c.deref_mut.ensures.value)
+    new n c.words.result.now c.words.result.now c.words_for-words_each.ensures.value (c.empty_solid.auto.words ∙ ap length c.deref_mut.ensures.value)
     (subst (λ e. Emptied new c.self.inside.words.items n e c.words.result.now) c.directions.ensures.value
     (subst (λ ws. Emptied new ws n c.directions.result c.words.result.now) c.deref_mut.ensures.value c.empty_solid.ensures.emptied)))
 
@@ -37,11 +37,11 @@ unfolding Emptied
 returns-then-not-is_blank-clause-emptied g c =
     let d = g.G.Gas.rules.dirs in
     let new = c.empty_solid.new.words in
-    let n = c.words_for-count.result in
+    let n = c.words_for-words_each.result in
     let same = with_items_is c.self.inside.words new (c.empty_solid.auto.words ∙ c.deref_mut.ensures.len) in
     ap (cells_of d c.self.inside.width) same
     ∙ row-collided d (λ s _. s) (λ _. refl) c.self.inside.width c.self.inside.words.items c.args.self.now c.self.invariant c.self.view_is
-    new n c.words.result.now c.words.result.now c.words_for-count.ensures.value (c.empty_solid.auto.words ∙ ap length c.deref_mut.ensures.value)
+    new n c.words.result.now c.words.result.now c.words_for-words_each.ensures.value (c.empty_solid.auto.words ∙ ap length c.deref_mut.ensures.value)
     (subst (λ e. Emptied new c.self.inside.words.items n e c.words.result.now) c.directions.ensures.value
     (subst (λ ws. Emptied new ws n c.directions.result c.words.result.now) c.deref_mut.ensures.value c.empty_solid.ensures.emptied))
     ∙ row_of-same (length c.args.self.now) _ _ (λ x h. ap (λ (s : Bool). if s then 0 else get_or c.args.self.now x 0) (c.words.ensures.bits x))

@@ -10,10 +10,10 @@ part_is words ws i n m e same =
 
 pub returns-clause-long : goal.returns-clause-long
 returns-clause-long g c =
-    ap length (part_is c.self.inside.words.items c.deref.result.now c.args.i c.words_for-count.result (words_in c.self.inside.width) c.words_for-count.ensures.value c.deref.ensures.value)
+    ap length (part_is c.self.inside.words.items c.deref.result.now c.args.i c.words_for-words_each.result (words_in c.self.inside.width) c.words_for-words_each.ensures.value c.deref.ensures.value)
     ∙ plane-long g.G.Gas.rules.dirs c.self.inside.width c.self.inside.words.items c.args.self.now c.self.invariant c.self.view_is c.args.i c.requires.direction
 
 pub returns-clause-bits : goal.returns-clause-bits
 returns-clause-bits g c x =
-    ap (λ ws. bit ws x) (part_is c.self.inside.words.items c.deref.result.now c.args.i c.words_for-count.result (words_in c.self.inside.width) c.words_for-count.ensures.value c.deref.ensures.value)
+    ap (λ ws. bit ws x) (part_is c.self.inside.words.items c.deref.result.now c.args.i c.words_for-words_each.result (words_in c.self.inside.width) c.words_for-words_each.ensures.value c.deref.ensures.value)
     ∙ plane-bits g.G.Gas.rules.dirs c.self.inside.width c.self.inside.words.items c.args.self.now c.self.invariant c.self.view_is c.args.i c.requires.direction x

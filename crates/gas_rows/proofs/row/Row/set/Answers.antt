@@ -9,17 +9,17 @@ use Rattle.gas_rows.proofs.row.Row.set.Goals as goal
 
 pub write_cell-requires-clause-within : goal.write_cell-requires-clause-within
 write_cell-requires-clause-within g c =
-    omega (arith, c.words_for-count.ensures.value, place g.G.Gas.rules.dirs c.self.inside.width c.self.inside.words.items c.args.self.now c.self.invariant c.self.view_is c.args.x c.requires.within)
+    omega (arith, c.words_for-words_each.ensures.value, place g.G.Gas.rules.dirs c.self.inside.width c.self.inside.words.items c.args.self.now c.self.invariant c.self.view_is c.args.x c.requires.within)
 
 pub invariant_of-self : goal.invariant_of-self
 invariant_of-self g c =
     let same = with_items_is c.self.inside.words c.write_cell.new.words (c.write_cell.auto.words ∙ c.deref_mut.ensures.len) in
     subst (ArePlanes g.G.Gas.rules.dirs c.self.inside.width) (sym same)
     (planes-written g.G.Gas.rules.dirs c.self.inside.width c.self.inside.words.items c.args.self.now c.self.invariant c.self.view_is
-    c.write_cell.new.words c.words_for-count.result c.directions.result c.args.x c.args.state c.words_for-count.ensures.value c.directions.ensures.value
+    c.write_cell.new.words c.words_for-words_each.result c.directions.result c.args.x c.args.state c.words_for-words_each.ensures.value c.directions.ensures.value
     (c.write_cell.auto.words ∙ ap length c.deref_mut.ensures.value) c.requires.within c.requires.state
-    (subst (λ ws. (i y : ℕ) → i < c.directions.result → y / 64 < c.words_for-count.result →
-    has c.write_cell.new.words c.words_for-count.result i y ≡ (if y == c.args.x then holds c.args.state i else has ws c.words_for-count.result i y))
+    (subst (λ ws. (i y : ℕ) → i < c.directions.result → y / 64 < c.words_for-words_each.result →
+    has c.write_cell.new.words c.words_for-words_each.result i y ≡ (if y == c.args.x then holds c.args.state i else has ws c.words_for-words_each.result i y))
     c.deref_mut.ensures.value c.write_cell.ensures.written))
 
 pub returns : goal.returns
@@ -28,9 +28,9 @@ returns g c = record {
       let same = with_items_is c.self.inside.words c.write_cell.new.words (c.write_cell.auto.words ∙ c.deref_mut.ensures.len) in
       ap (cells_of g.G.Gas.rules.dirs c.self.inside.width) same
       ∙ row-written g.G.Gas.rules.dirs c.self.inside.width c.self.inside.words.items c.args.self.now c.self.invariant c.self.view_is
-      c.write_cell.new.words c.words_for-count.result c.directions.result c.args.x c.args.state c.words_for-count.ensures.value c.directions.ensures.value
+      c.write_cell.new.words c.words_for-words_each.result c.directions.result c.args.x c.args.state c.words_for-words_each.ensures.value c.directions.ensures.value
       (c.write_cell.auto.words ∙ ap length c.deref_mut.ensures.value) c.requires.within c.requires.state
-      (subst (λ ws. (i y : ℕ) → i < c.directions.result → y / 64 < c.words_for-count.result →
-      has c.write_cell.new.words c.words_for-count.result i y ≡ (if y == c.args.x then holds c.args.state i else has ws c.words_for-count.result i y))
+      (subst (λ ws. (i y : ℕ) → i < c.directions.result → y / 64 < c.words_for-words_each.result →
+      has c.write_cell.new.words c.words_for-words_each.result i y ≡ (if y == c.args.x then holds c.args.state i else has ws c.words_for-words_each.result i y))
       c.deref_mut.ensures.value c.write_cell.ensures.written);
 }

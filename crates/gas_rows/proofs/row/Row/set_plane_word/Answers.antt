@@ -21,7 +21,7 @@ index_mut-requires g c =
     let wide = wide g.G.Gas.rules.dirs width c.self.inside.words.items c.args.self.now c.self.invariant c.self.view_is in
     let there : c.args.j < words_in width = subst (λ w. c.args.j < words_in w) wide c.requires.within in
     let place = place_in (words_in width) g.G.Gas.rules.dirs c.args.i c.args.j c.requires.direction there in
-    let at = ap (λ n. c.args.i * n + c.args.j) c.words_for-count.ensures.value in
+    let at = ap (λ n. c.args.i * n + c.args.j) c.words_for-words_each.ensures.value in
     omega (arith, place, at, c.self.invariant.long, c.self.inside.words.ok)
 
 cut_past : (width j b v : ℕ) (was : ℕ → Bool) → holds v b ≡ (ltb (64 * j + b) width && was b) → width ≤ 64 * j + b → holds v b ≡ false
@@ -37,7 +37,7 @@ invariant_of-self g c =
     let words = c.self.inside.words.items in
     let wide = wide d width words c.args.self.now c.self.invariant c.self.view_is in
     let there : c.args.j < words_in width = subst (λ w. c.args.j < words_in w) wide c.requires.within in
-    subst (λ n. ArePlanes d width (set words (c.args.i * n + c.args.j) c.clear_past_width.result)) (sym c.words_for-count.ensures.value)
+    subst (λ n. ArePlanes d width (set words (c.args.i * n + c.args.j) c.clear_past_width.result)) (sym c.words_for-words_each.ensures.value)
     (planes-word d width words c.args.self.now c.self.invariant c.self.view_is c.args.i c.args.j c.clear_past_width.result c.requires.direction there
     (λ b hb h. cut_past width c.args.j b c.clear_past_width.result (holds c.args.word) (c.clear_past_width.ensures.bits b hb) h))
 
@@ -50,7 +50,7 @@ returns g c =
     let there : c.args.j < words_in width = subst (λ w. c.args.j < words_in w) wide c.requires.within in
     let none : (b : ℕ) → b < 64 → width ≤ 64 * c.args.j + b → holds c.clear_past_width.result b ≡ false =
     λ b hb h. cut_past width c.args.j b c.clear_past_width.result (holds c.args.word) (c.clear_past_width.ensures.bits b hb) h in
-    let at = ap (λ n. cells_of d width (set words (c.args.i * n + c.args.j) c.clear_past_width.result)) c.words_for-count.ensures.value in
+    let at = ap (λ n. cells_of d width (set words (c.args.i * n + c.args.j) c.clear_past_width.result)) c.words_for-words_each.ensures.value in
     record {
       wide = length-cells d width _ ∙ sym wide;
       written = λ b hb h.
