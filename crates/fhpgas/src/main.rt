@@ -16,6 +16,7 @@ use gas_tool_io::faults::InputFault;
 use gas_tool_io::input::slurp;
 use gas_tool_perform::faults::ToolError;
 use gas_tool_perform::perform;
+use std::env;
 use std::process::ExitCode;
 use std::sync::Wait;
 use std::thread::Threads;
@@ -44,7 +45,7 @@ impl Fault {
 
 // The answer to the program's words.
 fn answer<R: Threads + Wait + Sync>(rt: &HostRuntime, threads: &R) -> Result<(), Fault> {
-    let request = read_request(rt)?;
+    let request = read_request(rt.alloc(), env::args(rt))?;
     tell_of_input(rt);
     answer_request(rt, threads, &request)
 }

@@ -1,0 +1,7 @@
+use Rattle.std.proofs.Common.{◌≡◌, map, take}
+use Rattle.std.specs.String.{string_bytes}
+use Rattle.fhpgas.proofs.arguments.texts.Given as goal
+
+-- the words so far are there
+abbrev pub invariant-loop-word : goal.invariant-loop-word
+invariant-loop-word l = map (λ s. s.now) l.texts.items ≡ map string_bytes (take l.word-index l.words)
