@@ -95,51 +95,6 @@ bit-cleared words width v some long cut x =
         bit-past words x (omega arith) ∙ ap (λ t. t && bit words x) (sym is))
         (cases_lt x width)
 
--- a cell more in a word
-packed-one : (word b i : ℕ) (cells : List Bool) → b < 64 → get_or cells b false ≡ true →
-    holds word i ≡ (nat_lt i b && get_or cells i false) →
-    holds (bit_or word (1 * 2 ^ b % 2 ^ 64)) i ≡ (nat_lt i (b + 1) && get_or cells i false)
-packed-one word b i cells within is before =
-    holds-set word b i within
-    ∙ ⊎_elim
-    (λ (e : i ≡ b).
-    let here : nat_lt i (b + 1) ≡ true = grind (arith, nat_tests) in
-    ap (λ t. if t then true else holds word i) (eq-eqb i b e) ∙ sym (ap₂ (λ t g. t && g) here (ap (λ k. get_or cells k false) e ∙ is)))
-    (λ (ne : i ≢ b).
-    let alike : nat_lt i b ≡ nat_lt i (b + 1) = grind (arith, nat_tests) in
-    ap (λ t. if t then true else holds word i) (ne_eqb i b ne) ∙ before ∙ ap (λ t. t && get_or cells i false) alike)
-    (cases_eq i b)
-
-packed-none : (word b i : ℕ) (cells : List Bool) → get_or cells b false ≡ false →
-    holds word i ≡ (nat_lt i b && get_or cells i false) →
-    holds (bit_or word (0 * 2 ^ b % 2 ^ 64)) i ≡ (nat_lt i (b + 1) && get_or cells i false)
-packed-none word b i cells is before =
-    let none : 0 * 2 ^ b % 2 ^ 64 ≡ 0 = omega arith in
-    ap (λ k. holds (bit_or word k) i) none ∙ holds-or word 0 i
-    ∙ ap (λ q. holds word i || q) (holds-zero i) ∙ or-false (holds word i) ∙ before
-    ∙ ⊎_elim
-    (λ (e : i ≡ b).
-    let none_here : get_or cells i false ≡ false = ap (λ k. get_or cells k false) e ∙ is in
-    ap (λ g. nat_lt i b && g) none_here ∙ and-false (nat_lt i b) ∙ sym (ap (λ g. nat_lt i (b + 1) && g) none_here ∙ and-false (nat_lt i (b + 1))))
-    (λ (ne : i ≢ b).
-    let alike : nat_lt i b ≡ nat_lt i (b + 1) = grind (arith, nat_tests) in
-    ap (λ t. t && get_or cells i false) alike)
-    (cases_eq i b)
-
-pub packed-more : (word b k : ℕ) (cells : List Bool) → b < 64 → k ≡ bool_byte (get_or cells b false) →
-    ((i : ℕ) → holds word i ≡ (nat_lt i b && get_or cells i false)) →
-    (i : ℕ) → holds (bit_or word (k * 2 ^ b % 2 ^ 64)) i ≡ (nat_lt i (b + 1) && get_or cells i false)
-packed-more word b k cells within is before i = go (get_or cells b false) refl
-  where
-    go : (cell : Bool) → get_or cells b false ≡ cell →
-        holds (bit_or word (k * 2 ^ b % 2 ^ 64)) i ≡ (nat_lt i (b + 1) && get_or cells i false)
-    go true e =
-        ap (λ n. holds (bit_or word (n * 2 ^ b % 2 ^ 64)) i) (is ∙ ap bool_byte e)
-        ∙ packed-one word b i cells within e (before i)
-    go false e =
-        ap (λ n. holds (bit_or word (n * 2 ^ b % 2 ^ 64)) i) (is ∙ ap bool_byte e)
-        ∙ packed-none word b i cells e (before i)
-
 -- a word more that holds 64 cells of a list
 pub pack-more : (words : List ℕ) (cells part : List Bool) (j v : ℕ) → j < length words →
     ((b : ℕ) → b < 64 → get_or part b false ≡ get_or cells (64 * j + b) false) → ((b : ℕ) → holds v b ≡ get_or part b false) →

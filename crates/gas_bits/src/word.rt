@@ -68,7 +68,7 @@ pub(crate) fn pack_word(cells: &[bool]) -> u64
 {
     let mut word = 0;
     for (b, cell) in cells.iter().enumerate() {
-        word |= u64::from(*cell) << b;
+        word = add_bit(word, b as u32, *cell);
     }
     word
 }
