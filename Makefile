@@ -47,7 +47,7 @@ flags = --crate-name $@ --links $@= --jobs $(jobs) -L dependency=$(kit)/rlibs \
 library = src/lib.rt --statements -o out/rlib/$@.rlib
 program = src/main.rt --cpu $(CPU) --toolchain $(kit)/toolchain -o out/new/$@.o
 link = $(kit)/bin/rattle-link --target x86_64-unknown-linux-gnu --toolchain $(kit)/toolchain -o out/new/$@ out/new/$@.o \
-    $(kit)/c/libos_c.a $(kit)/c/liblibc_c.a && mv out/new/$@ out/$@ && rm -r out/new && echo $(CPU) > out/level
+    $(kit)/c/libos_c.a $(kit)/c/liblibc_c.a >> out/build.log 2>&1 && mv out/new/$@ out/$@ && rm -r out/new && echo $(CPU) > out/level
 
 # Where a crate is made, what stands for all that is made, and by what it was made. rt removes the last with the library.
 new = $(if $(is_program),out/new,out/rlib)
@@ -71,6 +71,7 @@ $(names):
 	        cat $(kit)/KIT-ID $(kit)/WHAT $(foreach d,$(below_$@),../$d/out/rlib/$d.rlib/format)
 	        find @(src|specs|proofs) -type f -print0 | LC_ALL=C sort -z | xargs -0 sha256sum; } | sha256sum
 	}
+	fail() { echo "crate $@ was not built; the end of its log:"; tail -n 20 out/build.log; exit 1; } >&2
 	sum=$$(sum)
 	if [ "$$(cat $(sums) 2>&1)" = "$$sum $$(sha256sum $(made) 2>&1)" ]; then
 	    $(if $(is_program),touch $(made))
@@ -80,9 +81,9 @@ $(names):
 	trap 'kill $${!-} 2> /dev/null || :; rm -rf $(new)' EXIT
 	rm -rf $(new) $(sums) && mkdir -p $(new)
 	$(kit)/bin/rattle build $(if $(is_program),$(program),$(library)) $(flags) > out/build.log 2>&1 < /dev/null &
-	wait $$! || { echo "crate $@ was not built; the end of its log:"; tail -n 20 out/build.log; exit 1; } >&2
+	wait $$! || fail
 	[ "$$(sum)" = "$$sum" ] || { echo "crate $@: a file that its proof reads changed meanwhile" >&2; exit 1; }
-	$(if $(is_program),$(link))
+	$(if $(is_program),$(link) || fail)
 	trap - EXIT
 	echo "$$sum $$(sha256sum $(made))" > $(sums)
 	echo >> $(tally)
