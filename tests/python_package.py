@@ -344,7 +344,7 @@ class Package(unittest.TestCase):
             point = [*fhpgas.driven(scene, 20, 10, flow=flow)][-1]
             self.assertAlmostEqual(momentum_of(point.after)[0] / point.after.particles, flow, delta=47 / point.after.particles)
         for options, part in (({}, "either by a force"), ({"force": 5.0}, "no particle to turn"), ({"force": 1, "every": 7}, "multiple of 7")):
-            self.fault(part, next, fhpgas.driven(scene, 20, **options))
+            self.fault(part, lambda: next(fhpgas.driven(scene, 20, **options)))
 
     def test_theory_is_that_of_the_published_formulas(self):
         for d in (0.05, 0.179, 0.3, 0.5):

@@ -77,8 +77,9 @@ def over_time(asked) -> None:
 def drive(asked) -> None:
     """Turns particles from west to east between short runs, and says how fast the gas flows and which force acts until the next point."""
     points = driven(scenes.read_scene(asked.scene), asked.generations, asked.every, force=asked.force, flow=asked.flow, seed=asked.seed)
-    for number, point in enumerate(points):
-        print("generation    velocity       force\n" * (number == 0) + f"{point.before.generation:10} {point.velocity:11.5f} {point.force:11.3g}", flush=True)
+    print("generation    velocity       force")
+    for point in points:
+        print(f"{point.before.generation:10} {point.velocity:11.5f} {point.force:11.3g}", flush=True)
 
 
 def draw(asked) -> None:

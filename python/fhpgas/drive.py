@@ -8,7 +8,7 @@ import functools
 import random
 from collections.abc import Iterator
 
-from .fault import Fault
+from .fault import Fault, as_seed
 from .gases import SOLID, Gas, gas_named
 from .observe import counts as counts_of, fluid
 from .program import run, tell
@@ -32,17 +32,23 @@ class Point:
 
 def driven(scene: str, generations: int, every: int = 10, *, force: float | None = None, flow: float | None = None, seed: int = 0,
            **plan) -> Iterator[Point]:
-    """Yields the points of a driven run: at its start, and after each `every` generations. Either a body force acts eastwards, a momentum per
+    """The points of a driven run: at its start, and after each `every` generations. Either a body force acts eastwards, a momentum per
     fluid cell and generation; or as many particles are turned as bring the mean velocity to `flow`, and `Point.force` is the force that
     this takes. The plan is as in `run`."""
     if (force is None) == (flow is None):
         raise Fault("a flow is driven either by a force or towards a mean flow: force=.. or flow=..")
     if every < 1 or generations < 0 or generations % every:
         raise Fault(f"{generations} generations are not a multiple of {every}, those from one point to the next")
-    keys, lots, cells = keys_of(scene), random.Random(seed), run(scene, 0, **plan)
-    gas, number = gas_named(keys["gas"]), fluid(cells)
+    keys, cells = keys_of(scene), run(scene, 0, **plan)
     if not cells.particles:
         raise Fault("the scene has no particle that could be turned")
+    return _points(keys, cells, generations, every, force, flow, random.Random(as_seed(seed)), plan)
+
+
+def _points(keys: dict, cells: Cells, generations: int, every: int, force: float | None, flow: float | None, lots: random.Random,
+            plan: dict) -> Iterator[Point]:
+    """The points of `driven`. What a row is owed is what rounding left of its share so far."""
+    gas, number, scene = gas_named(keys["gas"]), fluid(cells), ""
     shares = [(len(row) - row.count(SOLID)) / number for row in cells.rows]
     owed = [lots.random() - 0.5 for _ in shares]
     for done in range(0, generations + 1, every):

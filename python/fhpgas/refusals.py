@@ -9,8 +9,8 @@ from .program import text_checked
 
 MOST_REASONS = 8
 NOT_REFUSED = "the scene is not refused\n"
-# A text, a comment or a mark of a document: what is in a text or a comment is no mark.
-TOKEN = re.compile(r'"""(?:[^\\]|\\.)*?"""|' r"'''.*?'''|" r'"(?:[^"\\\n]|\\.)*"|' r"'[^'\n]*'|#[^\n]*|[\[\]{}=,\n]|[^\s#\"'\[\]{}=,]+", re.S)
+# A text, a mark or a word of a document, without blanks and comments before it: what is in a text or a comment is no mark.
+TOKEN = re.compile(r'(?:\s|#[^\n]*+)*+("""(?:[^\\]|\\.)*?"""|' r"'''.*?'''|" r'"(?:[^"\\\n]|\\.)*"|' r"'[^'\n]*'|[\[\]{}=,]|[^\s#\"'\[\]{}=,]+)", re.S)
 
 
 def explained(text: bytes) -> list[tuple[str, list[str]]]:
@@ -20,8 +20,7 @@ def explained(text: bytes) -> list[tuple[str, list[str]]]:
     except reader.Refused as refused:
         source = text.decode("utf-8-sig", errors="replace").replace("\r\n", "\n")
         found = [(str(refused), refused.reasons), *refused.later]
-        places = offsets(source) if any(path for _, reasons in found for path, _ in reasons) else {}
-        return [(line, [position(source, places, path) + why for path, why in reasons]) for line, reasons in found]
+        return [(line, [position(source, path) + why for path, why in reasons]) for line, reasons in found]
     return []
 
 
@@ -39,42 +38,29 @@ def explain(scene: str) -> str:
     return explanation(text_checked(scene).encode())
 
 
-def offsets(source: str) -> dict[tuple, int]:
-    """Where the keys of the top level stand in a document, and the entries of their lists, by path: a key, and then places in lists."""
-    found, line, key, open_marks, counts, has_heading = {}, [], None, [], [], False
-    for token in TOKEN.finditer(source):
-        mark = token[0]
-        if mark.startswith("#"):
-            continue
-        if key is None and mark in ("=", "\n"):
-            names = [part for part in line if part[0] not in "[]"]
-            name = names[0][0].split(".")[0].strip("\"'") if names else None
-            if name and not (mark == "=" and has_heading):  # a key under a heading is none of the top level
-                found.setdefault((name,), names[0].start())
-            has_heading = has_heading or bool(line) and mark == "\n"
-            key, line = name if mark == "=" else None, []
-        elif key is None:
-            line.append(token)
-        elif mark == "\n":
-            key = key if open_marks else None
-        elif mark in "]}":
-            open_marks, counts = open_marks[:-1], counts[:-1]
-        elif mark == ",":
-            counts = [*counts[:-1], counts[-1] + 1] if counts else counts
-        else:
-            if open_marks and "{" not in open_marks:
-                found.setdefault((key, *counts), token.start())
-            open_marks, counts = ([*open_marks, mark], [*counts, 0]) if mark in "[{" else (open_marks, counts)
-    return found
-
-
-def position(source: str, places: dict[tuple, int], path: tuple) -> str:
-    """The line and the column of a path, from 1, as the beginning of a sentence. A cell of a map has its own column if its row stands
-    plainly in the text."""
-    known = next((path[:k] for k in range(len(path), 0, -1) if path[:k] in places), None)
-    if known is None:
+def position(source: str, path: tuple) -> str:
+    """The line and the column of a path, from 1, as the beginning of a sentence; nothing if the key is not found. A path is a key, the place of
+    an entry of its list, and for a map the place of a cell in its row."""
+    key = re.search(rf"""^[ \t]*(?:\[+[ \t]*)?(["']?{re.escape(path[0])}\b["']?)[ \t]*([.=\]])""", source, re.M) if path else None
+    if not key:
         return ""
-    offset = places[known]
+    offset = key.start(1)
+    if len(path) > 1 and key[2] == "=":
+        offset = entry(source, key.end(), path[1]) or offset
     if path[0] == "cells" and len(path) == 3 and re.match(r"[\"'][^\"'\\]", source[offset : offset + 2]):
         offset += 1 + 2 * path[2]
     return f"line {source.count(chr(10), 0, offset) + 1}, column {offset - source.rfind(chr(10), 0, offset)}: "
+
+
+def entry(source: str, start: int, place: int) -> int | None:
+    """Where the entry of a list at this place begins, from 0, in a document that has the list from `start` on."""
+    depth = count = 0
+    for token in TOKEN.finditer(source, start):
+        if token[1] in "]}":
+            depth -= 1
+        elif token[1] == ",":
+            count += depth == 1
+        elif depth == 1 and count == place:
+            return token.start(1)
+        depth += token[1] in "[{"
+    return None
