@@ -11,7 +11,7 @@ from collections.abc import Iterator
 from .fault import Fault, as_seed
 from .gases import SOLID, Gas, gas_named
 from .observe import counts as counts_of, fluid
-from .program import run, tell
+from .program import run, show_progress
 from .scenes import keys_of, later_scene
 from .tables import Cells
 
@@ -52,7 +52,7 @@ def _points(keys: dict, cells: Cells, generations: int, every: int, force: float
     shares = [(len(row) - row.count(SOLID)) / number for row in cells.rows]
     owed = [lots.random() - 0.5 for _ in shares]
     for done in range(0, generations + 1, every):
-        tell(f"{done} of {generations} generations")
+        show_progress(f"{done} of {generations} generations")
         cells = run(scene, every, **plan) if done else cells
         before = momentum(cells, gas)
         wanted = force * every * number / 2 if flow is None else (flow * cells.particles - before) / 2
@@ -62,7 +62,7 @@ def _points(keys: dict, cells: Cells, generations: int, every: int, force: float
         rows = (turned(row, count, gas, lots, y) if count else row for y, (row, count) in enumerate(zip(cells.rows, counts)))
         after = dataclasses.replace(cells, rows=tuple(rows))
         scene, count = later_scene(keys, after), sum(counts)
-        tell("")
+        show_progress("")
         yield Point(cells, after, count, 2 * count / every / number, (before + count) / cells.particles, scene)
 
 

@@ -116,7 +116,7 @@ def coarse(scene: str, generations: int, block_width: int, block_height: int, st
     return dataclasses.replace(table, gas=gas_of(scene), block=(block_width, block_height))
 
 
-def tell(text: str) -> None:
+def show_progress(text: str) -> None:
     """Shows a line on the terminal, in place of the one before; an empty text wipes it. Nothing if standard error is no terminal."""
     if sys.stderr.isatty():
         print(f"\r\033[K{text}", end="", file=sys.stderr, flush=True)
@@ -155,9 +155,9 @@ def _gathered(futures: list) -> list:
     try:
         for done, future in enumerate(concurrent.futures.as_completed(futures), start=1):
             future.result()
-            tell(f"{done} of {len(futures)} runs")
+            show_progress(f"{done} of {len(futures)} runs")
         return [future.result() for future in futures]
     finally:
-        tell("")
+        show_progress("")
         for future in futures:
             future.cancel()

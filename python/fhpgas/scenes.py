@@ -9,7 +9,7 @@ from collections.abc import Iterable, Iterator
 
 from .fault import Fault, as_lists
 from .gases import SOLID, gas_named
-from .program import call, run, tell
+from .program import call, run, show_progress
 from .tables import Cells
 
 INTEGERS = ("version", "generation", "seed", "width", "height", "rate")
@@ -143,10 +143,10 @@ def series(scene: str, steps: Iterable[int], **plan) -> Iterator[tuple[Cells, st
     generations from each point to the next. The plan is as in `run`."""
     keys, steps = keys_of(scene), [0, *steps]
     for done, step in enumerate(steps):
-        tell(f"{done} of {len(steps)} parts")
+        show_progress(f"{done} of {len(steps)} parts")
         cells = run(scene, step, **plan)
         scene = later_scene(keys, cells)
-        tell("")
+        show_progress("")
         yield cells, scene
 
 
