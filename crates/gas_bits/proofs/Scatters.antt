@@ -89,3 +89,73 @@ module _ (table : ℕ → Bool → ℕ) (old words new : List ℕ) (n j d dirs :
         ∙ ap (λ s. if bit solid y then 0 else table s (bit chi y)) (state-same words old n d y (λ i hi. rest i y hi (omega arith) hy))
     | inr ne ↦ state-same new words n d y (λ i hi. apart i y hi hy ne) ∙ done y (omega arith) hy
   ]
+
+-- ---- four words of one direction written beside one another
+module _ (words : List ℕ) (n i j v0 v1 v2 v3 : ℕ) (within : i * n + (j + 3) < length words) (hj : j + 3 < n) where
+  abbrev one : List ℕ
+  one = set words (i * n + j) v0
+
+  abbrev two : List ℕ
+  two = set one (i * n + (j + 1)) v1
+
+  abbrev three : List ℕ
+  three = set two (i * n + (j + 2)) v2
+
+  abbrev four : List ℕ
+  four = set three (i * n + (j + 3)) v3
+
+  abbrev long_one : length one ≡ length words
+  long_one = length-set words (i * n + j) v0
+
+  abbrev long_two : length two ≡ length one
+  long_two = length-set one (i * n + (j + 1)) v1
+
+  abbrev long_three : length three ≡ length two
+  long_three = length-set two (i * n + (j + 2)) v2
+
+  has_four : (k y : ℕ) → y / 64 < n → has four n k y ≡ (if (k == i) && (y / 64 == j + 3) then holds v3 (y % 64)
+      else if (k == i) && (y / 64 == j + 2) then holds v2 (y % 64) else if (k == i) && (y / 64 == j + 1) then holds v1 (y % 64)
+      else if (k == i) && (y / 64 == j) then holds v0 (y % 64) else has words n k y)
+  has_four k y hy =
+      has-set three n i (j + 3) v3 k y (omega (arith, long_one, long_two, long_three)) hj hy
+      ∙ ap (λ b. if (k == i) && (y / 64 == j + 3) then holds v3 (y % 64) else b)
+      (has-set two n i (j + 2) v2 k y (omega (arith, long_one, long_two)) (omega arith) hy
+      ∙ ap (λ b. if (k == i) && (y / 64 == j + 2) then holds v2 (y % 64) else b)
+      (has-set one n i (j + 1) v1 k y (omega (arith, long_one)) (omega arith) hy
+      ∙ ap (λ b. if (k == i) && (y / 64 == j + 1) then holds v1 (y % 64) else b)
+      (has-set words n i j v0 k y (omega arith) (omega arith) hy)))
+
+  pub four-first : (y : ℕ) → y / 64 ≡ j → has four n i y ≡ holds v0 (y % 64)
+  four-first y e = let f = has_four i y (omega arith) in grind (arith, nat_tests)
+
+  pub four-second : (y : ℕ) → y / 64 ≡ j + 1 → has four n i y ≡ holds v1 (y % 64)
+  four-second y e = let f = has_four i y (omega arith) in grind (arith, nat_tests)
+
+  pub four-third : (y : ℕ) → y / 64 ≡ j + 2 → has four n i y ≡ holds v2 (y % 64)
+  four-third y e = let f = has_four i y (omega arith) in grind (arith, nat_tests)
+
+  pub four-fourth : (y : ℕ) → y / 64 ≡ j + 3 → has four n i y ≡ holds v3 (y % 64)
+  four-fourth y e = let f = has_four i y (omega arith) in grind (arith, nat_tests)
+
+  -- the other directions, and the other words, are as they were
+  pub four-other : (k y : ℕ) → y / 64 < n → k ≢ i → has four n k y ≡ has words n k y
+  four-other k y hy ne = let f = has_four k y hy in grind (arith, nat_tests)
+
+  pub four-apart : (k y : ℕ) → y / 64 < n → (y / 64 < j) ⊎ (j + 4 ≤ y / 64) → has four n k y ≡ has words n k y
+  four-apart k y hy (inl low) = let f = has_four k y hy in grind (arith, nat_tests)
+  four-apart k y hy (inr high) = let f = has_four k y hy in grind (arith, nat_tests)
+
+-- one of the four words of one direction more
+pub four-more : (n i place t : ℕ) (planes solid words new : List ℕ) (v : ℕ) →
+    ((y : ℕ) → y / 64 ≡ place → has new n i y ≡ holds v (y % 64)) →
+    ((k y : ℕ) → y / 64 ≡ place → k ≢ i → has new n k y ≡ has words n k y) →
+    ((b : ℕ) → b < 64 → holds v b ≡ (holds (get_or planes i 0) b && not (holds (get_or solid t 0) b))) →
+    ((k y : ℕ) → k < i → y / 64 ≡ place →
+    has words n k y ≡ (holds (get_or planes k 0) (y % 64) && not (holds (get_or solid t 0) (y % 64)))) →
+    (k y : ℕ) → k < i + 1 → y / 64 ≡ place →
+    has new n k y ≡ (holds (get_or planes k 0) (y % 64) && not (holds (get_or solid t 0) (y % 64)))
+four-more n i place t planes solid words new v here apart put before k y below at = elim (cases_eq k i) [
+  | inl e ↦ ap (λ m. has new n m y) e ∙ here y at ∙ put (y % 64) (omega arith)
+      ∙ ap (λ m. holds (get_or planes m 0) (y % 64) && not (holds (get_or solid t 0) (y % 64))) (sym e)
+  | inr ne ↦ apart k y at ne ∙ before k y (omega arith) at
+]

@@ -1,6 +1,6 @@
 //! The planes of a row, one for each direction: the words of direction `i` are those from
 //! `i * words_each` to `i * words_each + words_each - 1`.
-ghost use Rattle.std.specs.Prelude.{◌≡◌, ◌+◌, ◌*◌, ◌/◌, ◌<◌, ◌≤◌, ◌==◌, ◌&&◌, ℕ, ◌%◌, not, if◌then◌else◌, length, slice_index};
+ghost use Rattle.std.specs.Prelude.{◌≡◌, ◌+◌, ◌*◌, ◌/◌, ◌<◌, ◌≤◌, ◌==◌, ◌&&◌, ◌⊎◌, ℕ, ◌%◌, not, if◌then◌else◌, length, slice_index};
 ghost use Rattle.gas_geom.specs.Gas.{holds};
 ghost use Rattle.gas_geom.specs.Planes.{ZeroFrom};
 ghost use Rattle.gas_geom.specs.declared.size.TheConstants.{MOST_SIDE};
@@ -81,6 +81,47 @@ pub fn write_planes_at(
 {
     for i in 0..dirs {
         words[i * words_each + j] = clear_bits(planes[i], solid);
+    }
+}
+
+/// Writes words `j` to `j + 3` of each direction, with zeros at solid cells. The four words of a
+/// direction are written one after another, so that a compiler can write them at once.
+#[inline(always)]
+pub fn write_four_at(
+    words: &mut [u64],
+    words_each: usize,
+    dirs: usize,
+    j: usize,
+    first: [u64; 8],
+    second: [u64; 8],
+    third: [u64; 8],
+    fourth: [u64; 8],
+    solid: [u64; 4],
+)
+    requires few_words { words_each ≤ words_in MOST_SIDE }
+    requires few_dirs { dirs ≤ 8 }
+    requires long { length words.old ≡ dirs * words_each }
+    requires within { j + 3 < words_each }
+    ensures first { (i y : ℕ) → i < dirs → y / 64 ≡ j → has words.new words_each i y
+        ≡ (holds (slice_index first i) (y % 64) && not (holds (slice_index solid 0) (y % 64))) }
+    ensures second { (i y : ℕ) → i < dirs → y / 64 ≡ j + 1 → has words.new words_each i y
+        ≡ (holds (slice_index second i) (y % 64) && not (holds (slice_index solid 1) (y % 64))) }
+    ensures third { (i y : ℕ) → i < dirs → y / 64 ≡ j + 2 → has words.new words_each i y
+        ≡ (holds (slice_index third i) (y % 64) && not (holds (slice_index solid 2) (y % 64))) }
+    ensures fourth { (i y : ℕ) → i < dirs → y / 64 ≡ j + 3 → has words.new words_each i y
+        ≡ (holds (slice_index fourth i) (y % 64) && not (holds (slice_index solid 3) (y % 64))) }
+    ensures others { (i y : ℕ) → y / 64 < words_each → (y / 64 < j) ⊎ (j + 4 ≤ y / 64) →
+        has words.new words_each i y ≡ has words.old words_each i y }
+{
+    for i in 0..dirs {
+        let own = clear_bits(first[i], solid[0]);
+        let next = clear_bits(second[i], solid[1]);
+        let after_next = clear_bits(third[i], solid[2]);
+        let last = clear_bits(fourth[i], solid[3]);
+        words[i * words_each + j] = own;
+        words[i * words_each + (j + 1)] = next;
+        words[i * words_each + (j + 2)] = after_next;
+        words[i * words_each + (j + 3)] = last;
     }
 }
 

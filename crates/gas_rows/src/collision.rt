@@ -7,7 +7,7 @@ ghost use Rattle.gas_bits.specs.Planes.{state};
 ghost use Rattle.gas_rows.specs.Inner.Collision.{collided_state};
 
 use crate::directions::directions;
-use gas_bits::planes::{planes_at, write_planes_at};
+use gas_bits::planes::{planes_at, write_four_at, write_planes_at};
 use gas_geom::gas::Gas;
 
 /// What a collision reads beside the words of a row: a word for each 64 cells.
@@ -131,18 +131,19 @@ fn collide_four<'a, G: Gas>(words: &mut [u64], j: usize, collision: &Collision<'
     let second = planes_at(words, words_each, dirs, j + 1);
     let third = planes_at(words, words_each, dirs, j + 2);
     let fourth = planes_at(words, words_each, dirs, j + 3);
-    let first_solid = solid_word(collision, j);
-    let second_solid = solid_word(collision, j + 1);
-    let third_solid = solid_word(collision, j + 2);
-    let fourth_solid = solid_word(collision, j + 3);
+    let solid = [
+        solid_word(collision, j),
+        solid_word(collision, j + 1),
+        solid_word(collision, j + 2),
+        solid_word(collision, j + 3),
+    ];
     let first = G::collide64(first, chi[j]);
     let second = G::collide64(second, chi[j + 1]);
     let third = G::collide64(third, chi[j + 2]);
     let fourth = G::collide64(fourth, chi[j + 3]);
-    write_planes_at(words, words_each, dirs, j, first, first_solid);
-    write_planes_at(words, words_each, dirs, j + 1, second, second_solid);
-    write_planes_at(words, words_each, dirs, j + 2, third, third_solid);
-    write_planes_at(words, words_each, dirs, j + 3, fourth, fourth_solid);
+    write_four_at(
+        words, words_each, dirs, j, first, second, third, fourth, solid,
+    );
 }
 
 // Collides the cells of word j.
