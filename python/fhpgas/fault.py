@@ -24,7 +24,7 @@ class Parser(argparse.ArgumentParser):
 
 @contextlib.contextmanager
 def one_line_faults(name: str) -> Iterator[None]:
-    """Ends a script with status 1: with one line for a Fault, and silently if the reader of its output has left."""
+    """Ends a script with status 1: with one line for a Fault, and silently if the reader of its output has left; by an interrupt with 130."""
     try:
         yield
         sys.stdout.flush()
@@ -33,6 +33,8 @@ def one_line_faults(name: str) -> Iterator[None]:
     except BrokenPipeError:
         os.dup2(os.open(os.devnull, os.O_WRONLY), 1)
         sys.exit(1)
+    except KeyboardInterrupt:
+        sys.exit(130)
 
 
 def within(kind: type, least: float, most: float) -> Callable[[str], float]:
