@@ -7,7 +7,9 @@ same fit to the noise-free Boltzmann equation of a gas without walls. Published,
 g = (1 - 2d) / (2 (1 - d)) in fhp1 and 7/6 of it in fhp-rest (Frisch and others, Complex Systems 1 (1987) 649).
 """
 import cmath
+import itertools
 import math
+import statistics
 
 import common
 import fhpgas
@@ -24,10 +26,8 @@ def speed(momenta):
     """The speed of the wave, from the momenta northwards of blocks of columns at each time."""
     parts = [sum(p * cmath.exp(-2j * math.pi * BLOCK * n / WAVE) for n, p in enumerate(at_a_time)) for at_a_time in momenta]
     turns = [-cmath.phase(later / part) for part, later in zip(parts, parts[1:])]
-    phases = [sum(turns[:n]) for n in range(len(parts))]
-    middle, mean = (len(phases) - 1) / 2, sum(phases) / len(phases)
-    rise = sum((n - middle) * (p - mean) for n, p in enumerate(phases)) / sum((n - middle) ** 2 for n in range(len(phases)))
-    return rise / STEP * WAVE / 2 / math.pi
+    times, phases = range(0, STEP * len(parts), STEP), [0.0, *itertools.accumulate(turns)]
+    return statistics.linear_regression(times, phases).slope * WAVE / 2 / math.pi
 
 
 def measured(asked, density, seed):
@@ -53,7 +53,7 @@ def predicted(asked, density):
 
 def main():
     reader = common.Options(__doc__, "fhp1", "fhp-rest")
-    reader.option("--density", common.number(0.05, 0.7), [0.1, 0.2, 0.3, 0.4, 0.5], [0.2, 0.5], "fillings", nargs="+", metavar="D")
+    reader.option("--density", common.number(0.05, 0.6), [0.1, 0.2, 0.3, 0.4, 0.5], [0.2, 0.5], "fillings", nargs="+", metavar="D")
     reader.option("--wind", common.number(0.02, 0.3), 0.2, 0.2, "the speed of the wind", metavar="U")
     reader.option("--width", common.whole(WAVE, 65536), 512, 512, f"columns, a multiple of {WAVE}")
     reader.option("--height", common.whole(256, 4096), 768, 256, "rows")

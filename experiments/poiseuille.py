@@ -8,6 +8,7 @@ gas is chiral, a shear du/dy changes the density by -b d odd viscosity / c^2 du/
 Theory: the same kicks, samples and fits with the noise-free Boltzmann equation of the same channel.
 """
 import math
+import statistics
 
 import common
 import fhpgas
@@ -16,21 +17,14 @@ from fhpgas import boltzmann, theory
 EVERY = 10
 
 
-def slope(xs, ys):
-    """The line through points by least squares, as its value at 0 and its slope."""
-    x, y = sum(xs) / len(xs), sum(ys) / len(ys)
-    rise = sum((a - x) * (b - y) for a, b in zip(xs, ys)) / sum((a - x) ** 2 for a in xs)
-    return y - rise * x, rise
-
-
 def fits(asked, flows, densities):
     """The viscosity, the rows past the walls at which the flow is zero, and the odd viscosity, from the rows' velocities and densities."""
     gas, rows = fhpgas.gas_named(asked.gas), len(flows)
     heights = [gas.row_distance * ((rows - 1) / 2 - y) for y in range(rows)]
-    middle, bend = slope([h * h for h in heights], flows)
+    bend, middle = statistics.linear_regression([h * h for h in heights], flows)
     if bend >= 0 or middle <= 0:
         raise fhpgas.Fault("the flow is not fastest in the middle: take more generations or seeds")
-    rise = slope(heights, densities)[1]
+    rise = statistics.linear_regression(heights, densities).slope
     whole = gas.directions * asked.density
     odd = -rise / whole * theory.sound_speed(asked.gas) ** 2 / (2 * bend)
     return -asked.force / (2 * bend * whole), math.sqrt(-middle / bend) / gas.row_distance - rows / 2, odd
@@ -45,8 +39,8 @@ def measured(asked, seed):
     for point in fhpgas.driven(scene, asked.generations, EVERY, force=asked.force, seed=seed):
         for cells in (point.before, point.after) if point.before.generation > asked.settled else ():
             table, number = cells.table(4096, 1), number + 1
-            momenta = [sum_ + unit * row[0] for sum_, row in zip(momenta, table.px)]
-            particles = [sum_ + row[0] for sum_, row in zip(particles, table.particles)]
+            momenta = [whole + unit * row[0] for whole, row in zip(momenta, table.px)]
+            particles = [whole + row[0] for whole, row in zip(particles, table.particles)]
     return fits(asked, [p / n for p, n in zip(momenta, particles)], [n / number / width for n in particles])
 
 
@@ -73,6 +67,8 @@ def main():
     reader.option("--seeds", common.whole(2, 1000), 8, 4, "how many")
     asked = reader.parse_args()
     asked.settled -= asked.settled % EVERY
+    if asked.generations <= asked.settled:
+        raise fhpgas.Fault(f"there are {asked.generations} generations, and the first sample is after {asked.settled}")
     runs = fhpgas.side_by_side(lambda seed: measured(asked, seed), range(1, asked.seeds + 1))
     names = "viscosity", "zero past the walls, in rows", "odd viscosity"
     for name, values, value in zip(names, zip(*runs), predicted(asked)):

@@ -50,6 +50,8 @@ def main():
     reader.option("--seeds", common.whole(2, 1000), 8, 4, "how many")
     asked = reader.parse_args()
     asked.settled -= asked.settled % EVERY
+    if asked.generations <= asked.settled:
+        raise fhpgas.Fault(f"there are {asked.generations} generations, and the first sample is after {asked.settled}")
     solid = fhpgas.Obstacles(asked.width, asked.height, asked.gas).porous(asked.percent, asked.radius, 1)
     print(f"porosity {porosity(solid):.3f}")
     viscosity, mass = theory.viscosity(asked.gas, asked.density), fhpgas.gas_named(asked.gas).directions * asked.density

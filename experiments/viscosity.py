@@ -7,6 +7,7 @@ an infinite gas in the Boltzmann approximation (U. Frisch and others, Complex Sy
 Boltzmann equation of this very channel, whose walls take away some of the published value. What is left are correlations.
 """
 import math
+import statistics
 
 import common
 import fhpgas
@@ -21,9 +22,7 @@ def sine(rows):
 
 def rate(step, sizes):
     """The slope of the line through the logarithms, turned positive."""
-    times = [step * n for n in range(len(sizes))]
-    middle = sum(times) / len(times)
-    return -sum((t - middle) * math.log(a) for t, a in zip(times, sizes)) / sum((t - middle) ** 2 for t in times)
+    return -statistics.linear_regression([step * n for n in range(len(sizes))], [*map(math.log, sizes)]).slope
 
 
 def measured(asked, density, rows, step, seed):

@@ -28,7 +28,7 @@ REFUSED = [
     "viscosity.py --gas hpp", "viscosity.py --density 2", "viscosity.py --seeds 1", "viscosity.py --colour", "viscosity.py --chirality up",
     "galilean.py --gas hpp", "galilean.py --width 200", "invariants.py --size 33", "street.py --radius 0", "sound.py --density 0.2 0.3",
     "poiseuille.py --small --force 0.01 --density 0.1 --width 64", "porous.py --small --percent 71", "equilibrium.py --size few",
-    "reversal.py --small --picture /none/there.png", "collisions.py --gas fhp3",
+    "reversal.py --small --picture /none/there.png", "collisions.py --gas fhp3", "porous.py --settled 9000", "poiseuille.py --settled 9000",
 ]
 
 
