@@ -2,7 +2,6 @@
 use Rattle.std.specs.Prelude.{ℕ, ◌+◌, ◌*◌, ◌/◌, ◌%◌, Bool, true, false, List}
 use Rattle.std.specs.Int.{div_ceil}
 use Rattle.gas_geom.specs.Gas.{holds}
-use Rattle.gas_geom.specs.Lattice.{row_of}
 use Rattle.gas_rows.specs.Key.{key_word}
 use Rattle.gas_rows.specs.declared.chirality.Chirality.{Chirality}
 use Rattle.gas_rows.specs.declared.chirality.Chirality.TheVariants.{Seeded, Left, Right}
@@ -14,10 +13,6 @@ chirality_bit (Seeded seed) width g x y =
     holds (key_word seed g (y * div_ceil width 32 + x / 32)) (x % 32)
 chirality_bit Left width g x y = true
 chirality_bit Right width g x y = false
-
--- the bits of row y, from the west
-abbrev pub chirality_row : Chirality → ℕ → ℕ → ℕ → List Bool
-chirality_row chirality width g y = row_of width (λ x. chirality_bit chirality width g x y)
 
 -- what random bits are drawn, and the bits of the row that was drawn last
 pub record RandomBitsModel : Type 0 where

@@ -1,8 +1,8 @@
 //! The random bits of collisions, and those of one row.
 ghost use Rattle.std.specs.Prelude.{◌≡◌, ◌<◌, ◌≤◌, ◌+◌, ◌*◌, ℕ, length, map};
 ghost use Rattle.std.specs.List.{range_with_len};
-ghost use Rattle.gas_rows.specs.Chirality.{chirality_bit, chirality_row};
-ghost use Rattle.gas_rows.specs.Inner.Key.{IsGeneratorOf};
+ghost use Rattle.gas_rows.specs.Chirality.{chirality_bit};
+ghost use Rattle.gas_rows.specs.Inner.Key.{IsGeneratorOf, chirality_row};
 
 use crate::key::{generator_of, seek};
 use crate::mask::Mask;

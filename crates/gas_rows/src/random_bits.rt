@@ -1,6 +1,7 @@
 //! The random bits of one row after another, from one generator.
 ghost use Rattle.std.specs.Prelude.{◌≡◌, ◌≤◌, ◌<◌, ℕ, length, map, slice_index_or, false, IfOk};
-ghost use Rattle.gas_rows.specs.Chirality.{chirality_bit, chirality_row};
+ghost use Rattle.gas_rows.specs.Chirality.{chirality_bit};
+ghost use Rattle.gas_rows.specs.Inner.Key.{chirality_row};
 
 use crate::chirality::{Chirality, write_seeded_row};
 use crate::key::generator_of;
@@ -23,8 +24,8 @@ pub struct RandomBits {
 impl Model for RandomBits {
     ghost use Rattle.std.specs.Prelude.{◌≡◌, ℕ, length};
     ghost use Rattle.std.specs.Option.{ForSome, ForNone};
-    ghost use Rattle.gas_rows.specs.Chirality.{RandomBitsModel, chirality_row};
-    ghost use Rattle.gas_rows.specs.Inner.Key.{IsGeneratorOf};
+    ghost use Rattle.gas_rows.specs.Chirality.{RandomBitsModel};
+    ghost use Rattle.gas_rows.specs.Inner.Key.{IsGeneratorOf, chirality_row};
 
     ghost Value = { RandomBitsModel };
 

@@ -1,11 +1,17 @@
 -- Inner words: what functions of this crate promise one another. No public contract cites them.
 -- Generators of the key stream, and the bits that they draw next.
-use Rattle.std.specs.Prelude.{◌≡◌, ℕ, ◌+◌, ◌/◌, ◌%◌, Bool}
+use Rattle.std.specs.Prelude.{◌≡◌, ℕ, ◌+◌, ◌/◌, ◌%◌, Bool, List}
 use Rattle.rand_chacha.specs.ChaCha.{ChaCha, word_at, key_of}
 use Rattle.gas_geom.specs.Gas.{holds}
+use Rattle.gas_geom.specs.Lattice.{row_of}
+use Rattle.gas_rows.specs.Chirality.{chirality_bit}
 use Rattle.gas_rows.specs.Key.{key_bytes}
 use Rattle.gas_rows.specs.declared.chirality.Chirality.{Chirality}
 use Rattle.gas_rows.specs.declared.chirality.Chirality.TheVariants.{Seeded, Left, Right}
+
+-- the random bits of row y, from the west
+abbrev pub chirality_row : Chirality → ℕ → ℕ → ℕ → List Bool
+chirality_row chirality width g y = row_of width (λ x. chirality_bit chirality width g x y)
 
 -- bit x of those that come next, 32 to a word of the key stream, the least first
 abbrev pub drawn_bit : ChaCha → ℕ → Bool

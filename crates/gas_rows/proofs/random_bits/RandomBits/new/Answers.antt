@@ -2,9 +2,9 @@ use Rattle.std.proofs.Common.{◌≡◌, ℕ, Bool, List, true, false, length, r
 use Rattle.std.proofs.lemmas.List.{length-replicate}
 use Rattle.rand_chacha.specs.ChaCha.{ChaCha, key_of}
 use Rattle.gas_rows.specs.Key.{key_bytes}
-use Rattle.gas_rows.specs.Chirality.{chirality_bit, chirality_row}
+use Rattle.gas_rows.specs.Chirality.{chirality_bit}
 use Rattle.gas_rows.specs.declared.chirality.Chirality.{Chirality}
-use Rattle.gas_rows.specs.Inner.Key.{IsGeneratorOf}
+use Rattle.gas_rows.specs.Inner.Key.{IsGeneratorOf, chirality_row}
 use Rattle.gas_rows.proofs.Masks.{replicate-map}
 use Rattle.gas_rows.proofs.random_bits.RandomBits.new.Goals as goal
 use Rattle.gas_rows.proofs.random_bits.RandomBits.new.Goals.{in-Seeded, in-Left, in-Right}
