@@ -53,14 +53,19 @@ link = $(kit)/bin/rattle-link --target x86_64-unknown-linux-gnu --toolchain $(ki
 new = $(if $(is_program),out/new,out/rlib)
 made = $(if $(is_program),out/$@,out/rlib/$@.rlib/format)
 sums = $(if $(is_program),out/sums,out/rlib/sums)
+
+# How many crates are done, and when the first began: a program is as old as that, so that a source which is edited meanwhile is newer.
 tally := ../fhpgas/out/tally
-$(if $(filter quick test clean help,$(MAKECMDGOALS)),,$(shell mkdir -p crates/fhpgas/out; : > crates/fhpgas/out/tally))
+begun := ../fhpgas/out/begun
+dated = $(if $(is_program),touch -r $(begun) $(made))
+$(if $(filter quick test clean help,$(MAKECMDGOALS)),,$(shell mkdir -p crates/fhpgas/out $(wanted:%=crates/%/out) && cd crates/fhpgas && \
+    : > $(tally) && touch $(begun)))
 
 # While it is proved, a crate's folder has rt's own lock, and the folders of those below a shared one.
 .PHONY: $(names) quick test archive clean help
 $(names):
 	@$(if $(kit),,$(error the Rattle kit's command rt is not on the PATH: see README.md))
-	cd crates/$@ && mkdir -p out
+	cd crates/$@
 	for crate in $(sort $@ $(below_$@)); do
 	    exec {held}< ../$$crate
 	    way=$$([ $$crate = $@ ] && echo -x || echo -s)
@@ -74,7 +79,7 @@ $(names):
 	fail() { echo "crate $@ was not built; the end of its log:"; tail -n 20 out/build.log; exit 1; } >&2
 	sum=$$(sum)
 	if [ "$$(cat $(sums) 2>&1)" = "$$sum $$(sha256sum $(made) 2>&1)" ]; then
-	    $(if $(is_program),touch $(made))
+	    $(dated)
 	    echo >> $(tally)
 	    exit
 	fi
@@ -84,6 +89,7 @@ $(names):
 	wait $$! || fail
 	[ "$$(sum)" = "$$sum" ] || { echo "crate $@: a file that its proof reads changed meanwhile" >&2; exit 1; }
 	$(if $(is_program),$(link) || fail)
+	$(dated)
 	trap - EXIT
 	echo "$$sum $$(sha256sum $(made))" > $(sums)
 	echo >> $(tally)

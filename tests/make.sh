@@ -17,7 +17,7 @@ cat > "$kit/bin/rattle" << END
 #!/bin/bash
 echo "\${PWD##*/}" >> "$room/proved"
 [ ! -e refused ] || { echo "refused, as \$* shows"; exit 1; }
-[ ! -e slow ] || { touch "$room/begun"; sleep 5; }
+[ ! -e slow ] || { touch "$room/begun"; sleep 2; }
 while [ "\$1" != -o ]; do shift; done
 case \$2 in *.rlib) mkdir "\$2" && head -n 1 src/lib.rt > "\$2/format" ;; *) cp src/main.rt "\$2" ;; esac
 END
@@ -46,6 +46,8 @@ launch() {
     printf 'a scene' | ./fhpgas 'two words' x > "$room/printed" 2> "$room/told"
     [ $? = 3 ] && [ "$(cat "$room/printed")" = $'words two words x\na scene' ]
 }
+
+is_old() { ! tools/is_built; }
 
 quietly() { launch && [ ! -s "$room/told" ]; }
 
@@ -90,6 +92,18 @@ kill -- -$!
 wait $! 2> /dev/null
 try 'one that is interrupted leaves no library' [ ! -e crates/high/out/rlib ]
 rm crates/high/slow
+build
+touch crates/fhpgas/slow
+echo 'edited' >> crates/fhpgas/src/main.rt
+rm "$room/begun"
+build &
+while [ ! -e "$room/begun" ]; do sleep 0.1; done
+echo 'edited' >> crates/low/src/lib.rt
+wait
+rm crates/fhpgas/slow
+try 'a source that is edited during a build is newer' is_old
+try 'and is built next' proves 'low' launch
+echo 'edited' >> crates/high/src/lib.rt
 : > "$room/proved"
 make > /dev/null & make > /dev/null
 wait
