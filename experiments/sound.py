@@ -17,7 +17,7 @@ AMPLITUDE, STEP, SAMPLES = 0.1, 8, 64
 
 
 def wave(asked, is_diagonal):
-    """The wave's columns and rows, its wave number, and its shape in each cell [y][x]; along y alone it has one column."""
+    """The wave number, and the shape of the wave in each cell [y][x], or in each row if it does not vary along x."""
     rows, distance = asked.height, fhpgas.gas_named(asked.gas).row_distance
     upwards = [math.cos(math.pi * (y + 0.5) / rows) for y in range(rows)]
     along = [math.cos(math.pi * x / rows) for x in range(2 * rows)] if is_diagonal else [1.0]

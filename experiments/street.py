@@ -2,10 +2,10 @@
 """A vortex street behind a cylinder: its Strouhal number, and a picture of its vorticity.
 
 The gas fhp-rest, d = 0.18, flows past a disc of diameter D in a channel 20 D long and 5.5 D high. Its mean speed u is kept by turning
-particles (`fhpgas.driven`). The flow across is measured one to two D behind the disc. Half a period T is the time from one change of
-its sign to the next, in the last two thirds of the run; its error is the standard error over these. St = D / (T g u) and
-Re = g u D / viscosity, since a flow is carried along by g u. Beside it stands a free cylinder, St = 0.212 (1 - 21.2 / Re) (A. Roshko, NACA
-Report 1191, 1954), which sheds vortices from Re = 47 on; the walls of a channel raise St.
+particles (`fhpgas.driven`). The flow across is measured one to two D behind the disc. Half a period is the time from one change of its
+sign to the next, in the last two thirds of the run; its error is the standard error over these times. With the period T,
+St = D / (T g u) and Re = g u D / viscosity, because a flow is carried along by g u. A free cylinder has St = 0.212 (1 - 21.2 / Re)
+(A. Roshko, NACA Report 1191, 1954) and sheds vortices from Re = 47 on; the walls of a channel raise St.
 """
 import common
 import fhpgas
@@ -17,7 +17,7 @@ def options():
     reader = common.Options(__doc__)
     reader.option("--radius", common.whole(8, 400), 80, 16, "of the disc, in cells")
     reader.option("--flow", common.number(0.02, 0.35), 0.3, 0.15, "the mean speed u", metavar="U")
-    reader.option("--parts", common.whole(6, 10_000), 60, 10, "from one turning of particles to the next")
+    reader.option("--parts", common.whole(6, 10_000), 60, 10, "number of parts, each from one turning of particles to the next")
     reader.option("--part", common.whole(10, 10_000), 1000, 50, "generations of a part")
     reader.option("--seed", common.whole(0, 2**31), 1, 1, "of the gas")
     reader.picture("the vorticity at the end")
