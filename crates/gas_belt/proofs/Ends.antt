@@ -8,8 +8,8 @@ use Rattle.gas_rows.specs.Row.{RowModel}
 use Rattle.gas_belt.specs.Belt.{Belt, Receiver}
 use Rattle.gas_belt.specs.Inner.Ring.{belt_of}
 
-pub same_belt : (width now : ℕ) (a b : End ℕ Global AnyItems) → now ≡ width → SameRing a b → belt_of now b ≡ belt_of width a
-same_belt width now a b e same = search rules
+pub same_belt : (dirs width : ℕ) (a b : End ℕ Global AnyItems) → SameRing a b → belt_of dirs width b ≡ belt_of dirs width a
+same_belt dirs width a b same = search rules
 
 abbrev pub receiver : Belt → List RowModel → ℕ → Receiver
 receiver b t h = record { belt = b; taken = t; held = h }

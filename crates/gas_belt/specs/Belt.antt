@@ -5,9 +5,11 @@ use denote.RawPtr.{Ptr}
 use Rattle.rtrb.specs.Shared.{Names}
 use Rattle.gas_rows.specs.Row.{RowModel}
 
--- which belt it is: the width of its rows, and the ring that it has, by where that lies in memory and its names in proofs
+-- which belt it is: the width of its rows, how many rows its ring has places for, and that ring, by where it lies in memory and its
+-- names in proofs
 pub record Belt : Type 0 where
   pub width : ℕ
+  pub capacity : ℕ
   pub ring : Ptr × Ptr × Names × Global
 
 -- the end of a belt that rows are put on, open or closed: the belt that it is of, all rows put so far, in order, and the row of

@@ -56,7 +56,7 @@ pub fn meet<G: Gas>(spent: Spent<G>, rx: Rx<G>) -> Result<Carried<G>, (Spent<G>,
 {
     let mut spent = spent;
     let mut rx = rx;
-    rx.buffer.ring.slots_beside(&mut spent.ring);
+    rx.end.ring.slots_beside(&mut spent.ring);
     if spent.count != rx.count {
         return Err((spent, rx));
     }

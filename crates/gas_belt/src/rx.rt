@@ -1,59 +1,70 @@
 //! The end of a belt that rows are taken from.
-ghost use Rattle.std.specs.Prelude.{◌≡◌, ◌≢◌, ◌+◌, ◌-◌, ◌≤◌, ◌<◌, ◌++◌, ◌∷◌, [], length, min, vec_len, IfSome, IfNone, IsNone};
-ghost use Rattle.gas_belt.specs.Inner.Ring.{belt_of, row_words, taken_words};
+ghost use Rattle.std.specs.Prelude.{◌≡◌, ◌≢◌, ◌+◌, ◌-◌, ◌≤◌, ◌<◌, ◌++◌, ◌∷◌, [], length, min, vec_len, IfOk, IfSome, IfNone, IsNone};
+ghost use Rattle.rtrb.specs.Ring.{received};
+ghost use Rattle.gas_belt.specs.Inner.Ring.{belt_of, row_words};
 
-use crate::pop_buffer::PopBuffer;
-use crate::spare_pool::SparePool;
+use crate::pop_end::PopEnd;
 use gas_geom::gas::Gas;
 use gas_rows::row::Row;
+use std::alloc::{AllocError, Global};
 use std::marker::Model;
+
+// The most spare rows that are held.
+const MOST_SPARES: usize = 2;
 
 /// The end of a belt that rows are taken from. It counts them, and holds up to two spare rows, into
 /// which the next rows are taken.
 #[derive(Drop)]
 pub struct Rx<G: Gas> {
-    pub(crate) buffer: PopBuffer,
+    pub(crate) end: PopEnd,
     pub(crate) count: u64,
-    spares: SparePool<G>,
+    width: u32,
+    spares: Vec<Row<G>>,
 }
 
 impl<G: Gas> Model for Rx<G> {
-    ghost use Rattle.std.specs.Prelude.{◌≡◌, ◌*◌, ◌<◌, length, vec_len};
+    ghost use Rattle.std.specs.Prelude.{◌≡◌, ◌*◌, ◌<◌, ◌≤◌, length, All, vec_len, vec_capacity};
+    ghost use Rattle.rtrb.specs.Ring.{received};
     ghost use Rattle.gas_belt.specs.Belt.{Receiver};
-    ghost use Rattle.gas_belt.specs.Inner.Ring.{belt_of, row_words, rows_in, taken_words};
+    ghost use Rattle.gas_belt.specs.Inner.Ring.{belt_of, row_words, rows_in};
 
     ghost Value = { Receiver };
 
     ghost view = { λ r. record {
-      belt = belt_of r.spares.width r.buffer.ring.end;
-      taken = rows_in G.rules.dirs r.spares.width r.count (taken_words r.buffer);
-      held = r.spares.count;
+      belt = belt_of G.rules.dirs r.width r.end.ring.end;
+      taken = rows_in G.rules.dirs r.width r.count (received r.end.ring);
+      held = vec_len r.spares;
     } };
 
     ghost invariant = { λ r. record {
-      counted : length (taken_words r.buffer) ≡ row_words G.rules.dirs r.spares.width * r.count;
-      long : vec_len r.buffer.row ≡ row_words G.rules.dirs r.spares.width;
-      some : 0 < vec_len r.buffer.row;
+      counted : length (received r.end.ring) ≡ row_words G.rules.dirs r.width * r.count;
+      long : vec_len r.end.words ≡ row_words G.rules.dirs r.width;
+      some : 0 < vec_len r.end.words;
+      places : vec_capacity r.spares ≡ 2;
+      few : vec_len r.spares ≤ 2;
+      wide : All (λ row. length row ≡ r.width) r.spares.items;
     } };
 }
 
 impl<G: Gas> Rx<G> {
+    /// An end from which nothing was taken, with no spare row.
     #[tactic(auto, using(crate::proofs::Parts::parts_none))]
-    pub(crate) fn new(buffer: PopBuffer, spares: SparePool<G>) -> Self
-        requires nothing { taken_words buffer ≡ [] }
-        requires some_words { 0 < vec_len buffer.row }
-        requires long { vec_len buffer.row ≡ row_words G.rules.dirs spares.width }
-        ensures fresh { result ≡ record {
-          belt = belt_of spares.width buffer.ring.end;
+    pub(crate) fn new(alloc: Global, end: PopEnd, width: u32) -> Result<Self, AllocError>
+        requires nothing { received end.ring ≡ [] }
+        requires some_words { 0 < vec_len end.words }
+        requires long { vec_len end.words ≡ row_words G.rules.dirs width }
+        ensures fresh { IfOk result (λ r. r ≡ record {
+          belt = belt_of G.rules.dirs width end.ring.end;
           taken = [];
-          held = spares.count;
-        } }
+          held = 0;
+        }) }
     {
-        Rx {
-            buffer,
+        Ok(Rx {
+            end,
             count: 0,
-            spares,
-        }
+            width,
+            spares: Vec::with_capacity(alloc, MOST_SPARES)?,
+        })
     }
 
     /// Takes the oldest row on the belt, by one of the spare rows that are held. None where not all
@@ -71,16 +82,16 @@ impl<G: Gas> Rx<G> {
         ensures no_spare { self.old.held ≡ 0 → IsNone result }
         ensures no_more { length self.old.taken ≡ u64.MAX → IsNone result }
     {
-        if self.count == u64::MAX || self.spares.count() == 0 {
+        if self.count == u64::MAX || self.spares.is_empty() {
             return None;
         }
-        if !self.buffer.take() {
+        if !self.end.pop() {
             return None;
         }
-        let Some(mut row) = self.spares.take() else {
+        let Some(mut row) = self.spares.pop() else {
             unreachable!()
         };
-        row.exchange_words(&mut self.buffer.row);
+        row.exchange_words(&mut self.end.words);
         self.count += 1;
         Some(row)
     }
@@ -92,7 +103,9 @@ impl<G: Gas> Rx<G> {
             self.new ≡ record self.old { held = min 2 (self.old.held + 1) } }
         ensures dropped { length row ≢ self.old.belt.width → self.new ≡ self.old }
     {
-        self.spares.keep(row);
+        if row.width() == self.width && self.spares.len() < MOST_SPARES {
+            self.spares.push_reserved(row);
+        }
     }
 
     /// The number of spare rows held, 0 to 2.
@@ -100,6 +113,6 @@ impl<G: Gas> Rx<G> {
         ensures value { result ≡ self.now.held }
         ensures few { result ≤ 2 }
     {
-        self.spares.count()
+        self.spares.len() as u32
     }
 }

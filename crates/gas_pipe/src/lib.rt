@@ -11,7 +11,9 @@
 //! ```
 //!
 //! The crate gives names alone: an item promises what the contract in its own crate says, that of
-//! `run` first. `docs/PROVED.md` says it in words, and `docs/LIBRARY.md` walks through an example.
+//! `run` first. The functions of `pass` do nothing: their contracts are the laws of a pass, for every
+//! schedule of its members. `docs/PROVED.md` says it in words, and `docs/LIBRARY.md` walks through an
+//! example.
 #![tactic(auto)]
 
 pub mod answers;
@@ -24,6 +26,7 @@ pub use gas_pipe_members::plain_belt::PlainBelt;
 pub use gas_pipe_members::plan::{Plan, PlanError};
 pub use gas_pipe_members::worker::Worker;
 pub use gas_pipe_members::{ends, error, feeder, plain_belt, plan, worker};
+pub use gas_pipe_model::pass;
 pub use gas_pipe_replay::replay;
 pub use gas_pipe_run::gate::{Gate, NoGate};
 pub use gas_pipe_run::{gate, run};

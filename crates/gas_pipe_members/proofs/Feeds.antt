@@ -5,7 +5,7 @@ use Rattle.std.proofs.Math.Nat.{mod-add-mod, suc-mul}
 use Rattle.gas_geom.specs.Channel.{ChannelModel}
 use Rattle.gas_rows.specs.Row.{RowModel}
 use mathlib.Core.List.{IsPrefix}
-use Rattle.gas_pipe_members.specs.Feeder.{FeederModel, HasFed, emptied_row}
+use Rattle.gas_pipe_members.specs.Feeder.{FeederModel, MayHaveFed, emptied_row}
 use Rattle.gas_pipe_members.specs.Inner.Steps.{emptied}
 use Rattle.gas_pipe_members.proofs.Emptied.{emptied_from-append, drop-emptied}
 
@@ -17,11 +17,11 @@ emptied-snoc c xs row =
 -- the next row came back
 pub fed_take : (a b : FeederModel) (row : RowModel) → b.channel ≡ a.channel → b.rows ≡ a.rows ++ emptied_row a.channel a.next row ∷ [] →
     b.to_put ≡ a.to_put → b.to_take + 1 ≡ a.to_take → b.next ≡ (a.next + 1) % a.channel.height → b.stray ≡ a.stray → a.to_put < a.to_take →
-    (passes : ℕ) (rows gave took : List RowModel) → HasFed a passes rows gave took → HasFed b passes rows (gave ++ []) (took ++ row ∷ [])
+    (passes : ℕ) (rows gave took : List RowModel) → MayHaveFed a passes rows gave took → MayHaveFed b passes rows (gave ++ []) (took ++ row ∷ [])
 fed_take a b row channel items put take next stray some passes rows gave took h =
     let high : b.channel.height ≡ a.channel.height = ap (λ (c : ChannelModel). c.height) channel in
     let longer : length (took ++ row ∷ []) ≡ length took + 1 = length-append took (row ∷ []) in
-    subst (λ (g : List RowModel). HasFed b passes rows g (took ++ row ∷ [])) (sym (append-nil gave)) (record {
+    subst (λ (g : List RowModel). MayHaveFed b passes rows g (took ++ row ∷ [])) (sym (append-nil gave)) (record {
       no_stray = stray ∙ h.no_stray;
       queue =
           ap (λ (l : List RowModel). gave ++ l) items
@@ -43,11 +43,11 @@ fed_take a b row channel items put take next stray some passes rows gave took h 
 
 -- the next row was put
 pub fed_put : (a b : FeederModel) (row : RowModel) → a ≡ record b { rows = row ∷ b.rows; to_put = b.to_put + 1 } →
-    (passes : ℕ) (rows gave took : List RowModel) → HasFed a passes rows gave took → HasFed b passes rows (gave ++ row ∷ []) (took ++ [])
+    (passes : ℕ) (rows gave took : List RowModel) → MayHaveFed a passes rows gave took → MayHaveFed b passes rows (gave ++ row ∷ []) (took ++ [])
 fed_put a b row is passes rows gave took was =
-    subst (λ (t : List RowModel). HasFed b passes rows (gave ++ row ∷ []) t) (sym (append-nil took)) (by (subst (λ (f : FeederModel). HasFed f passes rows gave took) is was))
+    subst (λ (t : List RowModel). MayHaveFed b passes rows (gave ++ row ∷ []) t) (sym (append-nil took)) (by (subst (λ (f : FeederModel). MayHaveFed f passes rows gave took) is was))
   where
-    by : HasFed (record b { rows = row ∷ b.rows; to_put = b.to_put + 1 }) passes rows gave took → HasFed b passes rows (gave ++ row ∷ []) took
+    by : MayHaveFed (record b { rows = row ∷ b.rows; to_put = b.to_put + 1 }) passes rows gave took → MayHaveFed b passes rows (gave ++ row ∷ []) took
     by h = record {
       no_stray = h.no_stray;
       queue = append_assoc gave (row ∷ []) b.rows ∙ h.queue;
@@ -66,12 +66,12 @@ shorter_prefix gave queue xs more e short = (
       ∙ take-append-drop (length gave) xs,
 )
 
-pub one_pass_prefix : (f : FeederModel) (rows gave took : List RowModel) → HasFed f 1 rows gave took → length rows ≡ f.channel.height → IsPrefix gave rows
+pub one_pass_prefix : (f : FeederModel) (rows gave took : List RowModel) → MayHaveFed f 1 rows gave took → length rows ≡ f.channel.height → IsPrefix gave rows
 one_pass_prefix f rows gave took h high =
     shorter_prefix gave f.rows rows (emptied f.channel took) h.queue (omega (arith, h.puts, high))
 
 -- the passes are closed
-module _ (f : FeederModel) (passes : ℕ) (rows gave took : List RowModel) (h : HasFed f passes rows gave took) (over : f.to_take ≡ 0) where
+module _ (f : FeederModel) (passes : ℕ) (rows gave took : List RowModel) (h : MayHaveFed f passes rows gave took) (over : f.to_take ≡ 0) where
   pub fed_taken : length took ≡ passes * f.channel.height
   fed_taken = omega (arith, h.takes, over)
 
@@ -85,7 +85,7 @@ module _ (f : FeederModel) (passes : ℕ) (rows gave took : List RowModel) (h : 
   fed_holds = sym (drop_at gave f.rows (passes * f.channel.height) fed_given) ∙ ap (drop (passes * f.channel.height)) h.queue
 
 -- the rows that it holds in the end are the last that came back
-pub fed_last : (f : FeederModel) (n : ℕ) (rows gave took : List RowModel) → HasFed f (n + 1) rows gave took → length rows ≡ f.channel.height → f.to_take ≡ 0 →
+pub fed_last : (f : FeederModel) (n : ℕ) (rows gave took : List RowModel) → MayHaveFed f (n + 1) rows gave took → length rows ≡ f.channel.height → f.to_take ≡ 0 →
     f.rows ≡ emptied f.channel (drop (n * f.channel.height) took)
 fed_last f n rows gave took h high over =
     let e : (n + 1) * f.channel.height ≡ length rows + n * f.channel.height = omega (arith, high, suc-mul n f.channel.height, add-one n) in
@@ -95,7 +95,7 @@ fed_last f n rows gave took h high over =
     ∙ ap (drop (n * f.channel.height)) (drop_at rows (emptied f.channel took) (length rows) refl)
     ∙ drop-emptied f.channel n took
 
-pub one_pass_holds : (f : FeederModel) (rows gave took : List RowModel) → HasFed f 1 rows gave took → length rows ≡ f.channel.height → f.to_take ≡ 0 → f.rows ≡ emptied f.channel took
+pub one_pass_holds : (f : FeederModel) (rows gave took : List RowModel) → MayHaveFed f 1 rows gave took → length rows ≡ f.channel.height → f.to_take ≡ 0 → f.rows ≡ emptied f.channel took
 one_pass_holds f rows gave took h high over =
     fed_last f 0 rows gave took h high over ∙ ap (λ (m : ℕ). emptied f.channel (drop m took)) (let e : 0 * f.channel.height ≡ 0 = omega arith in e)
 

@@ -8,7 +8,7 @@ use Rattle.gas_rows.specs.declared.chirality.Chirality.{Chirality}
 use Rattle.gas_stage.specs.Stage.{owed, given}
 use Rattle.gas_rows.specs.Row.{RowModel}
 use mathlib.Core.List.{IsPrefix}
-use Rattle.gas_pipe_members.specs.Worker.{WorkerModel, IsClosed, HasDone, owes}
+use Rattle.gas_pipe_members.specs.Worker.{WorkerModel, IsClosed, MayHaveDone, owes}
 
 -- what a stage gave before the flush is the beginning of what it owes
 given_prefix : (gas : Rules) (c : ChannelModel) (h : Chirality) (e : Option ℕ) (q : List RowModel) → IsPrefix (given gas c h e q) (owed gas c h e q)
@@ -18,7 +18,7 @@ given_prefix gas c h (Some g) q = (
   take-append-drop (length q - 1) (owed gas c h (Some g) q),
 )
 
-pub done_prefix : (gas : Rules) (w : WorkerModel) (e : Option ℕ) (took gave : List RowModel) → HasDone gas w e took gave → IsPrefix gave (owes gas w e took)
+pub done_prefix : (gas : Rules) (w : WorkerModel) (e : Option ℕ) (took gave : List RowModel) → MayHaveDone gas w e took gave → IsPrefix gave (owes gas w e took)
 done_prefix gas w e took gave done = by w.stage.pass refl
   where
     by : (p : Option (Option ℕ)) → w.stage.pass ≡ p → IsPrefix gave (owes gas w e took)
@@ -31,7 +31,7 @@ done_prefix gas w e took gave done = by w.stage.pass refl
         )
 
 -- no more rows were taken than a lattice has
-pub done_few : (gas : Rules) (w : WorkerModel) (e : Option ℕ) (took gave : List RowModel) → HasDone gas w e took gave → length took ≤ w.stage.channel.height
+pub done_few : (gas : Rules) (w : WorkerModel) (e : Option ℕ) (took gave : List RowModel) → MayHaveDone gas w e took gave → length took ≤ w.stage.channel.height
 done_few gas w e took gave done = by w.stage.pass refl
   where
     by : (p : Option (Option ℕ)) → w.stage.pass ≡ p → length took ≤ w.stage.channel.height
@@ -39,6 +39,6 @@ done_few gas w e took gave done = by w.stage.pass refl
     by (Some q) is = (done.while_open (subst IsSome (sym is) refl)).few
 
 -- where no pass is open nothing is left to put
-pub closed_all : (gas : Rules) (w : WorkerModel) → IsClosed w → (e : Option ℕ) (took gave : List RowModel) → HasDone gas w e took gave → gave ≡ owes gas w e took
+pub closed_all : (gas : Rules) (w : WorkerModel) → IsClosed w → (e : Option ℕ) (took gave : List RowModel) → MayHaveDone gas w e took gave → gave ≡ owes gas w e took
 closed_all gas w closed e took gave done =
     sym (append-nil gave) ∙ ap (λ (o : Option RowModel). gave ++ option_to_list o) (sym closed.waiting) ∙ (done.once_closed closed.stage).put

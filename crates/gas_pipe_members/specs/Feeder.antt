@@ -26,7 +26,7 @@ emptied_from channel n (row ∷ rows) = emptied_row channel (n % channel.height)
 
 -- The feeder may have come to its state, in `passes` passes from the rows `rows`, by putting the rows `gave` and taking the rows
 -- `took`: what it put and holds is what it began with and took, solid cells emptied.
-pub record HasFed (f : FeederModel) (passes : ℕ) (rows gave took : List RowModel) : Type 0 where
+pub record MayHaveFed (f : FeederModel) (passes : ℕ) (rows gave took : List RowModel) : Type 0 where
   pub no_stray : f.stray ≡ false
   pub queue : gave ++ f.rows ≡ rows ++ emptied_from f.channel 0 took
   pub puts : length gave + f.to_put ≡ passes * f.channel.height
@@ -37,4 +37,4 @@ pub record HasFed (f : FeederModel) (passes : ℕ) (rows gave took : List RowMod
 -- by a step from one state to another the feeder puts the rows `puts` and takes the rows `takes`, behind all that it did before
 abbrev pub Feeds : FeederModel → List RowModel → List RowModel → FeederModel → Type 0
 Feeds old puts takes new =
-    (passes : ℕ) (rows gave took : List RowModel) → HasFed old passes rows gave took → HasFed new passes rows (gave ++ puts) (took ++ takes)
+    (passes : ℕ) (rows gave took : List RowModel) → MayHaveFed old passes rows gave took → MayHaveFed new passes rows (gave ++ puts) (took ++ takes)

@@ -34,21 +34,21 @@ pub record IsFlushed (gas : Rules) (w : WorkerModel) (e : Option ℕ) (took gave
 
 -- The worker may have come to its state in the pass e by taking the rows `took` and putting the rows `gave`. A new pass fits
 -- two empty lists; so what is promised for all lists that a worker fits is promised for those of its open pass.
-pub record HasDone (gas : Rules) (w : WorkerModel) (e : Option ℕ) (took gave : List RowModel) : Type 0 where
+pub record MayHaveDone (gas : Rules) (w : WorkerModel) (e : Option ℕ) (took gave : List RowModel) : Type 0 where
   pub no_stray : w.stray ≡ false
   pub while_open : IsSome w.stage.pass → IsUnderWay gas w e took gave
   pub once_closed : w.stage.pass ≡ None → IsFlushed gas w e took gave
 
 -- by a step from one state to another the worker takes the rows `takes` and puts the rows `puts`, behind all that it did before
 abbrev pub Does : Rules → WorkerModel → List RowModel → List RowModel → WorkerModel → Type 0
-Does gas old takes puts new = (e : Option ℕ) (took gave : List RowModel) → HasDone gas old e took gave → HasDone gas new e (took ++ takes) (gave ++ puts)
+Does gas old takes puts new = (e : Option ℕ) (took gave : List RowModel) → MayHaveDone gas old e took gave → MayHaveDone gas new e (took ++ takes) (gave ++ puts)
 
 -- it has put all that it owes for the rows that it took; all rows were taken; rows are still to come
 abbrev pub HasPutAll : Rules → WorkerModel → Type 0
-HasPutAll gas w = (e : Option ℕ) (took gave : List RowModel) → HasDone gas w e took gave → gave ≡ owes gas w e took
+HasPutAll gas w = (e : Option ℕ) (took gave : List RowModel) → MayHaveDone gas w e took gave → gave ≡ owes gas w e took
 
 abbrev pub HasTakenAll : Rules → WorkerModel → Type 0
-HasTakenAll gas w = (e : Option ℕ) (took gave : List RowModel) → HasDone gas w e took gave → length took ≡ w.stage.channel.height
+HasTakenAll gas w = (e : Option ℕ) (took gave : List RowModel) → MayHaveDone gas w e took gave → length took ≡ w.stage.channel.height
 
 abbrev pub HasMoreToTake : Rules → WorkerModel → Type 0
-HasMoreToTake gas w = (e : Option ℕ) (took gave : List RowModel) → HasDone gas w e took gave → length took < w.stage.channel.height
+HasMoreToTake gas w = (e : Option ℕ) (took gave : List RowModel) → MayHaveDone gas w e took gave → length took < w.stage.channel.height

@@ -1,5 +1,5 @@
 //! The two ends of a belt between threads, as ends of the line.
-ghost use Rattle.std.specs.Prelude.{◌≡◌, ◌++◌, ◌∷◌, [], refl};
+ghost use Rattle.std.specs.Prelude.{◌≡◌, ◌++◌, ◌∷◌, [], length, refl};
 ghost use Rattle.std.proofs.Common.{◌∙◌};
 
 use crate::ends::{PutEnd, TakeEnd};
@@ -8,7 +8,7 @@ use gas_belt::tx::Tx;
 use gas_geom::gas::Gas;
 use gas_rows::row::Row;
 
-// Of when a try succeeds nothing is claimed, since that rests with the other thread.
+// Nothing is claimed of when a try succeeds: that depends on the other thread.
 impl<G: Gas> PutEnd<Row<G>> for Tx<G> {
     ghost puts = { λ old row new. (new.belt ≡ old.belt) × (new.put ≡ old.put ++ row ∷ []) };
 
@@ -21,7 +21,7 @@ impl<G: Gas> PutEnd<Row<G>> for Tx<G> {
     ghost puts_and_rests = { λ a row b c step rests. (rests.0 ∙ step.0, rests.1 ∙ step.1) };
 
     fn try_put(&mut self, row: Row<G>) -> Result<(), Row<G>> {
-        Tx::try_gather(self, row)
+        Tx::try_put(self, row)
     }
 
     fn spare(&mut self) -> Option<Row<G>> {
@@ -30,7 +30,8 @@ impl<G: Gas> PutEnd<Row<G>> for Tx<G> {
 }
 
 impl<G: Gas> TakeEnd<Row<G>> for Rx<G> {
-    ghost takes = { λ old row new. (new.belt ≡ old.belt) × (new.taken ≡ old.taken ++ row ∷ []) };
+    ghost takes = { λ old row new. (new.belt ≡ old.belt) × (new.taken ≡ old.taken ++ row ∷ [])
+        × (length row ≡ old.belt.width) };
 
     ghost rests = { λ old new. (new.belt ≡ old.belt) × (new.taken ≡ old.taken) };
 
@@ -38,7 +39,7 @@ impl<G: Gas> TakeEnd<Row<G>> for Rx<G> {
 
     ghost rests_alone = { λ _. (refl, refl) };
 
-    ghost takes_and_rests = { λ a row b c step rests. (rests.0 ∙ step.0, rests.1 ∙ step.1) };
+    ghost takes_and_rests = { λ a row b c step rests. (rests.0 ∙ step.0, rests.1 ∙ step.1, step.2) };
 
     fn try_take(&mut self) -> Option<Row<G>> {
         Rx::try_take(self)

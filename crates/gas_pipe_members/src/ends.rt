@@ -19,7 +19,7 @@ pub trait PutEnd<T> {
         ensures rests { OnErr result (rests self.old self.new) }
         ensures ready { ready self.old → IsOk result };
 
-    /// Hands out the row of the newest put as a spare one, where the end has it. It is no step.
+    /// The row of the newest put, for reuse, if the end keeps it. It is no step.
     fn spare(&mut self) -> Option<T>
         ensures rests { rests self.old self.new };
 

@@ -3,12 +3,11 @@ ghost use Rattle.std.specs.Prelude.{◌≡◌, ◌≢◌, ◌<◌, ◌≤◌, �
 ghost use Rattle.gas_geom.specs.Lattice.{IsLattice};
 ghost use Rattle.gas_rows.specs.Row.{RowModel};
 ghost use mathlib.Core.List.{IsPrefix};
-ghost use Rattle.gas_pipe_members.specs.Feeder.{FeederModel, HasFed, Feeds, emptied_row, emptied_from};
+ghost use Rattle.gas_pipe_members.specs.Feeder.{FeederModel, MayHaveFed, Feeds, emptied_row, emptied_from};
 
 use crate::ends::{PutEnd, TakeEnd, Turned};
 use crate::spares::Spares;
 use gas_geom::gas::Gas;
-use gas_geom::size::Size;
 use gas_rows::channel::Channel;
 use gas_rows::lattice::Lattice;
 use gas_rows::row::Row;
@@ -31,7 +30,6 @@ fn empty_solid<G: Gas>(channel: &Channel, y: u32, row: &mut Row<G>)
 #[derive(Drop)]
 pub struct Feeder<G: Gas> {
     channel: Channel,
-    size: Size,
     rows: VecDeque<Row<G>>,
     spares: Spares<G>,
     to_put: u64,
@@ -62,8 +60,6 @@ impl<G: Gas> Model for Feeder<G> {
       room : deque_len f.rows + f.to_take ≤ deque_capacity f.rows + f.to_put;
       put_first : f.to_put ≤ f.to_take;
       next_within : f.next < f.channel.height;
-      width : f.size.width ≡ f.channel.width;
-      height : f.size.height ≡ f.channel.height;
       few_rows : f.channel.height ≤ MOST_SIDE;
       stray_in_pass : f.stray ≡ true → 0 < f.to_take;
       queue : IsQueue G.rules f.channel f.rows.items f.to_put f.to_take f.next;
@@ -80,12 +76,11 @@ impl<G: Gas> Feeder<G> {
         ensures no_stray { IfOk result (λ f. f.stray ≡ false) }
     {
         let (channel, rows) = lattice.copy(alloc)?.into_rows();
-        let size = channel.size();
+        let height = channel.size().height();
         Ok(Feeder {
             channel,
-            size,
             rows: VecDeque::from(rows),
-            spares: Spares::new(alloc, size.height())?,
+            spares: Spares::new(alloc, height)?,
             to_put: 0,
             to_take: 0,
             next: 0,
@@ -97,21 +92,21 @@ impl<G: Gas> Feeder<G> {
     pub fn begin(&mut self)
         requires closed { self.old.to_take ≡ 0 }
         ensures channel { self.new.channel ≡ self.old.channel }
-        ensures nothing_done { HasFed self.new 1 self.old.rows [] [] }
+        ensures nothing_done { MayHaveFed self.new 1 self.old.rows [] [] }
     {
-        self.begin_passes(1);
+        self.begin_ring(1);
     }
 
     /// Opens `passes` passes, 1 to 1,000,000, one after another: each row that comes back is left
     /// to put again as soon as it has come, until all rows of all passes were put.
-    pub fn begin_passes(&mut self, passes: u64)
+    pub fn begin_ring(&mut self, passes: u64)
         requires closed { self.old.to_take ≡ 0 }
         requires some { 1 ≤ passes }
         requires few { passes ≤ 1000000 }
         ensures channel { self.new.channel ≡ self.old.channel }
-        ensures nothing_done { HasFed self.new passes self.old.rows [] [] }
+        ensures nothing_done { MayHaveFed self.new passes self.old.rows [] [] }
     {
-        let total = passes * u64::from(self.size.height());
+        let total = passes * u64::from(self.channel.size().height());
         self.to_put = total;
         self.to_take = total;
         self.next = 0;
@@ -127,12 +122,12 @@ impl<G: Gas> Feeder<G> {
     /// The number of rows that it took of the lattice under way, or, where no pass is open, of the
     /// last one.
     pub fn taken(&self) -> u32
-        ensures value { (rows gave took : List RowModel) → HasFed self.now 1 rows gave took →
+        ensures value { (rows gave took : List RowModel) → MayHaveFed self.now 1 rows gave took →
             result ≡ length took }
         ensures few { result ≤ 65536 }
     {
         if self.to_take == 0 {
-            self.size.height()
+            self.channel.size().height()
         } else {
             self.next
         }
@@ -181,7 +176,7 @@ impl<G: Gas> Feeder<G> {
         ensures whole { self.new.to_take ≡ 0 → IsLattice G.rules self.new.channel self.new.rows }
     {
         empty_solid(&self.channel, self.next, &mut row);
-        self.next = (self.next + 1) % self.size.height();
+        self.next = (self.next + 1) % self.channel.size().height();
         self.to_take -= 1;
         self.rows.push_back_reserved(row);
     }
@@ -204,6 +199,8 @@ impl<G: Gas> Feeder<G> {
             (row : RowModel) × T.takes take.old row take.new × P.rests put.old put.new
             × Feeds self.old [] (row ∷ []) self.new }
         ensures took_when { result ≡ Turned.Took → self.old.to_put < self.old.to_take }
+        ensures never_ahead { result ≡ Turned.Took → (passes : ℕ) (rows gave took : List RowModel) →
+            MayHaveFed self.old passes rows gave took → length took < length gave }
         ensures took_after_put { result ≡ Turned.Took → 0 < self.old.to_put →
             0 < length self.old.rows → P.ready put.old → ⊥ }
         ensures idle { result ≡ Turned.Idle → T.rests take.old take.new × P.rests put.old put.new
@@ -240,7 +237,7 @@ impl<G: Gas> Feeder<G> {
         let Some(row) = take.try_take() else {
             return Turned::Idle;
         };
-        if row.width() != self.size.width() {
+        if row.width() != self.channel.size().width() {
             self.stray = true;
             return Turned::Stray;
         }
@@ -265,19 +262,19 @@ impl<G: Gas> Feeder<G> {
 /// that it took, one for each row of the lattice, solid cells emptied.
 pub fn a_feeder_in_order()
     ensures prefix { (f : FeederModel) (passes : ℕ) (rows gave took : List RowModel) →
-        HasFed f passes rows gave took →
+        MayHaveFed f passes rows gave took →
         IsPrefix gave (rows ++ emptied_from f.channel 0 took) }
     ensures few { (f : FeederModel) (passes : ℕ) (rows gave took : List RowModel) →
-        HasFed f passes rows gave took →
+        MayHaveFed f passes rows gave took →
         length gave ≤ passes * f.channel.height }
     ensures put_all { (f : FeederModel) (passes : ℕ) (rows gave took : List RowModel) →
-        HasFed f passes rows gave took →
+        MayHaveFed f passes rows gave took →
         f.to_take ≡ 0 → length gave ≡ passes * f.channel.height }
     ensures taken_all { (f : FeederModel) (passes : ℕ) (rows gave took : List RowModel) →
-        HasFed f passes rows gave took →
+        MayHaveFed f passes rows gave took →
         f.to_take ≡ 0 → length took ≡ passes * f.channel.height }
     ensures holds { (f : FeederModel) (n : ℕ) (rows gave took : List RowModel) →
-        HasFed f (n + 1) rows gave took →
+        MayHaveFed f (n + 1) rows gave took →
         length rows ≡ f.channel.height → f.to_take ≡ 0 →
         f.rows ≡ emptied_from f.channel 0 (drop (n * f.channel.height) took) }
 {}

@@ -1,4 +1,4 @@
-//! Spare rows: rows of puts that wait to be given to an end that rows are taken from.
+//! Rows that were put and can be reused: each is given to the receiving end.
 ghost use Rattle.std.specs.Prelude.{◌≡◌, ◌<◌, ◌≤◌, ◌++◌, ◌∷◌, [], length, IfOk};
 ghost use Rattle.std.specs.Option.{option_to_list};
 

@@ -3,12 +3,11 @@ ghost use Rattle.std.specs.Prelude.{◌≡◌, ◌≢◌, ◌<◌, ◌≤◌, �
 ghost use Rattle.gas_geom.specs.Gas.{Rules};
 ghost use Rattle.gas_rows.specs.Row.{RowModel};
 ghost use mathlib.Core.List.{IsPrefix};
-ghost use Rattle.gas_pipe_members.specs.Worker.{WorkerModel, IsClosed, HasDone, Does, owes, HasPutAll, HasTakenAll, HasMoreToTake};
+ghost use Rattle.gas_pipe_members.specs.Worker.{WorkerModel, IsClosed, MayHaveDone, Does, owes, HasPutAll, HasTakenAll, HasMoreToTake};
 ghost use Rattle.gas_pipe_members.specs.Inner.Steps.{AfterTake, AfterPut, AfterNone};
 
 use crate::ends::{PutEnd, TakeEnd, Turned, return_spare};
 use gas_geom::gas::Gas;
-use gas_geom::size::Size;
 use gas_rows::channel::Channel;
 use gas_rows::chirality::Chirality;
 use gas_rows::row::Row;
@@ -21,7 +20,7 @@ use std::marker::Model;
 #[derive(Drop)]
 pub struct Worker<'a, G: Gas> {
     stage: Stage<'a, G>,
-    size: Size,
+    channel: &'a Channel,
     waiting: Option<Row<G>>,
     stray: bool,
 }
@@ -35,8 +34,7 @@ impl<'a, G: Gas> Model for Worker<'a, G> {
     ghost view = { λ w. record { stage = w.stage; waiting = w.waiting; stray = w.stray } };
 
     ghost invariant = { λ w. record {
-      width : w.size.width ≡ w.stage.channel.width;
-      height : w.size.height ≡ w.stage.channel.height;
+      same : w.channel.now ≡ w.stage.channel;
       stray_in_pass : w.stray ≡ true → IsSome w.stage.pass;
     } };
 }
@@ -54,7 +52,7 @@ impl<'a, G: Gas> Worker<'a, G> {
     {
         Ok(Worker {
             stage: Stage::new(alloc, channel, chirality)?,
-            size: channel.size(),
+            channel,
             waiting: None,
             stray: false,
         })
@@ -66,7 +64,7 @@ impl<'a, G: Gas> Worker<'a, G> {
         requires closed { IsClosed self.old }
         ensures channel { self.new.stage.channel ≡ self.old.stage.channel }
         ensures chirality { self.new.stage.chirality ≡ self.old.stage.chirality }
-        ensures nothing_done { HasDone G.rules self.new generation [] [] }
+        ensures nothing_done { MayHaveDone G.rules self.new generation [] [] }
     {
         self.stage.begin(generation);
     }
@@ -74,10 +72,10 @@ impl<'a, G: Gas> Worker<'a, G> {
     /// The number of rows that it took in its pass, or in the pass that it closed last.
     pub fn taken(&self) -> u32
         ensures value { (e : Option ℕ) (took gave : List RowModel) →
-            HasDone G.rules self.now e took gave → result ≡ length took }
+            MayHaveDone G.rules self.now e took gave → result ≡ length took }
         ensures few { result ≤ 65536 }
     {
-        let height = self.size.height();
+        let height = self.channel.size().height();
         if self.stage.is_open() {
             self.stage.fed()
         } else {
@@ -97,7 +95,7 @@ impl<'a, G: Gas> Worker<'a, G> {
         ensures waits { IfSome result (λ row.
             AfterNone G.rules self.old (record self.new { waiting = Some row })) }
         ensures owing { IsSome result → (e : Option ℕ) (took gave : List RowModel) →
-            HasDone G.rules self.old e took gave → gave ≡ owes G.rules self.old e took → ⊥ }
+            MayHaveDone G.rules self.old e took gave → gave ≡ owes G.rules self.old e took → ⊥ }
         ensures none { IsNone result → AfterNone G.rules self.old self.new }
         ensures put_all { IsNone result → HasPutAll G.rules self.old }
         ensures taken_all { IsNone result → self.new.stage.pass ≡ None →
@@ -113,7 +111,7 @@ impl<'a, G: Gas> Worker<'a, G> {
         if !self.stage.is_open() {
             return None;
         }
-        if self.stage.fed() < self.size.height() {
+        if self.stage.fed() < self.channel.size().height() {
             return None;
         }
         self.stage.flush()
@@ -185,10 +183,10 @@ impl<'a, G: Gas> Worker<'a, G> {
             T.rests take.old take.new × P.rests put.old put.new
             × Does G.rules self.old [] [] self.new }
         ensures idle_owing { result ≡ Turned.Idle → (e : Option ℕ) (took gave : List RowModel) →
-            HasDone G.rules self.old e took gave →
+            MayHaveDone G.rules self.old e took gave →
             length gave < length (owes G.rules self.old e took) → P.ready put.old → ⊥ }
         ensures idle_taking { result ≡ Turned.Idle → (e : Option ℕ) (took gave : List RowModel) →
-            HasDone G.rules self.old e took gave → gave ≡ owes G.rules self.old e took →
+            MayHaveDone G.rules self.old e took gave → gave ≡ owes G.rules self.old e took →
             T.ready take.old → ⊥ }
         ensures done { result ≡ Turned.Done →
             T.rests take.old take.new × P.rests put.old put.new
@@ -197,7 +195,7 @@ impl<'a, G: Gas> Worker<'a, G> {
             × HasPutAll G.rules self.old }
         ensures done_if_closed { IsClosed self.old → result ≡ Turned.Done }
         ensures done_if_all { (e : Option ℕ) (took gave : List RowModel) →
-            HasDone G.rules self.old e took gave →
+            MayHaveDone G.rules self.old e took gave →
             length took ≡ self.old.stage.channel.height → gave ≡ owes G.rules self.old e took →
             result ≡ Turned.Done }
         ensures stray { result ≡ Turned.Stray → self.new.stray ≡ true }
@@ -222,7 +220,7 @@ impl<'a, G: Gas> Worker<'a, G> {
         let Some(row) = take.try_take() else {
             return Turned::Idle;
         };
-        if row.width() != self.size.width() {
+        if row.width() != self.channel.size().width() {
             self.stray = true;
             return Turned::Stray;
         }
@@ -236,9 +234,9 @@ impl<'a, G: Gas> Worker<'a, G> {
 /// is owed for them was put.
 pub fn a_pass_in_order()
     ensures prefix { (gas : Rules) (w : WorkerModel) (e : Option ℕ) (took gave : List RowModel) →
-        HasDone gas w e took gave → IsPrefix gave (owes gas w e took) }
+        MayHaveDone gas w e took gave → IsPrefix gave (owes gas w e took) }
     ensures few { (gas : Rules) (w : WorkerModel) (e : Option ℕ) (took gave : List RowModel) →
-        HasDone gas w e took gave → length took ≤ w.stage.channel.height }
+        MayHaveDone gas w e took gave → length took ≤ w.stage.channel.height }
     ensures closed { (gas : Rules) (w : WorkerModel) → IsClosed w → HasTakenAll gas w
         × HasPutAll gas w }
 {}

@@ -11,7 +11,7 @@ use Rattle.gas_stage.proofs.Local.{length-next}
 use Rattle.gas_stage.proofs.Owed.{owed-all, owed-grows, owed-no_more}
 use Rattle.gas_rows.specs.Row.{RowModel}
 use Rattle.gas_pipe_model.specs.Pass.{RunInputModel, computes_from, line_of, rows_on}
-use Rattle.gas_pipe_model.specs.Inner.Line.{IsLine, carried}
+use Rattle.gas_pipe_model.specs.Inner.Line.{IsLine, rows_in_the_end}
 use Rattle.gas_pipe_model.specs.Inner.Input.{IsRunInput}
 
 module _ (gas : Rules) (input : RunInputModel) where
@@ -73,7 +73,7 @@ module _ (gas : Rules) (input : RunInputModel) (is : IsRunInput gas input) (n : 
       ∙ ap (at gas input) (min-eq_right past ∙ sym (min-eq_right (let more : input.plan.generations ≤ n * input.plan.stages + suc k = omega (arith, past) in more))))
       (cases_lt (n * input.plan.stages + k) input.plan.generations)
 
-  pub carries : (k : ℕ) → carried (line_of gas input n) k ≡ rows_on gas input n k
+  pub carries : (k : ℕ) → rows_in_the_end (line_of gas input n) k ≡ rows_on gas input n k
   carries zero = refl
   carries (suc k) = ap (owed gas input.lattice.channel input.chirality (computes_from input.first input.plan n (suc k))) (carries k) ∙ owes_next k
 

@@ -6,7 +6,7 @@ use Rattle.std.proofs.lemmas.List.Concat.{flat_map-append}
 use Rattle.gas_geom.specs.Gas.{Rules}
 use Rattle.gas_rows.specs.Row.{RowModel}
 use Rattle.gas_stage.proofs.Owed.{owed-all}
-use Rattle.gas_pipe_model.specs.Pass.{RunInputModel, computes_from, rows_on, ring}
+use Rattle.gas_pipe_model.specs.Pass.{RunInputModel, computes_from, rows_on, carried_on}
 use Rattle.gas_pipe_model.specs.Inner.Input.{IsRunInput}
 use Rattle.gas_pipe_model.specs.Inner.Circle.{joined, IsCircle, owes_in}
 use Rattle.gas_pipe_model.proofs.Generations.{rows_high, owes_next, begins_next}
@@ -43,11 +43,11 @@ module _ (gas : Rules) (input : RunInputModel) (is : IsRunInput gas input) where
     kept = kept;
   }
 
-  pub round : (n : ℕ) → take (n * input.lattice.channel.height) (ring gas input (n + 1) input.plan.stages) ≡ drop input.lattice.channel.height (ring gas input (n + 1) 0)
+  pub round : (n : ℕ) → take (n * input.lattice.channel.height) (carried_on gas input (n + 1) input.plan.stages) ≡ drop input.lattice.channel.height (carried_on gas input (n + 1) 0)
   round n =
       let e : n + 1 ≡ suc n = omega arith in
-      ap (λ (m : ℕ). take (n * input.lattice.channel.height) (ring gas input m input.plan.stages)) e
+      ap (λ (m : ℕ). take (n * input.lattice.channel.height) (carried_on gas input m input.plan.stages)) e
       ∙ ap (take (n * input.lattice.channel.height)) (sym (joined_is (λ i. rows_on gas input i input.plan.stages) (suc n)))
       ∙ goes_round input.lattice.channel.height input.plan.stages (owes_in gas input) (λ q. q) (rows_on gas input) (is_circle (λ q. q) (λ m q. refl) (λ m. refl)) n
       ∙ ap (drop input.lattice.channel.height) (joined_is (λ i. rows_on gas input i 0) (suc n))
-      ∙ ap (λ (m : ℕ). drop input.lattice.channel.height (ring gas input m 0)) (sym e)
+      ∙ ap (λ (m : ℕ). drop input.lattice.channel.height (carried_on gas input m 0)) (sym e)

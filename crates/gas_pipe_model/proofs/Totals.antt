@@ -2,7 +2,7 @@
 use Rattle.std.proofs.Common.{◌≡◌, ℕ, zero, suc, ◌+◌, ◌*◌, ◌≤◌, ◌<◌, true, cond, eqb, List, [], ◌∷◌, inl, inr, length, ap, sym, ◌∙◌, subst, arith, mul-suc, add-one}
 use Rattle.std.proofs.lemmas.Bool.{cases_eq, cases_lt, eqb-true, eq-eqb, and_parts, and_from}
 use Rattle.gas_pipe_model.specs.Line.{Line, State, start, owed_on, grown, source, turn, moves, after_turns, events, is_done}
-use Rattle.gas_pipe_model.specs.Inner.Line.{after_put, after_take, carried, IsLine}
+use Rattle.gas_pipe_model.specs.Inner.Line.{after_put, after_take, rows_in_the_end, IsLine}
 use Rattle.std.proofs.Math.Nat.{mul_assoc}
 use Rattle.gas_pipe_model.proofs.Prefixes.{prefix_length, prefix_all, trans_prefix}
 use Rattle.gas_pipe_model.proofs.Turns.{puts, takes, idles, turn_cases, grown_other, Fits, put_short, put_carried, carried_length}
@@ -139,7 +139,7 @@ most_from_done l is s f done =
     omega (arith, most_is l)
 
 -- then each belt has carried all its rows
-pub carried_all : (l : Line) → IsLine l → (s : State) → Fits l s → is_done l s ≡ true → (k : ℕ) → k ≤ l.workers → (s.put k ≡ carried l k) × (s.taken k ≡ carried l k)
+pub carried_all : (l : Line) → IsLine l → (s : State) → Fits l s → is_done l s ≡ true → (k : ℕ) → k ≤ l.workers → (s.put k ≡ rows_in_the_end l k) × (s.taken k ≡ rows_in_the_end l k)
 carried_all l is s f done k h =
     let n = full l is s f done k h in
     let p = put_carried l is s f k h in

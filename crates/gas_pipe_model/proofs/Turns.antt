@@ -4,7 +4,7 @@ use Rattle.std.proofs.lemmas.Bool.{cases_Bool, ltb-true, ltb-false, eq-eqb, ne_e
 use Rattle.gas_rows.specs.Row.{RowModel}
 use mathlib.Core.List.{IsPrefix}
 use Rattle.gas_pipe_model.specs.Line.{Line, State, start, owed_on, grown, put_open, take_open, source, turn, moves}
-use Rattle.gas_pipe_model.specs.Inner.Line.{after_put, after_take, carried, IsLine}
+use Rattle.gas_pipe_model.specs.Inner.Line.{after_put, after_take, rows_in_the_end, IsLine}
 use Rattle.gas_pipe_model.proofs.Prefixes.{next, nil_prefix, trans_prefix, prefix_length}
 
 pub grown_same : (f : ℕ → List RowModel) (k : ℕ) (rows : List RowModel) → grown f k rows k ≡ f k ++ next (f k) rows
@@ -68,20 +68,20 @@ pub record Fits (l : Line) (s : State) : Type 0 where
   pub put : (k : ℕ) → k ≤ l.workers → IsPrefix (s.put k) (owed_on l s k)
   pub under_way : (k : ℕ) → length (s.put k) ≤ length (s.taken k) + l.capacity
 
-pub carried_length : (l : Line) → IsLine l → (k : ℕ) → length (carried l k) ≡ length l.rows
+pub carried_length : (l : Line) → IsLine l → (k : ℕ) → length (rows_in_the_end l k) ≡ length l.rows
 carried_length l is zero = refl
-carried_length l is (suc k) = is.all (suc k) (carried l k) (carried_length l is k)
+carried_length l is (suc k) = is.all (suc k) (rows_in_the_end l k) (carried_length l is k)
 
 pub owe_prefix : (l : Line) → IsLine l → (k : ℕ) (xs ys : List RowModel) → IsPrefix xs ys → length ys ≤ length l.rows → IsPrefix (l.owe k xs) (l.owe k ys)
 owe_prefix l is k xs ys p h = rw (← p.1) (is.grows k xs p.0 (rw p.1 h))
 
 -- every list is the beginning of what its belt carries in the end
-pub put_carried : (l : Line) → IsLine l → (s : State) → Fits l s → (k : ℕ) → k ≤ l.workers → IsPrefix (s.put k) (carried l k)
+pub put_carried : (l : Line) → IsLine l → (s : State) → Fits l s → (k : ℕ) → k ≤ l.workers → IsPrefix (s.put k) (rows_in_the_end l k)
 put_carried l is s f zero h = f.put zero h
 put_carried l is s f (suc k) h =
     let below = put_carried l is s f k (omega arith) in
     trans_prefix _ _ _ (f.put (suc k) h)
-    (owe_prefix l is (suc k) (s.taken k) (carried l k) (trans_prefix _ _ _ (f.taken k) below) (omega (arith, carried_length l is k)))
+    (owe_prefix l is (suc k) (s.taken k) (rows_in_the_end l k) (trans_prefix _ _ _ (f.taken k) below) (omega (arith, carried_length l is k)))
 
 pub put_short : (l : Line) → IsLine l → (s : State) → Fits l s → (k : ℕ) → k ≤ l.workers → length (s.put k) ≤ length l.rows
 put_short l is s f k h = omega (arith, prefix_length _ _ (put_carried l is s f k h), carried_length l is k)

@@ -1,6 +1,6 @@
 -- A line of workers and one feeder, as the histories of its belts alone. The feeder is member 0 and puts rows on belt 0; worker
 -- k takes from belt k - 1 and puts on belt k; the feeder takes from the last belt.
-use Rattle.std.specs.Prelude.{◌≡◌, ℕ, zero, suc, ◌+◌, ◌≤◌, Bool, ◌&&◌, ◌||◌, not, eqb, ltb, if◌then◌else◌, List, [], ◌∷◌, ◌++◌, length, take, drop}
+use Rattle.std.specs.Prelude.{◌≡◌, ℕ, zero, suc, ◌+◌, ◌≤◌, Bool, ◌&&◌, ◌||◌, not, ◌==◌, nat_lt, if◌then◌else◌, List, [], ◌∷◌, ◌++◌, length, take, drop}
 use Rattle.std.specs.List.{Contains}
 use Rattle.gas_rows.specs.Row.{RowModel}
 
@@ -28,13 +28,13 @@ owed_on l s (suc k) = l.owe (suc k) (s.taken k)
 
 -- the put on belt k is open where fewer rows were put than are owed, and the belt is not full
 unfoldable pub put_open : Line → State → ℕ → Bool
-put_open l s k = ltb (length (s.put k)) (length (owed_on l s k)) && ltb (length (s.put k)) (length (s.taken k) + l.capacity)
+put_open l s k = nat_lt (length (s.put k)) (length (owed_on l s k)) && nat_lt (length (s.put k)) (length (s.taken k) + l.capacity)
 
 -- the take from belt k is open where the belt holds a row, and the worker behind it, if it is not the last belt, has put all
 -- that it owes
 unfoldable pub take_open : Line → State → ℕ → Bool
 take_open l s k =
-    ltb (length (s.taken k)) (length (s.put k)) && (eqb k l.workers || eqb (length (s.put (suc k))) (length (owed_on l s (suc k))))
+    nat_lt (length (s.taken k)) (length (s.put k)) && (k == l.workers || length (s.put (suc k)) == length (owed_on l s (suc k)))
 
 -- the belt that member m takes from
 abbrev pub source : Line → ℕ → ℕ
@@ -43,19 +43,19 @@ source l (suc k) = k
 
 -- the histories f, where that of belt k got one more row: the one that comes next in `rows`
 unfoldable pub grown : (ℕ → List RowModel) → ℕ → List RowModel → ℕ → List RowModel
-grown f k rows j = if eqb j k then f k ++ take 1 (drop (length (f k)) rows) else f j
+grown f k rows j = if j == k then f k ++ take 1 (drop (length (f k)) rows) else f j
 
 -- A turn of member m: where its put is open, the next row owed on its belt is put; else, where its take is open, the next row put on
 -- the belt that it takes from is taken; else nothing. A number above the workers' names no member.
 unfoldable pub turn : Line → State → ℕ → State
 turn l s m =
-    if ltb l.workers m then s
+    if nat_lt l.workers m then s
     else (if put_open l s m then record s { put = grown s.put m (owed_on l s m) }
     else (if take_open l s (source l m) then record s { taken = grown s.taken (source l m) (s.put (source l m)) } else s))
 
 -- whether that turn is an event, a put or a take
 unfoldable pub moves : Line → State → ℕ → Bool
-moves l s m = not (ltb l.workers m) && (put_open l s m || take_open l s (source l m))
+moves l s m = not (nat_lt l.workers m) && (put_open l s m || take_open l s (source l m))
 
 -- the histories after these turns
 abbrev pub after_turns : Line → List ℕ → State → State
@@ -69,7 +69,7 @@ events l (m ∷ ms) s = (if moves l s m then 1 else 0) + events l ms (turn l s m
 
 -- the line is done where all rows were put on the first belt and taken from the last
 unfoldable pub is_done : Line → State → Bool
-is_done l s = eqb (length (s.put 0)) (length l.rows) && eqb (length (s.taken l.workers)) (length l.rows)
+is_done l s = (length (s.put 0) == length l.rows) && (length (s.taken l.workers) == length l.rows)
 
 -- the turns can be cut into n rounds, each with a turn of every member
 abbrev pub HasRounds : ℕ → ℕ → List ℕ → Type 0

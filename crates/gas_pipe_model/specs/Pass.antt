@@ -1,5 +1,5 @@
 -- The passes of a plan over a lattice: the line of each, and what the belts carry in it and in all of them.
-use Rattle.std.specs.Prelude.{ℕ, ◌+◌, ◌-◌, ◌*◌, eqb, ltb, min, if◌then◌else◌, Option, Some, None, List, [], map, flat_map}
+use Rattle.std.specs.Prelude.{ℕ, ◌+◌, ◌-◌, ◌*◌, ◌==◌, nat_lt, min, if◌then◌else◌, Option, Some, None, List, [], map, flat_map}
 use Rattle.std.specs.Int.{div_ceil}
 use Rattle.std.specs.List.{range_with_len}
 use Rattle.gas_geom.specs.Gas.{Rules}
@@ -23,7 +23,7 @@ pub record RunInputModel : Type 0 where
 abbrev pub computes_from : ℕ → PlanModel → ℕ → ℕ → Option ℕ
 computes_from first plan n k =
     let before : ℕ = n * plan.stages + k - 1 in
-    if ltb before plan.generations then Some (first + before) else None
+    if nat_lt before plan.generations then Some (first + before) else None
 
 -- what belt k carries in pass n, both counted from 0: the rows of the lattice that many generations on, and of the last
 -- generation at most
@@ -40,12 +40,12 @@ line_of gas input n = record {
 }
 
 -- what belt k carries in the first n passes: the rows of each pass, one pass after another
-abbrev pub ring : Rules → RunInputModel → ℕ → ℕ → List RowModel
-ring gas input n k = flat_map (λ i. rows_on gas input i k) (range_with_len 0 n)
+abbrev pub carried_on : Rules → RunInputModel → ℕ → ℕ → List RowModel
+carried_on gas input n k = flat_map (λ i. rows_on gas input i k) (range_with_len 0 n)
 
 -- what the belts of a run carry, from belt 0, in all passes, as many as the generations divided by the stages, rounded up; where no
 -- generation is to be computed there is no belt
-abbrev pub rings : Rules → RunInputModel → List (List RowModel)
-rings gas input =
-    if eqb input.plan.generations 0 then []
-    else map (ring gas input (div_ceil input.plan.generations input.plan.stages)) (range_with_len 0 (input.plan.stages + 1))
+abbrev pub carried_by_belts : Rules → RunInputModel → List (List RowModel)
+carried_by_belts gas input =
+    if input.plan.generations == 0 then []
+    else map (carried_on gas input (div_ceil input.plan.generations input.plan.stages)) (range_with_len 0 (input.plan.stages + 1))

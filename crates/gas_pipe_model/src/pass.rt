@@ -6,7 +6,7 @@ ghost use Rattle.gas_rows.specs.Row.{RowModel};
 ghost use Rattle.gas_pipe_model.specs.Line.{start, after_turns, moves, events, is_done, HasRounds};
 ghost use Rattle.gas_geom.specs.Gas.{Rules};
 ghost use Rattle.gas_geom.specs.Lattice.{IsLattice};
-ghost use Rattle.gas_pipe_model.specs.Pass.{RunInputModel, line_of, rows_on, ring};
+ghost use Rattle.gas_pipe_model.specs.Pass.{RunInputModel, line_of, rows_on, carried_on};
 ghost use Rattle.gas_stage.specs.Evolution.{lattice_after};
 
 /// Each belt carries one row for each row of the lattice, and for all rows of a belt the worker
@@ -110,9 +110,9 @@ pub fn passes_in_order()
 
 /// In all passes of a plan but the last, the rows that come back on the last belt are those that
 /// follow the lattice's own on the first.
-pub fn rows_go_round()
+pub fn rows_return()
     ensures round { (gas : Rules) (input : RunInputModel) (n : ℕ) →
         IsLattice gas input.lattice.channel input.lattice.rows → 0 < input.plan.capacity →
-        take (n * input.lattice.channel.height) (ring gas input (n + 1) input.plan.stages)
-        ≡ drop input.lattice.channel.height (ring gas input (n + 1) 0) }
+        take (n * input.lattice.channel.height) (carried_on gas input (n + 1) input.plan.stages)
+        ≡ drop input.lattice.channel.height (carried_on gas input (n + 1) 0) }
 {}

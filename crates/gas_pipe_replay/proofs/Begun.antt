@@ -5,14 +5,14 @@ use Rattle.gas_geom.specs.Gas.{Rules}
 use Rattle.gas_pipe_model.specs.Pass.{RunInputModel, computes_from, rows_on}
 use Rattle.gas_pipe_model.specs.Inner.Input.{IsRunInput}
 use Rattle.gas_pipe_members.specs.Belt.{BeltModel}
-use Rattle.gas_pipe_members.specs.Worker.{WorkerModel, HasDone}
-use Rattle.gas_pipe_members.specs.Feeder.{FeederModel, HasFed}
+use Rattle.gas_pipe_members.specs.Worker.{WorkerModel, MayHaveDone}
+use Rattle.gas_pipe_members.specs.Feeder.{FeederModel, MayHaveFed}
 use Rattle.gas_pipe_replay.specs.Inner.LocalLine.{after, IsAt, HaveBegun, AreUnused, Shows}
 use Rattle.gas_pipe_replay.proofs.Slots.{at_push}
 
 -- one worker more has begun its pass
 pub begun_more : (gas : Rules) (input : RunInputModel) (workers : List WorkerModel) (n : ℕ) (w : WorkerModel) (e : Option ℕ) → HaveBegun gas input workers n →
-    w.stage.channel ≡ input.lattice.channel → w.stage.chirality ≡ input.chirality → e ≡ computes_from input.first input.plan 0 (n + 1) → HasDone gas w e [] [] →
+    w.stage.channel ≡ input.lattice.channel → w.stage.chirality ≡ input.chirality → e ≡ computes_from input.first input.plan 0 (n + 1) → MayHaveDone gas w e [] [] →
     HaveBegun gas input (workers ++ w ∷ []) (n + 1)
 begun_more gas input workers n w e begun channel chirality from done = (
   length_push workers w ∙ ap (λ k. k + 1) begun.0,
@@ -20,13 +20,13 @@ begun_more gas input workers n w e begun channel chirality from done = (
       (λ is. subst (λ i. IsAt gas input i w [] []) (sym is) (record {
         channel = channel;
         chirality = chirality;
-        done = subst (λ x. HasDone gas w x [] []) (from ∙ ap (computes_from input.first input.plan 0) (let more : n + 1 ≡ suc n = omega arith in more)) done;
+        done = subst (λ x. MayHaveDone gas w x [] []) (from ∙ ap (computes_from input.first input.plan 0) (let more : n + 1 ≡ suc n = omega arith in more)) done;
       }))
       (λ low. begun.1 k d low)),
 )
 
 pub begun_shows : (gas : Rules) (input : RunInputModel) (f : FeederModel) (workers : List WorkerModel) (belts : List BeltModel) → IsRunInput gas input → 0 < input.plan.stages →
-    HaveBegun gas input workers input.plan.stages → AreUnused input.plan.capacity belts (input.plan.stages + 1) → f.channel ≡ input.lattice.channel → HasFed f 1 (rows_on gas input 0 0) [] [] →
+    HaveBegun gas input workers input.plan.stages → AreUnused input.plan.capacity belts (input.plan.stages + 1) → f.channel ≡ input.lattice.channel → MayHaveFed f 1 (rows_on gas input 0 0) [] [] →
     Shows gas input f workers belts (after gas input [])
 begun_shows gas input f workers belts is some begun unused channel fed = record {
   is_input = is;

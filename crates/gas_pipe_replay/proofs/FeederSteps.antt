@@ -8,7 +8,7 @@ use Rattle.gas_pipe_model.specs.Inner.Line.{after_put, after_take, IsLine}
 use Rattle.gas_pipe_model.specs.Pass.{RunInputModel, line_of, rows_on}
 use Rattle.gas_pipe_members.specs.Belt.{BeltModel}
 use Rattle.gas_pipe_members.specs.Worker.{WorkerModel}
-use Rattle.gas_pipe_members.specs.Feeder.{FeederModel, HasFed, Feeds}
+use Rattle.gas_pipe_members.specs.Feeder.{FeederModel, MayHaveFed, Feeds}
 use Rattle.gas_pipe_members.specs.Inner.Steps.{emptied}
 use Rattle.gas_pipe_replay.specs.Inner.LocalLine.{belt, Shows}
 use Rattle.gas_pipe_members.specs.declared.ends.Turned.{Turned}
@@ -75,7 +75,7 @@ module _ (gas : Rules) (input : RunInputModel) (f v : FeederModel) (ws : List Wo
 
   -- the line after a change of the feeder and its two belts
   shows_feeder : (s2 : State) → ((j : ℕ) → (j ≡ 0 → ⊥) → s2.put j ≡ s.put j) → ((j : ℕ) → (j ≡ last → ⊥) → s2.taken j ≡ s.taken j) →
-      v.channel ≡ f.channel → HasFed v 1 (rows_on gas input 0 0) (s2.put 0) (s2.taken last) →
+      v.channel ≡ f.channel → MayHaveFed v 1 (rows_on gas input 0 0) (s2.put 0) (s2.taken last) →
       s2.taken 0 ++ q.rows ≡ s2.put 0 → s2.taken last ++ t.rows ≡ s2.put last → q.capacity ≡ input.plan.capacity → t.capacity ≡ input.plan.capacity →
       Shows gas input v ws (set (set bs 0 q) last t) s2
   shows_feeder s2 puts takens same_channel fed holds_q holds_t cap_q cap_t =
@@ -116,7 +116,7 @@ module _ (gas : Rules) (input : RunInputModel) (f v : FeederModel) (ws : List Wo
       ])
 
   gave_step : (row : RowModel) → q ≡ record (belt bs 0) { rows = (belt bs 0).rows ++ row ∷ [] } → length (belt bs 0).rows < (belt bs 0).capacity → t ≡ belt bs last →
-      v.channel ≡ f.channel → HasFed v 1 (rows_on gas input 0 0) (s.put 0 ++ row ∷ []) (s.taken last) → Shown
+      v.channel ≡ f.channel → MayHaveFed v 1 (rows_on gas input 0 0) (s.put 0 ++ row ∷ []) (s.taken last) → Shown
   gave_step row put room same same_channel fed =
       let pre = one_pass_prefix v (rows_on gas input 0 0) (s.put 0 ++ row ∷ []) (s.taken last) fed (high ∙ ap (λ c. c.height) (sym same_channel)) in
       let comes : s.put 0 ++ row ∷ pre.0 ≡ (rows_on gas input 0 0) = sym (append_assoc (s.put 0) (row ∷ []) pre.0) ∙ pre.1 in
@@ -135,7 +135,7 @@ module _ (gas : Rules) (input : RunInputModel) (f v : FeederModel) (ws : List Wo
       (ap (λ (b : BeltModel). b.capacity) same ∙ cap_from))
 
   took_step : (row : RowModel) → belt bs last ≡ record t { rows = row ∷ t.rows } → q ≡ belt bs 0 → v.channel ≡ f.channel →
-      HasFed v 1 (rows_on gas input 0 0) (s.put 0) (s.taken last ++ row ∷ []) → (0 < f.to_put → 0 < length f.rows → length (belt bs 0).rows < (belt bs 0).capacity → ⊥) → Shown
+      MayHaveFed v 1 (rows_on gas input 0 0) (s.put 0) (s.taken last ++ row ∷ []) → (0 < f.to_put → 0 < length f.rows → length (belt bs 0).rows < (belt bs 0).capacity → ⊥) → Shown
   took_step row taken same same_channel fed full =
       let holds_t : s.taken last ++ row ∷ t.rows ≡ s.put last = rw (ap (λ (b : BeltModel). b.rows) taken) at holds_from in
       let low = sh.some in
@@ -158,7 +158,7 @@ module _ (gas : Rules) (input : RunInputModel) (f v : FeederModel) (ws : List Wo
       let e : turn line s 0 ≡ s = (turn_idle line s 0 (le-ltb last 0 (omega arith)) (shut_put full) no_take).1 in
       subst (λ u. Shows gas input v ws (set (set bs 0 q) last t) u) (sym e)
       (shows_feeder s (λ j ne. refl) (λ j ne. refl) (ap (λ (u : FeederModel). u.channel) same)
-      (subst (λ u. HasFed u 1 (rows_on gas input 0 0) (s.put 0) (s.taken last)) (sym same) sh.fed)
+      (subst (λ u. MayHaveFed u 1 (rows_on gas input 0 0) (s.put 0) (s.taken last)) (sym same) sh.fed)
       (rw same_q holds_to)
       (rw same_t holds_from)
       (ap (λ (b : BeltModel). b.capacity) same_q ∙ cap_to)

@@ -8,7 +8,7 @@ use Rattle.gas_pipe_model.specs.Line.{Line, State, owed_on, grown, put_open, tak
 use Rattle.gas_pipe_model.specs.Inner.Line.{after_put, after_take, IsLine}
 use Rattle.gas_pipe_model.specs.Pass.{RunInputModel, computes_from, line_of, rows_on}
 use Rattle.gas_pipe_members.specs.Belt.{BeltModel}
-use Rattle.gas_pipe_members.specs.Worker.{WorkerModel, IsClosed, HasDone, Does, owes, HasPutAll, HasTakenAll, HasMoreToTake}
+use Rattle.gas_pipe_members.specs.Worker.{WorkerModel, IsClosed, MayHaveDone, Does, owes, HasPutAll, HasTakenAll, HasMoreToTake}
 use Rattle.gas_pipe_members.specs.Feeder.{FeederModel}
 use Rattle.gas_pipe_replay.specs.Inner.LocalLine.{belt, IsAt, Shows}
 use Rattle.gas_pipe_members.specs.declared.ends.Turned.{Turned}
@@ -29,8 +29,8 @@ pub record WorkerTurned (gas : Rules) (r : Turned) (w v : WorkerModel) (from fro
   pub took_when : r ≡ Took → HasPutAll gas w × HasMoreToTake gas w
   pub gave : r ≡ Put → (row : RowModel) × ((length to.rows < to.capacity) × (to2 ≡ record to { rows = to.rows ++ row ∷ [] })) × (from2 ≡ from) × Does gas w [] (row ∷ []) v
   pub idle : r ≡ Idle → (from2 ≡ from) × (to2 ≡ to) × Does gas w [] [] v
-  pub idle_owing : r ≡ Idle → (e : Option ℕ) (took gave : List RowModel) → HasDone gas w e took gave → length gave < length (owes gas w e took) → length to.rows < to.capacity → ⊥
-  pub idle_taking : r ≡ Idle → (e : Option ℕ) (took gave : List RowModel) → HasDone gas w e took gave → gave ≡ owes gas w e took → 0 < length from.rows → ⊥
+  pub idle_owing : r ≡ Idle → (e : Option ℕ) (took gave : List RowModel) → MayHaveDone gas w e took gave → length gave < length (owes gas w e took) → length to.rows < to.capacity → ⊥
+  pub idle_taking : r ≡ Idle → (e : Option ℕ) (took gave : List RowModel) → MayHaveDone gas w e took gave → gave ≡ owes gas w e took → 0 < length from.rows → ⊥
   pub done : r ≡ Done → (from2 ≡ from) × (to2 ≡ to) × Does gas w [] [] v × IsClosed v
   pub done_when : r ≡ Done → HasTakenAll gas w × HasPutAll gas w
   pub stray_at : r ≡ Stray → w.stray ≡ false → (row : RowModel) × (from ≡ record from2 { rows = row ∷ from2.rows }) × (to2 ≡ to) × (length row ≢ w.stage.channel.width)
@@ -78,7 +78,7 @@ module _ (gas : Rules) (input : RunInputModel) (f : FeederModel) (ws : List Work
 
   -- the line after a change of the worker and its two belts
   shows_worker : (s2 : State) → ((j : ℕ) → (j ≡ suc k → ⊥) → s2.put j ≡ s.put j) → ((j : ℕ) → (j ≡ k → ⊥) → s2.taken j ≡ s.taken j) →
-      v.stage.channel ≡ w.stage.channel → v.stage.chirality ≡ w.stage.chirality → HasDone gas v from (s2.taken k) (s2.put (suc k)) →
+      v.stage.channel ≡ w.stage.channel → v.stage.chirality ≡ w.stage.chirality → MayHaveDone gas v from (s2.taken k) (s2.put (suc k)) →
       s2.taken k ++ t.rows ≡ s2.put k → s2.taken (suc k) ++ q.rows ≡ s2.put (suc k) → t.capacity ≡ input.plan.capacity → q.capacity ≡ input.plan.capacity →
       Shows gas input f (set ws k v) (set (set bs k t) (suc k) q) s2
   shows_worker s2 puts takens same_channel same_chirality done holds_t holds_q cap_t cap_q =
@@ -109,7 +109,7 @@ module _ (gas : Rules) (input : RunInputModel) (f : FeederModel) (ws : List Work
 
   took_step : (row : RowModel) → belt bs k ≡ record t { rows = row ∷ t.rows } → q ≡ belt bs (suc k) →
       v.stage.channel ≡ w.stage.channel → v.stage.chirality ≡ w.stage.chirality →
-      HasDone gas v from (s.taken k ++ row ∷ []) (s.put (suc k)) → s.put (suc k) ≡ owes gas w from (s.taken k) → Shown
+      MayHaveDone gas v from (s.taken k ++ row ∷ []) (s.put (suc k)) → s.put (suc k) ≡ owes gas w from (s.taken k) → Shown
   took_step row taken same same_channel same_chirality done all =
       let holds_k : s.taken k ++ row ∷ t.rows ≡ s.put k = rw (ap (λ (b : BeltModel). b.rows) taken) at holds_from in
       let n : length (s.put (suc k)) ≡ length (owed_on line s (suc k)) = ap length (all ∙ owes_this) in
@@ -129,7 +129,7 @@ module _ (gas : Rules) (input : RunInputModel) (f : FeederModel) (ws : List Work
   gave_step : (row : RowModel) → q ≡ record (belt bs (suc k)) { rows = (belt bs (suc k)).rows ++ row ∷ [] } →
       length (belt bs (suc k)).rows < (belt bs (suc k)).capacity → t ≡ belt bs k →
       v.stage.channel ≡ w.stage.channel → v.stage.chirality ≡ w.stage.chirality →
-      HasDone gas v from (s.taken k) (s.put (suc k) ++ row ∷ []) → Shown
+      MayHaveDone gas v from (s.taken k) (s.put (suc k) ++ row ∷ []) → Shown
   gave_step row put room same same_channel same_chirality done =
       let pre = done_prefix gas v from (s.taken k) (s.put (suc k) ++ row ∷ []) done in
       let owed_is : owes gas v from (s.taken k) ≡ owed_on line s (suc k) =
@@ -150,7 +150,7 @@ module _ (gas : Rules) (input : RunInputModel) (f : FeederModel) (ws : List Work
       (ap (λ (b : BeltModel). b.capacity) put ∙ cap_to))
 
   still_step : t ≡ belt bs k → q ≡ belt bs (suc k) → v.stage.channel ≡ w.stage.channel → v.stage.chirality ≡ w.stage.chirality →
-      HasDone gas v from (s.taken k) (s.put (suc k)) → put_open line s (suc k) ≡ false → take_open line s k ≡ false → Shown
+      MayHaveDone gas v from (s.taken k) (s.put (suc k)) → put_open line s (suc k) ≡ false → take_open line s k ≡ false → Shown
   still_step same_t same_q same_channel same_chirality done shut no_take =
       let e : turn line s (suc k) ≡ s = (turn_idle line s (suc k) (le-ltb input.plan.stages (suc k) (omega arith)) shut no_take).1 in
       subst (λ u. Shows gas input f (set ws k v) (set (set bs k t) (suc k) q) u) (sym e)
@@ -161,7 +161,7 @@ module _ (gas : Rules) (input : RunInputModel) (f : FeederModel) (ws : List Work
       (ap (λ (b : BeltModel). b.capacity) same_q ∙ cap_to))
 
   idle_step : t ≡ belt bs k → q ≡ belt bs (suc k) → v.stage.channel ≡ w.stage.channel → v.stage.chirality ≡ w.stage.chirality →
-      HasDone gas v from (s.taken k) (s.put (suc k)) →
+      MayHaveDone gas v from (s.taken k) (s.put (suc k)) →
       (length (s.put (suc k)) < length (owes gas w from (s.taken k)) → length (belt bs (suc k)).rows < (belt bs (suc k)).capacity → ⊥) →
       (s.put (suc k) ≡ owes gas w from (s.taken k) → 0 < length (belt bs k).rows → ⊥) → Shown
   idle_step same_t same_q same_channel same_chirality done full none =
@@ -178,7 +178,7 @@ module _ (gas : Rules) (input : RunInputModel) (f : FeederModel) (ws : List Work
       )))
 
   done_step : t ≡ belt bs k → q ≡ belt bs (suc k) → v.stage.channel ≡ w.stage.channel → v.stage.chirality ≡ w.stage.chirality →
-      HasDone gas v from (s.taken k) (s.put (suc k)) → s.put (suc k) ≡ owes gas w from (s.taken k) → length (s.taken k) ≡ w.stage.channel.height → Shown
+      MayHaveDone gas v from (s.taken k) (s.put (suc k)) → s.put (suc k) ≡ owes gas w from (s.taken k) → length (s.taken k) ≡ w.stage.channel.height → Shown
   done_step same_t same_q same_channel same_chirality done all whole =
       let m : length (s.put (suc k)) ≡ length (owed_on line s (suc k)) = ap length (all ∙ owes_this) in
       let high : w.stage.channel.height ≡ length (rows_on gas input 0 0) = ap (λ c. c.height) was.channel ∙ sym (rows_high gas input sh.is_input 0 0) in

@@ -1,5 +1,5 @@
 -- A pass on one thread whose members make given turns.
-use Rattle.std.specs.Prelude.{ℕ, ◌+◌, eqb, if◌then◌else◌, Option, Some, None, List, [], length, map}
+use Rattle.std.specs.Prelude.{ℕ, ◌+◌, ◌==◌, if◌then◌else◌, Option, Some, None, List, [], length, map}
 use Rattle.std.specs.List.{range_with_len}
 use Rattle.gas_geom.specs.Gas.{Rules}
 use Rattle.gas_geom.specs.Lattice.{LatticeModel}
@@ -24,7 +24,7 @@ counts_of s k = record { put = length (s.put k); taken = length (s.taken k) }
 abbrev pub replay_of : Rules → Chirality → ℕ → LatticeModel → PlanModel → List ℕ → ReplayModel
 replay_of gas chirality first lattice plan turns =
     let line : Line = line_of gas (record { chirality = chirality; first = first; lattice = lattice; plan = plan }) 0 in
-    if eqb plan.generations 0 then record { lattice = Some lattice; belts = [] }
+    if plan.generations == 0 then record { lattice = Some lattice; belts = [] }
     else record {
       lattice = if is_done line (after_turns line turns start) then Some (lattice_after gas chirality first lattice plan.generations) else None;
       belts = map (counts_of (after_turns line turns start)) (range_with_len 0 (plan.stages + 1));

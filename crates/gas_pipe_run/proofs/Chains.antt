@@ -3,17 +3,17 @@ use Rattle.std.proofs.Common.{◌≡◌, ℕ, suc, ◌+◌, List, [], ◌∷◌,
 use Rattle.gas_belt.specs.Belt.{Belt}
 use Rattle.gas_pipe_model.specs.Pass.{RunInputModel}
 use Rattle.gas_pipe_run.specs.Inner.Job.{JobModel, IsReady}
-use Rattle.gas_pipe_run.specs.Inner.Links.{Takes, Linked, last_belt, AllReady}
+use Rattle.gas_pipe_run.specs.Inner.Links.{IsJobOf, Linked, last_belt, AllReady}
 
 pub last_belt_snoc : (from : Belt) (js : List JobModel) (j : JobModel) → last_belt from (js ++ j ∷ []) ≡ j.tx.belt
 last_belt_snoc from [] j = refl
 last_belt_snoc from (i ∷ js) j = last_belt_snoc i.tx.belt js j
 
 pub linked_snoc : (input : RunInputModel) (g k : ℕ) (from : Belt) (js : List JobModel) (j : JobModel) → g + length js ≡ k → Linked input g from js →
-    Takes input k (last_belt from js) j → Linked input g from (js ++ j ∷ [])
+    IsJobOf input k (last_belt from js) j → Linked input g from (js ++ j ∷ [])
 linked_snoc input g k from [] j at l next =
     let e : k ≡ g = omega arith in
-    (subst (λ (n : ℕ). Takes input n from j) e next, tt)
+    (subst (λ (n : ℕ). IsJobOf input n from j) e next, tt)
 linked_snoc input g k from (i ∷ js) j at l next =
     let e : suc g + length js ≡ k = omega arith in
     (l.0, linked_snoc input (suc g) k i.tx.belt js j e l.1 next)
@@ -21,18 +21,3 @@ linked_snoc input g k from (i ∷ js) j at l next =
 pub all_ready : (input : RunInputModel) (k : ℕ) (from : Belt) (js : List JobModel) → Linked input k from js → AllReady js
 all_ready input k from [] l = tt
 all_ready input k from (j ∷ js) l = (l.0.ready, all_ready input (suc k) j.tx.belt js l.1)
-
--- the job of the worker behind belt k
-pub takes_next : (input : RunInputModel) (k : ℕ) (from : Belt) (j : JobModel) → from ≡ j.rx.belt → IsReady j → j.who ≡ k + 1 →
-    j.first ≡ input.first → j.plan ≡ input.plan → j.worker.stage.channel ≡ input.lattice.channel → j.worker.stage.chirality ≡ input.chirality → Takes input k from j
-takes_next input k from j link ready who first plan channel chirality =
-    let more : k + 1 ≡ suc k = omega arith in
-    record {
-      link = link;
-      ready = ready;
-      who = who ∙ more;
-      first = first;
-      plan = plan;
-      channel = channel;
-      chirality = chirality;
-    }

@@ -14,8 +14,8 @@ use Rattle.gas_pipe_model.specs.Plan.{PlanModel}
 use Rattle.gas_pipe_model.specs.Pass.{RunInputModel, computes_from, rows_on}
 use Rattle.gas_pipe_model.specs.Inner.Input.{IsRunInput}
 use Rattle.gas_pipe_model.specs.Inner.Circle.{owed_in, owes_in}
-use Rattle.gas_pipe_run.specs.Inner.Job.{JobModel, EndedModel, Ran}
-use Rattle.gas_pipe_run.specs.Inner.Links.{Takes, Linked, last_belt, job_of, whole, on, on_first, Advanced, Reached}
+use Rattle.gas_pipe_run.specs.Inner.Job.{JobModel, EndedModel, HasFinished}
+use Rattle.gas_pipe_run.specs.Inner.Links.{IsJobOf, Linked, last_belt, job_of, carrying, rows_on_belt, belts_before, HasMet, HaveMetUpTo}
 use Rattle.gas_pipe_model.proofs.Circle.{on_high, on_next}
 use Rattle.gas_pipe_model.proofs.PlanCircle.{is_circle}
 
@@ -27,19 +27,19 @@ abbrev pub all_rows : RunInputModel → ℕ
 all_rows input = div_ceil input.plan.generations input.plan.stages * input.lattice.channel.height
 
 -- one belt more
-pub on_more : (gas : Rules) (input : RunInputModel) (b : List RowModel) (k : ℕ) → on_first gas input b (suc k) ≡ on_first gas input b k ++ whole (on gas input b k) ∷ []
+pub on_more : (gas : Rules) (input : RunInputModel) (b : List RowModel) (k : ℕ) → belts_before gas input b (suc k) ≡ belts_before gas input b k ++ carrying (rows_on_belt gas input b k) ∷ []
 on_more gas input b k =
-    ap (on_first gas input b) (let e : suc k ≡ k + 1 = omega arith in e)
-    ∙ map-range_with_len_more (λ i. whole (on gas input b i)) 0 k k (let e : 0 + k ≡ k = omega arith in e)
+    ap (belts_before gas input b) (let e : suc k ≡ k + 1 = omega arith in e)
+    ∙ map-range_with_len_more (λ i. carrying (rows_on_belt gas input b i)) 0 k k (let e : 0 + k ≡ k = omega arith in e)
 
 module _ (gas : Rules) (input : RunInputModel) (is : IsRunInput gas input) (b : List RowModel) (long : length b ≡ all_rows input) where
-  pub on_long : (k : ℕ) → length (on gas input b k) ≡ all_rows input
+  pub on_long : (k : ℕ) → length (rows_on_belt gas input b k) ≡ all_rows input
   on_long k =
       on_high input.lattice.channel.height input.plan.stages (owes_in gas input) (λ q. q) (rows_on gas input) (is_circle gas input is (λ q. q) (λ m q. refl) (λ n. refl))
       (div_ceil input.plan.generations input.plan.stages) b long k
 
   module _ (k : ℕ) (s : Sender) (j : JobModel) (e : EndedModel) (now : List CarriedModel)
-      (takes : Takes input k s.belt j) (reached : Reached gas input b k s.put now) (ran : Ran gas j e) where
+      (takes : IsJobOf input k s.belt j) (reached : HaveMetUpTo gas input b k s.put now) (ran : HasFinished gas j e) where
     -- what was put on belt k and what the worker behind it took
     pub one_belt : s.belt ≡ e.rx.belt
     one_belt = takes.link ∙ sym ran.rx
@@ -52,7 +52,7 @@ module _ (gas : Rules) (input : RunInputModel) (is : IsRunInput gas input) (b : 
         ∙ sym ran.whole
 
     -- that worker put the rows of the next belt
-    pub puts_next : e.rx.taken ≡ s.put → e.spent.put ≡ on gas input b (suc k)
+    pub puts_next : e.rx.taken ≡ s.put → e.spent.put ≡ rows_on_belt gas input b (suc k)
     puts_next same =
         ran.owes_is
         ∙ ap (λ (c : ChannelModel). owed_in c.height (λ i. owed gas c j.worker.stage.chirality (computes_from j.first j.plan i j.who)) (div_ceil j.plan.generations j.plan.stages) e.rx.taken) takes.channel
@@ -63,13 +63,13 @@ module _ (gas : Rules) (input : RunInputModel) (is : IsRunInput gas input) (b : 
         ∙ ap (owed_in input.lattice.channel.height (owes_in gas input k) (div_ceil input.plan.generations input.plan.stages)) (same ∙ reached.put_is)
         ∙ sym (on_next input.lattice.channel.height (owes_in gas input) (div_ceil input.plan.generations input.plan.stages) b k)
 
-    pub met : (now2 : List CarriedModel) → e.rx.taken ≡ s.put → now2 ≡ now ++ whole s.put ∷ [] → Reached gas input b (suc k) e.spent.put now2
+    pub met : (now2 : List CarriedModel) → e.rx.taken ≡ s.put → now2 ≡ now ++ carrying s.put ∷ [] → HaveMetUpTo gas input b (suc k) e.spent.put now2
     met now2 same grown = record {
       put_is = puts_next same;
       belts =
           grown
-          ∙ ap (λ (l : List CarriedModel). l ++ whole s.put ∷ []) reached.belts
-          ∙ ap (λ (rows : List RowModel). on_first gas input b k ++ whole rows ∷ []) reached.put_is
+          ∙ ap (λ (l : List CarriedModel). l ++ carrying s.put ∷ []) reached.belts
+          ∙ ap (λ (rows : List RowModel). belts_before gas input b k ++ carrying rows ∷ []) reached.put_is
           ∙ sym (on_more gas input b k);
     }
 
@@ -83,14 +83,14 @@ some_at {A = A} o x P e h = subst (λ (v : Option A). IfSome v P) e h
 -- s put on the belt that is reached, the k-th, and the rest of the jobs go on from there
 pub record Ahead (gas : Rules) (input : RunInputModel) (b : List RowModel) (end : Belt) (total : ℕ) (rest : List Handle) (len : ℕ) (now : List CarriedModel) (s : Sender) : Type 0 where
   pub k : ℕ
-  pub reached : Reached gas input b k s.put now
+  pub reached : HaveMetUpTo gas input b k s.put now
   pub linked : Linked input k s.belt (map job_of rest)
   pub end_is : last_belt s.belt (map job_of rest) ≡ end
   pub count : k + len ≡ total
 
 module _ (gas : Rules) (input : RunInputModel) (is : IsRunInput gas input) (b : List RowModel) (long : length b ≡ all_rows input) (end : Belt) (total : ℕ) (current : Option Sender) (ended : Option EndedModel) (h : Handle)
     (hs all : List Handle) (len : ℕ) (now : List CarriedModel) (first : all ≡ h ∷ hs) (was : IfSome current (Ahead gas input b end total all len now))
-    (kept : IfSome ended (Ran gas (job_of h))) where
+    (kept : IfSome ended (HasFinished gas (job_of h))) where
   ahead_of : (s : Sender) → Ahead gas input b end total all len now s → Ahead gas input b end total (h ∷ hs) len now s
   ahead_of s a = subst (λ (l : List Handle). Ahead gas input b end total l len now s) first a
 
@@ -99,7 +99,7 @@ module _ (gas : Rules) (input : RunInputModel) (is : IsRunInput gas input) (b : 
       some_more current (Ahead gas input b end total all len now) (λ s. IfSome ended (λ e. s.belt ≡ e.rx.belt))
       (λ s a0.
       let a = ahead_of s a0 in
-      some_more ended (Ran gas (job_of h)) (λ e. s.belt ≡ e.rx.belt)
+      some_more ended (HasFinished gas (job_of h)) (λ e. s.belt ≡ e.rx.belt)
       (λ e ran. one_belt gas input is b long a.k s (job_of h) e now a.linked.0 a.reached ran) kept)
       was
 
@@ -108,16 +108,16 @@ module _ (gas : Rules) (input : RunInputModel) (is : IsRunInput gas input) (b : 
       some_more current (Ahead gas input b end total all len now) (λ s. IfSome ended (λ e. length s.put ≡ length e.rx.taken))
       (λ s a0.
       let a = ahead_of s a0 in
-      some_more ended (Ran gas (job_of h)) (λ e. length s.put ≡ length e.rx.taken)
+      some_more ended (HasFinished gas (job_of h)) (λ e. length s.put ≡ length e.rx.taken)
       (λ e ran. as_many gas input is b long a.k s (job_of h) e now a.linked.0 a.reached ran) kept)
       was
 
-  pub goes : (len2 : ℕ) (now2 : List CarriedModel) (r : Option Sender) → len ≡ len2 + 1 → IfSome r (Advanced current ended now now2) → IfSome r (Ahead gas input b end total hs len2 now2)
+  pub goes : (len2 : ℕ) (now2 : List CarriedModel) (r : Option Sender) → len ≡ len2 + 1 → IfSome r (HasMet current ended now now2) → IfSome r (Ahead gas input b end total hs len2 now2)
   goes len2 now2 r less did =
-      some_more r (Advanced current ended now now2) (Ahead gas input b end total hs len2 now2)
+      some_more r (HasMet current ended now now2) (Ahead gas input b end total hs len2 now2)
       (λ next adv.
       let a = ahead_of adv.spent (some_at current adv.spent (Ahead gas input b end total all len now) adv.current_is was) in
-      let ran = some_at ended adv.over (Ran gas (job_of h)) adv.ended_is kept in
+      let ran = some_at ended adv.over (HasFinished gas (job_of h)) adv.ended_is kept in
       subst (Ahead gas input b end total hs len2 now2) (sym adv.next_is)
       record {
         k = suc a.k;

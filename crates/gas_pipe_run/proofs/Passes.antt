@@ -5,9 +5,9 @@ use Rattle.gas_geom.specs.Gas.{Rules}
 use Rattle.gas_geom.specs.Channel.{ChannelModel}
 use Rattle.gas_rows.specs.declared.chirality.Chirality.{Chirality}
 use Rattle.gas_stage.specs.Stage.{owed}
-use Rattle.gas_belt.specs.Belt.{Sender, Receiver}
+use Rattle.gas_belt.specs.Belt.{Belt, Sender, Receiver}
 use Rattle.gas_rows.specs.Row.{RowModel}
-use Rattle.gas_pipe_members.specs.Worker.{WorkerModel, HasDone, Does, HasTakenAll, HasPutAll}
+use Rattle.gas_pipe_members.specs.Worker.{WorkerModel, MayHaveDone, Does, HasTakenAll, HasPutAll}
 use Rattle.gas_pipe_model.specs.Plan.{PlanModel}
 use Rattle.gas_pipe_model.specs.Pass.{computes_from}
 use Rattle.gas_pipe_model.proofs.Circle.{owed_pass}
@@ -21,7 +21,7 @@ abbrev pub SamePut : Sender → Sender → Type 0
 SamePut tx tx2 = (tx2.belt ≡ tx.belt) × (tx2.put ≡ tx.put)
 
 abbrev pub TookFrom : Receiver → RowModel → Receiver → Type 0
-TookFrom rx row rx2 = (rx2.belt ≡ rx.belt) × (rx2.taken ≡ rx.taken ++ row ∷ [])
+TookFrom rx row rx2 = (rx2.belt ≡ rx.belt) × (rx2.taken ≡ rx.taken ++ row ∷ []) × (length row ≡ rx.belt.width)
 
 abbrev pub SameTaken : Receiver → Receiver → Type 0
 SameTaken rx rx2 = (rx2.belt ≡ rx.belt) × (rx2.taken ≡ rx.taken)
@@ -30,7 +30,7 @@ SameTaken rx rx2 = (rx2.belt ≡ rx.belt) × (rx2.taken ≡ rx.taken)
 pub record Running (gas : Rules) (e : Option ℕ) (w0 w : WorkerModel) (rx0 rx : Receiver) (tx0 tx : Sender) : Type 0 where
   pub took : List RowModel
   pub gave : List RowModel
-  pub done : HasDone gas w e took gave
+  pub done : MayHaveDone gas w e took gave
   pub came : rx.taken ≡ rx0.taken ++ took
   pub went : tx.put ≡ tx0.put ++ gave
   pub channel : w.stage.channel ≡ w0.stage.channel
@@ -39,7 +39,7 @@ pub record Running (gas : Rules) (e : Option ℕ) (w0 w : WorkerModel) (rx0 rx :
   pub tx_is : tx.belt ≡ tx0.belt
 
 module _ (gas : Rules) (e : Option ℕ) (w0 : WorkerModel) (rx0 : Receiver) (tx0 : Sender) where
-  pub run_begins : (w : WorkerModel) → HasDone gas w e [] [] → w.stage.channel ≡ w0.stage.channel → w.stage.chirality ≡ w0.stage.chirality →
+  pub run_begins : (w : WorkerModel) → MayHaveDone gas w e [] [] → w.stage.channel ≡ w0.stage.channel → w.stage.chirality ≡ w0.stage.chirality →
       Running gas e w0 w rx0 rx0 tx0 tx0
   run_begins w done channel chirality = record {
     took = [];
@@ -93,6 +93,11 @@ module _ (gas : Rules) (e : Option ℕ) (w0 : WorkerModel) (rx0 : Receiver) (tx0
       rx_is = rests_rx.0 ∙ was.rx_is;
       tx_is = rests_tx.0 ∙ was.tx_is;
     }
+
+  -- no row of another width comes
+  pub run_wide : (w : WorkerModel) (rx : Receiver) (tx : Sender) → Running gas e w0 w rx0 rx tx0 tx → rx0.belt.width ≡ w0.stage.channel.width → rx.belt.width ≡ w.stage.channel.width
+  run_wide w rx tx was wide =
+      ap (λ (b : Belt). b.width) was.rx_is ∙ wide ∙ ap (λ (c : ChannelModel). c.width) (sym was.channel)
 
   -- a pass that is over is whole
   pub run_over : (w : WorkerModel) (rx rx2 : Receiver) (tx tx2 : Sender) → Running gas e w0 w rx0 rx tx0 tx → SameTaken rx rx2 → SamePut tx tx2 → HasTakenAll gas w → HasPutAll gas w →

@@ -1,7 +1,7 @@
 //! What the caller's thread does while the workers run.
 ghost use Rattle.std.specs.Prelude.{◌≡◌, ℕ, List, IsTrue};
 ghost use Rattle.gas_rows.specs.Row.{RowModel};
-ghost use Rattle.gas_pipe_members.specs.Feeder.{HasFed};
+ghost use Rattle.gas_pipe_members.specs.Feeder.{MayHaveFed};
 
 use crate::waiter::Waiter;
 use crate::wake_ups::WakeUps;
@@ -13,34 +13,37 @@ use gas_pipe_members::feeder::Feeder;
 use std::sync::Wait;
 
 /// Makes the feeder's turns, and returns whether its passes are over. They are not where the stop
-/// flag is raised, or a row of another width came.
-pub(crate) fn feed<G: Gas, R: Wait>(
+/// flag is raised.
+pub(crate) fn run_feeder<G: Gas, R: Wait>(
     rt: &R,
     wake_ups: &WakeUps,
     feeder: &mut Feeder<G>,
     rx: &mut Rx<G>,
     tx: &mut Tx<G>,
 ) -> bool
+    requires wide { rx.old.belt.width ≡ feeder.old.channel.width }
+    requires begun { (passes : ℕ) × (rows : List RowModel)
+        × MayHaveFed feeder.old passes rows tx.old.put rx.old.taken }
     ensures rx { rx.new.belt ≡ rx.old.belt }
     ensures tx { tx.new.belt ≡ tx.old.belt }
     ensures channel { feeder.new.channel ≡ feeder.old.channel }
     ensures closed { IsTrue result → feeder.new.to_take ≡ 0 }
     ensures fed { IsTrue result → (passes : ℕ) (rows : List RowModel) →
-        HasFed feeder.old passes rows tx.old.put rx.old.taken →
-        HasFed feeder.new passes rows tx.new.put rx.new.taken }
+        MayHaveFed feeder.old passes rows tx.old.put rx.old.taken →
+        MayHaveFed feeder.new passes rows tx.new.put rx.new.taken }
 {
     let mut waiter = Waiter::new(wake_ups, 0);
     for _ in rt.forever() {
         match feeder.turn(tx, rx) {
             Turned::Done => return true,
             Turned::Idle => {
-                if !waiter.publish_or_wait(rt, tx) {
+                if !waiter.wait(rt) {
                     return false;
                 }
             }
             Turned::Took => waiter.wake_before(),
             Turned::Put => waiter.wake_behind(),
-            Turned::Stray => return false,
+            Turned::Stray => unreachable!(),
         }
     }
     unreachable!()

@@ -1,6 +1,6 @@
 //! A worker with its ends, for all passes.
 ghost use Rattle.std.specs.Prelude.{◌≡◌, IfSome};
-ghost use Rattle.gas_pipe_run.specs.Inner.Job.{JobModel, EndedModel, IsReady, Ran};
+ghost use Rattle.gas_pipe_run.specs.Inner.Job.{JobModel, EndedModel, IsReady, HasFinished};
 
 use crate::gate::Gate;
 use crate::shared::Shared;
@@ -56,9 +56,9 @@ impl<'a, G: Gas> Model for Job<'a, G> {
 
 impl<'a, G: Gas> Job<'a, G> {
     // Makes all passes, and closes the end that the worker put on. None where it stopped early.
-    fn make_passes<H: Gate, R: Wait>(self, shared: &Shared<'_, H, R>) -> Option<Ended<G>>
+    fn run_job<H: Gate, R: Wait>(self, shared: &Shared<'_, H, R>) -> Option<Ended<G>>
         requires { IsReady self }
-        ensures { IfSome result (λ e. Ran G.rules self.entry e) }
+        ensures { IfSome result (λ e. HasFinished G.rules self.entry e) }
     {
         let Job {
             who,
@@ -81,11 +81,11 @@ impl<'a, G: Gas> Job<'a, G> {
 impl<'a, G: Gas> Work<Ended<G>> for Job<'a, G> {
     ghost fresh = { λ j. IsReady j };
 
-    ghost kept = { λ j e. Ran G.rules j e };
+    ghost kept = { λ j e. HasFinished G.rules j e };
 
     fn do_work<H: Gate, R: Wait>(self, shared: &Shared<'_, H, R>) -> Option<Ended<G>> {
         let who = self.who;
-        let ended = self.make_passes(shared);
+        let ended = self.run_job(shared);
         shared.gate.leave(who);
         ended
     }

@@ -2,7 +2,7 @@
 ghost use Rattle.std.specs.Prelude.{◌≡◌, ◌*◌, [], length, map, IfSome, vec_len};
 ghost use Rattle.std.specs.Int.{div_ceil};
 ghost use Rattle.gas_pipe_model.specs.Inner.Input.{IsRunInput};
-ghost use Rattle.gas_pipe_run.specs.Inner.Links.{Linked, Advanced, Reached, job_of, last_belt};
+ghost use Rattle.gas_pipe_run.specs.Inner.Links.{Linked, HasMet, HaveMetUpTo, job_of, last_belt};
 
 use crate::job::Ended;
 use crate::start::WorkerThread;
@@ -13,7 +13,7 @@ use gas_pipe_members::input::RunInput;
 use std::thread::Threads;
 
 // Lets the two ends of a belt meet, and goes on to the next belt.
-fn advance<G: Gas>(
+fn meet_next<G: Gas>(
     current: Option<Spent<G>>,
     ended: Option<Ended<G>>,
     belts: &mut Vec<Carried<G>>,
@@ -21,7 +21,7 @@ fn advance<G: Gas>(
     requires one_belt { IfSome current (λ spent. IfSome ended (λ e. spent.belt ≡ e.rx.belt)) }
     requires as_many { IfSome current (λ spent.
         IfSome ended (λ e. length spent.put ≡ length e.rx.taken)) }
-    ensures { IfSome result (λ next. Advanced current ended belts.old.items belts.new.items next) }
+    ensures { IfSome result (λ next. HasMet current ended belts.old.items belts.new.items next) }
 {
     let spent = current?;
     let Ended { rx, spent: next } = ended?;
@@ -34,8 +34,8 @@ fn advance<G: Gas>(
     Some(next)
 }
 
-/// Joins all threads, and lets the ends of the belts meet, from the feeder's on, as far as no
-/// worker stopped early. Returns what is left of the end that the last worker put on.
+/// Joins all threads in order, and compares the two ends of each belt, up to the first worker that
+/// stopped early. Returns what is left of the end that the last worker put on.
 pub(crate) fn join_workers<G: Gas, R: Threads>(
     rt: &R,
     input: &RunInput<'_, G>,
@@ -52,12 +52,12 @@ pub(crate) fn join_workers<G: Gas, R: Threads>(
     ensures next { IfSome result (λ s.
         s.belt ≡ last_belt spent.belt (map job_of threads.entry.items)) }
     ensures reached { IfSome result (λ s.
-        Reached G.rules input.now spent.put (vec_len threads.entry) s.put belts.new.items) }
+        HaveMetUpTo G.rules input.now spent.put (vec_len threads.entry) s.put belts.new.items) }
 {
     let mut current = Some(spent);
     for thread in threads {
         let ended = thread.join(rt);
-        current = advance(current, ended, belts);
+        current = meet_next(current, ended, belts);
     }
     current
 }

@@ -3,6 +3,7 @@
 
 pub mod answer;
 pub mod backoff;
+mod fed_line;
 mod feeder_loop;
 pub mod gate;
 mod job;
@@ -10,17 +11,18 @@ mod join;
 mod line;
 mod shared;
 mod start;
-mod started_line;
+pub mod trials;
 mod waiter;
 pub mod wake_ups;
 mod work;
 mod worker_loop;
 
-ghost use Rattle.std.specs.Prelude.{◌≡◌, ◌+◌, ◌-◌, ◌*◌, ◌≤◌, ◌<◌, ◌^◌, ℕ, [], length, map, get_or, take, drop, IfOk, IfErr};
+ghost use Rattle.std.specs.Prelude.{◌≡◌, ◌+◌, ◌-◌, ◌*◌, ◌≤◌, ◌<◌, ◌^◌, ◌∷◌, ◌++◌, ℕ, List, [], length, map, take, drop, IfOk, IfErr};
 ghost use Rattle.std.specs.Int.{div_ceil};
 ghost use Rattle.gas_geom.specs.Lattice.{count};
+ghost use Rattle.gas_belt.specs.Belt.{CarriedModel};
 ghost use Rattle.gas_stage.specs.Evolution.{lattice_after};
-ghost use Rattle.gas_pipe_model.specs.Pass.{rings};
+ghost use Rattle.gas_pipe_model.specs.Pass.{carried_by_belts};
 
 use crate::answer::Run;
 use crate::gate::Gate;
@@ -38,12 +40,12 @@ use std::sync::Wait;
 use std::thread::Threads;
 
 /// Advances a lattice of generation `first` by the generations of a plan. It blocks until all passes
-/// are over: it makes the belts, starts a thread for each worker, which calls the gate round each of
-/// its passes, makes the feeder's turns on the caller's thread, and joins all threads. The rows of
-/// a pass follow those of the pass before on the same belts. Each belt carries one list of rows,
-/// which is both all that was put on it and all that was taken from it. No memory is taken while
-/// the threads run. It is refused only where a request for memory, or the start of a thread, was
-/// refused.
+/// are over. It makes the belts, starts a thread for each worker, makes the feeder's turns on the
+/// caller's thread, and joins all threads. Each worker's thread enters the gate before each of its
+/// passes, and leaves it as its last act. The rows of a pass follow the rows of the pass before on
+/// the same belts. Each belt carries one list of rows: all that was put on it and all that was taken
+/// from it. No memory is taken between the last start of a thread and the first join. `Memory` if a
+/// request for memory, or the start of a thread, was refused.
 pub fn run<G: Gas + Send, H: Gate + Sync, R: Threads + Wait + Sync>(
     rt: &R,
     alloc: Global,
@@ -54,14 +56,15 @@ pub fn run<G: Gas + Send, H: Gate + Sync, R: Threads + Wait + Sync>(
     gate: &H,
 ) -> Result<Run<G>, RunError>
     requires room { first + plan.generations < 2 ^ 64 }
-    ensures put { IfOk result (λ r. map (λ b. b.put) r.belts ≡ rings G.rules
+    ensures put { IfOk result (λ r. map (λ b. b.put) r.belts ≡ carried_by_belts G.rules
         (record { chirality = chirality; first = first; lattice = lattice.now; plan = plan })) }
-    ensures taken { IfOk result (λ r. map (λ b. b.taken) r.belts ≡ rings G.rules
+    ensures taken { IfOk result (λ r. map (λ b. b.taken) r.belts ≡ carried_by_belts G.rules
         (record { chirality = chirality; first = first; lattice = lattice.now; plan = plan })) }
-    ensures go_round { IfOk result (λ r.
-        take ((r.passes - 1) * lattice.now.channel.height)
-        (get_or (map (λ b. b.taken) r.belts) r.stages [])
-        ≡ drop lattice.now.channel.height (get_or (map (λ b. b.put) r.belts) 0 [])) }
+    ensures rows_return { IfOk result (λ r.
+        (first last : CarriedModel) (between : List CarriedModel) →
+        r.belts ≡ first ∷ (between ++ last ∷ []) →
+        take ((r.passes - 1) * lattice.now.channel.height) last.taken
+        ≡ drop lattice.now.channel.height first.put) }
     ensures belts_made { 0 < plan.generations → IfOk result (λ r. length r.belts ≡ r.stages + 1) }
     ensures lattice { IfOk result (λ r.
         r.lattice ≡ lattice_after G.rules chirality first lattice.now plan.generations) }

@@ -1,14 +1,15 @@
 //! The line of workers of a run: how it is made, started and run to its end.
 ghost use Rattle.std.specs.Prelude.{◌≡◌, ◌<◌, [], IfOk, IfSome};
-ghost use Rattle.gas_pipe_run.specs.Inner.Links.{Takes, HasRun};
+ghost use Rattle.gas_pipe_run.specs.Inner.Links.{IsBeltOf, IsJobOf, IsRunOf};
 ghost use Rattle.gas_pipe_run.specs.Inner.Line.{HoldsInput, IsLinked};
 
 use crate::answer::Run;
+use crate::fed_line::FedLine;
+use crate::feeder_loop::run_feeder;
 use crate::gate::Gate;
 use crate::job::Job;
 use crate::shared::Shared;
 use crate::start::{give_up, start_workers};
-use crate::started_line::StartedLine;
 use crate::wake_ups::WakeUps;
 use gas_belt::belt;
 use gas_belt::rx::Rx;
@@ -32,9 +33,11 @@ fn make_job<'e, G: Gas>(
 ) -> Result<(Job<'e, G>, Rx<G>), AllocError>
     requires one_of { k < input.now.plan.stages }
     requires nothing_taken { rx.taken ≡ [] }
-    ensures takes { IfOk result (λ r. Takes input.now k rx.belt r.0) }
+    requires belt { IsBeltOf input.now rx.belt }
+    ensures takes { IfOk result (λ r. IsJobOf input.now k rx.belt r.0) }
     ensures next { IfOk result (λ r. r.0.tx.belt ≡ r.1.belt) }
     ensures nothing_taken { IfOk result (λ r. r.1.taken ≡ []) }
+    ensures belt { IfOk result (λ r. IsBeltOf input.now r.1.belt) }
 {
     let channel = input.lattice.channel();
     let (tx, next) = belt(
@@ -97,7 +100,7 @@ impl<'e, G: Gas> Line<'e, G> {
             jobs.push(job)?;
             last = next;
         }
-        feeder.begin_passes(input.schedule.plan.passes());
+        feeder.begin_ring(input.schedule.plan.passes());
         Ok(Line {
             input,
             feeder,
@@ -106,36 +109,6 @@ impl<'e, G: Gas> Line<'e, G> {
             last,
         })
     }
-}
-
-// Starts a thread for each worker. None where memory or a start was refused, and then no thread is
-// left.
-fn start<'s, 'e: 's, G: Gas + Send + 'e, H: Gate + Sync, R: Threads + Wait + Sync>(
-    scope: &'s Scope<'s, &'e ()>,
-    alloc: Global,
-    shared: &'e Shared<'e, H, R>,
-    line: Line<'e, G>,
-) -> Option<StartedLine<'e, G>>
-    requires { IsLinked G.rules line }
-    ensures { IfSome result (λ started. started ≡ line.entry) }
-{
-    let Line {
-        input,
-        feeder,
-        first,
-        jobs,
-        last,
-    } = line;
-    let belts = Vec::with_capacity(alloc, input.schedule.plan.stages() as usize + 1).ok()?;
-    let threads = start_workers(scope, alloc, shared, jobs)?;
-    Some(StartedLine {
-        input,
-        feeder,
-        first,
-        threads,
-        last,
-        belts,
-    })
 }
 
 // Makes a line and all its passes. None where memory or a start was refused.
@@ -147,17 +120,38 @@ fn run_in_scope<'s, 'e: 's, G: Gas + Send + 'e, H: Gate + Sync, R: Threads + Wai
     feeder: Feeder<G>,
 ) -> Option<Run<G>>
     requires holds { HoldsInput G.rules input.now feeder }
-    ensures { IfSome result (λ run. HasRun G.rules input.now run) }
+    ensures { IfSome result (λ run. IsRunOf G.rules input.now run) }
 {
     let Ok(line) = Line::new(alloc, input, feeder) else {
         return None;
     };
-    let mut started = start(scope, alloc, shared, line)?;
-    if started.feed(shared) {
-        return started.settle(shared.rt);
+    let Line {
+        input,
+        mut feeder,
+        mut first,
+        jobs,
+        mut last,
+    } = line;
+    let belts = Vec::with_capacity(alloc, jobs.len() + 1).ok()?;
+    let threads = start_workers(scope, alloc, shared, jobs)?;
+    if !run_feeder(
+        shared.rt,
+        shared.wake_ups,
+        &mut feeder,
+        &mut last,
+        &mut first,
+    ) {
+        give_up(shared, threads);
+        return None;
     }
-    give_up(shared, started.threads);
-    None
+    let line = FedLine {
+        input,
+        feeder,
+        first,
+        threads,
+        last,
+    };
+    line.join_and_meet(shared.rt, belts)
 }
 
 /// Makes all passes of a plan over the rows that the feeder holds: a thread for each worker, and
@@ -171,7 +165,7 @@ pub(crate) fn run_line<G: Gas + Send, H: Gate + Sync, R: Threads + Wait + Sync>(
     feeder: Feeder<G>,
 ) -> Result<Run<G>, AllocError>
     requires holds { HoldsInput G.rules input.now feeder }
-    ensures { IfOk result (λ run. HasRun G.rules input.now run) }
+    ensures { IfOk result (λ run. IsRunOf G.rules input.now run) }
 {
     let wake_ups = WakeUps::new(alloc, input.schedule.plan.stages())?;
     let shared = &Shared {
@@ -184,7 +178,7 @@ pub(crate) fn run_line<G: Gas + Send, H: Gate + Sync, R: Threads + Wait + Sync>(
         rt,
         move |scope| -> Option<Run<G>>
             requires { HoldsInput G.rules input.now feeder }
-            ensures { IfSome result (λ run. HasRun G.rules input.entry.now run) }
+            ensures { IfSome result (λ run. IsRunOf G.rules input.entry.now run) }
         { run_in_scope(scope, alloc, shared, input, feeder) },
     );
     run.ok_or(AllocError)

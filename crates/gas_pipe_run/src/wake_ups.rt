@@ -1,8 +1,13 @@
-//! How the threads of a run wake and stop one another. It is internal: public for tests alone.
+//! How the threads of a run wake and stop one another. Public for tests only.
+//!
+//! Nothing is claimed of parks and wakes: what they do depends on the other threads.
+ghost use Rattle.std.specs.Prelude.{◌≡◌, ◌+◌, IfOk};
 
-use crate::backoff::{LONGEST_PARK_MILLIS, YieldBan};
+use crate::backoff::LONGEST_PARK_MILLIS;
+use crate::trials::YieldBan;
 use crossbeam_utils::CachePadded;
 use std::alloc::{AllocError, Global};
+use std::marker::Model;
 use std::sync::Wait;
 use std::sync::atomic::{AtomicBool, AtomicU64, Ordering};
 use std::time::Duration;
@@ -20,11 +25,23 @@ pub struct WakeUps {
     yield_ban: YieldBan,
 }
 
+impl Model for WakeUps {
+    ghost use Rattle.std.specs.Prelude.{vec_len};
+    ghost use Rattle.gas_pipe_run.specs.Waits.{WakeUpsModel};
+
+    ghost Value = { WakeUpsModel };
+
+    ghost view = { λ w. record { members = vec_len w.states } };
+}
+
 impl WakeUps {
     /// The wake-ups of a feeder and this number of workers, all of whom are awake.
-    pub fn new(alloc: Global, workers: u32) -> Result<Self, AllocError> {
-        let mut states = Vec::with_capacity(alloc, workers as usize + 1)?;
-        for _ in 0..=workers {
+    pub fn new(alloc: Global, workers: u32) -> Result<Self, AllocError>
+        ensures { IfOk result (λ w. w.members ≡ workers + 1) }
+    {
+        let members = workers as usize + 1;
+        let mut states = Vec::with_capacity(alloc, members)?;
+        for k in 0..members {
             states.push(CachePadded::new(AtomicU64::new(AWAKE)))?;
         }
         Ok(WakeUps {
@@ -45,7 +62,9 @@ impl WakeUps {
     }
 
     /// The number of members.
-    pub(crate) fn members(&self) -> usize {
+    pub(crate) fn members(&self) -> usize
+        ensures { result ≡ self.now.members }
+    {
         self.states.len()
     }
 

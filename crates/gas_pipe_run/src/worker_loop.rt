@@ -15,9 +15,8 @@ use gas_pipe_members::schedule::Schedule;
 use gas_pipe_members::worker::Worker;
 use std::sync::Wait;
 
-// Makes one pass of a worker, and returns whether it is over. It is not where the worker stopped
-// early: because the stop flag is raised, or because a row of another width came, and then the
-// worker raises the flag.
+// Makes one pass of a worker, and returns whether it is over. It is not where the stop flag is
+// raised.
 fn make_pass<G: Gas, H, R: Wait>(
     shared: &Shared<'_, H, R>,
     waiter: &mut Waiter<'_>,
@@ -27,6 +26,7 @@ fn make_pass<G: Gas, H, R: Wait>(
     tx: &mut Tx<G>,
 ) -> bool
     requires closed { IsClosed worker.old }
+    requires wide { rx.old.belt.width ≡ worker.old.stage.channel.width }
     ensures rx { rx.new.belt ≡ rx.old.belt }
     ensures tx { tx.new.belt ≡ tx.old.belt }
     ensures channel { worker.new.stage.channel ≡ worker.old.stage.channel }
@@ -38,21 +38,15 @@ fn make_pass<G: Gas, H, R: Wait>(
     worker.begin(generation);
     for _ in shared.rt.forever() {
         match worker.turn(rx, tx) {
-            Turned::Done => {
-                waiter.publish(tx);
-                return true;
-            }
+            Turned::Done => return true,
             Turned::Idle => {
-                if !waiter.publish_or_wait(shared.rt, tx) {
+                if !waiter.wait(shared.rt) {
                     return false;
                 }
             }
             Turned::Took => waiter.wake_before(),
             Turned::Put => waiter.wake_behind(),
-            Turned::Stray => {
-                shared.wake_ups.stop();
-                return false;
-            }
+            Turned::Stray => unreachable!(),
         }
     }
     unreachable!()
@@ -71,6 +65,7 @@ pub(crate) fn make_passes<G: Gas, H: Gate, R: Wait>(
     requires some { 1 ≤ who }
     requires one_of { who ≤ schedule.now.plan.stages }
     requires closed { IsClosed worker.old }
+    requires wide { rx.old.belt.width ≡ worker.old.stage.channel.width }
     requires nothing_taken { rx.old.taken ≡ [] }
     requires nothing_put { tx.old.put ≡ [] }
     ensures rx { rx.new.belt ≡ rx.old.belt }

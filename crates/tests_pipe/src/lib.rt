@@ -9,6 +9,8 @@ mod helpers;
 #[cfg(test)]
 mod members;
 #[cfg(test)]
+mod places;
+#[cfg(test)]
 mod replays;
 #[cfg(test)]
 mod runs;

@@ -64,7 +64,7 @@ fn ring_feeder(alloc: Global, channel: Channel, passes: u64) -> Result<Feeder<Fh
     }
     let mut feeder = Feeder::new(alloc, &lattice)?;
     match passes {
-        2 => feeder.begin_passes(2),
+        2 => feeder.begin_ring(2),
         _ => feeder.begin(),
     }
     Ok(feeder)

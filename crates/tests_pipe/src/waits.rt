@@ -2,7 +2,8 @@
 //! The numbers are those that docs/DECISIONS.md states ("How a member waits").
 
 use gas_pipe_run::backoff::Phase::{Announce, Park, Spin, Yield};
-use gas_pipe_run::backoff::{Backoff, Phase, YieldBan};
+use gas_pipe_run::backoff::{Backoff, Phase};
+use gas_pipe_run::trials::YieldBan;
 use gas_pipe_run::wake_ups::WakeUps;
 use std::process::Abort;
 use std::sync::Wait;
@@ -22,7 +23,7 @@ fn parks(rt: &impl Abort, backoff: &mut Backoff, ban: &YieldBan, was_woken: bool
     for _ in 0..2 {
         goes_on(rt, backoff, ban, Announce, 1);
         goes_on(rt, backoff, ban, Park, 1);
-        backoff.count_park(was_woken);
+        backoff.note_park(was_woken);
     }
     assert!(rt; !backoff.end_wait());
 }

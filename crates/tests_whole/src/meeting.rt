@@ -131,7 +131,7 @@ fn has_drifted(rt: &impl Abort, lattice: &Lattice<Fhp1>) {
     assert!(rt; lattice.count() == 1);
 }
 
-// The workers of a run of two passes meet before each, however many rows gather on the belts.
+// The workers of a run of two passes meet before each, however many rows a belt has places for.
 fn workers_meet<R: Abort + Threads + Wait + Sync>(
     rt: &R,
     alloc: Global,

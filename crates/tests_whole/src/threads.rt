@@ -1,5 +1,5 @@
 //! Runs by threads beside the stage on one thread, with one place in each belt, two, and more than
-//! a low lattice has rows, which then gather by four or by sixteen.
+//! a low lattice has rows.
 
 use crate::tests::{assert_same, random_lattice};
 use gas_geom::fhp_rest::FhpRest;

@@ -13,9 +13,9 @@ abbrev pub after_take : State → ℕ → State
 after_take s k = record s { taken = grown s.taken k (s.put k) }
 
 -- the rows that belt k carries in the end: each worker's are what it owes for those of the belt before
-abbrev pub carried : Line → ℕ → List RowModel
-carried l zero = l.rows
-carried l (suc k) = l.owe (suc k) (carried l k)
+abbrev pub rows_in_the_end : Line → ℕ → List RowModel
+rows_in_the_end l zero = l.rows
+rows_in_the_end l (suc k) = l.owe (suc k) (rows_in_the_end l k)
 
 -- What makes it a line: what a worker owes only grows at its end as rows come, is all when all have come, and is never more
 -- than came; and a belt has room for a row.

@@ -7,8 +7,8 @@ use Rattle.gas_pipe_model.specs.Line.{State, start, after_turns}
 use Rattle.gas_pipe_model.specs.Pass.{RunInputModel, computes_from, line_of, rows_on}
 use Rattle.gas_pipe_model.specs.Inner.Input.{IsRunInput}
 use Rattle.gas_pipe_members.specs.Belt.{BeltModel}
-use Rattle.gas_pipe_members.specs.Worker.{WorkerModel, HasDone}
-use Rattle.gas_pipe_members.specs.Feeder.{FeederModel, HasFed}
+use Rattle.gas_pipe_members.specs.Worker.{WorkerModel, MayHaveDone}
+use Rattle.gas_pipe_members.specs.Feeder.{FeederModel, MayHaveFed}
 
 -- the histories of the one pass after these turns
 abbrev pub after : Rules → RunInputModel → List ℕ → State
@@ -22,7 +22,7 @@ belt belts k = get_or belts k (record { rows = []; capacity = 0 })
 pub record IsAt (gas : Rules) (input : RunInputModel) (k : ℕ) (w : WorkerModel) (took gave : List RowModel) : Type 0 where
   pub channel : w.stage.channel ≡ input.lattice.channel
   pub chirality : w.stage.chirality ≡ input.chirality
-  pub done : HasDone gas w (computes_from input.first input.plan 0 (suc k)) took gave
+  pub done : MayHaveDone gas w (computes_from input.first input.plan 0 (suc k)) took gave
 
 -- the feeder, the workers and the belts may have come to their states by these histories of the pass
 pub record Shows (gas : Rules) (input : RunInputModel) (f : FeederModel) (workers : List WorkerModel) (belts : List BeltModel) (s : State) : Type 0 where
@@ -31,7 +31,7 @@ pub record Shows (gas : Rules) (input : RunInputModel) (f : FeederModel) (worker
   pub workers_are : length workers ≡ input.plan.stages
   pub belts_are : length belts ≡ suc input.plan.stages
   pub channel : f.channel ≡ input.lattice.channel
-  pub fed : HasFed f 1 (rows_on gas input 0 0) (s.put 0) (s.taken input.plan.stages)
+  pub fed : MayHaveFed f 1 (rows_on gas input 0 0) (s.put 0) (s.taken input.plan.stages)
   pub done : (k : ℕ) (d : WorkerModel) → k < input.plan.stages → IsAt gas input k (get_or workers k d) (s.taken k) (s.put (suc k))
   pub holds : (k : ℕ) → k ≤ input.plan.stages → s.taken k ++ (belt belts k).rows ≡ s.put k
   pub capacity : (k : ℕ) → k ≤ input.plan.stages → (belt belts k).capacity ≡ input.plan.capacity

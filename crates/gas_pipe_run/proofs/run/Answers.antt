@@ -2,7 +2,7 @@ use Rattle.std.proofs.Common.{rules, ◌+◌, ◌<◌, ◌∙◌, ap, sym, lengt
 use Rattle.gas_geom.proofs.Runs.{count-generation}
 use Rattle.gas_rows.specs.Chirality.{chirality_bit}
 use Rattle.gas_belt.specs.Belt.{CarriedModel}
-use Rattle.gas_pipe_run.proofs.Settled.{all_put, all_taken, rings_made, go_round, is_lattice}
+use Rattle.gas_pipe_run.proofs.Settled.{all_put, all_taken, belts_made_are, rows_return, is_lattice}
 use Rattle.gas_pipe_run.proofs.run.Goals as goal
 
 pub returns-clause-put : goal.returns-clause-put
@@ -11,12 +11,12 @@ returns-clause-put g c = ap (map (λ (b : CarriedModel). b.put)) c.in_ok-run_lin
 pub returns-clause-taken : goal.returns-clause-taken
 returns-clause-taken g c = ap (map (λ (b : CarriedModel). b.taken)) c.in_ok-run_line.ensures.belts ∙ all_taken _
 
-pub returns-clause-go_round : goal.returns-clause-go_round
-returns-clause-go_round g c =
+pub returns-clause-rows_return : goal.returns-clause-rows_return
+returns-clause-rows_return g c =
     let from = c.in_ok-feeder.ensures in
     let plan = c.generations.ensures.accepted in
     let some : 0 < c.args.plan.generations = omega (arith, c.if-generations-eq0.false, c.generations.ensures.value) in
-    go_round g.G.Gas.rules (record { chirality = c.args.chirality; first = c.args.first; lattice = c.args.lattice.now; plan = c.args.plan })
+    rows_return g.G.Gas.rules (record { chirality = c.args.chirality; first = c.args.first; lattice = c.args.lattice.now; plan = c.args.plan })
     (record { lattice = is_lattice g.G.Gas.rules c.args.lattice.now c.in_ok-feeder.feeder from.channel from.rows from.whole; room = search rules })
     (search rules) some c.in_ok-run_line.field-0 c.in_ok-run_line.ensures
 
@@ -24,7 +24,7 @@ pub returns-clause-belts_made : goal.returns-clause-belts_made
 returns-clause-belts_made g c more =
     let ran = c.in_ok-run_line.ensures in
     ap (λ (l : List CarriedModel). length l) ran.belts
-    ∙ rings_made g.G.Gas.rules (record { chirality = c.args.chirality; first = c.args.first; lattice = c.args.lattice.now; plan = c.args.plan }) more
+    ∙ belts_made_are g.G.Gas.rules (record { chirality = c.args.chirality; first = c.args.first; lattice = c.args.lattice.now; plan = c.args.plan }) more
     ∙ ap (λ (n : ℕ). n + 1) (sym ran.stages)
 
 pub returns-clause-number : goal.returns-clause-number

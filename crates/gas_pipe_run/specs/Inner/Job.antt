@@ -24,11 +24,12 @@ pub record EndedModel : Type 0 where
   pub rx : Receiver
   pub spent : Sender
 
--- it is one of the plan's workers, its ends are unused, and no pass is open
+-- it is one of the plan's workers, its ends are unused, what it takes is as wide as its channel, and no pass is open
 pub record IsReady (j : JobModel) : Type 0 where
   pub some : 1 ≤ j.who
   pub one_of : j.who ≤ j.plan.stages
   pub nothing_taken : j.rx.taken ≡ []
+  pub wide : j.rx.belt.width ≡ j.worker.stage.channel.width
   pub nothing_put : j.tx.put ≡ []
   pub closed : IsClosed j.worker
 
@@ -45,7 +46,7 @@ abbrev pub owes_until : Rules → WorkerModel → ℕ → PlanModel → ℕ → 
 owes_until gas w first plan who n took = owed_in w.stage.channel.height (λ i. owes gas w (computes_from first plan i who)) n took
 
 -- between the same two belts it took all rows of all passes, and put all that it owes for them
-pub record Ran (gas : Rules) (j : JobModel) (e : EndedModel) : Type 0 where
+pub record HasFinished (gas : Rules) (j : JobModel) (e : EndedModel) : Type 0 where
   pub rx : e.rx.belt ≡ j.rx.belt
   pub tx : e.spent.belt ≡ j.tx.belt
   pub whole : length e.rx.taken ≡ div_ceil j.plan.generations j.plan.stages * j.worker.stage.channel.height

@@ -1,6 +1,6 @@
 -- Inner words: what functions of this crate promise one another. No public contract cites them.
 -- How the belts of a run are linked, and what they have carried when it is over.
-use Rattle.std.specs.Prelude.{◌≡◌, ℕ, suc, ◌++◌, List, [], ◌∷◌, map, Option, Some, get_or}
+use Rattle.std.specs.Prelude.{◌≡◌, ℕ, suc, ◌++◌, List, [], ◌∷◌, map, Option, Some}
 use Rattle.std.specs.Int.{div_ceil}
 use Rattle.std.specs.List.{range_with_len}
 use Rattle.std.specs.declared.thread.PromisedHandle.{PromisedHandle}
@@ -9,13 +9,19 @@ use Rattle.gas_belt.specs.Belt.{Belt, Sender, CarriedModel}
 use Rattle.gas_pipe_run.specs.declared.work.WorkPromise.{WorkPromise}
 use Rattle.gas_rows.specs.Row.{RowModel}
 use Rattle.gas_stage.specs.Evolution.{lattice_after}
-use Rattle.gas_pipe_model.specs.Pass.{RunInputModel, rings}
+use Rattle.gas_pipe_model.specs.Pass.{RunInputModel, carried_by_belts}
 use Rattle.gas_pipe_model.specs.Inner.Circle.{on_belt, owes_in}
 use Rattle.gas_pipe_run.specs.Run.{RunModel}
 use Rattle.gas_pipe_run.specs.Inner.Job.{JobModel, EndedModel, IsReady}
 
--- a job that is ready, of the worker that takes from belt k, which is `from`, in the passes of the input's plan
-pub record Takes (input : RunInputModel) (k : ℕ) (from : Belt) (j : JobModel) : Type 0 where
+-- a belt for rows of the input's lattice, with the capacity of its plan
+pub record IsBeltOf (input : RunInputModel) (belt : Belt) : Type 0 where
+  pub width : belt.width ≡ input.lattice.channel.width
+  pub capacity : belt.capacity ≡ input.plan.capacity
+
+-- a job that is ready, of the worker that takes from belt k, which is `from`, in the passes of the input's plan, and puts on
+-- another belt of that plan
+pub record IsJobOf (input : RunInputModel) (k : ℕ) (from : Belt) (j : JobModel) : Type 0 where
   pub link : from ≡ j.rx.belt
   pub ready : IsReady j
   pub who : j.who ≡ suc k
@@ -23,11 +29,12 @@ pub record Takes (input : RunInputModel) (k : ℕ) (from : Belt) (j : JobModel) 
   pub plan : j.plan ≡ input.plan
   pub channel : j.worker.stage.channel ≡ input.lattice.channel
   pub chirality : j.worker.stage.chirality ≡ input.chirality
+  pub puts_on : IsBeltOf input j.tx.belt
 
 -- the jobs from belt k on: the first takes from the belt `from`, and each other from the belt of the one before
 abbrev pub Linked : RunInputModel → ℕ → Belt → List JobModel → Type 0
 Linked input k from [] = Unit {0}
-Linked input k from (j ∷ js) = Takes input k from j × Linked input (suc k) j.tx.belt js
+Linked input k from (j ∷ js) = IsJobOf input k from j × Linked input (suc k) j.tx.belt js
 
 -- the belt behind the last of them
 abbrev pub last_belt : Belt → List JobModel → Belt
@@ -43,43 +50,36 @@ AllReady (j ∷ js) = IsReady j × AllReady js
 abbrev pub job_of : PromisedHandle (Option EndedModel) (WorkPromise JobModel) → JobModel
 job_of h = h.promise.0.value
 
--- the rows that were put on belt k, and those that were taken from it; none where there is no such belt
-abbrev pub put_on : List CarriedModel → ℕ → List RowModel
-put_on belts k = get_or (map (λ (b : CarriedModel). b.put) belts) k []
-
-abbrev pub taken_on : List CarriedModel → ℕ → List RowModel
-taken_on belts k = get_or (map (λ (b : CarriedModel). b.taken) belts) k []
-
 -- a belt from which these rows were taken, and no others were put on it
-abbrev pub whole : List RowModel → CarriedModel
-whole rows = record { put = rows; taken = rows }
+abbrev pub carrying : List RowModel → CarriedModel
+carrying rows = record { put = rows; taken = rows }
 
 -- what is on belt k after all passes of the input's plan, where the rows b are on belt 0 and each worker puts what it owes
-abbrev pub on : Rules → RunInputModel → List RowModel → ℕ → List RowModel
-on gas input b k = on_belt input.lattice.channel.height (owes_in gas input) (div_ceil input.plan.generations input.plan.stages) b k
+abbrev pub rows_on_belt : Rules → RunInputModel → List RowModel → ℕ → List RowModel
+rows_on_belt gas input b k = on_belt input.lattice.channel.height (owes_in gas input) (div_ceil input.plan.generations input.plan.stages) b k
 
 -- what is on the first n belts
-abbrev pub on_first : Rules → RunInputModel → List RowModel → ℕ → List CarriedModel
-on_first gas input b n = map (λ k. whole (on gas input b k)) (range_with_len 0 n)
+abbrev pub belts_before : Rules → RunInputModel → List RowModel → ℕ → List CarriedModel
+belts_before gas input b n = map (λ k. carrying (rows_on_belt gas input b k)) (range_with_len 0 n)
 
 -- a run of the input's plan: its lattice, and what its belts carried
-pub record HasRun (gas : Rules) (input : RunInputModel) (r : RunModel) : Type 0 where
+pub record IsRunOf (gas : Rules) (input : RunInputModel) (r : RunModel) : Type 0 where
   pub lattice : r.lattice ≡ lattice_after gas input.chirality input.first input.lattice input.plan.generations
   pub stages : r.stages ≡ input.plan.stages
   pub passes : r.passes ≡ div_ceil input.plan.generations input.plan.stages
-  pub belts : r.belts ≡ map whole (rings gas input)
+  pub belts : r.belts ≡ map carrying (carried_by_belts gas input)
 
 -- the ends of a belt have met, and the rest of the line goes on with `next`
-pub record Advanced (current : Option Sender) (ended : Option EndedModel) (before now : List CarriedModel) (next : Sender) : Type 0 where
+pub record HasMet (current : Option Sender) (ended : Option EndedModel) (before now : List CarriedModel) (next : Sender) : Type 0 where
   pub spent : Sender
   pub over : EndedModel
   pub current_is : current ≡ Some spent
   pub ended_is : ended ≡ Some over
   pub next_is : next ≡ over.spent
   pub same : over.rx.taken ≡ spent.put
-  pub belts : now ≡ before ++ whole spent.put ∷ []
+  pub belts : now ≡ before ++ carrying spent.put ∷ []
 
 -- the belts before the k-th have met, and these rows were put on it
-pub record Reached (gas : Rules) (input : RunInputModel) (b : List RowModel) (k : ℕ) (put : List RowModel) (now : List CarriedModel) : Type 0 where
-  pub put_is : put ≡ on gas input b k
-  pub belts : now ≡ on_first gas input b k
+pub record HaveMetUpTo (gas : Rules) (input : RunInputModel) (b : List RowModel) (k : ℕ) (put : List RowModel) (now : List CarriedModel) : Type 0 where
+  pub put_is : put ≡ rows_on_belt gas input b k
+  pub belts : now ≡ belts_before gas input b k

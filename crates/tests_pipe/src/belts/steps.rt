@@ -1,12 +1,14 @@
 //! The outcomes of one step after another on a belt whose two ends one thread has.
+ghost use Rattle.std.specs.Prelude.{◌≤◌};
 
-use super::Step::{
-    Gathered, GatheredBack, Given, Held, NoSpare, NothingShown, NothingTaken, OtherBack, Put,
-    PutBack, Shown, Spare, Taken,
-};
-use super::{Step, count_carried, play};
+use super::Step::{Given, Held, NoSpare, NothingTaken, OtherBack, Put, PutBack, Spare, Taken};
+use super::{Step, count_carried, is_next, numbered_row, play};
 use gas_belt::belt;
-use std::alloc::Global;
+use gas_belt::rx::Rx;
+use gas_belt::tx::Tx;
+use gas_geom::fhp1::Fhp1;
+use std::alloc::{AllocError, Global};
+use std::ops::Range;
 use std::process::Abort;
 use std::test::Fail;
 
@@ -20,7 +22,7 @@ struct Case {
     carried: u64,
 }
 
-const CASES: [Case; 8] = [
+const CASES: [Case; 4] = [
     // Two places for three rows.
     Case {
         places: 2,
@@ -93,81 +95,6 @@ const CASES: [Case; 8] = [
         left: &[],
         carried: 1,
     },
-    // On a belt with eight places four rows gather before they are shown.
-    Case {
-        places: 8,
-        width: 65,
-        steps: &[
-            NothingShown,
-            Gathered(1),
-            Gathered(2),
-            Gathered(3),
-            NothingTaken,
-            Gathered(4),
-            Taken(1),
-            Given(65),
-            Taken(2),
-            Given(65),
-            Taken(3),
-            Given(65),
-            Taken(4),
-            Given(65),
-            NothingTaken,
-            Gathered(5),
-            NothingTaken,
-            Shown,
-            NothingShown,
-            Taken(5),
-        ],
-        left: &[],
-        carried: 5,
-    },
-    // A row that is put is shown at once, with those that gathered before it.
-    Case {
-        places: 32,
-        width: 65,
-        steps: &[
-            Put(1),
-            Taken(1),
-            Gathered(2),
-            NothingTaken,
-            Put(3),
-            NothingShown,
-            Taken(2),
-            Given(65),
-        ],
-        left: &[3],
-        carried: 3,
-    },
-    // Of a full belt the row that gathered last can still be shown.
-    Case {
-        places: 9,
-        width: 7,
-        steps: &[
-            Gathered(1),
-            Gathered(2),
-            Gathered(3),
-            Gathered(4),
-            Gathered(5),
-            Gathered(6),
-            Gathered(7),
-            Gathered(8),
-            Gathered(9),
-            GatheredBack(99),
-            Shown,
-            NothingShown,
-        ],
-        left: &[1, 2, 3, 4, 5, 6, 7, 8, 9],
-        carried: 9,
-    },
-    // A belt that is closed has shown all rows.
-    Case {
-        places: 32,
-        width: 130,
-        steps: &[Gathered(1), Gathered(2), Gathered(3), NothingTaken],
-        left: &[1, 2, 3],
-        carried: 3,
-    },
 ];
 
 fn plays(rt: &impl Abort, alloc: Global, case: &Case) -> Result<(), Fail> {
@@ -185,4 +112,65 @@ fn steps_of_one_thread(rt: HostRuntime) -> Result<(), Fail> {
         plays(&rt, rt.alloc(), case)?;
     }
     Ok(())
+}
+
+// Puts the rows with these numbers. There is no place for another.
+fn fill(
+    rt: &impl Abort,
+    alloc: Global,
+    tx: &mut Tx<Fhp1>,
+    width: u32,
+    numbers: Range<u32>,
+) -> Result<(), AllocError> {
+    for n in numbers {
+        assert!(rt;
+            tx.try_put(numbered_row(alloc, width, n)?).is_ok(),
+            "row {n}"
+        );
+    }
+    assert!(rt; tx.try_put(numbered_row(alloc, width, 0)?).is_err());
+    Ok(())
+}
+
+// Takes the rows with these numbers.
+fn drain(rt: &impl Abort, rx: &mut Rx<Fhp1>, numbers: Range<u32>) {
+    for n in numbers {
+        assert!(rt; is_next(rx, n), "row {n}");
+    }
+}
+
+// After any takes exactly as many rows can be put as were taken.
+fn refuses_where_full(
+    rt: &impl Abort,
+    alloc: Global,
+    places: u32,
+    width: u32,
+) -> Result<(), AllocError>
+    requires some_places { 1 ≤ places }
+    requires few_places { places ≤ 1024 }
+    requires some_cells { 2 ≤ width }
+    requires few_cells { width ≤ 65536 }
+{
+    let (mut tx, mut rx) = belt(alloc, places, width)?;
+    let half = places / 2;
+    fill(rt, alloc, &mut tx, width, 0..places)?;
+    drain(rt, &mut rx, 0..1);
+    fill(rt, alloc, &mut tx, width, places..places + 1)?;
+    drain(rt, &mut rx, 1..1 + half);
+    fill(rt, alloc, &mut tx, width, places + 1..places + 1 + half)?;
+    drain(rt, &mut rx, 1 + half..places + 1 + half);
+    assert!(rt; rx.try_take().is_none());
+    fill(rt, alloc, &mut tx, width, 0..places)
+}
+
+#[test]
+fn a_belt_is_full_when_as_many_rows_are_under_way_as_it_has_places(
+    rt: HostRuntime,
+) -> Result<(), Fail> {
+    refuses_where_full(&rt, rt.alloc(), 1, 7)?;
+    refuses_where_full(&rt, rt.alloc(), 8, 7)?;
+    refuses_where_full(&rt, rt.alloc(), 8, 1000)?;
+    refuses_where_full(&rt, rt.alloc(), 9, 65)?;
+    refuses_where_full(&rt, rt.alloc(), 33, 256)?;
+    Ok(refuses_where_full(&rt, rt.alloc(), 1024, 4)?)
 }

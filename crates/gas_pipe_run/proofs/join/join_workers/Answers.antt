@@ -20,14 +20,14 @@ loop-thread-init g c =
       count = zero-add _;
     }
 
-pub advance-current-requires-clause-one_belt : goal.advance-current-requires-clause-one_belt
-advance-current-requires-clause-one_belt g c =
+pub meet_next-current-requires-clause-one_belt : goal.meet_next-current-requires-clause-one_belt
+meet_next-current-requires-clause-one_belt g c =
     let input = c.args.input.now in
     asks_belt g.G.Gas.rules input c.requires.input c.args.spent.put c.requires.whole _ _ c.loop-thread.current c.join-ended.result c.in-Some.thread (into_iter_items c.next.new.self) _ _ _
     c.in-Some.ensures.steps.0 c.loop-thread.invariant c.join-ended.ensures
 
-pub advance-current-requires-clause-as_many : goal.advance-current-requires-clause-as_many
-advance-current-requires-clause-as_many g c =
+pub meet_next-current-requires-clause-as_many : goal.meet_next-current-requires-clause-as_many
+meet_next-current-requires-clause-as_many g c =
     let input = c.args.input.now in
     asks_many g.G.Gas.rules input c.requires.input c.args.spent.put c.requires.whole _ _ c.loop-thread.current c.join-ended.result c.in-Some.thread (into_iter_items c.next.new.self) _ _ _
     c.in-Some.ensures.steps.0 c.loop-thread.invariant c.join-ended.ensures
@@ -37,4 +37,4 @@ loop-thread-preserved g c =
     let input = c.args.input.now in
     goes g.G.Gas.rules input c.requires.input c.args.spent.put c.requires.whole _ _ c.loop-thread.current c.join-ended.result c.in-Some.thread (into_iter_items c.next.new.self) _ _ _
     c.in-Some.ensures.steps.0 c.loop-thread.invariant c.join-ended.ensures
-    (into_iter_len c.next.new.self) _ c.advance-current.result (search rules) c.advance-current.ensures
+    (into_iter_len c.next.new.self) _ c.meet_next-current.result (search rules) c.meet_next-current.ensures

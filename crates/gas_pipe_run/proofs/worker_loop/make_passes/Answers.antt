@@ -1,5 +1,7 @@
 use Rattle.std.proofs.Common.{◌∙◌, refl, sym, ap, length, subst, ℕ, Option}
 use Rattle.std.proofs.Math.Nat.{zero-mul}
+use Rattle.gas_geom.specs.Channel.{ChannelModel}
+use Rattle.gas_belt.specs.Belt.{Belt}
 use Rattle.gas_stage.specs.Stage.{owed}
 use Rattle.gas_pipe_model.specs.Pass.{computes_from}
 use Rattle.gas_pipe_model.proofs.Circle.{owed_none}
@@ -41,3 +43,8 @@ loop-pass-preserved g c =
       whole = more.0;
       owes = more.1;
     }
+
+pub make_pass-requires-clause-wide : goal.make_pass-requires-clause-wide
+make_pass-requires-clause-wide g c =
+    let was = c.loop-pass.invariant in
+    ap (λ (b : Belt). b.width) was.rx ∙ c.requires.wide ∙ ap (λ (h : ChannelModel). h.width) (sym was.channel)

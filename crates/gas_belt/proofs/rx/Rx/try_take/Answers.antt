@@ -1,49 +1,35 @@
-use Rattle.std.proofs.Common.{◌≡◌, ◌+◌, ◌*◌, ◌++◌, ◌∷◌, [], ℕ, List, length, sym, ap, ◌∙◌, arith}
-use Rattle.std.proofs.lemmas.List.{length-append}
+use Rattle.std.proofs.Common.{◌≡◌, ◌+◌, ◌++◌, ◌∷◌, [], List, Some, length, sym, ap, ◌∙◌, arith}
+use Rattle.std.proofs.lemmas.List.Elements.{All-pop}
+use Rattle.rtrb.specs.Ring.{received}
 use Rattle.gas_rows.specs.Planes.{cells_of}
 use Rattle.gas_rows.specs.Row.{RowModel}
 use Rattle.gas_belt.specs.Belt.{Receiver}
-use Rattle.gas_belt.specs.Inner.Ring.{row_words, rows_in, taken_words}
+use Rattle.gas_belt.specs.Inner.Ring.{row_words, rows_in}
 use Rattle.gas_belt.proofs.Ends.{same_belt, receiver_is}
 use Rattle.gas_belt.proofs.Parts.{parts_row}
 use Rattle.gas_belt.proofs.rx.Rx.try_take.Goals as goal
 
-pub invariant_of-self-2 : goal.invariant_of-self-2
-invariant_of-self-2 g c =
+pub returns-clause-width : goal.returns-clause-width
+returns-clause-width g c =
     let s = c.self.inside in
-    let dirs = g.G.Gas.rules.dirs in
-    let w = row_words dirs s.spares.width in
-    let words = c.take.new.self.row.items in
-    let long : length words ≡ w = c.take.ensures.words ∙ c.self.invariant.long in
-    let same : c.take-2.new.self.width ≡ s.spares.width = ap (λ k. k.width) (sym c.in-Some.ensures.one_less) in
-    let longer : length (taken_words c.take.new.self) ≡ length (taken_words s.buffer) + length words =
-    ap (λ (xs : List ℕ). length xs) (c.take.ensures.taken c.if-not-take.false) ∙ length-append (taken_words s.buffer) words in
-    let next : w * (s.count + 1) ≡ w * s.count + w = grind arith in
-    let counted : length (taken_words c.take.new.self) ≡ w * (s.count + 1) = omega (arith, longer, next, long, c.self.invariant.counted) in
-    record {
-      counted = counted ∙ ap (λ k. row_words dirs k * (s.count + 1)) (sym same);
-      long = c.exchange_words.ensures.long ∙ c.take.ensures.places ∙ c.self.invariant.long ∙ ap (row_words dirs) (sym same);
-      some = omega (arith, c.exchange_words.ensures.long, c.take.ensures.places, c.self.invariant.some);
-    }
+    let spare = All-pop (λ (r : RowModel). length r ≡ s.width) s.spares.items c.pop-2.new.self.items (Some c.in-Some.row) c.in-Some.ensures.items c.self.invariant.wide in
+    c.exchange_words.ensures.wide ∙ spare.1 ∙ ap (λ r. r.belt.width) c.self.view_is
 
 pub returns-clause-taken : goal.returns-clause-taken
 returns-clause-taken g c =
     let s = c.self.inside in
     let dirs = g.G.Gas.rules.dirs in
-    let w = row_words dirs s.spares.width in
-    let words = c.take.new.self.row.items in
-    let long : length words ≡ w = c.take.ensures.words ∙ c.self.invariant.long in
-    let same : c.take-2.new.self.width ≡ s.spares.width = ap (λ k. k.width) (sym c.in-Some.ensures.one_less) in
-    let cells : c.exchange_words.new.self ≡ cells_of dirs s.spares.width words = c.exchange_words.ensures.cells ∙ ap (λ k. cells_of dirs k words) c.in-Some.ensures.row in
-    let taken : rows_in dirs s.spares.width (s.count + 1) (taken_words c.take.new.self)
-    ≡ rows_in dirs s.spares.width s.count (taken_words s.buffer) ++ c.exchange_words.new.self ∷ [] =
-    ap (rows_in dirs s.spares.width (s.count + 1)) (c.take.ensures.taken c.if-not-take.false)
-    ∙ parts_row (cells_of dirs s.spares.width) w s.count (taken_words s.buffer) words c.self.invariant.counted long
-    ∙ ap (λ (r : RowModel). rows_in dirs s.spares.width s.count (taken_words s.buffer) ++ r ∷ []) (sym cells) in
-    let spares : s.spares.count ≡ c.take-2.new.self.count + 1 = ap (λ k. k.count) c.in-Some.ensures.one_less in
-    let held : s.spares.count ≡ c.args.self.now.held = ap (λ r. r.held) c.self.view_is in
+    let before : List RowModel = rows_in dirs s.width s.count (received s.end.ring) in
+    let words = c.pop.new.self.words.items in
+    let spare = All-pop (λ (r : RowModel). length r ≡ s.width) s.spares.items c.pop-2.new.self.items (Some c.in-Some.row) c.in-Some.ensures.items c.self.invariant.wide in
+    let long : length words ≡ row_words dirs s.width = c.pop.ensures.words ∙ c.self.invariant.long in
+    let cells : c.exchange_words.new.self ≡ cells_of dirs s.width words = c.exchange_words.ensures.cells ∙ ap (λ k. cells_of dirs k words) spare.1 in
+    let taken : rows_in dirs s.width (s.count + 1) (received c.pop.new.self.ring) ≡ before ++ c.exchange_words.new.self ∷ [] =
+    ap (rows_in dirs s.width (s.count + 1)) (c.pop.ensures.popped c.if-not-pop.false)
+    ∙ parts_row (cells_of dirs s.width) (row_words dirs s.width) s.count (received s.end.ring) words c.self.invariant.counted long
+    ∙ ap (λ (r : RowModel). before ++ r ∷ []) (sym cells) in
+    let held : s.spares.len ≡ c.args.self.now.held = ap (λ r. r.held) c.self.view_is in
     receiver_is
-    (same_belt s.spares.width c.take-2.new.self.width s.buffer.ring.end c.take.new.self.ring.end same c.take.ensures.ring ∙ ap (λ r. r.belt) c.self.view_is)
-    (ap (λ k. rows_in dirs k (s.count + 1) (taken_words c.take.new.self)) same ∙ taken
-    ∙ ap (λ (r : Receiver). r.taken ++ c.exchange_words.new.self ∷ []) c.self.view_is)
-    (omega (arith, spares, held))
+    (same_belt dirs s.width s.end.ring.end c.pop.new.self.ring.end c.pop.ensures.ring ∙ ap (λ r. r.belt) c.self.view_is)
+    (taken ∙ ap (λ (r : Receiver). r.taken ++ c.exchange_words.new.self ∷ []) c.self.view_is)
+    (omega (arith, c.in-Some.ensures.cases, held))

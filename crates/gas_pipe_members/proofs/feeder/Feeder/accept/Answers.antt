@@ -14,7 +14,7 @@ queue : (g : Over) (c : After-push_back_reserved g) →
     IsQueue g.G.Gas.rules c.self.inside.channel c.push_back_reserved.new.self.items c.self.inside.to_put (c.self.inside.to_take - 1)
     ((c.self.inside.next + 1) % c.height.result)
 queue g c =
-    let high : c.height.result ≡ c.self.inside.channel.height = c.height.ensures.value ∙ c.self.invariant.height in
+    let high : c.height.result ≡ c.self.inside.channel.height = c.height.ensures.value ∙ c.size.ensures.height in
     let some : c.self.inside.to_put < c.self.inside.to_take = owed g c in
     rw (c.push_back_reserved.ensures.items, c.empty_solid.ensures.emptied)
     (queue_take g.G.Gas.rules c.self.inside.channel c.self.inside.rows.items c.self.inside.to_put c.self.inside.to_take
@@ -30,8 +30,6 @@ invariant_of-self g c =
       room = omega arith;
       put_first = omega arith;
       next_within = search rules;
-      width = old.width;
-      height = old.height;
       few_rows = old.few_rows;
       stray_in_pass = search rules;
       queue = queue g c;

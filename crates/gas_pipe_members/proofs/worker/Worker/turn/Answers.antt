@@ -1,5 +1,5 @@
 use Rattle.std.proofs.Common.{rules, ◌++◌, ◌∷◌, [], subst, sym}
-use Rattle.gas_pipe_members.specs.Worker.{WorkerModel, HasDone}
+use Rattle.gas_pipe_members.specs.Worker.{WorkerModel, MayHaveDone}
 use Rattle.gas_pipe_members.proofs.Steps.{does_take, does_put, does_none}
 use Rattle.gas_pipe_members.proofs.worker.Worker.turn.Goals as goal
 
@@ -10,7 +10,7 @@ returns-in-Some-clause-put g c = λ is.
       put.0,
       c.offer.ensures.take,
       λ e took gave done.
-          subst (λ (w : WorkerModel). HasDone g.G.Gas.rules w e (took ++ []) (gave ++ c.in-Some.row ∷ [])) (sym put.1)
+          subst (λ (w : WorkerModel). MayHaveDone g.G.Gas.rules w e (took ++ []) (gave ++ c.in-Some.row ∷ [])) (sym put.1)
           (does_put g.G.Gas.rules _ _ c.in-Some.row c.in-Some.ensures.put e took gave done),
     )
 
@@ -20,7 +20,7 @@ returns-in-Some-clause-idle g c = λ is.
       c.offer.ensures.take,
       idle.0,
       λ e took gave done.
-          subst (λ (w : WorkerModel). HasDone g.G.Gas.rules w e (took ++ []) (gave ++ [])) (sym idle.2)
+          subst (λ (w : WorkerModel). MayHaveDone g.G.Gas.rules w e (took ++ []) (gave ++ [])) (sym idle.2)
           (does_none g.G.Gas.rules _ _ c.in-Some.ensures.waits e took gave done),
     )
 

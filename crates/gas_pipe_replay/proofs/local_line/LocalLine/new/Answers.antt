@@ -5,7 +5,7 @@ use Rattle.gas_rows.specs.Row.{RowModel}
 use Rattle.gas_pipe_model.specs.Pass.{RunInputModel}
 use Rattle.gas_pipe_model.specs.Inner.Input.{IsRunInput}
 use Rattle.gas_pipe_model.proofs.Generations.{begins_first}
-use Rattle.gas_pipe_members.specs.Feeder.{HasFed}
+use Rattle.gas_pipe_members.specs.Feeder.{MayHaveFed}
 use Rattle.gas_pipe_replay.specs.Inner.LocalLine.{AreUnused}
 use Rattle.gas_pipe_replay.proofs.Begun.{begun_shows}
 use Rattle.gas_pipe_replay.proofs.local_line.LocalLine.new.Goals as goal
@@ -29,5 +29,5 @@ returns g c =
           c.begin_workers.ensures.some c.in_ok-begin_workers.ensures.begun
           (subst (λ (q : RunInputModel). AreUnused q.plan.capacity c.in_ok-make_belts.field-0.items (q.plan.stages + 1)) c.input.view_is c.in_ok-make_belts.ensures.unused)
           (c.begin.ensures.channel ∙ channel)
-          (subst (λ (r : List RowModel). HasFed c.begin.new.self 1 r [] []) (rows ∙ sym (begins_first g.G.Gas.rules input)) c.begin.ensures.nothing_done);
+          (subst (λ (r : List RowModel). MayHaveFed c.begin.new.self 1 r [] []) (rows ∙ sym (begins_first g.G.Gas.rules input)) c.begin.ensures.nothing_done);
     }

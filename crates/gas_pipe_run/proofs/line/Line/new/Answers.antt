@@ -1,6 +1,6 @@
 use Rattle.std.proofs.Common.{◌≡◌, ◌+◌, arith, length, sym, subst}
 use Rattle.gas_belt.specs.Belt.{Belt}
-use Rattle.gas_pipe_run.specs.Inner.Links.{Takes}
+use Rattle.gas_pipe_run.specs.Inner.Links.{IsJobOf}
 use Rattle.gas_pipe_run.proofs.Chains.{linked_snoc, last_belt_snoc}
 use Rattle.gas_pipe_run.proofs.line.Line.new.Goals as goal
 
@@ -13,10 +13,11 @@ loop-k-preserved g c =
     let input = c.args.input.now in
     let job = c.in_ok-job.ensures in
     let len : 0 + length jobs ≡ c.loop-k.k = grind arith in
-    let takes = subst (λ (from : Belt). Takes input c.loop-k.k from c.in_ok-job.job) (sym was.end) job.takes in
+    let takes = subst (λ (from : Belt). IsJobOf input c.loop-k.k from c.in_ok-job.job) (sym was.end) job.takes in
     record {
       leads = rw items (linked_snoc input 0 c.loop-k.k first jobs _ len was.leads takes);
       end = rw (items, last_belt_snoc first jobs) job.next;
       count = grind arith;
       nothing_taken = job.nothing_taken;
+      belt = job.belt;
     }

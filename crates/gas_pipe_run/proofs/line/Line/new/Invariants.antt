@@ -1,5 +1,5 @@
 use Rattle.std.proofs.Common.{◌≡◌, [], length}
-use Rattle.gas_pipe_run.specs.Inner.Links.{Linked, last_belt}
+use Rattle.gas_pipe_run.specs.Inner.Links.{IsBeltOf, Linked, last_belt}
 use Rattle.gas_pipe_run.proofs.line.Line.new.Given as goal
 
 abbrev pub invariant-loop-k : goal.invariant-loop-k
@@ -8,4 +8,5 @@ invariant-loop-k g l = record {
   end : last_belt l.initial.last.belt l.jobs.items ≡ l.last.belt;
   count : length l.jobs.items ≡ l.k;
   nothing_taken : l.last.taken ≡ [];
+  belt : IsBeltOf l.fn.input l.last.belt;
 }

@@ -1,0 +1,84 @@
+//! The places of a belt in a running line.
+
+use gas_geom::fhp1::Fhp1;
+use gas_geom::size::Size;
+use gas_pipe::gate::Gate;
+use gas_pipe::plan::Plan;
+use gas_pipe::run;
+use gas_rows::channel::Channel;
+use gas_rows::chirality::Chirality;
+use gas_rows::lattice::Lattice;
+use std::alloc::Global;
+use std::process::Abort;
+use std::sync::Wait;
+use std::sync::atomic::{AtomicU64, Ordering};
+use std::test::Fail;
+use std::thread;
+use std::thread::Threads;
+
+// A gate in which the second worker looks, before it takes its first row, whether the first one
+// enters its second pass: it does only after it has put all rows of its first pass on the belt
+// between them.
+#[derive(Drop)]
+struct SecondLooks {
+    looks: u32,
+    first_entered: AtomicU64,
+    second_entered: AtomicU64,
+    seen: AtomicU64,
+}
+
+impl SecondLooks {
+    fn new(looks: u32) -> Self {
+        SecondLooks {
+            looks,
+            first_entered: AtomicU64::new(0),
+            second_entered: AtomicU64::new(0),
+            seen: AtomicU64::new(0),
+        }
+    }
+
+    fn look(&self) -> u64 {
+        for _ in 0..self.looks {
+            if self.first_entered.load(Ordering::SeqCst) > 1 {
+                return 1;
+            }
+            thread::yield_now();
+        }
+        0
+    }
+}
+
+impl Gate for SecondLooks {
+    fn enter(&self, who: u32) {
+        if who == 1 {
+            self.first_entered.fetch_add(1, Ordering::SeqCst);
+        } else if self.second_entered.fetch_add(1, Ordering::SeqCst) == 0 {
+            self.seen.store(self.look(), Ordering::SeqCst);
+        }
+    }
+
+    fn leave(&self, _who: u32) {}
+}
+
+// Whether all eight rows of a lattice find a place on a belt of a run while none is taken from it.
+fn eight_rows_have_places<R: Abort + Threads + Wait + Sync>(
+    rt: &R,
+    alloc: Global,
+    capacity: u32,
+    looks: u32,
+) -> Result<bool, Fail> {
+    let size = Size::new(4, 8).ok_or("a size")?;
+    let lattice = Lattice::<Fhp1>::blank(alloc, Channel::free(alloc, size)?)?;
+    let gate = SecondLooks::new(looks);
+    let plan = Plan::new(2, capacity, 4)?;
+    let run = run(rt, alloc, &lattice, Chirality::Left, 0, plan, &gate)?;
+    assert!(rt; run.passes() == 2);
+    Ok(gate.seen.load(Ordering::SeqCst) == 1)
+}
+
+#[test]
+fn a_belt_of_a_run_has_the_places_of_its_plan(rt: HostRuntime) -> Result<(), Fail> {
+    assert!(rt; eight_rows_have_places(&rt, rt.alloc(), 8, 10_000_000)?);
+    assert!(rt; !eight_rows_have_places(&rt, rt.alloc(), 7, 100_000)?);
+    Ok(())
+}
