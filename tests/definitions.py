@@ -153,7 +153,7 @@ def told_in(document, crates):
         names = re.findall(r"`([\w'-]+)`", section)
         found = {(crate, name) for crate in crates if re.search(rf"\b{crate}\b", section) for name in names}
         told |= found
-        kept |= found if section.startswith("Given and kept") else set()
+        kept |= found if section.startswith("Representation invariants") else set()
     return told, kept
 
 

@@ -1,29 +1,28 @@
 //! The texts of the help: what each command does, how it is called, and what else there is to know.
 
 /// The program's version, and the kit by which it is proved, whatever the letter of its release.
-pub(crate) const VERSION: &str = "0.1.0 (rattle-kit-13 logic dac8208d650f15bf)";
+pub(crate) const VERSION: &str = "1.0.0 (rattle-kit-13 logic dac8208d650f15bf)";
 
 pub(crate) const ABOUT: &str = "\
-A lattice gas in a channel: particles move from cell to cell, collide, and bounce back from walls
-and obstacles. The scene comes on standard input, the answer goes to standard output.";
+Compute a lattice gas in a channel: particles move from cell to cell, collide, and bounce back from
+walls and obstacles. The scene comes on standard input, the answer goes to standard output.";
 
 pub(crate) const NOTES: &str = "\
-A scene is a TOML text that gives the gas, the shape of the channel and the particles. The channel
-is periodic in x: its last column is followed by its first. Its top and bottom are no-slip walls:
-walls and solid cells send a particle back where it came from (bounce-back). On the triangular
-lattice odd rows lie half a cell to the east. With `version = 2` a scene may give its `generation`
-and have sides up to 65536 cells, else up to 4096. `fhpgas COMMAND --help` explains the options of
-a command.";
+A scene is a TOML text with the gas, the shape of the channel and the particles. The channel is
+periodic in x. Its top and bottom are walls; walls and solid cells send a particle back where it
+came from (bounce-back, no-slip). On the triangular lattice odd rows lie half a cell to the east.
+With `version = 2` a scene may have a `generation`, and sides up to 65536 cells instead of 4096.
+`fhpgas COMMAND --help` explains the options of a command.";
 
 pub(crate) const USAGE: &str = "fhpgas COMMAND [OPTIONS] < SCENE";
 
-pub(crate) const ABOUT_CHECK: &str = "Read the scene and print a line that tells what it is";
+pub(crate) const ABOUT_CHECK: &str = "Check the scene and print a one-line summary";
 
 pub(crate) const USAGE_CHECK: &str = "fhpgas check < SCENE";
 
 pub(crate) const NOTES_CHECK: &str = "\
-The line gives the gas, the width and the height in cells, and the numbers of solid cells and
-of particles.
+The line has the gas, the width and the height in cells, and the numbers of solid cells and of
+particles.
 
 Example: fhpgas check < scene.toml";
 
@@ -32,13 +31,13 @@ pub(crate) const ABOUT_RUN: &str = "Compute generations of the scene and print t
 pub(crate) const USAGE_RUN: &str = "fhpgas run --generations G [--stages N] [--capacity C] < SCENE";
 
 pub(crate) const NOTES_RUN: &str = "\
-A line of N workers (a pipeline) computes the generations. Each worker has a thread of its own and
-computes one generation, row by row, from the rows of the one before it. What is printed does not
-depend on N and C.
+A pipeline of N workers computes the generations. Each worker has a thread of its own and computes
+one generation, row by row, from the rows of the worker before it. The output does not depend on N
+and C.
 
-The first line gives the generation reached and the number of particles. Then come the rows
-of the channel from the top, two characters a cell: `..` is empty, `##` is solid, and other
-cells show the set of directions of their particles in hexadecimal, bit i for direction i.
+The first line has the generation reached and the number of particles. Then come the rows of the
+channel from the top, two characters per cell: `..` is empty, `##` is solid, and other cells show
+the set of directions of their particles in hexadecimal, bit i for direction i.
 
 Example: fhpgas run --generations 100 < scene.toml";
 
@@ -50,11 +49,11 @@ pub(crate) const USAGE_COARSE: &str =
      < SCENE";
 
 pub(crate) const NOTES_COARSE: &str = "\
-The lattice is divided into blocks of BW columns and BH rows, from the top left; those at the right
-and at the bottom are smaller where the lattice ends. After a header comes a line for each block, by
-rows of blocks from the top, and from the left in each. Its columns are:
-  col        the block's place from the left, from 0
-  row        the block's place from the top, from 0
+The lattice is divided into blocks of BW columns and BH rows, from the top left. Blocks at the right
+and at the bottom may be smaller. After a header comes one line per block, by rows of blocks from
+the top, each from the left. Its columns are:
+  col        the block's column among the blocks, from 0
+  row        the block's row among the blocks, from 0
   fluid      the number of its cells that are not solid
   particles  the number of its particles
   px, py     the momentum of its particles, eastwards and northwards: in units of 1/2 and of
@@ -63,20 +62,20 @@ rows of blocks from the top, and from the left in each. Its columns are:
 Example: fhpgas coarse --generations 100 --block-width 16 --block-height 16 < scene.toml";
 
 pub(crate) const ABOUT_REPLAY: &str =
-    "Step the line of workers on one thread by a schedule, and print where its belts stand";
+    "Step the pipeline on one thread by a schedule, and print the state of its belts";
 
 pub(crate) const USAGE_REPLAY: &str =
     "fhpgas replay --generations G [--stages N] [--capacity C] [TURN]... < SCENE";
 
 pub(crate) const NOTES_REPLAY: &str = "\
-The TURNs are a schedule: each gives one member of the line of workers (a pipeline) a step. 0 is
-the feeder, which holds the lattice's rows, and k is worker k, which takes rows from the belt before
-it and puts those of the next generation on the belt behind it; a number above N is ignored. A step
-puts the next row, if one is owed and the belt has room; else it takes a row from the belt before,
-if there is one (a worker only where it owes none); else it does nothing.
+The TURNs are a schedule of the pipeline: each is a step of one member. 0 is the feeder, which has
+the lattice's rows. k is worker k, which takes rows from the belt before it and puts the rows of the
+next generation on the belt after it. A number above N is ignored. A step puts the next row, if the
+member has one and the belt has room. Otherwise it takes a row from the belt before, if there is one
+(a worker only if it has put all its rows). Otherwise it does nothing.
 
-The first line is `done` where all rows have come back to the feeder, else `not done`. Then comes a
-line for each belt, from 0, with the numbers of rows put on it and taken from it, and, where it is
-done, the cells as `run` prints them. G generations need at least G workers.
+The first line is `done` if all rows have come back to the feeder, else `not done`. Then comes one
+line per belt, from 0, with the numbers of rows put on it and taken from it. If the pass is done, the
+cells follow as `run` prints them. G generations need at least G workers.
 
 Example: fhpgas replay --generations 1 --stages 1 0 1 0 1 < scene.toml";
