@@ -75,7 +75,7 @@ member has one and the belt has room. Otherwise it takes a row from the belt bef
 (a worker only if it has put all its rows). Otherwise it does nothing.
 
 The first line is `done` if all rows have come back to the feeder, else `not done`. Then comes one
-line per belt, from 0, with the numbers of rows put on it and taken from it. If the pass is done, the
-cells follow as `run` prints them. G generations need at least G workers.
+line per belt, from 0, with the numbers of rows put on it and taken from it. If the pass is done,
+the cells follow as `run` prints them. G generations need at least G workers.
 
 Example: fhpgas replay --generations 1 --stages 1 0 1 0 1 < scene.toml";
