@@ -1,6 +1,5 @@
 -- What the words of a plane say of its cells, before and after writes of words.
-use Rattle.std.proofs.Common.{◌≡◌, ◌≢◌, ℕ, ◌+◌, ◌-◌, ◌*◌, ◌/◌, ◌%◌, ◌^◌, ◌<◌, ◌≤◌, Bool, true, false, ◌&&◌, ◌||◌, ◌⊎◌, inl, inr, take, drop, length-drop, if◌then◌else◌, List, length, get_or, set, replicate, refl, sym, ap, ap₂, ◌∙◌, arith, ⊎_elim, eq-eqb, ne_eqb, get_or-set_same, get_or-set_other}
-use mathlib.Core.Bool.{and-false, or-false}
+use Rattle.std.proofs.Common.{◌≡◌, ◌≢◌, ℕ, ◌+◌, ◌-◌, ◌*◌, ◌/◌, ◌%◌, ◌<◌, ◌≤◌, Bool, true, false, ◌&&◌, ◌⊎◌, inl, inr, take, drop, length-drop, if◌then◌else◌, List, length, get_or, set, replicate, refl, sym, ap, ap₂, ◌∙◌, arith, ⊎_elim, eq-eqb, ne_eqb, get_or-set_same, get_or-set_other}
 use Rattle.std.specs.Prelude.{◌==◌, nat_lt, nat_le}
 use Rattle.std.specs.List.{All}
 use Rattle.std.proofs.lemmas.List.Elements.{All-get_or}
@@ -8,10 +7,7 @@ use Rattle.std.proofs.lemmas.Bool.{cases_eq, cases_lt}
 use Rattle.std.proofs.lemmas.Bool.Decides.{nat_tests}
 use Rattle.std.proofs.lemmas.List.{get_or_past, get_or_default, get_or-replicate, length-replicate, get_or-take, get_or-drop, take_all}
 use Rattle.gas_geom.specs.Gas.{holds}
-use Rattle.std.specs.Int.Bits.{bit_or}
-use mir.Val.{bool_byte}
-use Rattle.gas_geom.proofs.Holds.{holds-zero, holds-or}
-use Rattle.gas_bits.proofs.Bits.{holds-set}
+use Rattle.gas_geom.proofs.Holds.{holds-zero}
 use Rattle.gas_bits.specs.Words.{words_in, bit}
 
 -- ---- words
