@@ -10,10 +10,9 @@
 # below it. To edit a crate, use rt in its folder.
 SHELL := /bin/bash
 .SHELLFLAGS := -O extglob -euo pipefail -c
-.ONESHELL:
 .DEFAULT_GOAL := fhpgas
+.ONESHELL:
 CPU := $(if $(filter archive,$(MAKECMDGOALS)),x86-64-v2,$(shell tools/level))
-$(if $(filter archive,$(MAKECMDGOALS)),$(if $(FILE),,$(error usage: make archive FILE=NAME.tar.gz)))
 kit := $(patsubst %/START-HERE.md,%,$(shell rt doc 2> /dev/null))
 processors := $(shell nproc)
 
@@ -30,10 +29,9 @@ jobs = $(if $(filter gas_tool_cli gas_scene,$@),1,$(processors))
 
 # From crates.txt, in which lower crates stand first: uses_NAME is what the line of a crate names, own_NAME what of that is built here,
 # and below_NAME all built here that it stands on.
-comma := ,
-lines := $(shell sed -n 's/ /,/g; /^[a-z]/p' crates.txt)
+lines := $(shell sed -n 's/ /|/g; /^[a-z]/p' crates.txt)
 names := $(foreach l,$(lines),$(firstword $(subst :, ,$l)))
-$(foreach l,$(lines),$(eval uses_$(subst :,:=,$(subst $(comma), ,$l))))
+$(foreach l,$(lines),$(eval uses_$(subst :,:=,$(subst |, ,$l))))
 $(foreach c,$(names),$(eval own_$c := $(filter $(names),$(uses_$c))))
 $(foreach c,$(names),$(eval below_$c := $(sort $(own_$c) $(foreach d,$(own_$c),$(below_$d)))))
 $(foreach c,$(names),$(eval $c: $(filter $(below_$c),$(order)) $(filter-out $(order),$(own_$c))))
@@ -49,7 +47,7 @@ program = src/main.rt --cpu $(CPU) --toolchain $(kit)/toolchain -o out/new/$@.o
 link = $(kit)/bin/rattle-link --target x86_64-unknown-linux-gnu --toolchain $(kit)/toolchain -o out/new/$@ out/new/$@.o \
     $(kit)/c/libos_c.a $(kit)/c/liblibc_c.a >> out/build.log 2>&1 && mv out/new/$@ out/$@ && rm -r out/new && echo $(CPU) > out/level
 
-# Where a crate is made, what stands for all that is made, and by what it was made. rt removes the last with the library.
+# Where a crate is made, what stands for all that is made, and the sums that it was made by; rt removes these with the library.
 new = $(if $(is_program),out/new,out/rlib)
 made = $(if $(is_program),out/$@,out/rlib/$@.rlib/format)
 sums = $(if $(is_program),out/sums,out/rlib/sums)
@@ -97,6 +95,6 @@ $(names):
 
 quick: ; @tests/quick.sh
 test: ; @tests/all.sh
-archive: fhpgas ; @tools/archive.sh "$(FILE)"
+archive: $(if $(FILE),fhpgas) ; @tools/archive.sh "$(FILE)"
 clean: ; rm -rf crates/*/out
 help: ; @sed -n 's/^#   //p' Makefile
