@@ -33,10 +33,6 @@ C_PROGRAMS = ["bands", "bytes"]
 SEED = "1"
 
 
-def numbers(text):
-    return [int(word) for word in text.split(",")]
-
-
 def build(room):
     """Builds all that is measured, the C programs into a folder. Returns the level that all are built for."""
     subprocess.run(["make", "-C", ROOT, "fhpgas", "probes"], stdout=sys.stderr, check=True)
@@ -146,6 +142,7 @@ class Bench:
 def main():
     words = argparse.ArgumentParser(description=__doc__, formatter_class=argparse.RawDescriptionHelpFormatter)
     words.add_argument("--rounds", type=int, default=3)
+    numbers = lambda text: [int(word) for word in text.split(",")]
     words.add_argument("--stages", type=numbers, default=[1, 2, 3, 4, 8, 16, 32], metavar="N,N..")
     words.add_argument("--capacities", type=numbers, default=[2, 32, 128], metavar="C,C..")
     words.add_argument("lattices", nargs="*", default=LATTICES, metavar="WIDTHxHEIGHTxGENERATIONS[:left|seeded]")

@@ -47,8 +47,6 @@ launch() {
     [ $? = 3 ] && [ "$(cat "$room/printed")" = $'words two words x\na scene' ]
 }
 
-is_old() { ! tools/is_built; }
-
 quietly() { launch && [ ! -s "$room/told" ]; }
 
 # fails: ./fhpgas ends with status 70, prints nothing, and tells of the log
@@ -101,7 +99,7 @@ while [ ! -e "$room/begun" ]; do sleep 0.1; done
 echo 'edited' >> crates/low/src/lib.rt
 wait
 rm crates/fhpgas/slow
-try 'a source that is edited during a build is newer' is_old
+try 'a source that is edited during a build is newer' bash -c '! tools/is_built'
 try 'and is built next' proves 'low' launch
 echo 'edited' >> crates/high/src/lib.rt
 : > "$room/proved"
