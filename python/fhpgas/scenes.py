@@ -70,7 +70,8 @@ def scene_of(states, gas: str, solid=None, chirality: str = "seeded", seed: int 
 
 def map_of(keys: dict, rows: Iterable[bytes]) -> str:
     """A map of these keys and these rows of bytes, as in `Cells`."""
-    return text_of(keys | {"cells": Cells(0, 0, tuple(rows)).lines()})
+    lines = "".join(f'    "{line}",\n' for line in Cells(0, 0, tuple(rows)).lines())
+    return text_of(keys) + f"cells = [\n{lines}]\n"
 
 
 def rows_of(states, gas: str, solid=None) -> list[bytes]:
