@@ -8,7 +8,7 @@ import sys
 import links
 
 MOST_WORDS = 40
-SHORT = []  # becomes ["README.md", "docs/GUIDE.md", "docs/PHYSICS.md", "docs/EXPERIMENTS.md"]
+SHORT = ["README.md", "docs/GUIDE.md", "docs/PHYSICS.md", "docs/EXPERIMENTS.md"]
 
 
 def sentences(text):
