@@ -61,10 +61,10 @@ pub fn run<G: Gas + Send, H: Gate + Sync, R: Threads + Wait + Sync>(
     ensures taken { IfOk result (λ r. map (λ b. b.taken) r.belts ≡ carried_by_belts G.rules
         (record { chirality = chirality; first = first; lattice = lattice.now; plan = plan })) }
     ensures rows_return { IfOk result (λ r.
-        (first last : CarriedModel) (between : List CarriedModel) →
-        r.belts ≡ first ∷ (between ++ last ∷ []) →
-        take ((r.passes - 1) * lattice.now.channel.height) last.taken
-        ≡ drop lattice.now.channel.height first.put) }
+        (first_belt last_belt : CarriedModel) (between : List CarriedModel) →
+        r.belts ≡ first_belt ∷ (between ++ last_belt ∷ []) →
+        take ((r.passes - 1) * lattice.now.channel.height) last_belt.taken
+        ≡ drop lattice.now.channel.height first_belt.put) }
     ensures belts_made { 0 < plan.generations → IfOk result (λ r. length r.belts ≡ r.stages + 1) }
     ensures lattice { IfOk result (λ r.
         r.lattice ≡ lattice_after G.rules chirality first lattice.now plan.generations) }
