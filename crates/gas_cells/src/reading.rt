@@ -47,8 +47,8 @@ fn is_state(first: u8, second: u8, states: u16) -> bool
     (high < 16) & (low < 16) & (u16::from(high) * 16 + u16::from(low) < states)
 }
 
-// Whether two characters stand for a cell. Each test is made, with `&` and `|`, so that the
-// compiler can take many cells at a time: of random cells a processor guesses branches wrong.
+// Whether two characters stand for a cell. Without branches (`&`, `|`), so that the loop over cells
+// vectorises.
 fn is_cell(first: u8, second: u8, states: u16) -> bool
     ensures { result ≡ is_some (cell_of states first second) }
 {
