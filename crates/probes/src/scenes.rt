@@ -1,40 +1,47 @@
-//! Calls that read: a scene, an input and the words of a command line.
+//! Calls that read, and one that writes a scene.
 
-use crate::lattices::is_with_obstacle;
-use crate::outcome::Outcome;
-use gas_scene::catalog::AnyLattice;
+use crate::probe::{Made, Probe, drifting_lattice, has_drifted_to, lent};
+use crate::runs::SCENE;
+use gas_rows::chirality::Chirality;
+use gas_scene::checkpoint::checkpoint;
 use gas_scene::error::SceneError;
 use gas_scene::scene::read;
+use gas_scene::{AnyLattice, with_lattice};
 use gas_tool::faults::{InputFault, UsageFault};
 use gas_tool::input::slurp;
 use gas_tool::request::Request;
 use gas_tool::words::parse_words;
-use std::alloc::Global;
+use std::alloc::{AllocError, Global};
 use std::io;
 use std::io::Read;
 
-/// The lattice with an obstacle as an area.
-pub const AREA: &[u8] =
-    b"gas = \"fhp1\"\nchirality = \"left\"\nwidth = 7\nheight = 3\nsolid = [[3, 1, 1, 1]]\n\
-particles = [[0, 1, 9], [6, 2, 2]]\n";
+// A solid cell at (2, 1), an empty one at (0, 0), and all else full.
+const AREA: &[u8] = b"gas = \"fhp1\"\nwidth = 5\nheight = 4\nsolid = [[2, 1, 1, 1]]\nrate = 1000\n\
+particles = [[0, 0, 9], [0, 0, 0]]\n";
 
-/// The same as a map.
-pub const MAP: &[u8] = b"gas = \"fhp1\"\nchirality = \"left\"\n\
-cells = [\"..............\", \"09....##......\", \"............02\"]\n";
-
-/// Reads a scene of that lattice.
-pub fn scene(alloc: Global, text: &[u8]) -> Outcome {
+// Reads a scene with so many particles.
+fn read_scene(alloc: Global, text: &[u8], particles: u64) -> Made {
     match read(alloc, text) {
-        Ok(scene) => match scene.lattice() {
-            AnyLattice::Fhp1(lattice) => Outcome::of_answer(is_with_obstacle(lattice)),
-            _ => Outcome::Wrong,
-        },
-        Err(SceneError::Memory) => Outcome::Refused,
-        Err(_) => Outcome::Wrong,
+        Ok(scene) => Ok(with_lattice!(scene.lattice(), lattice => lattice.count()) == particles),
+        Err(SceneError::Memory) => Err(AllocError),
+        Err(_) => Ok(false),
     }
 }
 
-/// Gives these bytes, three at a time.
+fn write_and_read(alloc: Global) -> Made {
+    let lattice = AnyLattice::Fhp1(drifting_lattice(alloc)?);
+    let made = match checkpoint(alloc, &lattice, Chirality::Left, 7) {
+        Ok(text) => read_scene(alloc, text.as_bytes(), 1),
+        Err(SceneError::Memory) => Err(AllocError),
+        Err(_) => Ok(false),
+    };
+    lent(
+        made,
+        with_lattice!(&lattice, same => has_drifted_to(same, 0)),
+    )
+}
+
+// Gives these bytes, three at a time.
 #[derive(Drop)]
 struct Bytes<'a> {
     left: &'a [u8],
@@ -50,35 +57,26 @@ impl Read for Bytes<'_> {
     }
 }
 
-pub fn input(alloc: Global) -> Outcome {
-    match slurp(alloc, &mut Bytes { left: MAP }) {
-        Ok(text) => Outcome::of_answer(text.as_slice() == MAP),
-        Err(InputFault::Memory) => Outcome::Refused,
-        Err(_) => Outcome::Wrong,
+fn read_input(alloc: Global) -> Made {
+    match slurp(alloc, &mut Bytes { left: SCENE }) {
+        Ok(text) => Ok(text.as_slice() == SCENE),
+        Err(InputFault::Memory) => Err(AllocError),
+        Err(_) => Ok(false),
     }
 }
 
-pub fn words(alloc: Global) -> Outcome {
-    let words = [
-        "fhpgas",
-        "replay",
-        "--generations",
-        "1",
-        "--stages",
-        "2",
-        "0",
-        "1",
-    ];
-    match parse_words(alloc, &words) {
-        Ok(
-            Request::Replay {
-                stages: 2,
-                capacity: 2,
-                generations: 1,
-                turns,
-            },
-        ) => Outcome::of_answer(turns.as_slice() == [0, 1].as_slice()),
-        Err(UsageFault::Memory) => Outcome::Refused,
-        _ => Outcome::Wrong,
+fn read_words(alloc: Global) -> Made {
+    match parse_words(alloc, &["fhpgas", "run", "--generations", "1"]) {
+        Ok(Request::Run { generations: 1, .. }) => Ok(true),
+        Err(UsageFault::Memory) => Err(AllocError),
+        _ => Ok(false),
     }
+}
+
+pub fn make(probe: &mut Probe) {
+    probe.call("read_map", |alloc| read_scene(alloc, SCENE, 1));
+    probe.call("read_area", |alloc| read_scene(alloc, AREA, 108));
+    probe.call("checkpoint", write_and_read);
+    probe.call("slurp", read_input);
+    probe.call("parse_words", read_words);
 }
