@@ -11,6 +11,8 @@ from collections.abc import Iterable, Iterator
 
 STATES = {"fhp1": 64, "hpp": 16, "fhp-rest": 128}
 CHIRALITIES = ("seeded", "left", "right")
+# What gases are called in print, in small letters and without hyphens; None if there is no such gas here.
+PUBLISHED = {"fhpi": "fhp1", "fhp2": "fhp-rest", "fhpii": "fhp-rest", "fhp3": None, "fhpiii": None, "hpp": "hpp"}
 MOST_SIDE = {1: 4096, 2: 65536}
 INTEGERS = ("version", "generation", "seed", "width", "height", "rate")
 LISTS = {"solid": (4, "[x, y, w, h]"), "particles": (3, "[x, y, state]")}
@@ -133,13 +135,21 @@ def mend(table: dict, key: str | None = None) -> None:
 
 
 def closest(word: str, known: Iterable[str]) -> str | None:
-    """The known word that is most like this one, or None."""
+    """The known word that is most like this one, or None. A published name of a gas is the gas that it names."""
+    if known is STATES and plain(word) in PUBLISHED:
+        return PUBLISHED[plain(word)]
     return next(iter(difflib.get_close_matches(word.lower(), known, 1, 0.5)), None)
+
+
+def plain(word: str) -> str:
+    return re.sub(r"[-_\s]", "", word.lower())
 
 
 def nearest(word: str, known: Iterable[str]) -> str:
     """A hint at the known word that is most like this one, or at all if none is."""
     found = closest(word, known)
+    if known is STATES and plain(word) in PUBLISHED:
+        return f"its name here is `{found}`" if found else "there is none here, only " + ", ".join(f"`{name}`" for name in known)
     return f"the nearest is `{found}`" if found else "there are " + ", ".join(f"`{name}`" for name in known)
 
 
