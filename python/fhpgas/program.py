@@ -60,7 +60,8 @@ def call(scene: str, *words) -> str:
         call(scene, "check")
     done = subprocess.run([program_path(), *map(str, words)], input=text, stdout=subprocess.PIPE, stderr=None if shows else subprocess.PIPE)
     if done.returncode:
-        raise Fault((done.stderr or b"").decode(errors="replace").split("\n")[0] or f"fhpgas ended with status {done.returncode}")
+        line = (done.stderr or b"").decode(errors="replace").split("\n")[0] or f"fhpgas ended with status {done.returncode}"
+        raise Fault(line + " (`explain` says where)" * line.startswith("scene: "))
     return done.stdout.decode()
 
 
