@@ -28,11 +28,12 @@ def add_words(reader: argparse.ArgumentParser) -> None:
     common.add_argument("--seed", type=int, help="of the scene, and of all that is drawn at random here; default 0")
     common.add_argument("--width", type=int, default=64, metavar="COLUMNS", help="1 to 65536; default 64")
     common.add_argument("--height", type=int, default=24, metavar="ROWS", help="1 to 65536; default 24")
-    common.add_argument("--rate", type=int, default=200, help="the filling of the channel, 0 to 1000; default 200")
+    common.add_argument("--rate", type=int, default=200, help="the filling of the channel in thousandths, 0 to 1000; default 200")
     common.add_argument("--patch", type=int, nargs=5, action="append", default=[], metavar=("X", "Y", "W", "H", "RATE"),
                         help="fill these columns and rows at another rate; may be repeated")
     common.add_argument("--wind", type=int, nargs="+", default=[0], metavar="SPEED",
-                        help="the particles' mean velocity eastwards and, if a second number is given, northwards; default 0")
+                        help="the particles' mean velocity in thousandths of a cell per generation: eastwards and, if a second number is"
+                        " given, northwards; default 0")
     common.add_argument("--closed", action="store_true", help="make the first column solid, so that nothing passes the ends")
     kinds = reader.add_subparsers(dest="shape", required=True, metavar="SHAPE")
     blocks = kinds.add_parser("blocks", parents=[common], help="rectangles")

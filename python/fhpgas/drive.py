@@ -36,7 +36,7 @@ def driven(scene: str, generations: int, every: int = 10, *, force: float | None
     fluid cell and generation; or as many particles are turned as bring the mean velocity to `flow`, and `Point.force` is the force that
     this takes. The plan is as in `run`."""
     if (force is None) == (flow is None):
-        raise Fault("a flow is driven either by a force or towards a mean flow: force=.. or flow=..")
+        raise Fault("a flow is driven either by a force or towards a mean flow: force=.. or flow=.. (--force, --flow)")
     if every < 1 or generations < 0 or generations % every:
         raise Fault(f"{generations} generations are not a multiple of {every}, those from one point to the next")
     keys, cells = keys_of(scene), run(scene, 0, **plan)
