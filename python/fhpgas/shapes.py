@@ -86,14 +86,16 @@ class Obstacles:
         return self
 
     def picture(self, path, pixel: float = 1.0, column: int = 0, row: int = 0) -> "Obstacles":
-        """The dark pixels of a PBM or PNG picture, each `pixel` cells' widths wide and high; its upper left corner is at a cell."""
+        """The dark pixels of a PBM or PNG picture, each `pixel` cells' widths wide and high; its upper left corner is at a cell. A picture
+        that leaves the channel raises a Fault."""
         mask = read_mask(path)
-        if pixel <= 0:
+        if not 0 < pixel < math.inf:
             raise Fault(f"a pixel is {pixel} cells wide, and must be wider than 0")
-        for y in range(max(0, row), len(self)):
+        wide = math.ceil(pixel * max(map(len, mask), default=0) - NEARLY)
+        tall = math.ceil(pixel * len(mask) / self.gas.row_distance - 0.5 - NEARLY)
+        check_inside("the picture", (column, row, wide, tall), self.columns, len(self))
+        for y in range(row, row + tall):
             line = int((y - row + 0.5) * self.gas.row_distance / pixel)
-            if line >= len(mask):
-                break
             for first, last in runs([x for x, dark in enumerate(mask[line]) if dark]):
                 self._span(y, column + first * pixel, column + last * pixel - 2 * NEARLY)
         return self
