@@ -47,6 +47,9 @@ AREA = 'gas = "fhp1"\nseed = 7\nwidth = 66\nheight = 9\nrate = 300\nsolid = [[20
 DISC = fhpgas.Obstacles(64, 47).disc(20, 20, 8)
 EXPLAINED = [
     ('gas = "fhp1"\ncells = ["01"\n"01"]\n', "scene: not TOML", "line 3, column 1: Unclosed array"),
+    *((f'gas = "{name}"\ncells = [".."]\n', "scene: out of range", f'`gas` is "{name}"; its name here is `{gas}`') for name, gas in
+      (("FHP-II", "fhp-rest"), ("fhp2", "fhp-rest"), ("FHP2", "fhp-rest"), ("fhp-2", "fhp-rest"), ("FHP-I", "fhp1"), ("HPP", "hpp"))),
+    ('gas = "FHP-III"\ncells = [".."]\n', "scene: out of range", "there is none here, only `fhp1`"),
     ("gas = \u201chpp\u201d\n", "scene: not TOML", "line 1, column 7: Invalid value: the quotes are curly"),
     ('gas = "hpp"\nparticles = [[0, 0, 3f]]\n', "scene: not TOML", "a hexadecimal state is 0x3f"),
     (HEAD_ON, "scene: not TOML", "the text is what `run` prints"),
@@ -187,7 +190,7 @@ class Package(unittest.TestCase):
         cells = fhpgas.run(AREA, 3)
         for part, function, *words in (
                 ("a scene is passed as its text", fhpgas.run, pathlib.Path("a.toml"), 1), ("a scene is passed as its text", fhpgas.run, AREA.encode(), 1),
-                ("read_scene('a.toml')", fhpgas.run, "a.toml", 1), ("scene: unknown key", fhpgas.run, AREA + "colour = 1", 1),
+                ("read_scene('a.toml')", fhpgas.run, "a.toml", 1), ("scene: unknown key (`explain` says where)", fhpgas.run, AREA + "colour = 1", 1),
                 ("plan: generations must be 0 to 1000000", fhpgas.run, AREA, 1_000_001), ("no/such: No such file", fhpgas.read_scene, "no/such"),
                 ("cells are passed as", fhpgas.resume, AREA, AREA), ("of its own generation, 0", fhpgas.resume, AREA, dataclasses.replace(cells, generation=0)),
                 ("another size", fhpgas.resume, AREA.replace("66", "64"), cells), ("other cells are solid", fhpgas.resume, AREA.replace("20,", "21,"), cells),
@@ -289,6 +292,8 @@ class Package(unittest.TestCase):
         drawn = fhpgas.Obstacles(64, 40).picture(self.room / "letter", 6, 10, 4)
         self.assertEqual([drawn[y][x] for y, x in ((5, 12), (30, 12), (25, 24), (5, 30), (3, 12), (15, 20))], [1, 1, 1, 0, 0, 0])
         self.assertAlmostEqual(drawn.solid, sum(map(sum, dark)) * 36 / (math.sqrt(3) / 2), delta=40)
+        for column, row in ((41, 4), (10, 6), (-1, 4), (10, -1)):
+            self.fault("the picture leaves the channel of 64 x 40 cells", fhpgas.Obstacles(64, 40).picture, self.room / "letter", 6, column, row)
         for data, part in ((b"GIF", "neither PBM nor PNG"), (kinds[2][:50], "damaged"), (b"P1\n4", "damaged")):
             (self.room / "letter").write_bytes(data)
             self.fault(part, pictures.read_mask, self.room / "letter")
@@ -384,6 +389,11 @@ class Package(unittest.TestCase):
         self.assertEqual([kind for kind, _ in chunks_of((self.room / "b.png").read_bytes())], [b"IHDR", b"acTL", b"fcTL", b"IDAT", b"fcTL", b"fdAT", b"IEND"])
         fhpgas.svg(self.room / "c.svg", fhpgas.read_cells(HEAD_ON, "fhp1"))
         self.assertEqual([(self.room / "c.svg").read_text().count(part) for part in ("<line", 'r="16"', 'r="2"')], [2, 1, 11])
+        holed = tables.Table([[72, 36, 35, 0], [72] * 4, [72] * 4], [[9, 9, 9, 0], [9, 0, 9, 9], [9] * 4], *[[[1] * 4] * 3] * 2, "fhp1", (8, 9))
+        for what in pictures.KINDS:
+            grey = [[[number is None for number in row] for row in pictures.field(what, holed, times)] for times in (0, 1, 3)]
+            self.assertEqual(grey, [[[False, False, True, True], [False, what != "density", False, False], [False] * 4]] * 3, what)
+            self.assertNotEqual(pictures.field(what, holed), pictures.field(what, holed, 1))
         self.fault("there is no picture of 'heat'", fhpgas.picture, self.room / "d.png", "heat", table)
         self.fault("No such file", fhpgas.picture, self.room / "no/d.png", "speed", table)
 
@@ -426,9 +436,9 @@ class Package(unittest.TestCase):
             done = self.command(*words.split(), "--help")
             self.assertTrue(done.returncode == 0 and done.stdout and not done.stderr, words)
         for words, part in (*((f"{words} --colour", "fhpgas: ") for words in commands), ("explain no.toml", "no.toml: No such file"), ("how-long - 10", "scene: missing key"),
-                            ("over-time - 10 3", "no multiple"), ("drive - 10 5", "either by a force"), ("numbers --gas hpp --density 0.2 --speed 0.1 --length 9", "hpp has no viscosity"),
+                            ("over-time - 10 3", "no multiple"), ("drive - 10 5", "--force, --flow"), ("numbers --gas hpp --density 0.2 --speed 0.1 --length 9", "hpp has no viscosity"),
                             ("resume - no.txt", "no.txt"), ("over-seeds --generations 1 --drawn discs --wind 950", "velocity"),
-                            ("picture speed a.png -", "no whole table"), ("draw blocks --block 60 0 5 1", "a block leaves the channel")):
+                            ("picture speed a.png -", "no whole table"), ("picture speed a.jpg -", "a.jpg: a picture is written as .png or .svg"), ("draw blocks --block 60 0 5 1", "a block leaves the channel")):
             done = self.command(*words.split())
             self.assertEqual((done.returncode, done.stdout, done.stderr.count("\n")), (1, "", 1), done)
             self.assertIn(part, done.stderr)

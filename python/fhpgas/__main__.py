@@ -10,7 +10,6 @@ from . import drawing, pictures, scenes, theory
 from .drive import driven
 from .fault import Fault, Parser, one_line_faults, whole
 from .gases import GASES
-from .observe import smooth
 from .program import check, coarse, plan, side_by_side
 from .refusals import NOT_REFUSED, explanation
 from .tables import mean, read_cells, read_table
@@ -26,12 +25,14 @@ def explain(asked) -> None:
 
 
 def picture(asked) -> None:
+    if not asked.file.endswith((".png", ".svg")):
+        raise Fault(f"{asked.file}: a picture is written as .png or .svg")
     texts = [scenes.read_scene(path) for path in asked.sources]
     if asked.file.endswith(".svg"):
         return pictures.svg(asked.file, read_cells(texts[0], asked.gas))
     read = [read_cells(text, asked.gas).table(*asked.block) if text.startswith("generation ") else read_table(text) for text in texts]
-    tables = [smooth(dataclasses.replace(table, gas=asked.gas, block=tuple(asked.block)), asked.smooth) for table in read]
-    low, high = pictures.picture(asked.file, asked.what, *tables, low=asked.low, high=asked.high, scale=asked.scale)
+    tables = [dataclasses.replace(table, gas=asked.gas, block=tuple(asked.block)) for table in read]
+    low, high = pictures.picture(asked.file, asked.what, *tables, low=asked.low, high=asked.high, scale=asked.scale, smoothing=asked.smooth)
     print(f"{asked.what} from {low:.4g} to {high:.4g}")
 
 

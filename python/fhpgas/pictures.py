@@ -9,7 +9,7 @@ import zlib
 
 from .fault import Fault
 from .gases import SOLID, known_gas
-from .observe import vorticity
+from .observe import Field, smooth, vorticity
 from .tables import Cells, Table
 
 KINDS = ("density", "speed", "vorticity", "east", "north")
@@ -21,27 +21,36 @@ SHADES = 200
 GLYPHS = dict(zip("0123456789-.+e", (0x7B6F, 0x2C97, 0x73E7, 0x73CF, 0x5BC9, 0x79CF, 0x79EF, 0x7249, 0x7BEF, 0x7BCF, 0x1C0, 2, 0x5D0, 0x7BE7)))
 
 
-def field(what: str, table: Table) -> list[list[float | None]]:
-    """The numbers [row][column] of one of KINDS; None for blocks of which less than half is fluid, and for empty ones."""
-    east, north = table.velocity()
-    speed = [[None if u is None else math.hypot(u, v) for u, v in zip(*rows)] for rows in zip(east, north)]
+def measured(what: str, table: Table) -> Field:
+    """The numbers [row][column] of one of KINDS."""
     if what not in KINDS:
         raise Fault(f"there is no picture of {what!r}: {', '.join(KINDS)}")
-    values = table.density() if what == "density" else vorticity(table) if what == "vorticity" else {"east": east, "north": north, "speed": speed}[what]
+    if what in ("density", "vorticity"):
+        return table.density() if what == "density" else vorticity(table)
+    east, north = table.velocity()
+    speed = [[None if u is None else math.hypot(u, v) for u, v in zip(*rows)] for rows in zip(east, north)]
+    return {"east": east, "north": north, "speed": speed}[what]
+
+
+def field(what: str, table: Table, smoothing: int = 0) -> Field:
+    """The numbers [row][column] of one of KINDS in a table that is smoothed this often; None for blocks of which less than half is fluid,
+    and for those that are empty before it is smoothed."""
+    values, shown = measured(what, table), measured(what, smooth(table, smoothing))
     columns = [max(column) / 2 / (max(map(max, table.fluid)) or 1) for column in zip(*table.fluid)]  # blocks at the ends are smaller
     halves = [[max(row) * column for column in columns] for row in table.fluid]
-    return [[None if fluid < half or v is None or math.isnan(v) else v for v, fluid, half in zip(*rows)] for rows in zip(values, table.fluid, halves)]
+    return [[None if fluid < half or v is None or math.isnan(v) else number for v, number, fluid, half in zip(*rows)]
+            for rows in zip(values, shown, table.fluid, halves)]
 
 
 def picture(path, what: str, *sources: Table | Cells, block: tuple[int, int] = (8, 9), low: float | None = None, high: float | None = None,
-            scale: int = 0, pause: float = 0.1) -> tuple[float, float]:
+            scale: int = 0, pause: float = 0.1, smoothing: int = 0) -> tuple[float, float]:
     """Writes a PNG of one of KINDS, with its range below it; solid blocks are grey. Several tables or cells, of which `block` cells are taken
     together, make an animated PNG with `pause` seconds for each. The range is that of all values if none is given, and is returned.
-    `scale` is the pixels across a block."""
+    `scale` is the pixels across a block; `smoothing` is how often neighbours are averaged, which leaves the grey blocks as they are."""
     tables = [source.table(*block) if isinstance(source, Cells) else source for source in sources]
     if not tables:
         raise Fault("a picture is one of a table or of cells")
-    fields = [field(what, table) for table in tables]
+    fields = [field(what, table, smoothing) for table in tables]
     values = [v for rows in fields for row in rows for v in row if v is not None] or [0.0]
     least, most = min(values), max(values)
     if what in ("vorticity", "east", "north"):
