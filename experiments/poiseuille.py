@@ -62,10 +62,12 @@ def main():
     reader.option("--width", common.whole(64, 4096), 256, 256, "columns")
     reader.option("--height", common.whole(8, 512), 32, 16, "rows")
     reader.option("--force", common.number(1e-5, 0.01), 0.0008, 0.0016, "the momentum of a cell and generation", metavar="F")
-    reader.option("--settled", common.whole(100, 100_000), 1500, 400, "generations before the first sample, in steps of 10")
-    reader.option("--generations", common.whole(200, 1_000_000), 6000, 1600, "in all, in steps of 10")
+    reader.option("--settled", common.whole(0, 1_000_000), 0, 0, "generations before the first sample, in steps of 10; 0 is height^2 / viscosity")
+    reader.option("--generations", common.whole(0, 10_000_000), 0, 0, "in all, in steps of 10; 0 is four times height^2 / viscosity")
     reader.option("--seeds", common.whole(2, 1000), 8, 4, "how many")
     asked = reader.parse_args()
+    settled = EVERY * math.ceil(asked.height**2 / theory.viscosity(asked.gas, asked.density) / EVERY)
+    asked.settled, asked.generations = asked.settled or settled, asked.generations or 4 * settled
     asked.settled -= asked.settled % EVERY
     if asked.generations <= asked.settled:
         raise fhpgas.Fault(f"there are {asked.generations} generations, and the first sample is after {asked.settled}")

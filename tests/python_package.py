@@ -437,7 +437,8 @@ class Package(unittest.TestCase):
             self.assertTrue(done.returncode == 0 and done.stdout and not done.stderr, words)
         for words, part in (*((f"{words} --colour", "fhpgas: ") for words in commands), ("explain no.toml", "no.toml: No such file"), ("how-long - 10", "scene: missing key"),
                             ("over-time - 10 3", "no multiple"), ("drive - 10 5", "--force, --flow"), ("numbers --gas hpp --density 0.2 --speed 0.1 --length 9", "hpp has no viscosity"),
-                            ("resume - no.txt", "no.txt"), ("over-seeds --generations 1 --drawn discs --wind 950", "velocity"),
+                            ("resume - no.txt", "no.txt"), ("numbers --table - --length 9", "no whole table"), ("numbers --table - --speed 1 --length 9", "--table of"),
+                            ("numbers --density 0.2 --length 9", "--density and --speed"), ("over-seeds --generations 1 --drawn discs --wind 950", "velocity"),
                             ("picture speed a.png -", "no whole table"), ("picture speed a.jpg -", "a.jpg: a picture is written as .png or .svg"), ("draw blocks --block 60 0 5 1", "a block leaves the channel")):
             done = self.command(*words.split())
             self.assertEqual((done.returncode, done.stdout, done.stderr.count("\n")), (1, "", 1), done)
@@ -460,7 +461,10 @@ class Package(unittest.TestCase):
         line = self.command("over-seeds", "--seeds", 3, "--generations", 5, "--block", 66, 9, "a.toml").stdout.split("\n")[1].split()
         mean, error = fhpgas.mean(fhpgas.coarse(fhpgas.with_seed(AREA, seed), 5, 66, 9).velocity()[0][0][0] for seed in (1, 2, 3))
         self.assertTrue(abs(float(line[5]) - mean) < 1e-4 * abs(mean) + 1e-9 and abs(float(line[6]) - error) < 0.1 * error, (line, mean, error))
-        self.assertRegex(self.command("numbers", "--density", 0.2, "--speed", 0.3, "--length", 40).stdout, r"mach +0\.4243\nreynolds +6\.533\n")
+        told = self.command("numbers", "--density", 0.2, "--speed", 0.3, "--length", 40).stdout
+        self.assertRegex(told, r"mach +0\.4243\nreynolds +6\.533\n")
+        table = f"{tables.HEADER}\n 0 0 50 100 80 0\n 1 0 50 20 -8 0\n"  # 120 particles in 100 cells of 6 directions, 72 halves eastwards
+        self.assertEqual(self.command("numbers", "--table", "-", "--length", 40, text=table).stdout, f"{'density':16}{0.2:12}\n{'speed':16}{0.3:12}\n{told}")
 
 
 def png_of(depth, colour, lines, *more):

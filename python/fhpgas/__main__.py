@@ -3,13 +3,14 @@
 SCENE, CELLS and TABLE are files, or - for standard input. A fault is one line on standard error, and status 1.
 """
 import dataclasses
+import math
 import sys
 import time
 
 from . import drawing, pictures, scenes, theory
 from .drive import driven
 from .fault import Fault, Parser, one_line_faults, whole
-from .gases import GASES
+from .gases import GASES, gas_named
 from .program import check, coarse, plan, side_by_side
 from .refusals import NOT_REFUSED, explanation
 from .tables import mean, read_cells, read_table
@@ -105,7 +106,16 @@ def over_seeds(asked) -> None:
 
 
 def numbers(asked) -> None:
-    for name, value in theory.numbers(asked.gas, asked.density, asked.speed, asked.length, asked.chirality)._asdict().items():
+    flow = {"density": asked.density, "speed": asked.speed}
+    if [value is None for value in flow.values()] != [bool(asked.table)] * 2:
+        raise Fault("a flow has --density and --speed, or a --table of `coarse`")
+    if asked.table:
+        gas, table = gas_named(asked.gas), read_table(scenes.read_scene(asked.table))
+        fluid, particles, px, py = (sum(map(sum, rows)) for rows in table.columns())
+        speed = math.hypot(gas.units[0] * px, gas.units[1] * py) / (particles or 1)
+        flow = {"density": particles / gas.directions / (fluid or 1), "speed": speed}
+    told = theory.numbers(asked.gas, *flow.values(), asked.length, asked.chirality)._asdict()
+    for name, value in (flow | told if asked.table else told).items():
         print(f"{name.replace('_', ' '):16}{value:12.4g}")
 
 
@@ -144,8 +154,8 @@ def reader() -> Parser:
     command(over_seeds, "over-seeds", "the mean over seeds of a table, with standard errors", ("--seeds", {"type": whole(2, 10**6), "default": 8}),
             ("--generations", generations | {"required": True}), block, ("scene", {"nargs": "?", "metavar": "SCENE", "help": "an area without particles"}),
             ("--drawn", {"nargs": "...", "metavar": "WORD", "help": "words of `draw` to the end of the line: the scene is drawn for each seed"}))
-    wanted = {"type": float, "required": True}
-    command(numbers, "numbers", "Mach and Reynolds number of a flow, and the rest", gas, ("--density", wanted), ("--speed", wanted), ("--length", wanted),
+    command(numbers, "numbers", "Mach and Reynolds number of a flow, and the rest", gas, ("--density", {"type": float}), ("--speed", {"type": float}),
+            ("--table", {"metavar": "TABLE", "help": "of `coarse`, for its density and mean speed"}), ("--length", {"type": float, "required": True}),
             ("--chirality", {"default": "seeded"}))
     return top
 
