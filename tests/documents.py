@@ -1,6 +1,6 @@
 #!/usr/bin/env python3
 """Runs the commands of the documents as they are printed: each block marked `sh` must end with 0, and if the block after it is marked
-`text`, it must print that. The blocks of a document follow one another in a folder of their own; documents go side by side. A block that
+`text`, it must print that. The package is on the path. The blocks of a document follow one another in a folder of their own; documents go side by side. A block that
 imports numpy is left out if there is none. Ends with the counts."""
 
 import concurrent.futures
@@ -14,6 +14,7 @@ import tempfile
 import needs
 
 PROGRAM = needs.built_program()
+os.environ["PYTHONPATH"] = str(needs.ROOT / "python")
 DOCUMENTS = [needs.ROOT / "README.md", *sorted((needs.ROOT / "docs").glob("*.md"))]
 BLOCK = re.compile(r"^```(\w*)\n(.*?)^```$", re.M | re.S)
 NUMPY = re.compile(r"^import .*\bnumpy\b", re.M)
