@@ -147,10 +147,10 @@ def plain(word: str) -> str:
 
 def nearest(word: str, known: Iterable[str]) -> str:
     """A hint at the known word that is most like this one, or at all if none is."""
-    found = closest(word, known)
-    if known is STATES and plain(word) in PUBLISHED:
-        return f"its name here is `{found}`" if found else "there is none here, only " + ", ".join(f"`{name}`" for name in known)
-    return f"the nearest is `{found}`" if found else "there are " + ", ".join(f"`{name}`" for name in known)
+    found, is_published = closest(word, known), known is STATES and plain(word) in PUBLISHED
+    if found:
+        return f"{'its name here' if is_published else 'the nearest'} is `{found}`"
+    return f"there {'is none here, only' if is_published else 'are'} " + ", ".join(f"`{name}`" for name in known)
 
 
 def shown(value) -> str:
