@@ -1,7 +1,7 @@
 #!/usr/bin/env python3
 """Runs the commands of the documents as they are printed: each block marked `sh` must end with 0, and if the block after it is marked
-`text`, it must print that. The package is on the path. The blocks of a document follow one another in a folder of their own; documents go side by side. A block that
-imports numpy is left out if there is none. Ends with the counts."""
+`text`, it must print that. The package is on the path. The blocks of a document follow one another in a folder of their own; documents go
+side by side. A block that imports numpy is left out if there is none. Ends with the counts."""
 
 import concurrent.futures
 import os
