@@ -2,7 +2,10 @@
 """Refuses requests for memory, starts of threads among them, of the built program and of each call that takes memory, which the program
 `probes` makes by itself: each request alone, and all from each one on. A refused run must end with its status and line, with every thread
 joined and every byte given back, and print nothing. If nothing is refused it must end with 0, and with no request between the last start
-of a thread and the first join. Then the program runs under limits of its address space. Ends with the counts."""
+of a thread and the first join. Then the program runs under limits of its address space. Ends with the counts.
+
+The program collects its words by the kit's `collect`, which asks for room for all of them and, if that is refused, again for less. So one
+request of a run may be refused alone and the run go on; it must then print the whole usual answer."""
 
 import concurrent.futures
 import os
@@ -59,14 +62,18 @@ class Ended:
                 f" joined, {self.held} bytes kept, {len(self.out)} bytes out: {self.err[:200]!r}")
 
 
-def sweep(pool, library, name, words, scene, line):
-    """Refuses each request alone, and all from each one on."""
+def sweep(pool, library, name, words, scene, line, most_asked_again=0):
+    """Refuses each request alone, and all from each one on. After at most so many refusals the run may go on, to the usual end."""
     usual = Ended(library, words, scene, {})
     count(usual.status == 0 and usual.is_tidy() and usual.seen > 0, f"{name}: {usual}")
     count(usual.since_start == (0 if usual.started else usual.seen), f"{name}: {usual.since_start} requests between last start and first join")
     tries = [{way: str(request)} for way in ("REFUSE_AT", "REFUSE_FROM") for request in range(1, usual.seen + 1)]
+    asked_again = 0
     for refuse, ended in zip(tries, pool.map(lambda it: Ended(library, words, scene, it), tries)):
-        count(ended.is_refused(line) and ended.refused > 0, f"{name} {refuse}: {ended}")
+        goes_on = ended.status == 0 and ended.is_tidy() and ended.out == usual.out and "REFUSE_AT" in refuse
+        asked_again += goes_on
+        count((ended.is_refused(line) or goes_on) and ended.refused > 0, f"{name} {refuse}: {ended}")
+    count(asked_again <= most_asked_again, f"{name}: {asked_again} runs went on after a refusal")
     print(f"{name}: {usual.seen} requests, {usual.started} threads")
 
 
@@ -121,7 +128,7 @@ def main():
             sweep(pool, library, call, [PROBES, call], os.devnull, b"")
         for scene, words in REQUESTS:
             path = TOP / f"scenes/{scene}.toml"
-            sweep(pool, library, f"{scene} {words}", [PROGRAM, *words.split()], path, b"memory refused\n")
+            sweep(pool, library, f"{scene} {words}", [PROGRAM, *words.split()], path, b"memory refused\n", most_asked_again=1)
         drift = TOP / "scenes/drift.toml"
         words = ["run", "--stages", "2", "--generations"]
         holds_places(library, drift, 6 * 8)  # a row of four cells: a word for each direction
