@@ -59,7 +59,7 @@ dated = $(if $(is_program),touch -r $(begun) $(made))
 $(if $(filter quick test clean help,$(MAKECMDGOALS)),,$(shell mkdir -p crates/fhpgas/out $(wanted:%=crates/%/out) && cd crates/fhpgas && \
     : > $(tally) && touch $(begun)))
 
-# While it is proved, a crate's folder has rt's own lock, and the folders of those below a shared one.
+# While it is proved, a crate's folder has rt's own lock, and those below a shared one. A second signal must not end the clean-up.
 .PHONY: $(names) quick test archive clean help
 $(names):
 	@$(if $(kit),,$(error the Rattle kit's command rt is not on the PATH: see README.md))
@@ -81,7 +81,7 @@ $(names):
 	    echo >> $(tally)
 	    exit
 	fi
-	trap 'kill $${!-} 2> /dev/null || :; rm -rf $(new)' EXIT
+	trap exit TERM INT HUP; trap 'trap "" TERM INT HUP; kill $${!-} 2> /dev/null || :; rm -rf $(new)' EXIT
 	rm -rf $(new) $(sums) && mkdir -p $(new)
 	$(kit)/bin/rattle build $(if $(is_program),$(program),$(library)) $(flags) > out/build.log 2>&1 < /dev/null &
 	wait $$! || fail
