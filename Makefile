@@ -42,13 +42,13 @@ flags = --crate-name $@ --links $@= --jobs $(jobs) -L dependency=$(kit)/rlibs \
     $(foreach d,std $(filter-out $(names),$(uses_$@)),--extern $d=$(kit)/rlibs/$d.rlib) \
     $(foreach d,$(own_$@),--extern $d=../$d/out/rlib/$d.rlib) $(foreach d,$(below_$@),-L dependency=../$d/out/rlib) \
     --antt-project $(kit)/rattle/logic/antt-project.json --logic-built $(kit)/logic_built
-library = src/lib.rt --statements -o out/rlib/$@.rlib
+library = src/lib.rt --statements -o out/new/$@.rlib
 program = src/main.rt --cpu $(CPU) --toolchain $(kit)/toolchain -o out/new/$@.o
 link = $(kit)/bin/rattle-link --target x86_64-unknown-linux-gnu --toolchain $(kit)/toolchain -o out/new/$@ out/new/$@.o \
     $(kit)/c/libos_c.a $(kit)/c/liblibc_c.a >> out/build.log 2>&1 && mv out/new/$@ out/$@ && rm -r out/new && echo $(CPU) > out/level
 
-# Where a crate is made, what stands for all that is made, and the sums that it was made by; rt removes these with the library.
-new = $(if $(is_program),out/new,out/rlib)
+# What stands for all that is made, and the sums that it was made by; rt removes these with the library. All is made in out/new and moved
+# when it is whole, so an interrupted build leaves nothing half made.
 made = $(if $(is_program),out/$@,out/rlib/$@.rlib/format)
 sums = $(if $(is_program),out/sums,out/rlib/sums)
 
@@ -59,7 +59,7 @@ dated = $(if $(is_program),touch -r $(begun) $(made))
 $(if $(filter quick test clean help,$(MAKECMDGOALS)),,$(shell mkdir -p crates/fhpgas/out $(wanted:%=crates/%/out) && cd crates/fhpgas && \
     : > $(tally) && touch $(begun)))
 
-# While it is proved, a crate's folder has rt's own lock, and those below a shared one. A second signal must not end the clean-up.
+# While it is proved, a crate's folder has rt's own lock, and those below a shared one.
 .PHONY: $(names) quick test archive clean help
 $(names):
 	@$(if $(kit),,$(error the Rattle kit's command rt is not on the PATH: see README.md))
@@ -81,12 +81,12 @@ $(names):
 	    echo >> $(tally)
 	    exit
 	fi
-	trap exit TERM INT HUP; trap 'trap "" TERM INT HUP; kill $${!-} 2> /dev/null || :; rm -rf $(new)' EXIT
-	rm -rf $(new) $(sums) && mkdir -p $(new)
+	trap exit TERM INT HUP; trap 'kill $${!-} 2> /dev/null || :; rm -rf out/new' EXIT
+	rm -rf out/new $(if $(is_program),$(sums),out/rlib) && mkdir -p out/new
 	$(kit)/bin/rattle build $(if $(is_program),$(program),$(library)) $(flags) > out/build.log 2>&1 < /dev/null &
 	wait $$! || fail
 	[ "$$(sum)" = "$$sum" ] || { echo "crate $@: a file that its proof reads changed meanwhile" >&2; exit 1; }
-	$(if $(is_program),$(link) || fail)
+	$(if $(is_program),$(link),mv out/new out/rlib) || fail
 	$(dated)
 	trap - EXIT
 	echo "$$sum $$(sha256sum $(made))" > $(sums)
