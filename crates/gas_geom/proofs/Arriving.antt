@@ -1,10 +1,10 @@
 -- What comes to a cell in a direction, case by case. From a fluid neighbour it is the neighbour's particle; where the
 -- neighbour is solid or the wall, it is the cell's own particle, sent back.
-use Rattle.std.proofs.Common.{◌≡◌, ℕ, Bool, true, false, if◌then◌else◌, Option, Some, None, ap, ◌∙◌}
+use Rattle.std.proofs.Common.{◌≡◌, ℕ, Bool, true, false, Option, Some, None, ap, ◌∙◌}
 use Rattle.std.specs.Option.{option_map_or}
 use Rattle.gas_geom.specs.Gas.{Rules, neighbour_of, holds}
 use Rattle.gas_geom.specs.Channel.{ChannelModel, is_solid}
-use Rattle.gas_geom.specs.Lattice.{arriving}
+use Rattle.gas_geom.specs.Lattice.{bounce_back, arriving}
 
 -- the neighbour that a particle going in direction i comes from
 abbrev pub behind : Rules → ChannelModel → ℕ → ℕ → ℕ → Option (ℕ × ℕ)
@@ -17,10 +17,10 @@ module _ (gas : Rules) (c : ChannelModel) (at : ℕ → ℕ → ℕ) (x y i : �
 
   -- what comes where that is the neighbour
   abbrev pub arrives_from : Option (ℕ × ℕ) → Bool
-  arrives_from o = option_map_or (λ (u : ℕ × ℕ). if is_solid c u.0 u.1 then sent_back else holds (at u.0 u.1) i) o sent_back
+  arrives_from o = option_map_or (λ (u : ℕ × ℕ). bounce_back (is_solid c u.0 u.1) sent_back (holds (at u.0 u.1) i)) o sent_back
 
   abbrev by_solid : ℕ → ℕ → Bool → Bool
-  by_solid u v solid = if solid then sent_back else holds (at u v) i
+  by_solid u v solid = bounce_back solid sent_back (holds (at u v) i)
 
   pub arriving-wall : behind gas c x y i ≡ None → arriving gas c at x y i ≡ sent_back
   arriving-wall there = ap arrives_from there

@@ -22,7 +22,7 @@ fhp1 = record {
   dirs = 6;
   opposite = λ i. (i + 3) % 6;
   step = λ i odd. slice_index_or (if odd then steps_from_odd else steps_from_even) i (Stay, Stay);
-  -- A head-on pair turns by a sixth, to the left where the random bit is set and else to the right; three particles at equal angles
+  -- A head-on pair turns by a sixth, to the left if the random bit is set and else to the right. Three particles at equal angles
   -- reverse. All other sets stay as they are: a spectator prevents a collision.
   collide = λ s chi.
       if s == 0x09 then (if chi then 0x12 else 0x24)

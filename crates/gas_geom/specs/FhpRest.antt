@@ -1,5 +1,5 @@
--- The gas fhp-rest: the six directions of FHP-I, and in each cell at most one particle at rest. Its collision rules are those published
--- as FHP-II by U. Frisch and others, "Lattice gas hydrodynamics in two and three dimensions", Complex Systems 1 (1987) 649, but this
+-- The gas fhp-rest: the six directions of FHP-I, and in a cell at most one particle at rest. Its collision rules were published as
+-- FHP-II by U. Frisch and others, "Lattice gas hydrodynamics in two and three dimensions", Complex Systems 1 (1987) 649, but this
 -- project claims no more than its own table.
 use Rattle.std.specs.Prelude.{ℕ, ◌+◌, ◌-◌, ◌==◌, nat_lt, if◌then◌else◌, List, [], ◌∷◌, codes}
 use Rattle.gas_geom.specs.Gas.{Rules}
@@ -9,7 +9,7 @@ use Rattle.gas_geom.specs.Fhp1.{fhp1}
 abbrev pub exchanges : List (ℕ × ℕ)
 exchanges = (0x41, 0x22) ∷ (0x42, 0x05) ∷ (0x44, 0x0a) ∷ (0x48, 0x14) ∷ (0x50, 0x28) ∷ (0x60, 0x11) ∷ []
 
--- the other set of the pair that has `s`, or `none` where no pair has it
+-- the other set of the pair that has `s`, or `none` if no pair has it
 abbrev pub exchange_of : List (ℕ × ℕ) → ℕ → ℕ → ℕ
 exchange_of [] s none = none
 exchange_of (pair ∷ pairs) s none =
@@ -21,6 +21,6 @@ fhp_rest = record fhp1 {
   name = codes "fhp-rest";
   dirs = 7;
   opposite = λ i. if i == 6 then 6 else fhp1.opposite i;
-  -- all sets that no pair has collide as in FHP-I, whether or not a particle rests beside those that move
+  -- a set of no pair collides as in FHP-I, with or without a particle at rest
   collide = λ s chi. exchange_of exchanges s (if nat_lt s 0x40 then fhp1.collide s chi else 0x40 + fhp1.collide (s - 0x40) chi);
 }

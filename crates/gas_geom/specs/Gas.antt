@@ -4,7 +4,7 @@ use Rattle.std.specs.Int.{bit_at}
 use Rattle.std.specs.List.{range_with_len}
 use Rattle.gas_geom.specs.Moves.{Move, column_after, row_after}
 
--- A set of directions is a number, which holds direction `i` where bit `i` is 1.
+-- A set of directions is a number: it holds direction `i` if bit `i` is 1.
 -- The rules of a gas: its directions are the numbers below `dirs`, and its sets those below `2 ^ dirs`.
 pub record Rules : Type 0 where
   -- the name as text
@@ -14,18 +14,18 @@ pub record Rules : Type 0 where
   pub opposite : ℕ → ℕ
   -- the step in a direction from an even or an odd row: along the row and, downwards, across the rows
   pub step : ℕ → Bool → Move × Move
-  -- the set after a collision, which a random bit decides where there is a choice
+  -- the set after a collision; if there is a choice, a random bit decides
   pub collide : ℕ → Bool → ℕ
   -- the momentum of a direction: eastwards and northwards
   pub momentum : ℕ → ℤ × ℤ
 
--- the neighbour of the cell (x, y) in direction i, or None where the wall is
+-- the neighbour of the cell (x, y) in direction i, or None past the wall
 abbrev pub neighbour_of : Rules → ℕ → ℕ → ℕ → ℕ → ℕ → Option (ℕ × ℕ)
 neighbour_of gas width height x y i =
     let m = gas.step i (y % 2 == 1) in
     option_map (λ y'. (column_after width x m.0, y')) (row_after height y m.1)
 
--- whether a set holds direction i, which is whether bit i of the number is 1
+-- whether a set holds direction i
 abbrev pub holds : ℕ → ℕ → Bool
 holds s i = bit_at s i == 1
 
@@ -37,7 +37,7 @@ directions_of gas s = filter (holds s) (range_with_len 0 gas.dirs)
 abbrev pub particles : Rules → ℕ → ℕ
 particles gas s = length (directions_of gas s)
 
--- the sum of the numbers that f gives for the items of a list
+-- the sum of a function over the items of a list
 abbrev pub signed_sum_by : {X : Type 0} → (X → ℤ) → List X → ℤ
 signed_sum_by f xs = fold (λ a x. a +ℤ f x) (pos 0) xs
 

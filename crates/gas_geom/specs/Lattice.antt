@@ -14,14 +14,14 @@ pub record LatticeModel : Type 0 where
 abbrev pub cell : List (List ℕ) → ℕ → ℕ → ℕ
 cell rows x y = slice_index (slice_index_or rows y []) x
 
--- a row, and rows from the top, by what stands at each column and row
+-- a row, and rows from the top, by their cells
 abbrev pub row_of : {A : Type 0} → ℕ → (ℕ → A) → List A
 row_of width at = map at (range_with_len 0 width)
 
 abbrev pub rows_of : {A : Type 0} → ℕ → ℕ → (ℕ → ℕ → A) → List (List A)
 rows_of width height at = map (λ y. row_of width (λ x. at x y)) (range_with_len 0 height)
 
--- the rows are those of a lattice: sets of the gas's directions, empty at solid cells
+-- rows of a lattice: sets of the gas's directions, empty at solid cells
 pub record IsLattice (gas : Rules) (channel : ChannelModel) (rows : List (List ℕ)) : Type 0 where
   pub high : length rows ≡ channel.height
   pub wide : (y : ℕ) → y < channel.height → length (slice_index_or rows y []) ≡ channel.width
@@ -40,17 +40,20 @@ with_cell rows x y state = slice_set rows y (slice_set (slice_index_or rows y []
 abbrev pub collided_set : Rules → Bool → Bool → ℕ → ℕ
 collided_set gas solid chi s = if solid then 0 else gas.collide s chi
 
--- the collided lattice, where `chi` is the random bit of each cell
+-- the lattice after a collision in every cell, with `chi` as random bits
 abbrev pub collided : Rules → ChannelModel → (ℕ → ℕ → Bool) → (ℕ → ℕ → ℕ) → ℕ → ℕ → ℕ
 collided gas channel chi at x y = collided_set gas (is_solid channel x y) (chi x y) (at x y)
 
--- whether a particle comes to the fluid cell (x, y) in direction i from the neighbour against i, or, where that is the wall or
--- solid, the cell's own that goes towards it is sent back
+-- bounce-back: what comes along a link or, if the link is blocked, the cell's own that was sent back
+abbrev pub bounce_back : Bool → Bool → Bool → Bool
+bounce_back blocked sent_back comes = if blocked then sent_back else comes
+
+-- whether a particle arrives at the fluid cell (x, y) in direction i: the wall or a solid cell at the other end blocks the link
 abbrev pub arriving : Rules → ChannelModel → (ℕ → ℕ → ℕ) → ℕ → ℕ → ℕ → Bool
 arriving gas channel at x y i =
     let sent_back = holds (at x y) (gas.opposite i) in
     let behind = neighbour_of gas channel.width channel.height x y (gas.opposite i) in
-    option_map_or (λ u. if is_solid channel u.0 u.1 then sent_back else holds (at u.0 u.1) i) behind sent_back
+    option_map_or (λ u. bounce_back (is_solid channel u.0 u.1) sent_back (holds (at u.0 u.1) i)) behind sent_back
 
 -- the set of the directions i below n for which f holds
 abbrev pub set_of : ℕ → (ℕ → Bool) → ℕ
@@ -66,7 +69,7 @@ abbrev pub next : Rules → ChannelModel → (ℕ → ℕ → Bool) → List (Li
 next gas channel chi rows =
     rows_of channel.width channel.height (streamed gas channel (collided gas channel chi (cell rows)))
 
--- the lattice n generations after generation `start`, where `chi` is the random bit of each generation and cell
+-- the lattice n generations after generation `start`, with `chi` as random bits of every generation and cell
 abbrev pub generation : Rules → ChannelModel → (ℕ → ℕ → ℕ → Bool) → ℕ → List (List ℕ) → ℕ → List (List ℕ)
 generation gas channel chi start rows zero = rows
 generation gas channel chi start rows (suc n) =

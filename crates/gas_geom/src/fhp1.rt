@@ -65,7 +65,7 @@ impl Gas for Fhp1 {
 
     fn collide64(planes: [u64; 8], chi: u64) -> [u64; 8] {
         let [e, ne, nw, w, sw, se, _, _] = planes;
-        // Where an axis holds one particle, a pair has a spectator; a triple has one on each axis.
+        // An axis with one particle has the spectator of a pair; a triple has one on every axis.
         let (one_e, one_ne, one_nw) = (e ^ w, ne ^ sw, nw ^ se);
         let unlike = e ^ ne;
         let triple = one_e & one_ne & one_nw & unlike & (ne ^ nw);

@@ -11,8 +11,8 @@ use crate::gas::Gas;
 /// FHP-I's collisions take place whether or not a particle rests in the cell. Besides, a moving
 /// particle and one at rest become two that leave to its left and its right, at a sixth of a turn
 /// from its direction, and two such particles become a moving one and one at rest. These collision
-/// rules are those published as FHP-II (Frisch and others 1987), but this project claims no more
-/// than its own table. Momentum is in FHP-I's units.
+/// rules were published as FHP-II (Frisch and others 1987), but this project claims no more than
+/// its own table. Momentum is in FHP-I's units.
 #[derive(Clone, Copy)]
 pub struct FhpRest;
 

@@ -36,12 +36,12 @@ pub trait Gas {
         ensures across { result.0 ≡ amount (rules.step i odd).0 }
         ensures down { result.1 ≡ amount (rules.step i odd).1 };
 
-    /// The state after a collision; `chi` is the random bit that decides where there is a choice.
+    /// The state after a collision. If there is a choice, the random bit `chi` decides.
     fn collide(state: u8, chi: bool) -> u8
         requires state { state < 2 ^ rules.dirs }
         ensures value { result ≡ rules.collide state chi };
 
-    /// The states of 64 cells after a collision. Bit `b` of plane `i` is set where cell `b` holds a
+    /// The states of 64 cells after a collision. Bit `b` of plane `i` is set if cell `b` holds a
     /// particle in direction `i`, and bit `b` of `chi` is the random bit of cell `b`. The planes
     /// from `DIRS` on are zero.
     fn collide64(planes: [u64; 8], chi: u64) -> [u64; 8]

@@ -6,14 +6,14 @@ ghost use Rattle.gas_geom.specs.Lattice.{IsLattice, next, generation, count};
 
 use crate::gas::Gas;
 
-/// The next lattice has as many particles, whatever the random bits.
+/// The next lattice has the same number of particles, for any random bits.
 pub fn number_law<G: Gas>()
     ensures kept { (channel : ChannelModel) (chi : ℕ → ℕ → Bool)
         (rows : List (List ℕ)) → IsLattice G.rules channel rows →
         count G.rules (next G.rules channel chi rows) ≡ count G.rules rows }
 {}
 
-/// Every generation has as many particles as the first, whatever the random bits.
+/// Every generation has the same number of particles, for any random bits.
 pub fn number_law_of_runs<G: Gas>()
     ensures kept { (channel : ChannelModel) (chi : ℕ → ℕ → ℕ → Bool) (start : ℕ)
         (rows : List (List ℕ)) → IsLattice G.rules channel rows → (n : ℕ) →

@@ -32,7 +32,7 @@ impl Model for Size {
 }
 
 impl Size {
-    /// A size, or None where the width or the height is not 1 to 65536.
+    /// A size, or None if the width or the height is not 1 to 65536.
     pub fn new(width: u32, height: u32) -> Option<Size>
         ensures within { IsSome result ↔ IsSize width height }
         ensures made { IfSome result (λ s. s ≡ record { width = width; height = height }) }
@@ -91,7 +91,7 @@ pub fn row_after(height: u32, y: u32, down: i32) -> Option<u32>
 }
 
 /// The column and the row of the neighbour of the cell `(x, y)` in direction `i`. The column is
-/// taken modulo the width; None where the neighbour lies past the top or bottom row.
+/// taken modulo the width. None if the neighbour lies past the top or bottom row.
 pub fn neighbour<G: Gas>(size: Size, x: u32, y: u32, i: u32) -> Option<(u32, u32)>
     requires column { x < size.width }
     requires row { y < size.height }
