@@ -6,8 +6,8 @@ use Rattle.std.proofs.lemmas.Bool.{cases_lt}
 use Rattle.std.proofs.lemmas.Bool.Decides.{nat_tests}
 use Rattle.std.proofs.Math.Dec.{eqb-suc-zero}
 use Rattle.gas_geom.specs.Gas.{holds}
+use Rattle.gas_geom.specs.Lattice.{bounce_back}
 use Rattle.gas_geom.proofs.Holds.{holds-and, holds-or, holds-not, holds-above}
-use Rattle.gas_bits.specs.Shift.{streamed_bit}
 use Rattle.gas_bits.proofs.Bits.{holds-shl_high, holds-shl_low, holds-shr}
 
 -- `(word << 1) | (before >> 63)`
@@ -55,6 +55,11 @@ holds-from_east word cut after last b h le fits is =
       | inl inside ↦ is (last + 1) inside ∙ ap (λ t. t && holds word (last + 1)) (let no : nat_le (last + 1) last ≡ false = grind (arith, nat_tests) in no)
       | inr above ↦ holds-above cut 64 (last + 1) fits above
     ]
+
+-- whether a cell holds a direction after streaming, from whether the neighbour held it, whether the neighbour is solid, whether the
+-- cell held the opposite direction, and whether it is solid
+abbrev pub streamed_bit : Bool → Bool → Bool → Bool → Bool
+streamed_bit came met back own = if own then false else bounce_back met back came
 
 -- where no cell is solid, what comes is there
 pub streamed-fluid : (came met back own : Bool) → met ≡ false → own ≡ false → came ≡ streamed_bit came met back own

@@ -1,12 +1,15 @@
 -- The cells of one direction as they are streamed word by word, where the columns are periodic.
-use Rattle.std.proofs.Common.{◌≡◌, ℕ, zero, suc, ◌+◌, ◌-◌, ◌*◌, ◌/◌, ◌%◌, ◌<◌, ◌≤◌, Bool, true, false, ◌==◌, if◌then◌else◌, cond, List, length, get_or, set, sym, ap, ap₂, ◌∙◌, arith, inl, inr, eq-eqb, ne_eqb}
+use Rattle.std.proofs.Common.{◌≡◌, ℕ, zero, suc, ◌+◌, ◌-◌, ◌*◌, ◌/◌, ◌%◌, ◌<◌, ◌≤◌, Bool, true, false, ◌==◌, if◌then◌else◌, cond, List, length, length-set, get_or, set, sym, ap, ap₂, ◌∙◌, arith, inl, inr, eq-eqb, ne_eqb}
 use Rattle.std.proofs.lemmas.Bool.{cases_eq}
 use Rattle.std.proofs.Math.Nat.{mod-eq_of_lt, add-mod_right}
 use Rattle.std.proofs.Math.Dec.{eqb-suc-zero}
 use Rattle.gas_geom.specs.Moves.{Move, Back, Stay, On, column_after}
 use Rattle.gas_geom.specs.Gas.{holds}
 use Rattle.gas_bits.specs.Words.{bit}
-use Rattle.gas_bits.specs.Shift.{streamed_bit, streamed_cell}
+use Rattle.gas_bits.specs.Shift.{streamed_cell}
+use Rattle.gas_bits.specs.Inner.Streamed.{AreBeside, IsStreamedWord, AreStreamed}
+use Rattle.gas_bits.specs.declared.incoming.Incoming.{Incoming}
+use Rattle.gas_bits.proofs.ShiftedBits.{streamed_bit}
 use Rattle.gas_bits.proofs.Words.{bit-at, bit-set}
 
 -- ---- the words of a row, and the cells beside those of a word
@@ -79,18 +82,35 @@ streamed_bit-at : {came came' met met' back back' own own' : Bool} → came ≡ 
     → streamed_bit came met back own ≡ streamed_bit came' met' back' own'
 streamed_bit-at ec em eb eo = ap₂ (λ (p q : Bool × Bool). streamed_bit p.0 p.1 q.0 q.1) (ap₂ (λ (p q : Bool). (p, q)) ec em) (ap₂ (λ (p q : Bool). (p, q)) eb eo)
 
--- word j of one direction of a row is streamed, after those before it
-module _ (plane there back own : List ℕ) (all_fluid : Bool) (fluid_there : all_fluid ≡ true → (x : ℕ) → bit there x ≡ false)
-    (fluid_here : all_fluid ≡ true → (x : ℕ) → bit own x ≡ false) (width : ℕ) (m : Move) (out : List ℕ) (j v came met : ℕ) where
-  pub one_more_streamed : j < length out
-      → ((b : ℕ) → b < 64 → 64 * j + b < width → holds came b ≡ bit plane (column_after width (64 * j + b) m))
-      → ((b : ℕ) → b < 64 → 64 * j + b < width → holds met b ≡ bit there (column_after width (64 * j + b) m))
-      → ((b : ℕ) → b < 64 → (all_fluid ≡ true → (holds met b ≡ false) × (holds (get_or own j 0) b ≡ false))
-      → holds v b ≡ streamed_bit (holds came b) (holds met b) (holds (get_or back j 0) b) (holds (get_or own j 0) b))
-      → ((x : ℕ) → x < 64 * j → x < width → bit out x ≡ streamed_cell plane there back own width m x)
-      → (x : ℕ) → x < 64 * (j + 1) → x < width → bit (set out j v) x ≡ streamed_cell plane there back own width m x
-  one_more_streamed within came_is met_is v_is =
-      one_more_word (streamed_cell plane there back own width m) out width j v within (λ b h inside.
-      let own_is = sym (bit-at own j b h) in
-      v_is b h (λ fluid. (met_is b h inside ∙ fluid_there fluid _, own_is ∙ fluid_here fluid _))
-      ∙ streamed_bit-at (came_is b h inside) (met_is b h inside) (sym (bit-at back j b h)) own_is)
+-- ---- word j of one direction of a row
+module _ (q : Incoming) (m : Move) where
+  -- from the rule at each bit
+  pub streamed_word : (j v came met : ℕ) → AreBeside q.plane.now q.width m j came → AreBeside q.solid_there.now q.width m j met
+      → ((b : ℕ) → b < 64 → (q.all_fluid ≡ true → (holds met b ≡ false) × (holds (get_or q.solid_here.now j 0) b ≡ false))
+      → holds v b ≡ streamed_bit (holds came b) (holds met b) (holds (get_or q.opposite_here.now j 0) b) (holds (get_or q.solid_here.now j 0) b))
+      → IsStreamedWord q m j v
+  streamed_word j v came met came_is met_is v_is b h inside =
+      let own_is = sym (bit-at q.solid_here.now j b h) in
+      v_is b h (λ fluid. (met_is b h inside ∙ q.fluid_there fluid _, own_is ∙ q.fluid_here fluid _))
+      ∙ streamed_bit-at (came_is b h inside) (met_is b h inside) (sym (bit-at q.opposite_here.now j b h)) own_is
+
+  -- one word more
+  pub one_more_streamed : (out : List ℕ) (j v : ℕ) → j < length out → IsStreamedWord q m j v → AreStreamed q m j out
+      → AreStreamed q m (j + 1) (set out j v)
+  one_more_streamed out j v = one_more_word (streamed_cell q m) out q.width j v
+
+  -- four words more
+  pub four_more_streamed : (out : List ℕ) (j v₀ v₁ v₂ v₃ : ℕ) → j + 3 < length out → IsStreamedWord q m j v₀ → IsStreamedWord q m (j + 1) v₁
+      → IsStreamedWord q m (j + 2) v₂ → IsStreamedWord q m (j + 3) v₃ → AreStreamed q m j out
+      → AreStreamed q m (j + 4) (set (set (set (set out j v₀) (j + 1) v₁) (j + 2) v₂) (j + 3) v₃)
+  four_more_streamed out j v₀ v₁ v₂ v₃ within s₀ s₁ s₂ s₃ before x below inside =
+      let one = set out j v₀ in
+      let two = set one (j + 1) v₁ in
+      let three = set two (j + 2) v₂ in
+      let long₁ = length-set out j v₀ in
+      let long₂ = length-set one (j + 1) v₁ in
+      let long₃ = length-set two (j + 2) v₂ in
+      one_more_streamed three (j + 3) v₃ (omega (arith, within, long₁, long₂, long₃)) s₃
+      (λ y hy. one_more_streamed two (j + 2) v₂ (omega (arith, within, long₁, long₂)) s₂
+      (λ z hz. one_more_streamed one (j + 1) v₁ (omega (arith, within, long₁)) s₁
+      (one_more_streamed out j v₀ (omega (arith, within)) s₀ before) z (omega (arith, hz))) y (omega (arith, hy))) x (omega (arith, below)) inside

@@ -1,3 +1,4 @@
 pub mod Words
 pub mod Planes
 pub mod Shift
+pub mod Inner

@@ -3,7 +3,7 @@ use Rattle.std.specs.Prelude.{ℕ, ◌+◌, ◌*◌, ◌/◌, ◌%◌, Bool, Lis
 use Rattle.gas_geom.specs.Gas.{holds}
 use Rattle.gas_geom.specs.Lattice.{set_of}
 
--- whether the words say that cell x holds direction i, where each direction has n words
+-- whether cell x holds direction i, by words of which every direction has n
 unfoldable pub has : List ℕ → ℕ → ℕ → ℕ → Bool
 has words n i x = holds (slice_index words (i * n + x / 64)) (x % 64)
 

@@ -3,10 +3,10 @@ use Rattle.std.specs.Prelude.{ℕ, ◌/◌, ◌%◌, Bool, List, slice_index}
 use Rattle.std.specs.Int.{div_ceil}
 use Rattle.gas_geom.specs.Gas.{holds}
 
--- how many words a row of cells takes
+-- the number of words of a row
 abbrev pub words_in : ℕ → ℕ
 words_in width = div_ceil width 64
 
--- what the words say of cell x
+-- the bit of cell x
 unfoldable pub bit : List ℕ → ℕ → Bool
 bit words x = holds (slice_index words (x / 64)) (x % 64)

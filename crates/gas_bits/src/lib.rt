@@ -2,12 +2,12 @@
 //! of all directions of a gas. Nothing here knows rows or masks as values.
 #![tactic(auto)]
 
-pub mod direction;
 pub mod incoming;
 pub mod load;
 pub mod plane;
 pub mod planes;
+mod side;
 pub mod span;
 pub mod states;
-mod stream;
+pub mod stream;
 pub mod word;

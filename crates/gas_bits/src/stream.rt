@@ -1,178 +1,153 @@
-//! The streaming of one direction into a row, word by word.
-ghost use Rattle.std.specs.Prelude.{◌≡◌, ◌==◌, ℕ, ◌-◌, ◌+◌, ◌<◌, ◌≤◌, if◌then◌else◌, IsTrue, length, false};
-ghost use Rattle.gas_geom.specs.Moves.{Back, Stay, On};
-ghost use Rattle.gas_geom.specs.Gas.{holds};
-ghost use Rattle.gas_geom.specs.declared.size.TheConstants.{MOST_SIDE};
-ghost use Rattle.gas_bits.specs.Words.{words_in, bit};
-ghost use Rattle.gas_bits.specs.Shift.{streamed_bit, streamed_cell};
+//! The streaming of one direction into the words of a row.
+ghost use Rattle.std.specs.Prelude.{◌≡◌, ◌≢◌, ◌/◌, ℕ, ◌-◌, ◌+◌, ◌*◌, ◌<◌, ◌≤◌, true, false, length};
+ghost use Rattle.gas_geom.specs.Moves.{Move, amount};
+ghost use Rattle.gas_bits.specs.Words.{words_in};
+ghost use Rattle.gas_bits.specs.Planes.{has};
+ghost use Rattle.gas_bits.specs.Shift.{streamed_cell};
+ghost use Rattle.gas_bits.specs.Inner.Streamed.{AreBeside, IsStreamedWord, AreStreamed};
 
 use crate::incoming::Incoming;
-use crate::word::clear_above;
+use crate::plane::clear_past;
+use crate::side::{East, Here, Side, West};
+use crate::word::words_for;
 
-// Returns a word whose bit 63 is bit `last`.
+// Returns what the cells of word `j` hold after streaming: what arrives, but the opposite direction
+// if the cell that it would come from is solid (`blocked`: bounce-back), and nothing at solid cells.
 #[inline(always)]
-fn with_last_bit_on_top(word: u64, last: u32) -> u64
-    requires { last < 64 }
-    ensures { holds result 63 ≡ holds word last }
+fn stream_word<'a>(incoming: &Incoming<'a>, j: usize, arriving: u64, blocked: u64) -> u64
+    requires within { 64 * j < incoming.now.width }
+    ensures { (m : Move) → AreBeside incoming.now.plane.now incoming.now.width m j arriving →
+        AreBeside incoming.now.solid_there.now incoming.now.width m j blocked →
+        IsStreamedWord incoming.now m j result }
 {
-    word << (63 - last)
-}
-
-// Returns the neighbours to the west of the 64 cells of a word. The first one's is bit 63 of
-// `before`.
-#[inline(always)]
-fn from_west(before: u64, word: u64) -> u64
-    ensures { (b : ℕ) → b < 64 → holds result b
-        ≡ (if b == 0 then holds before 63 else holds word (b - 1)) }
-{
-    (word << 1) | (before >> 63)
-}
-
-// Returns the neighbours to the east of the cells of a word up to bit `last`. The last one's is bit
-// 0 of `after`.
-#[inline(always)]
-fn from_east(word: u64, last: u32, after: u64) -> u64
-    requires { last < 64 }
-    ensures { (b : ℕ) → b ≤ last → holds result b
-        ≡ (if b == last then holds after 0 else holds word (b + 1)) }
-{
-    (clear_above(word, last) >> 1) | (after << last)
-}
-
-// Returns what 64 cells hold after streaming: what arrives, but the opposite direction where the
-// cell that it would come from is solid (`blocked`: bounce-back), and nothing at solid cells. If
-// `all_fluid`, the masks are not read.
-#[inline(always)]
-fn stream_word(
-    all_fluid: bool,
-    arriving: u64,
-    blocked: u64,
-    opposite_here: u64,
-    solid_here: u64,
-) -> u64
-    ensures { (b : ℕ) → b < 64 →
-        (IsTrue all_fluid → (holds blocked b ≡ false) × (holds solid_here b ≡ false)) →
-        holds result b ≡ streamed_bit (holds arriving b) (holds blocked b)
-        (holds opposite_here b) (holds solid_here b) }
-{
-    if all_fluid {
-        arriving
-    } else {
-        ((arriving & !blocked) | (blocked & opposite_here)) & !solid_here
+    if incoming.all_fluid {
+        return arriving;
     }
+    ((arriving & !blocked) | (blocked & incoming.opposite_here[j])) & !incoming.solid_here[j]
 }
 
-/// Streams one direction into a row from the west. What lies past the width is left open.
+// Returns word `j` of the streamed direction, not at the end at which the row closes.
 #[inline(always)]
-pub(crate) fn stream_from_west<'a>(incoming: &Incoming<'a>, out: &mut [u64], width: u32)
-    requires some_cells { 1 ≤ width }
-    requires few_cells { width ≤ MOST_SIDE }
-    requires wide { length incoming.now.plane.now ≡ words_in width }
-    requires out { length out.old ≡ words_in width }
-    ensures { (x : ℕ) → x < width → bit out.new x
-        ≡ streamed_cell incoming.now.plane.now incoming.now.solid_there.now
-        incoming.now.opposite_here.now incoming.now.solid_here.now width Back x }
+fn inner_word<'a, S: Side>(incoming: &Incoming<'a>, j: usize) -> u64
+    requires within { 64 * j < incoming.now.width }
+    requires after_first { S.CLOSES_LAST ≡ false → 1 ≤ j }
+    requires before_last { S.CLOSES_LAST ≡ true → 64 * (j + 1) < incoming.now.width }
+    ensures { IsStreamedWord incoming.now S.side j result }
 {
-    let Incoming {
-        plane,
-        solid_there,
-        opposite_here,
-        solid_here,
-        all_fluid,
-    } = *incoming;
-    // Before the first cell comes the last one.
-    let last = out.len() - 1;
-    let top = (width - 1) % 64;
-    let arriving = from_west(with_last_bit_on_top(plane[last], top), plane[0]);
-    let blocked = from_west(with_last_bit_on_top(solid_there[last], top), solid_there[0]);
-    out[0] = stream_word(
-        all_fluid,
-        arriving,
-        blocked,
-        opposite_here[0],
-        solid_here[0],
-    );
-    for j in 1..out.len() {
-        let arriving = from_west(plane[j - 1], plane[j]);
-        let blocked = from_west(solid_there[j - 1], solid_there[j]);
-        out[j] = stream_word(
-            all_fluid,
-            arriving,
-            blocked,
-            opposite_here[j],
-            solid_here[j],
-        );
-    }
+    let arriving = S::inner(incoming.plane, j, incoming.width);
+    let blocked = S::inner(incoming.solid_there, j, incoming.width);
+    stream_word(incoming, j, arriving, blocked)
 }
 
-/// Streams one direction into a row from the same column. What lies past the width is left open.
+// Returns word `j` of the streamed direction.
 #[inline(always)]
-pub(crate) fn stream_from_here<'a>(incoming: &Incoming<'a>, out: &mut [u64], width: u32)
-    requires some_cells { 1 ≤ width }
-    requires few_cells { width ≤ MOST_SIDE }
-    requires wide { length incoming.now.plane.now ≡ words_in width }
-    requires out { length out.old ≡ words_in width }
-    ensures { (x : ℕ) → x < width → bit out.new x
-        ≡ streamed_cell incoming.now.plane.now incoming.now.solid_there.now
-        incoming.now.opposite_here.now incoming.now.solid_here.now width Stay x }
+fn any_word<'a, S: Side>(incoming: &Incoming<'a>, j: usize) -> u64
+    requires within { 64 * j < incoming.now.width }
+    ensures { IsStreamedWord incoming.now S.side j result }
 {
-    let Incoming {
-        plane,
-        solid_there,
-        opposite_here,
-        solid_here,
-        all_fluid,
-    } = *incoming;
+    let arriving = S::beside(incoming.plane, j, incoming.width);
+    let blocked = S::beside(incoming.solid_there, j, incoming.width);
+    stream_word(incoming, j, arriving, blocked)
+}
+
+// Streams into all words, one by one.
+#[inline(always)]
+fn stream_few<'a, S: Side>(incoming: &Incoming<'a>, out: &mut [u64])
+    requires out { length out.old ≡ words_in incoming.now.width }
+    ensures { AreStreamed incoming.now S.side (length out.new) out.new }
+{
     for j in 0..out.len() {
-        out[j] = stream_word(
-            all_fluid,
-            plane[j],
-            solid_there[j],
-            opposite_here[j],
-            solid_here[j],
-        );
+        out[j] = any_word::<S>(incoming, j);
     }
 }
 
-/// Streams one direction into a row from the east. What lies past the width is left open.
+// Streams into the words from `from` to `to - 1`, none of them at the end at which the row closes.
 #[inline(always)]
-pub(crate) fn stream_from_east<'a>(incoming: &Incoming<'a>, out: &mut [u64], width: u32)
-    requires some_cells { 1 ≤ width }
-    requires few_cells { width ≤ MOST_SIDE }
-    requires wide { length incoming.now.plane.now ≡ words_in width }
-    requires out { length out.old ≡ words_in width }
-    ensures { (x : ℕ) → x < width → bit out.new x
-        ≡ streamed_cell incoming.now.plane.now incoming.now.solid_there.now
-        incoming.now.opposite_here.now incoming.now.solid_here.now width On x }
+fn stream_inner<'a, S: Side>(incoming: &Incoming<'a>, from: usize, to: usize, out: &mut [u64])
+    requires out { length out.old ≡ words_in incoming.now.width }
+    requires order { from ≤ to }
+    requires after_first { S.CLOSES_LAST ≡ false → 1 ≤ from }
+    requires within { to ≤ length out.old }
+    requires before_last { S.CLOSES_LAST ≡ true → to < length out.old }
+    ensures { AreStreamed incoming.now S.side from out.old →
+        AreStreamed incoming.now S.side to out.new }
 {
-    let Incoming {
-        plane,
-        solid_there,
-        opposite_here,
-        solid_here,
-        all_fluid,
-    } = *incoming;
-    let last = out.len() - 1;
-    for j in 0..last {
-        let arriving = from_east(plane[j], 63, plane[j + 1]);
-        let blocked = from_east(solid_there[j], 63, solid_there[j + 1]);
-        out[j] = stream_word(
-            all_fluid,
-            arriving,
-            blocked,
-            opposite_here[j],
-            solid_here[j],
-        );
+    for j in from..to {
+        out[j] = inner_word::<S>(incoming, j);
     }
-    // After the last cell comes the first one.
-    let top = (width - 1) % 64;
-    let arriving = from_east(plane[last], top, plane[0]);
-    let blocked = from_east(solid_there[last], top, solid_there[0]);
-    out[last] = stream_word(
-        all_fluid,
-        arriving,
-        blocked,
-        opposite_here[last],
-        solid_here[last],
-    );
+}
+
+// Streams into the words from `j` to `j + 3`. All are computed before one is written, so that a
+// compiler can compute them at once.
+#[inline(always)]
+fn stream_four<'a, S: Side>(incoming: &Incoming<'a>, j: usize, out: &mut [u64])
+    requires out { length out.old ≡ words_in incoming.now.width }
+    requires within { j + 4 ≤ length out.old }
+    ensures { AreStreamed incoming.now S.side j out.old →
+        AreStreamed incoming.now S.side (j + 4) out.new }
+{
+    let first = any_word::<S>(incoming, j);
+    let second = any_word::<S>(incoming, j + 1);
+    let third = any_word::<S>(incoming, j + 2);
+    let fourth = any_word::<S>(incoming, j + 3);
+    out[j] = first;
+    out[j + 1] = second;
+    out[j + 2] = third;
+    out[j + 3] = fourth;
+}
+
+// Streams into all words. Bits past the width are left open. The four words at the end at which the
+// row closes are computed apart, so that the loop over the others needs no test.
+#[inline(always)]
+fn stream_words<'a, S: Side>(incoming: &Incoming<'a>, out: &mut [u64])
+    requires out { length out.old ≡ words_in incoming.now.width }
+    ensures { AreStreamed incoming.now S.side (length out.new) out.new }
+{
+    let all = out.len();
+    if all < 4 {
+        stream_few::<S>(incoming, out);
+    } else if S::CLOSES_LAST {
+        stream_inner::<S>(incoming, 0, all - 4, out);
+        stream_four::<S>(incoming, all - 4, out);
+    } else {
+        stream_four::<S>(incoming, 0, out);
+        stream_inner::<S>(incoming, 4, all, out);
+    }
+}
+
+// Streams into all words from the west, from this column or from the east. Bits past the width are
+// left open.
+#[inline(always)]
+fn stream_along<'a>(along: i32, incoming: &Incoming<'a>, out: &mut [u64])
+    requires out { length out.old ≡ words_in incoming.now.width }
+    ensures { (m : Move) → along ≡ amount m →
+        AreStreamed incoming.now m (length out.new) out.new }
+{
+    if along < 0 {
+        stream_words::<West>(incoming, out);
+    } else if along > 0 {
+        stream_words::<East>(incoming, out);
+    } else {
+        stream_words::<Here>(incoming, out);
+    }
+}
+
+/// Streams direction `i` into the words of a row. `along` is -1, 0 or 1: the particles come from the
+/// west, from this column, or from the east.
+#[inline(always)]
+pub fn stream_direction<'a>(words: &mut [u64], i: usize, along: i32, incoming: &Incoming<'a>)
+    requires direction { i < 8 }
+    requires within { i * words_in incoming.now.width + words_in incoming.now.width ≤ length words.old }
+    ensures streamed { (m : Move) → along ≡ amount m → (x : ℕ) → x < incoming.now.width →
+        has words.new (words_in incoming.now.width) i x ≡ streamed_cell incoming.now m x }
+    ensures clear { (x : ℕ) → incoming.now.width ≤ x → x < 64 * words_in incoming.now.width →
+        has words.new (words_in incoming.now.width) i x ≡ false }
+    ensures others { (k x : ℕ) → k ≢ i → x / 64 < words_in incoming.now.width →
+        has words.new (words_in incoming.now.width) k x
+        ≡ has words.old (words_in incoming.now.width) k x }
+{
+    let words_each = words_for(incoming.width);
+    let out = &mut words[i * words_each..i * words_each + words_each];
+    stream_along(along, incoming, out);
+    clear_past(out, incoming.width);
 }

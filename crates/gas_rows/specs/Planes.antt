@@ -5,7 +5,7 @@ use Rattle.gas_geom.specs.Lattice.{row_of}
 use Rattle.gas_bits.specs.Words.{words_in}
 use Rattle.gas_bits.specs.Planes.{state}
 
--- the row of that width: its cell x holds direction i where bit x % 64 of the direction's word x / 64 is 1
+-- the row of that width: its cell x holds direction i if bit x % 64 of the direction's word x / 64 is 1
 unfoldable pub cells_of : ℕ → ℕ → List ℕ → List ℕ
 cells_of dirs width words = row_of width (state words (words_in width) dirs)
 

@@ -35,7 +35,7 @@ pub(crate) fn collide<'a, G: Gas>(words: &mut [u64], collision: &Collision<'a>)
         state words.new collision.now.words_each G.rules.dirs y
         ≡ collided_state G.rules words.old collision.now.words_each collision.now.solid.now collision.now.chi.now y }
 {
-    // Two calls, so that a compiler leaves the solid cells out where there are none.
+    // Two calls, so that the compiler leaves out the solid cells of a row that has none.
     let Collision {
         words_each,
         solid,

@@ -17,7 +17,7 @@ pub(crate) fn generator_of(seed: u64) -> ChaCha20Rng
     ChaCha20Rng::from_seed(key)
 }
 
-/// Sets a generator to a position of a stream. One that stands there keeps its buffered block.
+/// Sets a generator to a position of a stream. If it is there already, it keeps its buffered block.
 pub(crate) fn seek(generator: &mut ChaCha20Rng, stream: u64, position: u64)
     ensures { generator.new ≡ record generator.old { stream = stream; word_pos = position } }
 {

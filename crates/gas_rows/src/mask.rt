@@ -18,7 +18,7 @@ use std::marker::Model;
 pub struct Mask {
     width: u32,
     words: Vec<u64>,
-    // True only if no cell is true; false where that is not known.
+    // True only if no cell is true. False if that is not known.
     blank: bool,
 }
 

@@ -11,12 +11,12 @@ ghost use Rattle.gas_rows.specs.Planes.{AreWordsOf, cells_of};
 use crate::collision::{Collision, collide};
 use crate::directions::directions;
 use crate::mask::Mask;
-use gas_bits::direction::stream_direction;
 use gas_bits::incoming::Incoming;
 use gas_bits::load::{clear_planes_past, load_states, load_words};
 use gas_bits::planes::{empty_solid, planes_at, read_cell, write_cell};
 use gas_bits::span::count_in;
 use gas_bits::states::states_of;
+use gas_bits::stream::stream_direction;
 use gas_bits::word::{clear_past_width, words_for};
 use gas_geom::gas::Gas;
 use std::alloc::{AllocError, Global};
@@ -168,17 +168,28 @@ impl<G: Gas> Row<G> {
         clear_planes_past(&mut self.words, directions::<G>(), self.width);
     }
 
-    /// Returns the words of direction `i`: bit `b` of word `j` is 1 where cell `64 * j + b` holds
-    /// it. Bits past the width are 0.
-    #[inline(always)]
+    /// Returns the words of direction `i`: bit `b` of word `j` is 1 if cell `64 * j + b` holds it.
+    /// Bits past the width are 0.
     pub fn plane(&self, i: u32) -> &[u64]
         requires direction { i < G.rules.dirs }
         ensures long { length result.now ≡ words_in (length self.now) }
         ensures bits { (x : ℕ) → bit result.now x ≡ holds (slice_index self.now x) i }
     {
-        let words_each = words_for(self.width);
+        self.plane_of_width(i, self.width)
+    }
+
+    /// Returns the words of direction `i` of a row whose width the caller has at hand.
+    #[inline(always)]
+    pub fn plane_of_width(&self, i: u32, width: u32) -> &[u64]
+        requires direction { i < G.rules.dirs }
+        requires wide { width ≡ length self.now }
+        ensures long { length result.now ≡ words_in (length self.now) }
+        ensures bits { (x : ℕ) → bit result.now x ≡ holds (slice_index self.now x) i }
+    {
+        let words = self.words.as_slice();
+        let words_each = words_for(width);
         let start = i as usize * words_each;
-        &self.words[start..start + words_each]
+        &words[start..start + words_each]
     }
 
     /// Returns word `j` of direction `i`, for the cells from `64 * j` on.
@@ -258,16 +269,14 @@ impl<G: Gas> Row<G> {
     #[inline(always)]
     pub fn stream_plane<'a>(&mut self, i: u32, along: i32, incoming: &Incoming<'a>)
         requires direction { i < G.rules.dirs }
-        requires wide { length incoming.now.plane.now ≡ words_in (length self.old) }
+        requires wide { incoming.now.width ≡ length self.old }
         ensures wide { length self.new ≡ length self.old }
         ensures states { (x : ℕ) → slice_index self.new x < 2 ^ G.rules.dirs }
         ensures streamed { (m : Move) → along ≡ amount m → (x : ℕ) → x < length self.old →
-            holds (slice_index self.new x) i
-            ≡ streamed_cell incoming.now.plane.now incoming.now.solid_there.now
-            incoming.now.opposite_here.now incoming.now.solid_here.now (length self.old) m x }
+            holds (slice_index self.new x) i ≡ streamed_cell incoming.now m x }
         ensures others { (x k : ℕ) → k ≢ i → holds (slice_index self.new x) k
             ≡ holds (slice_index self.old x) k }
     {
-        stream_direction(&mut self.words, i as usize, along, incoming, self.width);
+        stream_direction(&mut self.words, i as usize, along, incoming);
     }
 }

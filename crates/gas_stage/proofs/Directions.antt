@@ -15,7 +15,7 @@ use Rattle.gas_geom.proofs.Arriving.{arrives_from}
 use Rattle.gas_geom.proofs.Holds.{set_of-lt, holds-set_of, holds-zero}
 use Rattle.gas_rows.specs.Beside.{is_solid_beside}
 use Rattle.gas_bits.specs.Words.{bit}
-use Rattle.gas_bits.specs.Shift.{streamed_bit}
+use Rattle.gas_bits.proofs.ShiftedBits.{streamed_bit}
 use Rattle.gas_bits.proofs.Sets.{set_of-holds, set_from}
 use Rattle.gas_stage.specs.Streaming.{AreRowsAbout, IsRowAt}
 use Rattle.gas_stage.specs.Inner.Neighbourhood.{row_beside}

@@ -6,8 +6,8 @@ use Rattle.gas_geom.specs.Lattice.{cell, row_of, collided, next}
 use Rattle.gas_rows.specs.Chirality.{chirality_bit}
 use Rattle.gas_rows.specs.declared.chirality.Chirality.{Chirality}
 
--- A stage as its callers see it. The open pass, if there is one, is the generation that it computes the step from, or None
--- where it passes rows on.
+-- A stage as its callers see it. The open pass, if there is one, is the generation from which it computes the step, or None if it
+-- hands rows on.
 pub record StageModel : Type 0 where
   pub channel : ChannelModel
   pub chirality : Chirality
@@ -18,16 +18,16 @@ pub record StageModel : Type 0 where
   pub before_last : List ℕ
   pub last : List ℕ
 
--- What a stage owes for the rows q. In a pass that passes rows on, q itself. In one that computes the step from generation g,
--- the rows of the next lattice: all of them where q has all rows, and before that one fewer than q has, since the last row of
--- q still lacks the one below it. Rows that have not come count as empty.
+-- What a stage owes for the rows q. In a pass that hands rows on, q itself. In one that computes the step from generation g, rows
+-- of the next lattice: all of them if q has all rows, else one fewer than q, because the last row of q lacks the one below it. Rows
+-- that have not come count as empty.
 abbrev pub owed : Rules → ChannelModel → Chirality → Option ℕ → List (List ℕ) → List (List ℕ)
 owed gas channel chirality None q = q
 owed gas channel chirality (Some g) q =
     let rows : List (List ℕ) = next gas channel (chirality_bit chirality channel.width g) q in
     if length q == channel.height then rows else take (length q - 1) rows
 
--- what it has given for them before the flush: a pass that computes keeps the last row back
+-- what it returned for them before the flush: a pass that computes keeps the last row back
 abbrev pub given : Rules → ChannelModel → Chirality → Option ℕ → List (List ℕ) → List (List ℕ)
 given gas channel chirality None q = q
 given gas channel chirality (Some g) q = take (length q - 1) (owed gas channel chirality (Some g) q)
@@ -39,8 +39,8 @@ pub record HoldsLast (gas : Rules) (s : StageModel) (g : ℕ) (q : List (List �
   pub last : 1 ≤ length q →
       s.last ≡ row_of s.channel.width (λ x. collided gas s.channel (chirality_bit s.chirality s.channel.width g) (cell q) x (length q - 1))
 
--- The stage may have come to its state by the rows q, in the open pass p. A stage may have been fed no row when its pass opens,
--- and one more with each row: so what is promised for every list that it may have been fed is promised for the rows that it was.
+-- The stage may have come to its state by the rows q, in the open pass p: it may have been fed no row when its pass opens, and one
+-- more after every feed. A promise for every list that it may have been fed is one for the rows that it was fed.
 pub record MayHaveBeenFed (gas : Rules) (s : StageModel) (p : Option ℕ) (q : List (List ℕ)) : Type 0 where
   pub pass : s.pass ≡ Some p
   pub fed : s.fed ≡ length q

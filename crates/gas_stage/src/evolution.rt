@@ -41,8 +41,8 @@ pub fn lattice_after<G: Gas>(
     Ok(Lattice::from_rows(channel, Vec::from(rows)))
 }
 
-/// Generations add up: the lattice n generations after the one of m generations is that of m + n,
-/// where the later ones begin at the generation that was reached.
+/// Generations add up: m generations and then n more, counted on from there, lead to the lattice
+/// of m + n generations.
 pub fn generations_add_up()
     ensures law { (gas : Rules) (chirality : Chirality) (first : ℕ) (lattice : LatticeModel) (m n : ℕ) →
         lattice_after gas chirality (first + m) (lattice_after gas chirality first lattice m) n
@@ -71,8 +71,8 @@ fn rows_after<G: Gas>(
     Ok(rows)
 }
 
-// One pass: each row leaves the queue at its front and goes through the stage, and what the stage
-// gives joins the queue at its end.
+// One pass: every row leaves the queue at its front and goes through the stage. The rows that the
+// stage returns join the queue at its end.
 fn pass<G: Gas>(stage: &mut Stage<'_, G>, generation: u64, rows: &mut VecDeque<Row<G>>)
     requires closed { stage.old.pass ≡ None }
     requires some_rows { 0 < stage.old.channel.height }

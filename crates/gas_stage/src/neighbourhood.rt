@@ -1,5 +1,5 @@
 //! A row of a channel between the rows beside it, and its streaming: every particle moves along its
-//! link, or is sent back where the link ends at a solid cell or the wall.
+//! link, or is sent back if the link ends at a solid cell or the wall.
 ghost use Rattle.std.specs.Prelude.{◌≡◌, ◌≢◌, ◌+◌, ◌<◌, ◌^◌, ℕ, IsTrue, length, slice_index};
 ghost use Rattle.gas_geom.specs.Moves.{Move, amount};
 ghost use Rattle.gas_geom.specs.Gas.{holds};
@@ -88,11 +88,14 @@ impl<'a, G: Gas> Neighbourhood<'a, G> {
         let (along, down) = G::step(opposite, self.y % 2 == 1);
         let solid_there = self.channel.mask_beside(self.y, down).words();
         let solid_here = self.channel.mask(self.y).words();
+        // All rows have this width, and the compiler has it in a register.
+        let width = out.width();
         let incoming = Incoming {
-            plane: self.row_beside(down).plane(i),
+            plane: self.row_beside(down).plane_of_width(i, width),
             solid_there,
-            opposite_here: self.middle.plane(opposite),
+            opposite_here: self.middle.plane_of_width(opposite, width),
             solid_here,
+            width,
             all_fluid,
         };
         out.stream_plane(i, along, &incoming);

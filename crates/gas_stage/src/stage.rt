@@ -23,9 +23,8 @@ enum Mode {
     Computes(u64),
 }
 
-/// A stage of one channel. In each of its passes it is fed the rows of a lattice from the top, and
-/// either computes the next lattice's rows or passes the rows on. It keeps three rows, whatever the
-/// height.
+/// A stage of one channel. In a pass it is fed the rows of a lattice from the top, and either
+/// computes the next lattice's rows or passes the rows on. It keeps three rows, for any height.
 #[derive(Drop)]
 pub struct Stage<'a, G: Gas> {
     channel: &'a Channel,
@@ -98,8 +97,7 @@ impl<'a, G: Gas> Stage<'a, G> {
         })
     }
 
-    /// Opens a pass that computes the step from a generation, or, with None, one that passes rows
-    /// on.
+    /// Opens a pass that computes the step from a generation or, with None, one that hands rows on.
     pub fn begin(&mut self, generation: Option<u64>)
         requires closed { self.old.pass ≡ None }
         ensures opened { self.new ≡ record self.old { pass = Some generation } }
@@ -111,9 +109,9 @@ impl<'a, G: Gas> Stage<'a, G> {
         };
     }
 
-    /// Takes the next row of the open pass. A computing pass gives nothing for the first row, and
-    /// then the next lattice's row before the one fed; a passing one gives the row itself. States
-    /// at solid cells of a row are taken as empty when a pass computes.
+    /// Takes the next row of the open pass. A computing pass returns None for the first row, and
+    /// then the next lattice's row before the one fed. It takes solid cells of a row as empty. A
+    /// pass that hands rows on returns the row itself.
     pub fn feed(&mut self, mut row: Row<G>) -> Option<Row<G>>
         requires open { IsSome self.old.pass }
         requires room { self.old.fed < self.old.channel.height }
@@ -155,8 +153,8 @@ impl<'a, G: Gas> Stage<'a, G> {
         Some(given)
     }
 
-    /// Closes the open pass, in which all rows were fed. A computing pass gives the last row of the
-    /// next lattice, and a passing one nothing.
+    /// Closes the open pass, in which all rows were fed. A computing pass returns the last row of
+    /// the next lattice, and another one None.
     pub fn flush(&mut self) -> Option<Row<G>>
         requires open { IsSome self.old.pass }
         requires all { self.old.fed ≡ self.old.channel.height }
@@ -176,7 +174,7 @@ impl<'a, G: Gas> Stage<'a, G> {
         let last = self.last.take()?;
         let upper = mem::replace(&mut self.before_last, last);
         let out = mem::replace(&mut self.oldest, upper);
-        // No row is below the bottom one, and none is read.
+        // Below the bottom row no row is read.
         let neighbourhood = Neighbourhood {
             channel: self.channel,
             above: &self.oldest,
@@ -187,7 +185,7 @@ impl<'a, G: Gas> Stage<'a, G> {
         Some(neighbourhood.stream(out))
     }
 
-    /// The rows fed in the open pass, 0 where none is open.
+    /// The number of rows fed in the open pass, 0 if none is open.
     pub fn fed(&self) -> u32
         ensures value { result ≡ self.now.fed }
         ensures within { result ≤ self.now.channel.height }

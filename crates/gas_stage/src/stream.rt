@@ -9,7 +9,7 @@ use gas_geom::gas::Gas;
 use gas_rows::channel::Channel;
 use gas_rows::row::Row;
 
-// A row, or another of its width where there is none.
+// A row or, if there is none, another of its width.
 #[inline(always)]
 fn row_or<'a, G: Gas>(row: Option<&'a Row<G>>, other: &'a Row<G>) -> &'a Row<G>
     requires wide { ForSome (option_copied row) (λ r. length r ≡ length other.now) }
@@ -20,7 +20,7 @@ fn row_or<'a, G: Gas>(row: Option<&'a Row<G>>, other: &'a Row<G>) -> &'a Row<G>
 }
 
 /// Row `y` after streaming, from the collided rows above it, at it and below it. The first is None
-/// at the top, and the last at the bottom. What stands at solid cells is not read.
+/// at the top, and the last at the bottom. Solid cells are not read.
 pub fn stream_row<G: Gas>(
     channel: &Channel,
     y: u32,

@@ -1,38 +1,50 @@
-use Rattle.std.proofs.Common.{ℕ, ap, ◌∙◌, sym, w32}
+use Rattle.std.proofs.Common.{◌≡◌, ◌≢◌, ◌≤◌, ◌<◌, ◌+◌, ◌*◌, ◌/◌, ℕ, false, length, subst, sym, ◌∙◌, w32, arith}
 use Rattle.std.proofs.lemmas.List.{with_items_is}
 use Rattle.std.proofs.lemmas.Int.{to_z-of_z}
 use Rattle.gas_bits.specs.Words.{words_in}
+use Rattle.gas_bits.specs.Planes.{has}
 use Rattle.gas_bits.specs.Shift.{streamed_cell}
+use Rattle.gas_bits.proofs.Cells.{whole_plane}
 use Rattle.gas_rows.proofs.Cells.{width_of}
 use Rattle.gas_rows.proofs.PlaneWrites.{written}
 use Rattle.gas_rows.proofs.row.Row.stream_plane.Goals as goal
 
-pub stream_direction-requires-clause-wide : goal.stream_direction-requires-clause-wide
-stream_direction-requires-clause-wide g c =
-    c.requires.wide ∙ ap words_in (width_of g.G.Gas.rules.dirs c.self.inside.width c.self.inside.words.items c.args.self.now c.self.view_is)
+pub stream_direction-requires-clause-within : goal.stream_direction-requires-clause-within
+stream_direction-requires-clause-within g c =
+    let width : ℕ = c.self.inside.width in
+    let same = c.requires.wide ∙ width_of g.G.Gas.rules.dirs width c.self.inside.words.items c.args.self.now c.self.view_is in
+    let whole = whole_plane (words_in width) g.G.Gas.rules.dirs c.args.i c.requires.direction in
+    subst (λ (w : ℕ). c.args.i * words_in w + words_in w ≤ length c.deref_mut.result.now) (sym same)
+    (omega (arith, whole, c.self.invariant.long, c.deref_mut.ensures.len, c.self.inside.words.ok))
 
 pub invariant_of-self : goal.invariant_of-self
 invariant_of-self g c =
+    let wide = width_of g.G.Gas.rules.dirs c.self.inside.width c.self.inside.words.items c.args.self.now c.self.view_is in
+    let same = c.requires.wide ∙ wide in
     let row =
     written g.G.Gas.rules.dirs c.self.inside.width c.self.inside.words.items c.args.self.now c.deref_mut.result.now c.stream_direction.new.words _ c.args.i
     c.self.invariant c.self.view_is c.deref_mut.ensures.value c.stream_direction.auto.words
-    (with_items_is c.self.inside.words c.stream_direction.new.words (c.stream_direction.auto.words ∙ c.deref_mut.ensures.len)) c.stream_direction.ensures.clear c.stream_direction.ensures.others in
+    (with_items_is c.self.inside.words c.stream_direction.new.words (c.stream_direction.auto.words ∙ c.deref_mut.ensures.len))
+    (subst (λ (w : ℕ). (x : ℕ) → w ≤ x → x < 64 * words_in w → has c.stream_direction.new.words (words_in w) c.args.i x ≡ false) same c.stream_direction.ensures.clear)
+    (subst (λ (w : ℕ). (k x : ℕ) → k ≢ c.args.i → x / 64 < words_in w → has c.stream_direction.new.words (words_in w) k x ≡ has c.deref_mut.result.now (words_in w) k x) same c.stream_direction.ensures.others) in
     row.inside
 
 pub returns : goal.returns
 returns g c =
+    let wide = width_of g.G.Gas.rules.dirs c.self.inside.width c.self.inside.words.items c.args.self.now c.self.view_is in
+    let same = c.requires.wide ∙ wide in
     let row =
     written g.G.Gas.rules.dirs c.self.inside.width c.self.inside.words.items c.args.self.now c.deref_mut.result.now c.stream_direction.new.words _ c.args.i
     c.self.invariant c.self.view_is c.deref_mut.ensures.value c.stream_direction.auto.words
-    (with_items_is c.self.inside.words c.stream_direction.new.words (c.stream_direction.auto.words ∙ c.deref_mut.ensures.len)) c.stream_direction.ensures.clear c.stream_direction.ensures.others in
-    let wide = width_of g.G.Gas.rules.dirs c.self.inside.width c.self.inside.words.items c.args.self.now c.self.view_is in
+    (with_items_is c.self.inside.words c.stream_direction.new.words (c.stream_direction.auto.words ∙ c.deref_mut.ensures.len))
+    (subst (λ (w : ℕ). (x : ℕ) → w ≤ x → x < 64 * words_in w → has c.stream_direction.new.words (words_in w) c.args.i x ≡ false) same c.stream_direction.ensures.clear)
+    (subst (λ (w : ℕ). (k x : ℕ) → k ≢ c.args.i → x / 64 < words_in w → has c.stream_direction.new.words (words_in w) k x ≡ has c.deref_mut.result.now (words_in w) k x) same c.stream_direction.ensures.others) in
     record {
       wide = row.wide;
       states = row.states;
       streamed = λ m e x h.
-          let q = c.args.incoming.now in
-          row.here (streamed_cell q.plane.now q.solid_there.now q.opposite_here.now q.solid_here.now c.self.inside.width m) c.requires.direction
-          (c.stream_direction.ensures.streamed m (to_z-of_z w32 c.args.along c.ranges.along ∙ e)) x h
-          ∙ ap (λ (width : ℕ). streamed_cell q.plane.now q.solid_there.now q.opposite_here.now q.solid_here.now width m x) (sym wide);
+          row.here (streamed_cell c.args.incoming.now m) c.requires.direction
+          (subst (λ (w : ℕ). (x : ℕ) → x < w → has c.stream_direction.new.words (words_in w) c.args.i x ≡ streamed_cell c.args.incoming.now m x) same
+          (c.stream_direction.ensures.streamed m (to_z-of_z w32 c.args.along c.ranges.along ∙ e))) x h;
       others = row.others;
     }

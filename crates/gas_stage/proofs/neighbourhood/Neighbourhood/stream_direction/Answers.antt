@@ -3,11 +3,18 @@ use Rattle.std.proofs.lemmas.Int.{to_z-of_z}
 use Rattle.gas_geom.specs.Moves.{Move, Stay, amount, column_after}
 use Rattle.gas_geom.specs.Gas.{holds}
 use Rattle.gas_geom.specs.Laws.Steps.{is_odd, column_after-lt}
-use Rattle.gas_bits.specs.Shift.{streamed_cell}
-use Rattle.gas_bits.specs.Words.{words_in}
+use Rattle.gas_bits.specs.Words.{words_in, bit}
+use Rattle.gas_bits.proofs.ShiftedBits.{streamed_bit}
 use Rattle.gas_stage.specs.Inner.Neighbourhood.{NeighbourhoodModel, IsStreamedIn, HasOnlyFluidAround, row_beside}
 use Rattle.gas_stage.proofs.Directions.{streamed_there, none_solid}
 use Rattle.gas_stage.proofs.neighbourhood.Neighbourhood.stream_direction.Goals as goal
+
+pub plane_of_width-requires-clause-wide : goal.plane_of_width-requires-clause-wide
+plane_of_width-requires-clause-wide g c = c.width-width.ensures.value ∙ c.requires.wide ∙ sym c.row_beside.ensures.wide
+
+pub plane_of_width-requires-2-clause-wide : goal.plane_of_width-requires-2-clause-wide
+plane_of_width-requires-2-clause-wide g c =
+    c.width-width.ensures.value ∙ c.requires.wide ∙ ap (λ (n : NeighbourhoodModel). n.channel.width) (sym c.self.view_is) ∙ sym c.self.invariant.middle_wide
 
 pub invariant_of-incoming : goal.invariant_of-incoming
 invariant_of-incoming g c =
@@ -20,10 +27,14 @@ invariant_of-incoming g c =
     let beside_wide = c.row_beside.ensures.wide ∙ ap (λ (n : NeighbourhoodModel). n.channel.width) (sym c.self.view_is) in
     let far : c.args.all_fluid ≡ true → HasOnlyFluidAround near.channel.now near.y =
     λ all. subst (λ (n : NeighbourhoodModel). HasOnlyFluidAround n.channel n.y) (sym c.self.view_is) (c.requires.fluid all) in
+    let same = c.width-width.ensures.value ∙ c.requires.wide ∙ ap (λ (n : NeighbourhoodModel). n.channel.width) (sym c.self.view_is) in
     record {
-      there = c.words-solid_there.ensures.long ∙ ap words_in (c.mask_beside.ensures.wide ∙ sym beside_wide) ∙ sym c.plane.ensures.long;
-      opposite = c.plane-2.ensures.long ∙ ap words_in (c.self.invariant.middle_wide ∙ sym beside_wide) ∙ sym c.plane.ensures.long;
-      here = c.words-solid_here.ensures.long ∙ ap words_in (c.mask.ensures.wide ∙ sym beside_wide) ∙ sym c.plane.ensures.long;
+      some_cells = c.width-width.ensures.some_cells;
+      few_cells = c.width-width.ensures.few_cells;
+      plane_long = c.plane_of_width.ensures.long ∙ ap words_in (beside_wide ∙ sym same);
+      there_long = c.words-solid_there.ensures.long ∙ ap words_in (c.mask_beside.ensures.wide ∙ sym same);
+      opposite_long = c.plane_of_width-2.ensures.long ∙ ap words_in (c.self.invariant.middle_wide ∙ sym same);
+      here_long = c.words-solid_here.ensures.long ∙ ap words_in (c.mask.ensures.wide ∙ sym same);
       fluid_there = λ all. none_solid c.words-solid_there.result.now c.mask_beside.result.now width c.words-solid_there.ensures.bits c.mask_beside.ensures.wide
           (λ x h. c.mask_beside.ensures.cells m.1 down x h ∙ far all x m.1 h);
       fluid_here = λ all. none_solid c.words-solid_here.result.now c.mask.result.now width c.words-solid_here.ensures.bits c.mask.ensures.wide
@@ -47,9 +58,9 @@ returns-clause-streamed g c =
     subst (λ (n : NeighbourhoodModel). IsStreamedIn gas n i c.stream_plane.new.self) c.self.view_is (λ at rows x h.
     let u : ℕ = column_after width x m.0 in
     c.stream_plane.ensures.streamed m.0 across x (subst (λ w. x < w) (sym wide) h)
-    ∙ ap (λ (w : ℕ). streamed_cell c.plane.result.now c.words-solid_there.result.now c.plane-2.result.now c.words-solid_here.result.now w m.0 x) wide
+    ∙ ap (λ (w : ℕ). streamed_bit (bit c.plane_of_width.result.now (column_after w x m.0)) (bit c.words-solid_there.result.now (column_after w x m.0)) (bit c.plane_of_width-2.result.now x) (bit c.words-solid_here.result.now x)) (c.width-width.ensures.value ∙ wide)
     ∙ streamed_there gas near.channel.now at x near.y i near.above.now near.middle.now near.below.now _ _ _ _ c.requires.direction h rows
-    (c.plane.ensures.bits u ∙ ap (λ (r : List ℕ). holds (get_or r u 0) i) beside)
+    (c.plane_of_width.ensures.bits u ∙ ap (λ (r : List ℕ). holds (get_or r u 0) i) beside)
     (c.words-solid_there.ensures.bits u ∙ c.mask_beside.ensures.cells m.1 down u (column_after-lt width x m.0 h))
-    (λ fluid. c.plane-2.ensures.bits x ∙ ap (holds (get_or near.middle.now x 0)) opposite ∙ ap (λ s. holds s (gas.opposite i)) (rows.mid_is x h fluid))
+    (λ fluid. c.plane_of_width-2.ensures.bits x ∙ ap (holds (get_or near.middle.now x 0)) opposite ∙ ap (λ s. holds s (gas.opposite i)) (rows.mid_is x h fluid))
     (c.words-solid_here.ensures.bits x ∙ ap (λ (mask : List Bool). get_or mask x false) c.mask.ensures.row))
