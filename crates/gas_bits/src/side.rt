@@ -1,19 +1,20 @@
 //! The neighbours of the 64 cells of a word along the row.
 ghost use Rattle.std.specs.Prelude.{◌≡◌, ◌==◌, ℕ, Bool, true, false, ◌-◌, ◌+◌, ◌*◌, ◌<◌, ◌≤◌, if◌then◌else◌, length};
-ghost use Rattle.gas_geom.specs.Moves.{Move, Back, Stay, On};
+ghost use Rattle.gas_geom.specs.Moves.{Move, Back, On};
 ghost use Rattle.gas_geom.specs.Gas.{holds};
 ghost use Rattle.gas_bits.specs.Words.{words_in};
 ghost use Rattle.gas_bits.specs.Inner.Streamed.{AreBeside};
 
 use crate::word::clear_above;
 
-/// The side that the particles of a direction come from along the row.
+/// The side that the particles of a direction come from along the row, if not from the same column.
 pub(crate) trait Side {
     ghost side: { Move };
 
     ghost CLOSES_LAST: { Bool };
 
-    /// Whether it is the last word that has a neighbour round the end of the row, and not the first.
+    /// Whether the row closes at its last word: a neighbour of that word is round the end. If not, it
+    /// closes at the first.
     const CLOSES_LAST: bool;
 
     /// Returns the neighbours of the cells of word `j`, none of which is round the end of the row.
@@ -24,18 +25,17 @@ pub(crate) trait Side {
         requires before_last { CLOSES_LAST ≡ true → 64 * (j + 1) < width }
         ensures { AreBeside words.now width side j result };
 
-    /// Returns the neighbours of the cells of word `j`.
-    fn beside(words: &[u64], j: usize, width: u32) -> u64
+    /// Returns the neighbours of the cells of the first word, or of the last one if that closes.
+    fn closing(words: &[u64], j: usize, width: u32) -> u64
         requires long { length words.now ≡ words_in width }
         requires within { 64 * j < width }
+        requires first { CLOSES_LAST ≡ false → j ≡ 0 }
+        requires last { CLOSES_LAST ≡ true → j + 1 ≡ words_in width }
         ensures { AreBeside words.now width side j result };
 }
 
 /// From the west.
 pub(crate) struct West;
-
-/// From the same column.
-pub(crate) struct Here;
 
 /// From the east.
 pub(crate) struct East;
@@ -83,30 +83,9 @@ impl Side for West {
     }
 
     #[inline(always)]
-    fn beside(words: &[u64], j: usize, width: u32) -> u64 {
-        if j > 0 {
-            return Self::inner(words, j, width);
-        }
+    fn closing(words: &[u64], j: usize, width: u32) -> u64 {
         let last = words[words.len() - 1];
-        from_west(with_last_bit_on_top(last, (width - 1) % 64), words[0])
-    }
-}
-
-impl Side for Here {
-    ghost side = { Stay };
-
-    ghost CLOSES_LAST = { false };
-
-    const CLOSES_LAST: bool = false;
-
-    #[inline(always)]
-    fn inner(words: &[u64], j: usize, _width: u32) -> u64 {
-        words[j]
-    }
-
-    #[inline(always)]
-    fn beside(words: &[u64], j: usize, _width: u32) -> u64 {
-        words[j]
+        from_west(with_last_bit_on_top(last, (width - 1) % 64), words[j])
     }
 }
 
@@ -123,10 +102,7 @@ impl Side for East {
     }
 
     #[inline(always)]
-    fn beside(words: &[u64], j: usize, width: u32) -> u64 {
-        if j < words.len() - 1 {
-            return Self::inner(words, j, width);
-        }
+    fn closing(words: &[u64], j: usize, width: u32) -> u64 {
         from_east(words[j], (width - 1) % 64, words[0])
     }
 }

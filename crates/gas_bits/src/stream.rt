@@ -1,14 +1,14 @@
 //! The streaming of one direction into the words of a row.
 ghost use Rattle.std.specs.Prelude.{◌≡◌, ◌≢◌, ◌/◌, ℕ, ◌-◌, ◌+◌, ◌*◌, ◌<◌, ◌≤◌, true, false, length};
-ghost use Rattle.gas_geom.specs.Moves.{Move, amount};
+ghost use Rattle.gas_geom.specs.Moves.{Move, Stay, amount};
 ghost use Rattle.gas_bits.specs.Words.{words_in};
 ghost use Rattle.gas_bits.specs.Planes.{has};
 ghost use Rattle.gas_bits.specs.Shift.{streamed_cell};
-ghost use Rattle.gas_bits.specs.Inner.Streamed.{AreBeside, IsStreamedWord, AreStreamed};
+ghost use Rattle.gas_bits.specs.Inner.Streamed.{AreBeside, IsStreamedWord, AreStreamed, words_apart};
 
 use crate::incoming::Incoming;
 use crate::plane::clear_past;
-use crate::side::{East, Here, Side, West};
+use crate::side::{East, Side, West};
 use crate::word::words_for;
 
 // Returns what the cells of word `j` hold after streaming: what arrives, but the opposite direction
@@ -39,26 +39,17 @@ fn inner_word<'a, S: Side>(incoming: &Incoming<'a>, j: usize) -> u64
     stream_word(incoming, j, arriving, blocked)
 }
 
-// Returns word `j` of the streamed direction.
+// Returns word `j` of the streamed direction, at the end at which the row closes.
 #[inline(always)]
-fn any_word<'a, S: Side>(incoming: &Incoming<'a>, j: usize) -> u64
+fn closing_word<'a, S: Side>(incoming: &Incoming<'a>, j: usize) -> u64
     requires within { 64 * j < incoming.now.width }
+    requires first { S.CLOSES_LAST ≡ false → j ≡ 0 }
+    requires last { S.CLOSES_LAST ≡ true → j + 1 ≡ words_in incoming.now.width }
     ensures { IsStreamedWord incoming.now S.side j result }
 {
-    let arriving = S::beside(incoming.plane, j, incoming.width);
-    let blocked = S::beside(incoming.solid_there, j, incoming.width);
+    let arriving = S::closing(incoming.plane, j, incoming.width);
+    let blocked = S::closing(incoming.solid_there, j, incoming.width);
     stream_word(incoming, j, arriving, blocked)
-}
-
-// Streams into all words, one by one.
-#[inline(always)]
-fn stream_few<'a, S: Side>(incoming: &Incoming<'a>, out: &mut [u64])
-    requires out { length out.old ≡ words_in incoming.now.width }
-    ensures { AreStreamed incoming.now S.side (length out.new) out.new }
-{
-    for j in 0..out.len() {
-        out[j] = any_word::<S>(incoming, j);
-    }
 }
 
 // Streams into the words from `from` to `to - 1`, none of them at the end at which the row closes.
@@ -77,45 +68,69 @@ fn stream_inner<'a, S: Side>(incoming: &Incoming<'a>, from: usize, to: usize, ou
     }
 }
 
-// Streams into the words from `j` to `j + 3`. All are computed before one is written, so that a
-// compiler can compute them at once.
+// Streams into word `at`, at which the row closes, and, if the row has four words, into three beside
+// it, from `rest` on. All are computed before one is written, so that the compiler can compute them
+// at once.
 #[inline(always)]
-fn stream_four<'a, S: Side>(incoming: &Incoming<'a>, j: usize, out: &mut [u64])
+fn stream_end<'a, S: Side>(incoming: &Incoming<'a>, at: usize, rest: usize, out: &mut [u64])
     requires out { length out.old ≡ words_in incoming.now.width }
-    requires within { j + 4 ≤ length out.old }
-    ensures { AreStreamed incoming.now S.side j out.old →
-        AreStreamed incoming.now S.side (j + 4) out.new }
+    requires first { S.CLOSES_LAST ≡ false → (at ≡ 0) × (rest ≡ 1) }
+    requires last { S.CLOSES_LAST ≡ true → (at + 1 ≡ length out.old)
+        × (4 ≤ length out.old → rest + 4 ≡ length out.old) }
+    ensures first { S.CLOSES_LAST ≡ false →
+        AreStreamed incoming.now S.side (words_apart (length out.old)) out.new }
+    ensures last { S.CLOSES_LAST ≡ true →
+        AreStreamed incoming.now S.side (length out.old - words_apart (length out.old)) out.old →
+        AreStreamed incoming.now S.side (length out.old) out.new }
 {
-    let first = any_word::<S>(incoming, j);
-    let second = any_word::<S>(incoming, j + 1);
-    let third = any_word::<S>(incoming, j + 2);
-    let fourth = any_word::<S>(incoming, j + 3);
-    out[j] = first;
-    out[j + 1] = second;
-    out[j + 2] = third;
-    out[j + 3] = fourth;
+    let closing = closing_word::<S>(incoming, at);
+    if out.len() < 4 {
+        out[at] = closing;
+        return;
+    }
+    let first = inner_word::<S>(incoming, rest);
+    let second = inner_word::<S>(incoming, rest + 1);
+    let third = inner_word::<S>(incoming, rest + 2);
+    out[at] = closing;
+    out[rest] = first;
+    out[rest + 1] = second;
+    out[rest + 2] = third;
 }
 
-// Streams into all words. Bits past the width are left open. The four words at the end at which the
-// row closes are computed apart, so that the loop over the others needs no test.
+// Streams into all words from one side. Bits past the width are left open. The words at the end at
+// which the row closes are computed apart, so that the loop over the others needs no test.
 #[inline(always)]
 fn stream_words<'a, S: Side>(incoming: &Incoming<'a>, out: &mut [u64])
     requires out { length out.old ≡ words_in incoming.now.width }
     ensures { AreStreamed incoming.now S.side (length out.new) out.new }
 {
     let all = out.len();
-    if all < 4 {
-        stream_few::<S>(incoming, out);
-    } else if S::CLOSES_LAST {
-        stream_inner::<S>(incoming, 0, all - 4, out);
-        stream_four::<S>(incoming, all - 4, out);
+    let apart = if all < 4 { 1 } else { 4 };
+    if S::CLOSES_LAST {
+        stream_inner::<S>(incoming, 0, all - apart, out);
+        stream_end::<S>(incoming, all - 1, all - apart, out);
     } else {
-        stream_four::<S>(incoming, 0, out);
-        stream_inner::<S>(incoming, 4, all, out);
+        stream_end::<S>(incoming, 0, 1, out);
+        stream_inner::<S>(incoming, apart, all, out);
     }
 }
 
-// Streams into all words from the west, from this column or from the east. Bits past the width are
+// Streams into all words from the same column.
+#[inline(always)]
+fn stream_from_here<'a>(incoming: &Incoming<'a>, out: &mut [u64])
+    requires out { length out.old ≡ words_in incoming.now.width }
+    ensures { AreStreamed incoming.now Stay (length out.new) out.new }
+{
+    if incoming.all_fluid {
+        out.copy_from_slice(incoming.plane);
+        return;
+    }
+    for j in 0..out.len() {
+        out[j] = stream_word(incoming, j, incoming.plane[j], incoming.solid_there[j]);
+    }
+}
+
+// Streams into all words from the west, from the same column or from the east. Bits past the width are
 // left open.
 #[inline(always)]
 fn stream_along<'a>(along: i32, incoming: &Incoming<'a>, out: &mut [u64])
@@ -128,7 +143,7 @@ fn stream_along<'a>(along: i32, incoming: &Incoming<'a>, out: &mut [u64])
     } else if along > 0 {
         stream_words::<East>(incoming, out);
     } else {
-        stream_words::<Here>(incoming, out);
+        stream_from_here(incoming, out);
     }
 }
 

@@ -1,6 +1,6 @@
 -- Inner words: what functions of this crate promise one another. No public contract cites them.
 -- Here: the words of one direction of a row as they are streamed.
-use Rattle.std.specs.Prelude.{◌≡◌, ℕ, ◌+◌, ◌*◌, ◌<◌, List}
+use Rattle.std.specs.Prelude.{◌≡◌, ℕ, ◌+◌, ◌*◌, ◌<◌, nat_lt, if◌then◌else◌, List}
 use Rattle.gas_geom.specs.Moves.{Move, column_after}
 use Rattle.gas_geom.specs.Gas.{holds}
 use Rattle.gas_bits.specs.Words.{bit}
@@ -19,3 +19,7 @@ IsStreamedWord q m j word = (b : ℕ) → b < 64 → 64 * j + b < q.width → ho
 -- the first n words of `out` are streamed
 abbrev pub AreStreamed : Incoming → Move → ℕ → List ℕ → Type 0
 AreStreamed q m n out = (x : ℕ) → x < 64 * n → x < q.width → bit out x ≡ streamed_cell q m x
+
+-- how many words are computed apart, of so many
+abbrev pub words_apart : ℕ → ℕ
+words_apart all = if nat_lt all 4 then 1 else 4

@@ -1,0 +1,7 @@
+use Rattle.gas_geom.specs.Moves.{Stay}
+use Rattle.gas_bits.specs.Inner.Streamed.{AreStreamed}
+use Rattle.gas_bits.proofs.stream.stream_from_here.Given as goal
+
+-- the words before j are streamed
+abbrev pub invariant-loop-j : goal.invariant-loop-j
+invariant-loop-j l = AreStreamed l.incoming Stay l.j l.out
