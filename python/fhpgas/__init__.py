@@ -8,10 +8,10 @@
     later = fhpgas.run(fhpgas.resume(scene, cells), 1000)
     mean, error = fhpgas.mean(fhpgas.side_by_side(measure, range(1, 9)))
 
-A scene is passed as its text. Bit i of a state is a particle to E, NE, NW, W, SW, SE (fhp1; fhp-rest has rest as bit 6) or to E, N, W, S
-(hpp). Row 0 is the top, and north is up: the middle of cell [y][x] lies at x + (y % 2) / 2, -sqrt(3)/2 y on the triangular lattice.
-Input that does not fit raises a `Fault` of one line; `explain(scene)` says where and why a scene is refused. Only `arrays()` needs a
-package, numpy. Nothing here is proved: the program is.
+A scene is passed as its text. Bit i of a state is a particle to E, NE, NW, W, SW, SE (fhp1, and fhp-rest with rest as bit 6) or to E, N, W,
+S (hpp). Row 0 is the top, and north is up: the middle of cell [y][x] lies at x + (y % 2) / 2, -sqrt(3)/2 y on the triangular lattice. Input
+that does not fit raises a `Fault` of one line; `explain(scene)` says where and why a scene is refused. Only `arrays()` needs a package,
+numpy. The program is proved, this package is not.
 """
 from .drawing import draw
 from .drive import driven

@@ -38,7 +38,7 @@ def picture(asked) -> None:
 
 
 def how_long(asked) -> None:
-    """Times a few short runs with the same plan, and scales. On a machine that does other work the figure changes every minute."""
+    """Times a few short runs with the same plan, and scales. On a busy machine the figure changes every minute."""
     scene = scenes.read_scene(asked.scene)
     size = check(scene)
     stages, capacity = plan(size.height, asked.generations)

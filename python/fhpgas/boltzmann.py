@@ -1,13 +1,13 @@
 """Boltzmann's equation for the gases, solved without noise: what theory says of a flow if correlations between particles are left out.
 
     flow = boltzmann.Flow("fhp1", [[False]] * 64)     # solid[y][x]: 64 rows, and nothing varies along x
-    chances = flow.at(lambda x, y: (0.2, 0.1, 0))     # filling and velocity of each cell, at equilibrium
+    chances = flow.at(lambda x, y: (0.2, 0.1, 0))     # filling and velocity of a cell, at equilibrium
     for _ in range(400):
         chances = flow.step(chances)
     east, north = flow.velocity(chances)              # [y][x]
 
-`chances[i][k]` is the chance that direction i of cell k contains a particle; cells count row by row. With numpy, which is used if it is
-installed, the chances are an array. Walls, obstacles and collisions are those of the program. Nothing here is proved.
+`chances[i][k]` is the chance that direction i of cell k contains a particle. Cells count row by row. With numpy, which is used if it is
+installed, the chances are an array. Walls, obstacles and collisions are the program's.
 """
 import itertools
 import math
@@ -25,7 +25,7 @@ except ImportError:
 
 
 def mean_changes(gas: Gas, chirality: str) -> list[tuple[int, list[float]]]:
-    """Pairs of a state that collides and the mean change of each direction, where both sides are equally likely if seeded."""
+    """Pairs of a state that collides and the mean change of its directions. Both sides are equally likely if seeded."""
     if chirality not in CHIRALITIES:
         raise Fault(f"there is no chirality {chirality!r}: {', '.join(CHIRALITIES)}")
     tables, found = [gas.collisions(side) for side in CHIRALITIES[chirality]], []
@@ -48,8 +48,8 @@ def collided(chances: Sequence, changes: list) -> list:
 
 
 class Flow:
-    """A channel of a gas with cells solid[y][x], periodic in x, between walls above and below; without these walls it is periodic in y too,
-    which the program's channels are not, and its rows must be even."""
+    """A channel of a gas with cells solid[y][x], periodic in x, between walls above and below. Without these walls it is periodic in y too,
+    unlike the program's channels, and its rows must be even."""
 
     def __init__(self, gas: str, solid: Sequence, chirality: str = "seeded", has_walls: bool = True):
         self.gas, self.solid, self.rows, self.columns = gas_named(gas), solid, len(solid), len(solid[0])
@@ -61,8 +61,8 @@ class Flow:
         self.sources = [self._source(*place) for place in places]
 
     def _source(self, i: int, y: int, x: int) -> int:
-        """Where, in all chances one after the other, that of a direction of a cell streams from: the neighbour, or if that is solid the
-        opposite direction of the cell itself."""
+        """Where, in all chances one after the other, the chance of a direction of a cell streams from: the neighbour, or if that is solid
+        the opposite direction of the cell itself."""
         back = self.gas.opposite(i)
         right, down = self.gas.steps[y % 2][back]
         row, column = y + down if self.has_walls else (y + down) % self.rows, (x + right) % self.columns
@@ -73,7 +73,7 @@ class Flow:
         return (i * self.rows + row) * self.columns + column
 
     def at(self, place: Callable[[int, int], tuple[float, ...]]) -> Sequence:
-        """The chances at equilibrium, where `place` says of a column and row the filling and the velocity eastwards and northwards."""
+        """The chances at equilibrium. `place` returns the filling and the velocity eastwards and northwards at a column and row."""
         empty, whole = [0.0] * self.gas.directions, [*itertools.product(range(self.rows), range(self.columns))]
         cells = [empty if self.solid[y][x] else equilibrium(self.gas.name, *place(x, y)) for y, x in whole]
         return numpy.array(cells).T if numpy else [*zip(*cells)]
@@ -87,17 +87,17 @@ class Flow:
         return [[after[k] for k in self.sources[i * cells : (i + 1) * cells]] for i in range(self.gas.directions)]
 
     def forced(self, chances: Sequence, force: float) -> Sequence:
-        """The chances after a force that gives each fluid cell this momentum eastwards, from west to east as `fhpgas.driven` does."""
+        """The chances after a force that adds this momentum eastwards to every fluid cell, from west to east as `fhpgas.driven` does."""
         fluid, shares = [not wall for row in self.solid for wall in row], {0: force / 2, self.gas.opposite(0): -force / 2}
         found = [[c + shares.get(i, 0) * free for c, free in zip(of_one, fluid)] for i, of_one in enumerate(chances)]
         return numpy.array(found) if numpy else found
 
     def density(self, chances: Sequence) -> list[list[float]]:
-        """The particles of each cell [y][x]."""
+        """The particles of the cells [y][x]."""
         return self._rows(map(sum, zip(*chances)))
 
     def velocity(self, chances: Sequence) -> tuple[list[list[float]], list[list[float]]]:
-        """The mean velocity eastwards and northwards of each cell [y][x]; 0 in solid cells."""
+        """The mean velocity eastwards and northwards of the cells [y][x], 0 if they are solid."""
         def mean(axis):
             return self._rows(sum(n * c[axis] for n, c in zip(cell, self.gas.velocities)) / (sum(cell) or 1) for cell in zip(*chances))
 

@@ -5,9 +5,9 @@
     python3 -m fhpgas draw bitmap letter.pbm --pixel 16 --at 250 190 --width 1536 --height 512 > letter.toml
     python3 -m fhpgas draw porous --percent 30 --radius 2 --seed 5 > porous.toml
 
-A cell is named by its column and row from 0 at the top left; rates are thousandths of the directions that contain a particle, speeds
-thousandths of a cell's width per generation. The same words draw the same scene. A wind is drawn from the equilibrium, so such a scene is
-a map, which a sweep over seeds draws again for each. A map has at most about 33 million cells, since the program reads 67,108,864 bytes.
+A cell is named by its column and row from 0 at the top left. Rates are thousandths of the directions that contain a particle, speeds
+thousandths of a cell's width per generation. The same words draw the same scene. A wind is drawn from the equilibrium, so such a scene is a
+map, which a sweep over seeds draws again per seed. A map has at most about 33 million cells, because the program reads 67,108,864 bytes.
 """
 import argparse
 import random
@@ -98,7 +98,7 @@ def solidify(obstacles: shapes.Obstacles, asked: argparse.Namespace, lots: rando
 
 
 def windy(asked: argparse.Namespace, obstacles: shapes.Obstacles) -> str:
-    """A map with a wind, each patch at its own rate."""
+    """A map with a wind, the patches at their rates."""
     density = asked.rate / 1000
     if asked.patch:
         density = [[asked.rate / 1000] * asked.width for _ in range(asked.height)]
@@ -112,7 +112,7 @@ def windy(asked: argparse.Namespace, obstacles: shapes.Obstacles) -> str:
 
 
 def patched(asked: argparse.Namespace, obstacles: shapes.Obstacles, lots: random.Random):
-    """The cells of the patches, [x, y, state], each direction filled at random."""
+    """The cells of the patches, [x, y, state], filled at random."""
     for left, top, w, h, rate in asked.patch:
         for y in range(top, top + h):
             for x in range(left, left + w):
@@ -122,7 +122,7 @@ def patched(asked: argparse.Namespace, obstacles: shapes.Obstacles, lots: random
 
 
 def draw(words: str | list, seed: int | None = None) -> str:
-    """The scene of words, a text or a list, and of a seed if one is given beside them."""
+    """The scene of words, a text or a list, and of a seed if one is passed too."""
     words = words.split() if isinstance(words, str) else [str(word) for word in words]
     reader = Parser("draw")
     add_words(reader)

@@ -1,7 +1,7 @@
 """Driven flows: the engine has no force, so between short runs some particles are turned from west to east.
 
-A particle that is turned gives the gas the momentum of two. Which ones are turned is drawn at random from a seed, each row's share in
-proportion to its fluid cells; so a driven run is repeatable, and the force that acted is known exactly.
+A particle that is turned adds the momentum of two. Which ones are turned is drawn at random from a seed, in proportion to the fluid cells
+of the rows. A driven run is therefore repeatable, and the force that acted is known exactly.
 """
 import dataclasses
 import functools
@@ -19,8 +19,8 @@ from .tables import Cells
 @dataclasses.dataclass(frozen=True)
 class Point:
     """A point of a driven run: the cells before and after particles were turned, how many were turned (to the west if negative), and the
-    scene that goes on. `force` is the momentum per fluid cell and generation that these give until the next point. A mean flow is that
-    of the cells before plus half of the kick: `velocity`."""
+    scene that continues. `force` is the momentum per fluid cell and generation that these add until the next point. A mean flow is the
+    velocity of the cells before plus half of the kick: `velocity`."""
 
     before: Cells
     after: Cells
@@ -32,9 +32,9 @@ class Point:
 
 def driven(scene: str, generations: int, every: int = 10, *, force: float | None = None, flow: float | None = None, seed: int = 0,
            **plan) -> Iterator[Point]:
-    """The points of a driven run: at its start, and after each `every` generations. Either a body force acts eastwards, a momentum per
-    fluid cell and generation; or as many particles are turned as bring the mean velocity to `flow`, and `Point.force` is the force that
-    this takes. The plan is as in `run`."""
+    """The points of a driven run: at its start, and after every `every` generations. Either a body force acts eastwards, a momentum per
+    fluid cell and generation, or the particles are turned that bring the mean velocity to `flow`, and `Point.force` is the force that this
+    takes. The plan is as in `run`."""
     if (force is None) == (flow is None):
         raise Fault("a flow is driven either by a force or towards a mean flow: force=.. or flow=.. (--force, --flow)")
     if every < 1 or generations < 0 or generations % every:
@@ -47,7 +47,7 @@ def driven(scene: str, generations: int, every: int = 10, *, force: float | None
 
 def _points(keys: dict, cells: Cells, generations: int, every: int, force: float | None, flow: float | None, lots: random.Random,
             plan: dict) -> Iterator[Point]:
-    """The points of `driven`. What a row is owed is what rounding left of its share so far."""
+    """The points of `driven`. A row is owed what rounding left of its share so far."""
     gas, number, scene = gas_named(keys["gas"]), fluid(cells), ""
     shares = [(len(row) - row.count(SOLID)) / number for row in cells.rows]
     owed = [lots.random() - 0.5 for _ in shares]
@@ -67,13 +67,13 @@ def _points(keys: dict, cells: Cells, generations: int, every: int, force: float
 
 
 def momentum(cells: Cells, gas: Gas) -> float:
-    """The momentum eastwards of all particles, in that of a particle that moves east."""
+    """The momentum eastwards of all particles, in units of a particle that moves east."""
     return sum(n * velocity[0] for n, velocity in zip(counts_of(cells, gas=gas.name), gas.velocities))
 
 
 @functools.cache
 def turnable(gas: Gas, old: int, new: int) -> bytes:
-    """Whether each state has the particle `old` and not `new`, as 0 or 1; 0 for solid cells."""
+    """Whether states have the particle `old` and not `new`, as 0 or 1. Solid cells have 0."""
     return bytes(state & old != 0 == state & new for state in range(SOLID)) + bytes(SOLID)
 
 

@@ -13,7 +13,7 @@ class Fault(Exception):
 
 
 class Parser(argparse.ArgumentParser):
-    """A reader of words whose refusals are Faults; a module's docstring is shown as it stands."""
+    """A reader of words whose refusals are Faults. It shows a module's docstring unchanged."""
 
     def __init__(self, *words, **options):
         super().__init__(*words, formatter_class=argparse.RawDescriptionHelpFormatter, **options)
@@ -24,7 +24,8 @@ class Parser(argparse.ArgumentParser):
 
 @contextlib.contextmanager
 def one_line_faults(name: str) -> Iterator[None]:
-    """Ends a script with status 1: with one line for a Fault, and silently if the reader of its output has left; by an interrupt with 130."""
+    """Ends a script with status 1 after one line for a Fault, or silently if the reader of its output has left, and with 130 after an
+    interrupt."""
     try:
         yield
         sys.stdout.flush()
@@ -57,7 +58,7 @@ def as_lists(values):
 
 
 def as_seed(seed) -> int:
-    """A seed as an integer; a value that is none of a scene raises a Fault."""
+    """A seed as an integer. A value that a scene cannot have raises a Fault."""
     if not hasattr(seed, "__index__") or not 0 <= operator.index(seed) < 2**63:
         raise Fault(f"a seed is an integer from 0 to 9223372036854775807, and this one is {seed!r}")
     return operator.index(seed)

@@ -1,7 +1,7 @@
-"""Scenes from fields: a gas with a density and a velocity at each place, drawn from the equilibrium of Fermi and Dirac.
+"""Scenes from fields: a gas with a density and a velocity that vary in space, drawn from the equilibrium of Fermi and Dirac.
 
-At equilibrium direction i of a cell contains a particle with the chance N_i = 1 / (1 + exp(h + q.c_i)), where c_i is its velocity; h and
-q are such that the sum of N_i is b d, and the sum of N_i c_i is b d u (b directions, filling d, velocity u).
+At equilibrium direction i of a cell contains a particle with the chance N_i = 1 / (1 + exp(h + q.c_i)), where c_i is its velocity. The sum
+of N_i must be b d, and the sum of N_i c_i must be b d u (b directions, filling d, velocity u), which determines h and q.
 """
 import array
 import functools
@@ -20,8 +20,8 @@ LANE = 16  # bits: of a chance in 1 / 2^15, and one for the borrow
 
 @functools.lru_cache(200_000)
 def equilibrium(gas: str, density: float, east: float = 0.0, north: float = 0.0) -> tuple[float, ...]:
-    """The chance that each direction of a cell contains a particle, for a filling (0 to 1) and a mean velocity of the particles. A velocity
-    that no gas of this filling has raises a Fault."""
+    """The chances that the directions of a cell contain a particle, for a filling (0 to 1) and a mean velocity of the particles. A velocity
+    that is impossible at this filling raises a Fault."""
     named = gas_named(gas)
     if not 0 <= density <= 1 or not math.isfinite(east + north):
         raise Fault(f"a density is the filling, 0 to 1, and this one is {density}")
@@ -68,10 +68,10 @@ def _divided(right, a, b, c, d, e, f) -> tuple[float, float, float] | None:
 
 def gas(density: FIELD, east: FIELD = 0.0, north: FIELD = 0.0, *, size: tuple[int, int] | None = None, solid=None, gas: str = "fhp1",
         chirality: str = "seeded", seed: int = 0) -> str:
-    """The scene of a gas with a density (the filling, 0 to 1) and a mean velocity, drawn at random from the equilibrium; the same arguments
-    draw the same scene. Each field is a number, a list with a number for each row, a list [y][x], or a function of the place: x eastwards
-    from the middle of the first cell, y northwards from the lower wall, in cells' widths. `solid` says [y][x] which cells are solid (a
-    list, a numpy array or `Obstacles`). `size`, the columns and rows, may be left out if one of these is a list that has them."""
+    """The scene of a gas with a density (the filling, 0 to 1) and a mean velocity, drawn at random from the equilibrium. The same arguments
+    draw the same scene. A field is a number, a list with a number per row, a list [y][x], or a function of the place: x eastwards from the
+    middle of the first cell, y northwards from the lower wall, in cells' widths. `solid` says [y][x] which cells are solid (a list, a numpy
+    array or `Obstacles`). `size`, the columns and rows, may be left out if one of these is a list that has them."""
     named, fields = gas_named(gas), [as_lists(field) for field in (density, east, north)]
     columns, rows = size or _size_of([solid if solid is None else as_lists(solid), *fields])
     solid = None if solid is None else as_lists(solid)
@@ -117,14 +117,14 @@ def _row_of(name: str, field, gas: Gas, columns: int, rows: int, y: int) -> floa
 
 
 class Drawing:
-    """Draws rows of states. A random number of 15 bits is compared with the chance of each cell in one subtraction of long integers, which
-    have 16 bits for each cell: so a row is drawn at once."""
+    """Draws rows of states. Random numbers of 15 bits are compared with the chances of all cells in one subtraction of long integers, which
+    have 16 bits per cell, so a row is drawn at once."""
 
     def __init__(self, gas: Gas, columns: int, seed: int):
         self.gas, self.columns, self.lots = gas, columns, random.Random(as_seed(seed))
         self.ones = self._lanes([1] * columns)
         self.numbers, self.borrow = self.ones * 0x7FFF, self.ones << 15
-        self.limits = {}  # of an equilibrium: for each direction the chance in 1 / 2^15
+        self.limits = {}  # of an equilibrium: per direction the chance in 1 / 2^15
 
     def _lanes(self, values) -> int:
         return int.from_bytes(array.array("H", values).tobytes(), "little")

@@ -1,7 +1,7 @@
 """The three gases: their directions, their neighbours and their collisions, as docs/FORMATS.md lists them.
 
-Bit i of a state is a particle in direction i: E, NE, NW, W, SW, SE in `fhp1`; the same and rest in `fhp-rest`; E, N, W, S in `hpp`.
-Lengths are in cells' widths, times in generations.
+Bit i of a state is a particle in direction i: E, NE, NW, W, SW, SE in `fhp1`, the same and rest in `fhp-rest`, E, N, W, S in `hpp`. Lengths
+are in cells' widths, times in generations.
 """
 import dataclasses
 import functools
@@ -9,15 +9,15 @@ import math
 
 from .fault import Fault
 
-SOLID = 0x80  # the byte of a solid cell; that of any other cell is its state
+SOLID = 0x80  # the byte of a solid cell; any other cell's byte is its state
 ROOT3 = math.sqrt(3)
 EXCHANGES = ((0x41, 0x22), (0x42, 0x05), (0x44, 0x0A), (0x48, 0x14), (0x50, 0x28), (0x60, 0x11))  # one moving and one at rest, two
 
 
 @dataclasses.dataclass(frozen=True)
 class Gas:
-    """A gas. `momenta` are those of the directions in the units of the columns `px` and `py`, and `units` are these units; `steps` are
-    the columns and rows to the neighbour in each direction, from an even row and from an odd one."""
+    """A gas. `momenta` has the directions' momenta in the units of the columns `px` and `py`, and `units` has these units. `steps` has the
+    columns and rows to the neighbour, per direction, from an even row and from an odd one."""
 
     name: str
     momenta: tuple[tuple[int, int], ...]
@@ -31,11 +31,11 @@ class Gas:
 
     @functools.cached_property
     def velocities(self) -> tuple[tuple[float, float], ...]:
-        """The velocity of a particle in each direction, eastwards and northwards."""
+        """The velocities of the directions' particles, eastwards and northwards."""
         return tuple((self.units[0] * x, self.units[1] * y) for x, y in self.momenta)
 
     def place(self, column: int, row: int) -> tuple[float, float]:
-        """Where the middle of a cell lies: eastwards from that of the first cell, and southwards."""
+        """The place of the middle of a cell: eastwards from the first cell's middle, and southwards."""
         return (column if self.name == "hpp" else column + row % 2 / 2), row * self.row_distance
 
     def opposite(self, direction: int) -> int:
@@ -43,18 +43,18 @@ class Gas:
         return self.momenta.index((-x, -y))
 
     def table(self, of_state) -> bytes:
-        """The results of a function for each state, for `bytes.translate`; solid cells stay."""
+        """The results of a function for all states, for `bytes.translate`. Solid cells stay."""
         return bytes(of_state(state) if state >> self.directions == 0 else state for state in range(256))
 
     @functools.cached_property
     def turned(self) -> bytes:
-        """Each state with all its particles turned back."""
+        """All states with their particles turned back."""
         back = [self.opposite(i) for i in range(self.directions)]
         return self.table(lambda state: sum(1 << back[i] for i in range(self.directions) if state >> i & 1))
 
     @functools.cache
     def collisions(self, side: str) -> bytes:
-        """The state after a collision of each state, with head-on pairs that turn to this side, "left" or "right"."""
+        """The states after a collision of all states, with head-on pairs that turn to this side, "left" or "right"."""
         if side not in ("left", "right"):
             raise Fault(f"head-on pairs turn left or right, not {side!r}")
         pairs = (0x05, 0x0A) if self.name == "hpp" else (0x09, 0x12, 0x24) if side == "left" else (0x24, 0x12, 0x09)
@@ -80,7 +80,7 @@ GASES = {
 
 
 def gas_named(name: str | Gas) -> Gas:
-    """The gas of a name; any other value raises a Fault."""
+    """The gas of a name. Any other value raises a Fault."""
     if isinstance(name, Gas):
         return name
     if not isinstance(name, str) or name not in GASES:

@@ -1,4 +1,4 @@
-"""Observables of tables and of cells. Lengths are in cells' widths, times in generations, momenta in that of a particle of speed 1."""
+"""Observables of tables and of cells. Lengths are in cells' widths, times in generations, momenta in units of a particle of speed 1."""
 import math
 from collections.abc import Callable, Iterable
 
@@ -10,8 +10,8 @@ Field = list[list[float | None]]
 
 
 def vorticity(table: Table, gas: str | None = None) -> Field:
-    """dv/dx - du/dy of each block, by differences of the blocks beside it, of one side if the other is solid, empty or past a wall; None if
-    the block itself is."""
+    """dv/dx - du/dy of the blocks, by differences of the blocks next to them, of one side if the other is solid, empty or past a wall. None
+    if the block itself is solid or empty."""
     if table.block is None:
         raise Fault("the size of the blocks is not known: dataclasses.replace(table, block=(width, height))")
     velocity, (width, height) = table.velocity(gas), table.block
@@ -33,7 +33,7 @@ def vorticity(table: Table, gas: str | None = None) -> Field:
 
 
 def smooth(table: Table, times: int = 1) -> Table:
-    """A table in which the numbers of each block are sums over it and the blocks beside it, with weights 1, 2, 1 in both directions; a solid
+    """A table in which the numbers of a block are sums over it and the blocks next to it, with weights 1, 2, 1 in both directions. A solid
     block stays solid. Momenta and particles are summed alike, so velocities are means."""
     def spread(rows: list[list]) -> list[list]:
         rows = [[a + 2 * b + c for a, b, c in zip(*three)] for three in zip(rows[:1] + rows[:-1], rows, rows[1:] + rows[-1:])]
@@ -47,7 +47,7 @@ def smooth(table: Table, times: int = 1) -> Table:
 
 
 def counts(cells: Cells, block_width: int | None = None, block_height: int | None = None, gas: str | None = None) -> list:
-    """The number of particles in each direction: of all cells, or as a list [row][column] of blocks."""
+    """The numbers of particles by direction: of all cells, or as a list [row][column] of blocks."""
     bits = BITS[: known_gas(gas, cells.gas).directions]
     if not block_width and not block_height:
         return [sum(row.translate(bit).count(1) for row in cells.rows) for bit in bits]
@@ -60,16 +60,16 @@ def fluid(cells: Cells) -> int:
 
 
 def flux(numbers: Iterable[float], gas: str) -> tuple[float, float, float]:
-    """The momentum flux xx, xy, yy of particles of these numbers in each direction: the sum of c_i c_i times the number. Divide by the
-    cells for the flux per cell, and by the area of a cell, the rows' distance, for that per area."""
+    """The momentum flux xx, xy, yy of particles of these numbers by direction: the sum of c_i c_i times the number. Divide by the cells for
+    the flux per cell, and by the area of a cell, the rows' distance, for the flux per area."""
     pairs = list(zip(numbers, known_gas(gas).velocities, strict=True))
     return tuple(sum(n * c[a] * c[b] for n, c in pairs) for a, b in ((0, 0), (0, 1), (1, 1)))
 
 
 def forces(cells: Cells, gas: str | None = None, part: Callable[[int, int], bool] | None = None) -> dict[str, tuple[float, float]]:
-    """The momentum, eastwards and northwards, that the `upper` wall, the `lower` wall and the `solid` cells were given in the generation
-    that ended with these cells. A particle that moves away from a wall or solid cell beside it was just reflected by it, so it gave
-    twice its momentum. `part` says of a column and row whether a solid cell counts, for one obstacle of several."""
+    """The momentum, eastwards and northwards, that the `upper` wall, the `lower` wall and the `solid` cells received in the generation that
+    ended with these cells. A particle that moves away from a neighbouring wall or solid cell was just reflected by it, so the wall received
+    twice the momentum with which it came. `part` says of a column and row whether a solid cell counts, for one obstacle of several."""
     named, columns, rows = known_gas(gas, cells.gas), len(cells.rows[0]), len(cells.rows)
     solid = [bytes(wall and part(x, y) for x, wall in enumerate(row)) for y, row in enumerate(cells.solid)] if part else cells.solid
     found, wall = {name: [0.0, 0.0] for name in ("upper", "lower", "solid")}, b"\1" * columns
@@ -87,8 +87,8 @@ def forces(cells: Cells, gas: str | None = None, part: Callable[[int, int], bool
 
 def staggered(cells: Cells, gas: str | None = None) -> tuple[int, ...]:
     """The three staggered momenta: (-1)^generation times the sum, over the lines that are parallel to a direction, of (-1)^line times the
-    momentum across the line, in units of sqrt(3)/2. They stay constant, with walls and obstacles too; those of the two slanted axes only
-    if the width is even, so for an odd width the first alone is returned."""
+    momentum across the line, in units of sqrt(3)/2. They stay constant, with walls and obstacles too. The two slanted axes need an even
+    width, so for an odd width only the first is returned."""
     if known_gas(gas, cells.gas).name == "hpp":
         raise Fault("hpp keeps the momentum along each row instead: `px` of a table of rows")
     columns, found = len(cells.rows[0]), []
@@ -106,9 +106,9 @@ def staggered(cells: Cells, gas: str | None = None) -> tuple[int, ...]:
 
 
 def average(values: Iterable[float], least: int = 16) -> tuple[float, float]:
-    """The mean of a series in time and its standard error by blocking: neighbours are averaged in pairs, again and again while `least` blocks
-    are left, and the largest of the errors is taken, since values near in time are alike (Flyvbjerg and Petersen, J. Chem. Phys. 91
-    (1989) 461)."""
+    """The mean of a series in time and its standard error by blocking: neighbours are averaged in pairs, again and again while `least`
+    blocks are left, and the largest of the errors is taken, because values near in time are alike (Flyvbjerg and Petersen, J. Chem. Phys.
+    91 (1989) 461)."""
     values = list(map(float, values))
     if len(values) < least:
         raise Fault(f"an average over time needs {least} values or more, and there are {len(values)}")

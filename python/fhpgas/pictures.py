@@ -1,4 +1,4 @@
-"""Pictures by the standard library alone: PNG of tables or cells with a legend of the range, a small lattice with its arrows as SVG; and
+"""Pictures by the standard library only: PNG of tables or cells with a legend of the range, a small lattice with its arrows as SVG, and
 reading a PBM or PNG picture as a mask."""
 import itertools
 import math
@@ -33,8 +33,8 @@ def measured(what: str, table: Table) -> Field:
 
 
 def field(what: str, table: Table, smoothing: int = 0) -> Field:
-    """The numbers [row][column] of one of KINDS in a table that is smoothed this often; None for blocks of which less than half is fluid,
-    and for those that are empty before it is smoothed."""
+    """The numbers [row][column] of one of KINDS in a table that is smoothed this often. None for blocks of which less than half is fluid,
+    or which are empty before the table is smoothed."""
     values, shown = measured(what, table), measured(what, smooth(table, smoothing))
     columns = [max(column) / 2 / (max(map(max, table.fluid)) or 1) for column in zip(*table.fluid)]  # blocks at the ends are smaller
     halves = [[max(row) * column for column in columns] for row in table.fluid]
@@ -44,9 +44,9 @@ def field(what: str, table: Table, smoothing: int = 0) -> Field:
 
 def picture(path, what: str, *sources: Table | Cells, block: tuple[int, int] = (8, 9), low: float | None = None, high: float | None = None,
             scale: int = 0, pause: float = 0.1, smoothing: int = 0) -> tuple[float, float]:
-    """Writes a PNG of one of KINDS, with its range below it; solid blocks are grey. Several tables or cells, of which `block` cells are taken
-    together, make an animated PNG with `pause` seconds for each. The range is that of all values if none is given, and is returned.
-    `scale` is the pixels across a block; `smoothing` is how often neighbours are averaged, which leaves the grey blocks as they are."""
+    """Writes a PNG of one of KINDS, with its range below it. Solid blocks are grey. Several tables or cells, of which `block` cells are
+    taken together, make an animated PNG with `pause` seconds per frame. The range, by default of all values, is returned.
+    `scale` is the pixels across a block. `smoothing` is how often neighbours are averaged, which leaves the grey blocks as they are."""
     tables = [source.table(*block) if isinstance(source, Cells) else source for source in sources]
     if not tables:
         raise Fault("a picture is one of a table or of cells")
@@ -73,7 +73,7 @@ def palette(stops: tuple) -> list[bytes]:
 
 
 def painted(values: list, low: float, high: float, scale: tuple[int, int], colours: list[bytes]) -> list[bytes]:
-    """The lines of pixels of a field; below it a bar of the colours between the least and the largest number."""
+    """The lines of pixels of a field, and below it a bar of the colours between the least and the largest number."""
     lines = []
     for row in values:
         pixels = (GREY if v is None else colours[round(SHADES * min(1.0, max(0.0, (v - low) / (high - low))))] for v in row)
@@ -90,12 +90,12 @@ def painted(values: list, low: float, high: float, scale: tuple[int, int], colou
 
 
 def lettered(text: str) -> list[list[int]]:
-    """Five rows of pixels of a number: three columns per character and one between, each twice as wide."""
+    """Five rows of pixels of a number: three columns per character and one between, all twice as wide."""
     return [[GLYPHS[letter] >> 14 - 3 * y - x // 2 & 1 if x < 6 else 0 for letter in text for x in range(8)] for y in range(5)]
 
 
 def png(frames: list[list[bytes]], pause: float = 0.1) -> bytes:
-    """A PNG of frames, each a list of lines of red, green and blue; animated if there are several."""
+    """A PNG of frames, which are lists of lines of red, green and blue. It is animated if there are several."""
     width, height, number = len(frames[0][0]) // 3, len(frames[0]), itertools.count()
     if any(len(frame) != height or {*map(len, frame)} != {3 * width} for frame in frames):
         raise Fault("all frames are of one size")
@@ -114,7 +114,7 @@ def chunk(kind: bytes, data: bytes) -> bytes:
 
 
 def svg(path, cells: Cells, gas: str | None = None) -> None:
-    """Writes a small lattice with an arrow for each moving particle, a dot for each at rest and a disc for each solid cell, as SVG."""
+    """Writes a small lattice as SVG: moving particles as arrows, particles at rest as dots, solid cells as discs."""
     named, unit, parts = known_gas(gas, cells.gas), 40, []
     if len(cells.rows) * len(cells.rows[0]) > 10_000:
         raise Fault("a lattice of more than 10,000 cells is no small one: take a PNG")
@@ -140,7 +140,7 @@ def write(path, data: bytes) -> None:
 
 
 def read_mask(path) -> list[list[bool]]:
-    """Whether each pixel [y][x] of a PBM or PNG picture is dark: black, or darker than half of white and not transparent."""
+    """Whether the pixels [y][x] of a PBM or PNG picture are dark: black, or darker than half of white and not transparent."""
     try:
         data = pathlib.Path(path).read_bytes()
         if data.startswith((b"P1", b"P4")):

@@ -24,8 +24,8 @@ _function, _cores = None, 0  # of a worker of `side_by_side`: what it calls, and
 
 @functools.cache
 def program_path() -> pathlib.Path:
-    """The path of the program: the one that the environment variable FHPGAS names, that of the repository or archive which contains this
-    package, or the first on the PATH. The launcher of a repository builds; it is started once, and afterwards what it built."""
+    """The path of the program: the one that the environment variable FHPGAS names, the one in the repository or archive which contains this
+    package, or the first on the PATH. The launcher of a repository builds the program. It is started once, and afterwards what it built."""
     named, own, found = os.environ.get("FHPGAS"), ABOVE / "fhpgas", shutil.which("fhpgas")
     path = pathlib.Path(named).absolute() if named else own if own.is_file() else pathlib.Path(found) if found else None
     if path is None:
@@ -43,7 +43,7 @@ def program_path() -> pathlib.Path:
 
 
 def text_checked(scene: str) -> str:
-    """A scene's text; anything else, and a path, raise a Fault."""
+    """A scene's text. A path, or what is not a text, raises a Fault."""
     if not isinstance(scene, str):
         raise Fault("a scene is passed as its text: read_scene(path), or resume(scene, cells) for cells")
     if scene.endswith(".toml") and "\n" not in scene:
@@ -52,8 +52,8 @@ def text_checked(scene: str) -> str:
 
 
 def call(scene: str, *words) -> str:
-    """What the program prints for a scene. The line of a refusal is raised as a Fault. On a terminal the program itself says there how far
-    it is, so the scene is checked first."""
+    """What the program prints for a scene. The line of a refusal is raised as a Fault. On a terminal the program itself reports its
+    progress, so the scene is checked first."""
     text = text_checked(scene).encode()
     shows = not _cores and words[0] != "check" and sys.stderr.isatty()
     if shows:
@@ -77,20 +77,20 @@ class Summary:
 
 
 def check(scene: str) -> Summary:
-    """The summary of a scene; a refused scene raises a Fault."""
+    """The summary of a scene. A refused scene raises a Fault."""
     words = call(scene, "check").split()
     return Summary(words[1], *map(int, words[3::2]))
 
 
 def plan(rows: int, generations: int, cores: int | None = None) -> tuple[int, int]:
-    """Good numbers of stages and rows per belt (docs/PERFORMANCE.md): four workers per core, each with 16 rows or more, and no more than
-    generations; a single worker if other runs keep the other cores busy."""
+    """Good numbers of stages and rows per belt (docs/PERFORMANCE.md): four workers per core, at most one per 16 rows or per generation, and
+    a single worker if other runs keep the other cores busy."""
     cores = cores or _cores or os.cpu_count() or 1
     return 1 if cores == 1 else max(1, min(4 * cores, rows // 16, generations, MOST_STAGES)), CAPACITY
 
 
 def _planned(scene: str, generations: int, stages: int | None, capacity: int | None) -> list:
-    """The words of a plan. A scene that is a map does not say its height; its lines are counted."""
+    """The words of a plan. A map does not say its height, so its lines are counted."""
     good = (1, CAPACITY)
     if isinstance(scene, str) and isinstance(generations, int):
         height = HEIGHT.search(scene[:10_000])
@@ -105,20 +105,20 @@ def gas_of(scene: str) -> str:
 
 
 def run(scene: str, generations: int, stages: int | None = None, capacity: int | None = None) -> Cells:
-    """The cells of a scene after 0 to 1,000,000 generations. They do not depend on the plan, which is chosen if none is given."""
+    """The cells of a scene after 0 to 1,000,000 generations. They do not depend on the plan, for which there is a default."""
     return read_cells(call(scene, "run", *_planned(scene, generations, stages, capacity)), gas_of(scene))
 
 
 def coarse(scene: str, generations: int, block_width: int, block_height: int, stages: int | None = None, capacity: int | None = None) -> Table:
-    """The table of a scene after some generations, in blocks of some columns and rows, each 1 to 4096; blocks of 8 x 9 cells of the
-    triangular lattice are nearly square. The plan is as in `run`."""
+    """The table of a scene after some generations, in blocks of 1 to 4096 columns and rows. Blocks of 8 x 9 cells of the triangular lattice
+    are nearly square. The plan is as in `run`."""
     blocks = "--block-width", block_width, "--block-height", block_height
     table = read_table(call(scene, "coarse", *_planned(scene, generations, stages, capacity), *blocks))
     return dataclasses.replace(table, gas=gas_of(scene), block=(block_width, block_height))
 
 
 def show_progress(text: str) -> None:
-    """Shows a line on the terminal, in place of the one before; an empty text wipes it. Nothing if standard error is no terminal."""
+    """Shows a line on the terminal instead of the one before, if standard error is a terminal. An empty text wipes it."""
     if sys.stderr.isatty():
         print(f"\r\033[K{text}", end="", file=sys.stderr, flush=True)
 
@@ -139,9 +139,9 @@ def _alone(function: Callable, value):
 
 
 def side_by_side(function: Callable, values: Iterable, executor: concurrent.futures.Executor | None = None) -> list:
-    """The results of the function for each value, in their order: in as many local processes as there are processors, or by an executor of
-    `concurrent.futures` (Dask's `Client.get_executor()`, mpi4py's `MPIPoolExecutor()`). An executor sends the function to its workers,
-    so it must stand at the top of a module that they have, and they need this package and the program."""
+    """The results of the function for the values, in their order: in one local process per processor, or by an executor of
+    `concurrent.futures` (Dask's `Client.get_executor()`, mpi4py's `MPIPoolExecutor()`). An executor sends the function to its workers, so
+    it must be at the top of a module that they have, and they need this package and the program."""
     values, cores = list(values), os.cpu_count() or 1
     if executor is not None:
         return _gathered([executor.submit(_alone, function, value) for value in values])

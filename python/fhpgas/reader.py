@@ -11,7 +11,7 @@ from collections.abc import Iterable, Iterator
 
 STATES = {"fhp1": 64, "hpp": 16, "fhp-rest": 128}
 CHIRALITIES = ("seeded", "left", "right")
-# What gases are called in print, in small letters and without hyphens; None if there is no such gas here.
+# What gases are called in print, in small letters and without hyphens; None if the program lacks the gas.
 PUBLISHED = {"fhpi": "fhp1", "fhp2": "fhp-rest", "fhpii": "fhp-rest", "fhp3": None, "fhpiii": None, "hpp": "hpp"}
 MOST_SIDE = {1: 4096, 2: 65536}
 INTEGERS = ("version", "generation", "seed", "width", "height", "rate")
@@ -36,9 +36,9 @@ MISTAKES = {
 
 
 class Refused(Exception):
-    """The line that refuses a scene, and the reasons: pairs of a path and a sentence. A path is where in the document the reason lies: a key,
-    places in lists, and for a map the place of a cell in its row; empty if it lies nowhere. `later` are the lines, with their reasons, that
-    follow once these are mended. A refusal is unsure if the text is not TOML 1.0 and may be 1.1."""
+    """The line that refuses a scene, and the reasons: pairs of a path and a sentence. A path is the reason's place in the document: a key,
+    places in lists, and for a map the place of a cell in its row, or empty if there is no such place. `later` has the lines, with their
+    reasons, that follow once these are mended. A refusal is unsure if the text is not TOML 1.0 and may be 1.1."""
 
     def __init__(self, line: str, reasons: list, later: Iterable = (), unsure: bool = False):
         super().__init__(line)
@@ -95,7 +95,7 @@ def beyond(value, path: tuple = (), deep: int = 0) -> Reasons:
 
 
 def sentence(message: str, text: str) -> str:
-    """Where a text is no TOML and why, from what Python's reader says."""
+    """Where and why a text is not TOML, from what Python's reader says."""
     what, _, where = message.removesuffix(")").rpartition(" (at ")
     hint = MISTAKES.get(what, "the text may be TOML 1.1, which the program reads and Python does not" if NEWER.search(text) else "")
     if place := re.fullmatch(r"line (\d+), column (\d+)", where):
@@ -114,7 +114,7 @@ def sentence(message: str, text: str) -> str:
 
 
 def faults(table: dict) -> list[tuple[str, list]]:
-    """Each line that refuses a scene with its reasons, in order. Before each further check what is at fault is mended if it is a misspelt
+    """The lines that refuse a scene with their reasons, in order. Before a further check what is at fault is mended if it is a misspelt
     word, and else left out."""
     table, found = dict(table), {}
     for line, check in CHECKS:
@@ -146,7 +146,7 @@ def plain(word: str) -> str:
 
 
 def nearest(word: str, known: Iterable[str]) -> str:
-    """A hint at the known word that is most like this one, or at all if none is."""
+    """A hint at the known word that is most like this one, or else at all known words."""
     found, is_published = closest(word, known), known is STATES and plain(word) in PUBLISHED
     if found:
         return f"{'its name here' if is_published else 'the nearest'} is `{found}`"
@@ -169,7 +169,7 @@ def is_tuple(value, count: int) -> bool:
 
 
 def version_of(table: dict) -> int:
-    """The version whose keys and limits hold: anything but 2 counts as 1."""
+    """The version whose keys and limits apply: anything but 2 counts as 1."""
     return 2 if type(table.get("version")) is int and table["version"] == 2 else 1
 
 
@@ -230,7 +230,7 @@ def out_of_range(table: dict) -> Reasons:
 
 
 def misplaced(table: dict) -> Reasons:
-    """The rectangles and the particles of an area that are out of it, or of the gas's states, or in one another."""
+    """The rectangles that are empty or leave the area, and the particles outside it, in a rectangle, or with a state that the gas lacks."""
     if "width" not in table or "height" not in table:
         return
     width, height, solid, states = table["width"], table["height"], table.get("solid", []), STATES.get(table.get("gas"), 256)
@@ -255,7 +255,7 @@ def covering(solid: list, x: int, y: int) -> int | None:
     return next((k for k, (left, top, w, h) in enumerate(solid) if left <= x < left + w and top <= y < top + h), None)
 
 
-# The checks before those of a map's rows, in their order, each with the line that refuses.
+# The checks before a map's rows, in their order, with the lines that refuse.
 CHECKS = [
     ("scene: unknown key", unknown_keys),
     ("scene: both forms", keys_of_both_forms),
@@ -270,7 +270,7 @@ CHECKS = [
 
 
 def row_faults(table: dict) -> Iterator[tuple[str, list]]:
-    """The faults of a map's rows, each with its line: first those of lengths."""
+    """The faults of a map's rows with their lines: first wrong lengths."""
     rows, whole = [row.encode() for row in table.get("cells", ())], []
     for number in range(len(rows)):
         if why := length_fault(rows, number, MOST_SIDE[version_of(table)]):
@@ -280,7 +280,7 @@ def row_faults(table: dict) -> Iterator[tuple[str, list]]:
     gas = table.get("gas")
     cell = re.compile(rb"(?:\.\.|##|[0-%d][0-9a-f])*" % (STATES.get(gas, 16) // 16 - 1))
     for number in whole if gas in STATES else ():
-        length = cell.match(rows[number]).end()  # up to the first pair that is no cell
+        length = cell.match(rows[number]).end()  # up to the first pair that is not a cell
         if length + 1 < len(rows[number]):
             why = cell_fault(rows[number][length : length + 2], gas)
             yield f"scene: row {number} cell {length // 2} is not a cell", [(("cells", number, length // 2), why)]
@@ -299,7 +299,7 @@ def length_fault(rows: list[bytes], number: int, most: int) -> str | None:
 
 
 def cell_fault(pair: bytes, gas: str) -> str:
-    """Why two bytes are no cell of a gas."""
+    """Why two bytes are not a cell of a gas."""
     text, states = pair.decode(errors="replace"), f"`00` to `{STATES[gas] - 1:02x}`"
     if re.fullmatch("[0-9a-f]{2}", text):
         return f"`{text}` is no state of {gas}, whose states are {states}"

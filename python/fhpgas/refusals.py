@@ -1,6 +1,6 @@
 """Why a scene is refused: the program's line, and under it where in the text and why.
 
-It reads the scene itself and needs no program (reader.py); the tests compare its line with the program's.
+It reads the scene itself, without the program (reader.py). The tests compare its line with the program's.
 """
 import re
 
@@ -9,12 +9,12 @@ from .program import text_checked
 
 MOST_REASONS = 8
 NOT_REFUSED = "the scene is not refused\n"
-# A text, a mark or a word of a document, without blanks and comments before it: what is in a text or a comment is no mark.
+# A text, a mark or a word of a document, without blanks and comments before it: marks in a text or a comment do not count.
 TOKEN = re.compile(r'(?:\s|#[^\n]*+)*+("""(?:[^\\]|\\.)*?"""|' r"'''.*?'''|" r'"(?:[^"\\\n]|\\.)*"|' r"'[^'\n]*'|[\[\]{}=,]|[^\s#\"'\[\]{}=,]+)", re.S)
 
 
 def explained(text: bytes) -> list[tuple[str, list[str]]]:
-    """The lines that refuse the bytes of a scene, in order, each with its reasons and their places; none if it is not refused."""
+    """The lines that refuse the bytes of a scene, in order, with their reasons and places. An empty list if it is not refused."""
     try:
         reader.read(text)
     except reader.Refused as refused:
@@ -39,8 +39,8 @@ def explain(scene: str) -> str:
 
 
 def position(source: str, path: tuple) -> str:
-    """The line and the column of a path, from 1, as the beginning of a sentence; nothing if the key is not found. A path is a key, the place of
-    an entry of its list, and for a map the place of a cell in its row."""
+    """The line and the column of a path, from 1, as the beginning of a sentence, or "" if the key is not found. A path is a key, the place
+    of an entry of its list, and for a map the place of a cell in its row."""
     key = re.search(rf"""^[ \t]*(?:\[+[ \t]*)?(["']?{re.escape(path[0])}\b["']?)[ \t]*([.=\]])""", source, re.M) if path else None
     if not key:
         return ""

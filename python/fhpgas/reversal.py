@@ -1,7 +1,7 @@
 """Reversal: all particles are turned, and the run returns bit for bit to where it began.
 
-A generation collides and then moves; backwards it moves and then collides. So half a generation is missing at each end: before the
-particles are turned they collide once more, and at the end they collide back. A collision to the left is undone by one to the right.
+A generation collides and then moves. Backwards it moves and then collides, so half a generation is missing at both ends: before the
+particles are turned they collide again, and at the end they collide back. A collision to the left is undone by one to the right.
 """
 from .fault import Fault
 from .gases import Gas, gas_named
@@ -13,7 +13,7 @@ OTHER = {"left": "right", "right": "left"}
 
 
 def sides(scene: str) -> tuple[Gas, str]:
-    """The gas of a scene, and the side to which its pairs turn; a Fault if random bits decide it."""
+    """The gas of a scene, and the side to which its pairs turn. If random bits decide it, this raises a Fault."""
     keys = keys_of(scene)
     gas, side = gas_named(keys["gas"]), keys.get("chirality", "seeded")
     if gas.name == "hpp":
@@ -24,7 +24,8 @@ def sides(scene: str) -> tuple[Gas, str]:
 
 
 def reverse(scene: str, cells: Cells) -> str:
-    """The scene whose run goes back from cells of a scene's run. After as many generations, `returned` has the cells of the start."""
+    """The scene whose run goes back from cells of a scene's run. After the same number of generations, `returned` has the cells of the
+    start."""
     gas, side = sides(scene)
     summary = check(scene)
     if (summary.width, summary.height, summary.gas) != (len(cells.rows[0]), len(cells.rows), cells.gas or summary.gas):
@@ -34,7 +35,7 @@ def reverse(scene: str, cells: Cells) -> str:
 
 
 def returned(scene: str, cells: Cells) -> Cells:
-    """The cells of a run that went back, as cells of the run forwards; `scene` is the one that `reverse` returned. Their generation counts
-    those that went back."""
+    """The cells of a run that went back, as cells of the run forwards. `scene` is what `reverse` returned. Their generation counts the
+    generations that went back."""
     gas, side = sides(scene)
     return cells.changed(row.translate(gas.turned).translate(gas.collisions(side)) for row in cells.rows)

@@ -1,4 +1,4 @@
-"""The texts of scenes: reading and writing them, going on from cells, and long runs in parts."""
+"""The texts of scenes: reading and writing them, resuming from cells, and long runs in parts."""
 import json
 import operator
 import os
@@ -41,8 +41,8 @@ def keys_of(scene: str) -> dict:
 
 
 def text_of(keys: dict) -> str:
-    """The scene of a dictionary of keys and values, with a line for each entry of a list. Values are texts, integers (also those of
-    numpy) and lists of them; others raise a Fault."""
+    """The scene of a dictionary of keys and values, with a line per entry of a list. Values are texts, integers (also numpy's) and lists of
+    them. Others raise a Fault."""
     lines = []
     for key, value in keys.items():
         if isinstance(value, (list, tuple)):
@@ -62,8 +62,8 @@ def value_text(key: str, value) -> str:
 
 
 def scene_of(states, gas: str, solid=None, chirality: str = "seeded", seed: int = 0, generation: int = 0) -> str:
-    """The scene of given cells, a map: the states [y][x], a bit for each direction, and whether each cell is solid [y][x]; lists, bytes or
-    numpy arrays. It begins a new run. To go on with changed cells use `resume_changed`, or each part repeats the same random bits."""
+    """The scene of some cells, a map: the states [y][x], a bit per direction, and which cells are solid [y][x], as lists, bytes or numpy
+    arrays. It begins a new run. To continue with changed cells use `resume_changed`, or every part repeats the same random bits."""
     keys = {"version": 2, "gas": gas, "chirality": chirality, "seed": seed, "generation": generation}
     return map_of(keys, rows_of(states, gas, solid))
 
@@ -75,7 +75,7 @@ def map_of(keys: dict, rows: Iterable[bytes]) -> str:
 
 
 def rows_of(states, gas: str, solid=None) -> list[bytes]:
-    """The rows of bytes of given cells, as in `scene_of`."""
+    """The rows of bytes of some cells, as in `scene_of`."""
     states, solid = as_lists(states), as_lists(solid)
     most = 1 << gas_named(gas).directions
     try:
@@ -102,8 +102,8 @@ def later_scene(keys: dict, cells: Cells) -> str:
 
 def resume(scene: str, cells: Cells) -> str:
     """The scene that continues a run from printed cells, with the gas, the chirality and the seed of the scene that the run began with.
-    Cells that cannot come from that scene raise a Fault: they have another size, other solid cells, another number of particles, an
-    earlier generation, or the same generation and other cells. Cells do not tell whether another chirality or seed was used."""
+    Cells that cannot come from that scene raise a Fault: they have another size, other solid cells, another number of particles, an earlier
+    generation, or the same generation and other cells. Cells do not show whether another chirality or seed was used."""
     keys, first = keys_of(scene), run(scene, 0)
     _check_cells(cells)
     why = None
@@ -123,9 +123,9 @@ def resume(scene: str, cells: Cells) -> str:
 
 
 def resume_changed(scene: str, cells: Cells, states=None, solid=None) -> str:
-    """The scene that continues a run from changed cells: other states, as in `scene_of`, or none if `cells` themselves were changed. The
-    gas, the chirality and the seed are those of the scene that the run began with, and the generation is that of the cells, so that the
-    random bits go on. The number of particles may change."""
+    """The scene that continues a run from changed cells: other states, as in `scene_of`, or None if `cells` themselves were changed. The
+    scene that the run began with provides the gas, the chirality and the seed, and the cells the generation, so that the random bits
+    continue. The number of particles may change."""
     keys = keys_of(scene)
     _check_cells(cells)
     rows = cells.rows if states is None else rows_of(states, keys["gas"], cells.solid if solid is None else solid)
@@ -140,8 +140,8 @@ def _check_cells(cells: Cells) -> None:
 
 
 def series(scene: str, steps: Iterable[int], **plan) -> Iterator[tuple[Cells, str]]:
-    """Yields pairs of the cells and a scene that begins with them: at the start of a scene, and at each point after it. `steps` are the
-    generations from each point to the next. The plan is as in `run`."""
+    """Yields pairs of the cells and a scene that begins with them: at the start of a scene, and at every point after it. `steps` are the
+    generations from point to point. The plan is as in `run`."""
     keys, steps = keys_of(scene), [0, *steps]
     for done, step in enumerate(steps):
         show_progress(f"{done} of {len(steps)} parts")
@@ -152,8 +152,8 @@ def series(scene: str, steps: Iterable[int], **plan) -> Iterator[tuple[Cells, st
 
 
 def long_run(scene: str, generations: int, step: int, kept, **plan) -> Iterator[Cells]:
-    """Runs a scene for some generations, `step` of them at a time, and yields the cells after each part. Then the file `kept` contains the
-    scene that goes on, so the same call continues a run that a time limit or a failure ended."""
+    """Runs a scene for some generations, `step` of them at a time, and yields the cells after every part. Then the file `kept` contains the
+    scene that continues, so the same call continues a run that a time limit or a failure ended."""
     kept, last = pathlib.Path(kept), run(scene, 0).generation + generations
     here = resume(scene, run(read_scene(kept), 0)) if kept.exists() else scene
     left = last - run(here, 0).generation

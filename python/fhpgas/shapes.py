@@ -1,4 +1,4 @@
-"""Solid cells from shapes and pictures. Cells are named by column and row from 0 at the top left; lengths are in cells' widths."""
+"""Solid cells from shapes and pictures. Cells are named by column and row from 0 at the top left. Lengths are in cells' widths."""
 import math
 import random
 from collections.abc import Iterable, Iterator, Sequence
@@ -11,8 +11,8 @@ NEARLY = 1e-9
 
 
 class Obstacles:
-    """The solid cells of a lattice: `Obstacles(512, 256).disc(128, 128, 20).block(300, 0, 4, 100)`. `obstacles[y][x]` says whether a cell is
-    solid. Discs go on past the last column, and all shapes but blocks are cut at the walls."""
+    """The solid cells of a lattice: `Obstacles(512, 256).disc(128, 128, 20).block(300, 0, 4, 100)`. `obstacles[y][x]` says whether a cell
+    is solid. Discs continue past the last column, and all shapes but blocks are cut at the walls."""
 
     def __init__(self, columns: int, rows: int, gas: str = "fhp1"):
         self.gas, self.columns, self.solid = gas_named(gas), columns, 0
@@ -27,14 +27,14 @@ class Obstacles:
         return self.rows[row]
 
     def block(self, column: int, row: int, columns: int, rows: int) -> "Obstacles":
-        """A rectangle of cells; a plate, if it is thin."""
+        """A rectangle of cells, or a plate, if it is thin."""
         check_inside("a block", (column, row, columns, rows), self.columns, len(self))
         for y in range(row, row + rows):
             self._run(y, column, columns)
         return self
 
     def disc(self, column: int, row: int, radius: float) -> "Obstacles":
-        """The cells whose middles are at most `radius` from that of a cell."""
+        """The cells whose middles are at most `radius` from the middle of a cell."""
         if not (0 <= column < self.columns and 0 <= row < len(self)):
             raise Fault(f"a disc's middle, column {column} and row {row}, is outside the channel of {self.columns} x {len(self)} cells")
         if radius < 0:
@@ -49,7 +49,7 @@ class Obstacles:
         return self
 
     def polygon(self, corners: Iterable[Sequence[float]]) -> "Obstacles":
-        """The cells whose middles are inside a polygon; its corners are columns and rows, which need not be whole."""
+        """The cells whose middles are inside a polygon. Its corners are columns and rows, which need not be whole."""
         corners = [(x, y * self.gas.row_distance) for x, y in corners]
         if len(corners) < 3:
             raise Fault("a polygon has three corners or more")
@@ -77,7 +77,7 @@ class Obstacles:
         return self
 
     def porous(self, percent: float, radius: float, lots: random.Random | int = 0) -> "Obstacles":
-        """Discs at random places, until that share of all cells is solid; `lots` is a seed or a source of random numbers."""
+        """Discs at random places, until that share of all cells is solid. `lots` is a seed or a source of random numbers."""
         if not (0 <= percent <= 100 and radius >= 0):
             raise Fault("percent must be 0 to 100, radius not negative")
         lots = lots if isinstance(lots, random.Random) else random.Random(lots)
@@ -86,8 +86,8 @@ class Obstacles:
         return self
 
     def picture(self, path, pixel: float = 1.0, column: int = 0, row: int = 0) -> "Obstacles":
-        """The dark pixels of a PBM or PNG picture, each `pixel` cells' widths wide and high; its upper left corner is at a cell. A picture
-        that leaves the channel raises a Fault."""
+        """The dark pixels of a PBM or PNG picture, `pixel` cells' widths wide and high. Its upper left corner is at a cell. A picture that
+        leaves the channel raises a Fault."""
         mask = read_mask(path)
         if not 0 < pixel < math.inf:
             raise Fault(f"a pixel is {pixel} cells wide, and must be wider than 0")
@@ -101,11 +101,11 @@ class Obstacles:
         return self
 
     def closed(self) -> "Obstacles":
-        """The first column, so that nothing passes the ends of the channel."""
+        """The first column, which closes the ends of the channel."""
         return self.block(0, 0, 1, len(self))
 
     def rectangles(self) -> list[list[int]]:
-        """Rectangles [x, y, w, h] that cover the solid cells, each once: runs along a row, and those below an equal one joined to it."""
+        """Rectangles [x, y, w, h] that cover every solid cell once: runs along a row, joined to equal runs in the rows below."""
         last, found = {}, []
         for y, row in enumerate(self.rows):
             here = {}
@@ -117,7 +117,7 @@ class Obstacles:
         return found
 
     def _run(self, row: int, first: int, length: int) -> None:
-        """Makes cells of a row solid; after the last column comes the first."""
+        """Makes cells of a row solid. After the last column comes the first."""
         cells, first, length = self.rows[row], first % self.columns, min(length, self.columns)
         before = min(length, self.columns - first)
         self.solid += length - cells.count(1, first, first + before) - cells.count(1, 0, length - before)
@@ -133,14 +133,14 @@ class Obstacles:
 
 
 def check_inside(what: str, block: Sequence[int], columns: int, rows: int) -> None:
-    """A Fault if a rectangle of cells is empty or leaves the lattice."""
+    """Raises a Fault if a rectangle of cells is empty or leaves the lattice."""
     x, y, w, h = block
     if not (0 <= x and 0 <= y and 1 <= w and 1 <= h and x + w <= columns and y + h <= rows):
         raise Fault(f"{what} leaves the channel of {columns} x {rows} cells or is empty: {x} {y} {w} {h}")
 
 
 def runs(numbers: list[int]) -> Iterator[tuple[int, int]]:
-    """The runs of ascending numbers: each as its first, and its last and 1."""
+    """The runs of ascending numbers: pairs of the first, and the last and 1."""
     starts = [x for x, before in zip(numbers, [None, *numbers]) if before is None or before != x - 1]
     ends = [x + 1 for x, after in zip(numbers, [*numbers[1:], None]) if after != x + 1]
     return zip(starts, ends)

@@ -1,6 +1,6 @@
 """What `run` and `coarse` print: cells and tables, as dataclasses and as arrays.
 
-Rows are listed from the top of the lattice, the cells of a row from the left; row 0 is the top, north is up.
+Rows are listed from the top of the lattice, the cells of a row from the left. Row 0 is the top, and north is up.
 """
 import dataclasses
 import functools
@@ -15,7 +15,7 @@ HEADER = "  col   row    fluid particles         px         py"
 PAIRS = [f"{state:02x}" if state else ".." for state in range(SOLID)] + ["##"] * SOLID
 NO_CELLS = "these are no printed cells: "
 HEXADECIMAL, KINDS = str.maketrans(".#", "08"), str.maketrans("123456789abcdef", "0" * 15)
-# Tables for `bytes.translate`: which states have a particle in each direction, which cells are fluid, and which are solid.
+# Tables for `bytes.translate`: which states have a particle in a direction, which cells are fluid, and which are solid.
 BITS = [bytes(state >> i & 1 for state in range(SOLID)) + bytes(SOLID) for i in range(7)]
 FLUID, WALL = b"\1" * SOLID + bytes(SOLID), bytes(SOLID) + b"\1" * SOLID
 STATES, CELLS = bytes(range(SOLID)) + bytes(SOLID), bytes(range(SOLID)) + bytes([SOLID]) * SOLID
@@ -32,12 +32,12 @@ class Cells:
 
     @functools.cached_property
     def states(self) -> tuple[bytes, ...]:
-        """The state of each cell [y][x], a bit for each direction; 0 if the cell is solid."""
+        """The states of the cells [y][x], a bit per direction, 0 if a cell is solid."""
         return tuple(row.translate(STATES) for row in self.rows)
 
     @functools.cached_property
     def solid(self) -> tuple[bytes, ...]:
-        """Whether each cell is solid [y][x], as 0 or 1."""
+        """Which cells are solid [y][x], as 0 or 1."""
         return tuple(row.translate(WALL) for row in self.rows)
 
     def changed(self, rows: Iterable[bytes]) -> "Cells":
@@ -54,7 +54,7 @@ class Cells:
         return ["".join(map(PAIRS.__getitem__, row)) for row in self.rows]
 
     def differing(self, other: "Cells") -> int:
-        """The number of cells that differ from those of another lattice of the same size."""
+        """The number of cells that differ from another lattice of the same size."""
         if [*map(len, self.rows)] != [*map(len, other.rows)]:
             raise Fault("the lattices are of different sizes")
         return sum(len(a) - bytes(x ^ y for x, y in zip(a, b)).count(0) for a, b in zip(self.rows, other.rows) if a != b)
@@ -68,7 +68,7 @@ class Cells:
         return Table(self.counted(FLUID, block_width, block_height), *columns, gas=named.name, block=(block_width, block_height))
 
     def counted(self, marks: bytes, block_width: int, block_height: int) -> list[list[int]]:
-        """The number of cells of each block [row][column] whose state a table for `bytes.translate` marks by 1."""
+        """Per block [row][column] the number of cells whose state a table for `bytes.translate` marks by 1."""
         if block_width < 1 or block_height < 1:
             raise Fault(f"a block has 1 column and row or more, and this one {block_width} and {block_height}")
         rows, starts = [row.translate(marks) for row in self.rows], range(0, len(self.rows[0]), block_width)
@@ -85,7 +85,7 @@ class Cells:
 
 @dataclasses.dataclass(frozen=True)
 class Table:
-    """A coarse table: fluid cells, particles, and their momentum eastwards and northwards in the table's units, of each block, as lists
+    """A coarse table: per block its fluid cells, particles, and their momentum eastwards and northwards in the table's units, as lists
     [row][column]. `gas` and `block`, its width and height in cells, are None if they are not known."""
 
     fluid: list[list[int]]
@@ -100,12 +100,12 @@ class Table:
         return self.fluid, self.particles, self.px, self.py
 
     def density(self) -> list[list[float | None]]:
-        """The particles per fluid cell of each block; None if the block is solid."""
+        """The particles per fluid cell of the blocks. None if a block is solid."""
         return [[n / fluid if fluid else None for n, fluid in zip(*rows)] for rows in zip(self.particles, self.fluid)]
 
     def velocity(self, gas: str | None = None) -> tuple[list[list[float | None]], list[list[float | None]]]:
-        """The mean velocity of the particles of each block, eastwards and northwards, in cells' widths per generation: None if the block is
-        solid, and nan if it is fluid and empty. The gas is needed for a table that was read; one of another lattice raises a Fault."""
+        """The mean velocities of the blocks' particles, eastwards and northwards, in cells' widths per generation: None if a block is
+        solid, and nan if it is fluid and empty. The gas is needed for a table that was read. A gas of another lattice raises a Fault."""
         named = known_gas(gas, self.gas)
         if self.gas and (named.name == "hpp") != (self.gas == "hpp"):
             raise Fault(f"the table is of {self.gas}, and {named.name} is on another lattice")
@@ -174,7 +174,7 @@ def total(tables: Iterable[Table]) -> Table:
 
 def mean(values: Iterable):
     """The mean of two or more values and its standard error, their standard deviation divided by the square root of their number. Values
-    are numbers, or lists or arrays of one shape, whose means are lists; a place that is None in one value is None in both."""
+    are numbers, or lists or arrays of one shape, whose means are lists. A place that is None in one value is None in both."""
     values = [as_lists(value) for value in values]
     if len(values) < 2:
         raise Fault("a standard error needs two values or more")

@@ -1,9 +1,9 @@
-"""What theory says of each gas: sound, the Galilean factor, viscosities in the Boltzmann approximation, and noise.
+"""What theory says of the gases: sound, the Galilean factor, viscosities in the Boltzmann approximation, and noise.
 
-Lengths are in cells' widths, times in generations; d is the filling, b the number of directions. The formulas are those of U. Frisch,
-D. d'Humieres, B. Hasslacher, P. Lallemand, Y. Pomeau, J.-P. Rivet, "Lattice gas hydrodynamics in two and three dimensions", Complex
-Systems 1 (1987) 649; `fhp-rest` has the collisions that are called FHP-II there. The Boltzmann approximation leaves correlations out.
-The viscosities are summed here over the collisions themselves, so they hold for each chirality.
+Lengths are in cells' widths, times in generations. d is the filling, b the number of directions. The formulas are by U. Frisch, D.
+d'Humieres, B. Hasslacher, P. Lallemand, Y. Pomeau, J.-P. Rivet, "Lattice gas hydrodynamics in two and three dimensions", Complex Systems 1
+(1987) 649. `fhp-rest` has the collisions that are called FHP-II there. The Boltzmann approximation leaves correlations out. The viscosities
+are summed here over the collisions themselves, so they are valid for every chirality.
 """
 import cmath
 import functools
@@ -29,7 +29,7 @@ def galilean_factor(gas: str, density: float) -> float:
 
 
 def isotropic(gas: str) -> Gas:
-    """A gas whose flows follow the equations of a fluid; `hpp` raises a Fault."""
+    """A gas whose flows follow the equations of a fluid. `hpp` raises a Fault."""
     named = gas_named(gas)
     if named.name == "hpp":
         raise Fault("hpp has no viscosity and no Galilean factor: its stress depends on the direction of the flow")
@@ -67,13 +67,13 @@ def _shear(gas: str, density: float, chirality: str) -> complex:
 
 
 def viscosity(gas: str, density: float, chirality: str = "seeded") -> float:
-    """The kinematic shear viscosity. FHP-I (`fhp1`, seeded): 1 / (12 d (1-d)^3) - 1/8; with one chirality 1 / (16 d (1-d)^3) - 1/8;
-    FHP-II (`fhp-rest`, seeded): 1 / (28 d (1-d)^3 (1 - 4d/7)) - 1/8."""
+    """The kinematic shear viscosity. FHP-I (`fhp1`, seeded): 1 / (12 d (1-d)^3) - 1/8, with one chirality 1 / (16 d (1-d)^3) - 1/8. FHP-II
+    (`fhp-rest`, seeded): 1 / (28 d (1-d)^3 (1 - 4d/7)) - 1/8."""
     return _shear(gas, density, chirality).real
 
 
 def odd_viscosity(gas: str, density: float, chirality: str) -> float:
-    """The odd viscosity of the gases that break mirror symmetry; 0 if `chirality` is "seeded"."""
+    """The odd viscosity of the gases that break mirror symmetry, 0 if `chirality` is "seeded"."""
     return _shear(gas, density, chirality).imag
 
 
