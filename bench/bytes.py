@@ -1,7 +1,7 @@
 #!/usr/bin/env python3
-"""FHP-I in numpy as one would write it in an afternoon, to compare the speed and the answers of fhpgas with: an array of bytes, a table
-of collisions, the lattice shifted for each direction. It reads the cells that `fhpgas run --generations 0` prints, computes G
-generations under chirality "left", and prints the cells; on standard error the seconds that the generations took.
+"""FHP-I in numpy as one would write it in an afternoon, to compare the speed and the output of fhpgas with: an array of bytes, a table of
+collisions, the lattice shifted by direction. It reads the cells that `fhpgas run --generations 0` prints, computes G generations under
+chirality "left", and prints the cells, and on standard error the seconds that the generations took.
 
 Usage: bytes.py G < CELLS
 """
@@ -14,12 +14,12 @@ BITS = (1, 2, 4, 8, 16, 32)  # of the directions, counterclockwise from east
 COLLISIONS = np.arange(64, dtype=np.uint8)
 for before, after in ((9, 18), (18, 36), (36, 9), (21, 42), (42, 21)):
     COLLISIONS[before] = after
-COLUMNS = ((1, 1), (0, 1), (-1, 0), (-1, -1), (-1, 0), (0, 1))  # that each direction moves by, in even rows and in odd ones
+COLUMNS = ((1, 1), (0, 1), (-1, 0), (-1, -1), (-1, 0), (0, 1))  # that the directions move by, in even rows and in odd ones
 ROWS = (0, -1, -1, 0, 1, 1)
 
 
 def shifted(cells, even, columns, sign):
-    """Each row moved by the columns of a direction, or back."""
+    """The rows moved by the columns of a direction, or back."""
     return np.where(even[:, None], np.roll(cells, sign * columns[0], 1), np.roll(cells, sign * columns[1], 1))
 
 

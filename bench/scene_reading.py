@@ -1,9 +1,9 @@
 #!/usr/bin/env python3
-"""Seconds that reading a scene takes, the best of several runs that take turns. Have nothing else running.
+"""Seconds that reading a scene takes, the best of several runs that take turns. Use an idle machine.
 
-A map of random cells, once of all kinds alike and once a third empty and a third or so solid: the parse (the same text with a key that no
-scene has is refused right after it), `check`, which checks, builds and counts, and `run --generations 0`, which prints the lattice too. An
-area of as many cells: `check` at rate 300 and at rate 0; and the words of the key stream that filling it takes, alone.
+A map of random cells, once of all kinds alike and once a third empty and about a third solid: the parse (the same text with an unknown key
+is refused right after it), `check`, which checks, builds and counts, and `run --generations 0`, which prints the lattice too. An area of
+the same number of cells: `check` at rate 300 and at rate 0, and only the words of the key stream that filling it takes.
 Usage: bench/scene_reading.py [SIDE [RUNS]]
 """
 import pathlib

@@ -1,14 +1,14 @@
 #!/usr/bin/env python3
-"""Site updates per second (cells times generations by seconds) of `fhpgas run`, beside other programs that compute the same lattice of
-FHP-I, filled at rate 300: one stage on one thread (probes), C on bit planes in place, on one thread and in bands on all (bands.c), and
-what one would write in an afternoon, in C (bytes.c) and in numpy (bytes.py, if numpy is installed, and with chirality "left" alone).
-Under a seed it also makes the random bits of as many updates alone.
+"""Site updates per second (cells times generations by seconds) of `fhpgas run` and of other programs that compute the same lattice of
+FHP-I, filled at rate 300: one stage on one thread (probes), C on bit planes in place, on one thread and in bands on all (bands.c), and what
+one would write in an afternoon, in C (bytes.c) and in numpy (bytes.py, if numpy is installed, and only with chirality "left"). Under a seed
+it also makes only the random bits of the same number of updates.
 
-Every program takes its turn in each round; a figure is the best of the rounds, and behind it how many times longer the worst one
-took. What reading and printing cost is taken off by a run of no generation. All must print the same cells. All are built for the
-level of the processor that the program was built for. Have nothing else running.
-Programs that keep a byte a cell compute a twentieth of the generations, and numpy a two-hundredth; their cells are compared with
-those of bands.c.
+Every program takes its turn in every round. A figure is the best of the rounds, followed by how many times longer the worst one took. The
+cost of reading and printing is taken off by a run of 0 generations. All must print the same cells. All are built for the level of the
+processor that the program was built for. Use an idle machine.
+Programs that keep a byte per cell compute a twentieth of the generations, and numpy a two-hundredth. Their cells are compared with the
+cells of bands.c.
 """
 import argparse
 import hashlib
@@ -81,20 +81,20 @@ class Bench:
             sys.exit(f"{name} prints another lattice")
 
     def add(self, name, seconds, generations):
-        """Counts a round, in seconds for a generation."""
+        """Counts a round, in seconds per generation."""
         each = seconds / generations
         self.best[name] = min(each, self.best.get(name, each))
         self.worst[name] = max(each, self.worst.get(name, each))
 
     def ours(self, name, words):
-        """The generations' time alone, by a program that is told last how many: the whole run's less that of a run of none."""
+        """The time of the generations, by a program whose last word is their number: the whole run's time less a run's of 0 generations."""
         none = timed([*words, "0"], self.scene, self.room / "none")
         whole = timed([*words, str(self.generations)], self.scene, self.out)
         self.check(name, self.generations)
         self.add(name, whole - none, self.generations)
 
     def seconds_of(self, name, program, generations, *words):
-        """The time that a program tells for its generations, where it prints the cells that the others print."""
+        """The time that a program reports for its generations, if it prints the cells that the others print."""
         seed = [SEED] if self.chirality == "seeded" else []
         seconds = told([*program, str(generations), *map(str, words), *seed], self.start, self.out)
         self.check(name, generations)

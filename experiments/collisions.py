@@ -1,9 +1,9 @@
 #!/usr/bin/env python3
-"""Collisions by hand: what the program makes of every state of a cell, beside the rules, the conservation laws and theory.
+"""Collisions by hand: what the program makes of every state of a cell, compared with the rules, the conservation laws and theory.
 
-All states, three cells apart, run for one generation with each chirality. Then a gas flows past a disc for 100 generations: its number
-of particles must stay, and its momentum may change by what walls and disc give alone. Sums over the collisions are compared with the
-published formulas (Frisch and others, Complex Systems 1 (1987) 649).
+All states, three cells apart, run for one generation with both chiralities. Then a gas flows past a disc for 100 generations: its number of
+particles must stay, and only walls and disc may change its momentum. Sums over the collisions are compared with the published formulas
+(Frisch and others, Complex Systems 1 (1987) 649).
 """
 import common
 import fhpgas
@@ -17,7 +17,7 @@ FORMULAS = {
 
 
 def collided(gas, side):
-    """The state after a collision of each state, as the program computes it in cells of an odd row."""
+    """The states after a collision of all states, as the program computes them in cells of an odd row."""
     alone = bytes(state if offset == 1 else 0 for state in range(1 << gas.directions) for offset in range(3))
     scene = fhpgas.scene_of([bytes(len(alone)), alone, bytes(len(alone))], gas.name, chirality=side)
     rows = fhpgas.run(scene, 1).states
@@ -39,7 +39,7 @@ def summed_factor(gas, d, u=0.001):
 
 
 def in_a_channel(gas):
-    """The numbers of particles that occur, and in how many generations the momentum changes by what walls and disc gave."""
+    """The numbers of particles that occur, and in how many generations walls and disc account for the change of the momentum."""
     scene = fhpgas.gas(0.2, 0.2, solid=fhpgas.Obstacles(64, 24, gas.name).disc(20, 12, 4), gas=gas.name, seed=1)
     numbers, before, balanced = set(), None, 0
     for cells, _ in fhpgas.series(scene, [1] * 100):

@@ -37,7 +37,7 @@ class Options(fault.Parser):
 
 
 def experiment(main):
-    """Runs a script: a fault is one line and status 1; a terminal is told the seconds."""
+    """Runs a script. A fault is one line and status 1. A terminal shows the seconds."""
     begun = time.perf_counter()
     with fault.one_line_faults(pathlib.Path(sys.argv[0]).name):
         main()
@@ -53,7 +53,7 @@ def compare(name, values, theory, digits=3):
 
 def wave(step, values, frequency, rate):
     """The frequency and the rate of exp(-rate t) (A cos + B sin)(frequency t) that fit values at the times 0, step, 2 step .. best. From a
-    guess each moves in turn to the lowest point of the parabola through three places, which come closer."""
+    guess both move in turn to the lowest point of the parabola through three places, which come closer."""
     def residual(place):
         damped = [math.exp(-place[1] * step * n) for n in range(len(values))]
         cos, sin = ([size * turn(place[0] * step * n) for n, size in enumerate(damped)] for turn in (math.cos, math.sin))

@@ -1,9 +1,9 @@
 #!/usr/bin/env python3
 """The approach to equilibrium: how fast collisions fill the directions of a gas as Fermi and Dirac say.
 
-At the start direction i is filled with a chance far from equilibrium, the same in every cell. The number of particles in each direction is
-counted in the rows that no wall has reached yet, beside the Boltzmann equation of a uniform gas and beside 1 / (1 + exp(h + q.c)) of the
-same density and momentum. H is the sum of N ln N + (1 - N) ln (1 - N). Errors are those over the seeds.
+At the start direction i is filled with a chance far from equilibrium, the same in every cell. The particles of the directions are counted
+in the rows that the walls have not reached yet, and compared with the Boltzmann equation of a uniform gas and with 1 / (1 + exp(h + q.c))
+of the same density and momentum. H is the sum of N ln N + (1 - N) ln (1 - N). Errors are over the seeds.
 """
 import math
 import random
@@ -24,7 +24,7 @@ def drawn(gas, size, seed):
 
 
 def filled(asked, seed):
-    """The chance of each direction at each of GENERATIONS, in the rows that no wall has reached."""
+    """The chances of the directions at GENERATIONS, in the rows that the walls have not reached."""
     steps, found, edge = [b - a for a, b in zip(GENERATIONS, GENERATIONS[1:])], [], GENERATIONS[-1]
     for cells, _ in fhpgas.series(drawn(asked.gas, asked.size, seed), steps):
         rows = cells.rows[edge : asked.size - edge]

@@ -1,10 +1,10 @@
 #!/usr/bin/env python3
-"""The Galilean factor: how fast a wind carries a wave of the flow across it, measured beside g(d).
+"""The Galilean factor: how fast a wind carries a wave of the flow across it, compared with g(d).
 
-In a wind u eastwards the gas moves north and south as v = 0.1 sin(k x). In a fluid the wave would move with u; here it moves with g u, and
-at d = 1/2 it stands still. The wave's phase is taken in the middle rows, far from the walls, and a line is fitted to it. Theory: the
-same fit to the noise-free Boltzmann equation of a gas without walls. Published, for a slow wind and a long wave:
-g = (1 - 2d) / (2 (1 - d)) in fhp1 and 7/6 of it in fhp-rest (Frisch and others, Complex Systems 1 (1987) 649).
+In a wind u eastwards the gas moves north and south as v = 0.1 sin(k x). In a fluid the wave would move with u. Here it moves with g u, and
+at d = 1/2 it does not move. The wave's phase is taken in the middle rows, far from the walls, and a line is fitted to it. Theory: the same
+fit to the noise-free Boltzmann equation of a gas without walls. Published, for a slow wind and a long wave: g = (1 - 2d) / (2 (1 - d)) in
+fhp1 and 7/6 of it in fhp-rest (Frisch and others, Complex Systems 1 (1987) 649).
 """
 import cmath
 import itertools
@@ -23,7 +23,7 @@ def across(x):
 
 
 def speed(momenta):
-    """The speed of the wave, from the momenta northwards of blocks of columns at each time."""
+    """The speed of the wave, from the momenta northwards of blocks of columns over time."""
     parts = [sum(p * cmath.exp(-2j * math.pi * BLOCK * n / WAVE) for n, p in enumerate(at_a_time)) for at_a_time in momenta]
     turns = [-cmath.phase(later / part) for part, later in zip(parts, parts[1:])]
     times, phases = range(0, STEP * len(parts), STEP), [0.0, *itertools.accumulate(turns)]

@@ -1,9 +1,9 @@
 #!/usr/bin/env python3
-"""What these gases keep and a fluid does not: three staggered momenta, and the momentum of each row of HPP.
+"""What these gases keep and a fluid does not: three staggered momenta, and the momenta of the rows of HPP.
 
-A gas with a wind flows past a disc between walls. Its momentum falls and fluctuates; its staggered momenta, (-1)^t times the sum over the
+A gas with a wind flows past a disc between walls. Its momentum falls and fluctuates. Its staggered momenta, (-1)^t times the sum over the
 lines along an axis of (-1)^line times the momentum across the line, stay to the last unit. In hpp a stream in one row of a gas at rest,
-with no obstacle, stays in its row; in fhp1 the same stream spreads. No errors are given, since no number here is a mean.
+without obstacles, stays in its row. In fhp1 the same stream spreads. These numbers are exact, so they have no errors.
 """
 import common
 import fhpgas

@@ -1,11 +1,11 @@
 #!/usr/bin/env python3
-"""Poiseuille flow: a driven gas between two walls, its viscosity, where the flow is zero, and the odd viscosity of a chiral gas.
+"""Poiseuille flow: a driven gas between two walls, its viscosity, the place of zero flow, and the odd viscosity of a chiral gas.
 
-`fhpgas.driven` turns particles from west to east every ten generations, a force F on each cell. The profile is the mean of the rows'
-velocities just before and just after each turning: before it alone, the flow has lost half a kick, and the walls seem farther in.
-The parabola u = F (h^2 / 4 - y^2) / (2 b d viscosity) is fitted; "zero past the walls" is how many rows outside the walls it ends. If the
-gas is chiral, a shear du/dy changes the density by -b d odd viscosity / c^2 du/dy, so the density rises across the channel.
-Theory: the same kicks, samples and fits with the noise-free Boltzmann equation of the same channel.
+`fhpgas.driven` turns particles from west to east every ten generations, a force F on every cell. The profile is the mean of the rows'
+velocities just before and just after the turnings: just before, the flow has lost half a kick, and the walls seem farther in. The parabola
+u = F (h^2 / 4 - y^2) / (2 b d viscosity) is fitted. "Zero past the walls" is how many rows outside the walls it ends. If the gas is chiral,
+a shear du/dy changes the density by -b d odd viscosity / c^2 du/dy, so the density rises across the channel. Theory: the same kicks,
+samples and fits with the noise-free Boltzmann equation of the same channel.
 """
 import math
 import statistics

@@ -1,10 +1,10 @@
 #!/usr/bin/env python3
 """Darcy's law: the flow through a porous medium, over the force that drives it, and the medium's permeability.
 
-Discs at random places make a part of the channel solid. `fhpgas.driven` drives the gas with a force F on each fluid cell; the flux is the
+Discs at random places make a part of the channel solid. `fhpgas.driven` drives the gas with a force F on every fluid cell. The flux is the
 mean velocity times the porosity, averaged over time once it is steady. Darcy: flux = permeability x F / (particles of a fluid cell x
-viscosity), so flux / F is the same for each F; the permeability, in cells' widths squared, is taken with Boltzmann's viscosity. Theory: the
-noise-free Boltzmann equation of the same medium and kicks. (D. H. Rothman, Geophysics 53 (1988) 509, did such flows first.)
+viscosity), so flux / F is the same for every F. The permeability, in cells' widths squared, is taken with Boltzmann's viscosity. Theory:
+the noise-free Boltzmann equation of the same medium and kicks. D. H. Rothman, Geophysics 53 (1988) 509, did such flows first.
 """
 import common
 import fhpgas

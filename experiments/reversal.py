@@ -1,11 +1,11 @@
 #!/usr/bin/env python3
-"""Reversal: a gas runs, all its particles are turned, and it comes back bit for bit; with one of them not turned it comes back blurred, or
+"""Reversal: a gas runs, all its particles are turned, and it comes back bit for bit. With one of them not turned it comes back blurred, or
 after more generations not at all.
 
-A dense letter L in a thin gas spreads with chirality left, and runs back with chirality right; both ways take half a generation more,
-which `fhpgas.reverse` and `fhpgas.returned` add. Then one particle keeps its direction. In a second trial, of the table, two gases that
-differ by one turned particle run forwards. A difference spreads by at most one cell a generation, so it is within 1 + 3 t (t + 1)
-cells after t. No errors are given, since no number here is a mean.
+A dense letter L in a thin gas spreads with chirality left, and runs back with chirality right. Both ways take half a generation more, which
+`fhpgas.reverse` and `fhpgas.returned` add. Then one particle keeps its direction. In a second trial, of the table, two gases that differ by
+one turned particle run forwards. A difference spreads by at most one cell per generation, so it is within 1 + 3 t (t + 1) cells after t.
+These numbers are exact, so they have no errors.
 """
 import common
 import fhpgas

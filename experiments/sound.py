@@ -2,9 +2,9 @@
 """A standing sound wave between the walls: its speed and its damping.
 
 At the start the filling of a row is d (1 + a cos k y), k = pi / height, and the gas is at rest. The amplitude of this cosine in the density
-swings and dies away; exp(-D k^2 t) (A cos(c k t) + B sin(c k t)) is fitted to it. Theory: the same fit to the noise-free Boltzmann
-equation of the same channel. In hpp a second wave stands along the diagonals, on which every particle of two directions keeps its place in
-the wave: sound is as fast there, without noise or damping. Published for a long wave: c = 1 / sqrt 2, in fhp-rest sqrt(3/7), and
+swings and dies away: exp(-D k^2 t) (A cos(c k t) + B sin(c k t)) is fitted to it. Theory: the same fit to the noise-free Boltzmann equation
+of the same channel. In hpp a second standing wave is along the diagonals, on which every particle of two directions keeps its place in the
+wave: sound is as fast there, without noise or damping. Published for a long wave: c = 1 / sqrt 2, in fhp-rest sqrt(3/7), and
 D = (viscosity + bulk viscosity) / 2 (Frisch and others, Complex Systems 1 (1987) 649).
 """
 import math
@@ -17,7 +17,7 @@ AMPLITUDE, STEP, SAMPLES = 0.1, 8, 64
 
 
 def wave(asked, is_diagonal):
-    """The wave number, and the shape of the wave in each cell [y][x], or in each row if it does not vary along x."""
+    """The wave number, and the shape of the wave in the cells [y][x], or in the rows if it does not vary along x."""
     rows, distance = asked.height, fhpgas.gas_named(asked.gas).row_distance
     upwards = [math.cos(math.pi * (y + 0.5) / rows) for y in range(rows)]
     along = [math.cos(math.pi * x / rows) for x in range(2 * rows)] if is_diagonal else [1.0]
@@ -30,7 +30,7 @@ def amplitude(shape, density):
 
 
 def measured(asked, shape, seed):
-    """The amplitude after each STEP generations."""
+    """The amplitude after every STEP generations."""
     filling = [[asked.density * (1 + AMPLITUDE * s) for s in row] for row in shape]
     is_flat = len(shape[0]) == 1
     width, block = (asked.width, 4096) if is_flat else (len(shape[0]), 1)

@@ -2,10 +2,10 @@
 """A vortex street behind a cylinder: its Strouhal number, and a picture of its vorticity.
 
 The gas fhp-rest, d = 0.18, flows past a disc of diameter D in a channel 20 D long and 5.5 D high. Its mean speed u is kept by turning
-particles (`fhpgas.driven`). The flow across is measured one to two D behind the disc. Half a period is the time from one change of its
-sign to the next, in the last two thirds of the run; its error is the standard error over these times. With the period T,
+particles (`fhpgas.driven`). The flow across is measured one to two D behind the disc. Half a period is the time from one change of its sign
+to the next, in the last two thirds of the run. Its error is the standard error over these times. With the period T,
 St = D / (T g u) and Re = g u D / viscosity, because a flow is carried along by g u. A free cylinder has St = 0.212 (1 - 21.2 / Re)
-(A. Roshko, NACA Report 1191, 1954) and sheds vortices from Re = 47 on; the walls of a channel raise St.
+(A. Roshko, NACA Report 1191, 1954) and sheds vortices from Re = 47 on. The walls of a channel raise St.
 """
 import common
 import fhpgas

@@ -2,7 +2,7 @@
 """The viscosity, from a shear wave between two walls that dies away: over density, chirality and width.
 
 At the start row y flows east with u sin(k x distance from the wall), k = pi / height, at equilibrium. The sine's amplitude falls as
-exp(-viscosity k^2 t); a line is fitted to its logarithm at nine times, until theory expects 1/e. Beside it stand the published value of
+exp(-viscosity k^2 t). A line is fitted to its logarithm at nine times, until theory expects 1/e. It is compared with the published value of
 an infinite gas in the Boltzmann approximation (U. Frisch and others, Complex Systems 1 (1987) 649) and the same fit to the noise-free
 Boltzmann equation of this very channel, whose walls take away some of the published value. What is left are correlations.
 """
@@ -21,7 +21,7 @@ def sine(rows):
 
 
 def rate(step, sizes):
-    """The slope of the line through the logarithms, turned positive."""
+    """The slope of the line through the logarithms, with a positive sign."""
     return -statistics.linear_regression([step * n for n in range(len(sizes))], [*map(math.log, sizes)]).slope
 
 
