@@ -1,5 +1,5 @@
 #!/usr/bin/env python3
-"""Gives the built program the cases of tables: words, scenes and streams of each kind, with what it must print, on standard output and
+"""Runs the built program on the cases of tables: words, scenes and streams of every kind, with what it must print, on standard output and
 on standard error, and the status that it must end with. The cells of scenes with many rectangles come from a second reading of the text.
 Ends with the counts."""
 
@@ -19,7 +19,7 @@ PROGRAM = needs.built_program()
 SOMETHING = re.compile(r"(?s).+")
 MOST_CELLS = 400_000  # that the second reader takes
 
-# What `check` is given beside each scene that is refused, and the lines that refuse it.
+# What `check` reads next to a scene that is refused, and the lines that refuse it.
 SYNTAX, UNKNOWN_KEY, BOTH_FORMS, MISSING, WRONG_TYPE, RANGE = (
     f"scene: {reason}" for reason in ("not TOML", "unknown key", "both forms", "missing key", "wrong type", "out of range")
 )
@@ -45,7 +45,7 @@ USAGE = [
 OPTIONS = {"--generations": "1", "--stages": "1", "--capacity": "1", "--block-width": "1", "--block-height": "1"}
 NO_NUMBERS = ["", " 1", "-1", "1e3", "0x10", "1.0", "one", "99999999999999999999"]
 
-# The limits of each option: None if a value is taken, a line if it is refused, and USAGE if it is no such number.
+# The limits of the options: None if a value is taken, a line if it is refused, and USAGE if it is not such a number.
 LIMITS = {
     "stages": {0: STAGES, 1: None, 64: None, 65: STAGES, 2**32 - 1: STAGES, 2**32: USAGE},
     "capacity": {0: CAPACITY, 1: None, 1024: None, 1025: CAPACITY, 2**32 - 1: CAPACITY, 2**32: USAGE},
@@ -54,7 +54,7 @@ LIMITS = {
     "block-height": {0: USAGE, 1: None, 4096: None, 4097: USAGE},
 }
 
-# Words that the program is given with the scene DRIFT: the status and what it prints.
+# Words that the program reads with the scene DRIFT: the status and what it prints.
 WORDS = [
     *((f"run {words}", 0, DRIFTED, "") for words in ("--generations 1", "--generations=1", "--generations 0001", "--generations +1",
                                                      "--capacity 1 --stages=64 --generations 1")),
@@ -62,7 +62,7 @@ WORDS = [
     ("replay --generations 2 --stages 1", 1, "", PASSES + "\n"),
     ("replay --generations 2 --stages 1 --capacity 0", 1, "", CAPACITY + "\n"),
     ("replay --generations 1000001", 1, "", GENERATIONS + "\n"),
-    # a turn is a number of 32 bits, and one of a member that is not there changes nothing
+    # a turn is a number of 32 bits, and a turn of a missing member changes nothing
     ("replay --generations 0 4294967295", 0, "done\n" + DRIFTED.replace("generation 1", "generation 0").replace("01......", "......01"), ""),
     ("replay --generations 0 4294967296", 2, "", SOMETHING),
     *((f"{command} --help", 0, SOMETHING, "") for command in ("", "run", "check", "coarse", "replay")),
@@ -70,7 +70,7 @@ WORDS = [
     ("run --generation 1", 2, "", re.compile(r"(?s).*--generations.*")),
 ]
 
-# Lines of bash, run where `drift` and `wide` are scenes: the status and what is printed.
+# Lines of bash, run in a folder with the scenes `drift` and `wide`: the status and what is printed.
 FAILED = re.compile(r"write: failed after \d+ bytes\n")
 STREAMS = [
     ("./fhpgas run --generations 1 < drift > /dev/full", 4, "", "write: failed after 0 bytes\n"),
@@ -98,7 +98,7 @@ def bad_cell(row, column):
     return f"scene: row {row} cell {column} is not a cell"
 
 
-# What refuses texts, None if they are scenes: texts as they stand, which may have several faults, of which the first in the order counts;
+# What refuses texts, None if they are scenes: texts as they are, which may have several faults, of which the first in the order counts;
 TEXTS = {
     SYNTAX: ["gas = ", b"\xff", 'gas = "fhp1"\nchirality = "left"\ncells = ["01"', 'gas = "fhp1"\ngas.a = 1\ncells = ["01"]', "colour = 1\ngas = "],
     UNKNOWN_KEY: [MAP + "colour = 1", 'colour = 1\ncells = ["01"]\nwidth = 4'],
@@ -123,7 +123,7 @@ AREAS = {
     WRONG_TYPE: ["rate = 1.0", "[[solid]]", "solid = [[0, 0, 1]]", "solid = [[0, 0, 1, 1, 1]]", "particles = [[0, 0, 1, 1]]", "particles = [[0, 0]]"],
     UNKNOWN_KEY: ["[x]"],
 }
-# what stands beside a map or an area: the version decides whether there may be a generation, and what is no version counts as 1;
+# what is next to a map or an area: the version decides whether there may be a generation, and an unknown version counts as 1;
 VERSIONS = {
     None: ["version = 1", "version = 2", "generation = 3\nversion = 2", "generation = 1000000000000\nversion = 2"],
     RANGE: ["version = 0", "version = 3", "version = -2", "generation = -1\nversion = 2", "generation = 1000000000001\nversion = 2"],
@@ -161,7 +161,7 @@ WIDTHS = [1, 63, 64, 65, 127, 128, 4095, 4096, 4097, 4160, 8191, 8192, 65535, 65
 
 
 def scenes():
-    """Each text of the tables, and what refuses it."""
+    """The texts of the tables, and what refuses them."""
     for wanted, texts in TEXTS.items():
         yield from ((text, wanted) for text in texts)
     for wanted, texts in AREAS.items():
@@ -178,7 +178,7 @@ def scenes():
 
 
 def rectangles():
-    """Each text with rectangles, the line of `check` and the printed cells."""
+    """The texts with rectangles, the lines of `check` and the printed cells."""
     for keys in RECTANGLES:
         text = f'version = 2\ngas = "hpp"\n{keys}'
         lattice = second_reader.read(text.encode(), MOST_CELLS)
@@ -200,7 +200,7 @@ def usage():
 
 
 def drifted(generation):
-    """The cells of DRIFT, whose particle moves a column to the east in each generation."""
+    """The cells of DRIFT, whose particle moves a column to the east per generation."""
     row = ["..", "..", "..", ".."]
     row[(3 + generation) % 4] = "01"
     return f"generation {generation} particles 1\n........\n{''.join(row)}\n........\n"
@@ -229,7 +229,7 @@ def of_limits():
 
 
 def many_turns():
-    """Twelve thousand turns and a hundred thousand on a column of cells, of which each counts: without the last one a row is missing."""
+    """Twelve thousand turns and a hundred thousand on a column of cells. All of them count: without the last one a row is missing."""
     for rows in 3_000, 25_050:
         scene = f'version = 2\ngas = "fhp1"\nchirality = "left"\nwidth = 1\nheight = {rows}\nparticles = [[0, {rows - 1}, 1]]\n'
         turns = "0 1 0 1 1 0 1 " + "0 0 1 1 " * (rows - 3) + "0 1 0 1 0"
@@ -248,7 +248,7 @@ def examples():
 
 
 def stored():
-    """Each scene of scenes/ runs, from its own generation."""
+    """Every scene of scenes/ runs, from its generation."""
     for path in sorted((needs.ROOT / "scenes").glob("*.toml")):
         scene = path.read_text()
         first = int((re.findall(r"^generation = (\d+)$", scene, re.M) or ["0"])[0])
@@ -256,7 +256,7 @@ def stored():
 
 
 def version():
-    """The version is the one that is cited and that the changes end with, and the kit the one that is needed and that proves it here."""
+    """The version is cited and has the newest entry of the changes, and the kit is what README names and what proves it here."""
     needs.command("rt", "see README.md")
     cited = re.search(r"^version: (.*)$", (needs.ROOT / "CITATION.cff").read_text(), re.M).group(1)
     kit = re.sub(r"^(rattle-kit-\d+)[a-z]* ", r"\1 ", subprocess.run(["rt", "version"], capture_output=True, text=True).stdout.strip())
@@ -265,7 +265,7 @@ def version():
 
 
 def programs():
-    """Each case of the program: its words, its standard input, its status and what it prints."""
+    """The cases of the program: words, standard input, status and what it prints."""
     yield from ((words, DRIFT, 2, "", SOMETHING) for words in usage())
     yield from ((words.split(), DRIFT, *wanted) for words, *wanted in WORDS)
     yield ["run", "--generations", "1", "--stages", "0"], "", 1, "", MISSING + "\n"
@@ -288,7 +288,7 @@ def is_like(came, wanted):
 
 
 def fault(case, room):
-    """What is wrong with the answer to a case; None where nothing is."""
+    """What is wrong with the output of a case, or None."""
     words, text, *wanted = case
     came = answer(words, text, room)
     if all(map(is_like, came, wanted)):

@@ -1,13 +1,12 @@
 #!/usr/bin/env python3
 """Says which definitions a reader of the public contracts must believe, and compares them with docs/DEFINITIONS.md.
 
-A definition is an item of a crate's specs/. It must be believed if the contract of a public call names it, or another that must be
-believed does. Beside them a reader meets the code's types that these definitions name, and the ghost members of public traits that
-public contracts name.
+A definition is an item of a crate's specs/. It must be believed if the contract of a public call names it, or another that must be believed
+does. A reader also meets the code's types that these definitions name, and the ghost members of public traits that public contracts name.
 
-Fails if DEFINITIONS.md leaves out one of them, in a section that names its crate, or has a row for one that is gone; if a definition to
-be believed names a type that is not public; and if a file of specs/ holds a definition that need not be believed without saying in its
-first line that its words are inner ones. Prints how many lines there are to believe. With --list it prints the definitions instead.
+Fails if DEFINITIONS.md leaves out one of them, in a section that names its crate, or has a row for one that is gone, if a definition to be
+believed names a type that is not public, and if a file of specs/ has a definition that need not be believed without saying in its first
+line that its words are inner ones. Prints how many lines there are to believe. With --list it prints the definitions instead.
 """
 import collections
 import re
@@ -22,7 +21,7 @@ HEAD = re.compile(r"^(?:(?:pub|abbrev|unfoldable|record|data) )+([\w'-]+)", re.M
 USE = re.compile(r"^\s*(?:ghost )?use Rattle\.(\w+)\.specs\.([\w.]+)\.\{([^}]*)\}", re.M)
 USE_OF_TYPE = re.compile(r"^\s*use Rattle\.(\w+)\.specs\.declared\.[\w.]*?(\w+)(?:\.TheVariants)?(?:\.\{([^}]*)\}| as (\w+))", re.M)
 
-# A definition is known by its crate, its file and its name. It has lines of its own, and uses other definitions and the code's types.
+# A definition is known by its crate, its file and its name. It has lines, and uses other definitions and the code's types.
 Definition = collections.namedtuple("Definition", "lines uses types")
 
 
@@ -46,7 +45,7 @@ def imports(text):
 
 
 def types_in(text):
-    """The code's types that `use` lines bring in, by their names here, each with its crate."""
+    """The code's types that `use` lines bring in, by their names here, with their crates."""
     found = {}
     for crate, kind, names, alias in USE_OF_TYPE.findall(text):
         if is_own(crate) and kind != "TheConstants":
@@ -55,7 +54,7 @@ def types_in(text):
 
 
 def definitions_in(crate, file, text):
-    """The definitions of a file. The constructors of a `data` are known too, with no lines, since contracts may name these alone."""
+    """The definitions of a file. The constructors of a `data` are known too, without lines, because contracts may name only these."""
     items = [(HEAD.findall(block), block) for block in re.split(r"\n\s*\n", text)]
     brought, types = imports(text), types_in(text)
     local = {name: (crate, file, name) for heads, _ in items for name in heads}
@@ -76,7 +75,7 @@ def definitions_of(crate):
     found, inner = {}, set()
     for path in sorted((CRATES / crate / "specs").rglob("*.antt")):
         file = ".".join(path.relative_to(CRATES / crate / "specs").with_suffix("").parts)
-        if file != "Lib" and file.split(".")[0] != "Laws":  # proofs that have to stand in specs/
+        if file != "Lib" and file.split(".")[0] != "Laws":  # proofs that must be in specs/
             text = path.read_text()
             found |= dict(definitions_in(crate, file, text))
             inner |= {(crate, file)} if text.startswith(INNER) else set()
@@ -99,7 +98,7 @@ def public_texts(crate):
 
 
 def braced(text, at):
-    """The text in the braces that open at `at`, and the place behind them."""
+    """The text in the braces that open at `at`, and the place after them."""
     depth = 0
     for place in range(at, len(text)):
         depth += {"{": 1, "}": -1}.get(text[place], 0)
@@ -114,7 +113,7 @@ def traits(text):
 
 def contracts(text):
     """The clauses of public functions and traits, and the types as which callers see public values."""
-    text = re.sub(r";\s*\w+\]", "]", re.sub(r"//[^\n]*", "", text))  # an array's length is no end of a signature
+    text = re.sub(r";\s*\w+\]", "]", re.sub(r"//[^\n]*", "", text))  # an array's length does not end a signature
     private = set(re.findall(r"^(?:struct|enum) (\w+)", text, re.M))
     for body in traits(text):
         yield from clauses(body, r"^    fn \w+")
@@ -147,7 +146,7 @@ def closure(cited, known):
 
 
 def told_in(document, crates):
-    """The definitions that DEFINITIONS.md tells, each with its crate, and those of them that calls give and keep."""
+    """The definitions that DEFINITIONS.md has, with their crates, and the ones that calls establish and preserve."""
     told, kept = set(), set()
     for section in re.split(r"^## ", document, flags=re.M)[1:]:
         names = re.findall(r"`([\w'-]+)`", section)

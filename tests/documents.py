@@ -1,7 +1,7 @@
 #!/usr/bin/env python3
-"""Runs the commands of the documents as they are printed: each block marked `sh` must end with 0, and if the block after it is marked
-`text`, it must print that. The package is on the path. The blocks of a document follow one another in a folder of their own; documents go
-side by side. A block that imports numpy is left out if there is none. Ends with the counts."""
+"""Runs the commands of the documents as they are printed: a block marked `sh` must end with 0, and if the block after it is marked `text`,
+it must print that. The package is on the path. The blocks of a document follow one another in one folder. Documents go side by side. A
+block that imports numpy is left out if numpy is missing. Ends with the counts."""
 
 import concurrent.futures
 import os
@@ -21,7 +21,7 @@ NUMPY = re.compile(r"^import .*\bnumpy\b", re.M)
 
 
 def fault(commands, wanted, room):
-    """What is wrong if a block does not end with 0, or prints something else (None: anything goes), or something on standard error."""
+    """What is wrong if a block does not end with 0, or prints other text than `wanted` (None: any), or something on standard error."""
     try:
         ran = subprocess.run(["bash", "-ec", commands], cwd=room, capture_output=True, text=True, timeout=600)
     except subprocess.TimeoutExpired as late:
@@ -32,7 +32,7 @@ def fault(commands, wanted, room):
 
 
 def tried(document):
-    """For each block of a document its commands, and what is wrong with it; of a block that is left out, no commands."""
+    """Per block of a document its commands, None if it is left out, and what is wrong with it."""
     blocks = BLOCK.findall(document.read_text())
     with tempfile.TemporaryDirectory() as room:
         for name, path in {"fhpgas": PROGRAM, **{name: needs.ROOT / name for name in ("scenes", "python", "experiments")}}.items():

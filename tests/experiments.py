@@ -1,7 +1,7 @@
 #!/usr/bin/env python3
-"""Runs the small form of each experiment, whose seeds are fixed: what it measures must be what theory says within its error, and far from
-what theory says of another gas. Checks the Boltzmann solution beside published formulas, and that a wrong use is refused in one line. Ends
-with the counts."""
+"""Runs the small form of every experiment, whose seeds are fixed: what it measures must be what theory says within its error, and far from
+what theory says of another gas. Compares the Boltzmann solution with published formulas, and checks that a wrong use is refused in one
+line. Ends with the counts."""
 
 import concurrent.futures
 import math
@@ -17,7 +17,7 @@ os.environ["FHPGAS"] = str(needs.built_program())
 from fhpgas import Fault, boltzmann, theory
 
 LINE = re.compile(r"^(.*?) +measured +(\S+) \+- (\S+)  theory +(\S+)$", re.M)
-ERRORS = 4  # standard errors between measurement and theory, each of which comes from few seeds
+ERRORS = 4  # standard errors between measurement and theory, which come from few seeds
 CORRELATIONS = 0.12  # by which a measured viscosity may exceed Boltzmann's
 FORMULAS = {  # published viscosities
     ("fhp1", "seeded"): lambda d: 1 / (12 * d * (1 - d) ** 3) - 1 / 8,
@@ -46,7 +46,7 @@ def printed(words):
 
 
 def are_as_in_theory(words, names, most_error=0.1):
-    """The measurements whose names begin with one of these, each within its error, which is no more than a part of the largest number."""
+    """The measurements whose names begin with one of these are within their errors, which are at most a part of the largest number."""
     found = [(name, *map(float, numbers)) for name, *numbers in LINE.findall(printed(words)) if name.startswith(tuple(names))]
     assert len(found) >= len(names), f"{len(found)} measurements"
     largest = max(abs(expected) for _, _, _, expected in found)
@@ -56,7 +56,7 @@ def are_as_in_theory(words, names, most_error=0.1):
 
 
 def is_viscous(gas, chirality):
-    """The viscosity lies between Boltzmann's in this channel and a little above, and not so the viscosities of the other gases."""
+    """The viscosity is between Boltzmann's in this channel and a little above, unlike the viscosities of the other gases."""
     row = printed(f"viscosity.py --small --gas {gas} --chirality {chirality}").splitlines()[-1].replace("+-", "").split()
     density, _, measured, error, channel, published = map(float, row)
     assert abs(published - FORMULAS[gas, chirality](density)) < 1e-4

@@ -1,9 +1,9 @@
 #!/usr/bin/env python3
-"""Gives the built program large texts of one kind each, under a small stack, and prints its answer, seconds and peak memory; then the
+"""Runs the built program on large texts of many kinds, under a small stack, and prints its answer, seconds and peak memory. Then the
 largest area, and the widest rows through the longest line, if memory allows.
 
-Fails if an answer is not the one that docs/FORMATS.md says; the times and sizes are only shown. Usage:
-tests/large_scenes.py [MEBIBYTES], 1 if it is left out; the program reads at most 64.
+Fails if an answer is not as docs/FORMATS.md says. The times and sizes are only shown.
+Usage: tests/large_scenes.py [MEBIBYTES], by default 1. The program reads at most 64.
 """
 import os
 import random
@@ -28,7 +28,7 @@ WRONG_TYPE, UNKNOWN, SYNTAX, RANGE, MISSING = (
 
 
 def repeated(before, item, after, size):
-    """The text before, as many items as have room in the size, and the text after, in pieces."""
+    """The text before, the items that have room in the size, and the text after, in pieces."""
     count, most = (size - len(before) - len(after)) // len(item), max(BLOCK // len(item), 1)
     return [before] + [item * most] * (count // most) + [item * (count % most), after]
 
@@ -39,7 +39,7 @@ def rectangle(rng):
 
 
 def texts(size):
-    """Each text as a name, its pieces and the answer."""
+    """The texts as names, their pieces and the answers."""
     rng = random.Random(1)
     half, at_random = size // 2, "".join(rectangle(rng) for _ in range(2000))
     yield "one particle, again and again", repeated(AREA + "particles = [", "[0,0,1],", "]\n", size), SHOWN % (0, 1)
@@ -98,7 +98,7 @@ def is_alike_through_longest_line():
 
 
 def answer(path):
-    """What the program says of the text in the file, the seconds that it takes and the KiB that it comes to hold."""
+    """What the program prints for the text in the file, the seconds that it takes and its peak memory in KiB."""
     with open(path, "rb") as text, tempfile.TemporaryFile() as said:
         started = time.monotonic()
         child = subprocess.Popen(["sh", "-c", f'ulimit -s {STACK}; exec "$0" check', PROGRAM], stdin=text, stdout=said, stderr=said)

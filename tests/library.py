@@ -1,7 +1,7 @@
 #!/usr/bin/env python3
-"""Compares the example of the crates as a library with two other texts: each line of the examples in the docstrings of gas_pipe and
-gas_tool stands in its source, and its stored output has the numbers and the cells that the built fhpgas prints for the same lattice,
-scenes/wind.toml. (That the example prints its stored output is for rt ci to find.) Ends with the counts."""
+"""Compares the example of the crates as a library with two other texts: its source has every line of the examples in the docstrings of
+gas_pipe and gas_tool, and its stored output has the numbers and the cells that the built fhpgas prints for the same lattice,
+scenes/wind.toml. rt ci checks that the example prints its stored output. Ends with the counts."""
 
 import re
 import subprocess

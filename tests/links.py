@@ -1,7 +1,7 @@
 #!/usr/bin/env python3
-"""Looks up each link of the Markdown files that leads into the repository: its file must exist, and its anchor must be that of a heading
-there, by the rule of hosts such as GitHub. Links to other places are not tried. The map of the code must have each crate of crates.txt in
-its table, and no other. Ends with the counts."""
+"""Looks up the links of the Markdown files that lead into the repository: the file must exist, and the anchor must be a heading's, by the
+rule of hosts such as GitHub. Links to other places are not tried. The table in docs/ARCHITECTURE.md must have the crates of crates.txt, and
+only these. Ends with the counts."""
 
 import collections
 import pathlib
@@ -43,7 +43,7 @@ def links(text):
 
 
 def fault(document, link):
-    """What is wrong with a link; None where nothing is."""
+    """What is wrong with a link, or None."""
     path, _, anchor = urllib.parse.unquote(link).partition("#")
     target = (ROOT / path.lstrip("/") if path.startswith("/") else document.parent / path).resolve() if path else document
     if ROOT not in (target, *target.parents) or not target.exists():
@@ -54,7 +54,7 @@ def fault(document, link):
 
 
 def crates():
-    """Returns the crates that crates.txt lists, and those in the first column of the table in docs/ARCHITECTURE.md."""
+    """The crates that crates.txt lists, and the ones in the first column of the table in docs/ARCHITECTURE.md."""
     listed = set(re.findall(r"^(\w+):", (ROOT / "crates.txt").read_text(), re.M))
     table = (ROOT / "docs/ARCHITECTURE.md").read_text().split("| crate |")[1].split("\n\n")[0]
     return listed, {name for row in table.split("\n") if row.startswith("| `") for name in re.findall(r"`(\w+)`", row.split("|")[1])}

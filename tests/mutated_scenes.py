@@ -1,8 +1,8 @@
 #!/usr/bin/env python3
-"""Throws random, mutated and spliced scenes at the built program, and compares each answer with a second reading of the text
-(second_reader.py): the line that refuses it, or the line of `check` and the printed cells. If a text is refused, `explain` must say the
-same line and a reason. A text that may be TOML 1.1, which the second reader does not read, must be read or refused. Ends with the
-counts. Usage: tests/mutated_scenes.py [HOW_MANY [SEED]]
+"""Runs the built program on random, mutated and spliced scenes, and compares its output with a second reading of the texts
+(second_reader.py): the line that refuses a text, or the line of `check` and the printed cells. If a text is refused, `explain` must say the
+same line and a reason. A text that may be TOML 1.1, which the second reader does not read, must be read or refused. Ends with the counts.
+Usage: tests/mutated_scenes.py [HOW_MANY [SEED]]
 """
 import random
 import re
@@ -110,7 +110,7 @@ def fed_back(printed):
 
 
 def run(text, *words):
-    """The status and what was printed, on standard error where nothing was on standard output."""
+    """The status and what was printed, on standard error if standard output is empty."""
     try:
         done = subprocess.run([PROGRAM, *words], input=text, capture_output=True, timeout=60)
     except subprocess.TimeoutExpired as fault:
@@ -121,8 +121,7 @@ def run(text, *words):
 
 
 def expected(text):
-    """What `check` and `run --generations 0` must answer, by the second reading; None for a large area, and UNSURE for what may be TOML
-    1.1."""
+    """What `check` and `run --generations 0` must print, by the second reading: None for a large area, UNSURE for what may be TOML 1.1."""
     try:
         lattice = second_reader.read(text, MOST_CELLS)
     except second_reader.Refused as refused:
@@ -131,7 +130,7 @@ def expected(text):
 
 
 def explanation(text):
-    """What `explain` says of a text: the status and the first line of its answer, and whether all its lines have reasons, each in one line."""
+    """What `explain` says of a text: the status, the first line, and whether all its lines have reasons in one line."""
     found = refusals.explained(text)
     is_told = bool(found) and all(reasons and all(map(str.isprintable, reasons)) for _, reasons in found)
     return int(bool(found)), f"{found[0][0]}\n" if found else "", is_told
@@ -171,8 +170,8 @@ class Counts:
 
 
 def given_texts():
-    """Every prefix of three scenes; each integer at the edges of 64 bits and of its range, past them and as another value, in both
-    versions; a generation beside each kind of version; letters in a map; maps at the limits of both versions."""
+    """Every prefix of three scenes, the integers at the edges of 64 bits and of their ranges, past them and as other values, in both
+    versions, a generation with every kind of version, letters in a map, and maps at the limits of both versions."""
     for name in ("drift", "obstacle", "square"):
         text = (needs.ROOT / f"scenes/{name}.toml").read_bytes()
         yield from (text[:length] for length in range(len(text) + 1))

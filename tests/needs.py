@@ -1,5 +1,5 @@
-"""What the scripts beside this one need. If it is missing, a script says so in one line and ends with 2. They may import the package in
-python/. A script that imports this module goes on in the system's Python if that has numpy and its own has not."""
+"""What the scripts of this folder need. If it is missing, a script says so in one line and ends with 2. They may import the package in
+python/. A script that imports this module continues in the system's Python if only that has numpy."""
 
 import importlib.util
 import os
@@ -20,7 +20,7 @@ def stop(what):
 
 
 def built_program(name="fhpgas"):
-    """The path of a program as make leaves it, also for those that a script starts."""
+    """The path of a program as make leaves it, also for the programs that a script starts."""
     path = ROOT / f"crates/{name}/out/{name}"
     if not path.exists():
         stop(f"{path.relative_to(ROOT)} is missing: run make {name} first")
@@ -41,7 +41,7 @@ def compiled(source, made, *words):
 
 
 def left_out(count):
-    """What a script adds to its counts if parts of it need numpy and there is none."""
+    """What a script adds to its counts if parts of it need numpy and it is missing."""
     return f", {count} left out, because numpy is missing: apt-get install python3-numpy" if count else ""
 
 

@@ -1,7 +1,7 @@
 #!/usr/bin/env python3
 """Compares the built program with C programs that compute the same lattices in other ways, on twenty random maps with obstacles:
-bench/bytes.c, cell by cell from tables, for every gas, and bench/bands.c, on bit planes cut into bands, for FHP-I. The gases,
-chiralities, sizes, first generations and pipelines take turns; seeds are fixed. All must print the same bytes. Ends with the counts."""
+bench/bytes.c, cell by cell from tables, for every gas, and bench/bands.c, on bit planes cut into bands, for FHP-I. The gases, chiralities,
+sizes, first generations and pipelines take turns, and seeds are fixed. All must print the same bytes. Ends with the counts."""
 
 import concurrent.futures
 import itertools
@@ -24,7 +24,7 @@ GENERATIONS = range(150, 500)
 
 
 def drawn(rng, width, height, directions):
-    """The rows of a map: cells that hold each direction with one probability, single solid cells, and some solid rectangles."""
+    """The rows of a map: cells whose directions are filled with one probability, single solid cells, and some solid rectangles."""
     states = range(1 << directions)
     rate = rng.choice([0.02, 0.1, 0.3, 0.6])
     weights = [rate ** state.bit_count() * (1 - rate) ** (directions - state.bit_count()) for state in states]
@@ -44,7 +44,7 @@ def printed(words, text):
 
 
 def fault(number, room):
-    """What differs on the map of that number; None if nothing does."""
+    """What differs on the map of that number, or None."""
     rng = random.Random(number)
     (gas, directions), chirality = list(itertools.product(GASES.items(), CHIRALITIES))[number % 9]
     width, height = SIZES[number % len(SIZES)]

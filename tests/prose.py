@@ -1,6 +1,6 @@
 #!/usr/bin/env python3
-"""Prints how many sentences of each document have more than forty words; with --list the sentences too. Code, tables and headings are
-left out; each paragraph and each item of a list begins a sentence. Fails if a document of SHORT has one."""
+"""Prints how many sentences of the documents have more than forty words, and with --list the sentences too. Code, tables and headings are
+left out. Paragraphs and items of lists begin sentences. Fails if a document of SHORT has a long one."""
 
 import re
 import sys

@@ -1,6 +1,6 @@
 #!/usr/bin/env python3
-"""Tries the package in python/: each function beside hand-made values, published formulas, exact laws or the program itself, and the
-command line. What needs numpy or Dask is tried if they are there. Ends with the counts."""
+"""Compares the functions of the package in python/ with hand-made values, published formulas, exact laws or the program itself, and tries
+the command line. What needs numpy or Dask is tried if they are there. Ends with the counts."""
 
 import concurrent.futures
 import dataclasses
@@ -124,7 +124,7 @@ class Package(unittest.TestCase):
             self.assertEqual(cells.particles, sum(fhpgas.counts(cells)))
 
     def test_means_have_their_errors(self):
-        """The error of the mean of 1, 2, 3 is a third of the root of 3; of x' = 0.9 x + noise it is 10 / sqrt(n)."""
+        """The error of the mean of 1, 2, 3 is a third of the root of 3, and of x' = 0.9 x + noise it is 10 / sqrt(n)."""
         self.assertEqual(fhpgas.mean([1, 2, 3]), (2, math.sqrt(1 / 3)))
         self.assertEqual(fhpgas.mean([([[2, None]], [[0, 1]]), ([[4, 6]], [[0, 3]])]), ([[[3, None]], [[0, 2]]], [[[1, None]], [[0, 1]]]))
         for values in ([1], [[1], [1, 2]], [[1], 1]):
@@ -149,7 +149,7 @@ class Package(unittest.TestCase):
     # -- runs and scenes
 
     def test_the_program_is_found(self):
-        """In a folder as an archive unpacks, with a program beside the package; by FHPGAS; and on the PATH."""
+        """In a folder as an archive unpacks, with a program next to the package, by FHPGAS, and on the PATH."""
         words = [sys.executable, "-c", "import fhpgas; print(fhpgas.run('gas = \"hpp\"\\ncells = [\"01..\"]', 1).text(), end='')"]
         shutil.copytree(needs.ROOT / "python", self.room / "python")
         shutil.copy(needs.built_program(), self.room / "fhpgas")
@@ -204,7 +204,8 @@ class Package(unittest.TestCase):
             self.fault(part, function, *words)
 
     def test_a_run_goes_on(self):
-        """Three generations and then four are seven; another seed is another start; changed cells go on with the same random bits."""
+        """Three generations and then four are seven, another seed is another start, and changed cells continue with the same random
+        bits."""
         for gas, chirality in itertools.product(GASES, theory.CHIRALITIES):
             scene = AREA.replace("fhp1", gas).replace("seed", f'chirality = "{chirality}"\nseed')
             whole = fhpgas.run(scene, 7)
@@ -240,8 +241,8 @@ class Package(unittest.TestCase):
         self.assertEqual((fhpgas.equilibrium("hpp", 0), fhpgas.equilibrium("hpp", 1)), ((0,) * 4, (1,) * 4))
 
     def test_a_gas_is_drawn_from_its_fields(self):
-        """Each direction has as many particles as its chance says, up to five standard deviations: in halves at two densities, as lists and as
-        functions of the place; and a sine between the walls has its means over quarters."""
+        """The directions have the particles that their chances say, up to five standard deviations: in halves at two densities, as lists
+        and as functions of the place. A sine between the walls has its means over quarters."""
         for name, density in itertools.product(GASES, ([[0.1] * 128 + [0.4] * 128] * 96, lambda x, y: 0.1 if x < 127.9 else 0.4)):
             drawn = fhpgas.counts(fhpgas.run(fhpgas.gas(density, 0.15, -0.1, size=(256, 96), gas=name, seed=3), 0), 128, 96)
             for (i, blocks), column in itertools.product(enumerate(drawn), (0, 1)):
@@ -262,7 +263,7 @@ class Package(unittest.TestCase):
         self.fault("not of 9 columns", fhpgas.gas, 0.2, size=(9, 9), solid=DISC)
 
     def test_shapes_have_their_cells(self):
-        """On the triangular lattice 1, 7 and 19 cells lie within 0, 1 and 2 steps; on the square lattice 1, 5 and 13."""
+        """On the triangular lattice 1, 7 and 19 cells lie within 0, 1 and 2 steps, on the square lattice 1, 5 and 13."""
         for row, (radius, hexagon, square) in itertools.product((8, 9), ((0, 1, 1), (1, 7, 5), (2, 19, 13))):
             self.assertEqual([fhpgas.Obstacles(40, 24, gas).disc(39, row, radius).solid for gas in ("fhp1", "hpp")], [hexagon, square])
         disc = fhpgas.Obstacles(80, 64).disc(40, 31, 16)
@@ -278,7 +279,7 @@ class Package(unittest.TestCase):
         self.assertEqual(sorted(covered), sorted((x, y) for y in range(40) for x in range(60) if porous[y][x]))
 
     def test_a_picture_is_a_mask(self):
-        """The same letter as PBM, in both kinds, and as PNG: in grey by each filter, in colours, of a palette and of one bit."""
+        """The same letter as PBM, in both kinds, and as PNG: in grey by every filter, in colours, of a palette and of one bit."""
         dark = [[pixel == "#" for pixel in row] for row in ("###.", "#..#", "###.", "#.#.", "#..#")]
         bits = [bytes([sum(d << 7 - x for x, d in enumerate(row))]) for row in dark]
         grey = [bytes(0 if d else 255 for d in row) for row in dark]
@@ -301,7 +302,7 @@ class Package(unittest.TestCase):
     # -- flows
 
     def test_collisions_are_those_of_the_program(self):
-        """Each state alone, three cells apart on an odd row: after a generation its particles are where the program moved them."""
+        """All states, three cells apart on an odd row: after a generation their particles are where the program moved them."""
         for name, side in itertools.product(GASES, ("left", "right")):
             gas = fhpgas.gas_named(name)
             row = [state if offset == 1 else 0 for state in range(1 << gas.directions) for offset in range(3)]
@@ -362,14 +363,14 @@ class Package(unittest.TestCase):
                 xx, _, yy = fhpgas.flux(chances, gas)
                 self.assertAlmostEqual((xx - yy) / sum(chances) / 0.01**2, theory.galilean_factor(gas, d), places=3)
         best = max(fhpgas.numbers("fhp-rest", d / 1000, theory.sound_speed("fhp-rest"), 1).reynolds for d in range(100, 300))
-        self.assertEqual((round(best, 2), round(fhpgas.numbers("fhp1", 0.2, 0.3, 40).mach, 3)), (1.08, 0.424))  # that of FHP-II, and 0.3 sqrt(2)
+        self.assertEqual((round(best, 2), round(fhpgas.numbers("fhp1", 0.2, 0.3, 40).mach, 3)), (1.08, 0.424))  # FHP-II's, and 0.3 sqrt(2)
         speeds = sum(fhpgas.coarse(fhpgas.gas(0.2, size=(512, 512), seed=1), 20, 16, 16).velocity()[0], [])
         self.assertAlmostEqual(math.sqrt(sum(u * u for u in speeds) / len(speeds)) / theory.noise("fhp1", 0.2, 256), 1, delta=0.1)
         self.fault("hpp has no viscosity", theory.viscosity, "hpp", 0.2)
         self.fault("a density is the filling", theory.noise, "fhp1", 1.5, 10)
 
     def test_vorticity_of_a_rotation(self):
-        """u = -w y, v = w x has the vorticity 2 w; smoothing leaves it, away from the walls."""
+        """u = -w y, v = w x has the vorticity 2 w, which smoothing leaves, away from the walls."""
         px = [[round(-40 * (2 - row) * 9 * math.sqrt(3))] * 5 for row in range(5)]
         py = [[round(40 * 8 * (column - 2) * 2 / math.sqrt(3)) for column in range(5)]] * 5
         table = tables.Table([[72] * 5] * 5, [[10_000] * 5] * 5, px, py, "fhp1", (8, 9))
@@ -412,7 +413,7 @@ class Package(unittest.TestCase):
             self.assertEqual(refusals.explanation(path.read_bytes()), refusals.NOT_REFUSED, path)
 
     def test_drawn_scenes_are_as_asked(self):
-        """The second reader counts the same cells as the program, and each scene has what was asked for."""
+        """The second reader counts the same cells as the program, and the scenes have what was asked for."""
         for words, solid in (("blocks --width 20 --height 9 --block 3 2 4 5 --block 4 3 5 2", 24), ("blocks --width 12 --height 8 --closed --gas hpp", 8),
                              ("discs --disc 10 8 1 --wind 300 -100", 7), ("nozzle --throat 24", 0), ("polygons --polygon 1.75 1.5 9.25 1.5 9.25 9.5 1.75 9.5", 60),
                              ("blocks --width 4999 --height 2 --block 4998 0 1 2", 2), ("porous --percent 100 --height 5 --wind 100", 320)):

@@ -1,11 +1,11 @@
 #!/usr/bin/env python3
-"""Refuses requests for memory, starts of threads among them, of the built program and of each call that takes memory, which the program
-`probes` makes by itself: each request alone, and all from each one on. A refused run must end with its status and line, with every thread
-joined and every byte given back, and print nothing. If nothing is refused it must end with 0, and with no request between the last start
-of a thread and the first join. Then the program runs under limits of its address space. Ends with the counts.
+"""Refuses requests for memory, starts of threads among them, of the built program and of the calls that take memory, which the program
+`probes` makes: every request in turn, only that one or also all later ones. A refused run must end with its status and line, with every
+thread joined and all memory freed, and print nothing. Otherwise it must end with 0, without a request between the last start of a thread
+and the first join. Then the program runs under limits of its address space. Ends with the counts.
 
-The program collects its words by the kit's `collect`, which asks for room for all of them and, if that is refused, again for less. So one
-request of a run may be refused alone and the run go on; it must then print the whole usual answer."""
+The program collects its words by the kit's `collect`, which asks for room for all of them and, if that is refused, again for less. One
+request of a run may therefore be refused by itself and the run continue. It must then print the whole usual answer."""
 
 import concurrent.futures
 import os
@@ -63,7 +63,8 @@ class Ended:
 
 
 def sweep(pool, library, name, words, scene, line, most_asked_again=0):
-    """Refuses each request alone, and all from each one on. After at most so many refusals the run may go on, to the usual end."""
+    """Refuses every request in turn, only that one or also all later ones. After at most so many refusals the run may continue, to the
+    usual end."""
     usual = Ended(library, words, scene, {})
     count(usual.status == 0 and usual.is_tidy() and usual.seen > 0, f"{name}: {usual}")
     count(usual.since_start == (0 if usual.started else usual.seen), f"{name}: {usual.since_start} requests between last start and first join")
@@ -78,14 +79,14 @@ def sweep(pool, library, name, words, scene, line, most_asked_again=0):
 
 
 def as_many(library, name, runs):
-    """Runs of one line for more generations and fewer make as many requests."""
+    """Runs of one line make the same number of requests for more and for fewer generations."""
     seen = {Ended(library, words, scene, {}).seen for words, scene in runs}
     count(len(seen) == 1, f"{name}: requests {sorted(seen)}")
     print(f"{name}: {sorted(seen)} requests")
 
 
 def holds_places(library, scene, row_bytes):
-    """Belts of a line with 512 places more each ask for as many rows more of memory."""
+    """Belts with 512 places more ask for the memory of 512 rows more."""
     for stages in 1, 2, 5:
         words = [PROGRAM, "run", "--generations", "3", "--stages", str(stages), "--capacity"]
         few, many = (Ended(library, [*words, places], scene, {}).asked for places in ("512", "1024"))

@@ -1,4 +1,4 @@
-"""The lattice of a scene by docs/FORMATS.md alone, slow on large ones: what `check` and `run --generations 0` must print. The module `needs`
+"""The lattice of a scene by docs/FORMATS.md only, slow on large ones: what `check` and `run --generations 0` must print. The module `needs`
 puts the package on the path."""
 import struct
 

@@ -1,7 +1,7 @@
 #!/usr/bin/env python3
-"""Runs the program with standard error on a terminal: while generations are computed a line there tells how many, and is wiped before
-the program ends; standard output has the bytes that it has without a terminal, where standard error stays empty. Then with standard
-input on one, where it says that it awaits a scene. Ends with the counts."""
+"""Runs the program with standard error on a terminal: while generations are computed a line there shows how many, and is wiped before the
+program ends. Standard output has the same bytes as without a terminal, when standard error stays empty. Then with standard input on one,
+when it says that it awaits a scene. Ends with the counts."""
 import contextlib
 import os
 import pty
@@ -21,14 +21,14 @@ LINE = re.compile(re.escape(WIPE) + r"(\d+) of (\d+) generations \((\d+) %\)")
 
 
 def read_to_end(terminal, told):
-    """Adds what a terminal is told to the list. A program waits for ever on a terminal that is full, so it is read meanwhile."""
+    """Adds what a terminal shows to the list. A program waits for ever on a terminal that is full, so it is read meanwhile."""
     with contextlib.suppress(OSError):
         while part := os.read(terminal, 65536):
             told.append(part)
 
 
 def on_terminal(words):
-    """The status, what came on standard output, and what the terminal was told."""
+    """The status, what came on standard output, and what the terminal showed."""
     ours, theirs = pty.openpty()
     process = subprocess.Popen([PROGRAM, *words.split()], stdin=subprocess.PIPE, stdout=subprocess.PIPE, stderr=theirs)
     os.close(theirs)
@@ -42,7 +42,7 @@ def on_terminal(words):
 
 
 def tells(told):
-    """Whether the terminal was told growing numbers of generations with their shares, and the line was wiped in the end."""
+    """Whether the terminal showed growing numbers of generations with their shares, and the line was wiped in the end."""
     lines = [tuple(map(int, found.groups())) for found in LINE.finditer(told)]
     right = all(total == GENERATIONS and part < total and share == part * 100 // total for part, total, share in lines)
     return lines != [] and lines == sorted(lines) and right and LINE.sub("", told) == WIPE
