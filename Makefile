@@ -1,8 +1,8 @@
-# Proves each crate over what the crates below it state, several side by side, and links the programs.
+# Proves the crates over what the crates below them state, several side by side, and links the programs.
 #
-#   make                  builds fhpgas for this machine (CPU=x86-64-v2: for that level); also make NAME, for a crate of crates.txt
+#   make                  builds fhpgas for this machine (CPU=x86-64-v2: for that level), or make NAME a crate of crates.txt
 #   make quick            runs the tests that prove nothing
-#   make test             proves all from nothing, and runs every test
+#   make test             proves all from scratch, and runs every test
 #   make archive FILE=F   packs fhpgas, built for x86-64-v2, into F, a .tar.gz for machines without the kit
 #   make clean            removes all that was built
 #
@@ -21,14 +21,14 @@ MAKEFLAGS += --no-print-directory -j$(shell awk -v most=$$(($(processors) + 2)) 
     '/^MemAvailable/ { n = int($$2 / 3e6); print (n < 1 ? 1 : (n > most ? most : n)) }' /proc/meminfo)
 unexport MAKEFLAGS
 
-# The order in which crates begin: those first for which the longest chains of others wait. A crate that has several processors is
+# The order in which crates begin: first the ones for which the longest chains of others wait. A crate that has several processors is
 # proved sooner with a third more work, so the two that have time take one.
 order := gas_geom gas_bits gas_rows gas_tool_cli gas_layout gas_cells gas_scene gas_belt gas_stage gas_pipe_model gas_pipe_members \
     gas_pipe_run gas_pipe_replay gas_tool_io gas_tool_perform fhpgas
 jobs = $(if $(filter gas_tool_cli gas_scene,$@),1,$(processors))
 
-# From crates.txt, in which lower crates stand first: uses_NAME is what the line of a crate names, own_NAME what of that is built here,
-# and below_NAME all built here that it stands on.
+# From crates.txt, in which lower crates come first: uses_NAME is what the line of a crate names, own_NAME what of that is built here,
+# and below_NAME all built here that it needs.
 lines := $(shell sed -n 's/ /|/g; /^[a-z]/p' crates.txt)
 names := $(foreach l,$(lines),$(firstword $(subst :, ,$l)))
 $(foreach l,$(lines),$(eval uses_$(subst :,:=,$(subst |, ,$l))))
@@ -47,8 +47,8 @@ program = src/main.rt --cpu $(CPU) --toolchain $(kit)/toolchain -o out/new/$@.o
 link = $(kit)/bin/rattle-link --target x86_64-unknown-linux-gnu --toolchain $(kit)/toolchain -o out/new/$@ out/new/$@.o \
     $(kit)/c/libos_c.a $(kit)/c/liblibc_c.a >> out/build.log 2>&1 && mv out/new/$@ out/$@ && rm -r out/new && echo $(CPU) > out/level
 
-# What stands for all that is made, and the sums that it was made by; rt removes these with the library. All is made in out/new and moved
-# when it is whole, so an interrupted build leaves nothing half made.
+# The file that represents a crate once it is made, and the sums of what it was made from. rt removes both with the library. A crate is
+# made in out/new and moved when it is whole, so an interrupted build leaves none half made.
 made = $(if $(is_program),out/$@,out/rlib/$@.rlib/format)
 sums = $(if $(is_program),out/sums,out/rlib/sums)
 
@@ -59,7 +59,7 @@ dated = $(if $(is_program),touch -r $(begun) $(made))
 $(if $(filter quick test clean help,$(MAKECMDGOALS)),,$(shell mkdir -p crates/fhpgas/out $(wanted:%=crates/%/out) && cd crates/fhpgas && \
     : > $(tally) && touch $(begun)))
 
-# While it is proved, a crate's folder has rt's own lock, and those below a shared one.
+# While it is proved, a crate's folder has rt's lock, and the folders below a shared one.
 .PHONY: $(names) quick test archive clean help
 $(names):
 	@$(if $(kit),,$(error the Rattle kit's command rt is not on the PATH: see README.md))

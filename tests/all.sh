@@ -1,7 +1,7 @@
 #!/bin/bash
-# The test command: what needs no program; the gate, which proves every crate from nothing, tries the wrong bodies of must-fail/ one by one,
-# and runs the tests and the stored runs of the programs; then what tries the built program from outside. A wrong body that is refused by
-# a name alone says little of a contract, and fails the tests.
+# The test command: first the tests that do without the program, then the gate, which proves every crate from scratch, tries the wrong
+# bodies of must-fail/ one by one, and runs the tests and the stored runs of the programs, and at last the tests of the built program from
+# outside. A wrong body that is refused only by a name says little of a contract, and fails the tests.
 . "$(dirname "$0")/try.sh"
 set -o pipefail
 

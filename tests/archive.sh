@@ -1,12 +1,11 @@
 #!/bin/bash
-# Packs the built program, unpacks it where neither kit nor source is at hand, and runs the program and the Python package there. Ends
-# with the counts.
+# Packs the built program, unpacks it far from kit and sources, and runs the program and the Python package there. Ends with the counts.
 . "$(dirname "$0")/try.sh"
 
-# alone WORDS..: a command in the unpacked folder, with nothing of this machine's environment
+# alone WORDS..: a command in the unpacked folder, without this machine's environment
 alone() { (cd "$folder" && exec env -i PATH="${path-/nowhere}" PYTHONPATH=python "$@"); }
 
-# prints FILE SCENE: the unpacked program's answer to the scene, with nothing on standard error
+# prints FILE SCENE: whether the unpacked program prints FILE for the scene, and leaves standard error empty
 prints() { alone ./fhpgas run --generations 1 < "$2" > "$room/printed" 2> "$room/told" && cmp "$room/printed" "$1" && [ ! -s "$room/told" ]; }
 
 refuses() { ! alone ./fhpgas check < /dev/null > "$room/printed" 2> "$room/told" && [ ! -s "$room/printed" ] && [ -s "$room/told" ]; }

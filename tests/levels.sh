@@ -1,9 +1,10 @@
 #!/bin/bash
-# Builds the program for each level of x86-64 that this machine has and the kit builds for, and compares what they print on the scenes and
-# on a filled lattice of each gas. The program of the last level stays. It takes minutes, so tests/all.sh leaves it out. Ends with the counts.
+# Builds the program for the levels of x86-64 that this machine has and the kit builds for, and compares what they print on the scenes and
+# on filled lattices of all gases. The program of the last level stays. It takes minutes, so tests/all.sh leaves it out. Ends with the
+# counts.
 . "$(dirname "$0")/try.sh"
 
-# prints LEVEL SCENE WORDS..: whether that program answers, as the one of the lowest level does
+# prints LEVEL SCENE WORDS..: whether that program prints what the program of the lowest level prints
 prints() {
     "$room/$1" "${@:3}" < "$2" > "$room/out" && [ -s "$room/out" ] && "$room/x86-64-v2" "${@:3}" < "$2" | cmp - "$room/out"
 }

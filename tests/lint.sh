@@ -3,7 +3,7 @@
 . "$(dirname "$0")/try.sh"
 left_out=
 
-# look SCRIPTS LINTER WORDS..: whether the linter finds nothing in these scripts, one a line
+# look SCRIPTS LINTER WORDS..: whether these scripts, one per line, pass the linter
 look() {
     if command -v "$2" > /dev/null; then
         try "$2" xargs "${@:2}" <<< "$1"

@@ -1,6 +1,6 @@
 #!/bin/bash
 # Tries ./fhpgas and the Makefile on three small crates, with stubs for the kit: its prover only notes which crate it was called for, and
-# "proves" a crate unless a file `refused` stands in it. A library states the first line of its source. Ends with the counts.
+# "proves" a crate unless it contains a file `refused`. A library states the first line of its source. Ends with the counts.
 . "$(dirname "$0")/try.sh"
 
 top=$room/top kit=$room/kit
@@ -41,7 +41,7 @@ proves() {
 # shellcheck disable=SC2120 # words come through proves
 build() { make "$@" > "$room/told" 2>&1; }
 
-# launch: ./fhpgas hands on words, input and status
+# launch: ./fhpgas passes words, input and status on
 launch() {
     printf 'a scene' | ./fhpgas 'two words' x > "$room/printed" 2> "$room/told"
     [ $? = 3 ] && [ "$(cat "$room/printed")" = $'words two words x\na scene' ]
@@ -49,7 +49,7 @@ launch() {
 
 quietly() { launch && [ ! -s "$room/told" ]; }
 
-# fails: ./fhpgas ends with status 70, prints nothing, and tells of the log
+# fails: ./fhpgas ends with status 70, prints nothing, and names the log
 fails() {
     ./fhpgas > "$room/printed" 2> "$room/told" < /dev/null
     [ $? = 70 ] && [ ! -s "$room/printed" ] && grep -q "$1" "$room/told"

@@ -1,7 +1,7 @@
 #!/bin/bash
-# The quick tests, for the time between edits: none of them proves anything, so tests/all.sh decides. If ./fhpgas is built and no older than
-# the sources, they try the program from outside, in about a minute. If it is not, they try a few worked examples by `rt try`, which
-# compiles the same sources without a proof, in some minutes.
+# The quick tests, for the time between edits. They do not prove anything, so tests/all.sh decides. If ./fhpgas is built and newer than the
+# sources, they try the program from outside, in about a minute. Otherwise they try a few worked examples by `rt try`, which compiles the
+# same sources without a proof, in some minutes.
 . "$(dirname "$0")/try.sh"
 
 # examples NAME..: whether the sources print what these worked examples want, compiled once and without a proof

@@ -1,5 +1,5 @@
 #!/bin/bash
-# What the bash scripts beside this one share: the top as the current folder, a room for files that goes in the end, and the counts.
+# What the bash scripts of this folder share: the top as the current folder, a room for files that goes in the end, and the counts.
 cd "$(dirname "${BASH_SOURCE[0]}")/.." || exit 1
 room=$(mktemp -d) || exit 1
 trap 'rm -rf "$room"' EXIT
@@ -11,7 +11,7 @@ try() {
     if "${@:2}"; then passed=$((passed + 1)); else failed+=("$1") && echo "FAILED: $1"; fi
 }
 
-# part WORDS..: tries a script, and prints its last line and its seconds; all that it says if it fails
+# part WORDS..: tries a script, and prints its last line and its seconds, or all that it says if it fails
 part() {
     local begun=$SECONDS
     if "$@" > "$room/log" 2>&1; then
@@ -24,7 +24,7 @@ part() {
     fi
 }
 
-# tell: what failed and the counts, and whether all passed
+# tell: prints what failed and the counts, and succeeds if all passed
 tell() {
     [ ${#failed[@]} = 0 ] || printf 'FAILED: %s\n' "${failed[@]}"
     echo "$passed passed, ${#failed[@]} failed"

@@ -8,7 +8,7 @@ file=$(realpath -- "$1")
 cd "$(dirname "$0")/.."
 program=crates/fhpgas/out/fhpgas
 kit=$(dirname "$(rt doc)")
-level=$(cat crates/fhpgas/out/level 2> /dev/null || echo x86-64-v2) # rt builds for v2, and writes no level down
+level=$(cat crates/fhpgas/out/level 2> /dev/null || echo x86-64-v2) # rt builds for v2, without writing the level down
 version=$($program --version)
 room=$(mktemp -d)
 trap 'rm -rf "$room" "$file.new"' EXIT
@@ -19,7 +19,7 @@ cp $program LICENSE-MIT LICENSE-APACHE "$folder"
 cp -r @(docs|experiments|python|scenes) "$folder"
 find "$folder" \( -name __pycache__ -o -name out \) -prune -exec rm -r {} +
 
-# the notices of the kit's libraries that the program stands on, and of Unicode's data, of which core has tables
+# the notices of the kit's libraries in the program, and of Unicode's data, of which core has tables
 parts=(fhpgas std)
 for ((i = 0; i < ${#parts[@]}; i++)); do
     part=${parts[i]}
