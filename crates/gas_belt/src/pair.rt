@@ -1,13 +1,34 @@
 //! Making a belt.
-ghost use Rattle.std.specs.Prelude.{◌≡◌, ◌≤◌, [], IfOk, None};
+ghost use Rattle.std.specs.Prelude.{◌≡◌, ◌≤◌, ◌<◌, [], IfOk, None};
 
 use crate::pop_end::PopEnd;
+use crate::push_end::PushEnd;
 use crate::rx::Rx;
 use crate::tx::Tx;
 use gas_geom::gas::Gas;
 use gas_rows::row::Row;
 use rtrb::RingBuffer;
 use std::alloc::{AllocError, Global};
+
+// A batch has 4 to 16 rows and at most 1,024 words (measured: bench/LOG.md).
+const FEWEST_ROWS: usize = 4;
+
+const MOST_ROWS: usize = 16;
+
+const MOST_WORDS: usize = 1024;
+
+// The number of words that gather before they are pushed: those of half the places, so that the
+// other end has work meanwhile, or none if these are few rows.
+fn batch_words(places: usize, row_words: usize) -> usize
+    requires some_words { 0 < row_words }
+{
+    let rows = (places / 2).min(MOST_ROWS).min(MOST_WORDS / row_words);
+    if rows < FEWEST_ROWS {
+        0
+    } else {
+        rows * row_words
+    }
+}
 
 /// A belt for rows of `width` cells, 1 to 65536, with places for `capacity` rows, 1 to 1024: a
 /// queue with a single producer and a single consumer. Returns its two ends, unused; each may go to
@@ -27,14 +48,21 @@ pub fn belt<G: Gas>(alloc: Global, capacity: u32, width: u32) -> Result<(Tx<G>, 
     ensures two_spares { IfOk result (λ r. r.1.held ≡ 2) }
 {
     let row = Row::<G>::blank(alloc, width)?;
+    let places = capacity as usize;
     let words = vec![in alloc; 0; row.as_words().len()]?;
-    let (producer, consumer) = RingBuffer::new(alloc, capacity as usize * words.len())?;
-    let end = PopEnd {
+    let batch = vec![in alloc; 0; batch_words(places, words.len())]?;
+    let (producer, consumer) = RingBuffer::new(alloc, places * words.len())?;
+    let pop_end = PopEnd {
         ring: consumer,
         words,
     };
-    let mut rx = Rx::new(alloc, end, width)?;
+    let mut rx = Rx::new(alloc, pop_end, width)?;
     rx.give(row);
     rx.give(Row::blank(alloc, width)?);
-    Ok((Tx::new(producer, width), rx))
+    let push_end = PushEnd {
+        ring: producer,
+        batch,
+        waiting: 0,
+    };
+    Ok((Tx::new(push_end, width), rx))
 }

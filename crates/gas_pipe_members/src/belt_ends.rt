@@ -21,7 +21,7 @@ impl<G: Gas> PutEnd<Row<G>> for Tx<G> {
     ghost puts_and_rests = { λ a row b c step rests. (rests.0 ∙ step.0, rests.1 ∙ step.1) };
 
     fn try_put(&mut self, row: Row<G>) -> Result<(), Row<G>> {
-        Tx::try_put(self, row)
+        Tx::try_gather(self, row)
     }
 
     fn spare(&mut self) -> Option<Row<G>> {

@@ -37,7 +37,7 @@ pub(crate) fn run_feeder<G: Gas, R: Wait>(
         match feeder.turn(tx, rx) {
             Turned::Done => return true,
             Turned::Idle => {
-                if !waiter.wait(rt) {
+                if !waiter.publish_or_wait(rt, tx) {
                     return false;
                 }
             }

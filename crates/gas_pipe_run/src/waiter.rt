@@ -1,7 +1,10 @@
 //! How a member of the line waits for its neighbours and wakes them.
+ghost use Rattle.std.specs.Prelude.{◌≡◌};
 
 use crate::backoff::{Backoff, Phase};
 use crate::wake_ups::WakeUps;
+use gas_belt::tx::Tx;
+use gas_geom::gas::Gas;
 use std::sync::Wait;
 use std::{hint, thread};
 
@@ -23,9 +26,8 @@ impl<'a> Waiter<'a> {
         }
     }
 
-    /// Takes one step of a wait, after a turn in which nothing could be done. Returns whether to go
-    /// on: not if the stop flag is raised.
-    pub(crate) fn wait<R: Wait>(&mut self, rt: &R) -> bool {
+    // Takes one step of a wait. Returns whether to go on: not if the stop flag is raised.
+    fn wait<R: Wait>(&mut self, rt: &R) -> bool {
         let is_stopped = self.wake_ups.is_stopped();
         let Some(phase) = self.backoff.next(is_stopped, self.wake_ups.yield_ban()) else {
             return false;
@@ -55,6 +57,30 @@ impl<'a> Waiter<'a> {
         let behind = self.member.wrapping_add(1);
         let is_last = behind >= self.wake_ups.members();
         self.wake_ups.wake(if is_last { 0 } else { behind });
+    }
+
+    /// Shows the member behind the rows that gathered on the belt. Returns whether there were any.
+    pub(crate) fn publish<G: Gas>(&mut self, tx: &mut Tx<G>) -> bool
+        ensures { tx.new ≡ tx.old }
+    {
+        let any = tx.publish();
+        if any {
+            self.wake_behind();
+        }
+        any
+    }
+
+    /// After a turn in which nothing could be done. Rows that gathered are shown first, because the
+    /// member behind may wait for them. If there are none, the member waits a little. Returns
+    /// whether to go on: not if the stop flag is raised.
+    pub(crate) fn publish_or_wait<G: Gas, R: Wait>(&mut self, rt: &R, tx: &mut Tx<G>) -> bool
+        ensures { tx.new ≡ tx.old }
+    {
+        if self.publish(tx) {
+            !self.wake_ups.is_stopped()
+        } else {
+            self.wait(rt)
+        }
     }
 
     /// A row was taken, so the wait is over. Wakes the member before, which may wait for its room.

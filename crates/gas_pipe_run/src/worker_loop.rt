@@ -38,9 +38,12 @@ fn make_pass<G: Gas, H, R: Wait>(
     worker.begin(generation);
     for _ in shared.rt.forever() {
         match worker.turn(rx, tx) {
-            Turned::Done => return true,
+            Turned::Done => {
+                waiter.publish(tx);
+                return true;
+            }
             Turned::Idle => {
-                if !waiter.wait(shared.rt) {
+                if !waiter.publish_or_wait(shared.rt, tx) {
                     return false;
                 }
             }

@@ -5,10 +5,12 @@ use Rattle.std.specs.Global.{Global}
 use Rattle.rtrb.specs.declared.AnyItems.{AnyItems}
 use Rattle.rtrb.specs.declared.end.End.{End}
 use Rattle.rtrb.specs.Ends.{capacity_of}
+use Rattle.rtrb.specs.Ring.{sent}
 use Rattle.gas_rows.specs.Planes.{cells_of}
 use Rattle.gas_rows.specs.Row.{RowModel}
 use Rattle.gas_bits.specs.Words.{words_in}
 use Rattle.gas_belt.specs.Belt.{Belt}
+use Rattle.gas_belt.specs.declared.push_end.PushEnd.{PushEnd}
 
 -- the number of words of a row of that width
 abbrev pub row_words : ℕ → ℕ → ℕ
@@ -18,6 +20,10 @@ row_words dirs width = dirs * words_in width
 abbrev pub belt_of : ℕ → ℕ → End ℕ Global AnyItems → Belt
 belt_of dirs width e =
     record { width = width; capacity = capacity_of e / row_words dirs width; ring = (e.words, e.slots, e.names, e.heap) }
+
+-- all words that were put: those that were pushed, and then those that wait in the batch
+abbrev pub put_words : PushEnd → List ℕ
+put_words e = sent e.ring ++ take e.waiting e.batch.items
 
 -- the first n parts of `size` words each, as `read` reads them
 unfoldable pub rows_of_words : (List ℕ → RowModel) → ℕ → ℕ → List ℕ → List RowModel
