@@ -1,11 +1,11 @@
 -- The ends of a ring as those of a belt.
-use Rattle.std.proofs.Common.{rules, ◌≡◌, ℕ, List, Option}
+use Rattle.std.proofs.Common.{rules, ◌≡◌, ℕ, List}
 use Rattle.std.specs.Global.{Global}
 use Rattle.rtrb.specs.declared.AnyItems.{AnyItems}
 use Rattle.rtrb.specs.declared.end.End.{End}
 use Rattle.rtrb.specs.Ends.{SameRing}
 use Rattle.gas_rows.specs.Row.{RowModel}
-use Rattle.gas_belt.specs.Belt.{Belt, Receiver, Sender}
+use Rattle.gas_belt.specs.Belt.{Belt, Receiver}
 use Rattle.gas_belt.specs.Inner.Ring.{belt_of}
 
 pub same_belt : (dirs width : ℕ) (a b : End ℕ Global AnyItems) → SameRing a b → belt_of dirs width b ≡ belt_of dirs width a
@@ -16,9 +16,3 @@ receiver b t h = record { belt = b; taken = t; held = h }
 
 pub receiver_is : {b c : Belt} {t u : List RowModel} {h k : ℕ} → b ≡ c → t ≡ u → h ≡ k → receiver b t h ≡ receiver c u k
 receiver_is eb et eh = search rules
-
-abbrev pub sender : Belt → List RowModel → Option RowModel → Sender
-sender b p s = record { belt = b; put = p; spare = s }
-
-pub sender_is : {b c : Belt} {p q : List RowModel} {s : Option RowModel} → b ≡ c → p ≡ q → sender b p s ≡ sender c q s
-sender_is eb ep = search rules

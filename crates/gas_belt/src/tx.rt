@@ -98,7 +98,7 @@ impl<G: Gas> Tx<G> {
     /// Puts a row as `try_put` does. On a belt with 8 places or more a short row may gather before
     /// the other end is shown it, at the latest by `publish` or `close`.
     #[inline(always)]
-    #[tactic(auto, using(crate::proofs::Parts::parts_length))]
+    #[tactic(auto, using(crate::proofs::Parts::parts_length, crate::proofs::Parts::parts_row))]
     pub fn try_gather(&mut self, row: Row<G>) -> Result<(), Row<G>>
         ensures put { OnOk result (self.new ≡ record self.old {
           put = self.old.put ++ row ∷ [];
@@ -109,8 +109,7 @@ impl<G: Gas> Tx<G> {
         ensures unchanged { OnErr result (self.new ≡ self.old) }
         ensures no_more { length self.old.put ≡ u64.MAX → IsErr result }
     {
-        let fits = self.count < u64::MAX && row.width() == self.width;
-        if !fits || !self.end.push(row.as_words()) {
+        if self.count == u64::MAX || row.width() != self.width || !self.end.push(row.as_words()) {
             return Err(row);
         }
         self.count += 1;
