@@ -31,11 +31,16 @@ fn number(row: &Row<Fhp1>) -> u32 {
 // A step with a belt, and its expected outcome. Rows are named by their numbers.
 #[derive(Clone, Copy, Debug)]
 enum Step {
-    // A row is put, or handed back.
+    // A row is put, put so that it may gather, or handed back.
     Put(u32),
+    Gathered(u32),
     PutBack(u32),
+    GatheredBack(u32),
     // A row of another width, in cells, is handed back.
     OtherBack(u32),
+    // Rows that gathered are shown, or there were none.
+    Shown,
+    NothingShown,
     Spare(u32),
     NoSpare,
     Taken(u32),
@@ -56,12 +61,22 @@ fn send(alloc: Global, tx: &mut Tx<Fhp1>, width: u32, step: Step) -> Result<bool
 {
     Ok(match step {
         Step::Put(n) => tx.try_put(numbered_row(alloc, width, n)?).is_ok(),
+        Step::Gathered(n) => tx.try_gather(numbered_row(alloc, width, n)?).is_ok(),
         Step::PutBack(n) => is_numbered(tx.try_put(numbered_row(alloc, width, n)?).err(), width, n),
+        Step::GatheredBack(n) => {
+            is_numbered(
+                tx.try_gather(numbered_row(alloc, width, n)?).err(),
+                width,
+                n,
+            )
+        }
         Step::OtherBack(cells) => is_numbered(
             tx.try_put(numbered_row(alloc, cells, 5)?).err(),
             cells,
             5,
         ),
+        Step::Shown => tx.publish(),
+        Step::NothingShown => !tx.publish(),
         Step::Spare(n) => is_numbered(tx.spare(), width, n),
         Step::NoSpare => tx.spare().is_none(),
         _ => true,

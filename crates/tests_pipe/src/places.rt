@@ -60,14 +60,15 @@ impl Gate for SecondLooks {
     fn leave(&self, _who: u32) {}
 }
 
-// Whether all eight rows of a lattice find a place on a belt of a run while none is taken from it.
-fn eight_rows_have_places<R: Abort + Threads + Wait + Sync>(
+// Whether all rows of a lattice have places on a belt of a run while none is taken from it.
+fn all_rows_have_places<R: Abort + Threads + Wait + Sync>(
     rt: &R,
     alloc: Global,
+    rows: u32,
     capacity: u32,
     looks: u32,
 ) -> Result<bool, Fail> {
-    let size = Size::new(4, 8).ok_or("a size")?;
+    let size = Size::new(4, rows).ok_or("a size")?;
     let lattice = Lattice::<Fhp1>::blank(alloc, Channel::free(alloc, size)?)?;
     let gate = SecondLooks::new(looks);
     let plan = Plan::new(2, capacity, 4)?;
@@ -78,7 +79,11 @@ fn eight_rows_have_places<R: Abort + Threads + Wait + Sync>(
 
 #[test]
 fn a_belt_of_a_run_has_the_places_of_its_plan(rt: HostRuntime) -> Result<(), Fail> {
-    assert!(rt; eight_rows_have_places(&rt, rt.alloc(), 8, 10_000_000)?);
-    assert!(rt; !eight_rows_have_places(&rt, rt.alloc(), 7, 100_000)?);
+    for places in [8, 9, 33] {
+        let are_all = all_rows_have_places(&rt, rt.alloc(), places, places, 10_000_000)?;
+        assert!(rt; are_all, "{places} places");
+        let is_one_more = all_rows_have_places(&rt, rt.alloc(), places + 1, places, 100_000)?;
+        assert!(rt; !is_one_more, "{places} places");
+    }
     Ok(())
 }
