@@ -1,4 +1,4 @@
--- The ends of a ring as those of a belt.
+-- The ends of a ring as the ends of a belt.
 use Rattle.std.proofs.Common.{rules, ◌≡◌, ℕ, List}
 use Rattle.std.specs.Global.{Global}
 use Rattle.rtrb.specs.declared.AnyItems.{AnyItems}

@@ -5,21 +5,20 @@ use denote.RawPtr.{Ptr}
 use Rattle.rtrb.specs.Shared.{Names}
 use Rattle.gas_rows.specs.Row.{RowModel}
 
--- which belt it is: the width of its rows, how many rows its ring has places for, and that ring, by where it lies in memory and its
--- names in proofs
+-- which belt it is: the width of its rows, its capacity in rows, and its ring, by its place in memory and its names in proofs
 pub record Belt : Type 0 where
   pub width : ℕ
   pub capacity : ℕ
   pub ring : Ptr × Ptr × Names × Global
 
--- the end of a belt that rows are put on, open or closed: the belt that it is of, all rows put so far, in order, and the row of
--- the newest put, where it was not handed out since
+-- the end of a belt that rows are put on, open or closed: its belt, all rows put so far, in order, and the row of the newest put, if it was
+-- not handed out since
 pub record Sender : Type 0 where
   pub belt : Belt
   pub put : List RowModel
   pub spare : Option RowModel
 
--- the end that rows are taken from: the belt that it is of, all rows taken so far, in order, and the number of spare rows that it holds
+-- the end that rows are taken from: its belt, all rows taken so far, in order, and the number of its spare rows
 pub record Receiver : Type 0 where
   pub belt : Belt
   pub taken : List RowModel

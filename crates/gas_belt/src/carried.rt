@@ -8,8 +8,8 @@ use gas_geom::gas::Gas;
 use std::marker::Model;
 use std::snapshot::Snapshot;
 
-/// What a belt carried: all rows that were put on it and all that were taken from it, which are the
-/// same rows in the same order.
+/// What a belt carried: all rows that were put on it and all rows that were taken from it. They are
+/// the same rows in the same order.
 #[derive(Drop)]
 pub struct Carried<G: Gas> {
     len: u64,
@@ -42,9 +42,9 @@ impl<G: Gas> Carried<G> {
     }
 }
 
-/// Compares the two ends of a belt after the close. Where the number of rows taken is that of the
-/// rows put, they are the same rows in the same order. Where a row is left on the belt, both ends
-/// come back as they were.
+/// Compares the two ends of a belt after the close. If as many rows were taken as were put, they
+/// are the same rows in the same order. If a row is left on the belt, both ends come back as they
+/// were.
 #[tactic(auto, using(crate::proofs::Parts::parts_length))]
 pub fn meet<G: Gas>(spent: Spent<G>, rx: Rx<G>) -> Result<Carried<G>, (Spent<G>, Rx<G>)>
     requires one_belt { spent.belt ≡ rx.belt }

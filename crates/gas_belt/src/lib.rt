@@ -1,7 +1,7 @@
 //! Belts: rows go from one thread to one other, in order and each once.
 //!
-//! A belt is a *ring* of *words*, those of its rows, and has *places* for a number of rows. Short
-//! rows are batched before they are pushed. A *spare* row is one whose cells may be overwritten.
+//! A belt is a *ring* of the *words* of its rows, with *places* for a number of rows. Short rows
+//! are batched before they are pushed. The cells of a *spare* row may be overwritten.
 #![tactic(auto)]
 
 pub mod carried;

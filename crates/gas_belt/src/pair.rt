@@ -31,9 +31,9 @@ fn batch_words(places: usize, row_words: usize) -> usize
 }
 
 /// A belt for rows of `width` cells, 1 to 65536, with places for `capacity` rows, 1 to 1024: a
-/// queue with a single producer and a single consumer. Returns its two ends, unused; each may go to
-/// a thread of its own. The end that rows are taken from holds two spare rows. All memory of the
-/// belt is taken here; each end frees its own rows, and the ring is freed with the second end.
+/// queue with a single producer and a single consumer. Returns its two ends, unused. Each may go to
+/// a thread of its own. The end that rows are taken from has two spare rows. All memory of the belt
+/// is taken here. Each end frees its own rows, and the second end frees the ring.
 pub fn belt<G: Gas>(alloc: Global, capacity: u32, width: u32) -> Result<(Tx<G>, Rx<G>), AllocError>
     requires some_places { 1 ≤ capacity }
     requires few_places { capacity ≤ 1024 }

@@ -12,7 +12,7 @@ use std::marker::Model;
 // The most spare rows that are held.
 const MOST_SPARES: usize = 2;
 
-/// The end of a belt that rows are taken from. It counts them, and holds up to two spare rows, into
+/// The end of a belt that rows are taken from. It counts them, and has up to two spare rows, into
 /// which the next rows are taken.
 #[derive(Drop)]
 pub struct Rx<G: Gas> {
@@ -67,9 +67,9 @@ impl<G: Gas> Rx<G> {
         })
     }
 
-    /// Takes the oldest row on the belt, by one of the spare rows that are held. None where not all
-    /// of its words have come, where no spare row is held, or where 2^64 - 1 rows were taken. It
-    /// takes no memory and never waits.
+    /// Takes the oldest row on the belt, into one of the spare rows. None if not all of its words
+    /// have come, no spare row is held, or 2^64 - 1 rows were taken. It takes no memory and never
+    /// waits.
     #[inline(always)]
     #[tactic(auto, using(crate::proofs::Parts::parts_length, crate::proofs::Parts::parts_row))]
     pub fn try_take(&mut self) -> Option<Row<G>>
@@ -96,8 +96,8 @@ impl<G: Gas> Rx<G> {
         Some(row)
     }
 
-    /// Keeps the row as a spare row, into which a later row may be taken. It is dropped where two
-    /// are held, or its width is not the belt's. It takes no memory and never waits.
+    /// Keeps the row as a spare row, into which a later row may be taken. It is dropped if two are
+    /// held, or if its width is not the belt's. It takes no memory and never waits.
     pub fn give(&mut self, row: Row<G>)
         ensures kept { length row ≡ self.old.belt.width →
             self.new ≡ record self.old { held = min 2 (self.old.held + 1) } }

@@ -8,7 +8,7 @@ use gas_rows::row::Row;
 use rtrb::Producer;
 use std::marker::{Model, PhantomData};
 
-/// What is left of an end that rows were put on, once it is closed.
+/// An end that rows were put on, after its close.
 #[derive(Drop)]
 pub struct Spent<G: Gas> {
     pub(crate) ring: Producer<u64>,

@@ -16,7 +16,7 @@ use Rattle.gas_belt.specs.declared.push_end.PushEnd.{PushEnd}
 abbrev pub row_words : ℕ → ℕ → ℕ
 row_words dirs width = dirs * words_in width
 
--- the belt that an end of a ring is of, where rows have that width: its capacity is that of the ring in rows
+-- the belt of an end of a ring, for rows of that width: its capacity is the ring's capacity in rows
 abbrev pub belt_of : ℕ → ℕ → End ℕ Global AnyItems → Belt
 belt_of dirs width e =
     record { width = width; capacity = capacity_of e / row_words dirs width; ring = (e.words, e.slots, e.names, e.heap) }
