@@ -1,4 +1,4 @@
--- Workers in a circle: the rows on belt 0 fix those on all belts, since each pass begins with what came back from the one before.
+-- Workers in a circle: the rows on belt 0 fix the rows on all belts, because each pass begins with what came back from the pass before.
 use Rattle.std.proofs.Common.{◌≡◌, ℕ, zero, suc, ◌+◌, ◌*◌, ◌-◌, ◌≤◌, List, [], ◌++◌, length, take, drop, refl, sym, ap, subst, ◌∙◌, arith, append_assoc, append-nil, length-append}
 use Rattle.std.proofs.Math.Nat.{suc-mul, mul-le-mul_right}
 use Rattle.std.proofs.Math.Seq.{take-append-add}
@@ -26,7 +26,7 @@ pub on_next : {A : Type 0} (H : ℕ) (owe : ℕ → ℕ → List A → List A) (
 unfolding on_belt
 on_next H owe passes b k = refl
 
--- what is owed in n passes rests on their rows alone
+-- what is owed in n passes depends only on their rows
 owed_front : {A : Type 0} (H : ℕ) (owe : ℕ → List A → List A) (n : ℕ) (xs ys : List A) → n * H ≤ length xs → owed_in H owe n (xs ++ ys) ≡ owed_in H owe n xs
 unfolding owed_in
 owed_front H owe zero xs ys h = refl
@@ -89,7 +89,7 @@ module _ {A : Type 0} (H N : ℕ) (owe : ℕ → ℕ → List A → List A) (bac
       ∙ owed_short k m (n - m) q (subst (λ (i : ℕ). i * H ≤ length q) e h)
       ∙ sym (owed_take k m q (omega arith))
 
-  -- a worker that took what its belt is to carry gives what the next one is to carry
+  -- a worker that took what its belt is to carry puts what the next belt is to carry
   owed_joined : (k n : ℕ) → owed_in H (owe k) n (joined (λ i. rows i k) n) ≡ joined (λ i. rows i (suc k)) n
   unfolding joined
   owed_joined k zero = owed_none H (owe k) []
@@ -113,7 +113,7 @@ module _ {A : Type 0} (H N : ℕ) (owe : ℕ → ℕ → List A → List A) (bac
     on_high zero = long
     on_high (suc k) = owed_high k passes (on_belt H owe passes b k) (omega (arith, on_high k))
 
-    -- where belt 0 carries what it is to in n passes, all belts do
+    -- if belt 0 carries what it is to in n passes, all belts do
     along : (n : ℕ) → n ≤ passes → take (n * H) b ≡ joined (λ i. rows i 0) n → (k : ℕ) → take (n * H) (on_belt H owe passes b k) ≡ joined (λ i. rows i k) n
     unfolding on_belt
     along n le first zero = first
@@ -146,7 +146,7 @@ module _ {A : Type 0} (H N : ℕ) (owe : ℕ → ℕ → List A → List A) (bac
           sym (take_all (passes * H) (on_belt H owe passes b k) (omega (arith, on_high k)))
           ∙ along passes (omega arith) (around passes (omega arith)) k
 
-  -- what is left of the first rows and those that came back, behind the rows that were put: the last pass's
+  -- what is left of the first rows and the rows that came back, after the rows that were put: the last pass's
   pub left_over : (n : ℕ) → drop (suc n * H) (rows 0 0 ++ joined (λ i. rows i N) (suc n)) ≡ rows n N
   left_over n =
       let before = joined (λ i. rows i N) n in
@@ -155,7 +155,7 @@ module _ {A : Type 0} (H N : ℕ) (owe : ℕ → ℕ → List A → List A) (bac
       ∙ ap (drop (suc n * H)) (sym (append_assoc (rows 0 0) before (rows n N)))
       ∙ drop_at (rows 0 0 ++ before) (rows n N) (suc n * H) len
 
-  -- the rows that go round
+  -- the rows that return
   pub goes_round : (n : ℕ) → take (n * H) (joined (λ i. rows i N) (suc n)) ≡ drop H (joined (λ i. rows i 0) (suc n))
   goes_round n =
       ap (take (n * H)) (joined_next (λ i. rows i N) n) ∙ take_at (joined (λ i. rows i N) n) (rows n N) (n * H) (joined_high N n)

@@ -57,7 +57,7 @@ module _ (gas : Rules) (input : RunInputModel) (is : IsRunInput gas input) (n : 
   owed_whole g q e =
       ap (λ (b : Bool). if b then step gas input g q else take (length q - 1) (step gas input g q)) (eq-eqb (length q) input.lattice.channel.height e)
 
-  -- for all rows of one belt a worker owes those of the next
+  -- for all rows of one belt a worker owes the rows of the next
   pub owes_next : (k : ℕ) → owed gas input.lattice.channel input.chirality (computes_from input.first input.plan n (suc k)) (rows_on gas input n k) ≡ rows_on gas input n (suc k)
   owes_next k =
       let e : n * input.plan.stages + suc k ≡ suc (n * input.plan.stages + k) = omega arith in
@@ -77,7 +77,7 @@ module _ (gas : Rules) (input : RunInputModel) (is : IsRunInput gas input) (n : 
   carries zero = refl
   carries (suc k) = ap (owed gas input.lattice.channel input.chirality (computes_from input.first input.plan n (suc k))) (carries k) ∙ owes_next k
 
--- the first pass begins with the lattice, and each further one where the one before it ended
+-- the first pass begins with the lattice, and each later pass where the pass before it ended
 pub begins_first : (gas : Rules) (input : RunInputModel) → rows_on gas input 0 0 ≡ input.lattice.rows
 begins_first gas input =
     ap (at gas input) (min-eq_left (let z : 0 * input.plan.stages + 0 ≤ input.plan.generations = omega arith in z) ∙ (let e : 0 * input.plan.stages + 0 ≡ 0 = omega arith in e))

@@ -17,7 +17,7 @@ pub longer : (xs : List RowModel) (row : RowModel) (rest ys : List RowModel) →
 longer xs row rest ys e = omega (arith, length-append xs (row ∷ rest), ap length e)
 
 module _ (l : Line) (s : State) (k : ℕ) where
-  -- the put is shut where all was put, or the belt is full
+  -- the put is shut if all was put, or the belt is full
   pub put_shut : (length (s.put k) < length (owed_on l s k) → length (s.taken k) + l.capacity ≤ length (s.put k)) → put_open l s k ≡ false
   unfolding put_open
   put_shut h =

@@ -1,4 +1,4 @@
--- Where the line is not done, some member's turn is an event.
+-- If the line is not done, some member's turn is an event.
 use Rattle.std.proofs.Common.{◌≡◌, ℕ, zero, suc, ◌+◌, ◌≤◌, true, false, ◌||◌, eqb, ltb, length, ◌⊎◌, inl, inr, refl, sym, ◌∙◌, subst, arith}
 use Rattle.std.proofs.lemmas.Bool.{cases_Bool, ltb-false, eq-eqb, le-ltb, and_cases, and_from, or_left, or_right, both_ways, cases_lt}
 use Rattle.gas_pipe_model.specs.Line.{Line, State, owed_on, put_open, take_open, source, moves, is_done}
@@ -53,7 +53,7 @@ no_put l s k is f h taken closed =
       | inr full ↦ absurd (omega (arith, ltb-false (length (s.put k)) (length (s.taken k) + l.capacity) full))
     ]
 
--- the belt k, where the belt above it is still or k is the last
+-- belt k, if the belt above it is still or k is the last
 still_here : (l : Line) (s : State) (k m : ℕ) → IsLine l → Fits l s → k ≤ l.workers → m ≤ l.workers → source l m ≡ k → (k ≡ l.workers) ⊎ (length (s.put (suc k)) ≡ length (owed_on l s (suc k))) → Mover l s ⊎ Still l s k
 still_here l s k m is f h in_line at may =
     elim (cases_Bool (take_open l s k)) [

@@ -50,7 +50,7 @@ round_more l is s f m before after event =
           omega arith)
     ])
 
--- a list that contains x is what stands before it, x and what stands behind it
+-- a list that contains x is what is before it, x and what is after it
 split_at : (xs : List ℕ) (x k : ℕ) → k < length xs → get_or xs k x ≡ x → (before : List ℕ) × ((after : List ℕ) × (before ++ x ∷ after ≡ xs))
 split_at [] x k h e = absurd (omega arith)
 split_at (y ∷ ys) x zero h e = ([], (ys, ap (λ z. z ∷ ys) (sym e)))

@@ -1,11 +1,10 @@
--- A line of workers and one feeder, as the histories of its belts alone. The feeder is member 0 and puts rows on belt 0; worker
--- k takes from belt k - 1 and puts on belt k; the feeder takes from the last belt.
+-- A line of workers and one feeder, defined only by the histories of its belts. The feeder is member 0 and puts rows on belt 0; worker k
+-- takes from belt k - 1 and puts on belt k; the feeder takes from the last belt.
 use Rattle.std.specs.Prelude.{◌≡◌, ℕ, zero, suc, ◌+◌, ◌≤◌, Bool, ◌&&◌, ◌||◌, not, ◌==◌, nat_lt, if◌then◌else◌, List, [], ◌∷◌, ◌++◌, length, take, drop}
 use Rattle.std.specs.List.{Contains}
 use Rattle.gas_rows.specs.Row.{RowModel}
 
--- The rows that the feeder holds, what worker k owes for the rows that it took, the number of workers, and how many rows a belt
--- holds at most.
+-- The feeder's rows, what worker k owes for the rows that it took, the number of workers, and the capacity of a belt in rows.
 pub record Line : Type 0 where
   pub rows : List RowModel
   pub owe : ℕ → List RowModel → List RowModel
@@ -26,12 +25,11 @@ abbrev pub owed_on : Line → State → ℕ → List RowModel
 owed_on l s zero = l.rows
 owed_on l s (suc k) = l.owe (suc k) (s.taken k)
 
--- the put on belt k is open where fewer rows were put than are owed, and the belt is not full
+-- the put on belt k is open if fewer rows were put than are owed, and the belt is not full
 unfoldable pub put_open : Line → State → ℕ → Bool
 put_open l s k = nat_lt (length (s.put k)) (length (owed_on l s k)) && nat_lt (length (s.put k)) (length (s.taken k) + l.capacity)
 
--- the take from belt k is open where the belt holds a row, and the worker behind it, if it is not the last belt, has put all
--- that it owes
+-- the take from belt k is open if a row is on the belt and, unless it is the last belt, the worker after it has put all that it owes
 unfoldable pub take_open : Line → State → ℕ → Bool
 take_open l s k =
     nat_lt (length (s.taken k)) (length (s.put k)) && (k == l.workers || length (s.put (suc k)) == length (owed_on l s (suc k)))
@@ -41,12 +39,12 @@ abbrev pub source : Line → ℕ → ℕ
 source l zero = l.workers
 source l (suc k) = k
 
--- the histories f, where that of belt k got one more row: the one that comes next in `rows`
+-- the histories f with one more row on belt k: the row that comes next in `rows`
 unfoldable pub grown : (ℕ → List RowModel) → ℕ → List RowModel → ℕ → List RowModel
 grown f k rows j = if j == k then f k ++ take 1 (drop (length (f k)) rows) else f j
 
--- A turn of member m: where its put is open, the next row owed on its belt is put; else, where its take is open, the next row put on
--- the belt that it takes from is taken; else nothing. A number above the workers' names no member.
+-- A turn of member m: if its put is open, the next row owed on its belt is put; else, if its take is open, the next row put on the belt
+-- that it takes from is taken; else nothing happens. A number above the workers' names no member.
 unfoldable pub turn : Line → State → ℕ → State
 turn l s m =
     if nat_lt l.workers m then s
@@ -67,7 +65,7 @@ abbrev pub events : Line → List ℕ → State → ℕ
 events l [] s = 0
 events l (m ∷ ms) s = (if moves l s m then 1 else 0) + events l ms (turn l s m)
 
--- the line is done where all rows were put on the first belt and taken from the last
+-- the line is done if all rows were put on the first belt and taken from the last
 unfoldable pub is_done : Line → State → Bool
 is_done l s = (length (s.put 0) == length l.rows) && (length (s.taken l.workers) == length l.rows)
 

@@ -18,8 +18,8 @@ pub record RunInputModel : Type 0 where
   pub lattice : LatticeModel
   pub plan : PlanModel
 
--- The generation that worker k, counted from 1, computes the step from in pass n, counted from 0, of a plan over a lattice of
--- generation `first`. As many workers compute as generations are left; those behind them pass rows on.
+-- The generation that worker k, counted from 1, computes the step from in pass n, counted from 0, of a plan over a lattice of generation
+-- `first`. As many workers compute as generations are left; the workers after them pass rows on.
 abbrev pub computes_from : ℕ → PlanModel → ℕ → ℕ → Option ℕ
 computes_from first plan n k =
     let before : ℕ = n * plan.stages + k - 1 in
@@ -30,7 +30,7 @@ computes_from first plan n k =
 abbrev pub rows_on : Rules → RunInputModel → ℕ → ℕ → List RowModel
 rows_on gas input n k = (lattice_after gas input.chirality input.first input.lattice (min (n * input.plan.stages + k) input.plan.generations)).rows
 
--- the line of pass n: the feeder holds the rows of the first belt, and each worker owes what its stage does
+-- the line of pass n: the feeder has the rows of the first belt, and each worker owes what its stage does
 abbrev pub line_of : Rules → RunInputModel → ℕ → Line
 line_of gas input n = record {
   rows = rows_on gas input n 0;
@@ -43,8 +43,8 @@ line_of gas input n = record {
 abbrev pub carried_on : Rules → RunInputModel → ℕ → ℕ → List RowModel
 carried_on gas input n k = flat_map (λ i. rows_on gas input i k) (range_with_len 0 n)
 
--- what the belts of a run carry, from belt 0, in all passes, as many as the generations divided by the stages, rounded up; where no
--- generation is to be computed there is no belt
+-- what the belts of a run carry, from belt 0, in all passes, as many as the generations divided by the stages, rounded up; without a
+-- generation to compute there is no belt
 abbrev pub carried_by_belts : Rules → RunInputModel → List (List RowModel)
 carried_by_belts gas input =
     if input.plan.generations == 0 then []

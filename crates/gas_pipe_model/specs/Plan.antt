@@ -1,4 +1,4 @@
--- Plans: how many stages a line has, how many rows a belt holds, how many generations are computed.
+-- Plans: the stages of a line, the capacity of a belt, the generations to compute.
 use Rattle.std.specs.Prelude.{ℕ}
 
 pub record PlanModel : Type 0 where

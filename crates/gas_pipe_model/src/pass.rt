@@ -9,9 +9,9 @@ ghost use Rattle.gas_geom.specs.Lattice.{IsLattice};
 ghost use Rattle.gas_pipe_model.specs.Pass.{RunInputModel, line_of, rows_on, carried_on};
 ghost use Rattle.gas_stage.specs.Evolution.{lattice_after};
 
-/// Each belt carries one row for each row of the lattice, and for all rows of a belt the worker
-/// behind it owes those of the next. What a worker owes only grows at its end as rows come, is all
-/// when all have come, and is never more than came.
+/// Each belt carries one row for each row of the lattice. For all rows of a belt the worker after
+/// it owes the rows of the next belt. What a worker owes only grows at its end as rows come. It is
+/// complete when all have come, and is never more than came.
 pub fn owed_in_order()
     ensures whole { (gas : Rules) (input : RunInputModel) (n k : ℕ) →
         IsLattice gas input.lattice.channel input.lattice.rows → 0 < input.plan.capacity →
@@ -32,8 +32,8 @@ pub fn owed_in_order()
         length ((line_of gas input n).owe k took) ≤ length took }
 {}
 
-/// On each belt, what was taken is the beginning of what was put, and that of the rows of one
-/// generation.
+/// On each belt, what was taken is the beginning of what was put, and what was put is the beginning
+/// of the rows of one generation.
 pub fn pass_in_order()
     ensures taken { (gas : Rules) (input : RunInputModel) (n : ℕ) (turns : List ℕ) (k : ℕ) →
         IsLattice gas input.lattice.channel input.lattice.rows → 0 < input.plan.capacity →
@@ -45,7 +45,7 @@ pub fn pass_in_order()
         IsPrefix ((after_turns (line_of gas input n) turns start).put k) (rows_on gas input n k) }
 {}
 
-/// No belt ever holds more rows than its capacity.
+/// No belt ever has more rows under way than its capacity.
 pub fn pass_under_way()
     ensures room { (gas : Rules) (input : RunInputModel) (n : ℕ) (turns : List ℕ) (k : ℕ) →
         IsLattice gas input.lattice.channel input.lattice.rows → 0 < input.plan.capacity →
@@ -53,7 +53,7 @@ pub fn pass_under_way()
         ≤ length ((after_turns (line_of gas input n) turns start).taken k) + input.plan.capacity }
 {}
 
-/// Where the pass is not done, some member's turn is an event.
+/// If the pass is not done, some member's turn is an event.
 pub fn pass_never_stuck()
     ensures mover { (gas : Rules) (input : RunInputModel) (n : ℕ) (turns : List ℕ) →
         IsLattice gas input.lattice.channel input.lattice.rows → 0 < input.plan.capacity →
@@ -62,8 +62,8 @@ pub fn pass_never_stuck()
         × (moves (line_of gas input n) (after_turns (line_of gas input n) turns start) m ≡ true)) }
 {}
 
-/// Where the pass is done, each belt has carried the rows of one generation, the last belt those
-/// of the last generation, if there are workers enough; by one event for each put and each take.
+/// If the pass is done, each belt has carried the rows of one generation, by one event for each put
+/// and each take. If there are workers enough, the last belt has carried the last generation.
 pub fn pass_at_the_end()
     ensures put { (gas : Rules) (input : RunInputModel) (n : ℕ) (turns : List ℕ) (k : ℕ) →
         IsLattice gas input.lattice.channel input.lattice.rows → 0 < input.plan.capacity →
@@ -90,7 +90,7 @@ pub fn pass_at_the_end()
 {}
 
 /// The pass is done after any turns that can be cut into rounds, each with a turn of every member,
-/// one round for each event of the pass, whatever the capacity.
+/// one round for each event of the pass, for any capacity.
 pub fn pass_done_in_rounds()
     ensures done { (gas : Rules) (input : RunInputModel) (n : ℕ) (turns : List ℕ) →
         IsLattice gas input.lattice.channel input.lattice.rows → 0 < input.plan.capacity →
@@ -99,8 +99,8 @@ pub fn pass_done_in_rounds()
         is_done (line_of gas input n) (after_turns (line_of gas input n) turns start) ≡ true }
 {}
 
-/// The first pass of a plan begins with the rows of its lattice, and each further one with those
-/// that the pass before it ended with.
+/// The first pass of a plan begins with the rows of its lattice. Each later pass begins with the
+/// rows that the pass before it ended with.
 pub fn passes_in_order()
     ensures first { (gas : Rules) (input : RunInputModel) →
         rows_on gas input 0 0 ≡ input.lattice.rows }
@@ -108,7 +108,7 @@ pub fn passes_in_order()
         rows_on gas input n input.plan.stages ≡ rows_on gas input (n + 1) 0 }
 {}
 
-/// In all passes of a plan but the last, the rows that come back on the last belt are those that
+/// In all passes of a plan but the last, the rows that come back on the last belt are the rows that
 /// follow the lattice's own on the first.
 pub fn rows_return()
     ensures round { (gas : Rules) (input : RunInputModel) (n : ℕ) →

@@ -1,5 +1,5 @@
 -- Inner words: what proofs say of workers in a circle. No public contract cites them.
--- Workers in a circle, as lists alone: H rows make a lattice, and a worker owes `owe n q` for its rows q in pass n.
+-- Workers in a circle, as lists only: H rows make a lattice, and a worker owes `owe n q` for its rows q in pass n.
 use Rattle.std.specs.Prelude.{◌≡◌, ℕ, zero, suc, ◌*◌, List, [], ◌++◌, length, take, drop}
 use Rattle.gas_geom.specs.Gas.{Rules}
 use Rattle.gas_rows.specs.Row.{RowModel}
@@ -15,7 +15,7 @@ unfoldable pub owed_in : {A : Type 0} → ℕ → (ℕ → List A → List A) �
 owed_in H owe zero q = []
 owed_in H owe (suc n) q = owed_in H owe n q ++ owe n (block H n q)
 
--- what is on belt k, where the rows b are on belt 0 and worker k + 1 puts in these passes what it owes, `owe k`
+-- what is on belt k, if the rows b are on belt 0 and worker k + 1 puts in these passes what it owes, `owe k`
 unfoldable pub on_belt : {A : Type 0} → ℕ → (ℕ → ℕ → List A → List A) → ℕ → List A → ℕ → List A
 on_belt H owe passes b zero = b
 on_belt H owe passes b (suc k) = owed_in H (owe k) passes (on_belt H owe passes b k)
@@ -25,8 +25,8 @@ unfoldable pub joined : {A : Type 0} → (ℕ → List A) → ℕ → List A
 joined rows zero = []
 joined rows (suc n) = joined rows n ++ rows n
 
--- What makes it a circle of N workers, where `rows n k` goes over belt k in pass n: all are of H rows, each worker leads from one
--- belt to the next, and a pass begins with what came back from the one before, which `back` leaves as it is.
+-- What makes it a circle of N workers, if `rows n k` goes over belt k in pass n: all are of H rows, each worker leads from one belt to the
+-- next, and a pass begins with what came back from the pass before. `back` leaves those rows as they are.
 pub record IsCircle {A : Type 0} (H N : ℕ) (owe : ℕ → ℕ → List A → List A) (back : List A → List A) (rows : ℕ → ℕ → List A) : Type 0 where
   pub whole : (k n : ℕ) (q : List A) → length q ≡ H → length (owe k n q) ≡ H
   pub high : (n k : ℕ) → length (rows n k) ≡ H

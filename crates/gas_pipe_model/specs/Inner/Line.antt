@@ -12,13 +12,13 @@ after_put l s k = record s { put = grown s.put k (owed_on l s k) }
 abbrev pub after_take : State → ℕ → State
 after_take s k = record s { taken = grown s.taken k (s.put k) }
 
--- the rows that belt k carries in the end: each worker's are what it owes for those of the belt before
+-- the rows that belt k carries in the end: each worker puts what it owes for the rows of the belt before
 abbrev pub rows_in_the_end : Line → ℕ → List RowModel
 rows_in_the_end l zero = l.rows
 rows_in_the_end l (suc k) = l.owe (suc k) (rows_in_the_end l k)
 
--- What makes it a line: what a worker owes only grows at its end as rows come, is all when all have come, and is never more
--- than came; and a belt has room for a row.
+-- What makes it a line: what a worker owes only grows at its end as rows come, is complete when all have come, and is never more than came;
+-- and a belt has room for a row.
 pub record IsLine (l : Line) : Type 0 where
   pub grows : (k : ℕ) (xs ys : List RowModel) → length (xs ++ ys) ≤ length l.rows → IsPrefix (l.owe k xs) (l.owe k (xs ++ ys))
   pub all : (k : ℕ) (xs : List RowModel) → length xs ≡ length l.rows → length (l.owe k xs) ≡ length l.rows
