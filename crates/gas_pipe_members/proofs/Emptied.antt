@@ -1,4 +1,4 @@
--- Rows with their solid cells emptied: those of a lattice stay as they are, also where one lattice follows another.
+-- Rows with their solid cells emptied: rows of a lattice stay as they are, also if one lattice follows another.
 use Rattle.std.proofs.Common.{◌≡◌, ℕ, zero, suc, ◌+◌, ◌*◌, ◌%◌, ◌≤◌, ◌<◌, Bool, true, false, if◌then◌else◌, List, [], ◌∷◌, ◌++◌, length, take, drop, get_or, refl, ap, sym, ◌∙◌, subst, arith, ⊎_elim}
 use Rattle.std.proofs.lemmas.Bool.{cases_Bool}
 use Rattle.std.proofs.lemmas.List.{length-append}
@@ -66,7 +66,7 @@ drop-emptied_from c n (suc m) [] = refl
 drop-emptied_from c n (suc m) (x ∷ q) =
     drop-emptied_from c (n + 1) m q ∙ ap (λ (k : ℕ). emptied_from c k (drop m q)) (let e : n + 1 + m ≡ n + suc m = omega arith in e)
 
--- rows of later lattices have the places of those of the first
+-- rows of later lattices have the places of the first lattice's rows
 later : (c : ChannelModel) (a n : ℕ) (q : List RowModel) → emptied_from c (a + n * c.height) q ≡ emptied_from c a q
 later c a n [] = refl
 later c a n (x ∷ q) =

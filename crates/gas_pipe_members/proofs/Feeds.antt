@@ -84,7 +84,7 @@ module _ (f : FeederModel) (passes : ℕ) (rows gave took : List RowModel) (h : 
   pub fed_holds : f.rows ≡ drop (passes * f.channel.height) (rows ++ emptied f.channel took)
   fed_holds = sym (drop_at gave f.rows (passes * f.channel.height) fed_given) ∙ ap (drop (passes * f.channel.height)) h.queue
 
--- the rows that it holds in the end are the last that came back
+-- its rows in the end are the last that came back
 pub fed_last : (f : FeederModel) (n : ℕ) (rows gave took : List RowModel) → MayHaveFed f (n + 1) rows gave took → length rows ≡ f.channel.height → f.to_take ≡ 0 →
     f.rows ≡ emptied f.channel (drop (n * f.channel.height) took)
 fed_last f n rows gave took h high over =

@@ -12,7 +12,7 @@ use Rattle.gas_rows.specs.Row.{RowModel}
 use Rattle.gas_pipe_members.specs.Feeder.{emptied_row}
 use Rattle.gas_pipe_members.specs.Inner.Queue.{IsQueue}
 
--- numbers below h are equal where they are so, up to multiples of h, with k more
+-- numbers below h are equal if they are equal, up to multiples of h, with k more
 mod_cancel : (a b k h : ℕ) → a < h → b < h → (a + k) % h ≡ (b + k) % h → a ≡ b
 mod_cancel a b k h below_a below_b e = sym (back a below_a) ∙ ap (λ (n : ℕ). (n + (k * h - k)) % h) e ∙ back b below_b
   where
@@ -24,7 +24,7 @@ mod_cancel a b k h below_a below_b e = sym (back a below_a) ∙ ap (λ (n : ℕ)
         ∙ ap (λ (n : ℕ). n % h) (let same : x + k + (k * h - k) ≡ x + k * h = omega arith in same)
         ∙ add-mul-mod_self_right x k h ∙ mod-eq_of_lt below
 
--- the row whose place is behind the last one is the row that comes back next
+-- the row whose place is after the last one is the row that comes back next
 next_place : (h y next to_put to_take n : ℕ) → y < h → next < h → n + to_take ≡ h + to_put → (next + to_take) % h ≡ 0 → (y + to_put) % h ≡ n → y ≡ next
 next_place h y next to_put to_take n below_y below_next long place at =
     mod_cancel y next (to_take + to_put) h below_y below_next (left ∙ sym right)
@@ -44,7 +44,7 @@ next_place h y next to_put to_take n below_y below_next long place at =
 cell_past : (rows : List RowModel) (x y : ℕ) → length rows ≤ y → cell rows x y ≡ 0
 cell_past rows x y past = ap (λ (row : RowModel). get_or row x 0) (get_or_past rows y [] past)
 
--- what holds of each row, of one more, and of no row, holds of the rows with that one behind
+-- what is true of each row, of one more, and of no row, is true of the rows with that one at the end
 at_push : (P : ℕ → RowModel → Type 0) (rows : List RowModel) (row : RowModel) → ((i : ℕ) → i < length rows → P i (get_or rows i [])) → P (length rows) row →
     ((i : ℕ) → length rows < i → P i []) → (i : ℕ) → P i (get_or (rows ++ row ∷ []) i [])
 at_push P rows row before last past i =
@@ -152,7 +152,7 @@ queue_take gas c rows to_put old_take to_take old_next next row q one follows be
     last : (x y : ℕ) → is_solid c x y ≡ true → y ≡ old_next → get_or (emptied_row c old_next row) x 0 ≡ 0
     last x y solid here = emptied-solid c old_next row x (sym (ap (λ (k : ℕ). is_solid c x k) here) ∙ solid)
 
--- where nothing is left to put or take the queue is a lattice
+-- if nothing is left to put or take, the queue is a lattice
 pub queue_closed : (gas : Rules) (c : ChannelModel) (rows : List RowModel) (to_put to_take next : ℕ) → IsQueue gas c rows to_put to_take next →
     to_put ≤ to_take → to_take ≡ 0 → IsLattice gas c rows
 queue_closed gas c rows to_put to_take next q first over = record {

@@ -10,7 +10,7 @@ use Rattle.gas_rows.specs.Row.{RowModel}
 use mathlib.Core.List.{IsPrefix}
 use Rattle.gas_pipe_members.specs.Worker.{WorkerModel, IsClosed, MayHaveDone, owes}
 
--- what a stage gave before the flush is the beginning of what it owes
+-- what a stage returned before the flush is the beginning of what it owes
 given_prefix : (gas : Rules) (c : ChannelModel) (h : Chirality) (e : Option ℕ) (q : List RowModel) → IsPrefix (given gas c h e q) (owed gas c h e q)
 given_prefix gas c h None q = ([], append-nil q)
 given_prefix gas c h (Some g) q = (
@@ -38,7 +38,7 @@ done_few gas w e took gave done = by w.stage.pass refl
     by None is = omega (arith, (done.once_closed is).all)
     by (Some q) is = (done.while_open (subst IsSome (sym is) refl)).few
 
--- where no pass is open nothing is left to put
+-- if no pass is open, nothing is left to put
 pub closed_all : (gas : Rules) (w : WorkerModel) → IsClosed w → (e : Option ℕ) (took gave : List RowModel) → MayHaveDone gas w e took gave → gave ≡ owes gas w e took
 closed_all gas w closed e took gave done =
     sym (append-nil gave) ∙ ap (λ (o : Option RowModel). gave ++ option_to_list o) (sym closed.waiting) ∙ (done.once_closed closed.stage).put

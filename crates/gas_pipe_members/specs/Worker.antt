@@ -5,7 +5,7 @@ use Rattle.gas_geom.specs.Gas.{Rules}
 use Rattle.gas_stage.specs.Stage.{StageModel, MayHaveBeenFed, owed, given}
 use Rattle.gas_rows.specs.Row.{RowModel}
 
--- a worker as its callers see it: its stage, the row that it has to put next, and whether a row of another width came
+-- a worker as its callers see it: its stage, the row that it must put next, and whether a row of another width came
 pub record WorkerModel : Type 0 where
   pub stage : StageModel
   pub waiting : Option RowModel
@@ -20,26 +20,25 @@ pub record IsClosed (w : WorkerModel) : Type 0 where
 abbrev pub owes : Rules → WorkerModel → Option ℕ → List RowModel → List RowModel
 owes gas w e took = owed gas w.stage.channel w.stage.chirality e took
 
--- In a pass that is open the stage was fed the rows that were taken, and what it gave for them was put, but for the row that
--- waits.
+-- While a pass is open: the stage was fed the rows that were taken, and what it returned for them was put, except for the row that waits.
 pub record IsUnderWay (gas : Rules) (w : WorkerModel) (e : Option ℕ) (took gave : List RowModel) : Type 0 where
   pub few : length took ≤ w.stage.channel.height
   pub fed : MayHaveBeenFed gas w.stage e took
   pub put : gave ++ option_to_list w.waiting ≡ given gas w.stage.channel w.stage.chirality e took
 
--- In a pass that is closed all rows of a lattice were taken, and all that is owed for them was put, but for the row that waits.
+-- Once a pass is closed: all rows of a lattice were taken, and all that is owed for them was put, except for the row that waits.
 pub record IsFlushed (gas : Rules) (w : WorkerModel) (e : Option ℕ) (took gave : List RowModel) : Type 0 where
   pub all : length took ≡ w.stage.channel.height
   pub put : gave ++ option_to_list w.waiting ≡ owes gas w e took
 
--- The worker may have come to its state in the pass e by taking the rows `took` and putting the rows `gave`. A new pass fits
--- two empty lists; so what is promised for all lists that a worker fits is promised for those of its open pass.
+-- The worker may have come to its state in the pass e by taking the rows `took` and putting the rows `gave`. A new pass fits two empty
+-- lists, so a promise for all lists that a worker fits is one for the lists of its open pass.
 pub record MayHaveDone (gas : Rules) (w : WorkerModel) (e : Option ℕ) (took gave : List RowModel) : Type 0 where
   pub no_stray : w.stray ≡ false
   pub while_open : IsSome w.stage.pass → IsUnderWay gas w e took gave
   pub once_closed : w.stage.pass ≡ None → IsFlushed gas w e took gave
 
--- by a step from one state to another the worker takes the rows `takes` and puts the rows `puts`, behind all that it did before
+-- by a step from one state to another the worker takes the rows `takes` and puts the rows `puts`, after all that it did before
 abbrev pub Does : Rules → WorkerModel → List RowModel → List RowModel → WorkerModel → Type 0
 Does gas old takes puts new = (e : Option ℕ) (took gave : List RowModel) → MayHaveDone gas old e took gave → MayHaveDone gas new e (took ++ takes) (gave ++ puts)
 

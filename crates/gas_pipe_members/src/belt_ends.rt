@@ -8,7 +8,7 @@ use gas_belt::tx::Tx;
 use gas_geom::gas::Gas;
 use gas_rows::row::Row;
 
-// Nothing is claimed of when a try succeeds: that depends on the other thread.
+// Whether a try succeeds depends on the other thread, so no end is known to be ready.
 impl<G: Gas> PutEnd<Row<G>> for Tx<G> {
     ghost puts = { λ old row new. (new.belt ≡ old.belt) × (new.put ≡ old.put ++ row ∷ []) };
 

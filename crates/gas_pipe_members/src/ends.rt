@@ -46,7 +46,7 @@ pub trait TakeEnd<T> {
         ensures rests { IfNone result (rests self.old self.new) }
         ensures ready { ready self.old → IsSome result };
 
-    /// Gives the end a row, in which it may hand out another. It is no step.
+    /// Lets the end reuse a row for one that it hands out later. It is no step.
     fn give(&mut self, row: T)
         ensures rests { rests self.old self.new };
 
@@ -73,7 +73,7 @@ pub enum Turned {
     Took,
     /// A row was put.
     Put,
-    /// No end to be tried was ready.
+    /// No end that was tried was ready.
     Idle,
     /// No pass is open, or the turn closed it.
     Done,

@@ -25,8 +25,8 @@ fn empty_solid<G: Gas>(channel: &Channel, y: u32, row: &mut Row<G>)
     row.empty_solid(channel.mask(y));
 }
 
-/// The feeder of the line. It holds the rows to be put, in order, and behind them those that came
-/// back. The spare rows of its puts are kept until the end that it takes from is given them.
+/// The feeder of the line. It has the rows to be put, in order, and after them the rows that came
+/// back. It keeps the spare rows of its puts for the end that it takes from.
 #[derive(Drop)]
 pub struct Feeder<G: Gas> {
     channel: Channel,
@@ -67,7 +67,7 @@ impl<G: Gas> Model for Feeder<G> {
 }
 
 impl<G: Gas> Feeder<G> {
-    /// A feeder of an equal lattice, with no open pass.
+    /// A feeder with a copy of the lattice and no open pass.
     pub fn new(alloc: Global, lattice: &Lattice<G>) -> Result<Self, AllocError>
         ensures channel { IfOk result (λ f. f.channel ≡ lattice.now.channel) }
         ensures rows { IfOk result (λ f. f.rows ≡ lattice.now.rows) }
@@ -88,7 +88,7 @@ impl<G: Gas> Feeder<G> {
         })
     }
 
-    /// Opens a pass over the rows that it holds.
+    /// Opens a pass over its rows.
     pub fn begin(&mut self)
         requires closed { self.old.to_take ≡ 0 }
         ensures channel { self.new.channel ≡ self.old.channel }
@@ -97,8 +97,8 @@ impl<G: Gas> Feeder<G> {
         self.begin_ring(1);
     }
 
-    /// Opens `passes` passes, 1 to 1,000,000, one after another: each row that comes back is left
-    /// to put again as soon as it has come, until all rows of all passes were put.
+    /// Opens `passes` passes, 1 to 1,000,000, one after another. A row that came back can be put
+    /// again at once, until all rows of all passes were put.
     pub fn begin_ring(&mut self, passes: u64)
         requires closed { self.old.to_take ≡ 0 }
         requires some { 1 ≤ passes }
@@ -119,8 +119,8 @@ impl<G: Gas> Feeder<G> {
         self.to_take == 0
     }
 
-    /// The number of rows that it took of the lattice under way, or, where no pass is open, of the
-    /// last one.
+    /// The number of rows that it took of the lattice under way or, if no pass is open, of the last
+    /// one.
     pub fn taken(&self) -> u32
         ensures value { (rows gave took : List RowModel) → MayHaveFed self.now 1 rows gave took →
             result ≡ length took }
@@ -181,10 +181,10 @@ impl<G: Gas> Feeder<G> {
         self.rows.push_back_reserved(row);
     }
 
-    /// Makes at most one event: a put of the next row, or, where none is left to put or the end
-    /// hands it back, a take, if fewer rows were taken than put. Returns Done where no pass is
-    /// open. A taken row of another width than the channel's is dropped, and the turn returns
-    /// Stray, then and ever after.
+    /// Makes at most one event: a put of the next row or, if none is left to put or the end hands
+    /// it back, a take. It takes only if fewer rows were taken than put. Returns Done if no pass is
+    /// open. A taken row of another width than the channel's is dropped. Then this turn and all
+    /// later ones return Stray.
     #[tactic(auto, using(crate::proofs::Feeds::feeds))]
     pub fn turn<P: PutEnd<Row<G>>, T: TakeEnd<Row<G>>>(
         &mut self,
@@ -246,7 +246,7 @@ impl<G: Gas> Feeder<G> {
         Turned::Took
     }
 
-    /// The lattice of the rows that it holds, where no pass is open.
+    /// The lattice of its rows, once no pass is open.
     pub fn finish(self) -> Lattice<G>
         requires closed { self.to_take ≡ 0 }
         ensures channel { result.channel ≡ self.channel }
@@ -256,10 +256,10 @@ impl<G: Gas> Feeder<G> {
     }
 }
 
-/// What a feeder put is the beginning of the rows that it began with and, behind them, those that
-/// it took, solid cells emptied: at most the height of the lattice times the number of passes.
-/// Where the passes are closed it has put and taken exactly that number, and holds the last rows
-/// that it took, one for each row of the lattice, solid cells emptied.
+/// What a feeder put is the beginning of one list: the rows that it began with, and then the rows
+/// that it took, solid cells emptied. It puts at most the height of the lattice times the number of
+/// passes. Once the passes are closed it has put and taken exactly that number. Its rows are then
+/// the last that it took, one for each row of the lattice, solid cells emptied.
 pub fn a_feeder_in_order()
     ensures prefix { (f : FeederModel) (passes : ℕ) (rows gave took : List RowModel) →
         MayHaveFed f passes rows gave took →

@@ -1,5 +1,5 @@
-//! The members of a line, the worker and the feeder, over any two ends of belts; the plan that they
-//! follow; and belts with both ends on one thread.
+//! The members of a line, the worker and the feeder, over any two ends of belts. Also the plan that
+//! they follow, and belts with both ends on one thread.
 #![tactic(auto)]
 
 mod belt_ends;

@@ -9,8 +9,8 @@ use std::alloc::{AllocError, Global};
 use std::collections::VecDeque;
 use std::marker::Model;
 
-/// A belt with both its ends on one thread. It stores the rows under way alone, of any width, in
-/// places that it has from the start.
+/// A belt with both its ends on one thread. It stores only the rows under way, of any width. Its
+/// memory is taken at the start.
 #[derive(Drop)]
 pub struct PlainBelt<G: Gas> {
     rows: VecDeque<Row<G>>,
@@ -34,7 +34,7 @@ impl<G: Gas> Model for PlainBelt<G> {
 }
 
 impl<G: Gas> PlainBelt<G> {
-    /// An empty belt that holds 1 to 1024 rows at most.
+    /// An empty belt for at most `capacity` rows, 1 to 1024.
     pub fn new(alloc: Global, capacity: u32) -> Result<Self, AllocError>
         requires some_places { 1 ≤ capacity }
         requires few_places { capacity ≤ 1024 }

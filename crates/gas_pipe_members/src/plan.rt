@@ -1,5 +1,5 @@
-//! The plan of a run: the stages of its line, the rows that a belt holds, and the generations that
-//! it computes.
+//! The plan of a run: the stages of its line, the capacity of a belt, and the generations to
+//! compute.
 
 ghost use Rattle.std.specs.Prelude.{◌≡◌, ◌≤◌, ◌<◌, ◌*◌, IfOk, IfErr, None, Some};
 ghost use Rattle.std.specs.Int.{div_ceil};
@@ -57,7 +57,7 @@ impl Model for Plan {
 }
 
 impl Plan {
-    /// A plan, or the first refusal: of the stages, then of the capacity, then of the generations.
+    /// A plan, or the first refusal: stages, then capacity, then generations.
     pub fn new(stages: u32, capacity: u32, generations: u64) -> Result<Plan, PlanError>
         ensures refused { IfErr result (λ e. plan_refusal stages capacity generations ≡ Some e) }
         ensures accepted { IfOk result (λ _. plan_refusal stages capacity generations ≡ None) }
@@ -89,7 +89,7 @@ impl Plan {
         self.stages
     }
 
-    /// The number of rows that a belt holds.
+    /// The most rows on a belt.
     pub fn capacity(self) -> u32
         ensures value { result ≡ self.capacity }
         ensures some { 1 ≤ result }
@@ -108,7 +108,7 @@ impl Plan {
         self.generations
     }
 
-    /// The number of passes through the line. A pass computes at most one generation a stage.
+    /// The number of passes through the line. A pass computes at most one generation per stage.
     pub fn passes(self) -> u64
         ensures value { result ≡ div_ceil self.generations self.stages }
         ensures few { result ≤ self.generations }

@@ -1,4 +1,4 @@
-//! When each worker of a plan computes what.
+//! Which generation each worker of a plan computes in which pass.
 
 ghost use Rattle.std.specs.Prelude.{◌≡◌, ◌≤◌, ◌<◌, ◌+◌, ◌*◌, ◌^◌};
 ghost use Rattle.std.specs.Int.{div_ceil};
@@ -23,8 +23,8 @@ impl Schedule {
         self.plan.passes()
     }
 
-    /// The generation that worker `who`, counted from 1, computes the step from in a pass, counted
-    /// from 0, or None where it hands rows on unchanged.
+    /// The generation from which worker `who`, counted from 1, computes the step in a pass, counted
+    /// from 0. None if it hands rows on unchanged.
     pub fn generation(&self, pass: u64, who: u32) -> Option<u64>
         requires pass { pass * self.now.plan.stages < self.now.plan.generations }
         requires some { 1 ≤ who }

@@ -1,4 +1,4 @@
-//! Rows that were put and can be reused: each is given to the receiving end.
+//! Rows that were put and can be reused by the receiving end.
 ghost use Rattle.std.specs.Prelude.{◌≡◌, ◌<◌, ◌≤◌, ◌++◌, ◌∷◌, [], length, IfOk};
 ghost use Rattle.std.specs.Option.{option_to_list};
 
@@ -37,7 +37,7 @@ impl<G: Gas> Spares<G> {
         })
     }
 
-    // Keeps the row, or drops it where `most` rows are kept.
+    // Keeps the row, or drops it if `most` rows are kept.
     fn keep(&mut self, row: Row<G>)
         ensures kept { length self.old.rows < self.old.most →
             self.new ≡ record self.old { rows = self.old.rows ++ row ∷ [] } }

@@ -16,7 +16,7 @@ use std::alloc::{AllocError, Global};
 use std::marker::Model;
 
 /// A worker of the line. In each of its passes it takes the rows of a lattice from the top, and
-/// puts the rows that its stage gives for them.
+/// puts the rows that its stage returns for them.
 #[derive(Drop)]
 pub struct Worker<'a, G: Gas> {
     stage: Stage<'a, G>,
@@ -58,8 +58,7 @@ impl<'a, G: Gas> Worker<'a, G> {
         })
     }
 
-    /// Opens a pass that computes the step from a generation, or, with None, one that hands rows on
-    /// unchanged.
+    /// Opens a pass that computes the step from a generation. With None it hands rows on unchanged.
     pub fn begin(&mut self, generation: Option<u64>)
         requires closed { IsClosed self.old }
         ensures channel { self.new.stage.channel ≡ self.old.stage.channel }
@@ -83,8 +82,8 @@ impl<'a, G: Gas> Worker<'a, G> {
         }
     }
 
-    // The row that it has to put next: the one that waits or, where all rows of the pass were
-    // taken, the last one of its stage, whose pass this closes.
+    // The row that it must put next: the row that waits or, if all rows of the pass were taken, the
+    // last row of its stage. That closes the stage's pass.
     fn next_row(&mut self) -> Option<Row<G>>
         requires no_stray { self.old.stray ≡ false }
         ensures channel { self.new.stage.channel ≡ self.old.stage.channel }
@@ -117,8 +116,8 @@ impl<'a, G: Gas> Worker<'a, G> {
         self.stage.flush()
     }
 
-    // Tries to put a row, which waits where it is handed back. The row of a put goes to the other
-    // end as a spare one.
+    // Tries to put a row. If it is handed back, it waits. The row of a put goes to the other end as
+    // a spare row.
     fn offer<T: TakeEnd<Row<G>>, P: PutEnd<Row<G>>>(
         &mut self,
         row: Row<G>,
@@ -144,7 +143,7 @@ impl<'a, G: Gas> Worker<'a, G> {
         }
     }
 
-    // Takes a row of the open pass. What its stage gives for it is the row to be put next.
+    // Takes a row of the open pass. The row that its stage returns for it is the next to put.
     #[inline(always)]
     fn accept(&mut self, row: Row<G>)
         requires none_waits { self.old.waiting ≡ None }
@@ -159,10 +158,10 @@ impl<'a, G: Gas> Worker<'a, G> {
         self.waiting = self.stage.feed(row);
     }
 
-    /// Makes at most one event: a put of the next row that it owes, or, where it has put all of
-    /// them, a take. Returns Done where no pass is open, or where all rows of the pass were taken
-    /// and put before. A taken row of another width than the channel's is dropped, and the turn
-    /// returns Stray, then and ever after.
+    /// Makes at most one event: a put of the next row that it owes or, if it has put all of them, a
+    /// take. Returns Done if no pass is open, or if all rows of the pass were taken and put before.
+    /// A taken row of another width than the channel's is dropped. Then this turn and all later
+    /// ones return Stray.
     #[tactic(auto, using(crate::proofs::Steps::does))]
     pub fn turn<T: TakeEnd<Row<G>>, P: PutEnd<Row<G>>>(
         &mut self,
@@ -229,9 +228,9 @@ impl<'a, G: Gas> Worker<'a, G> {
     }
 }
 
-/// What a worker put in its pass is the beginning of what it owes for the rows that it took. These
-/// are never more than the lattice has. A pass is closed only where all rows were taken, and all that
-/// is owed for them was put.
+/// What a worker put in its pass is the beginning of what it owes for the rows that it took. It
+/// takes at most as many rows as the lattice has. A pass is closed only if all rows were taken, and
+/// all rows that are owed for them were put.
 pub fn a_pass_in_order()
     ensures prefix { (gas : Rules) (w : WorkerModel) (e : Option ℕ) (took gave : List RowModel) →
         MayHaveDone gas w e took gave → IsPrefix gave (owes gas w e took) }

@@ -1,13 +1,13 @@
 -- Inner words: what functions of this crate promise one another. No public contract cites them.
--- The rows that a feeder holds, and its spare ones.
+-- The rows of a feeder, and its spare rows.
 use Rattle.std.specs.Prelude.{◌≡◌, ℕ, ◌+◌, ◌%◌, ◌^◌, ◌<◌, true, List, [], length, slice_index_or}
 use Rattle.gas_geom.specs.Gas.{Rules}
 use Rattle.gas_geom.specs.Channel.{ChannelModel, is_solid}
 use Rattle.gas_geom.specs.Lattice.{cell}
 use Rattle.gas_rows.specs.Row.{RowModel}
 
--- The rows that a feeder holds, where to_put rows are still to be put, to_take rows still to be taken, and row `next` of a lattice
--- comes back next: rows of a lattice, where row y stands at y + to_put, modulo the height.
+-- The rows of a feeder, if to_put rows are still to be put, to_take rows still to be taken, and row `next` of a lattice comes back next:
+-- rows of a lattice, row y at place y + to_put, modulo the height.
 pub record IsQueue (gas : Rules) (channel : ChannelModel) (rows : List RowModel) (to_put to_take next : ℕ) : Type 0 where
   pub long : length rows + to_take ≡ channel.height + to_put
   -- the last row that comes back is a lattice's last
