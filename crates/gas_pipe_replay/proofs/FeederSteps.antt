@@ -100,7 +100,7 @@ module _ (gas : Rules) (input : RunInputModel) (f v : FeederModel) (ws : List Wo
   abbrev Shown : Type 0
   Shown = Shows gas input v ws (set (set bs 0 q) last t) (turn line s 0)
 
-  -- where a row is left and the belt has room, the feeder has a row to put
+  -- if a row is left and the belt has room, the feeder has a row to put
   has_row : length (s.put 0) < length (rows_on gas input 0 0) → (0 < f.to_put) × (0 < length f.rows)
   has_row more =
       let fed = sh.fed in (

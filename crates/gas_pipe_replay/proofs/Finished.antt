@@ -1,4 +1,4 @@
--- Where the feeder's pass is closed the line is done, and the feeder holds the rows of the last generation.
+-- If the feeder's pass is closed, the line is done, and the feeder has the rows of the last generation.
 use Rattle.std.proofs.Common.{rules, ◌≡◌, ℕ, ◌+◌, ◌*◌, ◌≤◌, ◌<◌, Bool, true, false, eqb, if◌then◌else◌, Option, Some, None, List, length, map, ap, sym, ◌∙◌, subst, arith}
 use Rattle.std.specs.Prelude.{IsSome}
 use Rattle.std.specs.Int.{div_ceil}
@@ -48,7 +48,7 @@ module _ (gas : Rules) (input : RunInputModel) (f : FeederModel) (ws : List Work
       and_right (eqb (length (now.put 0)) (length (rows_on gas input 0 0))) (eqb (length (now.taken input.plan.stages)) (length (rows_on gas input 0 0)))
       (ne_eqb (length (now.taken input.plan.stages)) (length (rows_on gas input 0 0)) (λ e. left (omega (arith, high, e, fed.takes))))
 
-  -- the rows that came back are those of the last belt
+  -- the rows that came back are the rows of the last belt
   holds_last : f.to_take ≡ 0 → f.rows ≡ rows_on gas input 0 input.plan.stages
   holds_last over =
       let line = pass_is_line gas input sh.is_input 0 in
@@ -70,7 +70,7 @@ one_pass generations stages some few =
     let one : div_ceil generations stages * stages ≤ 1 * stages = mul-le-mul_right stages few in
     omega arith
 
--- how the only pass of a plan stands, where it has generations to compute
+-- the state of the only pass of a plan, if it has generations to compute
 pub stands : (gas : Rules) (input : RunInputModel) (turns : List ℕ) (r : ReplayModel) → (input.plan.generations ≡ 0 → ⊥) → input.plan.generations ≤ input.plan.stages →
     r.lattice ≡ (if is_done (line_of gas input 0) (after gas input turns) then Some (record input.lattice { rows = rows_on gas input 0 input.plan.stages }) else None) →
     r.belts ≡ map (counts_of (after gas input turns)) (range_with_len 0 (input.plan.stages + 1)) →

@@ -15,7 +15,7 @@ two_writes xs before behind i at t p e n low =
     set-append_right (set before i t) behind at at p m (omega arith) in
     sym (ap (λ v. set v at p) a ∙ b ∙ ap (λ q. set before i t ++ set behind q p) z)
 
--- what was read from a part is what the whole holds there
+-- what was read from a part is what the whole has there
 pub read_before : {A : Type 0} (xs before behind : List A) (i at : ℕ) (x d : A) → xs ≡ before ++ behind → length before ≡ at → i < at →
     x ≡ get_or before i x → x ≡ get_or xs i d
 read_before xs before behind i at x d e n low is =
@@ -30,7 +30,7 @@ read_behind xs before behind at x d e n high is =
     get_or_read behind 0 x l is d ∙ ap (λ q. get_or behind q d) (sym z)
     ∙ sym (get_or-append_right before behind at at d n (omega arith)) ∙ ap (λ v. get_or v at d) (sym e)
 
--- what holds at each place after one write, or two
+-- what is true at each place after one write, or two
 pub at_set : {A : Type 0} (xs : List A) (k j : ℕ) (v d : A) → k < length xs → (P : A → Type 0) → (j ≡ k → P v) →
     ((j ≡ k → ⊥) → P (get_or xs j d)) → P (get_or (set xs k v) j d)
 at_set xs k j v d l P here other =
@@ -45,7 +45,7 @@ at_two xs i at j t p d low high P here before other =
     at_set (set xs i t) at j p d (omega (arith, length-set xs i t)) P here
     (λ ne. at_set xs i j t d (omega arith) P before (λ no_i. other ne no_i))
 
--- what holds at each place after one more element
+-- what is true at each place after one more element
 pub at_push : {A : Type 0} (xs : List A) (y d : A) (j k : ℕ) → length xs ≡ k → j < k + 1 → (P : A → Type 0) → (j ≡ k → P y) → (j < k → P (get_or xs j d)) →
     P (get_or (xs ++ y ∷ []) j d)
 at_push xs y d j k n high P last before =

@@ -10,7 +10,7 @@ use Rattle.gas_pipe_model.specs.Pass.{line_of}
 use Rattle.gas_pipe_model.specs.Plan.{PlanModel}
 use Rattle.gas_pipe_replay.specs.declared.answer.Counts.{Counts}
 
--- the lattice, where the pass is done, and how far each belt is
+-- the lattice, if the pass is done, and how far each belt is
 pub record ReplayModel : Type 0 where
   pub lattice : Option LatticeModel
   pub belts : List Counts
@@ -19,7 +19,7 @@ pub record ReplayModel : Type 0 where
 abbrev pub counts_of : State → ℕ → Counts
 counts_of s k = record { put = length (s.put k); taken = length (s.taken k) }
 
--- Where the one pass of a plan stands after these turns: how far each of its belts is, and, where it is done, the lattice after all
+-- The state of the one pass of a plan after these turns: how far each of its belts is and, if it is done, the lattice after all
 -- generations. Without a generation to compute there is no belt, and it is done at once.
 abbrev pub replay_of : Rules → Chirality → ℕ → LatticeModel → PlanModel → List ℕ → ReplayModel
 replay_of gas chirality first lattice plan turns =

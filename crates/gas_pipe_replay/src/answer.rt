@@ -1,4 +1,4 @@
-//! Where a pass stands: how far its belts are, and the lattice where it is done.
+//! The state of a pass: how far its belts are, and the lattice if it is done.
 ghost use Rattle.std.specs.Prelude.{◌≡◌, ◌≤◌, ◌<◌, IfSome, IfNone, IsSome, IsTrue, ◌↔◌, Some, None, length, slice_index_or};
 
 use gas_geom::gas::Gas;
@@ -12,7 +12,7 @@ pub struct Counts {
     pub taken: u32,
 }
 
-/// Where a pass stands after some turns of its members.
+/// The state of a pass after some turns of its members.
 #[derive(Drop)]
 pub struct Replay<G: Gas> {
     lattice: Option<Lattice<G>>,
@@ -31,7 +31,7 @@ impl<G: Gas> Model for Replay<G> {
 }
 
 impl<G: Gas> Replay<G> {
-    /// Where a pass stands that has at most 65 belts.
+    /// The state of a pass that has at most 65 belts.
     pub(crate) fn new(lattice: Option<Lattice<G>>, belts: Vec<Counts>) -> Self
         requires { length belts.items ≤ 65 }
         ensures { result ≡ record { lattice = lattice; belts = belts.items } }
@@ -46,7 +46,7 @@ impl<G: Gas> Replay<G> {
         self.lattice.is_some()
     }
 
-    /// The lattice after all generations, where the pass is done.
+    /// The lattice after all generations, if the pass is done.
     pub fn lattice(&self) -> Option<&Lattice<G>>
         ensures some { IfSome result (λ lattice. Some lattice.now ≡ self.now.lattice) }
         ensures none { IfNone result (self.now.lattice ≡ None) }
@@ -54,15 +54,14 @@ impl<G: Gas> Replay<G> {
         self.lattice.as_ref()
     }
 
-    /// How many belts there are: one more than workers, or none where there was no generation to
-    /// compute.
+    /// The number of belts: one more than workers, or none if there was no generation to compute.
     pub fn belts(&self) -> u32
         ensures value { result ≡ length self.now.belts }
     {
         self.belts.len() as u32
     }
 
-    /// How many rows were put on a belt, if there is such a belt.
+    /// The number of rows put on a belt, if there is such a belt.
     pub fn put(&self, belt: u32) -> Option<u32>
         ensures some { IfSome result (λ rows. (belt < length self.now.belts)
             × (rows ≡ (slice_index_or self.now.belts belt (record { put = 0; taken = 0 })).put)) }
@@ -71,7 +70,7 @@ impl<G: Gas> Replay<G> {
         self.belts.get(belt as usize).map(|counts| counts.put)
     }
 
-    /// How many rows were taken from a belt, if there is such a belt.
+    /// The number of rows taken from a belt, if there is such a belt.
     pub fn taken(&self, belt: u32) -> Option<u32>
         ensures some { IfSome result (λ rows. (belt < length self.now.belts)
             × (rows ≡ (slice_index_or self.now.belts belt (record { put = 0; taken = 0 })).taken)) }

@@ -22,9 +22,9 @@ use gas_rows::chirality::Chirality;
 use gas_rows::lattice::Lattice;
 use std::alloc::Global;
 
-/// Makes one pass over a lattice of generation `first` on one thread, in which each of these
-/// numbers lets that member make a turn: 0 is the feeder, k is worker k, and a number above the
-/// workers' is no member's. A plan that needs more than one pass is refused.
+/// Makes one pass over a lattice of generation `first` on one thread. Each number in `turns` lets
+/// that member make a turn: 0 is the feeder, k is worker k, and a number above the workers' is no
+/// member's. A plan that needs more than one pass is refused.
 pub fn replay<G: Gas>(
     alloc: Global,
     lattice: &Lattice<G>,

@@ -21,7 +21,7 @@ use gas_pipe_members::worker::Worker;
 use gas_rows::lattice::Lattice;
 use std::alloc::{AllocError, Global};
 
-// A turn of worker `who`, counted from 1, between the belt before it and the belt behind it.
+// A turn of worker `who`, counted from 1, between the belt before it and the belt after it.
 fn turn_worker<G: Gas>(
     workers: &mut [Worker<'_, G>],
     belts: &mut [PlainBelt<G>],
@@ -145,7 +145,7 @@ impl<'a, G: Gas> LocalLine<'a, G> {
     }
 
     // The number of rows that a member took from its belt: a worker counted from 0, or the feeder
-    // behind the last of them.
+    // after the last of them.
     fn count_taken(&self, k: usize) -> u32
         requires { k ≤ length self.now.workers.items }
         ensures value { (input : RunInputModel) (s : State) →
@@ -175,7 +175,7 @@ impl<'a, G: Gas> LocalLine<'a, G> {
         Ok(counts)
     }
 
-    /// The lattice of the last belt, where the pass is done.
+    /// The lattice of the last belt, if the pass is done.
     pub(crate) fn finish(self) -> Option<Lattice<G>>
         ensures { (input : RunInputModel) (turns : List ℕ) →
             Shows G.rules input self.entry.feeder self.entry.workers.items self.entry.belts.items
