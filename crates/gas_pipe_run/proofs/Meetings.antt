@@ -40,7 +40,7 @@ module _ (gas : Rules) (input : RunInputModel) (is : IsRunInput gas input) (b : 
 
   module _ (k : ℕ) (s : Sender) (j : JobModel) (e : EndedModel) (now : List CarriedModel)
       (takes : IsJobOf input k s.belt j) (reached : HaveMetUpTo gas input b k s.put now) (ran : HasFinished gas j e) where
-    -- what was put on belt k and what the worker behind it took
+    -- what was put on belt k and what the worker after it took
     pub one_belt : s.belt ≡ e.rx.belt
     one_belt = takes.link ∙ sym ran.rx
 

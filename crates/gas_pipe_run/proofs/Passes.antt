@@ -13,7 +13,7 @@ use Rattle.gas_pipe_model.specs.Pass.{computes_from}
 use Rattle.gas_pipe_model.proofs.Circle.{owed_pass}
 use Rattle.gas_pipe_run.specs.Inner.Job.{OnePass, owes_until}
 
--- what a step does to an end of a belt, whatever its buffers
+-- what a step does to an end of a belt, for any spare rows
 abbrev pub PutOn : Sender → RowModel → Sender → Type 0
 PutOn tx row tx2 = (tx2.belt ≡ tx.belt) × (tx2.put ≡ tx.put ++ row ∷ [])
 

@@ -1,4 +1,4 @@
--- A run that is over: what its belts carried, and the rows that the feeder holds.
+-- A run that is over: what its belts carried, and the rows of the feeder.
 use Rattle.std.proofs.Common.{◌≡◌, ℕ, suc, ◌+◌, ◌-◌, ◌*◌, ◌≤◌, ◌<◌, ◌++◌, List, [], ◌∷◌, length, map, take, drop, refl, ap, sym, subst, ◌∙◌, arith}
 use Rattle.std.specs.Prelude.{get_or}
 use Rattle.std.specs.Int.{div_ceil}
@@ -55,7 +55,8 @@ belts_made_are gas input more =
     ∙ rw (ne_eqb input.plan.generations 0 (λ none. absurd (omega (arith, none, more))))
     (length-map-range_with_len (carried_on gas input (div_ceil input.plan.generations input.plan.stages)) 0 (input.plan.stages + 1))
 
--- what the belts of a run carry, the rows that come back on the last but for the last pass's those of the later passes on the first
+-- what the belts of a run carry: the rows that come back on the last, except in the last pass, are the rows of the later passes on the
+-- first
 module _ (gas : Rules) (input : RunInputModel) (is : IsRunInput gas input) (some : 0 < input.plan.stages) (more : 0 < input.plan.generations) where
   abbrev passes_made : ℕ
   passes_made = div_ceil input.plan.generations input.plan.stages
@@ -115,7 +116,7 @@ module _ (gas : Rules) (input : RunInputModel) (is : IsRunInput gas input) (b : 
       ∙ sym (on_more gas input b k)
       ∙ ap (belts_before gas input b) (let e : suc k ≡ input.plan.stages + 1 = omega (arith, last) in e)
 
--- a lattice of which a feeder holds the rows
+-- a lattice whose rows a feeder has
 pub is_lattice : (gas : Rules) (l : LatticeModel) (f : FeederModel) → f.channel ≡ l.channel → f.rows ≡ l.rows → IsLattice gas f.channel f.rows → IsLattice gas l.channel l.rows
 is_lattice gas l f channel rows is =
     subst (λ (r : List RowModel). IsLattice gas l.channel r) rows (subst (λ (c : ChannelModel). IsLattice gas c f.rows) channel is)
@@ -194,7 +195,7 @@ module _ (gas : Rules) (laws : IsGas gas) (input : RunInputModel) (is : IsRunInp
         before_it : (n : ℕ) → 0 < n → n ≡ suc (n - 1)
         before_it n h = omega (arith, h)
 
-    -- the feeder holds the rows of the last generation
+    -- the feeder has the rows of the last generation
     pub rows_are : f.rows ≡ (lattice_after gas input.chirality input.first input.lattice input.plan.generations).rows
     rows_are =
         fed_holds f passes input.lattice.rows b took fed over

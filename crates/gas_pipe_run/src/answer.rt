@@ -1,4 +1,4 @@
-//! What a run gives: the lattice, and what the belts carried.
+//! The result of a run: the lattice, and what the belts carried.
 ghost use Rattle.std.specs.Prelude.{◌≡◌, ◌≤◌, ◌<◌, IfSome, IfNone, length};
 ghost use Rattle.std.specs.Int.{div_ceil};
 
@@ -8,7 +8,7 @@ use gas_pipe_members::plan::Plan;
 use gas_rows::lattice::Lattice;
 use std::marker::Model;
 
-/// The lattice that a run gives, and what each belt carried in all passes.
+/// The lattice after a run, and what each belt carried in all passes.
 #[derive(Drop)]
 pub struct Run<G: Gas> {
     lattice: Lattice<G>,
@@ -59,7 +59,7 @@ impl<G: Gas> Run<G> {
     }
 
     /// What each belt carried in all passes, one after another: from the belt that the feeder puts
-    /// on to the one that it takes from. There is none where no generation was to be computed.
+    /// on to the belt that it takes from. There is none if no generation was to be computed.
     pub fn belts(&self) -> &[Carried<G>]
         ensures value { result.now ≡ self.now.belts }
     {
@@ -73,8 +73,8 @@ impl<G: Gas> Run<G> {
         self.belts.len() as u64
     }
 
-    /// The number of rows that went through a belt in a pass, both counted from 0, if there were
-    /// such a pass and such a belt: the height of the lattice.
+    /// The number of rows that went through a belt in a pass, both counted from 0: the height of
+    /// the lattice. None if there was no such pass or no such belt.
     pub fn rows_through(&self, pass: u64, belt: u32) -> Option<u32>
         ensures some { IfSome result (λ rows. (pass < self.now.passes) × (belt ≤ self.now.stages)
             × (rows ≡ self.now.lattice.channel.height)) }

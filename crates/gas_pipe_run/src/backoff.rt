@@ -5,9 +5,10 @@ ghost use Rattle.gas_pipe_run.specs.declared.backoff.Phase.TheVariants.{Announce
 use crate::trials::{Mode, Trials, YieldBan};
 use std::marker::Model;
 
-// The numbers of the policy. docs/DECISIONS.md gives their reasons ("How a member waits").
+// The numbers of the policy. Their reasons are in docs/DECISIONS.md ("How a member waits").
 
-// Spins before the first yield: few, since the neighbour that makes the row may need the processor.
+// Spins before the first yield: few, because the neighbour that makes the row may need the
+// processor.
 const SPINS: u32 = 4;
 
 // Yields before the first park: they last longer than a parked thread mostly takes to wake.

@@ -43,7 +43,7 @@ impl<'e, G: Gas> Model for FedLine<'e, G> {
 
 impl<'e, G: Gas> FedLine<'e, G> {
     /// Joins the threads, and lets the two ends of each belt meet: `belts` gets what they carried.
-    /// None where a worker stopped early.
+    /// None if a worker stopped early.
     pub(crate) fn join_and_meet<R: Threads>(
         self,
         rt: &R,

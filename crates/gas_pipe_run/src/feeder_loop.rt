@@ -12,8 +12,7 @@ use gas_pipe_members::ends::Turned;
 use gas_pipe_members::feeder::Feeder;
 use std::sync::Wait;
 
-/// Makes the feeder's turns, and returns whether its passes are over. They are not where the stop
-/// flag is raised.
+/// Makes the feeder's turns until its passes are over. False if the stop flag was raised before.
 pub(crate) fn run_feeder<G: Gas, R: Wait>(
     rt: &R,
     wake_ups: &WakeUps,

@@ -5,7 +5,7 @@ pub trait Gate {
     /// Called by worker `who`, counted from 1, once before its first turn of each pass.
     fn enter(&self, who: u32);
 
-    /// Called by worker `who` once, as the last act of its thread, also where it stops early.
+    /// Called by worker `who` once, as the last act of its thread, even if it stops early.
     fn leave(&self, who: u32);
 }
 

@@ -55,7 +55,7 @@ impl<'a, G: Gas> Model for Job<'a, G> {
 }
 
 impl<'a, G: Gas> Job<'a, G> {
-    // Makes all passes, and closes the end that the worker put on. None where it stopped early.
+    // Makes all passes, and closes the end that the worker put on. None if it stopped early.
     fn run_job<H: Gate, R: Wait>(self, shared: &Shared<'_, H, R>) -> Option<Ended<G>>
         requires { IsReady self }
         ensures { IfSome result (λ e. HasFinished G.rules self.entry e) }

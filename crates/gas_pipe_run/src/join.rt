@@ -35,7 +35,7 @@ fn meet_next<G: Gas>(
 }
 
 /// Joins all threads in order, and compares the two ends of each belt, up to the first worker that
-/// stopped early. Returns what is left of the end that the last worker put on.
+/// stopped early. Returns the closed end that the last worker put on.
 pub(crate) fn join_workers<G: Gas, R: Threads>(
     rt: &R,
     input: &RunInput<'_, G>,

@@ -1,4 +1,4 @@
-//! Runs of the line by threads, one for each worker, which live through all passes of a plan.
+//! Runs of the line by threads, one per worker. A thread makes all passes of a plan.
 #![tactic(auto)]
 
 pub mod answer;

@@ -111,7 +111,7 @@ impl<'e, G: Gas> Line<'e, G> {
     }
 }
 
-// Makes a line and all its passes. None where memory or a start was refused.
+// Makes a line and all its passes. None if memory or a start was refused.
 fn run_in_scope<'s, 'e: 's, G: Gas + Send + 'e, H: Gate + Sync, R: Threads + Wait + Sync>(
     scope: &'s Scope<'s, &'e ()>,
     alloc: Global,
@@ -154,9 +154,9 @@ fn run_in_scope<'s, 'e: 's, G: Gas + Send + 'e, H: Gate + Sync, R: Threads + Wai
     line.join_and_meet(shared.rt, belts)
 }
 
-/// Makes all passes of a plan over the rows that the feeder holds: a thread for each worker, and
-/// the feeder on the caller's. Every thread that was started is joined before it returns. The error
-/// is that memory, or the start of a thread, was refused.
+/// Makes all passes of a plan over the feeder's rows: a thread for each worker, and the feeder on
+/// the caller's thread. Every thread that was started is joined before it returns. The error means
+/// that memory, or the start of a thread, was refused.
 pub(crate) fn run_line<G: Gas + Send, H: Gate + Sync, R: Threads + Wait + Sync>(
     rt: &R,
     alloc: Global,

@@ -25,8 +25,8 @@ pub(crate) fn give_up<G: Gas, H: Gate, R: Threads + Wait>(
     }
 }
 
-/// Starts a thread for each job. None where memory or a start was refused, and then the threads
-/// that were started are joined.
+/// Starts a thread for each job. None if memory or a start was refused. The threads that were
+/// started are then joined.
 pub(crate) fn start_workers<
     's,
     'e: 's,

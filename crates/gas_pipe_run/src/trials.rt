@@ -1,21 +1,21 @@
-//! Which waits of a member yield: trials, in which it does not, find out whether yields are
-//! expensive, and then all members of a run stop yielding for a while.
+//! Which waits of a member yield. A trial is a wait without yields: it finds out whether yields are
+//! expensive. If they are, all members of a run stop yielding for a while.
 
 use crossbeam_utils::CachePadded;
 use std::sync::atomic::{AtomicU64, Ordering};
 
-// The numbers of the policy. docs/DECISIONS.md gives their reasons ("How a member waits").
+// The numbers of the policy. Their reasons are in docs/DECISIONS.md ("How a member waits").
 
 // Waits from the first trial to the next: few, so that busy processors are noticed soon.
 const FIRST_GAP: u32 = 4;
 
-// The most waits from a trial to the next: many, since a trial may cost a late wake-up.
+// The most waits from a trial to the next: many, because a trial may cost a late wake-up.
 const LONGEST_GAP: u32 = 1024;
 
 // Late wake-ups in a row that ban yields: one may be a processor that was away for a moment.
 const LATE_WAKES: u32 = 3;
 
-// Waits of a ban: many, since to find out again that yields are expensive takes long.
+// Waits of a ban: many, because it takes long to find out again that yields are expensive.
 const WAITS_WITHOUT_YIELDS: u64 = 16_384;
 
 /// How a wait goes before its first park.
@@ -30,7 +30,7 @@ pub(crate) enum Mode {
 }
 
 /// The number of waits to come in which no member of a run yields. All members count them down, so
-/// nothing is claimed of it.
+/// the count is not exact.
 #[derive(Drop)]
 pub struct YieldBan {
     waits: CachePadded<AtomicU64>,

@@ -1,6 +1,6 @@
 //! How the threads of a run wake and stop one another. Public for tests only.
 //!
-//! Nothing is claimed of parks and wakes: what they do depends on the other threads.
+//! Parks and wakes have no contracts, because what they do depends on the other threads.
 ghost use Rattle.std.specs.Prelude.{◌≡◌, ◌+◌, IfOk};
 
 use crate::backoff::LONGEST_PARK_MILLIS;
@@ -35,7 +35,7 @@ impl Model for WakeUps {
 }
 
 impl WakeUps {
-    /// The wake-ups of a feeder and this number of workers, all of whom are awake.
+    /// The wake-ups of a feeder and this number of workers, all awake.
     pub fn new(alloc: Global, workers: u32) -> Result<Self, AllocError>
         ensures { IfOk result (λ w. w.members ≡ workers + 1) }
     {
@@ -90,8 +90,7 @@ impl WakeUps {
     }
 
     /// Parks a member until it is woken, but not for long, so that it also sees the stop flag.
-    /// Returns at once if it was woken since it announced the park, and returns whether it was
-    /// woken.
+    /// Returns at once if it was woken since it announced the park. Returns whether it was woken.
     pub fn park<R: Wait>(&self, rt: &R, member: usize) -> bool {
         let Some(state) = self.states.get(member) else {
             return true;

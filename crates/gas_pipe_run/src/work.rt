@@ -1,4 +1,4 @@
-//! Work for a thread, whatever it borrows.
+//! Work for a thread, which may borrow.
 ghost use Rattle.std.specs.Prelude.{◌≡◌, IfSome};
 
 use crate::gate::Gate;
@@ -7,12 +7,12 @@ use std::snapshot::Snapshot;
 use std::sync::Wait;
 use std::thread::{Promise, PromisedHandle, Scope};
 
-/// Work for a thread that gives an `E`, or None where it stops early.
+/// Work for a thread. It returns an `E`, or None if it stops early.
 pub trait Work<E> {
     /// It may start.
     ghost fresh: { Self → Type 0 };
 
-    /// What it gives, if it does not stop early.
+    /// What it returns, if it does not stop early.
     ghost kept: { Self → E → Type 0 };
 
     fn do_work<H: Gate, R: Wait>(self, shared: &Shared<'_, H, R>) -> Option<E>
@@ -28,7 +28,7 @@ impl<E, W: Work<E>> Promise<Option<E>> for WorkPromise<W> {
     ghost kept_by = { λ p r. IfSome r (λ e. W.kept p.0.value e) };
 }
 
-/// Starts a thread for the work. None where no thread can be had.
+/// Starts a thread for the work. None if the start was refused.
 pub(crate) fn start_work<
     's,
     'e: 's,

@@ -15,8 +15,7 @@ use gas_pipe_members::schedule::Schedule;
 use gas_pipe_members::worker::Worker;
 use std::sync::Wait;
 
-// Makes one pass of a worker, and returns whether it is over. It is not where the stop flag is
-// raised.
+// Makes one pass of a worker. False if the stop flag was raised before the pass was over.
 fn make_pass<G: Gas, H, R: Wait>(
     shared: &Shared<'_, H, R>,
     waiter: &mut Waiter<'_>,
@@ -55,7 +54,7 @@ fn make_pass<G: Gas, H, R: Wait>(
     unreachable!()
 }
 
-/// Makes all passes of a plan's worker, counted from 1, between fresh ends, and returns whether all
+/// Makes all passes of a plan's worker, counted from 1, between unused ends. Returns whether all
 /// are over. It enters the gate before the first turn of each.
 pub(crate) fn make_passes<G: Gas, H: Gate, R: Wait>(
     shared: &Shared<'_, H, R>,

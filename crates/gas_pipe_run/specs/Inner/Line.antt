@@ -19,7 +19,7 @@ pub record LineModel : Type 0 where
   pub jobs : List JobModel
   pub last : Receiver
 
--- the feeder holds the rows of the input's lattice, has no pass open, and there is a generation to compute
+-- the feeder has the rows of the input's lattice and no open pass, and there is a generation to compute
 pub record HoldsInput (gas : Rules) (input : RunInputModel) (f : FeederModel) : Type 0 where
   pub is_input : IsRunInput gas input
   pub some : 0 < input.plan.generations

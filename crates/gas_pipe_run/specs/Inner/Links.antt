@@ -36,7 +36,7 @@ abbrev pub Linked : RunInputModel → ℕ → Belt → List JobModel → Type 0
 Linked input k from [] = Unit {0}
 Linked input k from (j ∷ js) = IsJobOf input k from j × Linked input (suc k) j.tx.belt js
 
--- the belt behind the last of them
+-- the belt after the last of them
 abbrev pub last_belt : Belt → List JobModel → Belt
 last_belt from [] = from
 last_belt from (j ∷ js) = last_belt j.tx.belt js
@@ -54,7 +54,7 @@ job_of h = h.promise.0.value
 abbrev pub carrying : List RowModel → CarriedModel
 carrying rows = record { put = rows; taken = rows }
 
--- what is on belt k after all passes of the input's plan, where the rows b are on belt 0 and each worker puts what it owes
+-- what is on belt k after all passes of the input's plan, if the rows b are on belt 0 and each worker puts what it owes
 abbrev pub rows_on_belt : Rules → RunInputModel → List RowModel → ℕ → List RowModel
 rows_on_belt gas input b k = on_belt input.lattice.channel.height (owes_in gas input) (div_ceil input.plan.generations input.plan.stages) b k
 
