@@ -9,13 +9,18 @@ use Rattle.std.proofs.lemmas.List.Sums.{AllPass-from_list_all}
 use Rattle.toml.specs.Data.{Data}
 use Rattle.toml.specs.View.{view}
 use Rattle.toml.specs.declared.value.Value.{Value}
+use Rattle.gas_geom.specs.Channel.{ChannelModel}
 use Rattle.gas_geom.specs.Gas.{Rules}
+use Rattle.gas_geom.specs.Size.{SizeModel}
 use Rattle.gas_layout.specs.declared.rectangle.Rectangle.{Rectangle}
 use Rattle.gas_layout.specs.declared.placement.Placement.{Placement}
-use Rattle.gas_layout.specs.Layout.{is_covered, fits, is_index, can_place, drawn, lattice_of, filling, placed}
+use Rattle.gas_layout.specs.Layout.{between, is_covered, fits, is_index, can_place, drawn, lattice_of, filling, placed}
 use Rattle.gas_layout.proofs.Grids.{value-rows_of}
+use Rattle.gas_scene.specs.declared.table.Area.{Area}
 use Rattle.gas_scene.specs.Table.{AreaModel, rectangle_of, placement_of}
+use Rattle.gas_scene.specs.Refusals.{is_area_in_range}
 use Rattle.gas_scene.specs.Scene.{area_lattice}
+use Rattle.gas_scene.specs.Inner.Shown.{area_shown}
 use Rattle.gas_scene.specs.Inner.Areas.{solid_in, can_stand}
 
 -- the first k values, and one more, as what they are read as
@@ -70,18 +75,23 @@ can_stand-drawn states w h rs vs =
 pub fits-views : (w h : ℕ) (vs : List Value) → list_all (λ v. fits w h (rectangle_of (view v))) vs ≡ list_all (fits w h) (map rectangle_of (map view vs))
 fits-views w h vs = sym (list_all-map (fits w h) rectangle_of (map view vs) ∙ list_all-map (λ d. fits w h (rectangle_of d)) view vs)
 
--- five tests, the first two as one
-pub fails_third : (a b c d e : Bool) → true ≡ (a && b) → c ≡ false → (a && (b && (c && (d && e)))) ≡ false
-fails_third true true c d e first third = ap (λ t. t && (d && e)) third
-fails_third true false c d e first third = absurd (cc)
-fails_third false b c d e first third = absurd (cc)
+-- five tests, the first three as one
+rest_decides : (a b c rest : Bool) → true ≡ (a && (b && c)) → (a && (b && (c && rest))) ≡ rest
+rest_decides true true true rest all = refl
+rest_decides true true false rest all = absurd (cc)
+rest_decides true false c rest all = absurd (cc)
+rest_decides false b c rest all = absurd (cc)
 
-pub fails_fourth : (a b c d e : Bool) → true ≡ (a && b) → c ≡ true → d ≡ false → (a && (b && (c && (d && e)))) ≡ false
-fails_fourth true true c d e first third fourth = ap₂ (λ s t. s && (t && e)) third fourth
-fails_fourth true false c d e first third fourth = absurd (cc)
-fails_fourth false b c d e first third fourth = absurd (cc)
-
-pub last_decides : (a b c d e f : Bool) → true ≡ (a && b) → c ≡ true → d ≡ true → e ≡ f → (a && (b && (c && (d && e)))) ≡ f
-last_decides true true c d e f first third fourth is = ap₂ (λ s t. s && (t && e)) third fourth ∙ is
-last_decides true false c d e f first third fourth is = absurd (cc)
-last_decides false b c d e f first third fourth is = absurd (cc)
+-- whether an area with a size and a rate in range is in range, by the tests of its check
+pub in_range-tests : (most states : ℕ) (a : Area) (s : SizeModel) (channel : ChannelModel)
+    → true ≡ (between (pos 1) (pos most) a.width && (between (pos 1) (pos most) a.height && between (pos 0) (pos 1000) a.rate))
+    → s ≡ record { width = nat_abs a.width; height = nat_abs a.height } → channel ≡ drawn s.width s.height (area_shown a).solid
+    → is_area_in_range most states (area_shown a) ≡ (list_all (λ v. fits s.width s.height (rectangle_of (view v))) a.solid.now && can_stand states channel a.particles.now)
+in_range-tests most states a s channel size made is =
+    let w = nat_abs a.width in
+    let h = nat_abs a.height in
+    let rs = (area_shown a).solid in
+    rest_decides (between (pos 1) (pos most) a.width) (between (pos 1) (pos most) a.height) (between (pos 0) (pos 1000) a.rate) _ size
+    ∙ sym (ap₂ (λ f p. f && p)
+    (ap (λ (t : SizeModel). list_all (λ v. fits t.width t.height (rectangle_of (view v))) a.solid.now) made ∙ fits-views w h a.solid.now)
+    (ap (λ k. can_stand states k a.particles.now) (is ∙ ap (λ (t : SizeModel). drawn t.width t.height rs) made) ∙ can_stand-drawn states w h rs a.particles.now))

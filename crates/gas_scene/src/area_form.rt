@@ -1,15 +1,14 @@
 //! The lattice of an area.
 
-ghost use Rattle.std.specs.Prelude.{◌≡◌, ℕ, ◌^◌, ◌≤◌, Bool, true, map, pos, nat_abs, IfOk, ◌≤ℤ◌};
+ghost use Rattle.std.specs.Prelude.{◌≡◌, ℕ, ◌^◌, Bool, true, map, IfOk};
 ghost use Rattle.std.specs.List.{list_all};
 ghost use Rattle.toml.specs.View.{view};
 ghost use Rattle.gas_geom.specs.Size.{IsSize};
-ghost use Rattle.gas_geom.specs.declared.size.TheConstants.{MOST_SIDE};
 ghost use Rattle.gas_layout.specs.Layout.{fits, drawn, lattice_of, placed};
 ghost use Rattle.gas_scene.specs.Table.{rectangle_of, placement_of};
 ghost use Rattle.gas_scene.specs.Scene.{area_lattice};
 ghost use Rattle.gas_scene.specs.Inner.Shown.{area_shown};
-ghost use Rattle.gas_scene.specs.Inner.Areas.{can_stand};
+ghost use Rattle.gas_scene.specs.Inner.Areas.{can_stand, IsDrawn};
 
 use crate::any_lattice;
 use crate::catalog::{AnyLattice, KnownGas};
@@ -25,6 +24,14 @@ use gas_rows::channel::Channel;
 use gas_rows::lattice::Lattice;
 use std::alloc::{AllocError, Global};
 use toml::Value;
+
+/// An area whose values are all in their ranges, its channel with its rectangles, and its rate.
+#[derive(Drop)]
+pub struct DrawnArea<'a> {
+    pub area: Area<'a>,
+    pub channel: Channel,
+    pub rate: u32,
+}
 
 // Returns whether each rectangle has cells, all of them in the area.
 fn are_rectangles(values: &[Value], size: Size) -> bool
@@ -70,121 +77,81 @@ fn place_all<G: Gas>(lattice: &mut Lattice<G>, particles: &[Value])
     }
 }
 
-// The rate of filling, in thousandths.
-fn rate(area: &Area) -> u32
-    requires some { pos 0 ≤ℤ area.now.rate }
-    requires few { area.now.rate ≤ℤ pos 1000 }
-    ensures { result ≡ nat_abs area.now.rate }
-{
-    area.rate as u32
-}
-
-// The lattice of an area whose rectangles are drawn.
+// The lattice of an area that is drawn.
 fn area_lattice<G: Gas>(
     alloc: Global,
-    channel: Channel,
-    area: &Area,
+    drawn: DrawnArea,
     seed: u64,
 ) -> Result<Lattice<G>, AllocError>
-    requires size { IsSize (nat_abs area.now.width) (nat_abs area.now.height) }
-    requires drawn { channel
-        ≡ drawn (nat_abs area.now.width) (nat_abs area.now.height) (area_shown area.now).solid }
-    requires can { can_stand (2 ^ G.rules.dirs) channel area.now.particles.now ≡ true }
-    requires some { pos 0 ≤ℤ area.now.rate }
-    requires few { area.now.rate ≤ℤ pos 1000 }
-    ensures { IfOk result (λ l. l ≡ area_lattice G.rules seed (area_shown area.now)) }
+    requires { IsDrawn (2 ^ G.rules.dirs) drawn }
+    ensures { IfOk result (λ l. l ≡ area_lattice G.rules seed (area_shown drawn.entry.area)) }
 {
-    let mut lattice = Lattice::blank(alloc, channel)?;
-    fill(alloc, &mut lattice, seed, rate(area))?;
-    place_all(&mut lattice, area.particles);
+    let mut lattice = Lattice::blank(alloc, drawn.channel)?;
+    fill(alloc, &mut lattice, seed, drawn.rate)?;
+    place_all(&mut lattice, drawn.area.particles);
     Ok(lattice)
 }
 
-impl Area<'_> {
-    ghost use Rattle.std.specs.Prelude.{◌≡◌, ◌⊎◌, ◌^◌, ◌≤◌, ◌&&◌, true, false, is_some, pos, nat_abs, IfSome, IfOk, IfErr, ◌≤ℤ◌};
-    ghost use Rattle.gas_geom.specs.Size.{IsSize};
+impl<'a> Area<'a> {
+    ghost use Rattle.std.specs.Prelude.{◌≡◌, ◌⊎◌, ◌^◌, ◌≤◌, ◌&&◌, true, false, is_some, pos, nat_abs, IfSome, IfOk, IfErr};
     ghost use Rattle.gas_geom.specs.declared.size.TheConstants.{MOST_SIDE};
+    ghost use Rattle.gas_layout.specs.Layout.{between};
     ghost use Rattle.gas_scene.specs.Catalog.{rules_of, gas_lattice};
-    ghost use Rattle.gas_layout.specs.Layout.{between, drawn};
     ghost use Rattle.gas_scene.specs.declared.error.SceneError.TheVariants.{Range, Memory};
     ghost use Rattle.gas_scene.specs.Refusals.{is_area_in_range};
     ghost use Rattle.gas_scene.specs.Scene.{area_lattice};
     ghost use Rattle.gas_scene.specs.Inner.Shown.{area_shown};
-    ghost use Rattle.gas_scene.specs.Inner.Areas.{can_stand};
+    ghost use Rattle.gas_scene.specs.Inner.Areas.{IsDrawn};
 
-    // The size, with sides of at most `most` cells.
-    fn size(&self, most: u32) -> Option<Size>
+    // Returns the size of the area if its sides and its rate are in their ranges.
+    fn size(self, most: u32) -> Option<Size>
         requires { most ≤ MOST_SIDE }
-        ensures within { is_some result ≡ (between (pos 1) (pos most) self.now.width
-            && between (pos 1) (pos most) self.now.height) }
+        ensures within { is_some result ≡ (between (pos 1) (pos most) self.entry.width
+            && (between (pos 1) (pos most) self.entry.height
+            && between (pos 0) (pos 1000) self.entry.rate)) }
         ensures made { IfSome result (λ s. s ≡ record {
-          width = nat_abs self.now.width;
-          height = nat_abs self.now.height;
+          width = nat_abs self.entry.width;
+          height = nat_abs self.entry.height;
         }) }
     {
+        if !is_between(0, 1000, self.rate) {
+            return None;
+        }
         size_within(most, self.width, self.height)
     }
 
-    // Returns whether the rate is 0 to 1000.
-    fn has_rate(&self) -> bool
-        ensures { result ≡ between (pos 0) (pos 1000) self.now.rate }
-    {
-        is_between(0, 1000, self.rate)
-    }
-
-    // The channel of the area with its rectangles, where all values are in their ranges.
-    fn channel(&self, alloc: Global, most: u32, states: u16) -> Result<Channel, SceneError>
+    // Draws the area, or refuses it if a value is out of its range.
+    fn check(self, alloc: Global, most: u32, states: u16) -> Result<DrawnArea<'a>, SceneError>
         requires { most ≤ MOST_SIDE }
         ensures refused { IfErr result (λ e.
-            ((is_area_in_range most states (area_shown self.now) ≡ false) × (e ≡ Range))
+            ((is_area_in_range most states (area_shown self.entry) ≡ false) × (e ≡ Range))
             ⊎ (e ≡ Memory)) }
-        ensures accepted { IfOk result (λ c.
-            is_area_in_range most states (area_shown self.now) ≡ true) }
-        ensures drawn { IfOk result (λ c.
-            c ≡ drawn (nat_abs self.now.width) (nat_abs self.now.height)
-            (area_shown self.now).solid) }
-        ensures can { IfOk result (λ c. can_stand states c self.now.particles.now ≡ true) }
+        ensures accepted { IfOk result (λ d.
+            is_area_in_range most states (area_shown self.entry) ≡ true) }
+        ensures area { IfOk result (λ d. d.area ≡ self.entry) }
+        ensures drawn { IfOk result (λ d. IsDrawn states d) }
     {
         let Some(size) = self.size(most) else {
             return Err(SceneError::Range);
         };
-        if !self.has_rate() || !are_rectangles(self.solid, size) {
+        if !are_rectangles(self.solid, size) {
             return Err(SceneError::Range);
         }
         let channel = draw(alloc, size, self.solid)?;
         if !are_placements(self.particles, &channel, states) {
             return Err(SceneError::Range);
         }
-        Ok(channel)
-    }
-
-    // The lattice of a gas on the channel of the area.
-    fn build(
-        &self,
-        alloc: Global,
-        gas: KnownGas,
-        channel: Channel,
-        seed: u64,
-    ) -> Result<AnyLattice, AllocError>
-        requires size { IsSize (nat_abs self.now.width) (nat_abs self.now.height) }
-        requires drawn { channel
-            ≡ drawn (nat_abs self.now.width) (nat_abs self.now.height)
-            (area_shown self.now).solid }
-        requires can { can_stand (2 ^ (rules_of gas).dirs) channel self.now.particles.now ≡ true }
-        requires some { pos 0 ≤ℤ self.now.rate }
-        requires few { self.now.rate ≤ℤ pos 1000 }
-        ensures { IfOk result (λ l. gas_lattice l ≡ record {
-          gas = gas;
-          lattice = area_lattice (rules_of gas) seed (area_shown self.now);
-        }) }
-    {
-        Ok(any_lattice!(gas, area_lattice(alloc, channel, self, seed)?))
+        Ok(DrawnArea {
+            area: self,
+            channel,
+            rate: self.rate as u32,
+        })
     }
 
     /// The lattice of the area, with sides of at most `most` cells, or that a value is out of
     /// range.
     pub(crate) fn lattice(
-        &self,
+        self,
         alloc: Global,
         gas: KnownGas,
         most: u32,
@@ -192,16 +159,16 @@ impl Area<'_> {
     ) -> Result<AnyLattice, SceneError>
         requires { most ≤ MOST_SIDE }
         ensures refused { IfErr result (λ e.
-            ((is_area_in_range most (2 ^ (rules_of gas).dirs) (area_shown self.now) ≡ false)
+            ((is_area_in_range most (2 ^ (rules_of gas).dirs) (area_shown self.entry) ≡ false)
             × (e ≡ Range)) ⊎ (e ≡ Memory)) }
         ensures accepted { IfOk result (λ l.
-            is_area_in_range most (2 ^ (rules_of gas).dirs) (area_shown self.now) ≡ true) }
+            is_area_in_range most (2 ^ (rules_of gas).dirs) (area_shown self.entry) ≡ true) }
         ensures value { IfOk result (λ l. gas_lattice l ≡ record {
           gas = gas;
-          lattice = area_lattice (rules_of gas) seed (area_shown self.now);
+          lattice = area_lattice (rules_of gas) seed (area_shown self.entry);
         }) }
     {
-        let channel = self.channel(alloc, most, gas.states())?;
-        Ok(self.build(alloc, gas, channel, seed)?)
+        let drawn = self.check(alloc, most, gas.states())?;
+        Ok(any_lattice!(gas, area_lattice(alloc, drawn, seed)?))
     }
 }

@@ -8,12 +8,12 @@ use Rattle.gas_scene.proofs.area_form.area_lattice.Goals as goal
 pub returns : goal.returns
 returns g c =
     let gas = g.G.Gas.rules in
-    let a = area_shown c.args.area.now in
+    let a = area_shown c.args.drawn.area in
     let w = nat_abs a.width in
     let h = nat_abs a.height in
     let solid : ℕ → ℕ → Bool = λ x y. is_covered a.solid (pos x) (pos y) in
     let made : c.in_ok-lattice.lattice.channel ≡ channel_of w h solid =
-    ap (λ (l : LatticeModel). l.channel) c.in_ok-lattice.ensures.value ∙ c.requires.drawn in
-    c.place_all.ensures w h solid (λ x y. if solid x y then 0 else filling gas c.args.seed c.rate.result w x y)
+    ap (λ (l : LatticeModel). l.channel) c.in_ok-lattice.ensures.value ∙ c.requires.channel in
+    c.place_all.ensures w h solid (λ x y. if solid x y then 0 else filling gas c.args.seed c.args.drawn.rate w x y)
     (c.in_ok-fill.ensures.cells w h solid made)
-    ∙ area_lattice-is gas c.args.seed c.rate.result a c.rate.ensures
+    ∙ area_lattice-is gas c.args.seed c.args.drawn.rate a c.requires.rate
