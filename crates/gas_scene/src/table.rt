@@ -1,14 +1,27 @@
 //! The table of a scene, its values as texts and numbers.
 
-ghost use Rattle.std.specs.Prelude.{◌≡◌, ◌||◌, codes};
-ghost use Rattle.std.specs.List.{list_any};
-ghost use Rattle.std.specs.Str.{bytes_eq};
-ghost use Rattle.gas_scene.specs.Keys.{keys, is_known};
+ghost use Rattle.std.specs.Prelude.{◌≡◌};
+ghost use Rattle.gas_scene.specs.Keys.{is_known};
 
 use crate::error::SceneError;
 use crate::typed::{integer, text, texts, tuples};
 use crate::values::Values;
 use toml::{Table, Value};
+
+// The keys of a scene.
+const KEYS: [&str; 11] = [
+    "version",
+    "generation",
+    "seed",
+    "gas",
+    "chirality",
+    "cells",
+    "width",
+    "height",
+    "rate",
+    "solid",
+    "particles",
+];
 
 /// An area: its size, its rectangles, its filling in thousandths, and its particles.
 #[derive(Clone, Copy)]
@@ -38,42 +51,11 @@ pub struct SceneTable<'a> {
     pub form: Form<'a>,
 }
 
-// Returns whether scenes of both forms have the key.
-fn is_common_key(key: &str) -> bool
-    ensures { result ≡ (bytes_eq key.now (codes "version")
-        || (bytes_eq key.now (codes "generation") || (bytes_eq key.now (codes "seed")
-        || (bytes_eq key.now (codes "gas") || bytes_eq key.now (codes "chirality"))))) }
-{
-    key == "version" || key == "generation" || key == "seed" || key == "gas" || key == "chirality"
-}
-
-// Returns whether scenes of one form have the key.
-fn is_form_key(key: &str) -> bool
-    ensures { result ≡ (bytes_eq key.now (codes "cells")
-        || (bytes_eq key.now (codes "width") || (bytes_eq key.now (codes "height")
-        || (bytes_eq key.now (codes "rate") || (bytes_eq key.now (codes "solid")
-        || bytes_eq key.now (codes "particles")))))) }
-{
-    key == "cells"
-        || key == "width"
-        || key == "height"
-        || key == "rate"
-        || key == "solid"
-        || key == "particles"
-}
-
-// Returns whether scenes have the key.
-fn is_key(key: &str) -> bool
-    ensures { result ≡ list_any (λ k. bytes_eq key.now k.0) keys }
-{
-    is_common_key(key) || is_form_key(key)
-}
-
-// Returns whether a scene of this version has the key.
+// Returns whether a scene of this version has the key: only version 2 has the generation.
 fn is_known(version: i64, key: &str) -> bool
     ensures { result ≡ is_known version key.now }
 {
-    is_key(key) && (version == 2 || key != "generation")
+    KEYS.iter().any(|known| key == *known) && (version == 2 || key != "generation")
 }
 
 impl<'a> Values<'a> {
