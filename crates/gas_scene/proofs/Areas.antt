@@ -16,11 +16,11 @@ use Rattle.gas_layout.specs.declared.rectangle.Rectangle.{Rectangle}
 use Rattle.gas_layout.specs.declared.placement.Placement.{Placement}
 use Rattle.gas_layout.specs.Layout.{between, is_covered, fits, is_index, can_place, drawn, lattice_of, filling, placed}
 use Rattle.gas_layout.proofs.Grids.{value-rows_of}
-use Rattle.gas_scene.specs.declared.table.Area.{Area}
+use Rattle.gas_scene.specs.declared.scene_table.Area.{Area}
 use Rattle.gas_scene.specs.Table.{AreaModel, rectangle_of, placement_of}
 use Rattle.gas_scene.specs.Refusals.{is_area_in_range}
 use Rattle.gas_scene.specs.Scene.{area_lattice}
-use Rattle.gas_scene.specs.Inner.Shown.{area_shown}
+use Rattle.gas_scene.specs.Inner.Models.{area_model}
 use Rattle.gas_scene.specs.Inner.Areas.{solid_in, can_stand}
 
 -- the first k values, and one more, as what they are read as
@@ -85,12 +85,12 @@ rest_decides false b c rest all = absurd (cc)
 -- whether an area with a size and a rate in range is in range, by the tests of its check
 pub in_range-tests : (most states : ℕ) (a : Area) (s : SizeModel) (channel : ChannelModel)
     → true ≡ (between (pos 1) (pos most) a.width && (between (pos 1) (pos most) a.height && between (pos 0) (pos 1000) a.rate))
-    → s ≡ record { width = nat_abs a.width; height = nat_abs a.height } → channel ≡ drawn s.width s.height (area_shown a).solid
-    → is_area_in_range most states (area_shown a) ≡ (list_all (λ v. fits s.width s.height (rectangle_of (view v))) a.solid.now && can_stand states channel a.particles.now)
+    → s ≡ record { width = nat_abs a.width; height = nat_abs a.height } → channel ≡ drawn s.width s.height (area_model a).solid
+    → is_area_in_range most states (area_model a) ≡ (list_all (λ v. fits s.width s.height (rectangle_of (view v))) a.solid.now && can_stand states channel a.particles.now)
 in_range-tests most states a s channel size made is =
     let w = nat_abs a.width in
     let h = nat_abs a.height in
-    let rs = (area_shown a).solid in
+    let rs = (area_model a).solid in
     rest_decides (between (pos 1) (pos most) a.width) (between (pos 1) (pos most) a.height) (between (pos 0) (pos 1000) a.rate) _ size
     ∙ sym (ap₂ (λ f p. f && p)
     (ap (λ (t : SizeModel). list_all (λ v. fits t.width t.height (rectangle_of (view v))) a.solid.now) made ∙ fits-views w h a.solid.now)

@@ -25,12 +25,12 @@ use Rattle.gas_scene.specs.Catalog.{rules_of, GasLattice}
 use Rattle.gas_scene.proofs.Names.{gas_named-self}
 use Rattle.gas_layout.specs.Layout.{between, lattice_of}
 use Rattle.gas_layout.proofs.Grids.{lattice_of-same}
-use Rattle.gas_scene.specs.declared.common.TheConstants.{LAST_GENERATION}
+use Rattle.gas_scene.specs.declared.common_values.TheConstants.{LAST_GENERATION}
 use Rattle.gas_scene.specs.declared.error.SceneError.TheVariants.{Range, RowLength, BadCell}
 use Rattle.gas_scene.specs.Table.{TableModel, table_of}
-use Rattle.gas_scene.specs.Refusals.{gas_of, is_misfit, row_length, bad_cell, map_refusal, is_common_in_range, value_refusal, refusal_of}
+use Rattle.gas_scene.specs.Refusals.{gas_of, has_wrong_length, row_length, bad_cell, map_refusal, is_common_in_range, value_refusal, refusal_of}
 use Rattle.gas_scene.specs.Scene.{map_cell, map_lattice, chirality_of, scene_of, table_answer}
-use Rattle.gas_scene.specs.Checkpoint.{name_and_seed, is_told, checkpoint_table}
+use Rattle.gas_scene.specs.Checkpoint.{name_and_seed, can_be_stated, checkpoint_table}
 use Rattle.gas_scene.specs.Inner.Maps.{row_at}
 use Rattle.gas_scene.proofs.Tables.{texts, with_rows, table_of-checkpoint, table_refusal-checkpoint}
 
@@ -68,7 +68,7 @@ chirality_of-name_and_seed Right = refl
 natural : (n : ℕ) → int_le (pos 0) (pos n) ≡ true
 natural n = grind (arith, ints)
 
-few_generations : (chirality : Chirality) (generation : ℕ) → is_told chirality generation ≡ true → between (pos 0) (pos LAST_GENERATION) (pos generation) ≡ true
+few_generations : (chirality : Chirality) (generation : ℕ) → can_be_stated chirality generation ≡ true → between (pos 0) (pos LAST_GENERATION) (pos generation) ≡ true
 few_generations chirality generation is =
     let few : generation ≤ LAST_GENERATION = leb-true generation LAST_GENERATION (and_parts _ (nat_le generation LAST_GENERATION) is).1 in
     grind (arith, ints)
@@ -108,7 +108,7 @@ module _ (gas : KnownGas) (l : LatticeModel) (whole : IsLattice (rules_of gas) l
       (rows_of-whole l.channel.width l.channel.height l.channel.solid false channel.high channel.wide)
       (rows_of-whole l.channel.width l.channel.height l.rows 0 whole.high whole.wide))
 
-  fits : (r : ℕ) → r < l.channel.height → is_misfit MOST_SIDE (length (row_at (texts l) 0)) (row_at (texts l) r) ≡ false
+  fits : (r : ℕ) → r < l.channel.height → has_wrong_length MOST_SIDE (length (row_at (texts l) 0)) (row_at (texts l) r) ≡ false
   fits r within =
       ap₂ (λ (n k : ℕ). not ((n % 2 == 0) && (nat_le 2 n && (nat_le n (2 * MOST_SIDE) && (n == k))))) (wide-texts r within) (wide-texts 0 channel.size.some_rows)
       ∙ fit l.channel.width channel.size.some_columns channel.size.few_columns
@@ -116,7 +116,7 @@ module _ (gas : KnownGas) (l : LatticeModel) (whole : IsLattice (rules_of gas) l
   lengths : row_length MOST_SIDE (texts l) ≡ None
   lengths =
       ap (option_map (λ r. RowLength r))
-      (no_position (is_misfit MOST_SIDE (length (row_at (texts l) 0))) (texts l) [] (λ r within. fits r (omega (arith, within, high-texts))))
+      (no_position (has_wrong_length MOST_SIDE (length (row_at (texts l) 0))) (texts l) [] (λ r within. fits r (omega (arith, within, high-texts))))
 
   columns : (r : ℕ) → r < l.channel.height → bad_column states (row_at (texts l) r) ≡ None
   columns r within = ap (bad_column states) (row-texts r within) ∙ bad_column-row_cells l.channel l.rows states r (λ x. whole.sets x r) few (λ x. whole.empty x r)
@@ -133,7 +133,7 @@ module _ (gas : KnownGas) (l : LatticeModel) (whole : IsLattice (rules_of gas) l
       (ap (λ n. between (pos 1) (pos MOST_SIDE) (pos n)) high-texts ∙ few_rows l.channel.height channel.size.some_rows channel.size.few_rows)
       ∙ ap₂ option_or lengths cells
 
-  module _ (chirality : Chirality) (generation : ℕ) (is : is_told chirality generation ≡ true) where
+  module _ (chirality : Chirality) (generation : ℕ) (is : can_be_stated chirality generation ≡ true) where
     abbrev here : GasLattice
     here = record { gas = gas; lattice = l }
 

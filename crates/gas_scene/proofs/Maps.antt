@@ -20,9 +20,9 @@ use Rattle.gas_layout.proofs.Steps.{before-here, before-other, before-none, befo
 use Rattle.gas_scene.specs.declared.error.SceneError.{SceneError}
 use Rattle.gas_scene.specs.declared.error.SceneError.TheVariants.{Range, RowLength}
 use Rattle.gas_scene.specs.Table.{text_of}
-use Rattle.gas_scene.specs.Refusals.{is_misfit, row_length, bad_cell, map_refusal}
+use Rattle.gas_scene.specs.Refusals.{has_wrong_length, row_length, bad_cell, map_refusal}
 use Rattle.gas_scene.specs.Scene.{map_cell, map_lattice}
-use Rattle.gas_scene.specs.Inner.Maps.{verdict, map_width, map_before, AreShort, IsMap, row_at}
+use Rattle.gas_scene.specs.Inner.Maps.{as_result, map_width, map_before, AreShort, IsMap, row_at}
 use Rattle.gas_scene.proofs.Firsts.{none_passes, find-none, not_some}
 
 -- row r, by the value that stands there
@@ -174,13 +174,13 @@ module _ (states : ℕ) (rows : List (List ℕ)) where
       (λ u k _ in_column. if_same (nat_lt k (length rows)) true (state_at u k) 0 (before-all (length rows) k in_column))
 
 -- verdicts, and what they tell
-pub verdict-none : (o : Option SceneError) → verdict o ≡ Ok tt → o ≡ None
-verdict-none None ok = refl
-verdict-none (Some e) ok = absurd (cc)
+pub as_result-none : (o : Option SceneError) → as_result o ≡ Ok tt → o ≡ None
+as_result-none None ok = refl
+as_result-none (Some e) ok = absurd (cc)
 
-pub verdict-some : (o : Option SceneError) (e : SceneError) → verdict o ≡ Err e → o ≡ Some e
-verdict-some None e refused = absurd (cc)
-verdict-some (Some f) e refused = cc
+pub as_result-some : (o : Option SceneError) (e : SceneError) → as_result o ≡ Err e → o ≡ Some e
+as_result-some None e refused = absurd (cc)
+as_result-some (Some f) e refused = cc
 
 pub map_refusal-values : (most states : ℕ) (vs : List Value) (b : Bool) → b ≡ between (pos 1) (pos most) (pos (length vs))
     → map_refusal most states (map text_of (map view vs))
@@ -196,7 +196,7 @@ not_false : (b : Bool) → not b ≡ false → b ≡ true
 not_false true e = refl
 not_false false e = sym e
 
-fitting : (most first : ℕ) (row : List ℕ) → is_misfit most first row ≡ false → (2 ≤ length row) × ((length row ≤ (2 * most)) × (length row ≡ first))
+fitting : (most first : ℕ) (row : List ℕ) → has_wrong_length most first row ≡ false → (2 ≤ length row) × ((length row ≤ (2 * most)) × (length row ≡ first))
 fitting most first row held =
     let whole = and_parts (length row % 2 == 0) _ (not_false _ held) in
     (grind (arith, nat_tests, whole.1), (grind (arith, nat_tests, whole.1), grind (arith, nat_tests, whole.1)))

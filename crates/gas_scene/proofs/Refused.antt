@@ -8,12 +8,12 @@ use Rattle.toml.specs.View.{members_view}
 use Rattle.toml.specs.declared.value.Value.{Value}
 use Rattle.gas_scene.specs.declared.error.SceneError.{SceneError}
 use Rattle.gas_scene.specs.declared.error.SceneError.TheVariants.{UnknownKey, Missing, WrongType, BothForms}
-use Rattle.gas_scene.specs.declared.values.Values.{Values}
+use Rattle.gas_scene.specs.declared.keys.Values.{Values}
 use Rattle.gas_scene.specs.Table.{integer_of}
 use Rattle.gas_scene.specs.Keys.{keys_all, is_known, is_typed}
 use Rattle.gas_scene.specs.Refusals.{table_refusal}
-use Rattle.gas_scene.specs.Inner.Values.{seen, AreValues}
-use Rattle.gas_scene.specs.Inner.Shown.{has_area_value, values_typed}
+use Rattle.gas_scene.specs.Inner.Values.{data_of, AreValues}
+use Rattle.gas_scene.specs.Inner.Models.{has_area_value, values_typed}
 
 pub list_all-keys : (test : List ℕ → Bool) (es : List (String Global × Value)) → list_all (λ k. test (string_bytes k)) (map (λ e. e.0) es) ≡ keys_all test (members_view es)
 list_all-keys test [] = refl
@@ -29,13 +29,13 @@ fault known both complete typed =
     else None
 
 abbrev pub has_both : Values → Bool
-has_both v = is_some (seen v.cells) && has_area_value v
+has_both v = is_some (data_of v.cells) && has_area_value v
 
 abbrev pub is_complete : Values → Bool
-is_complete v = is_some (seen v.gas) && (is_some (seen v.cells) || (is_some (seen v.width) && is_some (seen v.height)))
+is_complete v = is_some (data_of v.gas) && (is_some (data_of v.cells) || (is_some (data_of v.width) && is_some (data_of v.height)))
 
 abbrev pub version_in : Values → ℤ
-version_in v = option_map_or integer_of (seen v.version) (pos 1)
+version_in v = option_map_or integer_of (data_of v.version) (pos 1)
 
 pub table_refusal-values : (v : Values) (ms : Members) → AreValues v ms → (known : Bool) → known ≡ keys_all (is_known (version_in v)) ms
     → table_refusal ms ≡ fault known (has_both v) (is_complete v) (values_typed v)

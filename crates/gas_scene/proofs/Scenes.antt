@@ -11,7 +11,7 @@ use Rattle.gas_scene.specs.declared.error.SceneError.TheVariants.{Range, Memory}
 use Rattle.gas_scene.specs.Table.{TableModel, table_of}
 use Rattle.gas_scene.specs.Refusals.{gas_of, most_side, is_common_in_range, is_area_in_range, map_refusal, table_refusal, value_refusal, refusal_of}
 use Rattle.gas_scene.specs.Scene.{SceneModel, scene_of, table_answer}
-use Rattle.gas_scene.specs.Inner.Answers.{Gives}
+use Rattle.gas_scene.specs.Inner.Results.{ReturnsOrMemory}
 
 -- the values of a table out of the range that both forms share
 pub common-refused : (t : TableModel) → is_common_in_range t ≡ false → value_refusal t ≡ Some Range
@@ -60,14 +60,14 @@ unfolding table_answer
 table_answer-accepted ms is = ap (λ o. option_map_or Err o (Ok (scene_of (table_of ms)))) is
 
 -- what is answered for a table that is refused for its keys or types
-pub gives-refused : (ms : Members) (e : SceneError) (r : Result SceneModel SceneError) → table_refusal ms ≡ Some e → r ≡ Err e → Gives r (table_answer ms)
-gives-refused ms e r refused is = inl (is ∙ sym (table_answer-refused ms e (ap (λ o. option_or o (value_refusal (table_of ms))) refused)))
+pub answer-refused : (ms : Members) (e : SceneError) (r : Result SceneModel SceneError) → table_refusal ms ≡ Some e → r ≡ Err e → ReturnsOrMemory r (table_answer ms)
+answer-refused ms e r refused is = inl (is ∙ sym (table_answer-refused ms e (ap (λ o. option_or o (value_refusal (table_of ms))) refused)))
 
 -- and for one that is not
-pub gives : (ms : Members) (r : Result SceneModel SceneError) (t : TableModel) → table_refusal ms ≡ None → t ≡ table_of ms
-    → IfErr r (λ e. (value_refusal t ≡ Some e) ⊎ (e ≡ Memory)) → IfOk r (λ _. value_refusal t ≡ None) → IfOk r (λ s. s ≡ scene_of t) → Gives r (table_answer ms)
-gives ms (Ok s) t known same refused accepted value =
+pub answer-values : (ms : Members) (r : Result SceneModel SceneError) (t : TableModel) → table_refusal ms ≡ None → t ≡ table_of ms
+    → IfErr r (λ e. (value_refusal t ≡ Some e) ⊎ (e ≡ Memory)) → IfOk r (λ _. value_refusal t ≡ None) → IfOk r (λ s. s ≡ scene_of t) → ReturnsOrMemory r (table_answer ms)
+answer-values ms (Ok s) t known same refused accepted value =
     inl (ap Ok (value ∙ ap scene_of same) ∙ sym (table_answer-accepted ms (ap₂ option_or known (sym (ap value_refusal same) ∙ accepted))))
-gives ms (Err e) t known same (inl refused) accepted value =
+answer-values ms (Err e) t known same (inl refused) accepted value =
     inl (sym (table_answer-refused ms e (ap₂ option_or known (sym (ap value_refusal same) ∙ refused))))
-gives ms (Err e) t known same (inr memory) accepted value = inr (ap Err memory)
+answer-values ms (Err e) t known same (inr memory) accepted value = inr (ap Err memory)

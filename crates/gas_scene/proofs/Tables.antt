@@ -15,7 +15,7 @@ use Rattle.gas_scene.specs.Table.{TableModel, text_of, list_of, table_of}
 use Rattle.gas_scene.specs.Keys.{is_text, is_typed}
 use Rattle.gas_scene.specs.Refusals.{table_refusal}
 use Rattle.gas_scene.specs.Checkpoint.{name_and_seed, row_values, checkpoint_table}
-use Rattle.gas_scene.specs.Inner.Shown.{no_area}
+use Rattle.gas_scene.specs.Inner.Models.{no_area}
 use Rattle.gas_scene.specs.Inner.Printing.{insert_all}
 
 -- the rows of a lattice as texts

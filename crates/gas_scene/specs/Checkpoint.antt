@@ -17,8 +17,8 @@ name_and_seed Left = (codes "left", None)
 name_and_seed Right = (codes "right", None)
 
 -- whether a scene can have this chirality and this generation: a seed must be an integer of TOML
-abbrev pub is_told : Chirality → ℕ → Bool
-is_told chirality generation =
+abbrev pub can_be_stated : Chirality → ℕ → Bool
+can_be_stated chirality generation =
     option_map_or (λ seed. nat_lt seed (2 ^ 63)) (name_and_seed chirality).1 true && nat_le generation 1000000000000
 
 -- the texts of the rows, from the top

@@ -1,7 +1,7 @@
 -- Inner words: what functions of this crate promise one another. No public contract cites them.
 pub mod Values
-pub mod Shown
+pub mod Models
 pub mod Areas
 pub mod Maps
-pub mod Answers
+pub mod Results
 pub mod Printing

@@ -56,14 +56,14 @@ is_area_in_range most states a =
     && list_all (can_place states (nat_abs a.width) (nat_abs a.height) (is_covered a.solid)) a.particles)))
 
 -- whether a row's length is wrong: it must be the length of some whole cells, of at most `most`, and of the first row
-abbrev pub is_misfit : ℕ → ℕ → List ℕ → Bool
-is_misfit most first row =
+abbrev pub has_wrong_length : ℕ → ℕ → List ℕ → Bool
+has_wrong_length most first row =
     not ((length row % CHARACTERS == 0)
     && (nat_le CHARACTERS (length row) && (nat_le (length row) (CHARACTERS * most) && (length row == first))))
 
 -- the first row of a wrong length
 abbrev pub row_length : ℕ → List (List ℕ) → Option SceneError
-row_length most rows = option_map (λ r. RowLength r) (position (is_misfit most (length (slice_index_or rows 0 []))) rows)
+row_length most rows = option_map (λ r. RowLength r) (position (has_wrong_length most (length (slice_index_or rows 0 []))) rows)
 
 -- the first row in which no cell stands in some column, and the first such column
 abbrev pub bad_cell : ℕ → List (List ℕ) → Option SceneError

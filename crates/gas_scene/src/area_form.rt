@@ -7,14 +7,14 @@ ghost use Rattle.gas_geom.specs.Size.{IsSize};
 ghost use Rattle.gas_layout.specs.Layout.{fits, drawn, lattice_of, placed};
 ghost use Rattle.gas_scene.specs.Table.{rectangle_of, placement_of};
 ghost use Rattle.gas_scene.specs.Scene.{area_lattice};
-ghost use Rattle.gas_scene.specs.Inner.Shown.{area_shown};
+ghost use Rattle.gas_scene.specs.Inner.Models.{area_model};
 ghost use Rattle.gas_scene.specs.Inner.Areas.{can_stand, IsDrawn};
 
 use crate::any_lattice;
 use crate::catalog::{AnyLattice, KnownGas};
 use crate::error::SceneError;
-use crate::table::Area;
-use crate::typed::{placement, rectangle};
+use crate::scene_table::Area;
+use crate::toml_values::{placement, rectangle};
 use gas_geom::gas::Gas;
 use gas_geom::size::Size;
 use gas_layout::drawing::Drawing;
@@ -84,7 +84,7 @@ fn area_lattice<G: Gas>(
     seed: u64,
 ) -> Result<Lattice<G>, AllocError>
     requires { IsDrawn (2 ^ G.rules.dirs) drawn }
-    ensures { IfOk result (λ l. l ≡ area_lattice G.rules seed (area_shown drawn.entry.area)) }
+    ensures { IfOk result (λ l. l ≡ area_lattice G.rules seed (area_model drawn.entry.area)) }
 {
     let mut lattice = Lattice::blank(alloc, drawn.channel)?;
     fill(alloc, &mut lattice, seed, drawn.rate)?;
@@ -100,7 +100,7 @@ impl<'a> Area<'a> {
     ghost use Rattle.gas_scene.specs.declared.error.SceneError.TheVariants.{Range, Memory};
     ghost use Rattle.gas_scene.specs.Refusals.{is_area_in_range};
     ghost use Rattle.gas_scene.specs.Scene.{area_lattice};
-    ghost use Rattle.gas_scene.specs.Inner.Shown.{area_shown};
+    ghost use Rattle.gas_scene.specs.Inner.Models.{area_model};
     ghost use Rattle.gas_scene.specs.Inner.Areas.{IsDrawn};
 
     // Returns the size of the area if its sides and its rate are in their ranges.
@@ -124,10 +124,10 @@ impl<'a> Area<'a> {
     fn check(self, alloc: Global, most: u32, states: u16) -> Result<DrawnArea<'a>, SceneError>
         requires { most ≤ MOST_SIDE }
         ensures refused { IfErr result (λ e.
-            ((is_area_in_range most states (area_shown self.entry) ≡ false) × (e ≡ Range))
+            ((is_area_in_range most states (area_model self.entry) ≡ false) × (e ≡ Range))
             ⊎ (e ≡ Memory)) }
         ensures accepted { IfOk result (λ d.
-            is_area_in_range most states (area_shown self.entry) ≡ true) }
+            is_area_in_range most states (area_model self.entry) ≡ true) }
         ensures area { IfOk result (λ d. d.area ≡ self.entry) }
         ensures drawn { IfOk result (λ d. IsDrawn states d) }
     {
@@ -159,13 +159,13 @@ impl<'a> Area<'a> {
     ) -> Result<AnyLattice, SceneError>
         requires { most ≤ MOST_SIDE }
         ensures refused { IfErr result (λ e.
-            ((is_area_in_range most (2 ^ (rules_of gas).dirs) (area_shown self.entry) ≡ false)
+            ((is_area_in_range most (2 ^ (rules_of gas).dirs) (area_model self.entry) ≡ false)
             × (e ≡ Range)) ⊎ (e ≡ Memory)) }
         ensures accepted { IfOk result (λ l.
-            is_area_in_range most (2 ^ (rules_of gas).dirs) (area_shown self.entry) ≡ true) }
+            is_area_in_range most (2 ^ (rules_of gas).dirs) (area_model self.entry) ≡ true) }
         ensures value { IfOk result (λ l. gas_lattice l ≡ record {
           gas = gas;
-          lattice = area_lattice (rules_of gas) seed (area_shown self.entry);
+          lattice = area_lattice (rules_of gas) seed (area_model self.entry);
         }) }
     {
         let drawn = self.check(alloc, most, gas.states())?;

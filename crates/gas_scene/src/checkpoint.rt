@@ -10,11 +10,11 @@ ghost use Rattle.gas_cells.specs.Cells.{row_cells};
 ghost use Rattle.gas_scene.specs.Catalog.{rules_of, gas_lattice};
 ghost use Rattle.gas_scene.specs.declared.error.SceneError.TheVariants.{Memory, Range};
 ghost use Rattle.gas_scene.specs.Scene.{scene_of_text};
-ghost use Rattle.gas_scene.specs.Checkpoint.{name_and_seed, is_told, row_values, checkpoint_table};
+ghost use Rattle.gas_scene.specs.Checkpoint.{name_and_seed, can_be_stated, row_values, checkpoint_table};
 ghost use Rattle.gas_scene.specs.Inner.Printing.{gas_with, insert_member, insert_seed, insert_all};
 
 use crate::catalog::AnyLattice;
-use crate::common::LAST_GENERATION;
+use crate::common_values::LAST_GENERATION;
 use crate::error::SceneError;
 use crate::with_lattice;
 use gas_cells::cells::{CHARACTERS, row_block, row_blocks};
@@ -116,7 +116,7 @@ fn build_table(
     chirality: Chirality,
     generation: u64,
 ) -> Result<Table, AllocError>
-    requires { is_told chirality generation ≡ true }
+    requires { can_be_stated chirality generation ≡ true }
     ensures { IfOk result (λ t.
         table_view t ≡ insert_all gas.now (map view cells.items) chirality generation) }
 {
@@ -139,7 +139,7 @@ fn build_text<G: Gas>(
     chirality: Chirality,
     generation: u64,
 ) -> Result<String, AllocError>
-    requires told { is_told chirality generation ≡ true }
+    requires stated { can_be_stated chirality generation ≡ true }
     requires known { rules_of (gas_with G.rules) ≡ G.rules }
     ensures scene { IfOk result (λ s. scene_of_text (string_bytes s) ≡ Ok (record {
       lattice = record { gas = gas_with G.rules; lattice = lattice.now };
@@ -158,8 +158,8 @@ fn build_text<G: Gas>(
 }
 
 // Returns whether a scene can have this chirality and this generation.
-fn is_told(chirality: Chirality, generation: u64) -> bool
-    ensures { result ≡ is_told chirality generation }
+fn can_be_stated(chirality: Chirality, generation: u64) -> bool
+    ensures { result ≡ can_be_stated chirality generation }
 {
     let (_, seed) = name_and_seed(chirality);
     seed.is_none_or(|seed| seed < 1 << 63) && generation <= LAST_GENERATION
@@ -187,10 +187,10 @@ pub fn checkpoint(
     })) }
     ensures table { IfOk result (λ s. parse_document (string_bytes s)
         ≡ Some (checkpoint_table (gas_lattice lattice.now) chirality generation)) }
-    ensures range { (result ≡ Err Range) ↔ (is_told chirality generation ≡ false) }
+    ensures range { (result ≡ Err Range) ↔ (can_be_stated chirality generation ≡ false) }
     ensures errors { IfErr result (λ e. (e ≡ Range) ⊎ (e ≡ Memory)) }
 {
-    if !is_told(chirality, generation) {
+    if !can_be_stated(chirality, generation) {
         return Err(SceneError::Range);
     }
     let text = with_lattice!(

@@ -4,12 +4,12 @@
 mod area_form;
 pub mod catalog;
 pub mod checkpoint;
-mod common;
+mod common_values;
 pub mod error;
+mod keys;
 mod map_form;
 pub mod scene;
-mod table;
-mod typed;
-mod values;
+mod scene_table;
+mod toml_values;
 
 pub use crate::catalog::AnyLattice;

@@ -10,14 +10,14 @@ ghost use Rattle.gas_scene.specs.Catalog.{rules_of, gas_lattice};
 ghost use Rattle.gas_layout.specs.Layout.{between};
 ghost use Rattle.gas_scene.specs.declared.error.SceneError.TheVariants.{Memory};
 ghost use Rattle.gas_scene.specs.Table.{text_of};
-ghost use Rattle.gas_scene.specs.Refusals.{is_misfit, row_length, bad_cell, map_refusal};
+ghost use Rattle.gas_scene.specs.Refusals.{has_wrong_length, row_length, bad_cell, map_refusal};
 ghost use Rattle.gas_scene.specs.Scene.{map_lattice};
-ghost use Rattle.gas_scene.specs.Inner.Maps.{verdict, map_before, map_width, AreShort, IsMap, row_at};
+ghost use Rattle.gas_scene.specs.Inner.Maps.{as_result, map_before, map_width, AreShort, IsMap, row_at};
 
 use crate::any_lattice;
 use crate::catalog::{AnyLattice, KnownGas};
 use crate::error::SceneError;
-use crate::typed::text_of;
+use crate::toml_values::text_of;
 use gas_cells::cells::CHARACTERS;
 use gas_cells::reading::{bad_column, read_row};
 use gas_geom::gas::Gas;
@@ -50,8 +50,8 @@ fn is_height(most: u32, rows: usize) -> bool
 }
 
 // Returns whether the length of a row is wrong, where the first row has `first` characters.
-fn is_misfit(most: u32, first: usize, row: &[u8]) -> bool
-    ensures { result ≡ is_misfit most first row.now }
+fn has_wrong_length(most: u32, first: usize, row: &[u8]) -> bool
+    ensures { result ≡ has_wrong_length most first row.now }
 {
     let length = row.len();
     !(length % CHARACTERS == 0
@@ -61,11 +61,11 @@ fn is_misfit(most: u32, first: usize, row: &[u8]) -> bool
 }
 
 // The first row of a wrong length.
-fn first_misfit(most: u32, first: usize, rows: &[Value]) -> Option<usize>
-    ensures { result ≡ position (λ v. is_misfit most first (text_of (view v))) rows.now }
+fn first_of_wrong_length(most: u32, first: usize, rows: &[Value]) -> Option<usize>
+    ensures { result ≡ position (λ v. has_wrong_length most first (text_of (view v))) rows.now }
 {
     rows.iter()
-        .position(|row| is_misfit(most, first, row_of(row)))
+        .position(|row| has_wrong_length(most, first, row_of(row)))
 }
 
 // The first row in which no cell stands in some column.
@@ -80,9 +80,9 @@ fn first_bad_row(states: u16, rows: &[Value]) -> Option<usize>
 fn check_lengths(most: u32, rows: &[Value]) -> Result<(), SceneError>
     requires some { 1 ≤ length rows.now }
     requires few { length rows.now ≤ MOST_SIDE }
-    ensures { result ≡ verdict (row_length most (map text_of (map view rows.now))) }
+    ensures { result ≡ as_result (row_length most (map text_of (map view rows.now))) }
 {
-    match first_misfit(most, row(rows, 0).len(), rows) {
+    match first_of_wrong_length(most, row(rows, 0).len(), rows) {
         Some(r) => Err(SceneError::RowLength(r as u32)),
         None => Ok(()),
     }
@@ -91,7 +91,7 @@ fn check_lengths(most: u32, rows: &[Value]) -> Result<(), SceneError>
 // Refuses the first pair of characters that is no cell.
 fn check_cells(states: u16, rows: &[Value]) -> Result<(), SceneError>
     requires { AreShort (map text_of (map view rows.now)) }
-    ensures { result ≡ verdict (bad_cell states (map text_of (map view rows.now))) }
+    ensures { result ≡ as_result (bad_cell states (map text_of (map view rows.now))) }
 {
     match first_bad_row(states, rows) {
         Some(r) => {
@@ -167,7 +167,7 @@ fn map_lattice<G: Gas>(alloc: Global, rows: &[Value]) -> Result<Lattice<G>, Allo
 // Refuses rows that are no map.
 fn check(most: u32, states: u16, rows: &[Value]) -> Result<(), SceneError>
     requires { most ≤ MOST_SIDE }
-    ensures { result ≡ verdict (map_refusal most states (map text_of (map view rows.now))) }
+    ensures { result ≡ as_result (map_refusal most states (map text_of (map view rows.now))) }
 {
     if !is_height(most, rows.len()) {
         return Err(SceneError::Range);

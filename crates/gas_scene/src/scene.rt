@@ -4,14 +4,14 @@ ghost use Rattle.std.specs.Prelude.{◌≡◌, ◌⊎◌, Err};
 ghost use Rattle.toml.specs.View.{table_view};
 ghost use Rattle.gas_scene.specs.declared.error.SceneError.TheVariants.{Memory};
 ghost use Rattle.gas_scene.specs.Scene.{table_answer, scene_of_text};
-ghost use Rattle.gas_scene.specs.Inner.Answers.{Gives};
+ghost use Rattle.gas_scene.specs.Inner.Results.{ReturnsOrMemory};
 
 use crate::catalog::AnyLattice;
-use crate::common::CommonValues;
-pub use crate::common::LAST_GENERATION;
+use crate::common_values::CommonValues;
+pub use crate::common_values::LAST_GENERATION;
 use crate::error::SceneError;
 use crate::map_form;
-use crate::table::{Form, SceneTable};
+use crate::scene_table::{Form, SceneTable};
 use gas_rows::chirality::Chirality;
 use std::alloc::Global;
 use std::marker::Model;
@@ -75,18 +75,18 @@ impl SceneTable<'_> {
     ghost use Rattle.gas_scene.specs.declared.error.SceneError.TheVariants.{Memory};
     ghost use Rattle.gas_scene.specs.Scene.{scene_of};
     ghost use Rattle.gas_scene.specs.Refusals.{is_common_in_range, most_side, value_refusal};
-    ghost use Rattle.gas_scene.specs.Inner.Shown.{shown};
+    ghost use Rattle.gas_scene.specs.Inner.Models.{table_model};
 
     // The lattice of the map or of the area, or its first fault.
     fn lattice(&self, alloc: Global, common: CommonValues) -> Result<AnyLattice, SceneError>
-        requires common { is_common_in_range (shown self.now) ≡ true }
+        requires common { is_common_in_range (table_model self.now) ≡ true }
         requires gas { gas_named self.now.gas.now ≡ Some common.gas }
         requires seed { common.seed ≡ nat_abs self.now.seed }
         requires most { common.most_side ≡ most_side self.now.version }
         ensures refused { IfErr result (λ e.
-            (value_refusal (shown self.now) ≡ Some e) ⊎ (e ≡ Memory)) }
-        ensures accepted { IfOk result (λ l. value_refusal (shown self.now) ≡ None) }
-        ensures value { IfOk result (λ l. gas_lattice l ≡ (scene_of (shown self.now)).lattice) }
+            (value_refusal (table_model self.now) ≡ Some e) ⊎ (e ≡ Memory)) }
+        ensures accepted { IfOk result (λ l. value_refusal (table_model self.now) ≡ None) }
+        ensures value { IfOk result (λ l. gas_lattice l ≡ (scene_of (table_model self.now)).lattice) }
     {
         match self.form {
             Form::Map(rows) => map_form::lattice(alloc, common.gas, common.most_side, rows),
@@ -97,9 +97,9 @@ impl SceneTable<'_> {
     // The scene, or the first fault of the values.
     fn scene(&self, alloc: Global) -> Result<Scene, SceneError>
         ensures refused { IfErr result (λ e.
-            (value_refusal (shown self.now) ≡ Some e) ⊎ (e ≡ Memory)) }
-        ensures accepted { IfOk result (λ s. value_refusal (shown self.now) ≡ None) }
-        ensures value { IfOk result (λ s. s ≡ scene_of (shown self.now)) }
+            (value_refusal (table_model self.now) ≡ Some e) ⊎ (e ≡ Memory)) }
+        ensures accepted { IfOk result (λ s. value_refusal (table_model self.now) ≡ None) }
+        ensures value { IfOk result (λ s. s ≡ scene_of (table_model self.now)) }
     {
         match self.common_values() {
             Some(common) => Ok(Scene {
@@ -114,7 +114,7 @@ impl SceneTable<'_> {
 
 // The scene of a table, or its first fault.
 fn read_table(alloc: Global, table: &Table) -> Result<Scene, SceneError>
-    ensures { Gives result (table_answer (table_view table.now)) }
+    ensures { ReturnsOrMemory result (table_answer (table_view table.now)) }
 {
     let table = SceneTable::of(table)?;
     table.scene(alloc)

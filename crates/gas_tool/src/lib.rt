@@ -24,7 +24,7 @@ pub use gas_tool_io::blocks::{Block, coarse};
 pub use gas_tool_io::input::{LONGEST_INPUT, slurp};
 pub use gas_tool_io::replay::write_replay;
 pub use gas_tool_io::table::write_table;
-pub use gas_tool_io::text::{write_cells, write_check};
+pub use gas_tool_io::text::{write_cells, write_summary};
 pub use gas_tool_io::{blocks, input, table, text};
 pub use gas_tool_perform::resume::resumed_runs;
 pub use gas_tool_perform::{perform, resume};

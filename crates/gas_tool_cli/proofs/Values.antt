@@ -9,17 +9,17 @@ use Rattle.clap.specs.declared.parser.matches.Found.{Found}
 use Rattle.clap.proofs.WalkLemmas.{one_text-rows}
 use Rattle.gas_tool_cli.specs.Requests.{IsNumber, IsNumberAt}
 
--- what `get_one` says of a number that it gives
-abbrev Gives : ℕ → List ℕ → Result ℕ ParseIntError → Type 0
-Gives bits bs r = ParsesUnsigned bits 10 bs r × ExplainsUnsignedError 10 bs r × HasUnsignedDigitsIfOk bs r
+-- what `get_one` says of a number that it returns
+abbrev ParsesNumber : ℕ → List ℕ → Result ℕ ParseIntError → Type 0
+ParsesNumber bits bs r = ParsesUnsigned bits 10 bs r × ExplainsUnsignedError 10 bs r × HasUnsignedDigitsIfOk bs r
 
 number_by : (bits : ℕ) (f : Found) (id : List ℕ) (n : ℕ) (o : Option Text) → one_text f id ≡ o
-    → (o ≡ None → Some n ≡ None) → ((t : List ℕ) → o ≡ Some t → ReadsOne (Gives bits) t (Some n)) → IsSomeAnd o (λ text. IsNumber bits text n)
+    → (o ≡ None → Some n ≡ None) → ((t : List ℕ) → o ≡ Some t → ReadsOne (ParsesNumber bits) t (Some n)) → IsSomeAnd o (λ text. IsNumber bits text n)
 number_by bits f id n None e none value = absurd (let bad : Some n ≡ None = none refl in cc)
 number_by bits f id n (Some t) e none value = (value t refl).0
 
 pub number_at : (bits : ℕ) (f : Found) (id : List ℕ) (n : ℕ)
-    → (one_text f id ≡ None → Some n ≡ None) → ((t : List ℕ) → one_text f id ≡ Some t → ReadsOne (Gives bits) t (Some n)) → IsNumberAt bits (rows_of f) id n
+    → (one_text f id ≡ None → Some n ≡ None) → ((t : List ℕ) → one_text f id ≡ Some t → ReadsOne (ParsesNumber bits) t (Some n)) → IsNumberAt bits (rows_of f) id n
 number_at bits f id n none value =
     subst (λ (o : Option Text). IsSomeAnd o (λ text. IsNumber bits text n)) (one_text-rows f id)
     (number_by bits f id n (one_text f id) refl none value)

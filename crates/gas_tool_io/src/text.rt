@@ -83,7 +83,7 @@ pub fn write_cells<G: Gas, W: Write>(
 }
 
 // Adds the line of a scene.
-fn put_check<W: Write>(
+fn put_summary_line<W: Write>(
     sink: &mut Sink,
     out: &mut W,
     gas: &str,
@@ -107,13 +107,13 @@ fn put_check<W: Write>(
 
 // Adds the line of the scene of a lattice.
 #[tactic(auto, unfolding(crate::specs::Text::check_text))]
-fn put_scene<G: Gas, W: Write>(sink: &mut Sink, out: &mut W, lattice: &Lattice<G>)
+fn put_summary<G: Gas, W: Write>(sink: &mut Sink, out: &mut W, lattice: &Lattice<G>)
     ensures { Adds (W.contents out.old) (W.contents out.new) sink.old sink.new
         (check_text G.rules lattice.now) }
 {
     let channel = lattice.channel();
     let size = channel.size();
-    put_check(
+    put_summary_line(
         sink,
         out,
         G::name(),
@@ -126,11 +126,11 @@ fn put_scene<G: Gas, W: Write>(sink: &mut Sink, out: &mut W, lattice: &Lattice<G
 /// Writes the line of a scene: the name of its gas, its width and its height in cells, and its
 /// numbers of solid cells and of particles. Then the writer is flushed once, with the faults of
 /// `write_cells`. It takes no memory.
-pub fn write_check<G: Gas, W: Write>(lattice: &Lattice<G>, out: &mut W) -> Result<(), WriteFault>
+pub fn write_summary<G: Gas, W: Write>(lattice: &Lattice<G>, out: &mut W) -> Result<(), WriteFault>
     ensures written { Writes (W.contents out.old) (W.contents out.new)
         (check_text G.rules lattice.now) result }
 {
     let mut sink = Sink::new();
-    put_scene(&mut sink, out, lattice);
+    put_summary(&mut sink, out, lattice);
     sink.finish(out)
 }

@@ -21,7 +21,7 @@ use gas_tool_cli::request::Request;
 use gas_tool_io::blocks::coarse;
 use gas_tool_io::replay::write_replay;
 use gas_tool_io::table::write_table;
-use gas_tool_io::text::{write_cells, write_check};
+use gas_tool_io::text::{write_cells, write_summary};
 use std::alloc::Global;
 use std::io::Write;
 use std::sync::Wait;
@@ -67,7 +67,7 @@ fn perform_on<G: Gas + Send, W: Write, H: Gate + Sync, R: Threads + Wait + Sync>
         (W.contents out.old) (W.contents out.new) result }
 {
     match request {
-        Request::Check => Ok(write_check(lattice, out)?),
+        Request::Check => Ok(write_summary(lattice, out)?),
         Request::Run {
             stages,
             capacity,

@@ -9,7 +9,7 @@ use Rattle.gas_geom.specs.Size.{IsSize}
 use Rattle.gas_layout.specs.Layout.{can_place, drawn}
 use Rattle.gas_scene.specs.declared.area_form.DrawnArea.{DrawnArea}
 use Rattle.gas_scene.specs.Table.{placement_of}
-use Rattle.gas_scene.specs.Inner.Shown.{area_shown}
+use Rattle.gas_scene.specs.Inner.Models.{area_model}
 
 -- whether a cell of a channel is solid
 abbrev pub solid_in : ChannelModel → ℤ → ℤ → Bool
@@ -23,7 +23,7 @@ can_stand states channel values =
 -- an area whose values are in their ranges: its rectangles are drawn, and its rate is read
 pub record IsDrawn (states : ℕ) (d : DrawnArea) : Type 0 where
   pub size : IsSize (nat_abs d.area.width) (nat_abs d.area.height)
-  pub channel : d.channel ≡ drawn (nat_abs d.area.width) (nat_abs d.area.height) (area_shown d.area).solid
+  pub channel : d.channel ≡ drawn (nat_abs d.area.width) (nat_abs d.area.height) (area_model d.area).solid
   pub can : can_stand states d.channel d.area.particles.now ≡ true
   pub rate : d.rate ≡ nat_abs d.area.rate
   pub few : d.rate ≤ 1000

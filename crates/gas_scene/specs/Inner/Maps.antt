@@ -11,8 +11,8 @@ use Rattle.gas_scene.specs.declared.error.SceneError.{SceneError}
 use Rattle.gas_scene.specs.Scene.{map_cell}
 
 -- what a check answers
-abbrev pub verdict : Option SceneError → Result (Unit {0}) SceneError
-verdict fault = option_map_or Err fault (Ok tt)
+abbrev pub as_result : Option SceneError → Result (Unit {0}) SceneError
+as_result fault = option_map_or Err fault (Ok tt)
 
 -- row r of a map
 abbrev pub row_at : List (List ℕ) → ℕ → List ℕ

@@ -24,7 +24,7 @@ returns-in-Ok-clause-scene g c =
     let few = subst (λ (r : Rules). 2 ^ r.dirs ≤ 256) (sym c.requires.known) (pow_mono g.met.G.Gas.laws.few_dirs) in
     scene_of_text-document (string_bytes c.in-Ok.text) ms (IsUtf8-string_bytes c.in-Ok.text) (c.in-Ok.ensures.reads_back (rw made (depth-checkpoint l c.args.generation c.args.chirality)))
     ∙ ap table_answer made
-    ∙ table_answer-checkpoint l.gas l.lattice whole c.row_values.ensures.channel few c.args.chirality c.args.generation c.requires.told
+    ∙ table_answer-checkpoint l.gas l.lattice whole c.row_values.ensures.channel few c.args.chirality c.args.generation c.requires.stated
 
 pub returns-in-Ok-clause-table : goal.returns-in-Ok-clause-table
 returns-in-Ok-clause-table g c =

@@ -6,7 +6,7 @@ use Rattle.gas_cells.specs.Reading.{bad_column}
 use Rattle.gas_scene.specs.declared.error.SceneError.{SceneError}
 use Rattle.gas_scene.specs.declared.error.SceneError.TheVariants.{BadCell}
 use Rattle.gas_scene.specs.Table.{text_of}
-use Rattle.gas_scene.specs.Inner.Maps.{verdict, row_at}
+use Rattle.gas_scene.specs.Inner.Maps.{as_result, row_at}
 use Rattle.gas_scene.proofs.Firsts.{position-rows}
 use Rattle.gas_scene.proofs.map_form.check_cells.Goals as goal
 
@@ -16,7 +16,7 @@ returns-in-Some c =
     let rows = map text_of (map view c.args.rows.now) in
     let here : ℕ → SceneError = λ r. BadCell r (unwrap_or (bad_column states (row_at rows r)) 0) in
     ap (λ k. Err (BadCell c.in-Some.r k)) (c.unwrap_or-c.ensures ∙ ap (λ o. unwrap_or o 0) (c.bad_column.ensures.value ∙ ap (bad_column states) c.row.ensures))
-    ∙ sym (ap (λ o. verdict (option_map here o))
+    ∙ sym (ap (λ o. as_result (option_map here o))
     (position-rows (λ row. is_some (bad_column states row)) c.args.rows.now ∙ sym c.first_bad_row.ensures ∙ c.in-Some.is))
 
 pub returns-in-None : goal.returns-in-None
@@ -24,5 +24,5 @@ returns-in-None c =
     let states = c.args.states in
     let rows = map text_of (map view c.args.rows.now) in
     let here : ℕ → SceneError = λ r. BadCell r (unwrap_or (bad_column states (row_at rows r)) 0) in
-    sym (ap (λ o. verdict (option_map here o))
+    sym (ap (λ o. as_result (option_map here o))
     (position-rows (λ row. is_some (bad_column states row)) c.args.rows.now ∙ sym c.first_bad_row.ensures ∙ c.in-None.is))

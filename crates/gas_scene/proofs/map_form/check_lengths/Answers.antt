@@ -4,21 +4,21 @@ use Rattle.std.specs.List.{position}
 use Rattle.toml.specs.View.{view}
 use Rattle.gas_scene.specs.declared.error.SceneError.TheVariants.{RowLength}
 use Rattle.gas_scene.specs.Table.{text_of}
-use Rattle.gas_scene.specs.Refusals.{is_misfit}
-use Rattle.gas_scene.specs.Inner.Maps.{verdict}
+use Rattle.gas_scene.specs.Refusals.{has_wrong_length}
+use Rattle.gas_scene.specs.Inner.Maps.{as_result}
 use Rattle.gas_scene.proofs.Firsts.{position-rows}
 use Rattle.gas_scene.proofs.map_form.check_lengths.Goals as goal
 
 pub returns-in-Some : goal.returns-in-Some
 returns-in-Some c =
     let rows = map text_of (map view c.args.rows.now) in
-    sym (ap (λ o. verdict (option_map (λ r. RowLength r) o))
-    (ap (λ n. position (is_misfit c.args.most n) rows) (ap length (sym c.row.ensures)) ∙ position-rows (is_misfit c.args.most _) c.args.rows.now
-    ∙ sym c.first_misfit.ensures ∙ c.in-Some.is))
+    sym (ap (λ o. as_result (option_map (λ r. RowLength r) o))
+    (ap (λ n. position (has_wrong_length c.args.most n) rows) (ap length (sym c.row.ensures)) ∙ position-rows (has_wrong_length c.args.most _) c.args.rows.now
+    ∙ sym c.first_of_wrong_length.ensures ∙ c.in-Some.is))
 
 pub returns-in-None : goal.returns-in-None
 returns-in-None c =
     let rows = map text_of (map view c.args.rows.now) in
-    sym (ap (λ o. verdict (option_map (λ r. RowLength r) o))
-    (ap (λ n. position (is_misfit c.args.most n) rows) (ap length (sym c.row.ensures)) ∙ position-rows (is_misfit c.args.most _) c.args.rows.now
-    ∙ sym c.first_misfit.ensures ∙ c.in-None.is))
+    sym (ap (λ o. as_result (option_map (λ r. RowLength r) o))
+    (ap (λ n. position (has_wrong_length c.args.most n) rows) (ap length (sym c.row.ensures)) ∙ position-rows (has_wrong_length c.args.most _) c.args.rows.now
+    ∙ sym c.first_of_wrong_length.ensures ∙ c.in-None.is))

@@ -1,12 +1,12 @@
 use Rattle.std.proofs.Common.{sym, subst, inl}
-use Rattle.gas_scene.specs.Inner.Answers.{Gives}
+use Rattle.gas_scene.specs.Inner.Results.{ReturnsOrMemory}
 use Rattle.gas_scene.proofs.Documents.{scene_of_text-document, scene_of_text-none}
 use Rattle.gas_scene.proofs.scene.read.Goals as goal
 
 pub returns-in-Ok : goal.returns-in-Ok
 returns-in-Ok c =
     record {
-      answer = subst (Gives c.read_table.result) (sym (scene_of_text-document c.args.text.now _ c.in-Ok.ensures.ok.0 c.in-Ok.ensures.ok.1)) c.read_table.ensures;
+      answer = subst (ReturnsOrMemory c.read_table.result) (sym (scene_of_text-document c.args.text.now _ c.in-Ok.ensures.ok.0 c.in-Ok.ensures.ok.1)) c.read_table.ensures;
     }
 
 pub returns-else-is_memory : goal.returns-else-is_memory

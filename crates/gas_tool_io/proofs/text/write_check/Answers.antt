@@ -1,4 +1,0 @@
-use Rattle.gas_tool_io.proofs.text.write_check.Goals as goal
-
-pub returns : goal.returns
-returns g c = record { written = c.finish.ensures _ _ (c.put_scene.ensures.adds _ _ (c.new-sink.ensures.empty _)) }
