@@ -1,4 +1,4 @@
-//! The request that the program's words make.
+//! The request of the program's words.
 
 ghost use Rattle.std.specs.Prelude.{◌≡◌, IfOk, IfErr, map};
 ghost use Rattle.std.specs.Result.{IsOkAnd};
@@ -16,7 +16,7 @@ use std::env::Args;
 use std::io;
 use std::io::ErrorKind;
 
-/// The request of all words that `env::args` gave, in their order. A word that is not UTF-8 is
+/// Returns the request of all words of `env::args`, in their order. A word that is not UTF-8 is
 /// wrong usage.
 pub(crate) fn read_request(alloc: Global, words: io::Result<Args>) -> Result<Request, UsageFault>
     ensures allowed { IfOk result IsAllowed }
@@ -32,7 +32,6 @@ pub(crate) fn read_request(alloc: Global, words: io::Result<Args>) -> Result<Req
     }
 }
 
-// The request of these words.
 fn request_of(alloc: Global, words: Args) -> Result<Request, UsageFault>
     ensures allowed { IfOk result IsAllowed }
     ensures request { IfOk result (IsRequestOf

@@ -22,7 +22,7 @@ use std::sync::Wait;
 use std::thread::Threads;
 use thiserror::Error;
 
-/// Why there is no answer.
+/// Why there is no whole answer.
 #[derive(Debug, Drop, Error)]
 enum Fault {
     #[error(transparent)]
@@ -43,14 +43,14 @@ impl Fault {
     }
 }
 
-// The answer to the program's words.
+// Answers the program's words.
 fn answer<R: Threads + Wait + Sync>(rt: &HostRuntime, threads: &R) -> Result<(), Fault> {
     let request = read_request(rt.alloc(), env::args(rt))?;
     tell_of_input(rt);
     answer_request(rt, threads, &request)
 }
 
-// The answer to a request on the scene on standard input.
+// Answers a request on the scene on standard input.
 fn answer_request<R: Threads + Wait + Sync>(
     rt: &HostRuntime,
     threads: &R,
@@ -62,7 +62,7 @@ fn answer_request<R: Threads + Wait + Sync>(
     Ok(answer_on(rt, threads, request, text.as_slice())?)
 }
 
-// The answer to a request on the scene of a text.
+// Answers a request on the scene of a text.
 fn answer_on<R: Threads + Wait + Sync>(
     rt: &HostRuntime,
     threads: &R,
@@ -82,8 +82,8 @@ fn answer_on<R: Threads + Wait + Sync>(
     )
 }
 
-// Prints a fault's line; the texts of help and usage have line feeds of their own. A failure to
-// print is ignored.
+// Prints a fault. The texts of help and usage have line feeds of their own. A failure to print is
+// ignored.
 fn tell(rt: &HostRuntime, fault: &Fault) {
     let _ = match fault {
         Fault::Usage(UsageFault::Help(text)) => print!(rt; "{text}"),

@@ -1,4 +1,4 @@
-//! A line of progress on standard error, where that is a terminal.
+//! A line of progress on standard error, if it is a terminal.
 
 use crate::terminal::are_errors_shown;
 use gas_pipe_run::gate::Gate;
@@ -7,25 +7,25 @@ use std::rt::{Clock, Files};
 use std::sync::atomic::{AtomicU64, Ordering};
 use std::time::Instant;
 
-// The fewest milliseconds from one writing of the line to the next.
+// The fewest milliseconds between two writings of the line.
 const LINE_MILLISECONDS: u64 = 100;
 
-// Back to the start of the line, which is wiped.
+// Goes back to the start of the line and wipes it.
 const WIPE: &str = "\r\x1b[K";
 
-// A run whose last worker's passes are counted: when it begins a pass, those before are over.
+// A run and the passes that its last worker has begun. If it begins one, all before it are over.
 #[derive(Drop)]
 struct Watched {
     stages: u32,
     generations: u64,
     begun: Instant,
     passes: AtomicU64,
-    // when the line was written last, 0 for never
+    // The milliseconds at which the line was last written, or 0.
     written: AtomicU64,
 }
 
 impl Watched {
-    // The run of a request, if it has one: a replay enters no gate.
+    // Returns the run of a request, if it has one: a replay enters no gate.
     fn of<R: Clock>(rt: &R, request: &Request) -> Option<Watched> {
         let (stages, generations) = match request {
             Request::Run {
@@ -49,13 +49,13 @@ impl Watched {
         })
     }
 
-    // The milliseconds that it has taken so far.
+    // Returns the milliseconds since the run began.
     fn milliseconds<R: Clock>(&self, rt: &R) -> Option<u64> {
         let elapsed = self.begun.elapsed(rt).ok()?;
         u64::try_from(elapsed.as_millis()).ok()
     }
 
-    // Counts a pass that begins, and rewrites the line where it is old enough.
+    // Counts a pass that begins, and rewrites the line if it is old enough.
     fn begin_pass<R: Clock + Eprint>(&self, rt: &R) {
         let passes = self.passes.fetch_add(1, Ordering::Relaxed);
         let now = self.milliseconds(rt).unwrap_or(0);
@@ -73,7 +73,7 @@ impl Watched {
         let _ = eprint!(rt; "{WIPE}{done} of {generations} generations ({share} %)");
     }
 
-    // Wipes the line, where there is one.
+    // Wipes the line, if there is one.
     fn wipe<R: Eprint>(&self, rt: &R) {
         if self.written.load(Ordering::Relaxed) > 0 {
             let _ = eprint!(rt; "{WIPE}");
@@ -82,8 +82,8 @@ impl Watched {
 }
 
 /// A gate that writes on standard error how many generations of a run are computed, and their share
-/// of all; nothing where standard error is no terminal. The line is wiped when the last worker
-/// leaves. A failure to print is ignored.
+/// of all. If standard error is no terminal, it writes nothing. The line is wiped when the last
+/// worker leaves. A failure to print is ignored.
 #[derive(Drop)]
 pub(crate) struct Progress<'a, R> {
     rt: &'a R,
@@ -91,7 +91,7 @@ pub(crate) struct Progress<'a, R> {
 }
 
 impl<'a, R: Files + Clock> Progress<'a, R> {
-    /// The gate of a request, before its run.
+    /// Returns the gate of a request, before its run.
     pub(crate) fn new(rt: &'a R, request: &Request) -> Self {
         let run = if are_errors_shown(rt) {
             Watched::of(rt, request)
@@ -103,7 +103,7 @@ impl<'a, R: Files + Clock> Progress<'a, R> {
 }
 
 impl<R> Progress<'_, R> {
-    // The run, if `who` is its last worker.
+    // Returns the run, if `who` is its last worker.
     fn run_of(&self, who: u32) -> Option<&Watched> {
         match &self.run {
             Some(run) if who == run.stages => Some(run),

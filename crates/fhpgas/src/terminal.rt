@@ -1,4 +1,4 @@
-//! Standard input and standard error, where they are terminals.
+//! Whether standard input and standard error are terminals.
 
 use std::fs;
 use std::os::unix::fs::{FileTypeExt, MetadataExt};
@@ -10,7 +10,7 @@ const INPUT: &str = "/proc/self/fd/0";
 // Its standard error.
 const ERRORS: &str = "/proc/self/fd/2";
 
-// Returns whether this is a terminal, by its device's number: Linux's list of devices has consoles
+// Returns whether this is a terminal, by its device's number. Linux's list of devices has consoles
 // and serial lines under 4 and 5, and pseudo terminals under 136 to 143.
 fn is_terminal<R: Files>(rt: &R, path: &str) -> bool {
     let Ok(metadata) = fs::metadata(rt, path) else {
@@ -25,7 +25,7 @@ pub(crate) fn are_errors_shown<R: Files>(rt: &R) -> bool {
     is_terminal(rt, ERRORS)
 }
 
-/// Prompts for a scene where standard input is a terminal. A failure to print is ignored.
+/// Prompts for a scene if standard input is a terminal. A failure to print is ignored.
 pub(crate) fn tell_of_input<R: Files + Eprint>(rt: &R) {
     if is_terminal(rt, INPUT) {
         let _ = eprintln!(rt; "fhpgas: type a scene, and end it by Ctrl-D on a line of its own");

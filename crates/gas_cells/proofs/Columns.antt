@@ -1,4 +1,4 @@
--- Lemmas on the first number that passes a test.
+-- Lemmas about the first number that passes a test.
 use Rattle.std.proofs.Common.{◌≡◌, ℕ, suc, ◌+◌, ◌-◌, ◌<◌, Bool, true, false, ◌&&◌, not, cond, Option, Some, None, is_none, ◌++◌, refl, ap, ◌∙◌, arith}
 use Rattle.std.specs.Prelude.{is_some}
 use Rattle.std.specs.List.{find, range_with_len}
@@ -27,7 +27,7 @@ pub none-next : (p : ℕ → Bool) (n : ℕ) (so_far here : Bool) → so_far ≡
 none-next p n so_far here e h =
     rw (e, h ∙ alone n (p n), find-split p n 1) (both_none (find p (range_with_len 0 n)) (find p (range_with_len n 1)))
 
--- what passes first after numbers of which none does
+-- what passes first, after numbers that do not pass
 pub find-first : (p : ℕ → Bool) (k n : ℕ) → find p (range_with_len 0 k) ≡ None → p k ≡ true → k < n → find p (range_with_len 0 n) ≡ Some k
 find-first p k n none here within =
     let more : n ≡ k + suc (n - suc k) = omega (arith, within) in
@@ -36,7 +36,7 @@ find-first p k n none here within =
 pub find-next : (p : ℕ → Bool) (n : ℕ) → find p (range_with_len 0 n) ≡ None → p n ≡ false → find p (range_with_len 0 (n + 1)) ≡ None
 find-next p n none here = find-split p n 1 ∙ rw (none, here) refl
 
--- an answer that is absent
+-- a result that is None
 pub absent : (o : Option ℕ) → is_none o ≡ true → None ≡ o
 absent None e = refl
 absent (Some x) e = absurd (false≢true e)

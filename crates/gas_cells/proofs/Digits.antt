@@ -1,4 +1,4 @@
--- Lemmas on reading cells: the value of a hexadecimal digit by ranges of characters, and the cell that two characters stand for by their values.
+-- Lemmas about reading cells: a digit's value by ranges of characters, and the cell of two characters by their values.
 use Rattle.std.proofs.Common.{◌≡◌, ℕ, ◌+◌, ◌-◌, ◌<◌, ◌≤◌, true, ◌&&◌, if◌then◌else◌, Option, Some, None, nat_eq, nat_le, refl, ap, arith}
 use Rattle.std.proofs.Common.{Bool, false, [], ◌∷◌, ◌*◌, ◌%◌, ◌||◌, ◌==◌, nat_lt, sym, subst}
 use Rattle.std.specs.Prelude.{is_some, IfSome}
@@ -56,7 +56,7 @@ pub digit_of-small : (b : ℕ) → b < 256 → unwrap_or (digit_of b) 0 < 16
 unfolding digit_of
 digit_of-small b h = ltb-true _ _ (agree_below_at (λ b. nat_lt (unwrap_or (digit_of b) 0) 16) (λ _. true) 256 b refl h)
 
--- the value of what may be a digit, by one that is 16 where it is none
+-- the value of a character that may be a digit, by a value that is 16 if it is none
 pub value-rest : (o : Option ℕ) → unwrap_or o 0 < 16 → unwrap_or o 16 % 16 ≡ unwrap_or o 0
 value-rest None small = refl
 value-rest (Some d) small = omega (arith, small)
@@ -129,7 +129,7 @@ empty_at a b marked =
     let second : b ≡ EMPTY_MARK = grind (arith, nat_tests, both) in
     rw (first, second) refl
 
--- a cell whose first character is another
+-- a cell with another first character
 pub cell_of-state : (states a b n : ℕ) → (a == SOLID_MARK) ≡ false → n ≡ unwrap_or (digit_of a) 0 * 16 + unwrap_or (digit_of b) 0
     → IfSome (cell_of states a b) (λ c. fluid n ≡ c)
 unfolding cell_of

@@ -1,4 +1,4 @@
--- Lemmas on texts of two characters a cell.
+-- Lemmas about texts of two characters per cell.
 use Rattle.std.proofs.Common.{◌≡◌, ℕ, zero, suc, ◌+◌, ◌-◌, ◌*◌, ◌/◌, ◌%◌, ◌<◌, ◌≤◌, ◌==◌, Bool, true, false, List, [], ◌∷◌, ◌++◌, length, get_or, set, take, drop, min, inl, inr, refl, sym, ap, ap₂, ◌∙◌, append_assoc, append-nil, length-append, length-set, arith}
 use Rattle.std.specs.Prelude.{if◌then◌else◌, codes}
 use Rattle.std.proofs.lemmas.Grind.{take-set_at, flat_map-append}
@@ -31,7 +31,7 @@ two_items (a ∷ []) long = absurd (omega (arith, long))
 two_items (a ∷ b ∷ []) long = refl
 two_items (a ∷ b ∷ c ∷ p) long = absurd (omega (arith, long))
 
--- two characters were written behind the first n
+-- two characters were written after the first n
 pub pair_written : (xs p : List ℕ) (n m k : ℕ) → m ≡ n + 1 → k ≡ n + 2 → m < length xs → length p ≡ 2
     → take k (set (set xs n (get_or p 0 0)) m (get_or p 1 0)) ≡ take n xs ++ p
 pair_written xs p n m k e f within long =
@@ -67,12 +67,12 @@ pairs-first f two a n m le =
     ap (λ k. take (2 * m) (texts f a k)) (let e : n ≡ m + (n - m) = omega (arith, le) in e)
     ∙ ap (take (2 * m)) (texts-split f a m (n - m)) ∙ take_at (texts f a m) _ (2 * m) (pairs-long f two a m)
 
--- of the pairs that were written the first ones
+-- the first of the pairs that were written
 pub pairs-cut : (f : ℕ → List ℕ) → ((b : ℕ) → length (f b) ≡ 2) → (xs : List ℕ) (n m : ℕ) → m ≤ n → take (2 * n) xs ≡ texts f 0 n → take (2 * m) xs ≡ texts f 0 m
 pairs-cut f two xs n m le written =
     sym (take-take (2 * m) (2 * n) xs (omega (arith, le))) ∙ ap (take (2 * m)) written ∙ pairs-first f two 0 n m le
 
--- the characters of a cell among those of its row
+-- the characters of a cell, among the characters of its row
 pub character : (f : ℕ → List ℕ) → ((b : ℕ) → length (f b) ≡ 2) → (n x k : ℕ) → x < n → k < 2 → get_or (texts f 0 n) (2 * x + k) 0 ≡ get_or (f x) k 0
 character f two n x k within few =
     let rest : ℕ = n - (x + 1) in
@@ -83,7 +83,7 @@ character f two n x k within few =
     ap₂ (λ (t : List ℕ) (i : ℕ). get_or t i 0) parts place ∙ get_or-append-add (texts f 0 x) _ k 0
     ∙ get_or_append_left (f x) _ 0 k (omega (arith, two x, few))
 
--- m pairs behind the first a, or as many as are left
+-- m pairs after the first a, or as many as are left
 pub pairs-part : (f : ℕ → List ℕ) → ((b : ℕ) → length (f b) ≡ 2) → (n a m k : ℕ) → a ≤ n → k ≡ min (n - a) m → take (2 * m) (drop (2 * a) (texts f 0 n)) ≡ texts f a k
 pairs-part f two n a m k le few =
     let behind : drop (2 * a) (texts f 0 n) ≡ texts f a (n - a) =
@@ -136,6 +136,6 @@ row_cells-part channel rows y a p n f le place few same =
     ∙ pairs-part g (λ x. cell_text-long (is_solid channel x y) (cell rows x y)) channel.width a 64 n le few
     ∙ sym (texts-same f g 0 a n (λ b h. ap f (let e : 0 + b ≡ b = omega arith in e) ∙ same b h))
 
--- of a row's characters one block more
+-- one more block of a row's characters
 pub blocks-next : (row : List ℕ) (j : ℕ) → take (128 * j) row ++ take 128 (drop (128 * j) row) ≡ take (128 * (j + 1)) row
 blocks-next row j = sym (take-add (128 * j) 128 row) ∙ ap (λ k. take k row) (let e : 128 * j + 128 ≡ 128 * (j + 1) = omega arith in e)

@@ -65,7 +65,7 @@ cell_of-if states state true empty below few is none = solid_read states ∙ ap 
 cell_of-if states state false true below few is none = empty_read states ∙ ap (λ s. Some (fluid s)) (sym (eqb-true state 0 is))
 cell_of-if states state false false below few is none = digits_read states state below few
 
--- the cells of a row of a lattice, of which solid ones are empty, are read back from its characters
+-- the cells of a row are read back from its characters, if its solid cells are empty
 pub cell_at-row_cells : (channel : ChannelModel) (rows : List (List ℕ)) (states x y : ℕ) → x < channel.width → cell rows x y < states → states ≤ 256
     → (is_solid channel x y ≡ true → cell rows x y ≡ 0)
     → cell_at states (row_cells channel rows y) x ≡ Some (record { solid = is_solid channel x y; state = cell rows x y })
@@ -83,7 +83,7 @@ no_find p (suc n) each =
     ap (λ m. find p (range_with_len 0 m)) (let e : suc n ≡ n + 1 = omega arith in e)
     ∙ find-next p n (no_find p n (λ k below. each k (omega (arith, below)))) (each n (omega arith))
 
--- and none of its columns is without a cell
+-- and each of its columns has a cell
 pub bad_column-row_cells : (channel : ChannelModel) (rows : List (List ℕ)) (states y : ℕ) → ((x : ℕ) → cell rows x y < states) → states ≤ 256
     → ((x : ℕ) → is_solid channel x y ≡ true → cell rows x y ≡ 0) → bad_column states (row_cells channel rows y) ≡ None
 bad_column-row_cells channel rows states y below few none =

@@ -1,4 +1,4 @@
--- Reading cells: what two characters stand for, and a row of them.
+-- Reading cells: the cell of two characters, and the cells of a row.
 use Rattle.std.specs.Prelude.{ℕ, ◌+◌, ◌*◌, ◌/◌, true, false, List, [], ◌∷◌, Option, Some, None, if◌then◌else◌, nat_lt, nat_eq, slice_index, length, position, codes}
 use Rattle.std.specs.Option.{is_none}
 use Rattle.std.specs.List.{find, range_with_len}
@@ -10,20 +10,20 @@ use Rattle.gas_cells.specs.declared.reading.Cell.{Cell}
 unfoldable pub digit_of : ℕ → Option ℕ
 digit_of b = position (λ d. nat_eq d b) (codes "0123456789abcdef")
 
--- the fluid cell with the state of two digits, where that is below the number of states
+-- the fluid cell with the state of two digits, if the state is below the number of states
 abbrev pub state_of : ℕ → Option ℕ → Option ℕ → Option Cell
 state_of states (Some high) (Some low) =
     if nat_lt (high * 16 + low) states then Some (record { solid = false; state = high * 16 + low }) else None
 state_of states _ _ = None
 
--- the cell that two characters stand for: `##` a solid one, `..` an empty one, else the fluid cell with the state of two digits
+-- the cell of two characters: `##` a solid one, `..` an empty one, else the fluid cell with the state of two digits
 unfoldable pub cell_of : ℕ → ℕ → ℕ → Option Cell
 cell_of states a b =
     if bytes_eq (a ∷ b ∷ []) (codes "##") then Some (record { solid = true; state = 0 })
     else if bytes_eq (a ∷ b ∷ []) (codes "..") then Some (record { solid = false; state = 0 })
     else state_of states (digit_of a) (digit_of b)
 
--- how many cells the characters of a row stand for
+-- the number of cells in the characters of a row
 abbrev pub cells_in : List ℕ → ℕ
 cells_in row = length row / CHARACTERS
 

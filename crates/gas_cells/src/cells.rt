@@ -1,4 +1,4 @@
-//! Writing cells: the two characters of a cell, and those of a row, block by block.
+//! Writing cells: the two characters of a cell, and the characters of a row, block by block.
 
 ghost use Rattle.std.specs.Prelude.{◌≡◌, ◌<◌, ◌≤◌, ◌*◌, ℕ, false, length, slice_index, take, drop};
 ghost use Rattle.std.specs.Fmt.{digit_glyph};
@@ -11,7 +11,7 @@ use gas_geom::gas::Gas;
 use gas_rows::lattice::Lattice;
 use std::marker::Model;
 
-/// The number of characters of a cell.
+/// The number of characters per cell.
 pub const CHARACTERS: usize = 2;
 
 fn hex_digit(digit: u8) -> u8
@@ -25,7 +25,7 @@ fn hex_digit(digit: u8) -> u8
     }
 }
 
-/// The two characters of a cell.
+/// Returns the two characters of a cell.
 pub fn cell_pair(solid: bool, state: u8) -> [u8; CHARACTERS]
     ensures text { result ≡ cell_text solid state }
 {
@@ -38,7 +38,7 @@ pub fn cell_pair(solid: bool, state: u8) -> [u8; CHARACTERS]
     }
 }
 
-// The characters of 64 cells, of their bits in a mask and their states.
+// Returns the characters of 64 cells, from their bits in a mask and their states.
 fn cell_pairs(solid: u64, states: [u8; 64]) -> [u8; CHARACTERS * 64]
     ensures { (cells : ℕ) → cells ≤ 64 → take (CHARACTERS * cells) result
         ≡ flat_map (λ b. cell_text (holds solid b) (slice_index states b))
@@ -53,7 +53,7 @@ fn cell_pairs(solid: u64, states: [u8; 64]) -> [u8; CHARACTERS * 64]
     pairs
 }
 
-/// A block of a row's characters: those of 64 cells, or of as many as are left.
+/// A block of a row: the characters of 64 cells, or of the last cells of the row.
 #[derive(Drop)]
 pub struct RowBlock {
     pairs: [u8; CHARACTERS * 64],
@@ -72,6 +72,7 @@ impl Model for RowBlock {
 }
 
 impl RowBlock {
+    /// Returns the characters of the block, two per cell.
     pub fn as_bytes(&self) -> &[u8]
         ensures value { result.now ≡ self.now }
         ensures short { length result.now ≤ 128 }
@@ -80,7 +81,7 @@ impl RowBlock {
     }
 }
 
-/// The number of blocks that the characters of a row of a lattice take.
+/// Returns the number of blocks in a row of a lattice.
 pub fn row_blocks<G: Gas>(lattice: &Lattice<G>) -> u32
     ensures blocks { result ≡ words_in lattice.now.channel.width }
     ensures all { (y : ℕ) →
@@ -89,7 +90,7 @@ pub fn row_blocks<G: Gas>(lattice: &Lattice<G>) -> u32
     lattice.channel().size().width().div_ceil(64)
 }
 
-/// The characters of row `y` of a lattice from `128 * j` on, 128 of them or as many as are left.
+/// Returns block `j` of row `y` of a lattice: the characters from `128 * j` on, at most 128.
 pub fn row_block<G: Gas>(lattice: &Lattice<G>, y: u32, j: u32) -> RowBlock
     requires row { y < lattice.now.channel.height }
     requires block { j < words_in lattice.now.channel.width }

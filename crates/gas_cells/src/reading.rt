@@ -1,4 +1,4 @@
-//! Reading cells: what their two characters stand for.
+//! Reading cells from their two characters.
 
 ghost use Rattle.std.specs.Prelude.{◌≡◌, ℕ, ◌+◌, ◌*◌, ◌<◌, [], ◌∷◌, false, length, slice_index, slice_index_or, is_some, IfSome};
 ghost use Rattle.std.specs.Option.{unwrap_or, is_none};
@@ -7,20 +7,20 @@ ghost use Rattle.gas_cells.specs.Reading.{digit_of, state_of, cell_of, cells_in,
 
 use crate::cells::CHARACTERS;
 
-// What stands twice for a solid cell.
+// A solid cell is this character twice.
 const SOLID_MARK: u8 = b'#';
 
-// What stands twice for an empty cell.
+// An empty cell is this character twice.
 const EMPTY_MARK: u8 = b'.';
 
-/// A cell: whether it is solid, and its state, which is 0 of a solid cell.
+/// A cell: whether it is solid, and its state. The state of a solid cell is 0.
 #[derive(Clone, Copy, Debug, PartialEq, Eq)]
 pub struct Cell {
     pub solid: bool,
     pub state: u8,
 }
 
-// The value of a lower-case hexadecimal digit, or 16.
+// Returns the value of a lower-case hexadecimal digit, or 16 for any other character.
 fn digit(byte: u8) -> u8
     ensures { result ≡ unwrap_or (digit_of byte) 16 }
 {
@@ -31,14 +31,14 @@ fn digit(byte: u8) -> u8
     }
 }
 
-// Whether both characters are the mark.
+// Returns whether both characters are the mark.
 fn is_marked(mark: u8, first: u8, second: u8) -> bool
     ensures { result ≡ bytes_eq (first ∷ second ∷ []) (mark ∷ mark ∷ []) }
 {
     (first == mark) & (second == mark)
 }
 
-// Whether two characters are digits of a state below `states`.
+// Returns whether two characters are the digits of a state below `states`.
 fn is_state(first: u8, second: u8, states: u16) -> bool
     ensures { result ≡ is_some (state_of states (digit_of first) (digit_of second)) }
 {
@@ -47,8 +47,8 @@ fn is_state(first: u8, second: u8, states: u16) -> bool
     (high < 16) & (low < 16) & (u16::from(high) * 16 + u16::from(low) < states)
 }
 
-// Whether two characters stand for a cell. Without branches (`&`, `|`), so that the loop over cells
-// vectorises.
+// Returns whether two characters are a cell. It has no branch (`&`, `|`), so that the loop over
+// cells vectorises.
 fn is_cell(first: u8, second: u8, states: u16) -> bool
     ensures { result ≡ is_some (cell_of states first second) }
 {
@@ -57,14 +57,14 @@ fn is_cell(first: u8, second: u8, states: u16) -> bool
         | is_state(first, second, states)
 }
 
-// The number of two digits, where what is no digit counts as 0.
+// Returns the number of two digits. Any other character counts as 0.
 fn two_digits(first: u8, second: u8) -> u8
     ensures { result ≡ unwrap_or (digit_of first) 0 * 16 + unwrap_or (digit_of second) 0 }
 {
     digit(first) % 16 * 16 + digit(second) % 16
 }
 
-// The cell that two characters stand for, where they do.
+// Returns the cell of two characters, if they are one.
 fn read(first: u8, second: u8) -> Cell
     ensures { (states : ℕ) → IfSome (cell_of states first second) (λ cell. result ≡ cell) }
 {
@@ -81,7 +81,7 @@ fn read(first: u8, second: u8) -> Cell
     }
 }
 
-// Whether a cell stands in each column of a row.
+// Returns whether each column of a row has a cell.
 fn are_cells(row: &[u8], states: u16) -> bool
     ensures { result ≡ is_none (bad_column states row.now) }
 {
@@ -92,12 +92,12 @@ fn are_cells(row: &[u8], states: u16) -> bool
     all
 }
 
-/// The first column of a row in which no cell stands, where states are below `states`.
+/// Returns the first column of a row that has no cell. States must be below `states`.
 pub fn bad_column(row: &[u8], states: u16) -> Option<usize>
     ensures value { result ≡ bad_column states row.now }
     ensures within { IfSome result (λ c. c < cells_in row.now) }
 {
-    // Only a row that has one is gone through cell by cell.
+    // Only a row with such a column is read a second time.
     if are_cells(row, states) {
         return None;
     }
@@ -109,8 +109,8 @@ pub fn bad_column(row: &[u8], states: u16) -> Option<usize>
     None
 }
 
-/// Reads which cells of a row are solid, and the states of all of them, in each column in which a
-/// cell stands.
+/// Reads the cells of a row: which of them are solid, and their states. It promises nothing about a
+/// column that has no cell.
 pub fn read_row(row: &[u8], solid: &mut [bool], state_of: &mut [u8])
     requires wide { length solid.old ≡ cells_in row.now }
     requires as_wide { length state_of.old ≡ cells_in row.now }

@@ -37,7 +37,7 @@ covers-strip : (w h : ℕ) (r : Rectangle) (x y : ℕ) → IsInside w h r
     → (nat_lt (first_row r) (y + 1) && reaches (strip_of r) x y) ≡ covers r (pos x) (pos y)
 covers-strip w h r x y inside = grind (arith, ints, nat_tests, inside.left, inside.wide, inside.top, inside.high)
 
--- a rectangle more: the strips of the rows, of which one is another, and the channel that they make
+-- one rectangle more: the strips of the rows, and the channel that they make
 module _ (w h : ℕ) (rows : List (Vec Strip Global)) (row d : Vec Strip Global) (r : Rectangle) (drawing : ChannelModel) (top : ℕ) (strip : Strip)
     (is : channel_of w h (is_drawn rows) ≡ drawing) (fitting : fits drawing.width drawing.height r ≡ true) (are : AreStrips w h rows)
     (first : top ≡ first_row r) (of : strip ≡ strip_of r) where

@@ -1,4 +1,4 @@
--- Filling: the states that it gives, and a lattice whose rows before one are filled.
+-- Filling: the states, and a lattice whose first rows are filled.
 use Rattle.std.proofs.Common.{◌≡◌, ℕ, zero, suc, ◌+◌, ◌^◌, ◌<◌, Bool, true, false, List, get_or, set, nat_lt, ap, sym, ◌∙◌, refl, arith, if◌then◌else◌}
 use Rattle.std.proofs.lemmas.Bool.Decides.{nat_tests}
 use Rattle.std.proofs.lemmas.List.FromFn.{get_or-map-range_with_len, length-map-range_with_len}

@@ -1,4 +1,4 @@
--- Lattices by what each of their cells holds, and a cell that is changed.
+-- Lattices by their cells, and a cell that changes.
 use Rattle.std.proofs.Common.{◌≡◌, ◌≢◌, ◌⊎◌, inl, inr, ℕ, ◌<◌, Bool, false, List, [], map, length, replicate, get_or, set, ap, ◌∙◌, sym, refl, arith, ⊎_elim, if◌then◌else◌}
 use Rattle.std.specs.List.{range_with_len}
 use Rattle.std.proofs.lemmas.Bool.{cases_eq}

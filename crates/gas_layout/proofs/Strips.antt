@@ -1,4 +1,4 @@
--- Rectangles by the rows in which they start.
+-- Rectangles by their first rows.
 use Rattle.std.proofs.Common.{◌≡◌, ℕ, zero, suc, ◌+◌, ◌<◌, ◌≤◌, ◌==◌, Bool, true, false, ◌||◌, ◌&&◌, List, [], ◌∷◌, ◌++◌, map, length, get_or, set, nat_lt, Vec, Global, ap, ap₂, sym, ◌∙◌, refl, arith, subst, ◌≢◌, ◌⊎◌, inl, inr, if◌then◌else◌, ⊎_elim}
 use mathlib.Core.Bool.{or-false}
 use Rattle.std.specs.Prelude.{All}
@@ -102,7 +102,7 @@ module _ (rows : List (Vec Strip Global)) (top : ℕ) (row d : Vec Strip Global)
 pub is_reached-next : (rows : List (Vec Strip Global)) (n x y : ℕ) → is_reached rows (n + 1) x y ≡ (is_reached rows n x y || list_any (λ s. reaches s x y) (strips_at rows n))
 is_reached-next rows n x y = let e : n + 1 ≡ suc n = omega arith in ap (λ m. is_reached rows m x y) e
 
--- the strips of a row that is as it was
+-- the strips of an unchanged row
 module _ (rows : List (Vec Strip Global)) (top : ℕ) (row d : Vec Strip Global) (within : top < length rows) (same : row.items ≡ (get_or rows top d).items) where
   strips_at-same : (y : ℕ) → strips_at (set rows top row) y ≡ strips_at rows y
   strips_at-same y =

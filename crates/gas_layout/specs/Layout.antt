@@ -10,14 +10,14 @@ use Rattle.gas_rows.specs.Key.{key_word}
 use Rattle.gas_layout.specs.declared.rectangle.Rectangle.{Rectangle}
 use Rattle.gas_layout.specs.declared.placement.Placement.{Placement}
 
--- whether a number is one of low up to high, and whether it is one of 0 up to below a limit
+-- whether a number is low to high, and whether it is at least 0 and below a limit
 abbrev pub between : ℤ → ℤ → ℤ → Bool
 between low high n = int_le low n && int_le n high
 
 abbrev pub is_index : ℕ → ℤ → Bool
 is_index limit n = int_le (pos 0) n && int_lt n (pos limit)
 
--- whether a rectangle covers the cell (x, y), and whether one of some does
+-- whether a rectangle covers the cell (x, y), and whether one of several does
 abbrev pub covers : Rectangle → ℤ → ℤ → Bool
 covers r x y =
     (int_le r.x x && int_lt x (r.x +ℤ r.width)) && (int_le r.y y && int_lt y (r.y +ℤ r.height))
@@ -25,7 +25,7 @@ covers r x y =
 abbrev pub is_covered : List Rectangle → ℤ → ℤ → Bool
 is_covered rs x y = list_any (λ r. covers r x y) rs
 
--- whether n places from `start` on, at least one, are below a length
+-- whether n is at least 1 and the n places from `start` on are places of this length
 abbrev pub fits_along : ℕ → ℤ → ℤ → Bool
 fits_along length start n =
     int_le (pos 0) start && (int_le (pos 1) n && int_le (start +ℤ n) (pos length))
@@ -34,8 +34,8 @@ fits_along length start n =
 abbrev pub fits : ℕ → ℕ → Rectangle → Bool
 fits width height r = fits_along width r.x r.width && fits_along height r.y r.height
 
--- whether the cell of a placement lies in an area of this size and is not solid, and its state is
--- below the number of states
+-- whether the cell of a placement is in an area of this size and not solid, and its state is below
+-- the number of states
 abbrev pub can_place : ℕ → ℕ → ℕ → (ℤ → ℤ → Bool) → Placement → Bool
 can_place states width height solid p =
     (is_index width p.x && is_index height p.y) && (is_index states p.state && not (solid p.x p.y))
@@ -47,7 +47,7 @@ channel_of width height solid = record { width = width; height = height; solid =
 abbrev pub lattice_of : ℕ → ℕ → (ℕ → ℕ → Bool) → (ℕ → ℕ → ℕ) → LatticeModel
 lattice_of width height solid at = record { channel = channel_of width height solid; rows = rows_of width height at }
 
--- the channel of this size in which the cells are solid that some rectangles cover
+-- the channel of this size in which a cell is solid if a rectangle covers it
 abbrev pub drawn : ℕ → ℕ → List Rectangle → ChannelModel
 drawn width height rs = channel_of width height (λ x y. is_covered rs (pos x) (pos y))
 
@@ -56,11 +56,11 @@ drawn width height rs = channel_of width height (λ x y. is_covered rs (pos x) (
 abbrev pub filled : ℕ → ℕ → ℕ → ℕ → ℕ → ℕ → Bool
 filled seed rate width x y i = nat_lt (key_word seed (2 ^ 63 + i) (y * width + x) % 1000) rate
 
--- the state that filling gives the cell (x, y)
+-- the state of the cell (x, y) after filling
 unfoldable pub filling : Rules → ℕ → ℕ → ℕ → ℕ → ℕ → ℕ
 filling gas seed rate width x y = set_of gas.dirs (filled seed rate width x y)
 
--- the state of the cell (x, y) after some placements, the first of them first
+-- the state of the cell (x, y) after the placements, in order
 abbrev pub placed : List Placement → ℕ → ℕ → ℕ → ℕ
 placed [] x y state = state
 placed (p ∷ ps) x y state =

@@ -1,5 +1,4 @@
-//! Rectangles drawn into a channel. However much they overlap, each is gone through once, in the
-//! row where it starts, along its columns.
+//! Rectangles drawn into a channel. Each is read once, in its first row, however much they overlap.
 
 ghost use Rattle.std.specs.Prelude.{◌≡◌, ℕ, ◌≤◌, ◌<◌, [], ◌∷◌, ◌++◌, Bool, true, false, List, length, pos, IfOk, OnOk, OnErr};
 ghost use Rattle.gas_geom.specs.Size.{IsSize};
@@ -17,8 +16,7 @@ use gas_rows::channel::Channel;
 use std::alloc::{AllocError, Global};
 use std::marker::Model;
 
-/// Rectangles of an area, collected by the rows in which they start. In a contract a drawing is the
-/// channel that it makes.
+/// Rectangles of an area, collected by their first rows. In a contract a drawing is its channel.
 #[derive(Drop)]
 pub struct Drawing {
     size: Size,
@@ -37,7 +35,7 @@ impl Model for Drawing {
     ghost invariant = { λ d. AreStrips d.size.width d.size.height d.rows.items };
 }
 
-// Makes the cells of the channel solid that one of the strips covers; `solid` is a buffer for a row.
+// Makes each cell solid that a strip covers. `solid` is a buffer for a row.
 fn make_solid(channel: &mut Channel, rows: &[Vec<Strip>], skyline: &mut Skyline, solid: &mut [bool])
     requires few { channel.old.width ≤ MOST_SIDE }
     requires wide { length solid.old ≡ channel.old.width }
@@ -55,7 +53,7 @@ fn make_solid(channel: &mut Channel, rows: &[Vec<Strip>], skyline: &mut Skyline,
 }
 
 impl Drawing {
-    /// A drawing with no rectangles.
+    /// Returns a drawing with no rectangles.
     pub fn new(alloc: Global, size: Size) -> Result<Drawing, AllocError>
         ensures blank { IfOk result (λ d. d ≡ drawn size.width size.height []) }
     {
@@ -80,7 +78,7 @@ impl Drawing {
         Ok(())
     }
 
-    /// The channel in which the cells are solid that one of the rectangles covers.
+    /// Returns the channel. A cell is solid if a rectangle covers it.
     pub fn channel(&self, alloc: Global) -> Result<Channel, AllocError>
         ensures drawn { IfOk result (λ c. c ≡ self.now) }
     {

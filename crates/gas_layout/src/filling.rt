@@ -1,5 +1,4 @@
-//! Filling: particles put into the fluid cells of a lattice at a rate, as the key stream of a seed
-//! tells.
+//! Filling: random particles in the fluid cells of a lattice, from the key stream of a seed.
 
 ghost use Rattle.std.specs.Prelude.{◌≡◌, ℕ, ◌+◌, ◌*◌, ◌%◌, ◌<◌, ◌≤◌, ◌^◌, Bool, length, slice_index, OnOk, OnErr, nat_lt, if◌then◌else◌};
 ghost use Rattle.gas_geom.specs.Size.{IsSize};
@@ -16,7 +15,7 @@ use std::alloc::{AllocError, Global};
 // The number of the key stream that fills direction 0.
 const FIRST_STREAM: u64 = 1 << 63;
 
-// The bit of direction `i` if a word is a particle at the rate, and else 0. There is no branch,
+// Returns the bit of direction `i` if the word is a particle at the rate, else 0. It has no branch,
 // because a processor mispredicts branches on random words.
 fn particle(word: u32, rate: u32, i: u32) -> u8
     requires { i < 8 }
@@ -25,8 +24,7 @@ fn particle(word: u32, rate: u32, i: u32) -> u8
     u8::from(word % 1000 < rate) << i
 }
 
-// Adds direction `i` to the states of row `y` if filling puts a particle into it; `words` is a
-// buffer for a row.
+// Adds the particles of direction `i` to the states of row `y`. `words` is a buffer for a row.
 fn add_direction(
     states: &mut [u8],
     words: &mut [u32],
@@ -53,7 +51,7 @@ fn add_direction(
     }
 }
 
-// Sets the states of row `y` to what filling gives.
+// Computes the states of row `y`. `words` is a buffer for a row.
 fn fill_states<G: Gas>(
     states: &mut [u8],
     words: &mut [u32],
@@ -75,7 +73,7 @@ fn fill_states<G: Gas>(
     }
 }
 
-// Fills the fluid cells of row `y`; `states` and `words` are buffers for a row.
+// Fills the fluid cells of row `y`. `states` and `words` are buffers for a row.
 fn fill_row<G: Gas>(
     lattice: &mut Lattice<G>,
     states: &mut [u8],
@@ -98,7 +96,7 @@ fn fill_row<G: Gas>(
     lattice.set_states(y, states);
 }
 
-// Fills the fluid cells; `states` and `words` are buffers for a row.
+// Fills the fluid cells. `states` and `words` are buffers for a row.
 fn fill_rows<G: Gas>(
     lattice: &mut Lattice<G>,
     states: &mut [u8],
@@ -119,10 +117,11 @@ fn fill_rows<G: Gas>(
     }
 }
 
-/// Fills the fluid cells of a lattice with no particles at a rate in thousandths, 0 to 1000:
-/// direction `i` of the cell `(x, y)` gets a particle if the word at place `y * width + x` of
-/// stream `2^63 + i` of the seed's key stream, modulo 1000, is below the rate. If memory is
-/// refused, the lattice is unchanged.
+/// Fills the fluid cells of an empty lattice at a rate in thousandths, 0 to 1000.
+///
+/// Direction `i` of the cell `(x, y)` has its own word of the seed's key stream. It is word
+/// `y * width + x` of stream `2^63 + i`. The cell gets a particle in this direction if the word
+/// modulo 1000 is below the rate. If memory is refused, the lattice is unchanged.
 pub fn fill<G: Gas>(
     alloc: Global,
     lattice: &mut Lattice<G>,

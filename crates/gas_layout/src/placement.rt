@@ -9,9 +9,9 @@ use gas_geom::gas::Gas;
 use gas_rows::channel::Channel;
 use gas_rows::lattice::Lattice;
 
-/// A cell and the state that it gets: its column and its row, counted from 0, and the state as a
-/// number whose bit `i` is a particle in direction `i`. Any numbers may stand here:
-/// [`Placement::can_stand`] tells whether they are a placement in a channel.
+/// A state for a cell: the column and the row of the cell, from 0, and the state. Bit `i` of the
+/// state is a particle in direction `i`. The numbers may be out of range:
+/// [`Placement::can_stand`] checks them.
 #[derive(Clone, Copy, Debug, PartialEq, Eq)]
 pub struct Placement {
     pub x: i64,
@@ -22,7 +22,7 @@ pub struct Placement {
 impl Placement {
     ghost use Rattle.gas_layout.specs.Layout.{is_index, can_place, lattice_of, placed};
 
-    // Whether the cell lies in the channel.
+    // Returns whether the cell is in the channel.
     fn is_in(self, channel: &Channel) -> bool
         ensures value { result
             ≡ (is_index channel.now.width self.x && is_index channel.now.height self.y) }
@@ -32,7 +32,7 @@ impl Placement {
         is_index(size.width(), self.x) && is_index(size.height(), self.y)
     }
 
-    // Whether the cell is fluid.
+    // Returns whether the cell is fluid.
     fn is_fluid(self, channel: &Channel) -> bool
         requires size { IsSize channel.now.width channel.now.height }
         requires inside { (is_index channel.now.width self.x && is_index channel.now.height self.y)
@@ -42,7 +42,7 @@ impl Placement {
         !channel.is_solid(self.x as u32, self.y as u32)
     }
 
-    /// Whether the cell lies in the channel and is fluid, and its state is below `states`.
+    /// Returns whether the cell is a fluid cell of the channel and the state is below `states`.
     pub fn can_stand(self, channel: &Channel, states: u16) -> bool
         ensures value { result ≡ can_place states channel.now.width channel.now.height
             (λ x y. is_solid channel.now (nat_abs x) (nat_abs y)) self }

@@ -5,9 +5,8 @@ ghost use Rattle.gas_layout.specs.Layout.{fits_along};
 
 use gas_geom::size::Size;
 
-/// A rectangle of cells: the column and the row of its first cell, counted from 0, and how many
-/// cells it has along and across. Any numbers may stand here: [`Rectangle::fits`] tells whether
-/// they are a rectangle of an area.
+/// A rectangle of cells: the column and the row of its first cell, from 0, and its width and height
+/// in cells. The numbers may be out of range: [`Rectangle::fits`] checks them.
 #[derive(Clone, Copy, Debug, PartialEq, Eq)]
 pub struct Rectangle {
     pub x: i64,
@@ -16,7 +15,7 @@ pub struct Rectangle {
     pub height: i64,
 }
 
-// Whether `n` places from `start` on, at least one, are below a length.
+// Returns whether `n` is at least 1 and the `n` places from `start` on are places of this length.
 fn fits_along(length: u32, start: i64, n: i64) -> bool
     ensures { result ≡ fits_along length start n }
 {
@@ -26,7 +25,7 @@ fn fits_along(length: u32, start: i64, n: i64) -> bool
 impl Rectangle {
     ghost use Rattle.gas_layout.specs.Layout.{fits};
 
-    /// Whether the rectangle has cells, all of them in an area of this size.
+    /// Returns whether the rectangle has cells, all of them in an area of this size.
     pub fn fits(self, size: Size) -> bool
         ensures value { result ≡ fits size.width size.height self }
     {

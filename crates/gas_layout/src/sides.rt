@@ -6,22 +6,22 @@ ghost use Rattle.gas_layout.specs.Layout.{between, is_index};
 
 use gas_geom::size::Size;
 
-/// Whether a number is one of `low` up to `high`.
+/// Returns whether a number is `low` to `high`.
 pub fn is_between(low: i64, high: i64, n: i64) -> bool
     ensures value { result ≡ between low high n }
 {
     low <= n && n <= high
 }
 
-/// Whether a number is one of 0 up to below the limit.
+/// Returns whether a number is at least 0 and below the limit.
 pub(crate) fn is_index(limit: u32, n: i64) -> bool
     ensures { result ≡ is_index limit n }
 {
     0 <= n && n < i64::from(limit)
 }
 
-/// The size of an area, or None where its width or its height is not 1 to `most`, which is at most
-/// 65536.
+/// Returns the size of an area, or None if its width or its height is not 1 to `most`.
+/// `most` must be at most 65536.
 pub fn size_within(most: u32, width: i64, height: i64) -> Option<Size>
     requires most { most ≤ MOST_SIDE }
     ensures within { is_some result

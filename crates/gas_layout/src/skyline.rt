@@ -1,7 +1,7 @@
 //! How far down each column of a channel is solid, as strips are added from the top.
 //!
-//! A strip sets one number for each whole block of 256 columns that it crosses, and one for each
-//! column before and after these blocks: at most 256 in each of these three parts.
+//! A strip sets one number for each whole block of 256 columns in it, and one for each column
+//! before and after these blocks. Each of the three parts has at most 256 numbers.
 
 ghost use Rattle.std.specs.Prelude.{◌≡◌, ℕ, ◌+◌, ◌*◌, ◌/◌, ◌<◌, ◌≤◌, ◌&&◌, ◌||◌, false, length, slice_index, slice_index_or, IfOk, All, nat_le, nat_lt, if◌then◌else◌};
 ghost use Rattle.std.specs.List.{list_any};
@@ -11,7 +11,7 @@ ghost use Rattle.gas_layout.specs.Inner.Strips.{reaches, IsStrip};
 use crate::strip::Strip;
 use std::alloc::{AllocError, Global};
 
-// Lets the columns of a strip be solid at least up to its bottom. It sets at most 256 numbers.
+// Extends the columns of a strip down to its bottom. It sets at most 256 numbers.
 fn extend(depths: &mut [u32], strip: Strip)
     requires columns { IsStrip (length depths.old) strip }
     requires few { strip.end ≤ strip.start + 256 }
@@ -23,8 +23,8 @@ fn extend(depths: &mut [u32], strip: Strip)
     }
 }
 
-// Extends the two ends of a strip, before and after the whole blocks of 256 columns that it crosses,
-// and returns these blocks as a strip. If the strip lies within a block, it extends all of it.
+// Extends the columns of a strip before and after its whole blocks of 256 columns. Returns the
+// whole blocks as a strip of blocks, which is empty if there is none.
 fn extend_ends(depths: &mut [u32], strip: Strip) -> Strip
     requires columns { IsStrip (length depths.old) strip }
     requires few { length depths.old ≤ MOST_SIDE }
@@ -65,8 +65,8 @@ fn extend_ends(depths: &mut [u32], strip: Strip) -> Strip
     }
 }
 
-// Tells of the columns `from` up to `to` which are solid up to a later row: by their own numbers,
-// or all of them if their block is. There is no branch, so that a compiler can take many at a time.
+// Marks which of the columns `from..to` are solid in row `y`: all if `whole` is set, else by their
+// numbers. It has no branch, so that the loop vectorises.
 fn mark_block(solid: &mut [bool], depths: &[u32], from: usize, to: usize, y: u32, whole: bool)
     requires long { length solid.old ≡ length depths.now }
     requires order { from ≤ to }
@@ -80,8 +80,8 @@ fn mark_block(solid: &mut [bool], depths: &[u32], from: usize, to: usize, y: u32
     }
 }
 
-/// How far down columns are solid: up to the greater of the numbers of a column and of its block of
-/// 256 columns.
+/// How far down each column is solid: to the greater of its own number and the number of its block
+/// of 256 columns.
 #[derive(Drop)]
 pub struct Skyline {
     pub columns: Vec<u32>,
@@ -91,7 +91,7 @@ pub struct Skyline {
 impl Skyline {
     ghost use Rattle.gas_layout.specs.Inner.Strips.{IsSkyline, passes};
 
-    /// A skyline of `width` columns, none of them solid.
+    /// Returns a skyline of `width` columns, none of them solid.
     pub(crate) fn flat(alloc: Global, width: usize) -> Result<Skyline, AllocError>
         requires { width ≤ MOST_SIDE }
         ensures sized { IfOk result (λ s. IsSkyline width s) }
@@ -103,7 +103,7 @@ impl Skyline {
         })
     }
 
-    // Lets the columns of a strip be solid at least up to its bottom.
+    // Extends the columns of a strip down to its bottom.
     fn extend(&mut self, strip: Strip)
         requires columns { IsStrip (length self.old.columns.items) strip }
         requires sized { IsSkyline (length self.old.columns.items) self.old }
@@ -115,7 +115,7 @@ impl Skyline {
         extend(self.blocks.as_mut_slice(), blocks);
     }
 
-    /// Lets the columns of each of the strips be solid at least up to its bottom.
+    /// Extends the columns of each strip down to its bottom.
     pub(crate) fn extend_all(&mut self, strips: &[Strip])
         requires columns { All (λ s. IsStrip (length self.old.columns.items) s) strips.now }
         requires sized { IsSkyline (length self.old.columns.items) self.old }
@@ -128,7 +128,7 @@ impl Skyline {
         }
     }
 
-    /// Tells of all columns which are solid up to a row below row `y`.
+    /// Marks which columns are solid in row `y`.
     pub(crate) fn mark(&self, solid: &mut [bool], y: u32)
         requires sized { IsSkyline (length solid.old) self.now }
         requires few { length solid.old ≤ MOST_SIDE }

@@ -1,4 +1,4 @@
-//! Rectangles as strips of columns that are solid from the row where they start.
+//! Rectangles as strips of columns that are solid from their first row on.
 
 ghost use Rattle.std.specs.Prelude.{◌≡◌, nat_abs, pos, ◌≤ℤ◌};
 ghost use Rattle.gas_geom.specs.declared.size.TheConstants.{MOST_SIDE};
@@ -6,7 +6,7 @@ ghost use Rattle.gas_layout.specs.Inner.Inside.{IsInside};
 
 use crate::rectangle::Rectangle;
 
-/// Columns `start` up to `end` that are solid from some row up to row `bottom`.
+/// The columns `start..end`, solid from some row down to the row above `bottom`.
 #[derive(Clone, Copy)]
 pub struct Strip {
     pub start: u32,
@@ -17,7 +17,7 @@ pub struct Strip {
 impl Strip {
     ghost use Rattle.gas_layout.specs.Inner.Strips.{strip_of, first_row};
 
-    /// The columns of a rectangle, and where it ends.
+    /// Returns the strip of a rectangle.
     pub(crate) fn of(rectangle: Rectangle) -> Strip
         requires { IsInside MOST_SIDE MOST_SIDE rectangle }
         ensures { result ≡ strip_of rectangle }
@@ -29,7 +29,7 @@ impl Strip {
         }
     }
 
-    /// The row in which the strip of a rectangle starts.
+    /// Returns the first row of a rectangle.
     pub(crate) fn first_row(rectangle: Rectangle) -> u32
         requires { IsInside MOST_SIDE MOST_SIDE rectangle }
         ensures { result ≡ first_row rectangle }

@@ -1,4 +1,4 @@
--- What is known of the values of an area, and its lattice step by step.
+-- Lemmas about the values of an area, and its lattice step by step.
 use Rattle.std.proofs.Common.{◌≡◌, ℕ, ◌+◌, ◌<◌, Bool, true, false, not, ◌&&◌, List, [], ◌∷◌, ◌++◌, map, length, get_or, take, pos, nat_abs, ap, ap₂, sym, ◌∙◌, refl, arith, if◌then◌else◌}
 use Rattle.std.specs.List.{list_all}
 use Rattle.std.specs.Ordering.{int_eq}
@@ -23,14 +23,14 @@ use Rattle.gas_scene.specs.Scene.{area_lattice}
 use Rattle.gas_scene.specs.Inner.Models.{area_model}
 use Rattle.gas_scene.specs.Inner.Areas.{solid_in, can_stand}
 
--- the first k values, and one more, as what they are read as
+-- the first k values and one more, as they are read
 pub read_more : {A : Type 0} (f : Data → A) (vs : List Value) (k : ℕ) (v : Value) → k < length vs → v ≡ get_or vs k v
     → map f (map view (take k vs)) ++ f (view v) ∷ [] ≡ map f (map view (take (k + 1) vs))
 read_more f vs k v within is =
     sym (ap (λ ws. map f (map view ws)) (take_more vs k v within ∙ ap (λ (w : Value). take k vs ++ w ∷ []) (sym is))
     ∙ ap (map f) (map-append view (take k vs) (v ∷ [])) ∙ map-append f (map view (take k vs)) (view v ∷ []))
 
--- what passes at each value passes at one of them
+-- a test that each value passes, at one of them
 pub passes_at : (test : Value → Bool) (vs : List Value) (k : ℕ) (v : Value) → list_all test vs ≡ true → k < length vs → v ≡ get_or vs k v → test v ≡ true
 passes_at test vs k v all within is = ap test is ∙ AllPass-from_list_all test vs all k v within
 
@@ -47,7 +47,7 @@ area_lattice-is gas seed rate a same =
     ap (λ n. lattice_of (nat_abs a.width) (nat_abs a.height) (λ x y. is_covered a.solid (pos x) (pos y))
     (λ x y. placed a.particles x y (if is_covered a.solid (pos x) (pos y) then 0 else filling gas seed n (nat_abs a.width) x y))) same
 
--- whether a placement can stand, by the channel and by the rectangles that are drawn in it
+-- whether a placement can stand, by the channel and by its rectangles
 within-drawn : (states w h : ℕ) (rs : List Rectangle) (p : Placement) (b : Bool) → (is_index w p.x && is_index h p.y) ≡ b
     → can_place states w h (solid_in (drawn w h rs)) p ≡ can_place states w h (is_covered rs) p
 within-drawn states w h rs p true is =

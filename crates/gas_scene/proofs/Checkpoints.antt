@@ -1,4 +1,4 @@
--- The table of a checkpoint is the scene that it was made of.
+-- The table of a checkpoint reads as the scene that it was made of.
 use Rattle.std.proofs.Common.{◌≡◌, ℕ, ◌*◌, ◌/◌, ◌%◌, ◌^◌, ◌<◌, ◌≤◌, ◌==◌, Bool, true, false, not, ◌&&◌, cond, List, [], ◌∷◌, map, length, get_or, Some, None, codes, pos, nat_le, nat_lt, ap, ap₂, sym, ◌∙◌, refl, arith, if◌then◌else◌}
 use Rattle.std.specs.Prelude.{Ok, Err, is_some, option_map, int_le}
 use Rattle.std.specs.List.{range_with_len, position, list_any}
@@ -34,13 +34,13 @@ use Rattle.gas_scene.specs.Checkpoint.{name_and_seed, can_be_stated, checkpoint_
 use Rattle.gas_scene.specs.Inner.Maps.{row_at}
 use Rattle.gas_scene.proofs.Tables.{texts, with_rows, table_of-checkpoint, table_refusal-checkpoint}
 
--- where none passes, none is first
+-- if none passes, none is first
 no_position : {A : Type 0} (p : A → Bool) (xs : List A) (d : A) → ((k : ℕ) → k < length xs → p (get_or xs k d) ≡ false) → position p xs ≡ None
 no_position p xs d each =
     ap (λ n. cond (nat_lt n (length xs)) (Some n) None) (position_or_len_is p xs (length xs) d (omega arith) each (λ past. absurd (omega (arith, past))))
     ∙ ap (λ (b : Bool). cond b (Some (length xs)) None) (let e : nat_lt (length xs) (length xs) ≡ false = grind (arith, nat_tests) in e)
 
--- rows by what stands in them
+-- rows by their items
 rows_of-whole : {A : Type 0} (w h : ℕ) (rows : List (List A)) (d : A) → length rows ≡ h → ((y : ℕ) → y < h → length (get_or rows y []) ≡ w)
     → rows ≡ rows_of w h (λ x y. get_or (get_or rows y []) x d)
 rows_of-whole w h rows d high wide =

@@ -1,4 +1,4 @@
--- What a text is answered, by the document that it is.
+-- The result of a text, by its document.
 use Rattle.std.proofs.Common.{◌≡◌, Bool, true, false, List, ℕ, Some, None, ap, ◌∙◌, refl, if◌then◌else◌}
 use Rattle.std.specs.Prelude.{Err, IsUtf8}
 use Rattle.std.specs.Option.{option_map_or}
@@ -21,7 +21,7 @@ syntax_if : (text : List ℕ) (b : Bool) → is_utf8 text ≡ b → (IsUtf8 text
 syntax_if text true e none = ap (λ o. option_map_or table_answer o (Err Syntax)) (none (IsUtf8-from_is_utf8 text e))
 syntax_if text false e none = refl
 
--- a text that is none
+-- a text that is no document
 pub scene_of_text-none : (text : List ℕ) → (IsUtf8 text → parse_document text ≡ None) → scene_of_text text ≡ Err Syntax
 unfolding scene_of_text
 scene_of_text-none text none = syntax_if text (is_utf8 text) refl none

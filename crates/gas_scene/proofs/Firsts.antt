@@ -26,7 +26,7 @@ past_all : (n l : ℕ) (b : Bool) → nat_lt n l ≡ b → cond b (Some n) None 
 past_all n l true e none = absurd (cc)
 past_all n l false e none = grind (arith, nat_tests, e)
 
--- where none is first, none passes
+-- if none is first, none passes
 pub none_passes : {A : Type 0} (p : A → Bool) (xs : List A) → position p xs ≡ None → (k : ℕ) (d : A) → k < length xs → p (get_or xs k d) ≡ false
 none_passes p xs none k d within =
     let all : length xs ≤ prefix_len (λ x. not (p x)) xs = past_all _ _ _ refl none in

@@ -1,4 +1,4 @@
--- Lemmas on lists of values and on what their views hold.
+-- Lemmas about lists of values and their views.
 use Rattle.std.proofs.Common.{◌≡◌, Bool, true, ◌&&◌, ◌||◌, ℕ, length, List, [], ◌∷◌, map, refl, ap, sym, ◌∙◌, Vec, Global, eq-eqb}
 use Rattle.std.specs.Prelude.{is_some}
 use Rattle.std.specs.List.{list_all, list_any}
@@ -18,7 +18,7 @@ list_of-items_of (d ∷ ds) = ap (λ (xs : List Data). d ∷ xs) (list_of-items_
 pub elements_of-Array : (v : Vec Value Global) → elements_of (view (Array v)) ≡ map view v.items
 elements_of-Array v = ap elements_of (view-Array v) ∙ list_of-items_of (map view v.items)
 
--- what holds of each value holds of what they are seen as
+-- what is true of each value is true of its view
 pub list_all-view : (test : Data → Bool) (vs : List Value) (ds : List Data) → map view vs ≡ ds → list_all (λ v. test (view v)) vs ≡ list_all test ds
 list_all-view test vs ds seen = sym (list_all-map test view vs) ∙ ap (list_all test) seen
 

@@ -1,4 +1,4 @@
--- The lattice of a map, row by row, and what is known of rows that are not refused.
+-- The lattice of a map, row by row, and lemmas about rows that are not refused.
 use Rattle.std.proofs.Common.{◌≡◌, inl, inr, subst, ℕ, ◌+◌, ◌*◌, ◌/◌, ◌%◌, ◌==◌, ◌<◌, ◌≤◌, Bool, true, false, not, List, [], ◌∷◌, map, length, get_or, set, Option, Some, None, pos, codes, nat_lt, ap, ap₂, sym, ◌∙◌, refl, arith, if◌then◌else◌}
 use Rattle.std.specs.Prelude.{is_some, option_map, IsSome, IfSome, Ok, Err}
 use Rattle.std.specs.Option.{option_or, unwrap_or, is_none}
@@ -25,7 +25,7 @@ use Rattle.gas_scene.specs.Scene.{map_cell, map_lattice}
 use Rattle.gas_scene.specs.Inner.Maps.{as_result, map_width, map_before, AreShort, IsMap, row_at}
 use Rattle.gas_scene.proofs.Firsts.{none_passes, find-none, not_some}
 
--- row r, by the value that stands there
+-- row r, by its value
 pub row_at-view : (vs : List Value) (r : ℕ) (v : Value) → r < length vs → v ≡ get_or vs r v → row_at (map text_of (map view vs)) r ≡ text_of (view v)
 row_at-view vs r v within is =
     get_or-map text_of (map view vs) r (view v) [] (omega (arith, within, length-map vs view)) ∙ ap text_of (get_or-map view vs r v (view v) within ∙ ap view (sym is))
@@ -36,12 +36,12 @@ length-rows vs = length-map (map view vs) text_of ∙ length-map vs view
 abbrev pub empty : Cell
 empty = record { solid = false; state = 0 }
 
--- what holds of a cell that stands somewhere
+-- what is true of a cell
 pub cell_is : {A : Type 0} (o : Option Cell) (f : Cell → A) (v : A) → IsSome o → IfSome o (λ c. v ≡ f c) → v ≡ f (unwrap_or o empty)
 cell_is None f v some is = absurd (cc)
 cell_is (Some c) f v some is = is
 
--- the state of what may be a cell is below the number of states, and 0 at a solid cell
+-- the state of a cell, if there is one, is below the number of states, and 0 at a solid cell
 below : (states n : ℕ) (b : Bool) → 0 < states → nat_lt n states ≡ b
     → (unwrap_or (if b then Some (record { solid = false; state = n }) else None) empty).state < states
 below states n true some is = ltb-true n states is
@@ -86,14 +86,14 @@ solid-empty states row x is =
     marked-empty (bytes_eq (get_or row (2 * x) 0 ∷ get_or row (2 * x + 1) 0 ∷ []) (codes "##")) (bytes_eq (get_or row (2 * x) 0 ∷ get_or row (2 * x + 1) 0 ∷ []) (codes "..")) _
     (state_of-fluid states (digit_of (get_or row (2 * x) 0)) (digit_of (get_or row (2 * x + 1) 0))) is
 
--- what a mask and states are that hold row y of a map
+-- a mask and states with the cells of row y of a map
 pub record IsRow (states : ℕ) (rows : List (List ℕ)) (y : ℕ) (mask : List Bool) (sets : List ℕ) : Type 0 where
   pub wide : length mask ≡ map_width rows
   pub as_wide : length sets ≡ map_width rows
   pub solid : (x : ℕ) → x < map_width rows → get_or mask x false ≡ (map_cell states rows x y).solid
   pub state : (x : ℕ) → x < map_width rows → get_or sets x 0 ≡ (map_cell states rows x y).state
 
--- so they are where they were read from the characters of a row of cells
+-- a mask and states that were read from the characters of a row
 pub IsRow-read : (states : ℕ) (rows : List (List ℕ)) (y : ℕ) (row : List ℕ) (mask : List Bool) (sets : List ℕ) → IsMap states rows → y < length rows
     → row ≡ row_at rows y → length mask ≡ cells_in row → length sets ≡ cells_in row
     → ((n x : ℕ) → x < cells_in row → IfSome (cell_at n row x) (λ c. get_or mask x false ≡ c.solid))
@@ -173,7 +173,6 @@ module _ (states : ℕ) (rows : List (List ℕ)) where
       (λ u k _ in_column. if_same (nat_lt k (length rows)) true (solid_at u k) false (before-all (length rows) k in_column))
       (λ u k _ in_column. if_same (nat_lt k (length rows)) true (state_at u k) 0 (before-all (length rows) k in_column))
 
--- verdicts, and what they tell
 pub as_result-none : (o : Option SceneError) → as_result o ≡ Ok tt → o ≡ None
 as_result-none None ok = refl
 as_result-none (Some e) ok = absurd (cc)

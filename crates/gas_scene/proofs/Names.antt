@@ -1,4 +1,4 @@
--- Each gas is the one of its own name.
+-- Each gas has its own name.
 use Rattle.std.proofs.Common.{◌≡◌, Some, refl}
 use Rattle.gas_scene.specs.declared.catalog.KnownGas.{KnownGas}
 use Rattle.gas_scene.specs.declared.catalog.KnownGas.TheVariants.{Fhp1, Hpp, FhpRest}

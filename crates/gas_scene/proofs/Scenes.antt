@@ -1,4 +1,4 @@
--- What the values of a table are refused for, form by form.
+-- The refusals of the values of a table, form by form.
 use Rattle.std.proofs.Common.{◌≡◌, ◌⊎◌, inl, inr, ℕ, ◌^◌, Bool, true, false, not, List, Option, Some, None, ap, ap₂, sym, ◌∙◌, if◌then◌else◌}
 use Rattle.std.specs.Prelude.{Result, Ok, Err, IfOk, IfErr}
 use Rattle.std.specs.Option.{option_or, option_map_or, unwrap_or}
@@ -13,7 +13,7 @@ use Rattle.gas_scene.specs.Refusals.{gas_of, most_side, is_common_in_range, is_a
 use Rattle.gas_scene.specs.Scene.{SceneModel, scene_of, table_answer}
 use Rattle.gas_scene.specs.Inner.Results.{ReturnsOrMemory}
 
--- the values of a table out of the range that both forms share
+-- a table whose common values are out of their ranges
 pub common-refused : (t : TableModel) → is_common_in_range t ≡ false → value_refusal t ≡ Some Range
 unfolding value_refusal
 common-refused t out =
@@ -59,11 +59,11 @@ table_answer-accepted : (ms : Members) → refusal_of ms ≡ None → table_answ
 unfolding table_answer
 table_answer-accepted ms is = ap (λ o. option_map_or Err o (Ok (scene_of (table_of ms)))) is
 
--- what is answered for a table that is refused for its keys or types
+-- the result of a table that is refused because of its keys or types
 pub answer-refused : (ms : Members) (e : SceneError) (r : Result SceneModel SceneError) → table_refusal ms ≡ Some e → r ≡ Err e → ReturnsOrMemory r (table_answer ms)
 answer-refused ms e r refused is = inl (is ∙ sym (table_answer-refused ms e (ap (λ o. option_or o (value_refusal (table_of ms))) refused)))
 
--- and for one that is not
+-- and of any other table
 pub answer-values : (ms : Members) (r : Result SceneModel SceneError) (t : TableModel) → table_refusal ms ≡ None → t ≡ table_of ms
     → IfErr r (λ e. (value_refusal t ≡ Some e) ⊎ (e ≡ Memory)) → IfOk r (λ _. value_refusal t ≡ None) → IfOk r (λ s. s ≡ scene_of t) → ReturnsOrMemory r (table_answer ms)
 answer-values ms (Ok s) t known same refused accepted value =

@@ -1,4 +1,4 @@
--- What the table of a checkpoint says.
+-- The table of a checkpoint.
 use Rattle.std.proofs.Common.{◌≡◌, ℕ, suc, Bool, true, not, ◌&&◌, ◌≤◌, List, [], ◌∷◌, map, Some, None, pos, ap, ap₂, sym, ◌∙◌, refl, subst, arith, if◌then◌else◌}
 use Rattle.std.specs.Prelude.{max}
 use Rattle.std.specs.List.{list_all, range_with_len}
@@ -37,7 +37,7 @@ flat f (y ∷ ys) = ap (max 0) (flat f ys)
 low : (n : ℕ) → n ≡ 0 → max (suc n) 0 ≤ 80
 low n e = subst (λ k. max (suc k) 0 ≤ 80) (sym e) (omega arith)
 
--- put together key after key, the table is that of a checkpoint
+-- the values of a checkpoint, inserted key by key, are its table
 in_order : (l : GasLattice) (chirality : Chirality) (generation : ℕ) → insert_all (rules_of l.gas).name (row_values l.lattice) chirality generation ≡ checkpoint_table l chirality generation
 unfolding insert_all checkpoint_table
 in_order l (Seeded seed) generation = refl

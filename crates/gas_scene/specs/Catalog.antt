@@ -1,4 +1,4 @@
--- The gases that there are.
+-- The gases.
 use Rattle.std.specs.Prelude.{ℕ, List, [], ◌∷◌, Option}
 use Rattle.std.specs.List.{find}
 use Rattle.std.specs.Str.{bytes_eq}
@@ -25,7 +25,7 @@ rules_of FhpRest = fhp_rest
 abbrev pub gas_named : List ℕ → Option KnownGas
 gas_named name = find (λ gas. bytes_eq name (rules_of gas).name) gases
 
--- a lattice and the gas that it is of
+-- a lattice and its gas
 pub record GasLattice : Type 0 where
   pub gas : KnownGas
   pub lattice : LatticeModel

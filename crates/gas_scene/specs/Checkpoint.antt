@@ -1,4 +1,4 @@
--- What a scene can say of a lattice in the course of a run, and the table that says it.
+-- What a scene can state about a lattice during a run, and the table that states it.
 use Rattle.std.specs.Prelude.{ℕ, ◌^◌, ◌&&◌, Bool, true, List, Option, Some, None, map, codes, pos, nat_lt, nat_le}
 use Rattle.std.specs.List.{range_with_len}
 use Rattle.std.specs.Option.{option_map_or}
@@ -16,7 +16,7 @@ name_and_seed (Seeded seed) = (codes "seeded", Some seed)
 name_and_seed Left = (codes "left", None)
 name_and_seed Right = (codes "right", None)
 
--- whether a scene can have this chirality and this generation: a seed must be an integer of TOML
+-- whether a scene can state this chirality and this generation: a seed must be an integer of TOML
 abbrev pub can_be_stated : Chirality → ℕ → Bool
 can_be_stated chirality generation =
     option_map_or (λ seed. nat_lt seed (2 ^ 63)) (name_and_seed chirality).1 true && nat_le generation 1000000000000
@@ -25,7 +25,7 @@ can_be_stated chirality generation =
 abbrev pub row_values : LatticeModel → List Data
 row_values l = map (λ y. string (row_cells l.channel l.rows y)) (range_with_len 0 l.channel.height)
 
--- the table of a checkpoint, whose keys ascend, with a seed where there is one
+-- the table of a checkpoint, with ascending keys, and with a seed if there is one
 unfoldable pub checkpoint_table : GasLattice → Chirality → ℕ → Members
 checkpoint_table l chirality generation =
     let version : Members = member (codes "version") (integer (pos 2)) no_members in

@@ -39,6 +39,6 @@ abbrev pub keys_all : (List ℕ → Bool) → Members → Bool
 keys_all test no_members = true
 keys_all test (member key d ms) = test key && keys_all test ms
 
--- whether each value is of the type of its key
+-- whether each value has the type of its key
 unfoldable pub is_typed : Members → Bool
 is_typed ms = list_all (λ k. option_map_or k.1 (get_member k.0 ms) true) keys

@@ -19,13 +19,13 @@ use Rattle.gas_scene.specs.Keys.{keys_all, is_known, is_typed}
 abbrev pub has : List ℕ → Members → Bool
 has key ms = is_some (get_member key ms)
 
--- a key of the area
+-- whether there is a key of an area
 abbrev pub has_area : Members → Bool
 has_area ms =
     has (codes "width") ms || (has (codes "height") ms
     || (has (codes "solid") ms || (has (codes "rate") ms || has (codes "particles") ms)))
 
--- what is wrong with the keys of a table and the types of its values, the first fault first
+-- the first fault of the keys of a table and the types of its values
 unfoldable pub table_refusal : Members → Option SceneError
 table_refusal ms =
     if not (keys_all (is_known (table_of ms).version) ms) then Some UnknownKey
@@ -42,20 +42,20 @@ most_side version = if int_eq version (pos 2) then 65536 else 4096
 abbrev pub gas_of : TableModel → KnownGas
 gas_of t = unwrap_or (gas_named t.gas) Fhp1
 
--- the values that both forms have
+-- the values that maps and areas share
 abbrev pub is_common_in_range : TableModel → Bool
 is_common_in_range t =
     between (pos 1) (pos 2) t.version && (int_le (pos 0) t.seed && (between (pos 0) (pos 1000000000000) t.generation
     && (is_some (gas_named t.gas) && list_any (bytes_eq t.chirality) (codes "seeded" ∷ codes "left" ∷ codes "right" ∷ []))))
 
--- an area with sides of at most `most` cells, in a gas whose cells have that number of states
+-- an area with sides of at most `most` cells, in a gas with this number of states per cell
 abbrev pub is_area_in_range : ℕ → ℕ → AreaModel → Bool
 is_area_in_range most states a =
     between (pos 1) (pos most) a.width && (between (pos 1) (pos most) a.height && (between (pos 0) (pos 1000) a.rate
     && (list_all (fits (nat_abs a.width) (nat_abs a.height)) a.solid
     && list_all (can_place states (nat_abs a.width) (nat_abs a.height) (is_covered a.solid)) a.particles)))
 
--- whether a row's length is wrong: it must be the length of some whole cells, of at most `most`, and of the first row
+-- whether a row's length is wrong: it must be the length of 1 to `most` whole cells, and equal to the first row's
 abbrev pub has_wrong_length : ℕ → ℕ → List ℕ → Bool
 has_wrong_length most first row =
     not ((length row % CHARACTERS == 0)
@@ -65,13 +65,13 @@ has_wrong_length most first row =
 abbrev pub row_length : ℕ → List (List ℕ) → Option SceneError
 row_length most rows = option_map (λ r. RowLength r) (position (has_wrong_length most (length (slice_index_or rows 0 []))) rows)
 
--- the first row in which no cell stands in some column, and the first such column
+-- the first row with a column that has no cell, and the first such column
 abbrev pub bad_cell : ℕ → List (List ℕ) → Option SceneError
 bad_cell states rows =
     option_map (λ r. BadCell r (unwrap_or (bad_column states (slice_index_or rows r [])) 0))
     (position (λ row. is_some (bad_column states row)) rows)
 
--- what is wrong with the rows of a map, and with the values of a table, the first fault first
+-- the first fault of the rows of a map, and of the values of a table
 unfoldable pub map_refusal : ℕ → ℕ → List (List ℕ) → Option SceneError
 map_refusal most states rows =
     if not (between (pos 1) (pos most) (pos (length rows))) then Some Range

@@ -17,7 +17,7 @@ use Rattle.gas_scene.specs.declared.error.SceneError.TheVariants.{Syntax}
 use Rattle.gas_scene.specs.Table.{AreaModel, TableModel, table_of}
 use Rattle.gas_scene.specs.Refusals.{gas_of, refusal_of}
 
--- a lattice, where the random bits of its collisions come from, and its generation: the first step uses its random bits
+-- a lattice, the source of the random bits of its collisions, and its generation, whose random bits the first step uses
 pub record SceneModel : Type 0 where
   pub lattice : GasLattice
   pub chirality : Chirality
@@ -33,8 +33,8 @@ map_lattice states rows =
     lattice_of (cells_in (slice_index_or rows 0 [])) (length rows)
     (λ x y. (map_cell states rows x y).solid) (λ x y. (map_cell states rows x y).state)
 
--- the lattice of an area: its rectangles are solid, its fluid cells are filled at the rate under a seed, and then each
--- placement in order sets the state of its cell
+-- the lattice of an area: its rectangles are solid, and its fluid cells are filled at the rate with a seed. Then each
+-- placement in order sets the state of its cell.
 unfoldable pub area_lattice : Rules → ℕ → AreaModel → LatticeModel
 area_lattice gas seed a =
     let solid : ℕ → ℕ → Bool = λ x y. is_covered a.solid (pos x) (pos y) in
@@ -42,7 +42,7 @@ area_lattice gas seed a =
     lattice_of width (nat_abs a.height) solid
     (λ x y. placed a.particles x y (if solid x y then 0 else filling gas seed (nat_abs a.rate) width x y))
 
--- where the random bits come from, by the name of the chirality and the seed
+-- the source of the random bits, by the name of the chirality and the seed
 abbrev pub chirality_of : List ℕ → ℕ → Chirality
 chirality_of name seed =
     if bytes_eq name (codes "left") then Left

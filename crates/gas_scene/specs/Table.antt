@@ -1,11 +1,11 @@
--- What the table of a scene says.
+-- The table of a scene.
 use Rattle.std.specs.Prelude.{ℕ, List, [], ◌∷◌, map, Option, option_map, slice_get, ℤ, pos, codes}
 use Rattle.std.specs.Option.{option_map_or, unwrap_or}
 use Rattle.toml.specs.Data.{Data, Items, no_items, item, Members, get_member, as_str, as_integer, as_array}
 use Rattle.gas_layout.specs.declared.rectangle.Rectangle.{Rectangle}
 use Rattle.gas_layout.specs.declared.placement.Placement.{Placement}
 
--- the text, the integer and the elements that a value is, or no text, 0 and no element
+-- a value as a text, an integer and elements; of another type it is the empty text, 0 and no element
 abbrev pub text_of : Data → List ℕ
 text_of d = unwrap_or (as_str d) []
 
@@ -30,7 +30,7 @@ rectangle_of d = record { x = number 0 d; y = number 1 d; width = number 2 d; he
 abbrev pub placement_of : Data → Placement
 placement_of d = record { x = number 0 d; y = number 1 d; state = number 2 d }
 
--- what the value at a key is read as, or what holds where the key is left out
+-- the value at a key, read, or the default if the key is absent
 abbrev pub value_at : {A : Type 0} → (Data → A) → List ℕ → A → Members → A
 value_at read key otherwise ms = option_map_or read (get_member key ms) otherwise
 
@@ -52,7 +52,7 @@ pub record TableModel : Type 0 where
   pub cells : Option (List (List ℕ))
   pub area : AreaModel
 
--- the table of some keys with their values; what is left out is what stands behind its key here
+-- the table of these members; an absent key has the default that is here after it
 abbrev pub table_of : Members → TableModel
 table_of ms = record {
   version = value_at integer_of (codes "version") (pos 1) ms;

@@ -41,7 +41,7 @@ fn are_rectangles(values: &[Value], size: Size) -> bool
     values.iter().all(|value| rectangle(value).fits(size))
 }
 
-// Returns whether each placement is at a fluid cell of the channel, of a state of the gas.
+// Returns whether each placement is at a fluid cell of the channel, with a state of the gas.
 fn are_placements(values: &[Value], channel: &Channel, states: u16) -> bool
     ensures { result ≡ can_stand states channel.now values.now }
 {
@@ -50,7 +50,7 @@ fn are_placements(values: &[Value], channel: &Channel, states: u16) -> bool
         .all(|value| placement(value).can_stand(channel, states))
 }
 
-// The channel of an area whose solid cells are those that the rectangles cover.
+// Returns the channel in which a cell is solid if a rectangle covers it.
 fn draw(alloc: Global, size: Size, solid: &[Value]) -> Result<Channel, AllocError>
     requires { list_all (λ v. fits size.width size.height (rectangle_of (view v))) solid.now
         ≡ true }
@@ -77,7 +77,7 @@ fn place_all<G: Gas>(lattice: &mut Lattice<G>, particles: &[Value])
     }
 }
 
-// The lattice of an area that is drawn.
+// Returns the lattice of an area that is drawn.
 fn area_lattice<G: Gas>(
     alloc: Global,
     drawn: DrawnArea,
@@ -148,8 +148,8 @@ impl<'a> Area<'a> {
         })
     }
 
-    /// The lattice of the area, with sides of at most `most` cells, or that a value is out of
-    /// range.
+    /// Returns the lattice of the area, with sides of at most `most` cells. The error is `Range` if
+    /// a value is out of its range.
     pub(crate) fn lattice(
         self,
         alloc: Global,

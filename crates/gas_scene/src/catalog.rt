@@ -1,4 +1,4 @@
-//! The list of the gases, a lattice of one of them, and the choice by gas.
+//! The gases, a lattice of any of them, and the choice by gas.
 
 ghost use Rattle.std.specs.Prelude.{◌≡◌, ◌^◌};
 
@@ -24,8 +24,7 @@ pub enum AnyLattice {
     FhpRest(Lattice<FhpRest>),
 }
 
-/// The lattice of a gas, by an expression for its `Lattice<G>`, which is written once for all
-/// gases.
+/// Makes a lattice of a gas from one expression, which is a `Lattice<G>` for each gas.
 #[macro_export]
 macro_rules! any_lattice {
     ($gas:expr, $lattice:expr) => {
@@ -37,7 +36,7 @@ macro_rules! any_lattice {
     };
 }
 
-/// What an expression gives for the lattice, whichever gas it is of.
+/// Evaluates an expression at a lattice of any gas.
 #[macro_export]
 macro_rules! with_lattice {
     ($any:expr, $lattice:ident => $work:expr) => {
@@ -49,7 +48,6 @@ macro_rules! with_lattice {
     };
 }
 
-// The number of states of a cell of a gas.
 fn states<G: Gas>() -> u16
     ensures { result ≡ 2 ^ G.rules.dirs }
 {
@@ -60,7 +58,7 @@ impl KnownGas {
     ghost use Rattle.std.specs.Prelude.{◌≡◌, ◌^◌};
     ghost use Rattle.gas_scene.specs.Catalog.{gas_named, rules_of};
 
-    /// The gas of this name.
+    /// Returns the gas of this name.
     pub fn named(name: &str) -> Option<KnownGas>
         ensures known { result ≡ gas_named name.now }
     {
@@ -75,7 +73,7 @@ impl KnownGas {
         }
     }
 
-    /// The number of states that a cell can have: 2 to the power of the number of directions.
+    /// Returns the number of states of a cell: 2 to the power of the number of directions.
     pub fn states(self) -> u16
         ensures number { result ≡ 2 ^ (rules_of self).dirs }
     {

@@ -1,4 +1,4 @@
-//! A lattice written as the text of a scene, from which its run can be resumed.
+//! Writing a lattice as the text of a scene, from which its run can go on.
 
 ghost use Rattle.std.specs.Prelude.{◌≡◌, ◌⊎◌, ◌↔◌, ◌<◌, ◌^◌, true, false, Some, Ok, Err, pos, map, IfSome, IfOk, IfErr, OnOk, string_bytes};
 ghost use Rattle.gas_geom.specs.Channel.{IsChannel};
@@ -24,7 +24,6 @@ use gas_rows::lattice::Lattice;
 use std::alloc::{AllocError, Global};
 use toml::{Table, Value};
 
-// The characters of row `y`.
 fn row_bytes<G: Gas>(alloc: Global, lattice: &Lattice<G>, y: u32) -> Result<Vec<u8>, AllocError>
     requires { y < lattice.now.channel.height }
     ensures row { IfOk result (λ text.
@@ -39,7 +38,7 @@ fn row_bytes<G: Gas>(alloc: Global, lattice: &Lattice<G>, y: u32) -> Result<Vec<
     Ok(text)
 }
 
-// The text of row `y`, whose characters are ASCII.
+// Returns the text of row `y`. Its characters are ASCII.
 fn row_text<G: Gas>(alloc: Global, lattice: &Lattice<G>, y: u32) -> Result<String, AllocError>
     requires { y < lattice.now.channel.height }
     ensures { IfOk result (λ s.
@@ -51,7 +50,7 @@ fn row_text<G: Gas>(alloc: Global, lattice: &Lattice<G>, y: u32) -> Result<Strin
     }
 }
 
-// The rows from the top, as values of a table.
+// Returns the rows from the top, as values of a table.
 fn row_values<G: Gas>(alloc: Global, lattice: &Lattice<G>) -> Result<Vec<Value>, AllocError>
     ensures rows { IfOk result (λ rows. map view rows.items ≡ row_values lattice.now) }
     ensures lattice { IsLattice G.rules lattice.now.channel lattice.now.rows }
@@ -77,7 +76,7 @@ fn insert(alloc: Global, table: &mut Table, key: &str, value: Value) -> Result<(
     }
 }
 
-// The name of a chirality, and its seed, if it has one.
+// Returns the name of a chirality, and its seed, if it has one.
 fn name_and_seed(chirality: Chirality) -> (&'static str, Option<u64>)
     ensures name { result.0.now ≡ (name_and_seed chirality).0 }
     ensures seed { result.1 ≡ (name_and_seed chirality).1 }
@@ -89,7 +88,6 @@ fn name_and_seed(chirality: Chirality) -> (&'static str, Option<u64>)
     }
 }
 
-// A number as an integer of TOML.
 fn integer(number: u64) -> Value
     requires { number < 2 ^ 63 }
     ensures { view result ≡ integer (pos number) }
@@ -108,7 +106,6 @@ fn insert_seed(alloc: Global, table: &mut Table, seed: Option<u64>) -> Result<()
     }
 }
 
-// The table of a checkpoint.
 fn build_table(
     alloc: Global,
     gas: &str,
@@ -132,7 +129,6 @@ fn build_table(
     Ok(table)
 }
 
-// The text of a checkpoint of a lattice of one gas.
 fn build_text<G: Gas>(
     alloc: Global,
     lattice: &Lattice<G>,
@@ -157,7 +153,7 @@ fn build_text<G: Gas>(
     }
 }
 
-// Returns whether a scene can have this chirality and this generation.
+// Returns whether a scene can state this chirality and this generation.
 fn can_be_stated(chirality: Chirality, generation: u64) -> bool
     ensures { result ≡ can_be_stated chirality generation }
 {
@@ -165,15 +161,15 @@ fn can_be_stated(chirality: Chirality, generation: u64) -> bool
     seed.is_none_or(|seed| seed < 1 << 63) && generation <= LAST_GENERATION
 }
 
-/// The text of a scene of version 2 with a lattice, its chirality and its generation. `scene::read`
-/// gives all three back, so that a run from the text goes on as one from the lattice would.
+/// Returns the text of a scene of version 2 with a lattice, its chirality and its generation.
+/// `scene::read` returns the same three, so a run from the text goes on as from the lattice.
 ///
-/// It is a TOML document with the keys `cells`, the rows from the top in the form in which cells
-/// are printed, `chirality`, `gas`, `generation` and `version`, and `seed` exactly where the
-/// chirality is seeded.
+/// The text is a TOML document with the keys `cells`, `chirality`, `gas`, `generation` and
+/// `version`. It has `seed` if and only if the chirality is seeded. `cells` are the rows from the
+/// top, in the printed form.
 ///
-/// `Range` exactly where the generation is above 1,000,000,000,000 or a seed above 2^63 - 1; else
-/// `Memory` where memory is refused.
+/// The error is `Range` if and only if the generation is above 1,000,000,000,000 or a seed is above
+/// 2^63 - 1. Otherwise it is `Memory`: memory was refused.
 pub fn checkpoint(
     alloc: Global,
     lattice: &AnyLattice,

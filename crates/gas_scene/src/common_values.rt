@@ -1,4 +1,4 @@
-//! What the scenes of both forms have, in its ranges.
+//! The values that maps and areas share, in their ranges.
 
 ghost use Rattle.std.specs.Prelude.{◌≡◌, is_some, pos, codes, [], ◌∷◌, IfSome};
 ghost use Rattle.std.specs.List.{list_any};
@@ -18,7 +18,7 @@ pub const LAST_GENERATION: u64 = 1_000_000_000_000;
 /// The most columns of a scene of version 1, and the most rows.
 const FIRST_MOST_SIDE: u32 = 4096;
 
-/// What the scenes of both forms have.
+/// The values that maps and areas share.
 #[derive(Clone, Copy)]
 pub struct CommonValues {
     pub gas: KnownGas,
@@ -39,7 +39,7 @@ fn most_side(version: i64) -> u32
     }
 }
 
-// The chirality of this name, seeded ones with the seed.
+// Returns the chirality of this name. A seeded one has this seed.
 fn chirality(name: &str, seed: u64) -> Option<Chirality>
     ensures known { is_some result
         ≡ list_any (bytes_eq name.now)
@@ -77,7 +77,7 @@ impl SceneTable<'_> {
             && is_between(0, LAST_GENERATION as i64, self.generation)
     }
 
-    /// What scenes of both forms have, and None where one of its values is out of its range.
+    /// Returns the values that maps and areas share, or None if one is out of its range.
     pub(crate) fn common_values(&self) -> Option<CommonValues>
         ensures within { is_some result ≡ is_common_in_range (table_model self.now) }
         ensures gas { IfSome result (λ c. gas_named self.now.gas.now ≡ Some c.gas) }

@@ -33,7 +33,7 @@ pub enum SceneError {
     /// The row of a map with this number has a wrong length.
     #[error("scene: row {0} has a wrong length")]
     RowLength(u32),
-    /// What stands for this row and column of a map is no cell.
+    /// The two characters at this row and column of a map are no cell.
     #[error("scene: row {0} cell {1} is not a cell")]
     BadCell(u32, u32),
 }

@@ -7,7 +7,6 @@ ghost use Rattle.gas_scene.specs.Keys.{is_known};
 
 use toml::{Table, Value};
 
-// The keys of a scene.
 const KEYS: [&str; 11] = [
     "version",
     "generation",
@@ -45,7 +44,6 @@ pub(crate) fn is_known(version: i64, key: &str) -> bool
     KEYS.iter().any(|known| key == *known) && (version == 2 || key != "generation")
 }
 
-// The value at a key.
 fn value_at<'a>(table: &'a Table, key: &str) -> Option<&'a Value>
     ensures { option_map (λ v. view v.now) result ≡ get_member key.now (table_view table.now) }
 {
@@ -56,7 +54,7 @@ impl<'a> Values<'a> {
     ghost use Rattle.toml.specs.View.{table_view};
     ghost use Rattle.gas_scene.specs.Inner.Values.{AreValues};
 
-    /// The values of a table.
+    /// Returns the values of a table.
     pub(crate) fn of(table: &'a Table) -> Values<'a>
         ensures { AreValues result (table_view table.now) }
     {

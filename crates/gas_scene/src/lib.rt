@@ -1,4 +1,4 @@
-//! Scenes: a TOML text read as a lattice and the chirality of its collisions.
+//! Scenes: a TOML text read as a lattice, the chirality of its collisions, and its generation.
 #![tactic(auto)]
 
 mod area_form;

@@ -27,14 +27,12 @@ use gas_rows::lattice::Lattice;
 use std::alloc::{AllocError, Global};
 use toml::Value;
 
-// The characters of a row.
 fn row_of(value: &Value) -> &[u8]
     ensures { result.now ≡ text_of (view value.now) }
 {
     text_of(value).as_bytes()
 }
 
-// Row `r` of a map.
 fn row(rows: &[Value], r: usize) -> &[u8]
     requires { r < length rows.now }
     ensures { result.now ≡ row_at (map text_of (map view rows.now)) r }
@@ -49,7 +47,7 @@ fn is_height(most: u32, rows: usize) -> bool
     1 <= rows && rows <= most as usize
 }
 
-// Returns whether the length of a row is wrong, where the first row has `first` characters.
+// Returns whether the length of a row is wrong. The first row has `first` characters.
 fn has_wrong_length(most: u32, first: usize, row: &[u8]) -> bool
     ensures { result ≡ has_wrong_length most first row.now }
 {
@@ -60,7 +58,6 @@ fn has_wrong_length(most: u32, first: usize, row: &[u8]) -> bool
         && length == first)
 }
 
-// The first row of a wrong length.
 fn first_of_wrong_length(most: u32, first: usize, rows: &[Value]) -> Option<usize>
     ensures { result ≡ position (λ v. has_wrong_length most first (text_of (view v))) rows.now }
 {
@@ -68,7 +65,7 @@ fn first_of_wrong_length(most: u32, first: usize, rows: &[Value]) -> Option<usiz
         .position(|row| has_wrong_length(most, first, row_of(row)))
 }
 
-// The first row in which no cell stands in some column.
+// Returns the first row with a column that has no cell.
 fn first_bad_row(states: u16, rows: &[Value]) -> Option<usize>
     ensures { result ≡ position (λ v. is_some (bad_column states (text_of (view v)))) rows.now }
 {
@@ -76,7 +73,7 @@ fn first_bad_row(states: u16, rows: &[Value]) -> Option<usize>
         .position(|row| bad_column(row_of(row), states).is_some())
 }
 
-// Refuses the first row that has a wrong length: the first row's counts for each.
+// Refuses the first row of a wrong length. All rows must be as long as the first.
 fn check_lengths(most: u32, rows: &[Value]) -> Result<(), SceneError>
     requires some { 1 ≤ length rows.now }
     requires few { length rows.now ≤ MOST_SIDE }
@@ -102,7 +99,7 @@ fn check_cells(states: u16, rows: &[Value]) -> Result<(), SceneError>
     }
 }
 
-// Puts the cells of row `y`. `solid` and `state_of` are buffers for the cells of a row.
+// Puts the cells of row `y`. `solid` and `state_of` are buffers for a row.
 fn put_row<G: Gas>(
     lattice: &mut Lattice<G>,
     rows: &[Value],
@@ -124,7 +121,7 @@ fn put_row<G: Gas>(
     lattice.set_row(y, solid, state_of);
 }
 
-// Puts the cells of all rows. `solid` and `state_of` are buffers for the cells of a row.
+// Puts the cells of all rows. `solid` and `state_of` are buffers for a row.
 fn put_rows<G: Gas>(
     lattice: &mut Lattice<G>,
     rows: &[Value],
@@ -144,7 +141,6 @@ fn put_rows<G: Gas>(
     }
 }
 
-// The lattice of a map whose rows hold cells.
 fn map_lattice<G: Gas>(alloc: Global, rows: &[Value]) -> Result<Lattice<G>, AllocError>
     requires { IsMap (2 ^ G.rules.dirs) (map text_of (map view rows.now)) }
     ensures { IfOk result (λ l.
@@ -164,7 +160,6 @@ fn map_lattice<G: Gas>(alloc: Global, rows: &[Value]) -> Result<Lattice<G>, Allo
     Ok(lattice)
 }
 
-// Refuses rows that are no map.
 fn check(most: u32, states: u16, rows: &[Value]) -> Result<(), SceneError>
     requires { most ≤ MOST_SIDE }
     ensures { result ≡ as_result (map_refusal most states (map text_of (map view rows.now))) }
@@ -176,7 +171,6 @@ fn check(most: u32, states: u16, rows: &[Value]) -> Result<(), SceneError>
     check_cells(states, rows)
 }
 
-// The lattice of rows that hold cells of a gas.
 fn build(alloc: Global, gas: KnownGas, rows: &[Value]) -> Result<AnyLattice, AllocError>
     requires { IsMap (2 ^ (rules_of gas).dirs) (map text_of (map view rows.now)) }
     ensures { IfOk result (λ l. gas_lattice l ≡ record {
@@ -187,7 +181,7 @@ fn build(alloc: Global, gas: KnownGas, rows: &[Value]) -> Result<AnyLattice, All
     Ok(any_lattice!(gas, map_lattice(alloc, rows)?))
 }
 
-/// The lattice of the rows of a map, with sides of at most `most` cells, or their first fault.
+/// Returns the lattice of the rows, with sides of at most `most` cells, or their first fault.
 pub(crate) fn lattice(
     alloc: Global,
     gas: KnownGas,
@@ -205,8 +199,8 @@ pub(crate) fn lattice(
       lattice = map_lattice (2 ^ (rules_of gas).dirs) (map text_of (map view rows.now));
     }) }
 {
-    // Each cell is judged before the first request for memory, so that no refusal of memory hides
-    // a bad cell further down. So a cell is gone through twice: here, and when it is read.
+    // All cells are checked before the first request for memory, so that no refusal of memory hides
+    // a bad cell further down. So each cell is read twice.
     check(most, gas.states(), rows)?;
     Ok(build(alloc, gas, rows)?)
 }

@@ -17,8 +17,8 @@ use std::alloc::Global;
 use std::marker::Model;
 use toml::Table;
 
-/// A lattice, where the random bits of its collisions come from, and its generation: the first step
-/// uses the random bits of that generation.
+/// A lattice, the source of the random bits of its collisions, and its generation. The first step
+/// uses the random bits of this generation.
 #[derive(Drop)]
 pub struct Scene {
     lattice: AnyLattice,
@@ -46,21 +46,21 @@ impl Scene {
     ghost use Rattle.std.specs.Prelude.{◌≡◌, ◌≤◌};
     ghost use Rattle.gas_scene.specs.Catalog.{gas_lattice};
 
-    /// The lattice.
+    /// Returns the lattice.
     pub fn lattice(&self) -> &AnyLattice
         ensures value { gas_lattice result.now ≡ self.now.lattice }
     {
         &self.lattice
     }
 
-    /// Where the random bits of its collisions come from.
+    /// Returns the source of the random bits of its collisions.
     pub fn chirality(&self) -> Chirality
         ensures value { result ≡ self.now.chirality }
     {
         self.chirality
     }
 
-    /// The generation of the lattice, 0 to 1,000,000,000,000.
+    /// Returns the generation of the lattice, 0 to 1,000,000,000,000.
     pub fn generation(&self) -> u64
         ensures value { result ≡ self.now.generation }
         ensures few { result ≤ 1000000000000 }
@@ -77,7 +77,7 @@ impl SceneTable<'_> {
     ghost use Rattle.gas_scene.specs.Refusals.{is_common_in_range, most_side, value_refusal};
     ghost use Rattle.gas_scene.specs.Inner.Models.{table_model};
 
-    // The lattice of the map or of the area, or its first fault.
+    // Returns the lattice of the map or of the area, or the first fault of its values.
     fn lattice(&self, alloc: Global, common: CommonValues) -> Result<AnyLattice, SceneError>
         requires common { is_common_in_range (table_model self.now) ≡ true }
         requires gas { gas_named self.now.gas.now ≡ Some common.gas }
@@ -94,7 +94,7 @@ impl SceneTable<'_> {
         }
     }
 
-    // The scene, or the first fault of the values.
+    // Returns the scene, or the first fault of the values.
     fn scene(&self, alloc: Global) -> Result<Scene, SceneError>
         ensures refused { IfErr result (λ e.
             (value_refusal (table_model self.now) ≡ Some e) ⊎ (e ≡ Memory)) }
@@ -112,7 +112,7 @@ impl SceneTable<'_> {
     }
 }
 
-// The scene of a table, or its first fault.
+// Returns the scene of a table, or its first fault.
 fn read_table(alloc: Global, table: &Table) -> Result<Scene, SceneError>
     ensures { ReturnsOrMemory result (table_answer (table_view table.now)) }
 {
@@ -120,27 +120,27 @@ fn read_table(alloc: Global, table: &Table) -> Result<Scene, SceneError>
     table.scene(alloc)
 }
 
-/// Reads a scene, a TOML document in UTF-8 whose keys stand at the top level.
+/// Reads a scene, a TOML document in UTF-8 with its keys at the top level.
 ///
-/// Both forms: `version` is 1 or 2, `gas` (required) is `"fhp1"`, `"hpp"` or `"fhp-rest"`,
-/// `chirality` is `"seeded"`, `"left"` or `"right"`, and `seed` is 0 or more; left out, they are 1,
-/// `"seeded"` and 0. Version 2 alone has `generation`, the generation of the lattice that is given,
-/// 0 to 1,000,000,000,000, and 0 where it is left out.
+/// Both forms have these keys. Only `gas` is required: `"fhp1"`, `"hpp"` or `"fhp-rest"`. `version`
+/// is 1 or 2, and 1 by default. `chirality` is `"seeded"`, `"left"` or `"right"`, and `"seeded"` by
+/// default. `seed` is 0 or more, and 0 by default. Only version 2 has `generation`, the generation
+/// of the given lattice: 0 to 1,000,000,000,000, and 0 by default.
 ///
-/// The sides of a lattice have 1 to 4096 cells under version 1, and 1 to 65,536 under version 2.
+/// The sides of a lattice have 1 to 4096 cells in version 1, and 1 to 65,536 in version 2.
 ///
-/// A map has `cells`, texts of one length, the rows from the top: two characters for each cell,
-/// `..` or `00` for an empty one, `##` for a solid one, and else the state as two digits of
-/// `0123456789abcdef`, where bit `i` stands for direction `i`.
+/// A map has `cells`, texts of one length: the rows from the top, two characters per cell. `..` and
+/// `00` are empty, and `##` is solid. Any other cell is its state as two digits of
+/// `0123456789abcdef`, in which bit `i` is direction `i`.
 ///
-/// An area has `width` and `height`, and may have `solid`, rectangles `[x, y, w, h]` within it,
-/// `rate`, 0 to 1000, and `particles`, entries `[x, y, state]` at fluid cells. The rectangles are
-/// solid, each fluid cell is filled at the rate in thousandths by the key stream under the seed,
-/// and then each entry in order sets the state of its cell.
+/// An area has `width` and `height`. It may have `solid`, rectangles `[x, y, w, h]` in it, `rate`,
+/// 0 to 1000, and `particles`, entries `[x, y, state]` at fluid cells. The rectangles are solid.
+/// The fluid cells are filled at the rate in thousandths by the key stream of the seed. Then each
+/// entry in order sets the state of its cell.
 ///
-/// The first check that refuses the text gives the error: `Syntax`, `UnknownKey`, `BothForms`,
-/// `Missing`, `WrongType`, `Range`, `RowLength`, `BadCell`, in this order. `Memory` may come while
-/// the text is parsed, from the check for `Range` on, and while the lattice is built.
+/// The error is from the first check that refuses the text. The order of checks is `Syntax`,
+/// `UnknownKey`, `BothForms`, `Missing`, `WrongType`, `Range`, `RowLength`, `BadCell`. `Memory` is
+/// returned while the text is parsed, from the check for `Range` on, or while the lattice is built.
 pub fn read(alloc: Global, text: &[u8]) -> Result<Scene, SceneError>
     ensures answer { (result ≡ scene_of_text text.now) ⊎ (result ≡ Err Memory) }
 {

@@ -22,7 +22,7 @@ pub enum Form<'a> {
     Area(Area<'a>),
 }
 
-/// The table of a scene: its values are of their types, and their ranges are not yet checked.
+/// The table of a scene. Its values have their types, but their ranges are not checked yet.
 #[derive(Clone, Copy)]
 pub struct SceneTable<'a> {
     pub version: i64,
@@ -43,7 +43,7 @@ impl<'a> Values<'a> {
     ghost use Rattle.gas_scene.specs.Inner.Values.{data_of};
     ghost use Rattle.gas_scene.specs.Inner.Models.{has_area_value, area_typed, form_typed, values_typed, area_model, area_at, table_at, table_model, IsForm};
 
-    // The version; what is no integer is no version.
+    // Returns the version. A value that is no integer counts as 0, which is no version.
     fn version(&self) -> i64
         ensures { result ≡ option_map_or integer_of (data_of self.now.version) (pos 1) }
     {
@@ -53,7 +53,7 @@ impl<'a> Values<'a> {
         }
     }
 
-    // Returns whether a scene of this version has each of the table's keys.
+    // Returns whether scenes of this version have each of the table's keys.
     fn has_known_keys(&self, table: &Table) -> bool
         ensures { result ≡ list_all (λ k. is_known
             (option_map_or integer_of (data_of self.now.version) (pos 1))
@@ -63,7 +63,7 @@ impl<'a> Values<'a> {
         table.keys().all(|key| is_known(version, key.as_str()))
     }
 
-    // Returns whether there is a key of the area.
+    // Returns whether there is a key of an area.
     fn has_area(&self) -> bool
         ensures { result ≡ has_area_value self.now }
     {
@@ -74,7 +74,7 @@ impl<'a> Values<'a> {
             || self.particles.is_some()
     }
 
-    // Returns whether there are the rows of a map and a key of the area.
+    // Returns whether there are the rows of a map and a key of an area.
     fn has_both_forms(&self) -> bool
         ensures { result ≡ (is_some (data_of self.now.cells) && has_area_value self.now) }
     {
@@ -97,7 +97,7 @@ impl<'a> Values<'a> {
         self.gas.is_some() && self.has_form()
     }
 
-    // The area, and None where one of its values is of another type.
+    // Returns the area, or None if one of its values has another type.
     fn area(&self) -> Option<Area<'a>>
         ensures typed { is_some result ≡ area_typed self.now }
         ensures value { IfSome result (λ a. area_model a ≡ area_at self.now) }
@@ -111,7 +111,7 @@ impl<'a> Values<'a> {
         })
     }
 
-    // The map or the area, and None where one of their values is of another type.
+    // Returns the map or the area, or None if one of its values has another type.
     fn form(&self) -> Option<Form<'a>>
         requires { (is_some (data_of self.now.cells) && has_area_value self.now) ≡ false }
         ensures typed { is_some result ≡ form_typed self.now }
@@ -123,7 +123,7 @@ impl<'a> Values<'a> {
         }
     }
 
-    // The table, and None where one of the values is of another type.
+    // Returns the table, or None if one of the values has another type.
     fn scene_table(&self) -> Option<SceneTable<'a>>
         requires { (is_some (data_of self.now.cells) && has_area_value self.now) ≡ false }
         ensures typed { is_some result ≡ values_typed self.now }
@@ -147,7 +147,7 @@ impl<'a> SceneTable<'a> {
     ghost use Rattle.gas_scene.specs.Refusals.{table_refusal};
     ghost use Rattle.gas_scene.specs.Inner.Models.{table_model};
 
-    /// The scene's table, or the first fault of the keys and the types.
+    /// Returns the scene's table, or the first fault of the keys and the types.
     pub(crate) fn of(table: &'a Table) -> Result<SceneTable<'a>, SceneError>
         ensures refused { IfErr result (λ e. table_refusal (table_view table.now) ≡ Some e) }
         ensures accepted { IfOk result (λ t. table_refusal (table_view table.now) ≡ None) }

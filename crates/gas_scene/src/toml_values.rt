@@ -12,7 +12,7 @@ use gas_layout::placement::Placement;
 use gas_layout::rectangle::Rectangle;
 use toml::Value;
 
-/// The integer at a key, `otherwise` where the key is left out, and None for another type.
+/// Returns the integer at a key, `otherwise` if the key is absent, or None for another type.
 pub(crate) fn integer(value: Option<&Value>, otherwise: i64) -> Option<i64>
     ensures typed { is_some result ≡ option_map_or is_integer (data_of value.entry) true }
     ensures value { IfSome result (λ z.
@@ -24,7 +24,7 @@ pub(crate) fn integer(value: Option<&Value>, otherwise: i64) -> Option<i64>
     }
 }
 
-/// The text at a key, `otherwise` where the key is left out, and None for another type.
+/// Returns the text at a key, `otherwise` if the key is absent, or None for another type.
 pub(crate) fn text<'a>(value: Option<&'a Value>, otherwise: &'a str) -> Option<&'a str>
     ensures typed { is_some result ≡ option_map_or is_text (data_of value.entry) true }
     ensures value { IfSome result (λ s.
@@ -36,7 +36,7 @@ pub(crate) fn text<'a>(value: Option<&'a Value>, otherwise: &'a str) -> Option<&
     }
 }
 
-// The elements of the array that a value is, or none.
+// Returns the elements of an array, and no element for another type.
 fn elements(value: &Value) -> &[Value]
     ensures { map view result.now ≡ elements_of (view value.now) }
 {
@@ -60,7 +60,7 @@ fn are_integers(values: &[Value]) -> bool
     values.iter().all(|value| value.is_integer())
 }
 
-// Returns whether the value is an array of n integers.
+// Returns whether the value is an array of `n` integers.
 fn is_tuple(value: &Value, n: usize) -> bool
     ensures { result ≡ is_tuple n (view value.now) }
 {
@@ -71,7 +71,7 @@ fn is_tuple(value: &Value, n: usize) -> bool
     numbers.len() == n && are_integers(numbers)
 }
 
-// Returns whether each value is an array of n integers.
+// Returns whether each value is an array of `n` integers.
 fn are_tuples(values: &[Value], n: usize) -> bool
     ensures { result ≡ list_all (λ v. is_tuple n (view v)) values.now }
 {
@@ -85,14 +85,14 @@ fn is_array_of_texts(value: &Value) -> bool
     value.is_array() && are_texts(elements(value))
 }
 
-// Returns whether the value is an array of arrays of n integers.
+// Returns whether the value is an array of arrays of `n` integers.
 fn is_array_of_tuples(value: &Value, n: usize) -> bool
     ensures { result ≡ is_array_of (is_tuple n) (view value.now) }
 {
     value.is_array() && are_tuples(elements(value), n)
 }
 
-/// The elements of an array of texts, and None for another type.
+/// Returns the elements of an array of texts, or None for another type.
 pub(crate) fn texts(value: &Value) -> Option<&[Value]>
     ensures typed { is_some result ≡ is_array_of is_text (view value.now) }
     ensures value { IfSome result (λ vs. map view vs.now ≡ elements_of (view value.now)) }
@@ -104,8 +104,8 @@ pub(crate) fn texts(value: &Value) -> Option<&[Value]>
     }
 }
 
-/// The elements of an array of arrays of n integers, none where the key is left out, and None for
-/// another type.
+/// Returns the elements of an array of arrays of `n` integers, no element if the key is absent, or
+/// None for another type.
 pub(crate) fn tuples(value: Option<&Value>, n: usize) -> Option<&[Value]>
     ensures typed { is_some result
         ≡ option_map_or (is_array_of (is_tuple n)) (data_of value.entry) true }
@@ -119,14 +119,14 @@ pub(crate) fn tuples(value: Option<&Value>, n: usize) -> Option<&[Value]>
     }
 }
 
-/// The text that a value is, or no text.
+/// Returns a text, or the empty text for another type.
 pub(crate) fn text_of(value: &Value) -> &str
     ensures { result.now ≡ text_of (view value.now) }
 {
     value.as_str().unwrap_or("")
 }
 
-// Integer `k` of an array, or 0.
+// Returns integer `k` of an array, or 0.
 fn number(value: &Value, k: usize) -> i64
     ensures { result ≡ number k (view value.now) }
 {
@@ -136,7 +136,7 @@ fn number(value: &Value, k: usize) -> i64
     }
 }
 
-/// The rectangle of `[x, y, w, h]`.
+/// Returns the rectangle of `[x, y, w, h]`.
 pub(crate) fn rectangle(value: &Value) -> Rectangle
     ensures { result ≡ rectangle_of (view value.now) }
 {
@@ -148,7 +148,7 @@ pub(crate) fn rectangle(value: &Value) -> Rectangle
     }
 }
 
-/// The placement of `[x, y, state]`.
+/// Returns the placement of `[x, y, state]`.
 pub(crate) fn placement(value: &Value) -> Placement
     ensures { result ≡ placement_of (view value.now) }
 {

@@ -1,4 +1,4 @@
-//! What can go wrong from the command line to the answer.
+//! The faults, from the command line to the answer.
 
 pub use gas_tool_cli::faults::UsageFault;
 pub use gas_tool_io::faults::{InputFault, WriteFault};

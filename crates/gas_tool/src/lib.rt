@@ -1,17 +1,17 @@
-//! The tool, for other programs: the command line, the input, requests and their answers, lattices
-//! seen by blocks, and the printed texts.
+//! The tool, for other programs: the command line, the input, requests and their answers, blocks of
+//! a lattice, and the printed texts.
 //!
-//! `parse_words` makes a `Request` of a command line's words, `slurp` reads an input, and `perform`
-//! writes the answer to a request on the text of a scene, as the program `fhpgas` does. `coarse`
-//! gives the density and the momentum of a lattice by blocks of cells:
+//! `parse_words` returns the `Request` of a command line's words, and `slurp` reads an input.
+//! `perform` writes the answer to a request on the text of a scene, as the program `fhpgas` does.
+//! `coarse` returns the density and the momentum of a lattice by blocks of cells:
 //!
 //! ```
 //! let blocks = coarse(alloc, lattice, 8, 4)?;
 //! for block in &blocks {
 //! ```
 //!
-//! The crate gives names alone: an item promises what the contract in its own crate says.
-//! `docs/PROVED.md` says it in words, and `docs/LIBRARY.md` walks through an example.
+//! This crate only names items. The contract of an item is in the crate that defines it.
+//! `docs/PROVED.md` lists the promises in words, and `docs/LIBRARY.md` walks through an example.
 #![tactic(auto)]
 
 pub mod faults;

@@ -1,4 +1,4 @@
--- Lemmas on what the errors of a parse say of its faults.
+-- Lemmas about the errors of a parse and its faults.
 use Rattle.std.proofs.Common.{◌≢◌, [], ◌∷◌, inl, inr, ◌≡◌, refl, sym, ◌∙◌, subst}
 use Rattle.std.specs.Prelude.{true}
 use Rattle.clap.specs.Words.{Kinds, HasKind, IsAmong, kind_of, is_simple_and_free}
@@ -12,12 +12,12 @@ use Rattle.gas_tool_cli.specs.declared.faults.UsageFault.TheVariants as fault
 use Rattle.gas_tool_cli.specs.Requests.{IsFaultOf}
 use Rattle.gas_tool_cli.specs.Inner.Kinds.{TellsKind}
 
--- the command's parses tell the kinds of their errors
+-- the errors of the command's parses have known kinds
 pub program_is_free : is_simple_and_free program_app ≡ true
 unfolding clap_on_literals
 program_is_free = refl
 
--- the fault of an error is one of the kinds that the words may give
+-- the fault of an error is of a kind that the words can have
 pub fault_tells : (kinds : Kinds) (e : Error) (f : UsageFault) → HasKind kinds e → TellsKind (kind_of e) f → IsFaultOf kinds f
 fault_tells kinds e fault.Memory h t = tt
 fault_tells kinds e (fault.Help text) (inl memory) (inl t) = absurd (let bad : OutOfMemory ≡ DisplayHelp = sym memory ∙ t in cc)

@@ -1,4 +1,4 @@
--- Lemmas on what the values of the matches say.
+-- Lemmas about the values of the matches.
 use Rattle.std.proofs.Common.{◌++◌, [], ◌∷◌, ◌≡◌, ℕ, List, Option, Some, None, refl, subst}
 use Rattle.std.specs.Prelude.{Result, IsSomeAnd}
 use Rattle.std.specs.List.{AllZip}
@@ -9,7 +9,7 @@ use Rattle.clap.specs.declared.parser.matches.Found.{Found}
 use Rattle.clap.proofs.WalkLemmas.{one_text-rows}
 use Rattle.gas_tool_cli.specs.Requests.{IsNumber, IsNumberAt}
 
--- what `get_one` says of a number that it returns
+-- what `get_one` ensures about a number
 abbrev ParsesNumber : ℕ → List ℕ → Result ℕ ParseIntError → Type 0
 ParsesNumber bits bs r = ParsesUnsigned bits 10 bs r × ExplainsUnsignedError 10 bs r × HasUnsignedDigitsIfOk bs r
 
@@ -24,7 +24,7 @@ number_at bits f id n none value =
     subst (λ (o : Option Text). IsSomeAnd o (λ text. IsNumber bits text n)) (one_text-rows f id)
     (number_by bits f id n (one_text f id) refl none value)
 
--- what holds of the items of two lists, place by place, and of one more of each, holds of the lists with these
+-- what is true of two lists, place by place, and of one more item of each, is true of the lists with these items
 pub all_zip_push : {X Y : Type 0} (R : X → Y → Type 0) (xs : List X) (ys : List Y) (x : X) (y : Y) → AllZip R xs ys → R x y → AllZip R (xs ++ x ∷ []) (ys ++ y ∷ [])
 all_zip_push R [] [] x y all one = (one, tt)
 all_zip_push R [] (z ∷ ys) x y all one = absurd all

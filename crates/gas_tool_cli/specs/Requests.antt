@@ -1,4 +1,4 @@
--- The request of the matches of the words, and the fault where they give none.
+-- The request in the matches of the words, and the fault of words without a request.
 use Rattle.std.specs.Prelude.{◌≡◌, ◌≢◌, ◌⊎◌, ◌≤◌, ℕ, List, [], ◌∷◌, Option, Some, None, IsSomeAnd, Ok, codes, unwrap_or, ⊤}
 use Rattle.std.specs.List.{AllZip}
 use Rattle.std.specs.Str.Parse.{ParsesUnsigned}
@@ -15,7 +15,7 @@ use Rattle.gas_tool_cli.specs.declared.request.Request.TheVariants.{Check, Run, 
 abbrev pub IsNumber : ℕ → Text → ℕ → Type 0
 IsNumber bits text n = ParsesUnsigned {E = ParseIntError} bits 10 text (Ok n)
 
--- the rows hold this number for an option
+-- the rows contain this number for an option
 abbrev pub IsNumberAt : ℕ → List Row → Text → ℕ → Type 0
 IsNumberAt bits rows option n = IsSomeAnd (one_of option rows) (λ text. IsNumber bits text n)
 
@@ -29,7 +29,7 @@ pub record IsPlanAt (rows : List Row) (stages capacity generations : ℕ) : Type
 abbrev pub IsSideAt : List Row → Text → ℕ → Type 0
 IsSideAt rows option n = IsNumberAt 32 rows option n × (1 ≤ n) × (n ≤ most_block_side)
 
--- and these turns, in order; none where there are no such words
+-- and these turns, in order; none if there are no such words
 abbrev pub AreTurnsAt : List Row → List ℕ → Type 0
 AreTurnsAt rows turns = AllZip (IsNumber 32) (unwrap_or (all_of (codes "turns") rows) []) turns
 
@@ -45,13 +45,13 @@ IsRequestOf (Some sub) (Coarse stages capacity generations width height) =
 IsRequestOf (Some sub) (Replay stages capacity generations turns) =
     (sub.0 ≡ codes "replay") × IsPlanAt sub.1 stages capacity generations × AreTurnsAt sub.1 turns
 
--- what a request must have to be performed: blocks with a column and a row at least
+-- a request that can be performed: its blocks have at least one column and one row
 abbrev pub IsAllowed : Request → Type 0
 IsAllowed (Coarse stages capacity generations width height) = (1 ≤ width) × (1 ≤ height)
 IsAllowed request = ⊤
 
--- the fault of words for which `clap` gives errors of these kinds: help only where they ask for it or for the version,
--- and never usage where they ask for one of these alone
+-- the fault of words for which `clap` returns errors of these kinds. It is help only if they ask for it or for the
+-- version. It is never usage if they ask only for one of these.
 abbrev pub IsFaultOf : Kinds → UsageFault → Type 0
 IsFaultOf kinds fault.Memory = ⊤
 IsFaultOf kinds (fault.Help text) = IsAmong DisplayHelp kinds ⊎ IsAmong DisplayVersion kinds

@@ -1,4 +1,4 @@
--- The command line, as `clap` sees it.
+-- The command line, for `clap`.
 use Rattle.std.specs.Prelude.{ℕ, pos, List, [], ◌∷◌, ◌++◌, Some, true, false, codes}
 use Rattle.clap.specs.Words.{App, Rule, Shape, Text, new_rule}
 use Rattle.clap.specs.Simple.{new_shape}
@@ -12,7 +12,7 @@ abbrev pub option_rule : Text → ValueParser → Rule
 option_rule name values =
     record (new_rule name) { long = Some name; value_names = 1; action = Some Set; parser = Some values }
 
--- one that has to be there
+-- a required one
 abbrev pub required_rule : Text → ValueParser → Rule
 required_rule name values = record (option_rule name values) { required = true }
 

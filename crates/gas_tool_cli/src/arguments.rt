@@ -1,4 +1,4 @@
-//! The options of the commands, as `clap` is told of them.
+//! The options of the commands, for `clap`.
 
 ghost use Rattle.std.specs.Prelude.{◌≡◌, false, codes};
 ghost use Rattle.clap.specs.declared.builder.value_parser.ValueParser.TheVariants.{Unsigned};

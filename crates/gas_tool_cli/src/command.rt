@@ -1,4 +1,4 @@
-//! The commands, as `clap` is told of them: the program's, with its subcommands and their options.
+//! The commands, for `clap`: the program's command with its subcommands and their options.
 
 ghost use Rattle.std.specs.Prelude.{◌≡◌, [], ◌∷◌, ◌++◌, IfOk, false, true, codes};
 ghost use Rattle.clap.specs.declared.builder.command.Command.TheViews.{out-Command as fields_of};
@@ -14,7 +14,7 @@ use crate::help;
 use clap::{Arg, Command};
 use std::alloc::{AllocError, Global};
 
-// A command with the texts of its help: how it is called, what it does, and notes.
+// A command with the texts of its help: its usage, what it does, and notes.
 fn new_command<'a>(
     alloc: Global,
     name: &'a str,
@@ -31,7 +31,7 @@ fn new_command<'a>(
         .after_help(notes)
 }
 
-// The command with one more option, if it could be made so far.
+// The command with one more option, if there is memory for both.
 fn with_arg<'a>(
     command: Result<Command<'a>, AllocError>,
     arg: Arg<'a>,
@@ -131,7 +131,7 @@ fn top_command<'a>(alloc: Global) -> Command<'a>
         .subcommand_required(true)
 }
 
-// The command with one more subcommand, if both could be made.
+// The command with one more subcommand, if there is memory for both.
 fn with_command<'a>(
     command: Result<Command<'a>, AllocError>,
     added: Result<Command<'a>, AllocError>,

@@ -1,12 +1,12 @@
-//! Why words give no request.
+//! Why words are no request.
 
 ghost use Rattle.std.specs.Prelude.{◌≡◌};
 ghost use Rattle.gas_tool_cli.specs.Status.{usage_status};
 
 use thiserror::Error;
 
-/// Why the words gave no request. `Usage` and `Help` hold the text to print, with its last line
-/// feed; the version is a help too.
+/// Why the words are no request. `Usage` and `Help` contain the text to print, with its last line
+/// feed. The version is a `Help` too.
 #[derive(Debug, Drop, Error)]
 pub enum UsageFault {
     #[error("memory refused")]
@@ -18,7 +18,7 @@ pub enum UsageFault {
 }
 
 impl UsageFault {
-    /// The program's exit status: 2 for usage, 3 for memory, 0 for help.
+    /// Returns the program's exit status: 2 for usage, 3 for memory, 0 for help.
     pub fn status(&self) -> u8
         ensures value { result ≡ usage_status self.now }
     {

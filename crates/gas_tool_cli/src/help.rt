@@ -1,6 +1,6 @@
-//! The texts of the help: what each command does, how it is called, and what else there is to know.
+//! The texts of the help: what each command does, its usage, and notes.
 
-/// The program's version, and the kit by which it is proved, whatever the letter of its release.
+/// The program's version, and the kit that proves it, without the letter of the kit's release.
 pub(crate) const VERSION: &str = "1.0.0 (rattle-kit-13 logic dac8208d650f15bf)";
 
 pub(crate) const ABOUT: &str = "\

@@ -1,4 +1,4 @@
-//! The request of what `clap` has matched: the subcommand, and the values of its options.
+//! The request in the matches of `clap`: the subcommand, and the values of its options.
 
 ghost use Rattle.std.specs.Prelude.{IfOk, IfSome, Some, map, codes};
 ghost use Rattle.std.specs.List.{AllZip};
@@ -10,7 +10,7 @@ use crate::request::{Request, Turns};
 use clap::ArgMatches;
 use std::alloc::{AllocError, Global};
 
-// The request of the matches.
+// Returns the request of the matches, or None if they are no request.
 pub(crate) fn request_of(alloc: Global, matches: &ArgMatches) -> Result<Option<Request>, AllocError>
     ensures { IfOk result (λ r. IfSome r (IsRequestOf (subcommand_rows_of matches.now))) }
 {
@@ -48,7 +48,7 @@ fn plan_of(options: &ArgMatches) -> Option<PlanNumbers>
     })
 }
 
-// The width or the height of blocks.
+// Returns the width or the height of blocks, or None if it is missing or out of range.
 fn side_of(options: &ArgMatches, name: &str) -> Option<u32>
     ensures { IfSome result (IsSideAt (rows_of (found_of options.now)) name.now) }
 {
@@ -60,7 +60,6 @@ fn side_of(options: &ArgMatches, name: &str) -> Option<u32>
     }
 }
 
-// The request of the options of `run`.
 fn run_request(options: &ArgMatches) -> Option<Request>
     ensures { IfSome result (IsRequestOf (Some (codes "run", rows_of (found_of options.now)))) }
 {
@@ -72,7 +71,6 @@ fn run_request(options: &ArgMatches) -> Option<Request>
     })
 }
 
-// The request of the options of `coarse`.
 fn coarse_request(options: &ArgMatches) -> Option<Request>
     ensures { IfSome result (IsRequestOf (Some (codes "coarse", rows_of (found_of options.now)))) }
 {
@@ -88,7 +86,7 @@ fn coarse_request(options: &ArgMatches) -> Option<Request>
     })
 }
 
-// The numbers that the words are; None where one is none.
+// Parses each word as a number. Returns None if a word is no number.
 fn parse_numbers(alloc: Global, words: &[&str]) -> Result<Option<Vec<u32>>, AllocError>
     ensures { IfOk result (λ r. IfSome r
         (λ numbers. AllZip (IsNumber 32) (map (λ w. w.now) words.now) numbers.items)) }
@@ -103,7 +101,8 @@ fn parse_numbers(alloc: Global, words: &[&str]) -> Result<Option<Vec<u32>>, Allo
     Ok(Some(numbers))
 }
 
-// The turns; None where a word is no number, which cannot happen since `clap` refused such words.
+// Returns the turns, or None if a word is no number. That cannot happen, because `clap` refuses
+// such words.
 fn turns_of(alloc: Global, options: &ArgMatches) -> Result<Option<Turns>, AllocError>
     ensures { IfOk result (λ r. IfSome r (AreTurnsAt (rows_of (found_of options.now)))) }
 {
@@ -116,7 +115,6 @@ fn turns_of(alloc: Global, options: &ArgMatches) -> Result<Option<Turns>, AllocE
     }
 }
 
-// The request of the options of `replay`.
 fn replay_request(alloc: Global, options: &ArgMatches) -> Result<Option<Request>, AllocError>
     ensures { IfOk result (λ r. IfSome r
         (IsRequestOf (Some (codes "replay", rows_of (found_of options.now))))) }

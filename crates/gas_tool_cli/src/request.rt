@@ -6,8 +6,8 @@ ghost use Rattle.std.specs.Cmp.Lexicographic.{nat_list_eq_equiv, pointwise};
 
 use std::marker::Model;
 
-/// A schedule: the list of the members of a line that take a step, one after another. 0 is the
-/// feeder, k is worker k.
+/// A schedule of a pipeline: the members that take a step, one after another. 0 is the feeder, and
+/// k is worker k.
 #[derive(Debug, Drop)]
 pub struct Turns {
     list: Vec<u32>,
@@ -22,14 +22,14 @@ impl Model for Turns {
 }
 
 impl Turns {
-    /// The turns of a list.
+    /// Returns the schedule of these turns.
     pub fn new(list: Vec<u32>) -> Turns
         ensures value { result ≡ list.items }
     {
         Turns { list }
     }
 
-    /// The list of the turns.
+    /// Returns the turns in order.
     pub fn as_slice(&self) -> &[u32]
         ensures value { result.now ≡ self.now }
     {
@@ -51,11 +51,11 @@ impl Eq for Turns {
     ghost laws = { nat_list_eq_equiv };
 }
 
-/// What the words of the command line ask for. The limits of stages, capacity and generations are
-/// checked where the plan is made.
+/// What the words of the command line ask for. Only the plan checks the limits of stages, capacity
+/// and generations.
 #[derive(Debug, Drop, PartialEq, Eq)]
 pub enum Request {
-    /// Read the scene and print a line that tells what it is.
+    /// Read the scene and print a summary of one line.
     Check,
     /// Compute generations and print the cells.
     Run {
@@ -72,8 +72,8 @@ pub enum Request {
         block_width: u32,
         block_height: u32,
     },
-    /// Let the members of a line make these turns, in one pass on one thread, and print where it
-    /// stands.
+    /// Let the members of a pipeline make these turns, in one pass on one thread, and print the
+    /// state of the pass.
     Replay {
         stages: u32,
         capacity: u32,

@@ -1,4 +1,4 @@
-//! The words of the command line, read: the request that they make, or why they make none.
+//! Reading the words of the command line: their request, or why they are none.
 
 ghost use Rattle.std.specs.Prelude.{[], IfOk, IfErr, map};
 ghost use Rattle.clap.specs.Words.{fault_of, kind_of, subcommand_of};
@@ -13,7 +13,7 @@ use crate::request::Request;
 use clap::error::ErrorKind;
 use std::alloc::Global;
 
-// The fault of matches that hold no request. `clap` returns no such matches for this command line;
+// The fault of matches without a request. `clap` returns no such matches for this command line, but
 // that is not proved.
 fn missing_value(alloc: Global) -> UsageFault
     ensures { IsFaultOf [] result }
@@ -24,7 +24,7 @@ fn missing_value(alloc: Global) -> UsageFault
     }
 }
 
-// The fault of a parse that failed.
+// The fault of a failed parse.
 fn usage_of(alloc: Global, error: clap::Error) -> UsageFault
     ensures { TellsKind (kind_of error) result }
 {
@@ -40,8 +40,8 @@ fn usage_of(alloc: Global, error: clap::Error) -> UsageFault
     }
 }
 
-/// The request of the words, the program's name first. `Help` is for words that ask for help or the
-/// version, and `Usage` for all others that give no request.
+/// Returns the request of the words, the program's name first. The fault is `Help` if the words ask
+/// for help or the version, `Usage` if they are wrong, and `Memory` if memory is refused.
 pub fn parse_words<'a>(alloc: Global, words: &'a [&'a str]) -> Result<Request, UsageFault>
     ensures fault { IfErr result (IsFaultOf
         (fault_of program_app (map (λ s. s.now) words.entry.now))) }

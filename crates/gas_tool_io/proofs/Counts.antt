@@ -1,4 +1,4 @@
--- The cells of a block counted direction by direction make the block of its cells one after another.
+-- A block counted direction by direction is the block of its cells one after another.
 use Rattle.std.proofs.Common.{◌≡◌, ◌∙◌, ap, ap₂, sym, true, false, Bool, cond, ℕ, zero, suc, ◌+◌, ◌-◌, ◌*◌, ◌<◌, ◌≤◌, refl, pos, negsuc, ◌+ℤ◌, ◌*ℤ◌, neg_ℤ, ℤ, arith, List, [], ◌∷◌, fold, length}
 use Rattle.std.specs.Prelude.{if◌then◌else◌, not}
 use Rattle.std.specs.List.{count_by}
@@ -56,7 +56,7 @@ once_more false z n = times-add z 0 n ∙ ap (λ y. y +ℤ z *ℤ pos n) (times-
 exchanged : (a b c d : ℤ) → (a +ℤ b) +ℤ (c +ℤ d) ≡ (a +ℤ c) +ℤ (b +ℤ d)
 exchanged a b c d = omega (arith, ints)
 
--- one set more
+-- one more set
 sum_times-more : (n s : ℕ) (count more : ℕ → ℕ) (f : ℕ → ℤ) → ((i : ℕ) → more i ≡ cond (holds s i) 1 0 + count i) →
     sum_times n more f ≡ sum_held n s f +ℤ sum_times n count f
 sum_times-more zero s count more f each = refl
@@ -87,11 +87,11 @@ sum_times-within (suc n) m count f h small =
     (Within-add _ _ _ _ (sum_times-within n m count f h (λ i lt. small i (omega arith))) (times-within (f n) (count n) (small n (omega arith))))
 
 -- ---- blocks
--- how many of the cells hold direction i
+-- the number of cells with direction i
 abbrev pub holding : (ℕ → ℕ) → List ℕ → ℕ → ℕ
 holding state xs i = count_by (λ x. holds (state x) i) xs
 
--- a block with cells, and with those of their particles that move in a direction below n
+-- a block with cells, and with their particles in directions below n
 abbrev pub counted : Rules → (ℕ → Bool) → (ℕ → ℕ) → Block → List ℕ → ℕ → Block
 counted gas solid state b xs n = record {
   col = b.col;
@@ -123,7 +123,7 @@ pub particles_made : (gas : Rules) (b : Block) (i count many : ℕ) (x y : ℤ) 
     → let made : Block = record { col = b.col; row = b.row; fluid = b.fluid; particles = b.particles + many; px = x; py = y } in made ≡ plus_particles gas b i count
 particles_made gas b i count many x y m e n = rw (m, e, n) refl
 
--- those of one direction more
+-- the particles of one more direction
 pub counted-more : (gas : Rules) (solid : ℕ → Bool) (state : ℕ → ℕ) (b : Block) (xs : List ℕ) (n : ℕ) →
     plus_particles gas (counted gas solid state b xs n) n (holding state xs n) ≡ counted gas solid state b xs (n + 1)
 counted-more gas solid state b xs n =
@@ -131,7 +131,7 @@ counted-more gas solid state b xs n =
     (omega arith) (sym (z_assoc b.px _ _)) (sym (z_assoc b.py _ _))
     ∙ ap (counted gas solid state b xs) (let e : suc n ≡ n + 1 = omega arith in e)
 
--- a cell more
+-- one more cell
 fluid_more : (s : Bool) (f l c : ℕ) → c ≤ l → f + (suc l - (cond s 1 0 + c)) ≡ f + (if not s then 1 else 0) + (l - c)
 fluid_more true f l c h = omega arith
 fluid_more false f l c h = omega arith

@@ -1,4 +1,4 @@
--- Lemmas on the lines of a table.
+-- Lemmas about the lines of a table.
 use Rattle.std.proofs.Common.{◌≡◌, ℕ, zero, suc, ◌-◌, List, [], ◌∷◌, ◌++◌, length, refl, ap, ◌∙◌, ℤ, pos, negsuc, append_assoc, append-nil, arith, lit<, false, true}
 use Rattle.std.specs.Prelude.{replicate, unsigned_abs}
 use Rattle.std.specs.Int.{is_negative}

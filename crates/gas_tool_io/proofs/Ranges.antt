@@ -1,4 +1,4 @@
--- Lemmas on ranges of numbers, the parts that they fall into, and lists that grow.
+-- Lemmas about ranges of numbers, their parts, and lists that grow.
 use Rattle.std.proofs.Common.{◌≡◌, ◌∙◌, ap, sym, cond, true, false, Bool, ℕ, zero, suc, ◌+◌, ◌-◌, ◌*◌, ◌/◌, ◌<◌, ◌≤◌, min, refl, zero-add, append_assoc, arith, List, [], ◌∷◌, ◌++◌, map, length, take, drop, get_or, append-nil, ap₂, length-append}
 use Rattle.std.specs.Prelude.{◌==◌, filter}
 use Rattle.std.specs.Int.{div_ceil}
@@ -27,7 +27,7 @@ filter_all p a (suc n) h =
     ap (λ b. cond b (a ∷ filter p (range_with_len (a + 1) n)) (filter p (range_with_len (a + 1) n))) (h a (omega arith) (omega arith))
     ∙ ap (λ xs. a ∷ xs) (filter_all p (a + 1) n (λ i low high. h i (omega arith) (omega arith)))
 
--- numbers below, in and past the multiple of a size that a part begins with
+-- numbers before, in and after the part that begins at a multiple of a size
 below_part : (size k i : ℕ) → 1 ≤ size → i < k * size → (i / size == k) ≡ false
 below_part size k i some low =
     let less : i / size < k = (div-lt_iff_lt-mul some).1 low in
@@ -90,21 +90,21 @@ begins-within n size k some lt =
     let less : (k + 1) * size ≤ div_ceil n size * size = mul-le-mul_right size (let h : k + 1 ≤ div_ceil n size = omega arith in h) in
     omega (arith, less, (div_ceil_times n size some).1)
 
--- one item more of those that a function gives for the numbers from 0 on
+-- one more item of a function's values at the numbers from 0 on
 pub pushed : {X : Type 0} (f : ℕ → X) (old now more : List X) (n : ℕ) (x : X) → now ≡ old ++ map f (range_with_len 0 n) → more ≡ now ++ x ∷ [] → x ≡ f n
     → more ≡ old ++ map f (range_with_len 0 (n + 1))
 pushed f old now more n x so_far push is =
     push ∙ ap₂ (λ ys y. ys ++ y ∷ []) so_far is ∙ append_assoc old (map f (range_with_len 0 n)) (f n ∷ [])
     ∙ ap (λ ys. old ++ ys) (sym (map-range_with_len_more f 0 n n (zero-add n)))
 
--- one list more of those that a function gives for the numbers from 0 on
+-- one more list of a function's values at the numbers from 0 on
 pub strips-more : {X : Type 0} (f : ℕ → List X) (now more : List X) (n : ℕ) → now ≡ flat_map f (range_with_len 0 n) → more ≡ now ++ f n
     → more ≡ flat_map f (range_with_len 0 (n + 1))
 strips-more f now more n so_far is =
     is ∙ ap (λ ys. ys ++ f n) so_far ∙ ap (λ ys. flat_map f (range_with_len 0 n) ++ ys) (sym (append-nil (f n)) ∙ ap (λ k. f k ++ []) (sym (zero-add n)))
     ∙ sym (flat_map-append f (range_with_len 0 n) (range_with_len (0 + n) 1)) ∙ ap (flat_map f) (sym (range-append 0 n 1))
 
--- the end of a list, after what was appended was written over
+-- the end of a list, after the appended items were written over
 pub tail_written : {X : Type 0} (old added all front back new : List X) (start len : ℕ) → all ≡ old ++ added → start ≡ length old → front ≡ take start all
     → length back + start ≡ length all → length new ≡ length back → len ≡ length all
     → take len ((front ++ new) ++ drop (length (front ++ new)) all) ≡ old ++ new
@@ -114,6 +114,6 @@ tail_written old added all front back new start len is begins first last same wh
     ap (λ ys. take len ((front ++ new) ++ ys)) (drop_all _ all (omega (arith, long)))
     ∙ ap (take len) (append-nil (front ++ new)) ∙ take_all len (front ++ new) (omega (arith, long, whole)) ∙ ap (λ ys. ys ++ new) kept
 
--- what stands after what was there is what was appended
+-- the items after the old list are the appended ones
 pub tail_is : {X : Type 0} (old added all back : List X) (start : ℕ) → all ≡ old ++ added → start ≡ length old → back ≡ drop start all → back ≡ added
 tail_is old added all back start is begins last = last ∙ ap₂ drop begins is ∙ drop-append_seam old added

@@ -1,4 +1,4 @@
--- Lemmas on what a sink carries.
+-- Lemmas about sinks.
 use Rattle.std.proofs.Common.{◌≡◌, ℕ, ◌+◌, ◌-◌, ◌≤◌, List, [], ◌++◌, length, take, drop, Option, Some, None, true, false, subst, sym, ap, ◌∙◌, arith, append-nil, append_assoc, length-append, length-drop}
 use Rattle.std.proofs.lemmas.List.{take_all, drop_all, take-append-le}
 use Rattle.std.proofs.lemmas.Bool.{ltb-false}
@@ -23,7 +23,7 @@ Appends-part a b c n k xs p q =
 HasSent-same : (start now : Option (List ℕ)) (s : SinkModel) (text : List ℕ) → HasSent start now s text → HasSent start now s (text ++ [])
 HasSent-same start now s text h = subst (HasSent start now s) (sym (append-nil text)) h
 
--- where all went out, nothing waits
+-- if all went out, nothing waits
 none_waits : (w sent : ℕ) (text waiting : List ℕ) → drop w text ≡ waiting → nat_lt sent (length waiting) ≡ false → drop (w + sent) text ≡ []
 none_waits w sent text waiting e f =
     let all : length waiting ≤ sent = ltb-false sent (length waiting) f in
@@ -84,18 +84,18 @@ Adds-below a b p q f n m e h = subst (λ (k : ℕ). Adds a b p q (texts f 0 k)) 
 pub Adds-same : (a b : Option (List ℕ)) (p q : SinkModel) (text whole : List ℕ) → text ≡ whole → Adds a b p q text → Adds a b p q whole
 Adds-same a b p q text whole e h = subst (Adds a b p q) e h
 
--- bytes that make of a text another one
+-- bytes that turn one text into another
 pub Adds-more : (a b c : Option (List ℕ)) (p q r : SinkModel) (text bytes whole : List ℕ) → text ++ bytes ≡ whole → Adds a b p q text → Adds b c q r bytes → Adds a c p r whole
 Adds-more a b c p q r text bytes whole e h more = Adds-same a c p r _ _ e (Adds-then a b c p q r _ _ h more)
 
--- where nothing waits, the text went out whole, and a flush adds nothing
+-- if nothing waits, the whole text went out, and a flush adds nothing
 pub HasSent-whole : (start a b : Option (List ℕ)) (s : SinkModel) (text : List ℕ) → HasSent start a s text → s.failed ≡ false → s.waiting ≡ [] → Keeps a b → Appends start b text
 HasSent-whole start a b s text h ok none kept =
     let rest : drop s.written text ≡ [] = h.waiting ok ∙ none in
     let all : take s.written text ≡ text = take_all s.written text (omega (arith, length-drop s.written text, ap length rest)) in
     Appends-kept start a b text (subst (Appends start a) all h.out) kept
 
--- a line that was written into an empty string, and whose bytes were added then
+-- a line that was written into an empty string, and its bytes were added
 pub line_added : (a b : Option (List ℕ)) (p q : SinkModel) (empty full : ArrayString) (line : Option (List ℕ)) (bytes : List ℕ) → empty.bytes ≡ []
     → WritesText (λ (s : ArrayString) bs (t : ArrayString). t.bytes ≡ s.bytes ++ bs) empty line full → bytes ≡ full.bytes → Adds a b p q bytes → IfSome line (Adds a b p q)
 line_added a b p q empty full None bytes none writes same added = tt

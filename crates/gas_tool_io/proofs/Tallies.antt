@@ -1,4 +1,4 @@
--- Lemmas on how a block's numbers come together.
+-- Lemmas about how a block's numbers add up.
 use Rattle.std.proofs.Common.{◌≡◌, ◌∙◌, ap, sym, subst, true, false, Bool, ℕ, zero, suc, ◌+◌, ◌-◌, ◌*◌, ◌/◌, ◌<◌, ◌≤◌, min, refl, pos, negsuc, ◌+ℤ◌, ◌≤ℤ◌, neg_ℤ, ℤ, add-zero, zero-add, arith, List, [], ◌∷◌, ◌++◌, map, fold, length, slice_index_or, append-nil, ap₂, length-append}
 use Rattle.std.specs.Prelude.{All, ◌==◌, if◌then◌else◌, not, unsigned_abs}
 use Rattle.std.specs.Int.{div_ceil}
@@ -88,7 +88,7 @@ HasRoom-le b m n le h = record {
   north = omega (arith, ints, h.north);
 }
 
--- the cells of a row that stand in a block's column of blocks are those of a range
+-- the cells of a row that are in a block's column of blocks are a range
 pub row_is : (gas : Rules) (width : ℕ) (solid : List Bool) (row : List ℕ) (b r : Block) (m : ℕ) → 1 ≤ width → b.col * width < length row
     → m ≡ min width (length row - b.col * width) → r ≡ fold (plus_cell_of gas solid row) b (range_with_len (b.col * width) (b.col * width + m - b.col * width))
     → r ≡ plus_row gas width solid row b
@@ -101,11 +101,11 @@ row_is gas width solid row b r m some begins e is =
 abbrev pub plus_place : Rules → LatticeModel → Block → ℕ × ℕ → Block
 plus_place gas lattice b c = plus_cell gas b (is_solid lattice.channel c.0 c.1) (cell lattice.rows c.0 c.1)
 
--- the cells of n rows, from row `from` on, that stand in a column of blocks
+-- the cells of n rows, from row `from` on, that are in a column of blocks
 abbrev pub cells_from : LatticeModel → ℕ → ℕ → ℕ → ℕ → List (ℕ × ℕ)
 cells_from lattice width col from n = flat_map (λ y. map (λ x. (x, y)) (part lattice.channel.width width col)) (range_with_len from n)
 
--- a block with those cells
+-- a block with these cells
 abbrev pub block_from : Rules → LatticeModel → ℕ → ℕ → ℕ → ℕ → ℕ → Block
 block_from gas lattice width row from n col = fold (plus_place gas lattice) (empty_block col row) (cells_from lattice width col from n)
 
@@ -144,7 +144,7 @@ cells_few lattice width col from (suc n) =
     let long : length row ≡ length xs = length-map xs _ in
     omega (arith, length-append row (cells_from lattice width col (from + 1) n), long, short, cells_few lattice width col (from + 1) n, suc-mul n lattice.channel.width)
 
--- a block of less than MOST_SIDE rows has room for one more
+-- a block of fewer than MOST_SIDE rows has room for one more
 pub block_from-room : (gas : Rules) → IsGas gas → (lattice : LatticeModel) (width row from n col : ℕ) → lattice.channel.width ≤ MOST_SIDE → n < MOST_SIDE
     → HasRoom (block_from gas lattice width row from n col) (most_cells - MOST_SIDE)
 block_from-room gas laws lattice width row from n col wide few =
@@ -160,7 +160,7 @@ block_from-room gas laws lattice width row from n col wide few =
     let most : n * lattice.channel.width ≤ (MOST_SIDE - 1) * MOST_SIDE = mul-le-mul (let h : n ≤ MOST_SIDE - 1 = omega arith in h) wide in
     HasRoom-le _ (0 + length cells) (most_cells - MOST_SIDE) (omega (arith, cells_few lattice width col from n, most)) (HasRoom-fold gas laws lattice cells (empty_block col row) 0 none)
 
--- a block with the cells of one row more
+-- a block with the cells of one more row
 block_from-more : (gas : Rules) (lattice : LatticeModel) (width row from n y col : ℕ) → from + n ≡ y → length (slice_index_or lattice.rows y []) ≡ lattice.channel.width
     → plus_row gas width (slice_index_or lattice.channel.solid y []) (slice_index_or lattice.rows y []) (block_from gas lattice width row from n col) ≡ block_from gas lattice width row from (n + 1) col
 block_from-more gas lattice width row from n y col e wide =
@@ -180,7 +180,7 @@ map-map : {X Y Z : Type 0} (f : Y → Z) (g : X → Y) (h : X → Z) (xs : List 
 map-map f g h [] e = refl
 map-map f g h (x ∷ xs) e = ap₂ (λ y ys. y ∷ ys) (e x) (map-map f g h xs e)
 
--- a strip with the cells of one row more
+-- a strip with the cells of one more row
 pub strip-more : (gas : Rules) (lattice : LatticeModel) (width row from n y : ℕ) (cols : List ℕ) (strip more : List Block) → from + n ≡ y
     → length (slice_index_or lattice.rows y []) ≡ lattice.channel.width → strip ≡ map (block_from gas lattice width row from n) cols
     → more ≡ map (plus_row gas width (slice_index_or lattice.channel.solid y []) (slice_index_or lattice.rows y [])) strip
@@ -188,7 +188,7 @@ pub strip-more : (gas : Rules) (lattice : LatticeModel) (width row from n y : �
 strip-more gas lattice width row from n y cols strip more e wide is added =
     added ∙ ap (map _) is ∙ map-map _ _ _ cols (λ col. block_from-more gas lattice width row from n y col e wide)
 
--- what holds of the block of each column holds of each block of a strip
+-- what is true of the block of each column is true of each block of a strip
 pub strip-all : (P : Block → Type 0) (f : ℕ → Block) (n : ℕ) (strip : List Block) → strip ≡ map f (range_with_len 0 n) → ((col : ℕ) → col < n → P (f col)) → All P strip
 strip-all P f n strip is each =
     subst (All P) (sym is) (All-from_get_or P (map f (range_with_len 0 n)) (empty_block 0 0) (λ i lt.

@@ -1,4 +1,4 @@
--- Blocks of cells: a lattice seen coarsely.
+-- Blocks of the cells of a lattice.
 use Rattle.std.specs.Prelude.{ℕ, ◌/◌, ◌==◌, not, List, map, filter, sum_by, count_by}
 use Rattle.std.specs.Int.{div_ceil}
 use Rattle.std.specs.List.{range_with_len, flat_map}
@@ -7,14 +7,14 @@ use Rattle.gas_geom.specs.Channel.{ChannelModel, is_solid}
 use Rattle.gas_geom.specs.Lattice.{LatticeModel, cell}
 use Rattle.gas_tool_io.specs.declared.blocks.Block.{Block}
 
--- The cells (x, y) of the block in column `col` and row `row` of the blocks: those where x divided by the blocks' width gives
--- `col`, and y divided by their height gives `row`.
+-- The cells (x, y) of the block in column `col` and row `row` of the blocks. x divided by the blocks' width is `col`, and y
+-- divided by their height is `row`.
 abbrev pub cells_of : ChannelModel → ℕ → ℕ → ℕ → ℕ → List (ℕ × ℕ)
 cells_of channel width height col row =
     flat_map (λ y. map (λ x. (x, y)) (filter (λ x. x / width == col) (range_with_len 0 channel.width)))
     (filter (λ y. y / height == row) (range_with_len 0 channel.height))
 
--- the block of a list of cells: how many of them are fluid, how many particles they hold, and the sums of their momenta
+-- the block of a list of cells: its numbers of fluid cells and of particles, and the sums of its particles' momenta
 abbrev pub block_of_cells : Rules → LatticeModel → ℕ → ℕ → List (ℕ × ℕ) → Block
 block_of_cells gas lattice col row cells = record {
   col = col;
@@ -25,7 +25,7 @@ block_of_cells gas lattice col row cells = record {
   py = signed_sum_by (λ c. (momentum_of gas (cell lattice.rows c.0 c.1)).1) cells;
 }
 
--- all blocks of a lattice, row of blocks by row of blocks, from the left in each
+-- all blocks of a lattice, by rows of blocks from the top, each from the left
 abbrev pub blocks_of : Rules → LatticeModel → ℕ → ℕ → List Block
 blocks_of gas lattice width height =
     flat_map (λ row. map (λ col. block_of_cells gas lattice col row (cells_of lattice.channel width height col row))

@@ -1,4 +1,4 @@
--- The text of a replay: whether the pass is done, a line a belt, and, where it is done, the lattice's cells.
+-- The text of a replay: whether the pass is done, a line per belt, and the lattice's cells if the pass is done.
 use Rattle.std.specs.Prelude.{ℕ, List, [], ◌++◌, codes, length, slice_index_or, is_some, if◌then◌else◌}
 use Rattle.std.specs.Fmt.{decimal}
 use Rattle.std.specs.List.{flat_map, range_with_len}
@@ -8,7 +8,7 @@ use Rattle.gas_pipe_replay.specs.Replay.{ReplayModel}
 use Rattle.gas_pipe_replay.specs.declared.answer.Counts.{Counts}
 use Rattle.gas_tool_io.specs.Text.{line_feed, cells_text}
 
--- the line of belt k: how many rows were put on it, and how many were taken from it
+-- the line of belt k: the numbers of rows put on it and taken from it
 unfoldable pub belt_line : List Counts → ℕ → List ℕ
 belt_line belts k =
     let counts : Counts = slice_index_or belts k (record { put = 0; taken = 0 }) in

@@ -1,4 +1,4 @@
--- The exit status of a fault of the input: 1 where it was refused, 3 for memory.
+-- The exit status of a fault of the input: 1 if it was refused, 3 for memory.
 use Rattle.std.specs.Prelude.{ℕ}
 use Rattle.gas_tool_io.specs.declared.faults.InputFault.{InputFault}
 use Rattle.gas_tool_io.specs.declared.faults.InputFault.TheVariants as input

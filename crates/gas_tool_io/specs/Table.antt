@@ -1,11 +1,11 @@
--- The text of a coarse table: a header, then a line a block.
+-- The text of a coarse table: a header, then a line per block.
 use Rattle.std.specs.Prelude.{ℕ, ◌-◌, List, ◌++◌, length, replicate, codes}
 use Rattle.std.specs.Fmt.{decimal, signed_decimal}
 use Rattle.std.specs.List.{flat_map}
 use Rattle.gas_tool_io.specs.Text.{line_feed}
 use Rattle.gas_tool_io.specs.declared.blocks.Block.{Block}
 
--- a text aligned to the right in a number of places; one that needs more takes them
+-- a text aligned to the right in a number of places, or the text itself if it needs more
 abbrev pub right_aligned : ℕ → List ℕ → List ℕ
 right_aligned places text = replicate (places - length text) 32 ++ text
 

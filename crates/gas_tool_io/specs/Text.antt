@@ -1,5 +1,5 @@
--- The printed texts: of a lattice a line with its generation and its particles, then its rows from the top; of a scene one
--- line that tells what it is.
+-- The printed texts. A lattice has a line with its generation and its particles, then its rows from the top. A scene has a
+-- summary of one line.
 use Rattle.std.specs.Prelude.{ℕ, List, [], ◌∷◌, ◌++◌, codes}
 use Rattle.std.specs.Fmt.{decimal}
 use Rattle.std.specs.List.{flat_map, range_with_len}
@@ -16,7 +16,7 @@ cells_text gas lattice generation =
     codes "generation " ++ decimal generation ++ codes " particles " ++ decimal (count gas lattice.rows) ++ line_feed
     ++ flat_map (λ y. row_cells lattice.channel lattice.rows y ++ line_feed) (range_with_len 0 lattice.channel.height)
 
--- the line of a scene: its gas, its size, and how many solid cells and particles it has
+-- the summary of a scene: its gas, its size, and the numbers of its solid cells and of its particles
 unfoldable pub check_text : Rules → LatticeModel → List ℕ
 check_text gas lattice =
     codes "gas " ++ gas.name ++ codes " width " ++ decimal lattice.channel.width ++ codes " height " ++ decimal lattice.channel.height

@@ -14,10 +14,10 @@ use gas_rows::mask::Mask;
 use gas_rows::row::Row;
 use std::alloc::{AllocError, Global};
 
-/// A block of cells, and what a coarse table tells of it. `col` and `row` are the block's place
-/// among the blocks, from 0 at the left and at the top; `fluid` is the number of its fluid cells,
-/// and `particles` that of its particles. `px` and `py` are the sums of the particles' momenta,
-/// eastwards and northwards, in the units of `Gas::momentum`.
+/// A block of cells, as a line of a coarse table. `col` and `row` are its place among the blocks,
+/// from 0 at the left and at the top. `fluid` and `particles` are the numbers of its fluid cells
+/// and of its particles. `px` and `py` are the sums of its particles' momenta, eastwards and
+/// northwards, in the units of `Gas::momentum`.
 #[derive(Clone, Copy, Debug, PartialEq, Eq)]
 pub struct Block {
     pub col: u32,
@@ -42,7 +42,7 @@ impl Block {
         }
     }
 
-    // The block with `count` more particles of direction `i`.
+    // Returns the block with `count` more particles of direction `i`.
     fn plus_particles<G: Gas>(self, i: u32, count: u32) -> Block
         requires direction { i < G.rules.dirs }
         requires room { HasRoom self most_cells }
@@ -58,7 +58,7 @@ impl Block {
         }
     }
 
-    // The block with the cells of a row from column `from` up to column `to`.
+    // Returns the block with the cells of columns `from..to` of a row.
     fn plus_cells<G: Gas>(self, row: &Row<G>, solid: &Mask, from: u32, to: u32) -> Block
         requires order { from ≤ to }
         requires within { to ≤ length row.now }
@@ -78,7 +78,7 @@ impl Block {
         block
     }
 
-    // The block with those cells of a row that stand in its column of blocks, `width` columns wide.
+    // Returns the block with its cells of a row. Blocks are `width` columns wide.
     fn plus_row<G: Gas>(self, row: &Row<G>, solid: &Mask, width: u32) -> Block
         requires some_columns { 1 ≤ width }
         requires same { length solid.now ≡ length row.now }
@@ -93,7 +93,7 @@ impl Block {
     }
 }
 
-// Adds a row of the lattice to the blocks of its strip, which are `width` columns wide.
+// Adds a row of the lattice to the blocks of a strip. Blocks are `width` columns wide.
 fn add_row<G: Gas>(strip: &mut [Block], row: &Row<G>, solid: &Mask, width: u32)
     requires some_columns { 1 ≤ width }
     requires same { length solid.now ≡ length row.now }
@@ -106,7 +106,7 @@ fn add_row<G: Gas>(strip: &mut [Block], row: &Row<G>, solid: &Mask, width: u32)
     }
 }
 
-// Adds the lattice's rows to the empty blocks of row `row` of the blocks.
+// Adds the lattice's rows to a strip, the empty blocks of row `row` of the blocks.
 fn fill_strip<G: Gas>(strip: &mut [Block], lattice: &Lattice<G>, row: u32, width: u32, height: u32)
     requires some_columns { 1 ≤ width }
     requires some_rows { 1 ≤ height }
@@ -123,7 +123,7 @@ fn fill_strip<G: Gas>(strip: &mut [Block], lattice: &Lattice<G>, row: u32, width
     }
 }
 
-// Appends the first `columns` blocks of row `row` of the blocks, without their cells.
+// Appends `columns` empty blocks, the first ones of row `row` of the blocks.
 #[tactic(auto, using(crate::proofs::Ranges::pushed))]
 fn push_empty(blocks: &mut Vec<Block>, columns: u32, row: u32) -> Result<(), AllocError>
     ensures { OnOk result (blocks.new.items
@@ -157,9 +157,9 @@ fn push_strip<G: Gas>(
     Ok(())
 }
 
-/// Returns the blocks of a lattice, `width` columns wide and `height` rows high and smaller where
-/// the lattice ends: row of blocks by row of blocks, from the left in each. It goes over the
-/// lattice once, row by row.
+/// Returns the blocks of a lattice, by rows of blocks from the top, each from the left. A block has
+/// `width` columns and `height` rows, and fewer at the right and at the bottom if the lattice ends
+/// there. The lattice is read once, row by row.
 pub fn coarse<G: Gas>(
     alloc: Global,
     lattice: &Lattice<G>,

@@ -17,7 +17,7 @@ pub enum InputFault {
 }
 
 impl InputFault {
-    /// The program's exit status: 3 for memory, 1 for an input that was refused.
+    /// Returns the program's exit status: 3 for memory, 1 for a refused input.
     pub fn status(&self) -> u8
         ensures value { result ≡ input_status self.now }
     {

@@ -14,9 +14,9 @@ pub const LONGEST_INPUT: usize = 67_108_864;
 
 const BLOCK: usize = 16_384;
 
-/// All bytes up to the end of `reader`. Each read but the last gives at least one byte, so there is
-/// at most one read more than the longest input has bytes. Any error of the reader is `Read`, and a
-/// byte past the longest input is `TooLong`.
+/// Reads all bytes up to the end of `reader`. Each read except the last returns a byte or more, so
+/// there are at most `LONGEST_INPUT + 1` reads. Any error of the reader is `Read`. An input of more
+/// than `LONGEST_INPUT` bytes is `TooLong`.
 pub fn slurp<R: Read>(alloc: Global, reader: &mut R) -> Result<Vec<u8>, InputFault>
     ensures bytes { IfOk result (λ text.
         IfSome (R.remaining reader.old) (λ xs. text.items ≡ xs)) }

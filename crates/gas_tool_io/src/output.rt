@@ -12,14 +12,14 @@ use std::fmt::{Display, Write as _};
 use std::io::Write;
 use std::marker::Model;
 
-// The most bytes that a sink gathers before it hands them to its writer.
+// The most bytes that a sink collects before it hands them to its writer.
 const BLOCK: usize = 8192;
 
 // The most bytes of a line that `put_line` prints.
 const LINE: usize = 128;
 
-/// Gathers a text in blocks, hands each full block to a writer, and counts the bytes that went out.
-/// After a failure nothing more goes out. It takes no memory.
+/// Collects a text in blocks, hands each full block to a writer, and counts the bytes that went
+/// out. After a failure nothing more goes out. It takes no memory.
 #[derive(Drop)]
 pub(crate) struct Sink {
     block: ArrayVec<u8, BLOCK>,
@@ -51,7 +51,7 @@ impl Sink {
         }
     }
 
-    /// Adds bytes to the text, at most 8192 of them, a block.
+    /// Adds bytes to the text, at most a block of 8192.
     #[inline]
     pub(crate) fn push<W: Write>(&mut self, out: &mut W, bytes: &[u8])
         requires short { length bytes.now ≤ 8192 }
@@ -63,8 +63,8 @@ impl Sink {
         let _ = self.block.try_extend_from_slice(bytes);
     }
 
-    // Hands the block to the writer and empties it. A count that could pass `u64::MAX` is a failure
-    // too, found before a byte of the block goes out.
+    // Hands the block to the writer and empties it. If the count could pass `u64::MAX`, this fails
+    // before a byte of the block goes out.
     fn hand_over<W: Write>(&mut self, out: &mut W)
         ensures adds { Adds (W.contents out.old) (W.contents out.new) self.old self.new [] }
         ensures empty { self.new.waiting ≡ [] }
@@ -79,7 +79,7 @@ impl Sink {
         self.block.clear();
     }
 
-    /// Counts the text from here on as failed.
+    /// Marks the text as failed from here on.
     pub(crate) fn fail(&mut self)
         ensures { (now : Option (List ℕ)) (bytes : List ℕ) →
             Adds now now self.old self.new bytes }
@@ -87,7 +87,7 @@ impl Sink {
         self.failed = true;
     }
 
-    /// Hands over what is left and flushes the writer once. A flush that fails is a fault after the
+    /// Hands over the last block and flushes the writer once. A failed flush is a fault after the
     /// whole text.
     pub(crate) fn finish<W: Write>(mut self, out: &mut W) -> Result<(), WriteFault>
         ensures { (start : Option (List ℕ)) (text : List ℕ) →
@@ -119,7 +119,7 @@ fn send<W: Write>(out: &mut W, bytes: &[u8]) -> usize
     sent
 }
 
-/// Adds a line. One that is longer than `LINE`, which no line of this crate is, counts as failed.
+/// Adds a line. A line longer than `LINE` counts as failed, but this crate has none.
 pub(crate) fn put_line<W: Write, D: Display + Drop>(sink: &mut Sink, out: &mut W, line: D)
     ensures { IfSome (with_newline (D.output line))
         (Adds (W.contents out.old) (W.contents out.new) sink.old sink.new) }

@@ -17,7 +17,6 @@ use gas_geom::gas::Gas;
 use gas_pipe_replay::answer::Replay;
 use std::io::Write;
 
-// Adds the line `done` or `not done` of the pass.
 fn put_done<W: Write>(sink: &mut Sink, out: &mut W, done: bool)
     ensures { (lattice : Option LatticeModel) → (IsTrue done ↔ IsSome lattice) →
         Adds (W.contents out.old) (W.contents out.new) sink.old sink.new
@@ -30,7 +29,6 @@ fn put_done<W: Write>(sink: &mut Sink, out: &mut W, done: bool)
     }
 }
 
-// Adds the line of a belt.
 fn put_belt<W: Write>(sink: &mut Sink, out: &mut W, belt: u32, put: u32, taken: u32)
     ensures { Adds (W.contents out.old) (W.contents out.new) sink.old sink.new
         (codes "belt " ++ decimal belt
@@ -43,7 +41,6 @@ fn put_belt<W: Write>(sink: &mut Sink, out: &mut W, belt: u32, put: u32, taken: 
     );
 }
 
-// Adds the line of one of the belts.
 #[tactic(auto, unfolding(crate::specs::Replay::belt_line))]
 fn put_belt_of<G: Gas, W: Write>(sink: &mut Sink, out: &mut W, replay: &Replay<G>, belt: u32)
     requires { belt < length replay.now.belts }
@@ -56,7 +53,6 @@ fn put_belt_of<G: Gas, W: Write>(sink: &mut Sink, out: &mut W, replay: &Replay<G
     put_belt(sink, out, belt, put, taken);
 }
 
-// Adds the lines of the belts.
 fn put_belts<G: Gas, W: Write>(sink: &mut Sink, out: &mut W, replay: &Replay<G>)
     ensures { Adds (W.contents out.old) (W.contents out.new) sink.old sink.new
         (flat_map (belt_line replay.now.belts) (range_with_len 0 (length replay.now.belts))) }
@@ -66,7 +62,7 @@ fn put_belts<G: Gas, W: Write>(sink: &mut Sink, out: &mut W, replay: &Replay<G>)
     }
 }
 
-// Adds the cells of the lattice that the pass led to, where it is done.
+// Adds the cells of the lattice if the pass is done.
 fn put_end<G: Gas, W: Write>(sink: &mut Sink, out: &mut W, replay: &Replay<G>, generation: u64)
     ensures { Adds (W.contents out.old) (W.contents out.new) sink.old sink.new
         (option_map_or (λ l. cells_text G.rules l generation) replay.now.lattice []) }
@@ -76,9 +72,9 @@ fn put_end<G: Gas, W: Write>(sink: &mut Sink, out: &mut W, replay: &Replay<G>, g
     }
 }
 
-/// Writes where a replayed pass stands: `done` or `not done`, a line for each belt, and, where it
-/// is done, the cells of its lattice, which is of that generation. Then the writer is flushed once,
-/// with the faults of `write_cells`. It takes no memory.
+/// Writes the state of a replayed pass: `done` or `not done`, then a line per belt. If the pass is
+/// done, the cells of its lattice follow, which is of this generation. Then the writer is flushed
+/// once. The faults are as in `write_cells`. It takes no memory.
 pub fn write_replay<G: Gas, W: Write>(
     replay: &Replay<G>,
     generation: u64,

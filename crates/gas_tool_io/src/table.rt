@@ -10,7 +10,6 @@ use crate::faults::WriteFault;
 use crate::output::{Sink, put_line};
 use std::io::Write;
 
-// Adds the line above the blocks.
 fn put_table_header<W: Write>(sink: &mut Sink, out: &mut W)
     ensures { Adds (W.contents out.old) (W.contents out.new) sink.old sink.new table_header }
 {
@@ -20,7 +19,6 @@ fn put_table_header<W: Write>(sink: &mut Sink, out: &mut W)
     );
 }
 
-// Adds the line of a block.
 fn put_block<W: Write>(sink: &mut Sink, out: &mut W, block: Block)
     ensures { Adds (W.contents out.old) (W.contents out.new) sink.old sink.new (block_line block) }
 {
@@ -39,7 +37,6 @@ fn put_block<W: Write>(sink: &mut Sink, out: &mut W, block: Block)
     );
 }
 
-// Adds the lines of blocks.
 fn put_blocks<W: Write>(sink: &mut Sink, out: &mut W, blocks: &[Block])
     ensures { Adds (W.contents out.old) (W.contents out.new) sink.old sink.new
         (flat_map block_line blocks.now) }
@@ -49,10 +46,10 @@ fn put_blocks<W: Write>(sink: &mut Sink, out: &mut W, blocks: &[Block])
     }
 }
 
-/// Writes the table of blocks: a header, then a line for each block in the order given. The six
-/// columns are those of `Block`, right-aligned in 5, 5, 8, 9, 10 and 10 places with one space
-/// between; a number that needs more places takes them. Then the writer is flushed once, with the
-/// faults of `write_cells`. It takes no memory.
+/// Writes the table of blocks: a header, then a line per block in the given order. The six columns
+/// are the fields of `Block`, right-aligned in 5, 5, 8, 9, 10 and 10 places, with one space between
+/// them. A number that needs more places takes them. Then the writer is flushed once. The faults
+/// are as in `write_cells`. It takes no memory.
 pub fn write_table<W: Write>(blocks: &[Block], out: &mut W) -> Result<(), WriteFault>
     ensures written { Writes (W.contents out.old) (W.contents out.new)
         (table_text blocks.now) result }

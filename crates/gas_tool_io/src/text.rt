@@ -1,4 +1,4 @@
-//! The printed texts of a lattice: its cells, and the line of its scene.
+//! The printed texts of a lattice: its cells, and its summary.
 
 ghost use Rattle.std.specs.Prelude.{◌<◌, ◌++◌, codes};
 ghost use Rattle.std.specs.Fmt.{decimal};
@@ -15,7 +15,7 @@ use gas_geom::gas::Gas;
 use gas_rows::lattice::Lattice;
 use std::io::Write;
 
-// Adds the line above the cells of a lattice.
+// Adds the line above the cells.
 fn put_header<W: Write>(sink: &mut Sink, out: &mut W, generation: u64, particles: u64)
     ensures { Adds (W.contents out.old) (W.contents out.new) sink.old sink.new
         (codes "generation " ++ decimal generation
@@ -28,7 +28,6 @@ fn put_header<W: Write>(sink: &mut Sink, out: &mut W, generation: u64, particles
     );
 }
 
-// Adds the line of row `y`.
 fn put_row<G: Gas, W: Write>(sink: &mut Sink, out: &mut W, lattice: &Lattice<G>, y: u32)
     requires { y < lattice.now.channel.height }
     ensures { Adds (W.contents out.old) (W.contents out.new) sink.old sink.new
@@ -40,7 +39,6 @@ fn put_row<G: Gas, W: Write>(sink: &mut Sink, out: &mut W, lattice: &Lattice<G>,
     sink.push(out, b"\n");
 }
 
-// Adds the lines of the rows, from the top.
 fn put_rows<G: Gas, W: Write>(sink: &mut Sink, out: &mut W, lattice: &Lattice<G>)
     ensures { Adds (W.contents out.old) (W.contents out.new) sink.old sink.new
         (flat_map (λ y. row_cells lattice.now.channel lattice.now.rows y ++ line_feed)
@@ -67,8 +65,8 @@ pub(crate) fn put_cells<G: Gas, W: Write>(
 }
 
 /// Writes the cells of a lattice: the line of its generation and its particles, then its rows from
-/// the top, two characters a cell. Then the writer is flushed once. Any error of the writer, or a
-/// write of 0 bytes, is the fault. It takes no memory.
+/// the top, two characters per cell. Then the writer is flushed once. An error of the writer and a
+/// write of 0 bytes are faults. It takes no memory.
 pub fn write_cells<G: Gas, W: Write>(
     lattice: &Lattice<G>,
     generation: u64,
@@ -82,7 +80,6 @@ pub fn write_cells<G: Gas, W: Write>(
     sink.finish(out)
 }
 
-// Adds the line of a scene.
 fn put_summary_line<W: Write>(
     sink: &mut Sink,
     out: &mut W,
@@ -105,7 +102,6 @@ fn put_summary_line<W: Write>(
     );
 }
 
-// Adds the line of the scene of a lattice.
 #[tactic(auto, unfolding(crate::specs::Text::check_text))]
 fn put_summary<G: Gas, W: Write>(sink: &mut Sink, out: &mut W, lattice: &Lattice<G>)
     ensures { Adds (W.contents out.old) (W.contents out.new) sink.old sink.new
@@ -123,9 +119,9 @@ fn put_summary<G: Gas, W: Write>(sink: &mut Sink, out: &mut W, lattice: &Lattice
     );
 }
 
-/// Writes the line of a scene: the name of its gas, its width and its height in cells, and its
-/// numbers of solid cells and of particles. Then the writer is flushed once, with the faults of
-/// `write_cells`. It takes no memory.
+/// Writes the summary of a lattice, a line. It has the name of the gas, the width and the height in
+/// cells, and the numbers of solid cells and of particles. Then the writer is flushed once. The
+/// faults are as in `write_cells`. It takes no memory.
 pub fn write_summary<G: Gas, W: Write>(lattice: &Lattice<G>, out: &mut W) -> Result<(), WriteFault>
     ensures written { Writes (W.contents out.old) (W.contents out.new)
         (check_text G.rules lattice.now) result }

@@ -1,4 +1,4 @@
--- What a request leads to, step by step.
+-- The outcome of a request, step by step.
 use Rattle.std.proofs.Common.{List, ℕ, Option, Result, Err}
 use Rattle.std.specs.Option.{option_map_or}
 use Rattle.std.specs.Result.{result_flatten, result_map_both}
@@ -11,11 +11,11 @@ use Rattle.gas_tool_perform.specs.Outcome.{gas_outcome}
 use Rattle.gas_tool_perform.specs.declared.faults.ToolError.{ToolError}
 use Rattle.gas_tool_perform.specs.declared.faults.ToolError.TheVariants.{Plan, Scene}
 
--- what a request leads to, unless its plan has this refusal
+-- an outcome, unless the plan has this refusal
 abbrev pub unless_refused : Option PlanError → Result (List ℕ) ToolError → Result (List ℕ) ToolError
 unless_refused refusal answer = option_map_or (λ error. Err (Plan error)) refusal answer
 
--- what a request leads to where a text has this scene, or is none
+-- the outcome of a request on a text with this scene, or with this fault
 abbrev pub scene_outcome : Result SceneModel SceneError → Request → Result (List ℕ) ToolError
 scene_outcome r request = result_flatten (result_map_both
     (λ s. gas_outcome (rules_of s.lattice.gas) s.lattice.lattice s.chirality s.generation request) Scene r)

@@ -1,4 +1,4 @@
--- What `perform` answers and writes.
+-- What `perform` returns and writes.
 use Rattle.std.specs.Prelude.{◌≡◌, ◌≤◌, ◌+◌, ℕ, nat_lt, List, length, take, Option, None, Result, Ok, Err, IsOkAnd, ⊤, if◌then◌else◌}
 use Rattle.std.specs.Int.{div_ceil}
 use Rattle.std.specs.Io.KnownBytes.{Appends}
@@ -23,8 +23,8 @@ use Rattle.gas_tool_perform.specs.declared.faults.ToolError.TheVariants.{Memory,
 use Rattle.gas_tool_cli.specs.declared.request.Request.{Request}
 use Rattle.gas_tool_cli.specs.declared.request.Request.TheVariants.{Check, Run, Coarse, Replay}
 
--- what a request on a lattice of a gas, of generation `first`, leads to where its plan is accepted: the text of its answer; but
--- a replay whose plan needs more than one pass is a fault
+-- the outcome of a request with an accepted plan, on a lattice of generation `first`: the text of its answer. A replay that
+-- needs more than one pass is a fault.
 abbrev pub accepted_outcome : Rules → LatticeModel → Chirality → ℕ → Request → Result (List ℕ) ToolError
 accepted_outcome gas lattice chirality first Check = Ok (check_text gas lattice)
 accepted_outcome gas lattice chirality first (Run stages capacity generations) =
@@ -36,19 +36,19 @@ accepted_outcome gas lattice chirality first (Replay stages capacity generations
     if nat_lt 1 (div_ceil generations stages) then Err MorePasses
     else Ok (replay_text gas (replay_of gas chirality first lattice plan turns) (first + generations))
 
--- the refusal of a request's plan, if it has one and that is refused
+-- the refusal of a request's plan, if it has a plan and the plan is refused
 abbrev pub refusal_of : Request → Option PlanError
 refusal_of Check = None
 refusal_of (Run stages capacity generations) = plan_refusal stages capacity generations
 refusal_of (Coarse stages capacity generations width height) = plan_refusal stages capacity generations
 refusal_of (Replay stages capacity generations turns) = plan_refusal stages capacity generations
 
--- what a request on a lattice leads to: the refusal of its plan is its fault, else it is as where the plan is accepted
+-- the outcome of a request on a lattice: the refusal of its plan as a fault, or the outcome with an accepted plan
 abbrev pub gas_outcome : Rules → LatticeModel → Chirality → ℕ → Request → Result (List ℕ) ToolError
 gas_outcome gas lattice chirality first request =
     option_map_or (λ refusal. Err (Plan refusal)) (refusal_of request) (accepted_outcome gas lattice chirality first request)
 
--- what a request on a text leads to: the first of its faults, in the order scene, plan, passes; else the text of its answer
+-- the outcome of a request on a text: its first fault, in the order scene, plan, passes, or the text of its answer
 abbrev pub outcome : List ℕ → Request → Result (List ℕ) ToolError
 outcome text request = result_flatten (result_map_both
     (λ s. gas_outcome (rules_of s.lattice.gas) s.lattice.lattice s.chirality s.generation request) Scene (scene_of_text text))
@@ -60,8 +60,9 @@ scene_after s n = record s {
   generation = s.generation + n;
 }
 
--- what a call that is to have this outcome answers, and that what was written goes from `old` to `new`: by the whole text; or by its
--- first n bytes, where the writer failed after n; or by nothing, where the fault is the outcome's, or memory was refused
+-- a call with this expected outcome returns this result, and what was written goes from `old` to `new`. The whole text is
+-- added, or its first n bytes if the writer failed after n. Nothing is added if the fault is the expected one or if memory
+-- was refused.
 abbrev pub Performs : Result (List ℕ) ToolError → Option (List ℕ) → Option (List ℕ) → Result ⊤ ToolError → Type 0
 Performs expected old new (Ok _) = IsOkAnd expected (λ text. Appends old new text)
 Performs expected old new (Err (Write n)) = IsOkAnd expected (λ text. (n ≤ length text) × Appends old new (take n text))

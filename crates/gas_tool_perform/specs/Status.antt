@@ -1,4 +1,4 @@
--- The exit status of a request's fault: 1 where something was refused, 3 for memory, 4 for a writer that failed.
+-- The exit status of a request's fault: 1 if something was refused, 3 for memory, 4 for a writer that failed.
 use Rattle.std.specs.Prelude.{ℕ}
 use Rattle.gas_tool_perform.specs.declared.faults.ToolError.{ToolError}
 use Rattle.gas_tool_perform.specs.declared.faults.ToolError.TheVariants as tool

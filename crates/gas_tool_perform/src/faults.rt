@@ -1,4 +1,4 @@
-//! What can go wrong, and the exit status that each fault has.
+//! The faults of a request, and their exit statuses.
 
 ghost use Rattle.std.specs.Prelude.{◌≡◌, ◌≢◌};
 ghost use Rattle.gas_pipe_members.specs.declared.error.RunError.TheVariants as run;
@@ -14,7 +14,7 @@ use std::alloc::AllocError;
 use thiserror::Error;
 
 /// Why a request was not answered whole. Its `Display` text is the line that the program prints.
-/// `Write` holds the number of bytes that went out before the writer failed.
+/// `Write` contains the number of bytes that went out before the writer failed.
 #[derive(Debug, Drop, Error)]
 pub enum ToolError {
     #[error("memory refused")]
@@ -30,8 +30,8 @@ pub enum ToolError {
 }
 
 impl ToolError {
-    /// The program's exit status: 1 where something was refused, 3 for memory, 4 for a writer that
-    /// failed.
+    /// Returns the program's exit status: 1 if something was refused, 3 for memory, 4 for a writer
+    /// that failed.
     pub fn status(&self) -> u8
         ensures value { result ≡ tool_status self.now }
     {

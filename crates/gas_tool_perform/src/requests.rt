@@ -27,11 +27,12 @@ use std::io::Write;
 use std::sync::Wait;
 use std::thread::Threads;
 
-/// Writes the answer to a request on the scene that a text holds, or returns the first fault, in
-/// this order: of the scene, of the plan, of the passes of a replay, of the work. Nothing is
-/// written before the answer is whole, and the writer is flushed once after the last byte. `Memory`
-/// is returned where memory is refused, also while the scene is read, and where a thread cannot be
-/// started. Each worker's thread goes through the gate.
+/// Writes the answer to a request on the scene of a text, or returns the first fault. The order of
+/// faults is: of the scene, of the plan, of the passes of a replay, of the work. Nothing is written
+/// before the answer is whole. The writer is flushed once, after the last byte.
+///
+/// `Memory` is returned if memory is refused, also while the scene is read, and if a thread cannot
+/// be started. Each worker's thread goes through the gate.
 pub fn perform<W: Write, H: Gate + Sync, R: Threads + Wait + Sync>(
     rt: &R,
     alloc: Global,
@@ -126,8 +127,7 @@ fn run_scene<G: Gas + Send, H: Gate + Sync, R: Threads + Wait + Sync>(
     )
 }
 
-// Replays these turns of the members of a line over the lattice of a scene, and prints where they
-// stand.
+// Replays these turns of a pipeline over the lattice of a scene, and prints the state of the pass.
 fn print_replay<G: Gas, W: Write>(
     alloc: Global,
     scene: &Scene,

@@ -6,9 +6,9 @@ ghost use Rattle.gas_scene.specs.Scene.{SceneModel, scene_of_text};
 ghost use Rattle.gas_tool_perform.specs.Outcome.{outcome, scene_after};
 ghost use Rattle.gas_tool_cli.specs.declared.request.Request.TheVariants.{Run, Coarse};
 
-/// A run in two parts prints what one run prints, whatever the numbers of stages and the
-/// capacities: where a text is a scene, and a later text is the scene of its lattice m generations
-/// on, n generations of the later one lead to the same answer as m + n of the first.
+/// A run in two parts prints what one run prints, for any numbers of stages and any capacities.
+/// Let a later text be the scene of a first text's lattice after m generations. Then n generations
+/// of the later text lead to the same answer as m + n generations of the first.
 pub fn resumed_runs()
     ensures cells { (text later : List ℕ) (scene : SceneModel)
         (m n stages capacity stages2 capacity2 : ℕ) →

@@ -11,7 +11,7 @@ use std::alloc::{AllocError, Global};
 use std::process::Abort;
 use std::test::Fail;
 
-/// The block at a place, with these numbers of fluid cells and particles and this momentum.
+/// Returns the block at a place, with these numbers of fluid cells and particles and this momentum.
 fn block(place: (u32, u32), fluid: u64, particles: u64, momentum: (i64, i64)) -> Block {
     Block {
         col: place.0,
@@ -24,7 +24,7 @@ fn block(place: (u32, u32), fluid: u64, particles: u64, momentum: (i64, i64)) ->
 }
 
 /// Asserts that the lattice has these blocks of `width` columns and `height` rows. It promises
-/// nothing, so that no test carries the promises of `coarse`.
+/// nothing, so no test carries the promises of `coarse`.
 fn has_blocks<G: Gas>(
     rt: &impl Abort,
     alloc: Global,
@@ -38,7 +38,7 @@ fn has_blocks<G: Gas>(
     Ok(())
 }
 
-/// The lattice with the states 01 and 02 in its first row, and in its second a solid cell and 3f.
+/// A lattice with the states 01 and 02 in its first row, and a solid cell and 3f in its second.
 fn obstacle(alloc: Global) -> Result<Lattice<Fhp1>, AllocError> {
     let Some(size) = Size::new(4, 2) else {
         return Err(AllocError);

@@ -15,7 +15,7 @@ const MAPS: [&str; 3] = [
     "gas = \"fhp-rest\"\ncells = [\"##..7f\", \"4a4000\"]",
 ];
 
-// The scene as which the lattice of a scene is written, at a generation and with another chirality.
+// Writes the lattice of a scene as a scene, at a generation and with another chirality.
 fn checkpoint_text(
     alloc: Global,
     scene: &str,
@@ -75,7 +75,7 @@ fn limits(rt: HostRuntime) -> Result<(), Fail> {
     Ok(())
 }
 
-// A line for each key and each row, and a seed only where the chirality has one.
+// A line per key and per row, and a seed only if the chirality has one.
 #[test]
 fn layout(rt: HostRuntime) -> Result<(), Fail> {
     for (scene, chirality, wanted) in [

@@ -1,6 +1,6 @@
-//! Scenes, a writer and requests that several tests use. These helpers promise nothing: what reading
-//! a scene or a request promises is long, and a test that makes the call itself carries it through
-//! each of its paths.
+//! Scenes, a writer and requests that several tests use. These helpers promise nothing, because the
+//! promises of reading a scene or a request are long. A test that makes the call itself carries
+//! them through each of its paths.
 
 use gas_geom::gas::Gas;
 use gas_pipe_run::gate::NoGate;
@@ -21,14 +21,14 @@ use std::sync::Wait;
 use std::test::Fail;
 use std::thread::Threads;
 
-/// A scene of one particle `01` at (3, 1), on four columns and three rows.
+/// A scene of four columns and three rows, with one particle `01` at (3, 1).
 pub(super) const DRIFT: &str =
     "gas = \"fhp1\"\nchirality = \"left\"\ncells = [\"........\", \"......01\", \"........\"]\n";
 
 /// The cells of that scene after one generation, 52 bytes.
 pub(super) const DRIFTED: &str = "generation 1 particles 1\n........\n01......\n........\n";
 
-/// How a writer ends once its room is full.
+/// How a writer ends when its room is full.
 #[derive(Clone, Copy, Debug, PartialEq, Eq)]
 pub(super) enum End {
     /// Writing fails.
@@ -39,7 +39,7 @@ pub(super) enum End {
     Flush,
 }
 
-/// Takes at most `most` bytes a write, and `room` bytes in all. It counts its calls.
+/// Takes at most `most` bytes per write, and `room` bytes in all. It counts its calls.
 #[derive(Drop)]
 pub(super) struct Narrow {
     taken: Vec<u8>,
@@ -89,9 +89,8 @@ impl Write for Narrow {
     }
 }
 
-/// Asserts that the writer got the part of the text that it has room for, and that the fault told
-/// its length. Each write took a byte or was the last, and the writer was flushed once where it got
-/// all.
+/// Asserts that the writer got the part of the text that it has room for, and that the fault has
+/// its length. Each write took a byte or was the last. If the writer got all, it was flushed once.
 pub(super) fn assert_got(rt: &impl Abort, out: &Narrow, told: Option<u64>, text: &[u8]) {
     let room = out.room;
     let count = room.min(text.len());
@@ -119,13 +118,13 @@ fn words_of<'a>(alloc: Global, line: &'a str) -> Result<Vec<&'a str>, AllocError
     Ok(words)
 }
 
-/// The request of a line's words, or the status with which the program ends at them.
+/// Returns the request of a line's words, or the exit status of the program.
 pub(super) fn request_of(alloc: Global, line: &str) -> Result<Result<Request, u8>, AllocError> {
     let words = words_of(alloc, line)?;
     Ok(parse_words(alloc, words.as_slice()).map_err(|fault| fault.status()))
 }
 
-/// What `perform` answers to the scene and the request of these words.
+/// Performs the request of these words on the scene.
 pub(super) fn perform_words<R: Abort + Threads + Wait + Sync>(
     rt: &R,
     alloc: Global,
@@ -140,12 +139,12 @@ pub(super) fn perform_words<R: Abort + Threads + Wait + Sync>(
     Ok(perform(rt, alloc, scene.as_bytes(), &request, &NoGate, out))
 }
 
-/// Why a text is refused; None if it is a scene.
+/// Returns why a text is refused, or None if it is a scene.
 pub(super) fn refusal(alloc: Global, text: &[u8]) -> Option<SceneError> {
     read(alloc, text).err()
 }
 
-// The cell as two characters.
+// Appends a cell as two characters.
 fn push_cell<G: Gas>(text: &mut String, lattice: &Lattice<G>, x: u32, y: u32) -> Result<(), Fail> {
     let size = lattice.channel().size();
     if x >= size.width() || y >= size.height() {
@@ -162,7 +161,7 @@ fn push_cell<G: Gas>(text: &mut String, lattice: &Lattice<G>, x: u32, y: u32) ->
     Ok(())
 }
 
-// The name of the gas, and then the cells as two characters each, a line for each row.
+// The name of the gas, and then the cells as two characters each, a line per row.
 fn lattice_text<G: Gas>(alloc: Global, lattice: &Lattice<G>) -> Result<String, Fail> {
     let size = lattice.channel().size();
     let mut text = String::new(alloc);
@@ -180,7 +179,7 @@ fn scene_cells(alloc: Global, scene: &Scene) -> Result<String, Fail> {
     with_lattice!(scene.lattice(), lattice => lattice_text(alloc, lattice))
 }
 
-// The scene of a text as one text: its chirality and its generation, the name of its gas, and its
+// The scene of a text, as one text: its chirality, its generation, the name of its gas, and its
 // cells.
 fn scene_text(alloc: Global, text: &str) -> Result<String, Fail> {
     let scene = read(alloc, text.as_bytes())?;
@@ -190,7 +189,7 @@ fn scene_text(alloc: Global, text: &str) -> Result<String, Fail> {
     Ok(format!(in alloc; "{chirality:?} {generation} {cells}")?)
 }
 
-/// Asserts that the text is a scene that holds this.
+/// Asserts that the text is this scene.
 pub(super) fn holds(rt: &impl Abort, alloc: Global, text: &str, wanted: &str) -> Result<(), Fail> {
     let found = scene_text(alloc, text)?;
     assert!(rt; found.as_str() == wanted, "{text}");

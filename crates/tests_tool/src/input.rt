@@ -8,7 +8,7 @@ use std::io::{ErrorKind, Read};
 use std::process::Abort;
 use std::test::Fail;
 
-/// Gives `left` bytes, at most `most` a read: those of a text, and then what stands in the buffer.
+/// Returns `left` bytes, at most `most` per read: first a text, then the old bytes of the buffer.
 /// It counts its reads, and read number `fails_at` fails.
 #[derive(Drop)]
 struct Given<'a> {
@@ -34,7 +34,7 @@ impl Read for Given<'_> {
     }
 }
 
-// A reader of the scene, a byte a read.
+// A reader of the scene, a byte per read.
 fn scene(fails_at: usize) -> Given<'static> {
     let text = DRIFT.as_bytes();
     Given {
@@ -54,7 +54,7 @@ fn byte_by_byte(rt: HostRuntime) -> Result<(), Fail> {
     Ok(())
 }
 
-// The number of bytes that come, or the fault's line.
+// The number of bytes that `slurp` reads, or the fault's line.
 fn answer(alloc: Global, reader: &mut Given<'_>) -> Result<String, Fail> {
     Ok(match slurp(alloc, reader) {
         Ok(text) => format!(in alloc; "{count} bytes", count = text.len())?,
@@ -71,8 +71,8 @@ fn second_read_fails(rt: HostRuntime) -> Result<(), Fail> {
     Ok(())
 }
 
-// Asserts what `slurp` answers to a reader of `left` bytes, `most` a read, and that it reads no
-// more often than it may.
+// Asserts what `slurp` returns for a reader of `left` bytes, `most` per read, and that it makes at
+// most 67,108,865 reads.
 fn answers(
     rt: &impl Abort,
     alloc: Global,

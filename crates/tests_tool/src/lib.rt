@@ -1,5 +1,4 @@
-//! Tests of scenes, of the words of the command line, of what comes in and of what goes out, on
-//! worked examples.
+//! Tests of scenes, of the words of the command line, of inputs and of outputs, on worked examples.
 #![tactic(auto)]
 
 #[cfg(test)]

@@ -9,7 +9,7 @@ use std::fmt::Display;
 use std::process::Abort;
 use std::test::Fail;
 
-// Asserts that the fault is one of refused memory, by its line and its status.
+// Asserts that the fault is about refused memory, by its line and its status.
 fn tells<D: Display>(rt: &impl Abort, alloc: Global, fault: &D, status: u8) -> Result<(), Fail> {
     let line = format!(in alloc; "{fault}")?;
     assert_eq!(rt; line.as_str(), "memory refused");

@@ -13,7 +13,7 @@ use std::alloc::{AllocError, Global};
 use std::process::Abort;
 use std::test::Fail;
 
-// A lattice of these sides whose one particle `01` is at (0, 1).
+// A lattice with these sides and one particle `01` at (0, 1).
 fn one_particle(alloc: Global, width: u32, height: u32) -> Result<Lattice<Fhp1>, Fail> {
     let size = Size::new(width, height).ok_or("a size")?;
     let mut lattice = Lattice::blank(alloc, Channel::free(alloc, size)?)?;
@@ -23,7 +23,7 @@ fn one_particle(alloc: Global, width: u32, height: u32) -> Result<Lattice<Fhp1>,
     Ok(lattice)
 }
 
-// The cells of a lattice go to the writer as this text.
+// Asserts that the cells of a lattice go to the writer as this text.
 fn cells_go_to(
     rt: &impl Abort,
     lattice: &Lattice<Fhp1>,
@@ -70,7 +70,7 @@ fn cells_of_wide_rows(rt: HostRuntime) -> Result<(), Fail> {
     Ok(())
 }
 
-// A table goes to the writer as this text.
+// Asserts that a table goes to the writer as this text.
 fn table_goes_to(rt: &impl Abort, blocks: &[Block], mut out: Narrow, text: &str) {
     let told = write_table(blocks, &mut out)
         .err()

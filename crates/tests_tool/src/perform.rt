@@ -1,4 +1,4 @@
-//! Whole requests, from the text of a scene to what is written.
+//! Whole requests, from the text of a scene to the printed bytes.
 
 use super::helpers::{DRIFT, DRIFTED, End, Narrow, assert_got, perform_words};
 use gas_tool_perform::faults::ToolError;
@@ -10,18 +10,18 @@ use std::thread::Threads;
 
 const RUN: &str = "fhpgas run --generations 1 --stages 2 --capacity 1";
 
-/// One particle `01` at (0, 1), on seven columns and three rows.
+/// A scene of seven columns and three rows, with one particle `01` at (0, 1).
 const ALONG_A_ROW: &str =
     "gas = \"fhp1\"\nchirality = \"left\"\nwidth = 7\nheight = 3\nparticles = [[0, 1, 1]]\n";
 
 const COARSE: &str = "fhpgas coarse --generations 5 --block-width 8 --block-height 8 --capacity 1";
 
-/// The table of its one block of at most eight columns and rows.
+/// The table of its only block of at most eight columns and rows.
 const TABLE: &str = "  col   row    fluid particles         px         py
     0     0       21         1          2          0
 ";
 
-// The writer gets as much of the answer as it has room for.
+// Asserts that the writer gets as much of the answer as it has room for.
 fn answers<R: Abort + Threads + Wait + Sync>(
     rt: &R,
     alloc: Global,
@@ -38,7 +38,6 @@ fn answers<R: Abort + Threads + Wait + Sync>(
     Ok(())
 }
 
-// Each answer a byte at a time.
 #[test]
 fn byte_by_byte(rt: HostRuntime) -> Result<(), Fail> {
     for (scene, words, answer) in [
@@ -78,7 +77,7 @@ fn byte_by_byte(rt: HostRuntime) -> Result<(), Fail> {
     Ok(())
 }
 
-// Replays of two workers over one particle `01` at (0, 1), on four columns and three rows.
+// Replays of two workers over a lattice of four columns and three rows, with one particle.
 #[test]
 fn replays(rt: HostRuntime) -> Result<(), Fail> {
     let scene =
@@ -120,7 +119,7 @@ fn replays(rt: HostRuntime) -> Result<(), Fail> {
     Ok(())
 }
 
-// A writer that fails, or takes nothing, after each count of bytes, and one that cannot be flushed.
+// Writers that fail or take nothing after each number of bytes, or that cannot be flushed.
 #[test]
 fn failing_writers(rt: HostRuntime) -> Result<(), Fail> {
     for (scene, words, answer) in [
@@ -147,7 +146,7 @@ fn failing_writers(rt: HostRuntime) -> Result<(), Fail> {
     Ok(())
 }
 
-// The request is refused with this line, with status 1, and nothing is written.
+// Asserts that the request is refused with this line and status 1, and that nothing is written.
 fn is_refused<R: Abort + Threads + Wait + Sync>(
     rt: &R,
     alloc: Global,

@@ -6,8 +6,8 @@ use std::alloc::{AllocError, Global};
 use std::process::Abort;
 use std::test::Fail;
 
-// Asserts that the texts that begin with these lines and end with those of a case are refused as
-// the case says, or are scenes.
+// Asserts for each case whether a text is refused, and why. The text is `first` and the lines of
+// the case.
 fn have_refusals(
     rt: &impl Abort,
     alloc: Global,
@@ -24,7 +24,6 @@ fn have_refusals(
     Ok(())
 }
 
-// Keys, the gas and the map.
 #[test]
 fn maps(rt: HostRuntime) -> Result<(), Fail> {
     have_refusals(
@@ -73,7 +72,7 @@ fn maps(rt: HostRuntime) -> Result<(), Fail> {
     )
 }
 
-// The version decides whether there may be a generation. What is no version counts as 1.
+// Only version 2 may have a generation.
 #[test]
 fn versions(rt: HostRuntime) -> Result<(), Fail> {
     have_refusals(
@@ -104,7 +103,6 @@ fn versions(rt: HostRuntime) -> Result<(), Fail> {
     )
 }
 
-// The keys beside the gas and the size, and the sides of an area.
 #[test]
 fn areas(rt: HostRuntime) -> Result<(), Fail> {
     have_refusals(
@@ -152,8 +150,8 @@ fn areas(rt: HostRuntime) -> Result<(), Fail> {
     )
 }
 
-// Each text with which a scene begins: it lacks a key where it ends with a line or with the line's
-// value, and is a scene once the map is whole. A byte that no text has is refused too.
+// The first bytes of a scene, for each number of bytes. At the end of a line a key is missing. With
+// the whole map it is a scene. A byte that no text has is refused too.
 #[test]
 fn cut_short(rt: HostRuntime) {
     for length in 0..DRIFT.len() + 1 {
@@ -168,7 +166,7 @@ fn cut_short(rt: HostRuntime) {
     assert!(rt; refusal(rt.alloc(), &[0xff]) == Some(SceneError::Syntax));
 }
 
-// A map of `rows` rows, of `cells` empty cells each.
+// A map of `rows` rows of `cells` empty cells each.
 fn empty_map(alloc: Global, cells: usize, rows: usize) -> Result<String, AllocError> {
     let row = "..".repeat(alloc, cells)?;
     let mut text = String::from_str(alloc, "gas = \"fhp1\"\ncells = [")?;
@@ -181,7 +179,6 @@ fn empty_map(alloc: Global, cells: usize, rows: usize) -> Result<String, AllocEr
     Ok(text)
 }
 
-// A row of 8194 points, and 4097 rows.
 #[test]
 fn large_maps(rt: HostRuntime) -> Result<(), Fail> {
     for (cells, rows, wanted) in [

@@ -1,4 +1,4 @@
-//! What texts that are scenes hold.
+//! Texts that are scenes, and what they contain.
 
 use super::helpers::{DRIFT, holds};
 use gas_rows::key::key_words;
@@ -98,7 +98,7 @@ fn widest_area(rt: HostRuntime) -> Result<(), Fail> {
     )
 }
 
-// The state that filling at rate 500 under seed 3 gives a cell of FHP-I, asked of the key stream.
+// The state of a cell of FHP-I filled at rate 500 with seed 3, from the key stream.
 fn filled_state(place: u32) -> u32 {
     let mut state = 0;
     for i in 0..6u64 {

@@ -6,7 +6,7 @@ use std::alloc::Global;
 use std::process::Abort;
 use std::test::Fail;
 
-// These words make this request.
+// Asserts that the words are this request.
 fn makes(rt: &impl Abort, alloc: Global, words: &str, wanted: &Request) -> Result<(), Fail> {
     match request_of(alloc, words)? {
         Ok(request) => assert!(rt; request == *wanted, "{words}"),
@@ -62,7 +62,7 @@ fn requests(rt: HostRuntime) -> Result<(), Fail> {
     Ok(())
 }
 
-// The status with which the program ends at words that make no request.
+// The exit status of the program for words that are no request.
 #[test]
 fn no_requests(rt: HostRuntime) -> Result<(), Fail> {
     for (words, status) in [

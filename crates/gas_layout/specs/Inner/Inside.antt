@@ -1,5 +1,5 @@
 -- Inner words: what functions of this crate promise one another. No public contract cites them.
--- Here: what is known of a rectangle that fits.
+-- Here: rectangles that fit.
 use Rattle.std.specs.Prelude.{ℕ, pos, ◌+ℤ◌, ◌≤ℤ◌}
 use Rattle.gas_layout.specs.declared.rectangle.Rectangle.{Rectangle}
 

@@ -1,5 +1,5 @@
 -- Inner words: what functions of this crate promise one another. No public contract cites them.
--- Here: rectangles by the rows in which they start.
+-- Here: rectangles by their first rows.
 use Rattle.std.specs.Global.{Global}
 use Rattle.std.specs.Prelude.{◌≡◌, ℕ, zero, suc, ◌+◌, ◌*◌, ◌/◌, ◌<◌, ◌≤◌, ◌&&◌, ◌||◌, Bool, false, List, [], All, length, map, Vec, nat_le, nat_lt, nat_abs, slice_index, slice_index_or, ◌+ℤ◌}
 use Rattle.std.specs.List.{list_any}
@@ -13,7 +13,7 @@ pub record IsStrip (width : ℕ) (s : Strip) : Type 0 where
   pub ordered : s.start ≤ s.end
   pub within : s.end ≤ width
 
--- the strip of a rectangle, and the row in which it starts
+-- the strip of a rectangle, and its first row
 abbrev pub strip_of : Rectangle → Strip
 strip_of r = record {
   start = nat_abs r.x;
@@ -24,7 +24,7 @@ strip_of r = record {
 abbrev pub first_row : Rectangle → ℕ
 first_row r = nat_abs r.y
 
--- whether a strip that starts above the cell (x, y), or in its row, covers it
+-- whether a strip covers the cell (x, y), if it starts in its row or above
 abbrev pub reaches : Strip → ℕ → ℕ → Bool
 reaches s x y = (nat_le s.start x && nat_lt x s.end) && nat_lt y s.bottom
 
@@ -43,7 +43,7 @@ pub record IsSkyline (width : ℕ) (s : Skyline) : Type 0 where
 abbrev pub strips_at : List (Vec Strip Global) → ℕ → List Strip
 strips_at rows y = slice_index_or (map (λ v. v.items) rows) y []
 
--- for each row of an area of this size some strips
+-- the strips of each row of an area of this size
 pub record AreStrips (width height : ℕ) (rows : List (Vec Strip Global)) : Type 0 where
   pub high : length rows ≡ height
   pub columns : (y : ℕ) → y < height → All (λ s. IsStrip width s) (strips_at rows y)

@@ -1,5 +1,5 @@
 -- Inner words: what functions of this crate promise one another. No public contract cites them.
--- Here: placements by the channel that they stand in, and areas that are drawn.
+-- Here: placements in a channel, and areas that are drawn.
 use Rattle.std.specs.Prelude.{◌≡◌, ℕ, ℤ, ◌≤◌, Bool, true, List, nat_abs}
 use Rattle.std.specs.List.{list_all}
 use Rattle.toml.specs.View.{view}

@@ -1,5 +1,5 @@
 -- Inner words: what functions of this crate promise one another. No public contract cites them.
--- Here: what checks answer, and how far the lattice of a map is built.
+-- Here: the results of checks, and how far the lattice of a map is built.
 use Rattle.std.specs.Prelude.{◌≡◌, ℕ, ◌*◌, ◌<◌, ◌≤◌, false, List, [], slice_index_or, Option, IsSome, Result, Ok, Err, length, nat_lt, if◌then◌else◌}
 use Rattle.std.specs.Option.{option_map_or}
 use Rattle.gas_geom.specs.Lattice.{LatticeModel}
@@ -10,7 +10,7 @@ use Rattle.gas_layout.specs.Layout.{lattice_of}
 use Rattle.gas_scene.specs.declared.error.SceneError.{SceneError}
 use Rattle.gas_scene.specs.Scene.{map_cell}
 
--- what a check answers
+-- the result of a check
 abbrev pub as_result : Option SceneError → Result (Unit {0}) SceneError
 as_result fault = option_map_or Err fault (Ok tt)
 
@@ -18,7 +18,7 @@ as_result fault = option_map_or Err fault (Ok tt)
 abbrev pub row_at : List (List ℕ) → ℕ → List ℕ
 row_at rows r = slice_index_or rows r []
 
--- rows that are not too many, nor too long
+-- rows that are neither too many nor too long
 pub record AreShort (rows : List (List ℕ)) : Type 0 where
   pub high : length rows ≤ MOST_SIDE
   pub wide : (r : ℕ) → r < length rows → length (row_at rows r) ≤ (CHARACTERS * MOST_SIDE)
@@ -27,7 +27,7 @@ pub record AreShort (rows : List (List ℕ)) : Type 0 where
 abbrev pub map_width : List (List ℕ) → ℕ
 map_width rows = cells_in (row_at rows 0)
 
--- some rows of some cells, and not too many
+-- rows of cells, at least one and not too many of both
 pub record IsMap (states : ℕ) (rows : List (List ℕ)) : Type 0 where
   pub some_rows : 1 ≤ length rows
   pub few_rows : length rows ≤ MOST_SIDE

@@ -1,5 +1,5 @@
 -- Inner words: what functions of this crate promise one another. No public contract cites them.
--- Here: the table that the code's types tell of.
+-- Here: the code's types as the table of a scene.
 use Rattle.std.specs.Prelude.{◌≡◌, ℕ, ◌&&◌, ◌||◌, Bool, true, List, [], map, Option, Some, None, option_map, is_some, pos, codes}
 use Rattle.std.specs.Option.{option_map_or}
 use Rattle.toml.specs.View.{view}
@@ -63,13 +63,13 @@ pub record IsForm (v : Values) (f : Form) : Type 0 where
   pub cells : cells_in f ≡ cells_at v
   pub area : area_in f ≡ area_at v
 
--- whether there is a key of the area
+-- whether there is a key of an area
 abbrev pub has_area_value : Values → Bool
 has_area_value v =
     is_some (data_of v.width) || (is_some (data_of v.height)
     || (is_some (data_of v.solid) || (is_some (data_of v.rate) || is_some (data_of v.particles))))
 
--- whether the values of the area, those of both forms, and all of them are of their types
+-- whether the values of the area, of the form, and of the table have their types
 abbrev pub area_typed : Values → Bool
 area_typed v =
     option_map_or is_integer (data_of v.width) true && (option_map_or is_integer (data_of v.height) true

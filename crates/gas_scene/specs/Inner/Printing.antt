@@ -1,5 +1,5 @@
 -- Inner words: what functions of this crate promise one another. No public contract cites them.
--- Here: the table of a checkpoint, as it is put together.
+-- Here: the table of a checkpoint, key by key.
 use Rattle.std.specs.Prelude.{ℕ, List, Option, codes, pos}
 use Rattle.std.specs.Cmp.Lexicographic.{slice_cmp}
 use Rattle.std.specs.Option.{option_map_or, unwrap_or}
@@ -17,7 +17,7 @@ use Rattle.gas_scene.specs.Checkpoint.{name_and_seed}
 abbrev pub gas_with : Rules → KnownGas
 gas_with rules = unwrap_or (gas_named rules.name) Fhp1
 
--- a value at a key of a table, whose keys ascend
+-- a table of ascending keys with one more value at a key
 abbrev pub insert_member : List ℕ → Data → Members → Members
 insert_member key d no_members = member key d no_members
 insert_member key d (member k e ms) =

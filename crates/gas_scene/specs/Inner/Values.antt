@@ -7,7 +7,7 @@ use Rattle.toml.specs.View.{view}
 use Rattle.toml.specs.declared.value.Value.{Value}
 use Rattle.gas_scene.specs.declared.keys.Values.{Values}
 
--- what stands at a key, as data
+-- the value at a key, as data
 abbrev pub data_of : Option (Bor Value) → Option Data
 data_of value = option_map (λ d. view d.now) value
 

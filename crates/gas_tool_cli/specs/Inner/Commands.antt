@@ -1,5 +1,5 @@
 -- Inner words: what functions of this crate promise one another. No public contract cites them.
--- Commands before they are joined.
+-- Here: commands before they are joined.
 use Rattle.std.specs.Prelude.{[]}
 use Rattle.clap.specs.Words.{App, Shape}
 

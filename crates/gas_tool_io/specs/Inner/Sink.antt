@@ -3,7 +3,7 @@
 use Rattle.std.specs.Prelude.{◌≡◌, ◌≤◌, ℕ, List, ◌++◌, length, take, drop, Bool, false, Option}
 use Rattle.std.specs.Io.KnownBytes.{Appends}
 
--- a sink: the bytes that wait in its block, the count of those that went out, whether the writer failed
+-- a sink: the bytes that wait in its block, the count of the bytes that went out, and whether the writer failed
 pub record SinkModel : Type 0 where
   pub waiting : List ℕ
   pub written : ℕ
@@ -15,7 +15,7 @@ pub record HasSent (start now : Option (List ℕ)) (sink : SinkModel) (text : Li
   pub out : Appends start now (take sink.written text)
   pub waiting : sink.failed ≡ false → drop sink.written text ≡ sink.waiting
 
--- whatever text was sent before, it is sent now with the bytes after it
+-- if any text was sent before, it is sent now with the bytes after it
 pub record Adds (old new : Option (List ℕ)) (before after : SinkModel) (bytes : List ℕ) : Type 0 where
   pub adds : (start : Option (List ℕ)) (text : List ℕ) →
       HasSent start old before text → HasSent start new after (text ++ bytes)

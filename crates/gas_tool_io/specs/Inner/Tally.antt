@@ -1,5 +1,5 @@
 -- Inner words: what functions of this crate promise one another. No public contract cites them.
--- Here: how a block's numbers come together: cells, directions and rows.
+-- Here: how a block's numbers add up, by cells, directions and rows.
 use Rattle.std.specs.Prelude.{ℕ, ◌+◌, ◌*◌, ◌/◌, ◌==◌, ◌≤◌, Bool, false, not, if◌then◌else◌, List, filter, map, fold, length, slice_index, slice_index_or, pos, neg_ℤ, ◌+ℤ◌, ◌*ℤ◌, ◌≤ℤ◌}
 use Rattle.std.specs.Int.{div_ceil}
 use Rattle.std.specs.List.{range_with_len}
@@ -9,7 +9,7 @@ use Rattle.gas_geom.specs.declared.size.TheConstants.{MOST_SIDE}
 use Rattle.gas_tool_io.specs.Blocks.{block_of_cells, cells_of}
 use Rattle.gas_tool_io.specs.declared.blocks.Block.{Block}
 
--- the numbers below n that, divided by a size, give k
+-- the numbers below n whose quotient by a size is k
 abbrev pub part : ℕ → ℕ → ℕ → List ℕ
 part n size k = filter (λ i. i / size == k) (range_with_len 0 n)
 
@@ -37,7 +37,7 @@ plus_cell gas b solid state = record {
 abbrev pub plus_cell_of : Rules → List Bool → List ℕ → Block → ℕ → Block
 plus_cell_of gas solid row b x = plus_cell gas b (slice_index_or solid x false) (slice_index row x)
 
--- with the cells of a row that stand in the block's column of blocks
+-- with the cells of a row that are in the block's column of blocks
 abbrev pub plus_row : Rules → ℕ → List Bool → List ℕ → Block → Block
 plus_row gas width solid row b = fold (plus_cell_of gas solid row) b (part (length row) width b.col)
 

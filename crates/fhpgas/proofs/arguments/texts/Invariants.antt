@@ -2,6 +2,6 @@ use Rattle.std.proofs.Common.{◌≡◌, map, take}
 use Rattle.std.specs.String.{string_bytes}
 use Rattle.fhpgas.proofs.arguments.texts.Given as goal
 
--- the words so far are there
+-- the words so far are in the list
 abbrev pub invariant-loop-word : goal.invariant-loop-word
 invariant-loop-word l = map (λ s. s.now) l.texts.items ≡ map string_bytes (take l.word-index l.words)

@@ -3,7 +3,7 @@ use Rattle.std.specs.Io.KnownBytes.{Consumes}
 use Rattle.gas_tool_io.specs.declared.input.TheConstants.{LONGEST_INPUT}
 use Rattle.gas_tool_io.proofs.input.slurp.Given as goal
 
--- each read gave a byte or more, and the text is what came so far
+-- each read returned a byte or more, and the text is what came so far
 abbrev pub invariant-loop-reads : goal.invariant-loop-reads
 invariant-loop-reads g l = record {
   many : l.reads ≤ vec_len l.text;

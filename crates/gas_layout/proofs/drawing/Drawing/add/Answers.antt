@@ -5,7 +5,7 @@ use Rattle.gas_layout.proofs.Strips.{AreStrips-same, drawn-same}
 use Rattle.gas_layout.proofs.Drawn.{AreStrips-added, drawn-added}
 use Rattle.gas_layout.proofs.drawing.Drawing.add.Goals as goal
 
--- what holds whatever the result
+-- what is true for either result
 OnErr-always : {T E P : Type 0} (r : Result T E) → P → OnErr r P
 OnErr-always (Ok x) p = tt
 OnErr-always (Err e) p = p
