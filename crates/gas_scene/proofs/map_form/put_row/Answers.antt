@@ -1,4 +1,4 @@
-use Rattle.std.proofs.Common.{ℕ, ◌^◌, ◌<◌, List, map, length, sym, ◌∙◌, ap, arith}
+use Rattle.std.proofs.Common.{◌^◌, ◌<◌, map, length, sym, ◌∙◌, ap, arith}
 use Rattle.std.proofs.lemmas.Nat.{pow_pos}
 use Rattle.toml.specs.View.{view}
 use Rattle.gas_geom.specs.Lattice.{LatticeModel}
