@@ -20,10 +20,28 @@ fn a_copied_row_is_a_row_of_its_own(rt: HostRuntime) -> Result<(), Fail> {
     Ok(())
 }
 
+// Once single cells were set, a mask no longer knows whether it is blank.
 #[test]
 fn a_blank_mask(rt: HostRuntime) -> Result<(), Fail> {
-    let mask = Mask::blank(rt.alloc(), 65)?;
+    let mut mask = Mask::blank(rt.alloc(), 65)?;
     assert!(rt; !mask.get(64));
+    assert!(rt; mask.is_blank() && mask.copy(rt.alloc())?.is_blank());
+    mask.set(64, true);
+    assert!(rt; !mask.is_blank() && !mask.copy(rt.alloc())?.is_blank());
+    mask.set(64, false);
+    assert!(rt; !mask.is_blank());
+    Ok(())
+}
+
+#[test]
+fn a_blank_row_of_a_channel(rt: HostRuntime) -> Result<(), Fail> {
+    let size = Size::new(65, 1).ok_or("a size")?;
+    let mut channel = Channel::free(rt.alloc(), size)?;
+    assert!(rt; channel.mask(0).is_blank());
+    channel.make_solid(64, 0);
+    assert!(rt; !channel.mask(0).is_blank());
+    channel.set_row(0, &[false; 65]);
+    assert!(rt; channel.mask(0).is_blank());
     Ok(())
 }
 
