@@ -5,6 +5,8 @@
 #[cfg(test)]
 mod belts;
 #[cfg(test)]
+mod carried;
+#[cfg(test)]
 mod helpers;
 #[cfg(test)]
 mod members;

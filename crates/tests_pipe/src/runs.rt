@@ -23,7 +23,7 @@ use std::thread::Threads;
 // The helpers promise nothing, so that no test carries the promises of `run`.
 
 // A column, a row, and the state of the cell there, or SOLID, which is no state of a gas.
-type Cell = (u32, u32, u8);
+pub(super) type Cell = (u32, u32, u8);
 
 const SOLID: u8 = 0xff;
 
@@ -50,7 +50,11 @@ fn set<G: Gas>(lattice: &mut Lattice<G>, (x, y, cell): Cell) {
 }
 
 // The lattice with these cells.
-fn lattice<G: Gas>(alloc: Global, size: Size, cells: &[Cell]) -> Result<Lattice<G>, AllocError> {
+pub(super) fn lattice<G: Gas>(
+    alloc: Global,
+    size: Size,
+    cells: &[Cell],
+) -> Result<Lattice<G>, AllocError> {
     let mut lattice = Lattice::blank(alloc, Channel::free(alloc, size)?)?;
     for cell in cells {
         set(&mut lattice, *cell);
@@ -400,7 +404,7 @@ fn of_other_lines(rt: HostRuntime) -> Result<(), Fail> {
 }
 
 // Five columns and four rows of this state, with an obstacle at (2, 1).
-fn full_lattice<G: Gas>(alloc: Global, state: u8) -> Result<Lattice<G>, Fail> {
+pub(super) fn full_lattice<G: Gas>(alloc: Global, state: u8) -> Result<Lattice<G>, Fail> {
     let size = Size::new(5, 4).ok_or("a size")?;
     let mut lattice = lattice(alloc, size, &[(2, 1, SOLID)])?;
     for y in 0..4 {
@@ -411,7 +415,7 @@ fn full_lattice<G: Gas>(alloc: Global, state: u8) -> Result<Lattice<G>, Fail> {
     Ok(lattice)
 }
 
-fn have_same_cells<G: Gas>(
+pub(super) fn have_same_cells<G: Gas>(
     alloc: Global,
     one: &Lattice<G>,
     other: &Lattice<G>,
