@@ -9,39 +9,22 @@ ghost use Rattle.gas_geom.specs.Fhp1.{fhp1};
 ghost use Rattle.gas_geom.specs.Lattice.{count};
 ghost use Rattle.gas_layout.specs.Layout.{drawn};
 
+use anyhow::Result;
 use gas_geom::fhp1::Fhp1;
 use gas_geom::size::Size;
 use gas_layout::drawing::Drawing;
 use gas_layout::rectangle::Rectangle;
-use gas_pipe::{NoGate, Plan, PlanError, Run, RunError, run};
+use gas_pipe::{NoGate, Plan, Run, RunError, run};
 use gas_rows::channel::Channel;
 use gas_rows::chirality::Chirality;
 use gas_rows::lattice::Lattice;
 use gas_scene::catalog::AnyLattice;
 use gas_scene::checkpoint::checkpoint;
-use gas_scene::error::SceneError;
 use gas_scene::scene::{Scene, read};
 use gas_tool::coarse;
 use std::alloc::{AllocError, Global};
-use std::io;
 use std::sync::Wait;
 use std::thread::Threads;
-use thiserror::Error;
-
-/// Why the example stopped.
-#[derive(Debug, Drop, Error)]
-enum Fault {
-    #[error(transparent)]
-    Memory(#[from] AllocError),
-    #[error(transparent)]
-    Plan(#[from] PlanError),
-    #[error(transparent)]
-    Run(#[from] RunError),
-    #[error(transparent)]
-    Scene(#[from] SceneError),
-    #[error(transparent)]
-    Output(#[from] io::Error),
-}
 
 const WIDTH: u32 = 32;
 
@@ -95,7 +78,7 @@ fn advance<R: Threads + Wait + Sync>(
 }
 
 /// Prints the density and the momentum of blocks of 8 x 4 cells.
-fn print_blocks(rt: &impl Print, alloc: Global, lattice: &Lattice<Fhp1>) -> Result<(), Fault> {
+fn print_blocks(rt: &impl Print, alloc: Global, lattice: &Lattice<Fhp1>) -> Result<()> {
     let blocks = coarse(alloc, lattice, 8, 4)?;
     for block in &blocks {
         println!(rt;
@@ -112,7 +95,7 @@ fn write_and_read(
     alloc: Global,
     lattice: &AnyLattice,
     generation: u64,
-) -> Result<Scene, Fault>
+) -> Result<Scene>
     ensures lattice { IfOk result (λ scene. scene.lattice ≡ gas_lattice lattice.now) }
     ensures generation { IfOk result (λ scene. scene.generation ≡ generation) }
 {
@@ -121,23 +104,23 @@ fn write_and_read(
     Ok(read(alloc, text.as_bytes())?)
 }
 
-fn main(rt: HostRuntime) -> Result<(), Fault> {
-    let alloc = rt.alloc();
-    let lattice = wind(alloc)?;
-    let before = lattice.count();
-    println!(rt; "generation 0: {before} particles")?;
-
-    let plan = Plan::new(4, 8, 12)?;
-    let run = advance(&rt, alloc, &lattice, plan)?;
-    let after = run.lattice().count();
-    prove!(after == before);
-    println!(rt; "generation 12: {after} particles")?;
-    print_blocks(&rt, alloc, run.lattice())?;
-
-    let lattice = AnyLattice::Fhp1(run.lattice().copy(alloc)?);
-    let scene = write_and_read(&rt, alloc, &lattice, 12)?;
-    let generation = scene.generation();
+/// Prints what has become of a lattice in generation 12.
+fn print_later(rt: &impl Print, alloc: Global, lattice: &Lattice<Fhp1>) -> Result<()> {
+    print_blocks(rt, alloc, lattice)?;
+    let lattice = AnyLattice::Fhp1(lattice.copy(alloc)?);
+    let generation = write_and_read(rt, alloc, &lattice, 12)?.generation();
     prove!(generation == 12);
     println!(rt; "read again: generation {generation}")?;
     Ok(())
+}
+
+fn main(rt: HostRuntime) -> Result<()> {
+    let alloc = rt.alloc();
+    let lattice = wind(alloc)?;
+    let plan = Plan::new(4, 8, 12)?;
+    let run = advance(&rt, alloc, &lattice, plan)?;
+    let (before, after) = (lattice.count(), run.lattice().count());
+    prove!(after == before);
+    println!(rt; "generation 0: {before} particles\ngeneration 12: {after} particles")?;
+    print_later(&rt, alloc, run.lattice())
 }
