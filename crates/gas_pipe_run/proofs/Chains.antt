@@ -1,8 +1,8 @@
 -- A chain of jobs grows at its end.
-use Rattle.std.proofs.Common.{◌≡◌, ℕ, suc, ◌+◌, List, [], ◌∷◌, ◌++◌, length, refl, subst, ◌∙◌, arith}
+use Rattle.std.proofs.Common.{◌≡◌, ℕ, suc, ◌+◌, List, [], ◌∷◌, ◌++◌, length, refl, subst, arith}
 use Rattle.gas_belt.specs.Belt.{Belt}
 use Rattle.gas_pipe_model.specs.Pass.{RunInputModel}
-use Rattle.gas_pipe_run.specs.Inner.Job.{JobModel, IsReady}
+use Rattle.gas_pipe_run.specs.Inner.Job.{JobModel}
 use Rattle.gas_pipe_run.specs.Inner.Links.{IsJobOf, Linked, last_belt, AllReady}
 
 pub last_belt_snoc : (from : Belt) (js : List JobModel) (j : JobModel) → last_belt from (js ++ j ∷ []) ≡ j.tx.belt

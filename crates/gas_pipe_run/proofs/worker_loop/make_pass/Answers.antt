@@ -1,4 +1,4 @@
-use Rattle.std.proofs.Common.{ap, ◌∙◌, refl}
+use Rattle.std.proofs.Common.{ap, ◌∙◌}
 use Rattle.gas_pipe_run.proofs.Passes.{run_took, run_put, run_rests, run_wide}
 use Rattle.gas_pipe_run.proofs.worker_loop.make_pass.Goals as goal
 
