@@ -10,25 +10,18 @@ ghost use Rattle.gas_tool_cli.specs.Inner.Commands.{leaf_app};
 use crate::arguments::{
     block_height_arg, block_width_arg, capacity_arg, generations_arg, stages_arg, turns_arg,
 };
-use crate::help;
+use crate::help::{self, Help};
 use clap::{Arg, Command};
 use std::alloc::{AllocError, Global};
 
-// A command with the texts of its help: its usage, what it does, and notes.
-fn new_command<'a>(
-    alloc: Global,
-    name: &'a str,
-    usage: &'a str,
-    about: &'a str,
-    notes: &'a str,
-) -> Command<'a>
+fn new_command<'a>(alloc: Global, name: &'a str, help: Help) -> Command<'a>
     ensures app { app_of result ≡ new_app name.entry.now }
     ensures local { (fields_of result).has_globals ≡ false }
 {
     Command::new(alloc, name)
-        .override_usage(usage)
-        .about(about)
-        .after_help(notes)
+        .override_usage(help.usage)
+        .about(help.about)
+        .after_help(help.notes)
 }
 
 // The command with one more option, if there is memory for both.
@@ -47,33 +40,14 @@ fn with_arg<'a>(
 }
 
 // A command with the options of a plan.
-fn plan_command<'a>(
-    alloc: Global,
-    name: &'a str,
-    usage: &'a str,
-    about: &'a str,
-    notes: &'a str,
-) -> Result<Command<'a>, AllocError>
+fn plan_command<'a>(alloc: Global, name: &'a str, help: Help) -> Result<Command<'a>, AllocError>
     ensures app { IfOk result (λ r. app_of r ≡ leaf_app (subcommand name.entry.now plan_rules)) }
     ensures local { IfOk result (λ r. (fields_of r).has_globals ≡ false) }
 {
-    let command = new_command(alloc, name, usage, about, notes);
+    let command = new_command(alloc, name, help);
     let first = with_arg(Ok(command), generations_arg(alloc));
     let second = with_arg(first, stages_arg(alloc));
     with_arg(second, capacity_arg(alloc))
-}
-
-fn run_command<'a>(alloc: Global) -> Result<Command<'a>, AllocError>
-    ensures app { IfOk result (λ r. app_of r ≡ leaf_app (subcommand (codes "run") plan_rules)) }
-    ensures local { IfOk result (λ r. (fields_of r).has_globals ≡ false) }
-{
-    plan_command(
-        alloc,
-        "run",
-        help::USAGE_RUN,
-        help::ABOUT_RUN,
-        help::NOTES_RUN,
-    )
 }
 
 fn coarse_command<'a>(alloc: Global) -> Result<Command<'a>, AllocError>
@@ -81,13 +55,7 @@ fn coarse_command<'a>(alloc: Global) -> Result<Command<'a>, AllocError>
         ++ side_rule (codes "block-width") ∷ side_rule (codes "block-height") ∷ []))) }
     ensures local { IfOk result (λ r. (fields_of r).has_globals ≡ false) }
 {
-    let plan = plan_command(
-        alloc,
-        "coarse",
-        help::USAGE_COARSE,
-        help::ABOUT_COARSE,
-        help::NOTES_COARSE,
-    );
+    let plan = plan_command(alloc, "coarse", help::COARSE);
     let wide = with_arg(plan, block_width_arg(alloc));
     with_arg(wide, block_height_arg(alloc))
 }
@@ -97,27 +65,8 @@ fn replay_command<'a>(alloc: Global) -> Result<Command<'a>, AllocError>
         (plan_rules ++ turns_rule ∷ []))) }
     ensures local { IfOk result (λ r. (fields_of r).has_globals ≡ false) }
 {
-    let plan = plan_command(
-        alloc,
-        "replay",
-        help::USAGE_REPLAY,
-        help::ABOUT_REPLAY,
-        help::NOTES_REPLAY,
-    );
+    let plan = plan_command(alloc, "replay", help::REPLAY);
     with_arg(plan, turns_arg(alloc))
-}
-
-fn check_command<'a>(alloc: Global) -> Command<'a>
-    ensures app { app_of result ≡ leaf_app (subcommand (codes "check") []) }
-    ensures local { (fields_of result).has_globals ≡ false }
-{
-    new_command(
-        alloc,
-        "check",
-        help::USAGE_CHECK,
-        help::ABOUT_CHECK,
-        help::NOTES_CHECK,
-    )
 }
 
 // The program's command without its subcommands.
@@ -126,7 +75,7 @@ fn top_command<'a>(alloc: Global) -> Command<'a>
         (λ s. record s { subcommand_required = true; has_version = true })
         (new_app (codes "fhpgas")) }
 {
-    new_command(alloc, "fhpgas", help::USAGE, help::ABOUT, help::NOTES)
+    new_command(alloc, "fhpgas", help::PROGRAM)
         .version(help::VERSION)
         .subcommand_required(true)
 }
@@ -148,8 +97,9 @@ fn with_command<'a>(
 pub(crate) fn program_command<'a>(alloc: Global) -> Result<Command<'a>, AllocError>
     ensures { IfOk result (λ r. app_of r ≡ program_app) }
 {
-    let checks = with_command(Ok(top_command(alloc)), Ok(check_command(alloc)));
-    let runs = with_command(checks, run_command(alloc));
+    let check = new_command(alloc, "check", help::CHECK);
+    let checks = with_command(Ok(top_command(alloc)), Ok(check));
+    let runs = with_command(checks, plan_command(alloc, "run", help::RUN));
     let tables = with_command(runs, coarse_command(alloc));
     with_command(tables, replay_command(alloc))
 }

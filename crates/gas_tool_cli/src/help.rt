@@ -3,34 +3,41 @@
 /// The program's version, and the kit that proves it, without the letter of the kit's release.
 pub(crate) const VERSION: &str = "1.0.0 (rattle-kit-13 logic dac8208d650f15bf)";
 
-pub(crate) const ABOUT: &str = "\
-Compute a lattice gas in a channel: particles move from cell to cell, collide, and bounce back from
-walls and obstacles. The scene comes on standard input, the answer goes to standard output.";
+/// The texts of a command's help: its usage, what it does, and notes.
+#[derive(Clone, Copy)]
+pub(crate) struct Help {
+    pub(crate) usage: &'static str,
+    pub(crate) about: &'static str,
+    pub(crate) notes: &'static str,
+}
 
-pub(crate) const NOTES: &str = "\
+pub(crate) const PROGRAM: Help = Help {
+    usage: "fhpgas COMMAND [OPTIONS] < SCENE",
+    about: "\
+Compute a lattice gas in a channel: particles move from cell to cell, collide, and bounce back from
+walls and obstacles. The scene comes on standard input, the answer goes to standard output.",
+    notes: "\
 A scene is a TOML text with the gas, the shape of the channel and the particles. The channel is
 periodic in x. Its top and bottom are walls; walls and solid cells send a particle back where it
 came from (bounce-back, no-slip). On the triangular lattice odd rows lie half a cell to the east.
 With `version = 2` a scene may have a `generation`, and sides up to 65536 cells instead of 4096.
-`fhpgas COMMAND --help` explains the options of a command.";
+`fhpgas COMMAND --help` explains the options of a command.",
+};
 
-pub(crate) const USAGE: &str = "fhpgas COMMAND [OPTIONS] < SCENE";
-
-pub(crate) const ABOUT_CHECK: &str = "Check the scene and print a one-line summary";
-
-pub(crate) const USAGE_CHECK: &str = "fhpgas check < SCENE";
-
-pub(crate) const NOTES_CHECK: &str = "\
+pub(crate) const CHECK: Help = Help {
+    usage: "fhpgas check < SCENE",
+    about: "Check the scene and print a one-line summary",
+    notes: "\
 The line has the gas, the width and the height in cells, and the numbers of solid cells and of
 particles.
 
-Example: fhpgas check < scene.toml";
+Example: fhpgas check < scene.toml",
+};
 
-pub(crate) const ABOUT_RUN: &str = "Compute generations of the scene and print the cells";
-
-pub(crate) const USAGE_RUN: &str = "fhpgas run --generations G [--stages N] [--capacity C] < SCENE";
-
-pub(crate) const NOTES_RUN: &str = "\
+pub(crate) const RUN: Help = Help {
+    usage: "fhpgas run --generations G [--stages N] [--capacity C] < SCENE",
+    about: "Compute generations of the scene and print the cells",
+    notes: "\
 A pipeline of N workers computes the generations. Each worker has a thread of its own and computes
 one generation, row by row, from the rows of the worker before it. The output does not depend on N
 and C.
@@ -39,16 +46,14 @@ The first line has the generation reached and the number of particles. Then come
 channel from the top, two characters per cell: `..` is empty, `##` is solid, and other cells show
 the set of directions of their particles in hexadecimal, bit i for direction i.
 
-Example: fhpgas run --generations 100 < scene.toml";
+Example: fhpgas run --generations 100 < scene.toml",
+};
 
-pub(crate) const ABOUT_COARSE: &str =
-    "Compute generations of the scene and print a table of its blocks of cells";
-
-pub(crate) const USAGE_COARSE: &str =
-    "fhpgas coarse --generations G [--stages N] [--capacity C] --block-width BW --block-height BH \
-     < SCENE";
-
-pub(crate) const NOTES_COARSE: &str = "\
+pub(crate) const COARSE: Help = Help {
+    usage: "fhpgas coarse --generations G [--stages N] [--capacity C] --block-width BW --block-height BH \
+     < SCENE",
+    about: "Compute generations of the scene and print a table of its blocks of cells",
+    notes: "\
 The lattice is divided into blocks of BW columns and BH rows, from the top left. Blocks at the right
 and at the bottom may be smaller. After a header comes one line per block, by rows of blocks from
 the top, each from the left. Its columns are:
@@ -59,15 +64,13 @@ the top, each from the left. Its columns are:
   px, py     the momentum of its particles, eastwards and northwards: in units of 1/2 and of
              half the square root of 3 in FHP-I and fhp-rest, in units of 1 in HPP
 
-Example: fhpgas coarse --generations 100 --block-width 16 --block-height 16 < scene.toml";
+Example: fhpgas coarse --generations 100 --block-width 16 --block-height 16 < scene.toml",
+};
 
-pub(crate) const ABOUT_REPLAY: &str =
-    "Step the pipeline on one thread by a schedule, and print the state of its belts";
-
-pub(crate) const USAGE_REPLAY: &str =
-    "fhpgas replay --generations G [--stages N] [--capacity C] [TURN]... < SCENE";
-
-pub(crate) const NOTES_REPLAY: &str = "\
+pub(crate) const REPLAY: Help = Help {
+    usage: "fhpgas replay --generations G [--stages N] [--capacity C] [TURN]... < SCENE",
+    about: "Step the pipeline on one thread by a schedule, and print the state of its belts",
+    notes: "\
 The TURNs are a schedule of the pipeline: each is a step of one member. 0 is the feeder, which has
 the lattice's rows. k is worker k, which takes rows from the belt before it and puts the rows of the
 next generation on the belt after it. A number above N is ignored. A step puts the next row, if the
@@ -78,4 +81,5 @@ The first line is `done` if all rows have come back to the feeder, else `not don
 line per belt, from 0, with the numbers of rows put on it and taken from it. If the pass is done,
 the cells follow as `run` prints them. G generations need at least G workers.
 
-Example: fhpgas replay --generations 1 --stages 1 0 1 0 1 < scene.toml";
+Example: fhpgas replay --generations 1 --stages 1 0 1 0 1 < scene.toml",
+};
