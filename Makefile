@@ -6,8 +6,7 @@
 #   make archive FILE=F   packs fhpgas, built for x86-64-v2, into F, a .tar.gz for machines without the kit
 #   make clean            removes all that was built
 #
-# A crate is proved again only if what its proof reads has another content: the kit, its line of crates.txt, its files, the libraries
-# below it. To edit a crate, use rt in its folder.
+# A crate is proved again only if the content of what its proof reads changed: kit, line of crates.txt, files, libraries below it.
 SHELL := /bin/bash
 .SHELLFLAGS := -O extglob -euo pipefail -c
 .DEFAULT_GOAL := fhpgas
@@ -21,10 +20,11 @@ MAKEFLAGS += --no-print-directory -j$(shell awk -v most=$$(($(processors) + 2)) 
     '/^MemAvailable/ { n = int($$2 / 3e6); print (n < 1 ? 1 : (n > most ? most : n)) }' /proc/meminfo)
 unexport MAKEFLAGS
 
-# The order in which crates begin: first the ones for which the longest chains of others wait. A crate that has several processors is
-# proved sooner with a third more work, so the two that have time take one.
-order := gas_geom gas_bits gas_rows gas_tool_cli gas_layout gas_cells gas_scene gas_belt gas_stage gas_pipe_model gas_pipe_members \
-    gas_pipe_run gas_pipe_replay gas_tool_io gas_tool_perform fhpgas
+# The crates in the order in which they begin, with the seconds that one processor takes to prove each: first the ones for which the longest
+# chains of others wait. A crate that has several processors is proved sooner with a third more work, so the two that have time take one.
+costs := gas_geom:30 gas_bits:60 gas_rows:120 gas_tool_cli:120 gas_layout:55 gas_cells:20 gas_scene:175 gas_belt:90 gas_stage:65 \
+    gas_pipe_model:10 gas_pipe_members:115 gas_pipe_run:190 gas_pipe_replay:70 gas_tool_io:95 gas_tool_perform:75 fhpgas:70
+order := $(foreach c,$(costs),$(firstword $(subst :, ,$c)))
 jobs = $(if $(filter gas_tool_cli gas_scene,$@),1,$(processors))
 
 # From crates.txt, in which lower crates come first: uses_NAME is what the line of a crate names, own_NAME what of that is built here,
@@ -52,10 +52,10 @@ link = $(kit)/bin/rattle-link --target x86_64-unknown-linux-gnu --toolchain $(ki
 made = $(if $(is_program),out/$@,out/rlib/$@.rlib/format)
 sums = $(if $(is_program),out/sums,out/rlib/sums)
 
-# How many crates are done, and when the first began: a program is as old as that, so that a source which is edited meanwhile is newer.
+# The crates that are done, and when the first began: a program is as old as that, so that a source which is edited meanwhile is newer.
 tally := ../fhpgas/out/tally
 begun := ../fhpgas/out/begun
-dated = $(if $(is_program),touch -r $(begun) $(made))
+done = $(if $(is_program),touch -r $(begun) $(made);) echo $@ >> $(tally)
 $(if $(filter quick test clean help,$(MAKECMDGOALS)),,$(shell mkdir -p crates/fhpgas/out $(wanted:%=crates/%/out) && cd crates/fhpgas && \
     : > $(tally) && touch $(begun)))
 
@@ -76,22 +76,19 @@ $(names):
 	}
 	fail() { echo "crate $@ was not built; the end of its log:"; tail -n 20 out/build.log; exit 1; } >&2
 	sum=$$(sum)
-	if [ "$$(cat $(sums) 2>&1)" = "$$sum $$(sha256sum $(made) 2>&1)" ]; then
-	    $(dated)
-	    echo >> $(tally)
-	    exit
-	fi
+	[ "$$(cat $(sums) 2>&1)" != "$$sum $$(sha256sum $(made) 2>&1)" ] || { $(done); exit; }
 	trap exit TERM INT HUP; trap 'kill $${!-} 2> /dev/null || :; rm -rf out/new' EXIT
 	rm -rf out/new $(if $(is_program),$(sums),out/rlib) && mkdir -p out/new
 	$(kit)/bin/rattle build $(if $(is_program),$(program),$(library)) $(flags) > out/build.log 2>&1 < /dev/null &
 	wait $$! || fail
 	[ "$$(sum)" = "$$sum" ] || { echo "crate $@: a file that its proof reads changed meanwhile" >&2; exit 1; }
 	$(if $(is_program),$(link),mv out/new out/rlib) || fail
-	$(dated)
 	trap - EXIT
 	echo "$$sum $$(sha256sum $(made))" > $(sums)
-	echo >> $(tally)
-	echo "$@ proved in $$SECONDS s ($$(wc -l < $(tally)) of $(words $(wanted)))"
+	$(done)
+	left=$$(awk -F: 'NR == FNR { done[$$1]; next } !($$1 in done) { n += $$2 } END { print int(n / 45 / $(processors) + 0.9) }' \
+	    $(tally) <(printf '%s\n' $(filter $(wanted:%=%:%),$(costs))))
+	echo "$@ proved in $$SECONDS s ($$(wc -l < $(tally)) of $(words $(wanted)), about $$left min left)"
 
 quick: ; @tests/quick.sh
 test: ; @tests/all.sh

@@ -56,7 +56,7 @@ fails() {
 }
 
 try 'a missing program is built' proves 'low high fhpgas' launch
-try 'each crate is told as it is done' grep -qE '^high proved in [0-9]+ s \(2 of 3\)$' "$room/told"
+try 'each crate is told as it is done' grep -qE '^high proved in [0-9]+ s \(2 of 3, about [0-9]+ min left\)$' "$room/told"
 try 'what is built is run' proves '' quietly
 touch crates/low/src/lib.rt
 try 'a source with another time alone proves nothing' proves '' quietly
@@ -66,7 +66,8 @@ try 'a crate is proved again where its source changed' proves 'high' launch
 sed -i 's/stated/stated otherwise/' crates/low/src/lib.rt
 try 'and those above where its statements did' proves 'low high fhpgas' launch
 echo 2 > "$kit/KIT-ID"
-try 'another kit proves all' proves 'low high fhpgas' build
+try 'another kit proves all' proves 'low high fhpgas' build processors=1 costs='low:99 fhpgas:450'
+try 'and the minutes left are those of the crates left' grep -q '^high .* about 10 min left)$' "$room/told"
 rm -r crates/low/out
 try 'what rt took away is built again' proves 'low' build
 rm crates/high/out/rlib/high.rlib/format
