@@ -1,4 +1,3 @@
-pub mod Status
 pub mod Words
 pub mod Requests
 pub mod Inner

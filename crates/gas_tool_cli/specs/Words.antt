@@ -6,6 +6,7 @@ use Rattle.clap.specs.Lexer.{usize_max}
 use Rattle.clap.specs.declared.builder.action.ArgAction.TheVariants.{Append, Set}
 use Rattle.clap.specs.declared.builder.value_parser.ValueParser.{ValueParser}
 use Rattle.clap.specs.declared.builder.value_parser.ValueParser.TheVariants.{Signed, Unsigned}
+use Rattle.gas_tool_cli.specs.declared.arguments.TheConstants.{MOST_BLOCK_SIDE}
 
 -- an option `--name VALUE`
 abbrev pub option_rule : Text → ValueParser → Rule
@@ -27,13 +28,9 @@ plan_rules =
     ∷ default_rule (codes "stages") (codes "4")
     ∷ default_rule (codes "capacity") (codes "2") ∷ []
 
--- the most columns, and the most rows, of a block
-abbrev pub most_block_side : ℕ
-most_block_side = 4096
-
 -- the width or the height of blocks
 abbrev pub side_rule : Text → Rule
-side_rule name = required_rule name (Signed (pos 1) (pos most_block_side))
+side_rule name = required_rule name (Signed (pos 1) (pos MOST_BLOCK_SIDE))
 
 -- [TURN]...: any number of words, each a number of 32 bits
 abbrev pub turns_rule : Rule

@@ -1,7 +1,8 @@
 //! Why words are no request.
 
-ghost use Rattle.std.specs.Prelude.{◌≡◌};
-ghost use Rattle.gas_tool_cli.specs.Status.{usage_status};
+ghost use Rattle.std.specs.Prelude.{◌≡◌, String};
+ghost use Rattle.std.specs.Global.{Global};
+ghost use Rattle.gas_tool_cli.specs.declared.faults.UsageFault.TheVariants as fault;
 
 use thiserror::Error;
 
@@ -20,7 +21,9 @@ pub enum UsageFault {
 impl UsageFault {
     /// Returns the program's exit status: 2 for usage, 3 for memory, 0 for help.
     pub fn status(&self) -> u8
-        ensures value { result ≡ usage_status self.now }
+        ensures memory { self.now ≡ fault.Memory → result ≡ 3 }
+        ensures usage { (text : String Global) → self.now ≡ fault.Usage text → result ≡ 2 }
+        ensures help { (text : String Global) → self.now ≡ fault.Help text → result ≡ 0 }
     {
         match self {
             UsageFault::Memory => 3,

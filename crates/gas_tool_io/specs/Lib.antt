@@ -1,4 +1,3 @@
-pub mod Status
 pub mod Output
 pub mod Text
 pub mod Blocks

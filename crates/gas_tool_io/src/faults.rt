@@ -1,7 +1,7 @@
 //! Why an input was not read, and why a text was not written whole.
 
-ghost use Rattle.std.specs.Prelude.{◌≡◌};
-ghost use Rattle.gas_tool_io.specs.Status.{input_status};
+ghost use Rattle.std.specs.Prelude.{◌≡◌, ◌≢◌};
+ghost use Rattle.gas_tool_io.specs.declared.faults.InputFault.TheVariants as fault;
 
 use thiserror::Error;
 
@@ -19,7 +19,8 @@ pub enum InputFault {
 impl InputFault {
     /// Returns the program's exit status: 3 for memory, 1 for a refused input.
     pub fn status(&self) -> u8
-        ensures value { result ≡ input_status self.now }
+        ensures memory { self.now ≡ fault.Memory → result ≡ 3 }
+        ensures refused { self.now ≢ fault.Memory → result ≡ 1 }
     {
         match self {
             InputFault::Memory => 3,

@@ -1,10 +1,11 @@
 //! The faults of a request, and their exit statuses.
 
-ghost use Rattle.std.specs.Prelude.{◌≡◌, ◌≢◌};
+ghost use Rattle.std.specs.Prelude.{◌≡◌, ◌≢◌, ℕ};
 ghost use Rattle.gas_pipe_members.specs.declared.error.RunError.TheVariants as run;
 ghost use Rattle.gas_scene.specs.declared.error.SceneError.TheVariants as scene;
 ghost use Rattle.gas_tool_perform.specs.declared.faults.ToolError.TheVariants.{Memory, Scene, Plan, Write, MorePasses};
-ghost use Rattle.gas_tool_perform.specs.Status.{tool_status};
+ghost use Rattle.gas_scene.specs.declared.error.SceneError.{SceneError};
+ghost use Rattle.gas_pipe_members.specs.declared.plan.PlanError.{PlanError};
 
 use gas_pipe_members::error::RunError;
 use gas_pipe_members::plan::PlanError;
@@ -33,7 +34,13 @@ impl ToolError {
     /// Returns the program's exit status: 1 if something was refused, 3 for memory, 4 for a writer
     /// that failed.
     pub fn status(&self) -> u8
-        ensures value { result ≡ tool_status self.now }
+        ensures memory { self.now ≡ Memory → result ≡ 3 }
+        ensures memory_of_scene { self.now ≡ Scene scene.Memory → result ≡ 3 }
+        ensures scene { (error : SceneError) → error ≢ scene.Memory →
+            self.now ≡ Scene error → result ≡ 1 }
+        ensures plan { (error : PlanError) → self.now ≡ Plan error → result ≡ 1 }
+        ensures passes { self.now ≡ MorePasses → result ≡ 1 }
+        ensures write { (written : ℕ) → self.now ≡ Write written → result ≡ 4 }
     {
         match self {
             ToolError::Memory | ToolError::Scene(SceneError::Memory) => 3,
