@@ -1,19 +1,13 @@
 -- The outcome of a request, step by step.
-use Rattle.std.proofs.Common.{List, ℕ, Option, Result, Err}
-use Rattle.std.specs.Option.{option_map_or}
+use Rattle.std.proofs.Common.{List, ℕ, Result}
 use Rattle.std.specs.Result.{result_flatten, result_map_both}
-use Rattle.gas_pipe_members.specs.declared.plan.PlanError.{PlanError}
 use Rattle.gas_scene.specs.Catalog.{rules_of}
 use Rattle.gas_scene.specs.Scene.{SceneModel}
 use Rattle.gas_scene.specs.declared.error.SceneError.{SceneError}
 use Rattle.gas_tool_cli.specs.declared.request.Request.{Request}
 use Rattle.gas_tool_perform.specs.Outcome.{gas_outcome}
 use Rattle.gas_tool_perform.specs.declared.faults.ToolError.{ToolError}
-use Rattle.gas_tool_perform.specs.declared.faults.ToolError.TheVariants.{Plan, Scene}
-
--- an outcome, unless the plan has this refusal
-abbrev pub unless_refused : Option PlanError → Result (List ℕ) ToolError → Result (List ℕ) ToolError
-unless_refused refusal answer = option_map_or (λ error. Err (Plan error)) refusal answer
+use Rattle.gas_tool_perform.specs.declared.faults.ToolError.TheVariants.{Scene}
 
 -- the outcome of a request on a text with this scene, or with this fault
 abbrev pub scene_outcome : Result SceneModel SceneError → Request → Result (List ℕ) ToolError

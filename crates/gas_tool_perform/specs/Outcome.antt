@@ -1,5 +1,5 @@
 -- What `perform` returns and writes.
-use Rattle.std.specs.Prelude.{◌≡◌, ◌≤◌, ◌+◌, ℕ, nat_lt, List, length, take, Option, None, Result, Ok, Err, IsOkAnd, ⊤, if◌then◌else◌}
+use Rattle.std.specs.Prelude.{◌≡◌, ◌≤◌, ◌+◌, ℕ, nat_lt, List, length, take, Option, Result, Ok, Err, IsOkAnd, ⊤, if◌then◌else◌}
 use Rattle.std.specs.Int.{div_ceil}
 use Rattle.std.specs.Io.KnownBytes.{Appends}
 use Rattle.std.specs.Option.{option_map_or}
@@ -23,30 +23,23 @@ use Rattle.gas_tool_perform.specs.declared.faults.ToolError.TheVariants.{Memory,
 use Rattle.gas_tool_cli.specs.declared.request.Request.{Request}
 use Rattle.gas_tool_cli.specs.declared.request.Request.TheVariants.{Check, Run, Coarse, Replay}
 
--- the outcome of a request with an accepted plan, on a lattice of generation `first`: the text of its answer. A replay that
--- needs more than one pass is a fault.
-abbrev pub accepted_outcome : Rules → LatticeModel → Chirality → ℕ → Request → Result (List ℕ) ToolError
-accepted_outcome gas lattice chirality first Check = Ok (check_text gas lattice)
-accepted_outcome gas lattice chirality first (Run stages capacity generations) =
-    Ok (cells_text gas (lattice_after gas chirality first lattice generations) (first + generations))
-accepted_outcome gas lattice chirality first (Coarse stages capacity generations width height) =
-    Ok (table_text (blocks_of gas (lattice_after gas chirality first lattice generations) width height))
-accepted_outcome gas lattice chirality first (Replay stages capacity generations turns) =
-    let plan : PlanModel = record { stages = stages; capacity = capacity; generations = generations } in
-    if nat_lt 1 (div_ceil generations stages) then Err MorePasses
-    else Ok (replay_text gas (replay_of gas chirality first lattice plan turns) (first + generations))
+-- this outcome, unless the plan is refused
+abbrev pub unless_refused : Option PlanError → Result (List ℕ) ToolError → Result (List ℕ) ToolError
+unless_refused refusal accepted = option_map_or (λ error. Err (Plan error)) refusal accepted
 
--- the refusal of a request's plan, if it has a plan and the plan is refused
-abbrev pub refusal_of : Request → Option PlanError
-refusal_of Check = None
-refusal_of (Run stages capacity generations) = plan_refusal stages capacity generations
-refusal_of (Coarse stages capacity generations width height) = plan_refusal stages capacity generations
-refusal_of (Replay stages capacity generations turns) = plan_refusal stages capacity generations
-
--- the outcome of a request on a lattice: the refusal of its plan as a fault, or the outcome with an accepted plan
+-- The outcome of a request on a lattice of generation `first`: the refusal of its plan, or the text of its answer. A replay that needs more
+-- than one pass is a fault.
 abbrev pub gas_outcome : Rules → LatticeModel → Chirality → ℕ → Request → Result (List ℕ) ToolError
-gas_outcome gas lattice chirality first request =
-    option_map_or (λ refusal. Err (Plan refusal)) (refusal_of request) (accepted_outcome gas lattice chirality first request)
+gas_outcome gas lattice chirality first Check = Ok (check_text gas lattice)
+gas_outcome gas lattice chirality first (Run stages capacity generations) = unless_refused (plan_refusal stages capacity generations)
+    (Ok (cells_text gas (lattice_after gas chirality first lattice generations) (first + generations)))
+gas_outcome gas lattice chirality first (Coarse stages capacity generations width height) =
+    unless_refused (plan_refusal stages capacity generations)
+    (Ok (table_text (blocks_of gas (lattice_after gas chirality first lattice generations) width height)))
+gas_outcome gas lattice chirality first (Replay stages capacity generations turns) =
+    let plan : PlanModel = record { stages = stages; capacity = capacity; generations = generations } in
+    unless_refused (plan_refusal stages capacity generations) (if nat_lt 1 (div_ceil generations stages) then Err MorePasses
+    else Ok (replay_text gas (replay_of gas chirality first lattice plan turns) (first + generations)))
 
 -- the outcome of a request on a text: its first fault, in the order scene, plan, passes, or the text of its answer
 abbrev pub outcome : List ℕ → Request → Result (List ℕ) ToolError

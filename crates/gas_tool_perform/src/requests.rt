@@ -4,7 +4,7 @@ ghost use Rattle.std.specs.Prelude.{◌≡◌, IfOk, IfErr};
 ghost use Rattle.gas_stage.specs.Evolution.{lattice_after};
 ghost use Rattle.gas_tool_cli.specs.Requests.{IsAllowed};
 ghost use Rattle.gas_tool_cli.specs.declared.request.Request.TheVariants as request_of;
-ghost use Rattle.gas_tool_perform.specs.Outcome.{Performs, accepted_outcome, gas_outcome, outcome};
+ghost use Rattle.gas_tool_perform.specs.Outcome.{Performs, gas_outcome, outcome};
 
 use crate::faults::ToolError;
 use gas_geom::gas::Gas;
@@ -137,7 +137,7 @@ fn print_replay<G: Gas, W: Write>(
     out: &mut W,
 ) -> Result<(), ToolError>
     ensures { Performs
-        (accepted_outcome G.rules lattice.now scene.now.chirality scene.now.generation
+        (gas_outcome G.rules lattice.now scene.now.chirality scene.now.generation
         (request_of.Replay plan.stages plan.capacity plan.generations turns.now))
         (W.contents out.old) (W.contents out.new) result }
 {
