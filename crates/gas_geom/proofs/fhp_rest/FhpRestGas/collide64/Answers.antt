@@ -7,35 +7,19 @@ use Rattle.gas_geom.proofs.Holds.{set_of-lt}
 use Rattle.gas_geom.proofs.Planes.{Formula, Plane, Before, Zero, And, Or, Xor, Not, collided_after, holds-column, plane-lt}
 use Rattle.gas_geom.proofs.fhp_rest.FhpRestGas.collide64.Goals as goal
 
-abbrev one_e : Formula
-one_e = Xor (Plane 0) (Plane 3)
-
-abbrev one_ne : Formula
-one_ne = Xor (Plane 1) (Plane 4)
-
-abbrev one_nw : Formula
-one_nw = Xor (Plane 2) (Plane 5)
-
-abbrev first : Formula
-first = Or (Or (Plane 0) (Plane 2)) (Plane 4)
-
-abbrev second : Formula
-second = Or (Or (Plane 1) (Plane 3)) (Plane 5)
-
-abbrev exchange : Formula
-exchange = And (Xor first second) (Not (Or (And (And one_e one_ne) one_nw) (Xor (Xor (Xor one_e one_ne) one_nw) (Plane 6))))
-
-abbrev at_e : Formula
-at_e = And exchange (Xor one_e second)
-
-abbrev at_ne : Formula
-at_ne = And exchange (Xor one_ne first)
-
-abbrev at_nw : Formula
-at_nw = And exchange (Xor one_nw second)
-
+-- the formulas of the code, by the same names
 abbrev after : List Formula
 after =
+    let one_e = Xor (Plane 0) (Plane 3) in
+    let one_ne = Xor (Plane 1) (Plane 4) in
+    let one_nw = Xor (Plane 2) (Plane 5) in
+    let first = Or (Or (Plane 0) (Plane 2)) (Plane 4) in
+    let second = Or (Or (Plane 1) (Plane 3)) (Plane 5) in
+    let odd = Xor (Xor one_e one_ne) one_nw in
+    let exchange = And (Xor first second) (Not (Or (And (And one_e one_ne) one_nw) (Xor odd (Plane 6)))) in
+    let at_e = And exchange (Xor one_e second) in
+    let at_ne = And exchange (Xor one_ne first) in
+    let at_nw = And exchange (Xor one_nw second) in
     Xor (Before 0) at_e ∷ Xor (Before 1) at_ne ∷ Xor (Before 2) at_nw
     ∷ Xor (Before 3) (Xor exchange at_e) ∷ Xor (Before 4) (Xor exchange at_ne) ∷ Xor (Before 5) (Xor exchange at_nw)
     ∷ Xor (Plane 6) exchange ∷ Zero ∷ []
