@@ -1,5 +1,5 @@
--- What comes to a cell in a direction, case by case. From a fluid neighbour it is the neighbour's particle; where the
--- neighbour is solid or the wall, it is the cell's own particle, sent back.
+-- What comes to a cell in a direction. From a fluid neighbour it is the neighbour's particle. If the neighbour is solid or the
+-- wall, it is the cell's own particle, sent back.
 use Rattle.std.proofs.Common.{◌≡◌, ℕ, Bool, true, false, Option, Some, None, ap, ◌∙◌}
 use Rattle.std.specs.Option.{option_map_or}
 use Rattle.gas_geom.specs.Gas.{Rules, neighbour_of, holds}
@@ -19,14 +19,7 @@ module _ (gas : Rules) (c : ChannelModel) (at : ℕ → ℕ → ℕ) (x y i : �
   abbrev pub arrives_from : Option (ℕ × ℕ) → Bool
   arrives_from o = option_map_or (λ (u : ℕ × ℕ). bounce_back (is_solid c u.0 u.1) sent_back (holds (at u.0 u.1) i)) o sent_back
 
-  abbrev by_solid : ℕ → ℕ → Bool → Bool
-  by_solid u v solid = bounce_back solid sent_back (holds (at u v) i)
-
-  pub arriving-wall : behind gas c x y i ≡ None → arriving gas c at x y i ≡ sent_back
-  arriving-wall there = ap arrives_from there
-
-  pub arriving-solid : (u v : ℕ) → behind gas c x y i ≡ Some (u, v) → is_solid c u v ≡ true → arriving gas c at x y i ≡ sent_back
-  arriving-solid u v there solid = ap arrives_from there ∙ ap (by_solid u v) solid
-
-  pub arriving-fluid : (u v : ℕ) → behind gas c x y i ≡ Some (u, v) → is_solid c u v ≡ false → arriving gas c at x y i ≡ holds (at u v) i
-  arriving-fluid u v there fluid = ap arrives_from there ∙ ap (by_solid u v) fluid
+  -- what comes from a neighbour that is solid, or that is not
+  pub arriving-beside : (u : ℕ × ℕ) (solid : Bool) → behind gas c x y i ≡ Some u → is_solid c u.0 u.1 ≡ solid →
+      arriving gas c at x y i ≡ bounce_back solid sent_back (holds (at u.0 u.1) i)
+  arriving-beside u solid there e = ap arrives_from there ∙ ap (λ b. bounce_back b sent_back (holds (at u.0 u.1) i)) e

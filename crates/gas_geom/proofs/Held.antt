@@ -5,7 +5,7 @@ use Rattle.std.specs.List.{range_with_len}
 use Rattle.std.proofs.lemmas.Int.{ints}
 use Rattle.std.proofs.lemmas.List.{length-append, map-id}
 use Rattle.std.proofs.lemmas.List.Elements.{filter-append}
-use Rattle.std.proofs.lemmas.List.FromFn.{map-range_with_len_more}
+use Rattle.std.proofs.lemmas.List.FromFn.{filter_of_map_range_with_len_more}
 use Rattle.std.proofs.lemmas.List.Sums.{fold-append}
 use Rattle.std.specs.Int.{bit_at}
 use Rattle.gas_geom.specs.Gas.{Rules, holds, particles, signed_sum_by}
@@ -16,27 +16,14 @@ use Rattle.gas_geom.proofs.Sums.{sum_below}
 abbrev pub held_below : ℕ → ℕ → List ℕ
 held_below n s = filter (holds s) (range_with_len 0 n)
 
-range-more : (n : ℕ) → range_with_len 0 (suc n) ≡ range_with_len 0 n ++ n ∷ []
-range-more n =
-    ap (range_with_len 0) (sym (add-one n))
-    ∙ sym (map-id (range_with_len 0 (n + 1)))
-    ∙ map-range_with_len_more (λ (k : ℕ). k) 0 n n (zero-add n)
-    ∙ ap (λ (xs : List ℕ). xs ++ n ∷ []) (map-id (range_with_len 0 n))
-
 abbrev one_or_none : Bool → ℕ → List ℕ
 one_or_none b n = if b then n ∷ [] else []
 
-filter-one : (p : ℕ → Bool) (n : ℕ) → filter p (n ∷ []) ≡ one_or_none (p n) n
-filter-one p n = by (p n)
-  where
-    by : (b : Bool) → (if b then n ∷ [] else []) ≡ one_or_none b n
-    by true = refl
-    by false = refl
-
 held_below-more : (n s : ℕ) → held_below (suc n) s ≡ held_below n s ++ one_or_none (holds s n) n
 held_below-more n s =
-    ap (filter (holds s)) (range-more n) ∙ filter-append (holds s) (range_with_len 0 n) (n ∷ [])
-    ∙ ap (λ (xs : List ℕ). held_below n s ++ xs) (filter-one (holds s) n)
+    ap (λ k. held_below k s) (sym (add-one n)) ∙ ap (filter (holds s)) (sym (map-id (range_with_len 0 (n + 1))))
+    ∙ filter_of_map_range_with_len_more (holds s) (λ (k : ℕ). k) 0 n n (zero-add n)
+    ∙ ap (λ (xs : List ℕ). filter (holds s) xs ++ one_or_none (holds s n) n) (map-id (range_with_len 0 n))
 
 length-one : (b : Bool) (n : ℕ) → length (one_or_none b n) ≡ bit_of b
 length-one true n = refl

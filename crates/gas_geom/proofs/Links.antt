@@ -9,7 +9,7 @@ use Rattle.gas_geom.specs.Gas.{Rules, IsGas, holds}
 use Rattle.gas_geom.specs.Laws.Steps.{neighbour-within}
 use Rattle.gas_geom.specs.Channel.{ChannelModel, is_solid}
 use Rattle.gas_geom.specs.Lattice.{arriving, streamed, set_of}
-use Rattle.gas_geom.proofs.Arriving.{behind, arriving-wall, arriving-solid, arriving-fluid}
+use Rattle.gas_geom.proofs.Arriving.{behind, arrives_from, arriving-beside}
 use Rattle.gas_geom.proofs.Sets.{bit_of, bit_of-holds, bit_at-set_of}
 use Rattle.gas_geom.proofs.Places.{Place, Within}
 
@@ -39,71 +39,53 @@ module _ (gas : Rules) (laws : IsGas gas) (c : ChannelModel) where
   abbrev pub other_end : Place → Place
   other_end p = if is_solid c p.0 p.1 then p else landed p (from p)
 
-  -- what a place meets
-  data Meets (p : Place) : Type 0 where
-    in_solid : is_solid c p.0 p.1 ≡ true → Meets p
-    at_wall : is_solid c p.0 p.1 ≡ false → from p ≡ None → Meets p
-    at_solid : is_solid c p.0 p.1 ≡ false → (u : ℕ × ℕ) → from p ≡ Some u → is_solid c u.0 u.1 ≡ true → Meets p
-    comes : is_solid c p.0 p.1 ≡ false → (u : ℕ × ℕ) → from p ≡ Some u → is_solid c u.0 u.1 ≡ false → Meets p
-
-  meets : (p : Place) → Meets p
-  meets p = by_solid (is_solid c p.0 p.1) refl
-    where
-      by_other : is_solid c p.0 p.1 ≡ false → (u : ℕ × ℕ) → from p ≡ Some u → (b : Bool) → is_solid c u.0 u.1 ≡ b → Meets p
-      by_other fluid u there true e = at_solid fluid u there e
-      by_other fluid u there false e = comes fluid u there e
-
-      by_neighbour : is_solid c p.0 p.1 ≡ false → (o : Option (ℕ × ℕ)) → from p ≡ o → Meets p
-      by_neighbour fluid None e = at_wall fluid e
-      by_neighbour fluid (Some u) e = by_other fluid u e (is_solid c u.0 u.1) refl
-
-      by_solid : (b : Bool) → is_solid c p.0 p.1 ≡ b → Meets p
-      by_solid true e = in_solid e
-      by_solid false e = by_neighbour e (from p) refl
-
-  -- `other_end` in each case
   abbrev if_fluid : Place → Bool → Place
   if_fluid p solid = if solid then p else landed p (from p)
 
-  other_end-in_solid : (p : Place) → is_solid c p.0 p.1 ≡ true → other_end p ≡ p
-  other_end-in_solid p e = ap (if_fluid p) e
+  other_end-beside : (p : Place) (u : ℕ × ℕ) (solid : Bool) → is_solid c p.0 p.1 ≡ false → from p ≡ Some u → is_solid c u.0 u.1 ≡ solid →
+      other_end p ≡ (if solid then p else beside p u)
+  other_end-beside p u solid fluid there e =
+      ap (if_fluid p) fluid ∙ ap (landed p) there ∙ ap (λ (b : Bool). if b then p else beside p u) e
 
-  other_end-at_wall : (p : Place) → is_solid c p.0 p.1 ≡ false → from p ≡ None → other_end p ≡ p
-  other_end-at_wall p e there = ap (if_fluid p) e ∙ ap (landed p) there
+  -- what comes to a place: its own particle, sent back, or a neighbour's
+  data Meets (p : Place) : Type 0 where
+    stays : other_end p ≡ p → (is_solid c p.0 p.1 ≡ false → (at : ℕ → ℕ → ℕ) → arriving gas c at p.0 p.1 p.2 ≡ is_held at (opposed p)) →
+        Meets p
+    comes : is_solid c p.0 p.1 ≡ false → (u : ℕ × ℕ) → from p ≡ Some u → is_solid c u.0 u.1 ≡ false → Meets p
 
-  other_end-at_solid : (p : Place) (u : ℕ × ℕ) → is_solid c p.0 p.1 ≡ false → from p ≡ Some u → is_solid c u.0 u.1 ≡ true → other_end p ≡ p
-  other_end-at_solid p u e there s =
-      ap (if_fluid p) e ∙ ap (landed p) there ∙ ap (λ (b : Bool). if b then p else beside p u) s
+  meets : (p : Place) → Meets p
+  meets p = by (is_solid c p.0 p.1) refl (from p) refl
+    where
+      beside_it : is_solid c p.0 p.1 ≡ false → (u : ℕ × ℕ) → from p ≡ Some u → (b : Bool) → is_solid c u.0 u.1 ≡ b → Meets p
+      beside_it fluid u there true e =
+          stays (other_end-beside p u true fluid there e) (λ _ at. arriving-beside gas c at p.0 p.1 p.2 u true there e)
+      beside_it fluid u there false e = comes fluid u there e
 
-  other_end-comes : (p : Place) (u : ℕ × ℕ) → is_solid c p.0 p.1 ≡ false → from p ≡ Some u → is_solid c u.0 u.1 ≡ false →
-      other_end p ≡ beside p u
-  other_end-comes p u e there s =
-      ap (if_fluid p) e ∙ ap (landed p) there ∙ ap (λ (b : Bool). if b then p else beside p u) s
+      by : (b : Bool) → is_solid c p.0 p.1 ≡ b → (o : Option (ℕ × ℕ)) → from p ≡ o → Meets p
+      by true e o there = stays (ap (if_fluid p) e) (λ fluid. absurd (both_ways (is_solid c p.0 p.1) fluid e))
+      by false e None there = stays (ap (if_fluid p) e ∙ ap (landed p) there) (λ _ at. ap (arrives_from gas c at p.0 p.1 p.2) there)
+      by false e (Some u) there = beside_it e u there (is_solid c u.0 u.1) refl
 
   abbrev Here : Place → Type 0
   Here = Within c.width c.height gas.dirs
 
   pub other_end-within : (p : Place) → Here p → Here (other_end p)
   other_end-within p h = elim (meets p) [
-    | in_solid e ↦ subst Here (sym (other_end-in_solid p e)) h
-    | at_wall e there ↦ subst Here (sym (other_end-at_wall p e there)) h
-    | at_solid e u there s ↦ subst Here (sym (other_end-at_solid p u e there s)) h
-    | comes e u there s ↦
+    | stays e arrives ↦ subst Here (sym e) h
+    | comes fluid u there e ↦
         let inside = neighbour-within gas c.width c.height p.0 p.1 (gas.opposite p.2) u.0 u.1 h.0 h.1 there in
-        subst Here (sym (other_end-comes p u e there s)) (inside.0, inside.1, laws.opposite_within p.2 h.2)
+        subst Here (sym (other_end-beside p u false fluid there e)) (inside.0, inside.1, laws.opposite_within p.2 h.2)
   ]
 
   -- the neighbour behind the neighbour behind is the cell itself, since steps lead back
   pub other_end-twice : (p : Place) → Here p → other_end (other_end p) ≡ p
   other_end-twice p h = elim (meets p) [
-    | in_solid e ↦ ap other_end (other_end-in_solid p e) ∙ other_end-in_solid p e
-    | at_wall e there ↦ ap other_end (other_end-at_wall p e there) ∙ other_end-at_wall p e there
-    | at_solid e u there s ↦ ap other_end (other_end-at_solid p u e there s) ∙ other_end-at_solid p u e there s
-    | comes e u there s ↦
+    | stays e arrives ↦ ap other_end e ∙ e
+    | comes fluid u there e ↦
         let home : ℕ × ℕ = (p.0, p.1) in
         let back : from (beside p u) ≡ Some home =
         laws.steps_back c.width c.height p.0 p.1 (gas.opposite p.2) u.0 u.1 h.0 h.1 (laws.opposite_within p.2 h.2) there in
-        ap other_end (other_end-comes p u e there s) ∙ other_end-comes (beside p u) home s back e
+        ap other_end (other_end-beside p u false fluid there e) ∙ other_end-beside (beside p u) home false e back fluid
         ∙ ap (λ (i : ℕ). let r : Place = (p.0, p.1, i) in r) (laws.opposite_twice p.2 h.2)
   ]
 
@@ -117,14 +99,11 @@ module _ (gas : Rules) (laws : IsGas gas) (c : ChannelModel) where
     -- what arrives at a place of a fluid cell is what stood where it comes from
     held-arriving : (p : Place) → Here p → is_solid c p.0 p.1 ≡ false → arriving gas c at p.0 p.1 p.2 ≡ is_held at (opposed (other_end p))
     held-arriving p h fluid = elim (meets p) [
-      | in_solid e ↦ absurd (both_ways (is_solid c p.0 p.1) fluid e)
-      | at_wall e there ↦ arriving-wall gas c at p.0 p.1 p.2 there ∙ sym (ap (λ q. is_held at (opposed q)) (other_end-at_wall p e there))
-      | at_solid e u there s ↦
-          arriving-solid gas c at p.0 p.1 p.2 u.0 u.1 there s ∙ sym (ap (λ q. is_held at (opposed q)) (other_end-at_solid p u e there s))
-      | comes e u there s ↦
-          arriving-fluid gas c at p.0 p.1 p.2 u.0 u.1 there s
+      | stays e arrives ↦ arrives fluid at ∙ sym (ap (λ q. is_held at (opposed q)) e)
+      | comes _ u there e ↦
+          arriving-beside gas c at p.0 p.1 p.2 u false there e
           ∙ ap (holds (at u.0 u.1)) (sym (laws.opposite_twice p.2 h.2))
-          ∙ sym (ap (λ q. is_held at (opposed q)) (other_end-comes p u e there s))
+          ∙ sym (ap (λ q. is_held at (opposed q)) (other_end-beside p u false fluid there e))
     ]
 
     -- what a place holds after streaming, where solid cells were empty before
@@ -141,7 +120,7 @@ module _ (gas : Rules) (laws : IsGas gas) (c : ChannelModel) where
             ∙ bit_at-zero p.2
             ∙ sym (bit_at-zero (gas.opposite p.2))
             ∙ sym (ap (λ s. bit_at s (gas.opposite p.2)) (empty p.0 p.1 e))
-            ∙ sym (ap (λ q. held at (opposed q)) (other_end-in_solid p e))
+            ∙ sym (ap (λ q. held at (opposed q)) (ap (if_fluid p) e))
         by false e =
             ap (λ b. bit_at (set b) p.2) e
             ∙ bit_at-set_of gas.dirs (arriving gas c at p.0 p.1) p.2 h.2

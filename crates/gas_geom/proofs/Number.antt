@@ -29,10 +29,8 @@ count-rows_of : (gas : Rules) (w h : ℕ) (at : ℕ → ℕ → ℕ) →
     count gas (rows_of w h at) ≡ total w h gas.dirs (held at)
 count-rows_of gas w h at =
     sum_by-row (λ row. sum_by (particles gas) row) (λ y. row_of w (λ x. at x y)) h
-    ∙ sum_below-cong h (λ y. sum_by (particles gas) (row_of w (λ x. at x y))) (λ y. sum_below w (λ x. particles gas (at x y)))
-    (λ y _. sum_by-row (particles gas) (λ x. at x y) w)
-    ∙ sum_below-cong h (λ y. sum_below w (λ x. particles gas (at x y))) (λ y. sum_below w (λ x. sum_below gas.dirs (λ i. bit_at (at x y) i)))
-    (λ y _. sum_below-cong w (λ x. particles gas (at x y)) (λ x. sum_below gas.dirs (λ i. bit_at (at x y) i)) (λ x _. particles-bits gas (at x y)))
+    ∙ sum_below-cong h _ _ (λ y _.
+    sum_by-row (particles gas) (λ x. at x y) w ∙ sum_below-cong w _ _ (λ x _. particles-bits gas (at x y)))
 
 -- a lattice's rows are made of its cells
 pub rows_of-cell : (gas : Rules) (c : ChannelModel) (rows : List (List ℕ)) → IsLattice gas c rows → rows ≡ rows_of c.width c.height (cell rows)

@@ -20,31 +20,25 @@ module _ (w h d : ℕ) where
 
   pub total-cong : (f g : Place → ℕ) → ((p : Place) → Within p → f p ≡ g p) → total f ≡ total g
   total-cong f g e =
-      sum_below-cong h (λ y. sum_below w (λ x. sum_below d (λ i. f (x, y, i)))) (λ y. sum_below w (λ x. sum_below d (λ i. g (x, y, i)))) (λ y hy.
-      sum_below-cong w (λ x. sum_below d (λ i. f (x, y, i))) (λ x. sum_below d (λ i. g (x, y, i))) (λ x hx.
-      sum_below-cong d (λ i. f (x, y, i)) (λ i. g (x, y, i)) (λ i hi. e (x, y, i) (hx, hy, hi))))
+      sum_below-cong h _ _ (λ y hy. sum_below-cong w _ _ (λ x hx. sum_below-cong d _ _ (λ i hi. e (x, y, i) (hx, hy, hi))))
 
   total-sum_below : (n : ℕ) (f : Place → ℕ → ℕ) → total (λ p. sum_below n (λ j. f p j)) ≡ sum_below n (λ j. total (λ p. f p j))
   total-sum_below n f =
-      sum_below-cong h (λ y. sum_below w (λ x. sum_below d (λ i. sum_below n (λ j. f (x, y, i) j)))) (λ y. sum_below n (λ j. sum_below w (λ x. sum_below d (λ i. f (x, y, i) j)))) (λ y _.
-      sum_below-cong w (λ x. sum_below d (λ i. sum_below n (λ j. f (x, y, i) j))) (λ x. sum_below n (λ j. sum_below d (λ i. f (x, y, i) j))) (λ x _.
-      sum_below-swap d n (λ i j. f (x, y, i) j))
+      sum_below-cong h _ _ (λ y _. sum_below-cong w _ _ (λ x _. sum_below-swap d n (λ i j. f (x, y, i) j))
       ∙ sum_below-swap w n (λ x j. sum_below d (λ i. f (x, y, i) j)))
       ∙ sum_below-swap h n (λ y j. sum_below w (λ x. sum_below d (λ i. f (x, y, i) j)))
 
   pub total-swap : (f : Place → Place → ℕ) → total (λ p. total (λ q. f p q)) ≡ total (λ q. total (λ p. f p q))
   total-swap f =
       total-sum_below h (λ p y. sum_below w (λ x. sum_below d (λ i. f p (x, y, i))))
-      ∙ sum_below-cong h (λ y. total (λ p. sum_below w (λ x. sum_below d (λ i. f p (x, y, i))))) (λ y. sum_below w (λ x. sum_below d (λ i. total (λ p. f p (x, y, i))))) (λ y _.
-      total-sum_below w (λ p x. sum_below d (λ i. f p (x, y, i)))
-      ∙ sum_below-cong w (λ x. total (λ p. sum_below d (λ i. f p (x, y, i)))) (λ x. sum_below d (λ i. total (λ p. f p (x, y, i)))) (λ x _.
-      total-sum_below d (λ p i. f p (x, y, i))))
+      ∙ sum_below-cong h _ _ (λ y _. total-sum_below w (λ p x. sum_below d (λ i. f p (x, y, i)))
+      ∙ sum_below-cong w _ _ (λ x _. total-sum_below d (λ p i. f p (x, y, i))))
 
   pub total-pick : (p : Place) (f : Place → ℕ) → Within p → total (λ q. when (same p q) (f q)) ≡ f p
   total-pick p f within =
-      sum_below-cong h (λ y. sum_below w (λ x. sum_below d (λ i. when ((p.1 == y) && (p.0 == x) && (p.2 == i)) (f (x, y, i))))) (λ y. when (p.1 == y) (f (p.0, y, p.2))) (λ y _.
-      sum_below-cong w (λ x. sum_below d (λ i. when ((p.1 == y) && (p.0 == x) && (p.2 == i)) (f (x, y, i)))) (λ x. when (p.1 == y) (when (p.0 == x) (f (x, y, p.2)))) (λ x _.
-      sum_below-cong d (λ i. when ((p.1 == y) && (p.0 == x) && (p.2 == i)) (f (x, y, i))) (λ i. when ((p.1 == y) && (p.0 == x)) (when (p.2 == i) (f (x, y, i))))
+      sum_below-cong h _ (λ y. when (p.1 == y) (f (p.0, y, p.2))) (λ y _.
+      sum_below-cong w _ (λ x. when (p.1 == y) (when (p.0 == x) (f (x, y, p.2)))) (λ x _.
+      sum_below-cong d _ (λ i. when ((p.1 == y) && (p.0 == x)) (when (p.2 == i) (f (x, y, i))))
       (λ i _. when-and ((p.1 == y) && (p.0 == x)) (p.2 == i) (f (x, y, i)))
       ∙ sum_below-when ((p.1 == y) && (p.0 == x)) d (λ i. when (p.2 == i) (f (x, y, i)))
       ∙ ap (when ((p.1 == y) && (p.0 == x))) (sum_below-pick p.2 d (λ i. f (x, y, i)) within.2)

@@ -7,7 +7,7 @@ use Rattle.std.specs.Int.{bit_at}
 use mir.Val.{bool_byte}
 use Rattle.gas_geom.specs.Gas.{holds}
 use Rattle.gas_geom.specs.Lattice.{set_of}
-use Rattle.gas_geom.proofs.Holds.{one_more, holds-set_of}
+use Rattle.gas_geom.proofs.Holds.{bit_cases, one_more, holds-set_of}
 
 -- a truth value as a bit
 abbrev pub bit_of : Bool → ℕ
@@ -23,12 +23,7 @@ bit_of-times false p = omega arith
 
 -- the bits of a set
 pub bit_of-holds : (s i : ℕ) → bit_of (holds s i) ≡ bit_at s i
-bit_of-holds s i = by (bit_at s i) (bit_at-lt s i)
-  where
-    by : (v : ℕ) → v < 2 → bit_of (v == 1) ≡ v
-    by zero h = refl
-    by (suc zero) h = refl
-    by (suc (suc v)) h = absurd (omega arith)
+bit_of-holds s i = bit_cases (λ x. bit_of (x == 1) ≡ x) refl refl (bit_at s i) (bit_at-lt s i)
 
 pub bit_at-set_of : (n : ℕ) (f : ℕ → Bool) (i : ℕ) → i < n → bit_at (set_of n f) i ≡ bit_of (f i)
 bit_at-set_of n f i h = sym (bit_of-holds (set_of n f) i) ∙ ap bit_of (holds-set_of n f i h)

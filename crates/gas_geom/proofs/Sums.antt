@@ -1,7 +1,9 @@
 -- Finite sums over the numbers below n: equal terms, sums of sums, a double sum in either order, and a sum of which a test
 -- picks one term.
 use Rattle.std.proofs.Common.{◌≡◌, ◌≢◌, ℕ, zero, suc, ◌+◌, ◌<◌, ◌≤◌, Bool, true, false, if◌then◌else◌, ◌==◌, ◌&&◌, ap, ◌∙◌, sym, refl, arith, ⊎_elim, zero-add}
-use Rattle.std.proofs.lemmas.Bool.{cases_eq, eq-eqb, ne_eqb}
+use Rattle.std.specs.Prelude.{nat_lt}
+use Rattle.std.proofs.lemmas.Bool.{lt-ltb, le-ltb}
+use Rattle.std.proofs.lemmas.Bool.Decides.{nat_tests}
 
 -- the sum of `f` over the numbers below `n`
 abbrev pub sum_below : ℕ → (ℕ → ℕ) → ℕ
@@ -44,23 +46,12 @@ when-and true b n = refl
 when-and false b n = refl
 
 -- a sum of which one term is picked
-sum_below-unpicked : (k n : ℕ) (f : ℕ → ℕ) → n ≤ k → sum_below n (λ j. when (k == j) (f j)) ≡ 0
-sum_below-unpicked k zero f h = refl
-sum_below-unpicked k (suc n) f h =
-    let rest : sum_below n (λ j. when (k == j) (f j)) ≡ 0 = sum_below-unpicked k n f (omega arith) in
-    let last : when (k == n) (f n) ≡ 0 = ap (λ b. when b (f n)) (ne_eqb k n (omega arith)) in
-    omega arith
+pick_one : (k n : ℕ) (f : ℕ → ℕ) → when (nat_lt k n) (f k) + when (k == n) (f n) ≡ when (nat_lt k (suc n)) (f k)
+pick_one k n f = grind (arith, nat_tests)
+
+sum_below-picked : (k n : ℕ) (f : ℕ → ℕ) → sum_below n (λ j. when (k == j) (f j)) ≡ when (nat_lt k n) (f k)
+sum_below-picked k zero f = ap (λ b. when b (f k)) (sym (le-ltb k 0 (omega arith)))
+sum_below-picked k (suc n) f = ap (λ v. v + when (k == n) (f n)) (sum_below-picked k n f) ∙ pick_one k n f
 
 pub sum_below-pick : (k n : ℕ) (f : ℕ → ℕ) → k < n → sum_below n (λ j. when (k == j) (f j)) ≡ f k
-sum_below-pick k zero f h = absurd (omega arith)
-sum_below-pick k (suc n) f h =
-    ⊎_elim
-    (λ (e : k ≡ n).
-    let rest : sum_below n (λ j. when (k == j) (f j)) ≡ 0 = sum_below-unpicked k n f (omega arith) in
-    let last : when (k == n) (f n) ≡ f n = ap (λ b. when b (f n)) (eq-eqb k n e) in
-    ap (λ v. v + when (k == n) (f n)) rest ∙ zero-add (when (k == n) (f n)) ∙ last ∙ ap f (sym e))
-    (λ (ne : k ≢ n).
-    let rest : sum_below n (λ j. when (k == j) (f j)) ≡ f k = sum_below-pick k n f (omega arith) in
-    let last : when (k == n) (f n) ≡ 0 = ap (λ b. when b (f n)) (ne_eqb k n ne) in
-    omega arith)
-    (cases_eq k n)
+sum_below-pick k n f h = sum_below-picked k n f ∙ ap (λ b. when b (f k)) (lt-ltb k n h)
