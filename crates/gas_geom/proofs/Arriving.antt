@@ -1,6 +1,6 @@
 -- What comes to a cell in a direction. From a fluid neighbour it is the neighbour's particle. If the neighbour is solid or the
 -- wall, it is the cell's own particle, sent back.
-use Rattle.std.proofs.Common.{◌≡◌, ℕ, Bool, true, false, Option, Some, None, ap, ◌∙◌}
+use Rattle.std.proofs.Common.{◌≡◌, ℕ, Bool, Option, Some, ap, ◌∙◌}
 use Rattle.std.specs.Option.{option_map_or}
 use Rattle.gas_geom.specs.Gas.{Rules, neighbour_of, holds}
 use Rattle.gas_geom.specs.Channel.{ChannelModel, is_solid}

@@ -1,7 +1,8 @@
 -- A sum over a finite set does not change under a map of the set that undoes itself. Write each f (mate p), where the map sends
 -- p to its mate, as the sum over q of the f q that the test `mate p is q` picks. That test is also `mate q is p`, so the two sums may change places, and the
 -- inner one picks a single term again.
-use Rattle.std.proofs.Common.{◌≡◌, ℕ, Bool, true, false, ap, ◌∙◌, sym, refl}
+use Rattle.std.proofs.Common.{◌≡◌, ℕ, Bool, true, ap, ◌∙◌, sym}
+use Rattle.std.proofs.lemmas.Bool.Decides.{same_from_decides}
 use Rattle.gas_geom.proofs.Sums.{when}
 
 -- how a sum over the members of a domain behaves
@@ -16,14 +17,11 @@ pub sum-involution : {X : Type 0} (In : X → Type 0) (same : X → X → Bool) 
     (mate : X → X) → ((p : X) → In p → In (mate p)) → ((p : X) → In p → mate (mate p) ≡ p) →
     (f : X → ℕ) → total (λ p. f (mate p)) ≡ total f
 sum-involution {X = X} In same total sums mate inside twice f =
-    sums.cong (λ p. f (mate p)) (λ p. total (λ q. when (same (mate p) q) (f q)))
-    (λ p h. sym (sums.pick (mate p) f (inside p h)))
+    sums.cong _ (λ p. total (λ q. when (same (mate p) q) (f q))) (λ p h. sym (sums.pick (mate p) f (inside p h)))
     ∙ sums.swap (λ p q. when (same (mate p) q) (f q))
-    ∙ sums.cong (λ q. total (λ p. when (same (mate p) q) (f q))) (λ q. total (λ p. when (same (mate q) p) (f q)))
-    (λ q hq. sums.cong (λ p. when (same (mate p) q) (f q)) (λ p. when (same (mate q) p) (f q))
-    (λ p hp. ap (λ b. when b (f q)) (same_mate p q hp hq)))
-    ∙ sums.cong (λ q. total (λ p. when (same (mate q) p) (f q))) f
-    (λ q hq. sums.pick (mate q) (λ _. f q) (inside q hq))
+    ∙ sums.cong _ f (λ q hq.
+    sums.cong _ (λ p. when (same (mate q) p) (f q)) (λ p hp. ap (λ b. when b (f q)) (same_mate p q hp hq))
+    ∙ sums.pick (mate q) (λ _. f q) (inside q hq))
   where
     -- p is sent to q where q is sent to p
     forward : (p q : X) → In p → same (mate p) q ≡ true → same (mate q) p ≡ true
@@ -31,10 +29,5 @@ sum-involution {X = X} In same total sums mate inside twice f =
         let home : mate q ≡ p = ap mate (sym (sums.same_is (mate p) q e)) ∙ twice p hp in
         ap (λ v. same v p) home ∙ sums.same_self p
 
-    either : (a b : Bool) → (a ≡ true → b ≡ true) → (b ≡ true → a ≡ true) → a ≡ b
-    either true b to from = sym (to refl)
-    either false true to from = from refl
-    either false false to from = refl
-
     same_mate : (p q : X) → In p → In q → same (mate p) q ≡ same (mate q) p
-    same_mate p q hp hq = either (same (mate p) q) (same (mate q) p) (forward p q hp) (forward q p hq)
+    same_mate p q hp hq = same_from_decides _ _ (forward p q hp, forward q p hq) ((λ e. e), (λ e. e))

@@ -11,7 +11,8 @@ use Rattle.gas_geom.specs.Channel.{ChannelModel, is_solid}
 use Rattle.gas_geom.specs.Lattice.{arriving, streamed, set_of}
 use Rattle.gas_geom.proofs.Arriving.{behind, arrives_from, arriving-beside}
 use Rattle.gas_geom.proofs.Sets.{bit_of, bit_of-holds, bit_at-set_of}
-use Rattle.gas_geom.proofs.Places.{Place, Within}
+use Rattle.gas_geom.proofs.Involution.{sum-involution}
+use Rattle.gas_geom.proofs.Places.{Place, Within, total, total-cong, IsSum-total}
 
 -- what a place holds in the lattice `at`: a particle, 1, or none, 0
 abbrev pub held : (ℕ → ℕ → ℕ) → Place → ℕ
@@ -25,7 +26,7 @@ module _ (gas : Rules) (laws : IsGas gas) (c : ChannelModel) where
   from p = behind gas c p.0 p.1 p.2
 
   -- the same place with the direction against
-  abbrev pub opposed : Place → Place
+  abbrev opposed : Place → Place
   opposed p = (p.0, p.1, gas.opposite p.2)
 
   -- the place of a neighbour with the direction against
@@ -36,7 +37,7 @@ module _ (gas : Rules) (laws : IsGas gas) (c : ChannelModel) where
   landed p None = p
   landed p (Some u) = if is_solid c u.0 u.1 then p else beside p u
 
-  abbrev pub other_end : Place → Place
+  abbrev other_end : Place → Place
   other_end p = if is_solid c p.0 p.1 then p else landed p (from p)
 
   abbrev if_fluid : Place → Bool → Place
@@ -69,7 +70,7 @@ module _ (gas : Rules) (laws : IsGas gas) (c : ChannelModel) where
   abbrev Here : Place → Type 0
   Here = Within c.width c.height gas.dirs
 
-  pub other_end-within : (p : Place) → Here p → Here (other_end p)
+  other_end-within : (p : Place) → Here p → Here (other_end p)
   other_end-within p h = elim (meets p) [
     | stays e arrives ↦ subst Here (sym e) h
     | comes fluid u there e ↦
@@ -78,7 +79,7 @@ module _ (gas : Rules) (laws : IsGas gas) (c : ChannelModel) where
   ]
 
   -- the neighbour behind the neighbour behind is the cell itself, since steps lead back
-  pub other_end-twice : (p : Place) → Here p → other_end (other_end p) ≡ p
+  other_end-twice : (p : Place) → Here p → other_end (other_end p) ≡ p
   other_end-twice p h = elim (meets p) [
     | stays e arrives ↦ ap other_end e ∙ e
     | comes fluid u there e ↦
@@ -89,10 +90,10 @@ module _ (gas : Rules) (laws : IsGas gas) (c : ChannelModel) where
         ∙ ap (λ (i : ℕ). let r : Place = (p.0, p.1, i) in r) (laws.opposite_twice p.2 h.2)
   ]
 
-  pub opposed-within : (p : Place) → Here p → Here (opposed p)
+  opposed-within : (p : Place) → Here p → Here (opposed p)
   opposed-within p h = (h.0, h.1, laws.opposite_within p.2 h.2)
 
-  pub opposed-twice : (p : Place) → Here p → opposed (opposed p) ≡ p
+  opposed-twice : (p : Place) → Here p → opposed (opposed p) ≡ p
   opposed-twice p h = ap (λ (i : ℕ). let r : Place = (p.0, p.1, i) in r) (laws.opposite_twice p.2 h.2)
 
   module _ (at : ℕ → ℕ → ℕ) where
@@ -107,7 +108,7 @@ module _ (gas : Rules) (laws : IsGas gas) (c : ChannelModel) where
     ]
 
     -- what a place holds after streaming, where solid cells were empty before
-    pub held-streamed : ((x y : ℕ) → is_solid c x y ≡ true → at x y ≡ 0) →
+    held-streamed : ((x y : ℕ) → is_solid c x y ≡ true → at x y ≡ 0) →
         (p : Place) → Here p → held (streamed gas c at) p ≡ held at (opposed (other_end p))
     held-streamed empty p h = by (is_solid c p.0 p.1) refl
       where
@@ -126,3 +127,12 @@ module _ (gas : Rules) (laws : IsGas gas) (c : ChannelModel) where
             ∙ bit_at-set_of gas.dirs (arriving gas c at p.0 p.1) p.2 h.2
             ∙ ap bit_of (held-arriving p h e)
             ∙ bit_of-holds (at (opposed (other_end p)).0 (opposed (other_end p)).1) (opposed (other_end p)).2
+
+    -- so streaming keeps the particles of the whole lattice
+    pub total-streamed : ((x y : ℕ) → is_solid c x y ≡ true → at x y ≡ 0) →
+        total c.width c.height gas.dirs (held (streamed gas c at)) ≡ total c.width c.height gas.dirs (held at)
+    total-streamed empty =
+        let sums = IsSum-total c.width c.height gas.dirs in
+        total-cong c.width c.height gas.dirs _ _ (held-streamed empty)
+        ∙ sum-involution _ _ _ sums other_end other_end-within other_end-twice (λ p. held at (opposed p))
+        ∙ sum-involution _ _ _ sums opposed opposed-within opposed-twice (held at)

@@ -11,10 +11,8 @@ use Rattle.gas_geom.specs.Channel.{ChannelModel, is_solid}
 use Rattle.gas_geom.specs.Lattice.{cell, row_of, rows_of, IsLattice, collided, streamed, next, count}
 use Rattle.gas_geom.proofs.Sums.{sum_below, sum_below-cong}
 use Rattle.gas_geom.proofs.Held.{particles-bits}
-use Rattle.gas_geom.proofs.Places.{Place, Within, total, same, total-cong, IsSum-total}
-use Rattle.gas_geom.proofs.Involution.{sum-involution}
-use Rattle.gas_geom.proofs.Links.{held}
-use Rattle.gas_geom.proofs.Links as links
+use Rattle.gas_geom.proofs.Places.{total}
+use Rattle.gas_geom.proofs.Links.{held, total-streamed}
 
 -- a sum over a list that is made by index
 pub sum_by-row : {X : Type 0} (g : X → ℕ) (f : ℕ → X) (n : ℕ) → sum_by g (map f (range_with_len 0 n)) ≡ sum_below n (λ k. g (f k))
@@ -38,6 +36,11 @@ rows_of-cell gas c rows lattice =
     fill_by_all (λ y. row_of c.width (λ x. cell rows x y)) rows c.height [] lattice.high
     (λ y h. fill_by_all (λ x. cell rows x y) (get_or rows y []) c.width 0 (lattice.wide y h) (λ x _. refl))
 
+-- cells of as many particles each
+total-bits : (w h d : ℕ) (at other : ℕ → ℕ → ℕ) →
+    ((x y : ℕ) → sum_below d (λ i. bit_at (at x y) i) ≡ sum_below d (λ i. bit_at (other x y) i)) → total w h d (held at) ≡ total w h d (held other)
+total-bits w h d at other same = sum_below-cong h _ _ (λ y _. sum_below-cong w _ _ (λ x _. same x y))
+
 -- a collision keeps the particles of each cell
 bits-collided : (gas : Rules) → IsGas gas → (c : ChannelModel) (chi : ℕ → ℕ → Bool) (at : ℕ → ℕ → ℕ) →
     ((x y : ℕ) → at x y < 2 ^ gas.dirs) → ((x y : ℕ) → is_solid c x y ≡ true → at x y ≡ 0) → (x y : ℕ) →
@@ -53,43 +56,15 @@ collided-empty : (gas : Rules) (c : ChannelModel) (chi : ℕ → ℕ → Bool) (
     is_solid c x y ≡ true → collided gas c chi at x y ≡ 0
 collided-empty gas c chi at x y e = ap (λ (b : Bool). if b then 0 else gas.collide (at x y) (chi x y)) e
 
--- streaming keeps the particles of the whole lattice
-total-streamed : (gas : Rules) → IsGas gas → (c : ChannelModel) (at : ℕ → ℕ → ℕ) →
-    ((x y : ℕ) → is_solid c x y ≡ true → at x y ≡ 0) →
-    total c.width c.height gas.dirs (held (streamed gas c at)) ≡ total c.width c.height gas.dirs (held at)
-total-streamed gas laws c at empty =
-    total-cong w h d (held (streamed gas c at)) (λ p. held at (opposed (other_end p))) (links.held-streamed gas laws c at empty)
-    ∙ sum-involution (Within w h d) (same w h d) (total w h d) (IsSum-total w h d)
-    other_end (links.other_end-within gas laws c) (links.other_end-twice gas laws c) (λ p. held at (opposed p))
-    ∙ sum-involution (Within w h d) (same w h d) (total w h d) (IsSum-total w h d)
-    opposed (links.opposed-within gas laws c) (links.opposed-twice gas laws c) (held at)
-  where
-    other_end : Place → Place
-    other_end = links.other_end gas laws c
-
-    opposed : Place → Place
-    opposed = links.opposed gas laws c
-
-    w : ℕ
-    w = c.width
-
-    h : ℕ
-    h = c.height
-
-    d : ℕ
-    d = gas.dirs
-
 -- the next lattice has as many particles
 pub count-next : (gas : Rules) → IsGas gas → (c : ChannelModel) (chi : ℕ → ℕ → Bool) (rows : List (List ℕ)) → IsLattice gas c rows →
     count gas (next gas c chi rows) ≡ count gas rows
 count-next gas laws c chi rows lattice =
-    count-rows_of gas c.width c.height (streamed gas c (collided gas c chi (cell rows)))
-    ∙ total-streamed gas laws c (collided gas c chi (cell rows)) (collided-empty gas c chi (cell rows))
-    ∙ sum_below-cong c.height (λ y. sum_below c.width (λ x. bits (collided gas c chi (cell rows) x y))) (λ y. sum_below c.width (λ x. bits (cell rows x y)))
-    (λ y _. sum_below-cong c.width (λ x. bits (collided gas c chi (cell rows) x y)) (λ x. bits (cell rows x y))
-    (λ x _. bits-collided gas laws c chi (cell rows) lattice.sets lattice.empty x y))
+    count-rows_of gas c.width c.height (streamed gas c after)
+    ∙ total-streamed gas laws c after (collided-empty gas c chi (cell rows))
+    ∙ total-bits c.width c.height gas.dirs after (cell rows) (bits-collided gas laws c chi (cell rows) lattice.sets lattice.empty)
     ∙ sym (count-rows_of gas c.width c.height (cell rows))
     ∙ ap (count gas) (sym (rows_of-cell gas c rows lattice))
   where
-    bits : ℕ → ℕ
-    bits s = sum_below gas.dirs (λ i. bit_at s i)
+    after : ℕ → ℕ → ℕ
+    after = collided gas c chi (cell rows)

@@ -1,8 +1,8 @@
 -- Sums over the places of a lattice: a column, a row and a direction each. They behave as sums over a finite set do (`IsSum`),
 -- since each of the three sums within does.
-use Rattle.std.proofs.Common.{◌≡◌, ℕ, ◌<◌, Bool, true, ◌==◌, ◌&&◌, ap, ◌∙◌, refl, eq-eqb}
+use Rattle.std.proofs.Common.{◌≡◌, ℕ, ◌<◌, Bool, true, ◌==◌, ◌&&◌, ◌∙◌, refl, eq-eqb}
 use Rattle.std.proofs.lemmas.Bool.{eqb-true, and_parts}
-use Rattle.gas_geom.proofs.Sums.{sum_below, when, when-and, sum_below-cong, sum_below-swap, sum_below-when, sum_below-pick}
+use Rattle.gas_geom.proofs.Sums.{sum_below, when, sum_below-cong, sum_below-swap, sum_below-pick}
 use Rattle.gas_geom.proofs.Involution.{IsSum}
 
 abbrev pub Place : Type 0
@@ -36,16 +36,9 @@ module _ (w h d : ℕ) where
 
   pub total-pick : (p : Place) (f : Place → ℕ) → Within p → total (λ q. when (same p q) (f q)) ≡ f p
   total-pick p f within =
-      sum_below-cong h _ (λ y. when (p.1 == y) (f (p.0, y, p.2))) (λ y _.
-      sum_below-cong w _ (λ x. when (p.1 == y) (when (p.0 == x) (f (x, y, p.2)))) (λ x _.
-      sum_below-cong d _ (λ i. when ((p.1 == y) && (p.0 == x)) (when (p.2 == i) (f (x, y, i))))
-      (λ i _. when-and ((p.1 == y) && (p.0 == x)) (p.2 == i) (f (x, y, i)))
-      ∙ sum_below-when ((p.1 == y) && (p.0 == x)) d (λ i. when (p.2 == i) (f (x, y, i)))
-      ∙ ap (when ((p.1 == y) && (p.0 == x))) (sum_below-pick p.2 d (λ i. f (x, y, i)) within.2)
-      ∙ when-and (p.1 == y) (p.0 == x) (f (x, y, p.2)))
-      ∙ sum_below-when (p.1 == y) w (λ x. when (p.0 == x) (f (x, y, p.2)))
-      ∙ ap (when (p.1 == y)) (sum_below-pick p.0 w (λ x. f (x, y, p.2)) within.0))
-      ∙ sum_below-pick p.1 h (λ y. f (p.0, y, p.2)) within.1
+      sum_below-cong h _ _ (λ y _. sum_below-cong w _ _ (λ x _. sum_below-pick ((p.1 == y) && (p.0 == x)) p.2 d (λ i. f (x, y, i)) within.2)
+      ∙ sum_below-pick (p.1 == y) p.0 w (λ x. f (x, y, p.2)) within.0)
+      ∙ sum_below-pick true p.1 h (λ y. f (p.0, y, p.2)) within.1
 
   same_is : (p q : Place) → same p q ≡ true → p ≡ q
   same_is p q e =

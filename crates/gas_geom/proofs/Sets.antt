@@ -1,6 +1,6 @@
 -- Sets of directions as numbers: the set of the directions for which a test holds has these and no others. One more direction
 -- goes above those that are there.
-use Rattle.std.proofs.Common.{◌≡◌, ℕ, zero, suc, ◌+◌, ◌*◌, ◌%◌, ◌^◌, ◌<◌, ◌==◌, Bool, true, false, if◌then◌else◌, bit_or, ap, ◌∙◌, sym, refl, arith, pow-suc, add_comm, add-one, subst}
+use Rattle.std.proofs.Common.{◌≡◌, ℕ, ◌+◌, ◌*◌, ◌%◌, ◌^◌, ◌<◌, ◌==◌, Bool, true, false, if◌then◌else◌, bit_or, ap, ◌∙◌, sym, refl, arith, pow-suc, add_comm, add-one, subst}
 use Rattle.std.proofs.lemmas.Nat.{shl_whole, or_shifted, or_comm}
 use Rattle.std.proofs.lemmas.Nat.Bits.{bit_at-lt}
 use Rattle.std.specs.Int.{bit_at}

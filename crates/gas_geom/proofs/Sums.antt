@@ -1,6 +1,6 @@
 -- Finite sums over the numbers below n: equal terms, sums of sums, a double sum in either order, and a sum of which a test
 -- picks one term.
-use Rattle.std.proofs.Common.{◌≡◌, ◌≢◌, ℕ, zero, suc, ◌+◌, ◌<◌, ◌≤◌, Bool, true, false, if◌then◌else◌, ◌==◌, ◌&&◌, ap, ◌∙◌, sym, refl, arith, ⊎_elim, zero-add}
+use Rattle.std.proofs.Common.{◌≡◌, ℕ, zero, suc, ◌+◌, ◌<◌, Bool, if◌then◌else◌, ◌==◌, ◌&&◌, ap, ◌∙◌, sym, refl, arith}
 use Rattle.std.specs.Prelude.{nat_lt}
 use Rattle.std.proofs.lemmas.Bool.{lt-ltb, le-ltb}
 use Rattle.std.proofs.lemmas.Bool.Decides.{nat_tests}
@@ -37,21 +37,14 @@ sum_below-swap (suc m) n f =
 abbrev pub when : Bool → ℕ → ℕ
 when b n = if b then n else 0
 
-pub sum_below-when : (b : Bool) (n : ℕ) (f : ℕ → ℕ) → sum_below n (λ k. when b (f k)) ≡ when b (sum_below n f)
-sum_below-when true n f = refl
-sum_below-when false n f = sum_below-zero n
-
-pub when-and : (a b : Bool) (n : ℕ) → when (a && b) n ≡ when a (when b n)
-when-and true b n = refl
-when-and false b n = refl
-
 -- a sum of which one term is picked
-pick_one : (k n : ℕ) (f : ℕ → ℕ) → when (nat_lt k n) (f k) + when (k == n) (f n) ≡ when (nat_lt k (suc n)) (f k)
-pick_one k n f = grind (arith, nat_tests)
+pick_one : (b : Bool) (k n : ℕ) (f : ℕ → ℕ) →
+    when (nat_lt k n && b) (f k) + when (b && (k == n)) (f n) ≡ when (nat_lt k (suc n) && b) (f k)
+pick_one b k n f = grind (arith, nat_tests)
 
-sum_below-picked : (k n : ℕ) (f : ℕ → ℕ) → sum_below n (λ j. when (k == j) (f j)) ≡ when (nat_lt k n) (f k)
-sum_below-picked k zero f = ap (λ b. when b (f k)) (sym (le-ltb k 0 (omega arith)))
-sum_below-picked k (suc n) f = ap (λ v. v + when (k == n) (f n)) (sum_below-picked k n f) ∙ pick_one k n f
+sum_below-picked : (b : Bool) (k n : ℕ) (f : ℕ → ℕ) → sum_below n (λ j. when (b && (k == j)) (f j)) ≡ when (nat_lt k n && b) (f k)
+sum_below-picked b k zero f = ap (λ t. when (t && b) (f k)) (sym (le-ltb k 0 (omega arith)))
+sum_below-picked b k (suc n) f = ap (λ v. v + when (b && (k == n)) (f n)) (sum_below-picked b k n f) ∙ pick_one b k n f
 
-pub sum_below-pick : (k n : ℕ) (f : ℕ → ℕ) → k < n → sum_below n (λ j. when (k == j) (f j)) ≡ f k
-sum_below-pick k n f h = sum_below-picked k n f ∙ ap (λ b. when b (f k)) (lt-ltb k n h)
+pub sum_below-pick : (b : Bool) (k n : ℕ) (f : ℕ → ℕ) → k < n → sum_below n (λ j. when (b && (k == j)) (f j)) ≡ when b (f k)
+sum_below-pick b k n f h = sum_below-picked b k n f ∙ ap (λ t. when (t && b) (f k)) (lt-ltb k n h)
