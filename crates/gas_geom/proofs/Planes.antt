@@ -1,10 +1,10 @@
 -- Collisions of 64 cells at once. A formula of `&`, `|`, `^` and `!` on words is at each bit the same formula on truth
 -- values, and what it gives for each set of directions is found by trying them all. So a gas needs its formulas and one call
 -- of `collided`. The formulas may use planes that were collided before: those of `inner`, a collision of the sets.
-use Rattle.std.proofs.Common.{◌≡◌, ℕ, zero, suc, ◌-◌, ◌^◌, ◌<◌, ◌≤◌, Bool, true, false, not, ◌&&◌, ◌||◌, List, [], ◌∷◌, map, get_or, refl, sym, ap, ap₂, ◌∙◌, arith, ⊎_elim}
+use Rattle.std.proofs.Common.{◌≡◌, ℕ, zero, suc, ◌-◌, ◌^◌, ◌<◌, Bool, true, false, not, ◌&&◌, ◌||◌, List, [], ◌∷◌, map, get_or, refl, sym, ap, ap₂, ◌∙◌, arith, inl, inr}
 use Rattle.std.specs.Prelude.{◌==◌}
 use Rattle.std.specs.Int.Bits.{bit_and, bit_or, bit_xor, and_lt, or_lt, xor_lt}
-use Rattle.std.proofs.lemmas.Bool.{cases_lt, and_parts, eqb-true}
+use Rattle.std.proofs.lemmas.Bool.{cases_eq, cases_lt, and_parts, eqb-true}
 use Rattle.gas_geom.specs.Gas.{Rules, holds}
 use Rattle.gas_geom.specs.Lattice.{set_of}
 use Rattle.gas_geom.specs.Planes.{set_at, ZeroFrom}
@@ -93,32 +93,23 @@ module _ (planes before : List ℕ) (chi : ℕ) (small : (i : ℕ) → get_or pl
 pub holds-column : (n : ℕ) (planes : List ℕ) → ZeroFrom n planes → (b i : ℕ) →
     holds (get_or planes i 0) b ≡ holds (set_at n planes b) i
 holds-column n planes rest b i =
-    ⊎_elim
-    (λ (lt : i < n). sym (holds-set_of n (λ k. holds (get_or planes k 0) b) i lt))
-    (λ (le : n ≤ i).
-    ap (λ w. holds w b) (rest i le) ∙ holds-zero b
-    ∙ sym (holds-above (set_at n planes b) n i (set_of-lt n (λ k. holds (get_or planes k 0) b)) le))
-    (cases_lt i n)
+    elim (cases_lt i n) [
+      | inl lt ↦ sym (holds-set_of n (λ k. holds (get_or planes k 0) b) i lt)
+      | inr le ↦ ap (λ w. holds w b) (rest i le) ∙ holds-zero b
+          ∙ sym (holds-above (set_at n planes b) n i (set_of-lt n (λ k. holds (get_or planes k 0) b)) le)
+    ]
 
 -- the planes below n are words
 abbrev pub Words : ℕ → List ℕ → Type 0
 Words zero planes = Unit {0}
 Words (suc n) planes = Words n planes × (get_or planes n 0 < 2 ^ 64)
 
-Words-at : (n : ℕ) (planes : List ℕ) → Words n planes → (i : ℕ) → i < n → get_or planes i 0 < 2 ^ 64
-Words-at zero planes words i h = absurd (omega arith)
-Words-at (suc n) planes words i h =
-    ⊎_elim
-    (λ (lt : i < n). Words-at n planes words.0 i lt)
-    (λ (le : n ≤ i). let e : i ≡ n = omega arith in rw e words.1)
-    (cases_lt i n)
-
 pub plane-lt : (n : ℕ) (planes : List ℕ) → Words n planes → ZeroFrom n planes → (i : ℕ) → get_or planes i 0 < 2 ^ 64
-plane-lt n planes words rest i =
-    ⊎_elim
-    (λ (lt : i < n). Words-at n planes words i lt)
-    (λ (le : n ≤ i). omega (arith, rest i le))
-    (cases_lt i n)
+plane-lt n planes words rest i = elim (cases_lt i n) [ inl lt ↦ below n words lt | inr le ↦ omega (arith, rest i le) ]
+  where
+    below : (m : ℕ) → Words m planes → i < m → get_or planes i 0 < 2 ^ 64
+    below zero words h = absurd (omega arith)
+    below (suc m) words h = elim (cases_eq i m) [ inl e ↦ rw e words.1 | inr ne ↦ below m words.0 (omega arith) ]
 
 tried : (gas : Rules) (inner : ℕ → Bool → ℕ) (fs : List Formula) → collide_all gas inner fs ≡ true → (r : Bool) (s : ℕ) → s < 2 ^ gas.dirs →
     set_of gas.dirs (λ i. truth s (inner s r) r (get_or fs i Zero)) ≡ gas.collide s r

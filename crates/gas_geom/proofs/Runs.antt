@@ -1,6 +1,6 @@
 -- Whole runs. The next lattice is a lattice again, so the number law holds from each generation to the next, and a run that is
 -- cut in two is the whole run.
-use Rattle.std.proofs.Common.{◌≡◌, ℕ, zero, suc, ◌+◌, ◌<◌, ◌≤◌, ◌^◌, Bool, true, false, if◌then◌else◌, List, [], length, get_or, ap, ◌∙◌, sym, refl, subst, arith, ⊎_elim}
+use Rattle.std.proofs.Common.{◌≡◌, ℕ, zero, suc, ◌+◌, ◌<◌, ◌^◌, Bool, true, false, if◌then◌else◌, List, [], length, get_or, ap, ◌∙◌, sym, refl, subst, arith, inl, inr}
 use Rattle.std.proofs.lemmas.Bool.{cases_lt}
 use Rattle.std.proofs.lemmas.List.{get_or_past}
 use Rattle.std.proofs.lemmas.List.FromFn.{get_or-map-range_with_len, length-map-range_with_len}
@@ -13,20 +13,17 @@ use Rattle.gas_geom.proofs.Number.{count-next}
 
 -- what holds of 0 and of each cell holds of every cell of rows that are made by cells
 cell-rows_of : (P : ℕ → Type 0) (w h : ℕ) (at : ℕ → ℕ → ℕ) (x y : ℕ) → P 0 → (x < w → y < h → P (at x y)) → P (cell (rows_of w h at) x y)
-cell-rows_of P w h at x y none here =
-    ⊎_elim
-    (λ (iny : y < h).
-    let row : get_or (rows_of w h at) y [] ≡ row_of w (λ x'. at x' y) = get_or-map-range_with_len (λ y'. row_of w (λ x'. at x' y')) 0 h y y [] iny (omega arith) in
-    ⊎_elim
-    (λ (inx : x < w).
-    subst P (sym (ap (λ (r : List ℕ). get_or r x 0) row ∙ get_or-map-range_with_len (λ x'. at x' y) 0 w x x 0 inx (omega arith))) (here inx iny))
-    (λ (out : w ≤ x).
-    subst P (sym (ap (λ (r : List ℕ). get_or r x 0) row ∙ get_or_past (row_of w (λ x'. at x' y)) x 0 (omega (arith, length-map-range_with_len (λ x'. at x' y) 0 w)))) none)
-    (cases_lt x w))
-    (λ (out : h ≤ y).
-    let row : get_or (rows_of w h at) y [] ≡ [] = get_or_past (rows_of w h at) y [] (omega (arith, length-map-range_with_len (λ y'. row_of w (λ x'. at x' y')) 0 h)) in
-    subst P (sym (ap (λ (r : List ℕ). get_or r x 0) row)) none)
-    (cases_lt y h)
+cell-rows_of P w h at x y none here = elim (cases_lt y h) [
+  | inl iny ↦
+      let row = get_or-map-range_with_len (λ y'. row_of w (λ x'. at x' y')) 0 h y y [] iny (omega arith) in
+      subst (λ (r : List ℕ). P (get_or r x 0)) (sym row) (elim (cases_lt x w) [
+        | inl inx ↦ subst P (sym (get_or-map-range_with_len (λ x'. at x' y) 0 w x x 0 inx (omega arith))) (here inx iny)
+        | inr out ↦ subst P (sym (get_or_past (row_of w (λ x'. at x' y)) x 0 (omega (arith, length-map-range_with_len (λ x'. at x' y) 0 w)))) none
+      ])
+  | inr out ↦
+      let row = get_or_past (rows_of w h at) y [] (omega (arith, length-map-range_with_len (λ y'. row_of w (λ x'. at x' y')) 0 h)) in
+      subst (λ (r : List ℕ). P (get_or r x 0)) (sym row) none
+]
 
 -- the next lattice is one, whatever the rows before it
 pub IsLattice-next : (gas : Rules) → IsGas gas → (c : ChannelModel) (chi : ℕ → ℕ → Bool) (rows : List (List ℕ)) → IsLattice gas c (next gas c chi rows)
