@@ -1,6 +1,6 @@
 -- One bit of a word as a truth value, through shifts, masks and writes of one bit.
-use Rattle.std.proofs.Common.{◌≡◌, ℕ, suc, ◌+◌, ◌-◌, ◌*◌, ◌/◌, ◌%◌, ◌^◌, ◌<◌, ◌≤◌, Bool, true, false, ◌&&◌, ◌||◌, ◌==◌, if◌then◌else◌, ap₂, ⊎_elim, refl, sym, ap, ◌∙◌, subst, arith, w64, mul_assoc, cond, inl, inr, eq-eqb, ne_eqb, leb}
-use mathlib.Core.Bool.{or-false}
+use Rattle.std.proofs.Common.{◌≡◌, ℕ, suc, ◌+◌, ◌-◌, ◌*◌, ◌/◌, ◌%◌, ◌^◌, ◌<◌, ◌≤◌, true, false, ◌&&◌, ◌||◌, ◌==◌, if◌then◌else◌, ap₂, ⊎_elim, sym, ap, ◌∙◌, subst, arith, w64, mul_assoc, cond, inl, inr, eq-eqb, ne_eqb, leb}
+use mathlib.Core.Bool.{and_comm, or-false}
 use Rattle.std.specs.Prelude.{nat_lt}
 use Rattle.std.specs.Int.{bit_at}
 use Rattle.std.proofs.lemmas.Nat.Bits.{shr_and_one, bit_at_set_same, bit_at_set_other, bit_at_clear_same, bit_at_clear_other, bit_at_ones, bit_at_ones_above, ones_shr}
@@ -52,12 +52,6 @@ holds-clear y k i h lt =
       | inr ne ↦ ap (λ x. x == 1) (bit_at_clear_other w64 y k h i lt ne) ∙ sym (ap (λ b. cond b false (holds y i)) (ne_eqb i k ne))
     ]
 
-and-comm : (a b : Bool) → (a && b) ≡ (b && a)
-and-comm true true = refl
-and-comm true false = refl
-and-comm false true = refl
-and-comm false false = refl
-
 pub holds-ones : (k i : ℕ) → i < k → holds (2 ^ k - 1) i ≡ true
 holds-ones k i h = ap (λ x. x == 1) (bit_at_ones k i h)
 
@@ -69,7 +63,7 @@ pub holds-up_to : (y last b : ℕ) → last < 64 → holds (bit_and y ((2 ^ 64 -
 holds-up_to y last b h =
     let wide : 64 - (63 - last) ≡ last + 1 = omega arith in
     holds-and y ((2 ^ 64 - 1) / 2 ^ (63 - last)) b
-    ∙ and-comm (holds y b) (holds ((2 ^ 64 - 1) / 2 ^ (63 - last)) b)
+    ∙ and_comm (holds y b) (holds ((2 ^ 64 - 1) / 2 ^ (63 - last)) b)
     ∙ ap (λ m. holds m b && holds y b) (ones_shr 64 (63 - last) (omega arith) ∙ ap (λ k. 2 ^ k - 1) wide)
     ∙ ap (λ t. t && holds y b) (elim (cases_lt b (last + 1)) [
       | inl le ↦ holds-ones (last + 1) b (omega arith) ∙ sym (grind (arith, nat_tests))

@@ -84,7 +84,7 @@ ones-between word low from to small order some within is =
 
 -- ---- the ones of words
 pub count-le : (f : ℕ → Bool) (a n : ℕ) → count_by f (range_with_len a n) ≤ n
-count-le f a n = omega (arith, count_by-le-length f (range_with_len a n), length-range_with_len a n)
+count-le f a n = grind (arith, count_by-le-length, length-range_with_len)
 
 -- the cells of one word more
 pub count-more : (words : List ℕ) (from to j total ones first end : ℕ) → from ≤ to → from < 64 * j + 64 → 64 * j < to →

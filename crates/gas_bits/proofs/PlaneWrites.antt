@@ -1,5 +1,5 @@
 -- The words of one direction written among those of all.
-use Rattle.std.proofs.Common.{◌≡◌, ◌≢◌, ℕ, ◌+◌, ◌-◌, ◌*◌, ◌/◌, ◌%◌, ◌<◌, ◌≤◌, List, length, get_or, ap, ap₂, ◌∙◌, arith, inl, inr}
+use Rattle.std.proofs.Common.{◌≡◌, ◌≢◌, ℕ, ◌+◌, ◌-◌, ◌*◌, ◌/◌, ◌%◌, ◌<◌, ◌≤◌, List, length, get_or, ap, arith, inl, inr}
 use Rattle.std.proofs.lemmas.Bool.{cases_order}
 use Rattle.std.proofs.lemmas.List.{places}
 use borrow.Rule.Slice.PartMut.{put_mid}
@@ -20,7 +20,7 @@ put_above xs ys a k j e h le = grind (arith, places)
 
 has-put : (xs ys : List ℕ) (n i x : ℕ) → n ≡ length ys → x / 64 < n → i * n + n ≤ length xs → has (put_mid (i * n) n xs ys) n i x ≡ bit ys x
 unfolding bit has
-has-put xs ys n i x e h le = ap (λ w. holds w (x % 64)) (put_inside xs ys (i * n) n (x / 64) e h le)
+has-put xs ys n i x e h le = grind (arith, put_inside)
 
 has-put_other : (xs ys : List ℕ) (n i k x : ℕ) → n ≡ length ys → x / 64 < n → i * n + n ≤ length xs → k ≢ i → has (put_mid (i * n) n xs ys) n k x ≡ has xs n k x
 unfolding has
@@ -33,7 +33,7 @@ has-put_other xs ys n i k x e h le ne =
 
 -- the same at a start and a length as the code computes them
 pub has-put_at : (xs ys : List ℕ) (n i x a m : ℕ) → a ≡ i * n → m ≡ n → n ≡ length ys → x / 64 < n → i * n + n ≤ length xs → has (put_mid a m xs ys) n i x ≡ bit ys x
-has-put_at xs ys n i x a m ea em e h le = ap₂ (λ b k. has (put_mid b k xs ys) n i x) ea em ∙ has-put xs ys n i x e h le
+has-put_at xs ys n i x a m ea em e h le = grind (arith, has-put)
 
 pub has-put_other_at : (xs ys : List ℕ) (n i k x a m : ℕ) → a ≡ i * n → m ≡ n → n ≡ length ys → x / 64 < n → i * n + n ≤ length xs → k ≢ i → has (put_mid a m xs ys) n k x ≡ has xs n k x
-has-put_other_at xs ys n i k x a m ea em e h le ne = ap₂ (λ b l. has (put_mid b l xs ys) n k x) ea em ∙ has-put_other xs ys n i k x e h le ne
+has-put_other_at xs ys n i k x a m ea em e h le ne = grind (arith, has-put_other)

@@ -1,5 +1,5 @@
 -- Words written at one place of each direction, and what that makes of their cells.
-use Rattle.std.proofs.Common.{◌≡◌, ◌≢◌, ◌⊎◌, ℕ, ◌+◌, ◌*◌, ◌/◌, ◌%◌, ◌<◌, ◌≤◌, Bool, true, false, not, ◌&&◌, ◌==◌, if◌then◌else◌, List, length, get_or, set, ltb, length-set, refl, sym, ap, ap₂, ◌∙◌, arith, inl, inr, eq-eqb, ne_eqb}
+use Rattle.std.proofs.Common.{◌≡◌, ◌≢◌, ◌⊎◌, ℕ, ◌+◌, ◌*◌, ◌/◌, ◌%◌, ◌<◌, ◌≤◌, Bool, true, false, not, ◌&&◌, ◌==◌, if◌then◌else◌, List, length, get_or, set, ltb, length-set, refl, sym, ap, ap₂, ◌∙◌, arith, inl, inr, eq-eqb}
 use mathlib.Core.Bool.{and-false, and-true}
 use Rattle.std.proofs.lemmas.Bool.{cases_eq}
 use Rattle.std.proofs.lemmas.Bool.Decides.{nat_tests}
@@ -12,25 +12,13 @@ use Rattle.gas_bits.specs.Planes.{has, state}
 use Rattle.gas_bits.proofs.Cells.{has-set, state-from, state-same}
 
 -- ---- the words with number j written, direction by direction
-scattered : (k i y j : ℕ) (new was old v set : Bool) →
-    new ≡ (if (k == i) && (y / 64 == j) then v else was) → was ≡ (if ltb k i && (y / 64 == j) then set else old) →
-    (k ≡ i → v ≡ set) → new ≡ (if ltb k (i + 1) && (y / 64 == j) then set else old)
-scattered k i y j new was old v set a b c = elim (cases_eq k i) [
-  | inl e ↦ let d = c e in grind (arith, nat_tests)
-  | inr ne ↦ grind (arith, nat_tests)
-]
-
 module _ (old words : List ℕ) (n i j v : ℕ) (planes : List ℕ) (solid : ℕ) (within : i * n + j < length words) (hj : j < n)
     (put : (b : ℕ) → b < 64 → holds v b ≡ (holds (get_or planes i 0) b && not (holds solid b)))
     (before : (k y : ℕ) → y / 64 < n → has words n k y
     ≡ (if ltb k i && (y / 64 == j) then holds (get_or planes k 0) (y % 64) && not (holds solid (y % 64)) else has old n k y)) where
   pub scatter-more : (k y : ℕ) → y / 64 < n → has (set words (i * n + j) v) n k y
       ≡ (if ltb k (i + 1) && (y / 64 == j) then holds (get_or planes k 0) (y % 64) && not (holds solid (y % 64)) else has old n k y)
-  scatter-more k y hy =
-      scattered k i y j (has (set words (i * n + j) v) n k y) (has words n k y) (has old n k y) (holds v (y % 64))
-      (holds (get_or planes k 0) (y % 64) && not (holds solid (y % 64)))
-      (has-set words n i j v k y within hj hy) (before k y hy)
-      (λ e. put (y % 64) (omega arith) ∙ ap (λ m. holds (get_or planes m 0) (y % 64) && not (holds solid (y % 64))) (sym e))
+  scatter-more k y hy = grind (arith, nat_tests, has-set)
 
 -- ---- 64 cells collided: those of a word that was gathered, collided and written
 module _ (table : ℕ → Bool → ℕ) (words new : List ℕ) (n j d dirs : ℕ) (planes after : List ℕ) (chi solid : List ℕ) (ed : dirs ≡ d)
@@ -73,12 +61,10 @@ module _ (table : ℕ → Bool → ℕ) (old words new : List ℕ) (n j d dirs :
     (done : (y : ℕ) → y < 64 * j → y / 64 < n → state words n d y ≡ (if bit solid y then 0 else table (state old n d y) (bit chi y)))
     (rest : (i y : ℕ) → i < d → 64 * j ≤ y → y / 64 < n → has words n i y ≡ has old n i y) where
   apart : (i y : ℕ) → i < d → y / 64 < n → y / 64 ≢ j → has new n i y ≡ has words n i y
-  apart i y hi hy ne =
-      scattered i y (omega arith) hy
-      ∙ ap (λ t. if t then holds (get_or after i 0) (y % 64) && not (holds (get_or solid j 0) (y % 64)) else has words n i y) (ne_eqb (y / 64) j ne)
+  apart i y hi hy ne = grind (arith, nat_tests, scattered)
 
   pub rest-more : (i y : ℕ) → i < d → 64 * (j + 1) ≤ y → y / 64 < n → has new n i y ≡ has old n i y
-  rest-more i y hi le hy = apart i y hi hy (λ e. omega arith) ∙ rest i y hi (omega arith) hy
+  rest-more i y hi le hy = grind (arith, nat_tests, rest, scattered)
 
   pub done-more : (y : ℕ) → y < 64 * (j + 1) → y / 64 < n →
       state new n d y ≡ (if bit solid y then 0 else table (state old n d y) (bit chi y))
@@ -116,14 +102,7 @@ module _ (words : List ℕ) (n i j v0 v1 v2 v3 : ℕ) (within : i * n + (j + 3) 
   has_four : (k y : ℕ) → y / 64 < n → has four n k y ≡ (if (k == i) && (y / 64 == j + 3) then holds v3 (y % 64)
       else if (k == i) && (y / 64 == j + 2) then holds v2 (y % 64) else if (k == i) && (y / 64 == j + 1) then holds v1 (y % 64)
       else if (k == i) && (y / 64 == j) then holds v0 (y % 64) else has words n k y)
-  has_four k y hy =
-      has-set three n i (j + 3) v3 k y (omega (arith, long_one, long_two, long_three)) hj hy
-      ∙ ap (λ b. if (k == i) && (y / 64 == j + 3) then holds v3 (y % 64) else b)
-      (has-set two n i (j + 2) v2 k y (omega (arith, long_one, long_two)) (omega arith) hy
-      ∙ ap (λ b. if (k == i) && (y / 64 == j + 2) then holds v2 (y % 64) else b)
-      (has-set one n i (j + 1) v1 k y (omega (arith, long_one)) (omega arith) hy
-      ∙ ap (λ b. if (k == i) && (y / 64 == j + 1) then holds v1 (y % 64) else b)
-      (has-set words n i j v0 k y (omega arith) (omega arith) hy)))
+  has_four k y hy = grind (arith, nat_tests, has-set, length-set)
 
   pub four-first : (y : ℕ) → y / 64 ≡ j → has four n i y ≡ holds v0 (y % 64)
   four-first y e = let f = has_four i y (omega arith) in grind (arith, nat_tests)
@@ -154,8 +133,4 @@ pub four-more : (n i place t : ℕ) (planes solid words new : List ℕ) (v : ℕ
     has words n k y ≡ (holds (get_or planes k 0) (y % 64) && not (holds (get_or solid t 0) (y % 64)))) →
     (k y : ℕ) → k < i + 1 → y / 64 ≡ place →
     has new n k y ≡ (holds (get_or planes k 0) (y % 64) && not (holds (get_or solid t 0) (y % 64)))
-four-more n i place t planes solid words new v here apart put before k y below at = elim (cases_eq k i) [
-  | inl e ↦ ap (λ m. has new n m y) e ∙ here y at ∙ put (y % 64) (omega arith)
-      ∙ ap (λ m. holds (get_or planes m 0) (y % 64) && not (holds (get_or solid t 0) (y % 64))) (sym e)
-  | inr ne ↦ apart k y at ne ∙ before k y (omega arith) at
-]
+four-more n i place t planes solid words new v here apart put before k y below at = grind (arith, nat_tests, here, apart, put, before)

@@ -1,5 +1,5 @@
 -- One bit of a word that is shifted or joined with others.
-use Rattle.std.proofs.Common.{◌≡◌, ℕ, zero, suc, ◌+◌, ◌-◌, ◌*◌, ◌/◌, ◌%◌, ◌^◌, ◌<◌, ◌≤◌, Bool, true, false, not, ◌&&◌, ◌||◌, ◌==◌, nat_le, if◌then◌else◌, refl, sym, ap, ap₂, ◌∙◌, subst, arith, inl, inr}
+use Rattle.std.proofs.Common.{◌≡◌, ℕ, zero, suc, ◌+◌, ◌-◌, ◌*◌, ◌/◌, ◌%◌, ◌^◌, ◌<◌, ◌≤◌, Bool, true, false, not, ◌&&◌, ◌||◌, ◌==◌, nat_le, if◌then◌else◌, sym, ap, ap₂, ◌∙◌, subst, arith, inl, inr}
 use mathlib.Core.Bool.{or-false}
 use lib.Bits.{bit_and, bit_or}
 use Rattle.std.proofs.lemmas.Bool.{cases_lt}
@@ -78,19 +78,19 @@ holds-streamed came met back own b hm ho h =
     ∙ cases (holds came b) (holds met b) (holds back b) (holds own b)
   where
     cases : (p q r s : Bool) → (((p && not q) || (q && r)) && not s) ≡ streamed_bit p q r s
-    cases true true true true = refl
-    cases true true true false = refl
-    cases true true false true = refl
-    cases true true false false = refl
-    cases true false true true = refl
-    cases true false true false = refl
-    cases true false false true = refl
-    cases true false false false = refl
-    cases false true true true = refl
-    cases false true true false = refl
-    cases false true false true = refl
-    cases false true false false = refl
-    cases false false true true = refl
-    cases false false true false = refl
-    cases false false false true = refl
-    cases false false false false = refl
+    cases true true true true = grind (arith, nat_tests)
+    cases true true true false = grind (arith, nat_tests)
+    cases true true false true = grind (arith, nat_tests)
+    cases true true false false = grind (arith, nat_tests)
+    cases true false true true = grind (arith, nat_tests)
+    cases true false true false = grind (arith, nat_tests)
+    cases true false false true = grind (arith, nat_tests)
+    cases true false false false = grind (arith, nat_tests)
+    cases false true true true = grind (arith, nat_tests)
+    cases false true true false = grind (arith, nat_tests)
+    cases false true false true = grind (arith, nat_tests)
+    cases false true false false = grind (arith, nat_tests)
+    cases false false true true = grind (arith, nat_tests)
+    cases false false true false = grind (arith, nat_tests)
+    cases false false false true = grind (arith, nat_tests)
+    cases false false false false = grind (arith, nat_tests)

@@ -1,5 +1,5 @@
 -- The cells of one direction as they are streamed word by word, where the columns are periodic.
-use Rattle.std.proofs.Common.{◌≡◌, ℕ, zero, suc, ◌+◌, ◌-◌, ◌*◌, ◌/◌, ◌%◌, ◌<◌, ◌≤◌, Bool, true, false, ◌==◌, if◌then◌else◌, cond, List, length, length-set, get_or, set, sym, ap, ap₂, ◌∙◌, arith, inl, inr, eq-eqb, ne_eqb}
+use Rattle.std.proofs.Common.{◌≡◌, ℕ, zero, suc, ◌+◌, ◌-◌, ◌*◌, ◌/◌, ◌%◌, ◌<◌, ◌≤◌, Bool, true, false, ◌==◌, if◌then◌else◌, List, length, length-set, get_or, set, sym, ap, ap₂, ◌∙◌, arith, inl, inr, eq-eqb, ne_eqb}
 use Rattle.std.proofs.lemmas.Bool.{cases_eq, cases_lt}
 use Rattle.std.proofs.Math.Nat.{mod-eq_of_lt, add-mod_right}
 use Rattle.std.proofs.Math.Dec.{eqb-suc-zero}
@@ -11,6 +11,7 @@ use Rattle.gas_bits.specs.Inner.Streamed.{AreBeside, IsStreamedWord, AreStreamed
 use Rattle.gas_bits.specs.declared.incoming.Incoming.{Incoming}
 use Rattle.gas_bits.proofs.ShiftedBits.{streamed_bit}
 use Rattle.gas_bits.proofs.Words.{bit-at, bit-set, bit-set_here, bit-set_there}
+use Rattle.std.proofs.lemmas.Bool.Decides.{nat_tests}
 
 -- ---- the words of a row, and the cells beside those of a word
 module _ (words : List ℕ) (width : ℕ) (least : 1 ≤ width) where
@@ -29,7 +30,7 @@ module _ (words : List ℕ) (width : ℕ) (least : 1 ≤ width) where
       ∙ ap (bit words) (sym (ap (λ k. k % width) back ∙ add-mod_right (64 * (j - 1) + 63) width ∙ mod-eq_of_lt (omega arith)))
 
   pub cell-here : (j b : ℕ) → b < 64 → 64 * j + b < width → holds (get_or words j 0) b ≡ bit words (column_after width (64 * j + b) Stay)
-  cell-here j b h lt = sym (bit-at words j b h) ∙ ap (bit words) (sym (mod-eq_of_lt lt))
+  cell-here j b h lt = grind (arith, bit-at, mod-eq_of_lt)
 
   pub cell-west : (j before v : ℕ) → holds before 63 ≡ bit words ((64 * j + width - 1) % width)
       → ((b : ℕ) → b < 64 → holds v b ≡ (if b == 0 then holds before 63 else holds (get_or words j 0) (b - 1)))
@@ -70,12 +71,7 @@ module _ (Q : ℕ → Bool) (out : List ℕ) (width j v : ℕ) (there : j < leng
     (here : (b : ℕ) → b < 64 → 64 * j + b < width → holds v b ≡ Q (64 * j + b))
     (below : (x : ℕ) → x < 64 * j → x < width → bit out x ≡ Q x) where
   pub one_more_word : (x : ℕ) → x < 64 * (j + 1) → x < width → bit (set out j v) x ≡ Q x
-  one_more_word x hx lt =
-      bit-set out j v x there ∙ elim (cases_eq (x / 64) j) [
-        | inl e ↦ ap (λ b. cond b (holds v (x % 64)) (bit out x)) (eq-eqb (x / 64) j e)
-            ∙ (let whole : 64 * j + x % 64 ≡ x = omega arith in here (x % 64) (omega arith) (omega arith) ∙ ap Q whole)
-        | inr ne ↦ ap (λ b. cond b (holds v (x % 64)) (bit out x)) (ne_eqb (x / 64) j ne) ∙ below x (omega arith) lt
-      ]
+  one_more_word x hx lt = grind (arith, nat_tests, bit-set, here, below)
 
 -- the rule at one bit of four words
 streamed_bit-at : {came came' met met' back back' own own' : Bool} → came ≡ came' → met ≡ met' → back ≡ back' → own ≡ own'
