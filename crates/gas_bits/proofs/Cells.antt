@@ -1,5 +1,5 @@
 -- What the words of all directions say of a cell, before and after a write of one word.
-use Rattle.std.proofs.Common.{◌≡◌, ℕ, suc, ◌+◌, ◌-◌, ◌*◌, ◌/◌, ◌%◌, ◌^◌, ◌<◌, ◌≤◌, false, not, ◌&&◌, ◌==◌, if◌then◌else◌, List, length, get_or, set, replicate, ltb, leb, refl, ap, arith, take, drop}
+use Rattle.std.proofs.Common.{◌≡◌, ℕ, ◌+◌, ◌*◌, ◌/◌, ◌%◌, ◌^◌, ◌<◌, ◌≤◌, false, ◌&&◌, ◌==◌, if◌then◌else◌, List, length, get_or, set, replicate, ap, arith, take, drop}
 use Rattle.std.proofs.lemmas.Bool.Decides.{nat_tests}
 use Rattle.std.proofs.lemmas.List.{places}
 use Rattle.std.proofs.lemmas.Grind.{get_or-set_at}
@@ -7,8 +7,6 @@ use Rattle.std.proofs.lemmas.Nat.{one_shl}
 use Rattle.std.proofs.Math.Pow.{pow_mono}
 use Rattle.std.proofs.Math.Nat.{mul-le-mul_right, pow-suc}
 use Rattle.gas_geom.specs.Gas.{holds}
-use Rattle.gas_geom.specs.Lattice.{set_of}
-use Rattle.gas_bits.specs.Words.{words_in, bit}
 use Rattle.gas_bits.specs.Planes.{has, state}
 use Rattle.gas_bits.proofs.Sets.{set_from}
 use Rattle.gas_geom.proofs.Holds.{holds-zero, set_of-lt, holds-set_of, set_of-same}
@@ -32,15 +30,6 @@ pub state-same : (words other : List ℕ) (n d x : ℕ) → ((i : ℕ) → i < d
 unfolding state
 state-same words other n d x each = set_of-same d (λ i. has words n i x) (λ i. has other n i x) each
 
-pub state-none : (words : List ℕ) (n x : ℕ) → state words n 0 x ≡ 0
-unfolding state
-state-none words n x = refl
-
-pub state-more : (words : List ℕ) (n i x : ℕ) →
-    state words n (i + 1) x ≡ state words n i x + (if has words n i x then 2 ^ i else 0)
-unfolding state
-state-more words n i x = ap (λ k. set_of k (λ j. has words n j x)) (let e : i + 1 ≡ suc i = omega arith in e)
-
 -- a set of the directions below i has room for direction i in a byte
 pub room : (s i : ℕ) → s < 2 ^ i → i < 8 → s + 1 * 2 ^ i % 2 ^ 8 < 2 ^ 8
 room s i h lt = grind (arith, one_shl, pow_mono, pow-suc)
@@ -62,31 +51,9 @@ has-set words n i a v k y within ha hy =
     let same : k ≡ i → k * n ≡ i * n = ap (λ m. m * n) in
     grind (arith, nat_tests, places, get_or-set_at)
 
--- ---- a blank row
-pub zero_at : (k j : ℕ) → get_or {A = ℕ} (replicate k 0) j 0 ≡ 0
-zero_at k j = grind (arith, places)
-
 pub has-blank : (k n i x : ℕ) → has (replicate k 0) n i x ≡ false
 unfolding has
 has-blank k n i x = grind (arith, places, holds-zero)
-
--- ---- one cell, direction by direction
-module _ (old words : List ℕ) (n i x s v : ℕ) (within : i * n + x / 64 < length words) (hx : x / 64 < n)
-    (put : (b : ℕ) → b < 64 → holds v b ≡ (if b == x % 64 then holds s i else holds (get_or words (i * n + x / 64) 0) b))
-    (before : (k y : ℕ) → y / 64 < n → has words n k y ≡ (if ltb k i && (y == x) then holds s k else has old n k y)) where
-  pub written-more : (k y : ℕ) → y / 64 < n →
-      has (set words (i * n + x / 64) v) n k y ≡ (if ltb k (i + 1) && (y == x) then holds s k else has old n k y)
-  unfolding has
-  written-more k y hy = grind (arith, nat_tests, has-set)
-
--- ---- the last word of each direction cut at the width
-module _ (old words : List ℕ) (n i width v : ℕ) (some : 1 ≤ width) (e : n ≡ words_in width) (within : i * n + (n - 1) < length words)
-    (put : (b : ℕ) → b < 64 → holds v b ≡ (leb b ((width - 1) % 64) && holds (get_or words (i * n + (n - 1)) 0) b))
-    (before : (k y : ℕ) → y / 64 < n → has words n k y ≡ (not (ltb k i && not (ltb y width)) && has old n k y)) where
-  pub cut-more : (k y : ℕ) → y / 64 < n →
-      has (set words (i * n + (n - 1)) v) n k y ≡ (not (ltb k (i + 1) && not (ltb y width)) && has old n k y)
-  unfolding has
-  cut-more k y hy = grind (arith, nat_tests, has-set)
 
 -- word by word
 pub has_word : (words : List ℕ) (n i j b : ℕ) → b < 64 → has words n i (64 * j + b) ≡ holds (get_or words (i * n + j) 0) b
@@ -102,8 +69,3 @@ part_get xs a n j h le = grind (arith, places)
 
 pub part_length : (xs : List ℕ) (a n : ℕ) → a + n ≤ length xs → length (take n (drop a xs)) ≡ n
 part_length xs a n le = grind (arith, places)
-
--- one direction, at a start and a length as the code computes them
-pub has-part_at : (xs : List ℕ) (n i x a m : ℕ) → a ≡ i * n → m ≡ n → x / 64 < n → i * n + n ≤ length xs → bit (take m (drop a xs)) x ≡ has xs n i x
-unfolding bit has
-has-part_at xs n i x a m ea em h le = grind (arith, places)

@@ -1,12 +1,12 @@
 -- What the words of a plane say of its cells, before and after writes of words.
-use Rattle.std.proofs.Common.{◌≡◌, ◌≢◌, ℕ, ◌+◌, ◌-◌, ◌*◌, ◌/◌, ◌%◌, ◌<◌, ◌≤◌, Bool, false, ◌&&◌, ◌⊎◌, inl, inr, take, drop, if◌then◌else◌, List, length, get_or, set, replicate, refl, arith}
-use Rattle.std.specs.Prelude.{◌==◌, nat_lt, nat_le}
+use Rattle.std.proofs.Common.{◌≡◌, ◌≢◌, ℕ, ◌+◌, ◌*◌, ◌/◌, ◌%◌, ◌<◌, ◌≤◌, Bool, false, ◌&&◌, if◌then◌else◌, List, length, get_or, set, replicate, refl, arith}
+use Rattle.std.specs.Prelude.{◌==◌, nat_lt}
 use Rattle.std.specs.List.{All}
 use Rattle.std.proofs.lemmas.List.Elements.{All-get_or}
 use Rattle.std.proofs.lemmas.Bool.Decides.{nat_tests}
 use Rattle.gas_geom.specs.Gas.{holds}
 use Rattle.gas_geom.proofs.Holds.{holds-zero}
-use Rattle.gas_bits.specs.Words.{words_in, bit}
+use Rattle.gas_bits.specs.Words.{bit}
 use Rattle.std.proofs.lemmas.List.{places}
 use Rattle.std.proofs.lemmas.Grind.{get_or-set_at}
 
@@ -44,25 +44,6 @@ bit-set_here words j v x within e = grind (arith, nat_tests, bit-set)
 
 pub bit-set_there : (words : List ℕ) (j v x : ℕ) → j < length words → x / 64 ≢ j → bit (set words j v) x ≡ bit words x
 bit-set_there words j v x within ne = grind (arith, nat_tests, bit-set)
-
--- the last word was cut at the width
-pub bit-cleared : (words : List ℕ) (width v : ℕ) → 1 ≤ width → length words ≡ words_in width →
-    ((b : ℕ) → b < 64 → holds v b ≡ (nat_le b ((width - 1) % 64) && holds (get_or words (length words - 1) 0) b)) →
-    (x : ℕ) → bit (set words (length words - 1) v) x ≡ (nat_lt x width && bit words x)
-bit-cleared words width v some long cut x = grind (arith, nat_tests, bit-set, bit-is, bit-past, cut)
-
--- a word more that holds 64 cells of a list
-pub pack-more : (words : List ℕ) (cells part : List Bool) (j v : ℕ) → j < length words →
-    ((b : ℕ) → b < 64 → get_or part b false ≡ get_or cells (64 * j + b) false) → ((b : ℕ) → holds v b ≡ get_or part b false) →
-    ((x : ℕ) → x / 64 < j → bit words x ≡ get_or cells x false) →
-    (x : ℕ) → x / 64 < j + 1 → bit (set words j v) x ≡ get_or cells x false
-pack-more words cells part j v within there put before x h = grind (arith, nat_tests, bit-set)
-
--- what the part of the list from 64 * j on holds
-pub part-of : (cells : List Bool) (from end b : ℕ) → from ≤ end → end ≤ length cells → (end ≡ length cells) ⊎ (b < end - from) →
-    get_or (take (end - from) (drop from cells)) b false ≡ get_or cells (from + b) false
-part-of cells from end b le within (inr lt) = grind (arith, places)
-part-of cells from end b le within (inl e) = grind (arith, places)
 
 -- what holds before the width
 pub cut-where : (x width : ℕ) (a b : Bool) → (x < width → a ≡ b) → (nat_lt x width && a) ≡ (nat_lt x width && b)

@@ -1,7 +1,7 @@
-use Rattle.gas_bits.proofs.Words.{bit-cleared}
+use Rattle.std.proofs.Common.{arith}
+use Rattle.std.proofs.lemmas.Bool.Decides.{nat_tests}
+use Rattle.gas_bits.proofs.Words.{bit-set, bit-is, bit-past}
 use Rattle.gas_bits.proofs.plane.clear_past.Goals as goal
 
 pub returns : goal.returns
-returns c = record {
-  bits = λ x. bit-cleared c.args.words.now c.args.width c.clear_above.result c.requires.some_cells c.requires.long c.clear_above.ensures x;
-}
+returns c = record { bits = λ x. grind (arith, nat_tests, bit-set, bit-is, bit-past, c.clear_above.ensures) }
