@@ -1,6 +1,6 @@
 -- The cells of one direction as they are streamed word by word, where the columns are periodic.
-use Rattle.std.proofs.Common.{◌≡◌, ℕ, zero, suc, ◌+◌, ◌-◌, ◌*◌, ◌/◌, ◌%◌, ◌<◌, ◌≤◌, Bool, true, false, ◌==◌, if◌then◌else◌, List, length, length-set, get_or, set, sym, ap, ap₂, ◌∙◌, arith, inl, inr, eq-eqb, ne_eqb}
-use Rattle.std.proofs.lemmas.Bool.{cases_eq, cases_lt}
+use Rattle.std.proofs.Common.{◌≡◌, ℕ, zero, suc, ◌+◌, ◌-◌, ◌*◌, ◌/◌, ◌%◌, ◌<◌, ◌≤◌, Bool, true, false, ◌==◌, if◌then◌else◌, List, length, get_or, set, sym, ap, ap₂, ◌∙◌, arith, inl, inr, eq-eqb, ne_eqb}
+use Rattle.std.proofs.lemmas.Bool.{cases_eq}
 use Rattle.std.proofs.Math.Nat.{mod-eq_of_lt, add-mod_right}
 use Rattle.std.proofs.Math.Dec.{eqb-suc-zero}
 use Rattle.gas_geom.specs.Moves.{Move, Back, Stay, On, column_after}
@@ -10,7 +10,7 @@ use Rattle.gas_bits.specs.Shift.{streamed_cell}
 use Rattle.gas_bits.specs.Inner.Streamed.{AreBeside, IsStreamedWord, AreStreamed}
 use Rattle.gas_bits.specs.declared.incoming.Incoming.{Incoming}
 use Rattle.gas_bits.proofs.ShiftedBits.{streamed_bit}
-use Rattle.gas_bits.proofs.Words.{bit-at, bit-set, bit-set_here, bit-set_there}
+use Rattle.gas_bits.proofs.Words.{bit-at, bit-set}
 use Rattle.std.proofs.lemmas.Bool.Decides.{nat_tests}
 
 -- ---- the words of a row, and the cells beside those of a word
@@ -94,38 +94,3 @@ module _ (q : Incoming) (m : Move) where
   pub one_more_streamed : (out : List ℕ) (j v : ℕ) → j < length out → IsStreamedWord q m j v → AreStreamed q m j out
       → AreStreamed q m (j + 1) (set out j v)
   one_more_streamed out j v = one_more_word (streamed_cell q m) out q.width j v
-
-  -- three words more
-  pub three_more_streamed : (out : List ℕ) (j v₀ v₁ v₂ : ℕ) → j + 2 < length out → IsStreamedWord q m j v₀ → IsStreamedWord q m (j + 1) v₁
-      → IsStreamedWord q m (j + 2) v₂ → AreStreamed q m j out → AreStreamed q m (j + 3) (set (set (set out j v₀) (j + 1) v₁) (j + 2) v₂)
-  three_more_streamed out j v₀ v₁ v₂ within s₀ s₁ s₂ before x below inside =
-      let one = set out j v₀ in
-      let two = set one (j + 1) v₁ in
-      let long₁ = length-set out j v₀ in
-      let long₂ = length-set one (j + 1) v₁ in
-      one_more_streamed two (j + 2) v₂ (omega (arith, within, long₁, long₂)) s₂
-      (λ y hy. one_more_streamed one (j + 1) v₁ (omega (arith, within, long₁)) s₁
-      (one_more_streamed out j v₀ (omega (arith, within)) s₀ before) y (omega (arith, hy))) x (omega (arith, below)) inside
-
-  -- three words more, where the last word was streamed before
-  pub four_last_streamed : (out : List ℕ) (j at v₀ v₁ v₂ v₃ : ℕ) → j + 4 ≡ length out → at ≡ j + 3 → IsStreamedWord q m j v₀ → IsStreamedWord q m (j + 1) v₁
-      → IsStreamedWord q m (j + 2) v₂ → IsStreamedWord q m at v₃ → AreStreamed q m j out
-      → AreStreamed q m (j + 4) (set (set (set (set out at v₃) j v₀) (j + 1) v₁) (j + 2) v₂)
-  four_last_streamed out j at v₀ v₁ v₂ v₃ long place s₀ s₁ s₂ s₃ before x below inside =
-      let last = set out at v₃ in
-      let one = set last j v₀ in
-      let two = set one (j + 1) v₁ in
-      let long₀ = length-set out at v₃ in
-      let long₁ = length-set last j v₀ in
-      let long₂ = length-set one (j + 1) v₁ in
-      elim (cases_lt x (64 * (j + 3))) [
-        | inl lower ↦ three_more_streamed last j v₀ v₁ v₂ (omega (arith, long, long₀)) s₀ s₁ s₂
-            (λ y hy iny. bit-set_there out at v₃ y (omega (arith, long, place)) (λ e. omega (arith, hy, e, place)) ∙ before y hy iny) x lower inside
-        | inr here ↦ (let there : x / 64 ≡ at = omega (arith, below, here, place) in
-            let whole : 64 * at + x % 64 ≡ x = omega (arith, there) in
-            bit-set_there two (j + 2) v₂ x (omega (arith, long, long₀, long₁, long₂)) (λ e. omega (arith, there, e, place))
-            ∙ bit-set_there one (j + 1) v₁ x (omega (arith, long, long₀, long₁)) (λ e. omega (arith, there, e, place))
-            ∙ bit-set_there last j v₀ x (omega (arith, long, long₀)) (λ e. omega (arith, there, e, place))
-            ∙ bit-set_here out at v₃ x (omega (arith, long, place)) there
-            ∙ s₃ (x % 64) (omega arith) (omega (arith, whole, inside)) ∙ ap (streamed_cell q m) whole)
-      ]
