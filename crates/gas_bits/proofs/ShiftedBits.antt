@@ -54,10 +54,6 @@ holds-from_east word cut after last b h le fits is =
 abbrev pub streamed_bit : Bool → Bool → Bool → Bool → Bool
 streamed_bit came met back own = if own then false else bounce_back met back came
 
--- where no cell is solid, what comes is there
-pub streamed-fluid : (came met back own : Bool) → met ≡ false → own ≡ false → came ≡ streamed_bit came met back own
-streamed-fluid came met back own em eo = sym (ap₂ (λ (m o : Bool). streamed_bit came m back o) em eo)
-
 -- `((came & !met) | (met & back)) & !own`
 pub holds-streamed : (came met back own b : ℕ) → met < 2 ^ 64 → own < 2 ^ 64 → b < 64
     → holds (bit_and (bit_or (bit_and came (2 ^ 64 - 1 - met)) (bit_and met back)) (2 ^ 64 - 1 - own)) b
