@@ -27,7 +27,8 @@ column_after-lt w x Back within = grind arith
 column_after-lt w x Stay within = grind arith
 column_after-lt w x On within = grind arith
 
-whole_turn : (w x v : ℕ) → x < w → v ≡ x + w → v % w ≡ x
+-- a number past the last column by a whole turn
+pub whole_turn : (w x v : ℕ) → x < w → v ≡ x + w → v % w ≡ x
 whole_turn w x v within e = ap (λ n. n % w) e ∙ add-mod_right x w ∙ mod-eq_of_lt within
 
 -- a step along the row and the step back

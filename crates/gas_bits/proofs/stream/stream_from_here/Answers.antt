@@ -1,9 +1,10 @@
-use Rattle.std.proofs.Common.{◌≤◌, ℕ, arith}
+use Rattle.std.proofs.Common.{ℕ, List, get_or, ap, ◌∙◌, sym, arith}
 use Rattle.std.proofs.Math.Nat.{mod-eq_of_lt}
 use Rattle.std.proofs.lemmas.Bool.Decides.{nat_tests}
 use Rattle.gas_geom.specs.Moves.{Stay}
-use Rattle.gas_bits.proofs.Words.{bit-set}
-use Rattle.gas_bits.proofs.Shifts.{cell-here}
+use Rattle.gas_bits.specs.Words.{bit}
+use Rattle.gas_bits.specs.Inner.Streamed.{AreBeside}
+use Rattle.gas_bits.proofs.Words.{bit-at, bit-set}
 use Rattle.gas_bits.proofs.stream.stream_from_here.Goals as goal
 
 pub returns-then-incoming : goal.returns-then-incoming
@@ -18,7 +19,7 @@ returns-then-incoming c x below inside =
 pub loop-j-preserved : goal.loop-j-preserved
 loop-j-preserved c x below inside =
     let q = c.args.incoming.now in
-    let width : ℕ = q.width in
-    let some : 1 ≤ width = q.some_cells in
-    let streamed = c.stream_word.ensures Stay (cell-here q.plane.now width some c.loop-j.j) (cell-here q.solid_there.now width some c.loop-j.j) in
+    let here : (words : List ℕ) → AreBeside words q.width Stay c.loop-j.j (get_or words c.loop-j.j 0) =
+    λ words b h lt. sym (bit-at words c.loop-j.j b h) ∙ ap (bit words) (sym (mod-eq_of_lt lt)) in
+    let streamed = c.stream_word.ensures Stay (here q.plane.now) (here q.solid_there.now) in
     grind (arith, nat_tests, bit-set)

@@ -1,12 +1,17 @@
-use Rattle.std.proofs.Common.{ℕ, ◌≤◌, refl, ◌-◌, ◌%◌, arith}
-use Rattle.gas_bits.proofs.Shifts.{after_last, cell-east}
+use Rattle.std.proofs.Common.{ℕ, ◌+◌, ◌-◌, ◌*◌, ◌%◌, ap, ◌∙◌, sym, refl, arith}
+use Rattle.gas_geom.specs.Laws.Steps.{whole_turn}
+use Rattle.gas_bits.specs.Words.{bit}
+use Rattle.gas_bits.proofs.Shifts.{moved-east}
+use Rattle.gas_bits.proofs.Words.{bit-at}
 use Rattle.gas_bits.proofs.side.EastSide.closing.Goals as goal
 
 pub returns : goal.returns
 returns c b h inside =
     let words = c.args.words.now in
     let width : ℕ = c.args.width in
-    let last = c.requires.last refl in
-    let some : 1 ≤ width = omega (arith, c.requires.within) in
+    let j : ℕ = c.args.j in
     let top : ℕ = (width - 1) % 64 in
-    cell-east words width some c.args.j top _ _ (omega (arith, last)) (omega arith) (after_last words width some c.args.j top (omega (arith, last))) c.from_east.ensures b (omega (arith, last, h, inside))
+    let last = c.requires.last refl in
+    moved-east (bit words) _ _ width j (λ b h. sym (bit-at words j b h)) top _ (omega arith) (omega arith)
+    (sym (bit-at words 0 0 (omega arith)) ∙ ap (bit words) (sym (whole_turn width 0 (64 * j + top + 1) (omega arith) (omega arith))))
+    c.from_east.ensures b (omega arith)

@@ -1,11 +1,16 @@
-use Rattle.std.proofs.Common.{ℕ, ◌≤◌, refl, arith}
-use Rattle.gas_bits.proofs.Shifts.{after_here, cell-east}
+use Rattle.std.proofs.Common.{◌≡◌, ℕ, ◌+◌, ◌*◌, ap, ◌∙◌, sym, refl, arith}
+use Rattle.std.proofs.Math.Nat.{mod-eq_of_lt}
+use Rattle.gas_bits.specs.Words.{bit}
+use Rattle.gas_bits.proofs.Shifts.{moved-east}
+use Rattle.gas_bits.proofs.Words.{bit-at}
 use Rattle.gas_bits.proofs.side.EastSide.inner.Goals as goal
 
 pub returns : goal.returns
 returns c b h inside =
     let words = c.args.words.now in
     let width : ℕ = c.args._width in
-    let some : 1 ≤ width = omega (arith, c.requires.within) in
+    let j : ℕ = c.args.j in
     let more = c.requires.before_last refl in
-    cell-east words width some c.args.j 63 _ _ (omega (arith, more)) (omega arith) (after_here words width some c.args.j more) c.from_east.ensures b (omega (arith, h))
+    let next : 64 * (j + 1) + 0 ≡ 64 * j + 63 + 1 = omega arith in
+    moved-east (bit words) _ _ width j (λ b h. sym (bit-at words j b h)) 63 _ (omega arith) (omega arith)
+    (sym (bit-at words (j + 1) 0 (omega arith)) ∙ ap (bit words) (next ∙ sym (mod-eq_of_lt (omega arith)))) c.from_east.ensures b (omega arith)

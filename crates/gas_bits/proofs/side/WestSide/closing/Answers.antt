@@ -1,17 +1,18 @@
-use Rattle.std.proofs.Common.{◌≡◌, ◌==◌, ◌<◌, ◌≤◌, ◌-◌, ℕ, if◌then◌else◌, length, get_or, subst, sym, refl, arith}
-use Rattle.gas_geom.specs.Moves.{Back}
-use Rattle.gas_geom.specs.Gas.{holds}
-use Rattle.gas_bits.specs.Inner.Streamed.{AreBeside}
-use Rattle.gas_bits.proofs.Shifts.{before_first, cell-west}
+use Rattle.std.proofs.Common.{◌≡◌, ℕ, ◌+◌, ◌-◌, ◌*◌, ◌%◌, length, ap, ◌∙◌, sym, refl, arith}
+use Rattle.std.proofs.Math.Nat.{mod-eq_of_lt}
+use Rattle.gas_bits.specs.Words.{bit}
+use Rattle.gas_bits.proofs.Shifts.{moved-west}
+use Rattle.gas_bits.proofs.Words.{bit-at}
 use Rattle.gas_bits.proofs.side.WestSide.closing.Goals as goal
 
 pub returns : goal.returns
 returns c =
     let words = c.args.words.now in
     let width : ℕ = c.args.width in
-    let at = c.requires.first refl in
-    let some : 1 ≤ width = omega (arith, c.requires.within) in
-    subst (λ (n : ℕ). AreBeside words width Back n c.from_west.result) (sym at)
-    (cell-west words width some 0 _ _ (before_first words width some (length words - 1) _ (omega arith) c.with_last_bit_on_top.ensures)
-    (subst (λ (n : ℕ). (b : ℕ) → b < 64 → holds c.from_west.result b
-    ≡ (if b == 0 then holds c.with_last_bit_on_top.result 63 else holds (get_or words n 0) (b - 1))) at c.from_west.ensures))
+    let j : ℕ = c.args.j in
+    let first = c.requires.first refl in
+    let last : 64 * (length words - 1) + (width - 1) % 64 ≡ 64 * j + width - 1 = omega arith in
+    moved-west (bit words) _ _ width j (λ b h. sym (bit-at words j b h)) _
+    (c.with_last_bit_on_top.ensures ∙ sym (bit-at words (length words - 1) ((width - 1) % 64) (omega arith))
+    ∙ ap (bit words) (last ∙ sym (mod-eq_of_lt (omega arith))))
+    c.from_west.ensures

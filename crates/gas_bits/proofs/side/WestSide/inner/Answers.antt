@@ -1,9 +1,17 @@
-use Rattle.std.proofs.Common.{arith, refl}
-use Rattle.gas_bits.proofs.Shifts.{before_here, cell-west}
+use Rattle.std.proofs.Common.{ℕ, ◌+◌, ◌-◌, ◌*◌, ap, ◌∙◌, sym, refl, arith}
+use Rattle.gas_geom.specs.Laws.Steps.{whole_turn}
+use Rattle.gas_bits.specs.Words.{bit}
+use Rattle.gas_bits.proofs.Shifts.{moved-west}
+use Rattle.gas_bits.proofs.Words.{bit-at}
 use Rattle.gas_bits.proofs.side.WestSide.inner.Goals as goal
 
 pub returns : goal.returns
 returns c =
+    let words = c.args.words.now in
+    let width : ℕ = c.args._width in
+    let j : ℕ = c.args.j in
     let some = c.requires.after_first refl in
-    cell-west c.args.words.now c.args._width (omega (arith, c.requires.within)) c.args.j _ _
-    (before_here c.args.words.now c.args._width (omega (arith, c.requires.within)) c.args.j some c.requires.within) c.from_west.ensures
+    moved-west (bit words) _ _ width j (λ b h. sym (bit-at words j b h)) _
+    (sym (bit-at words (j - 1) 63 (omega arith))
+    ∙ ap (bit words) (sym (whole_turn width (64 * (j - 1) + 63) (64 * j + width - 1) (omega arith) (omega arith))))
+    c.from_west.ensures
