@@ -1,15 +1,16 @@
 -- The ones of a word are its bits.
-use Rattle.std.proofs.Common.{◌≡◌, ℕ, zero, suc, ◌+◌, ◌^◌, ◌<◌, ◌≤◌, ◌==◌, Bool, false, cond, ◌∷◌, map, refl, sym, ap, ◌∙◌, subst, arith, inl, inr}
+use Rattle.std.proofs.Common.{◌≡◌, ℕ, zero, suc, ◌^◌, ◌<◌, ◌≤◌, ◌==◌, Bool, false, cond, map, refl, sym, ap, ◌∙◌, subst, arith}
 use Rattle.std.specs.Prelude.{count_by, count_ones}
 use Rattle.std.specs.List.{range_with_len}
 use Rattle.std.specs.Int.{bit_at}
 use Rattle.std.specs.Simd.Lanes.{mask_l}
-use Rattle.std.proofs.lemmas.Bool.{cases_lt}
-use Rattle.std.proofs.lemmas.List.FromFn.{get_or-map-range_with_len, length-map-range_with_len, sum_by-map-range_with_len_more}
-use Rattle.std.proofs.lemmas.Nat.Bits.{bit_at-lt, bit_at_above, same_from_bits}
+use Rattle.std.proofs.lemmas.List.{map-id}
+use Rattle.std.proofs.lemmas.List.FromFn.{get_or-map-range_with_len, length-map-range_with_len}
+use Rattle.std.proofs.lemmas.Nat.Bits.{bit_at-lt, same_from_bits_below}
 use Rattle.std.proofs.lemmas.Simd.{ones-mask_l, mask_l-lt, bit_mask_l}
 use Rattle.gas_geom.specs.Gas.{holds}
 use Rattle.gas_geom.proofs.Holds.{bit_cases}
+use Rattle.gas_geom.proofs.Number.{sum_by-row}
 use Rattle.gas_geom.proofs.Sums.{sum_below, sum_below-cong}
 
 -- ---- the ones of a word
@@ -20,33 +21,15 @@ pub one-bit : (s i : ℕ) → one (holds s i) ≡ bit_at s i
 one-bit s i = bit_cases (λ x. one (x == 1) ≡ x) refl refl (bit_at s i) (bit_at-lt s i)
 
 pub from_bits : (d s : ℕ) → s < 2 ^ d → mask_l (map (holds s) (range_with_len 0 d)) ≡ s
-from_bits d s h = same_from_bits _ _ (λ i. elim (cases_lt i d) [ inl low ↦ here i low | inr high ↦ above i high ])
-  where
-    here : (i : ℕ) → i < d → bit_at (mask_l (map (holds s) (range_with_len 0 d))) i ≡ bit_at s i
-    here i low =
-        bit_mask_l _ i ∙ ap one (get_or-map-range_with_len (holds s) 0 d i i false low (omega arith)) ∙ one-bit s i
-
-    above : (i : ℕ) → d ≤ i → bit_at (mask_l (map (holds s) (range_with_len 0 d))) i ≡ bit_at s i
-    above i high =
-        bit_at_above _ d i (subst (λ k. mask_l (map (holds s) (range_with_len 0 d)) < 2 ^ k) (length-map-range_with_len (holds s) 0 d) (mask_l-lt _)) high
-        ∙ sym (bit_at_above s d i h high)
-
-same_map : (d : ℕ) (a : ℕ) → map {A = ℕ} (λ k. k) (range_with_len a d) ≡ range_with_len a d
-same_map zero a = refl
-same_map (suc d) a = ap (λ r. a ∷ r) (same_map d (a + 1))
-
-count-range : (p : ℕ → Bool) (d : ℕ) → count_by p (map {A = ℕ} (λ k. k) (range_with_len 0 d)) ≡ sum_below d (λ i. one (p i))
-count-range p zero = refl
-count-range p (suc d) =
-    let e : suc d ≡ d + 1 = omega arith in
-    ap (λ k. count_by p (map {A = ℕ} (λ j. j) (range_with_len 0 k))) e
-    ∙ sum_by-map-range_with_len_more (λ k. one (p k)) (λ k. k) 0 d d (omega arith)
-    ∙ ap (λ s. s + one (p d)) (count-range p d)
+from_bits d s h =
+    same_from_bits_below d _ s
+    (subst (λ k. mask_l (map (holds s) (range_with_len 0 d)) < 2 ^ k) (length-map-range_with_len (holds s) 0 d) (mask_l-lt _)) h
+    (λ i low. bit_mask_l _ i ∙ ap one (get_or-map-range_with_len (holds s) 0 d i i false low (omega arith)) ∙ one-bit s i)
 
 pub ones-bits : (d s : ℕ) → s < 2 ^ d → count_ones s ≡ sum_below d (λ i. bit_at s i)
 ones-bits d s h =
     ap count_ones (sym (from_bits d s h)) ∙ ones-mask_l (holds s) (range_with_len 0 d)
-    ∙ ap (count_by (holds s)) (sym (same_map d 0)) ∙ count-range (holds s) d
+    ∙ ap (count_by (holds s)) (sym (map-id (range_with_len 0 d))) ∙ sum_by-row (λ k. one (holds s k)) (λ k. k) d
     ∙ sum_below-cong d _ _ (λ i _. one-bit s i)
 
 -- no more bits than places
