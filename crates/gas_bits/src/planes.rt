@@ -19,11 +19,8 @@ pub fn read_cell(words: &[u64], words_each: usize, dirs: usize, x: u32) -> u8
     requires within { x / 64 < words_each }
     ensures value { result ≡ state words.now words_each dirs x }
 {
-    state_at(
-        planes_at(words, words_each, dirs, x as usize / 64),
-        dirs,
-        x % 64,
-    )
+    let planes = planes_at(words, words_each, dirs, x as usize / 64);
+    state_at(planes, dirs, x % 64)
 }
 
 /// Sets the directions that cell `x` holds.

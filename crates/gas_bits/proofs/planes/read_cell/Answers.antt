@@ -7,5 +7,5 @@ use Rattle.gas_bits.proofs.planes.read_cell.Goals as goal
 pub returns : goal.returns
 unfolding has state
 returns c = record {
-  value = c.state_at.ensures ∙ set_of-same c.args.dirs _ _ (λ i h. ap (λ w. holds w (c.args.x % 64)) (c.planes_at.ensures.planes i h));
+  value = c.state_at.ensures ∙ set_of-same c.args.dirs _ _ (λ i h. ap (λ w. holds w (c.args.x % 64)) (c.planes_at-planes.ensures.planes i h));
 }
