@@ -1,17 +1,15 @@
 -- The ones of a word are its bits.
 use Rattle.std.proofs.Common.{◌≡◌, ℕ, zero, suc, ◌^◌, ◌<◌, ◌≤◌, ◌==◌, Bool, false, cond, map, refl, sym, ap, ◌∙◌, subst, arith}
-use Rattle.std.specs.Prelude.{count_by, count_ones}
+use Rattle.std.specs.Prelude.{count_ones}
 use Rattle.std.specs.List.{range_with_len}
 use Rattle.std.specs.Int.{bit_at}
 use Rattle.std.specs.Simd.Lanes.{mask_l}
-use Rattle.std.proofs.lemmas.List.{map-id}
 use Rattle.std.proofs.lemmas.List.FromFn.{get_or-map-range_with_len, length-map-range_with_len}
 use Rattle.std.proofs.lemmas.Nat.Bits.{bit_at-lt, same_from_bits_below}
 use Rattle.std.proofs.lemmas.Simd.{ones-mask_l, mask_l-lt, bit_mask_l}
 use Rattle.gas_geom.specs.Gas.{holds}
 use Rattle.gas_geom.proofs.Holds.{bit_cases}
-use Rattle.gas_geom.proofs.Number.{sum_by-row}
-use Rattle.gas_geom.proofs.Sums.{sum_below, sum_below-cong}
+use Rattle.gas_geom.proofs.Sums.{sum_below, sum_below-cong, count-below}
 
 -- ---- the ones of a word
 abbrev pub one : Bool → ℕ
@@ -29,8 +27,7 @@ from_bits d s h =
 pub ones-bits : (d s : ℕ) → s < 2 ^ d → count_ones s ≡ sum_below d (λ i. bit_at s i)
 ones-bits d s h =
     ap count_ones (sym (from_bits d s h)) ∙ ones-mask_l (holds s) (range_with_len 0 d)
-    ∙ ap (count_by (holds s)) (sym (map-id (range_with_len 0 d))) ∙ sum_by-row (λ k. one (holds s k)) (λ k. k) d
-    ∙ sum_below-cong d _ _ (λ i _. one-bit s i)
+    ∙ count-below (holds s) d ∙ sum_below-cong d _ _ (λ i _. one-bit s i)
 
 -- no more bits than places
 pub bits-le : (n s : ℕ) → sum_below n (λ i. bit_at s i) ≤ n

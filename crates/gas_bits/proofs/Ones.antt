@@ -1,11 +1,11 @@
 -- The ones of words are the set bits of a range of cells.
-use Rattle.std.proofs.Common.{◌≡◌, ℕ, zero, suc, ◌+◌, ◌-◌, ◌*◌, ◌/◌, ◌^◌, ◌<◌, ◌≤◌, min, max, Bool, true, false, ◌&&◌, cond, List, [], ◌∷◌, ◌++◌, map, get_or, refl, sym, ap, ap₂, ◌∙◌, arith, inl, inr}
-use Rattle.std.specs.Prelude.{count_ones, nat_le}
+use Rattle.std.proofs.Common.{◌≡◌, ℕ, zero, suc, ◌+◌, ◌-◌, ◌*◌, ◌/◌, ◌^◌, ◌<◌, ◌≤◌, min, max, Bool, false, ◌&&◌, cond, List, [], ◌∷◌, ◌++◌, map, get_or, refl, sym, ap, ap₂, ◌∙◌, arith, inl, inr}
+use Rattle.std.specs.Prelude.{count_ones, nat_le, nat_lt}
 use Rattle.std.specs.List.{range_with_len, count_by}
 use Rattle.std.proofs.lemmas.List.Sums.{sum_by-cons, sum_by-append, count_by-le-length}
 use Rattle.std.proofs.lemmas.List.FromFn.{length-range_with_len}
 use Rattle.std.proofs.lemmas.Simd.{ones-mask_l}
-use Rattle.std.proofs.lemmas.Bool.{cases_lt}
+use Rattle.std.proofs.lemmas.Bool.{cases_lt, le-ltb}
 use Rattle.std.proofs.lemmas.Bool.Decides.{nat_tests}
 use Rattle.std.proofs.Math.Nat.{div-le_self}
 use Rattle.gas_geom.specs.Gas.{holds}
@@ -52,34 +52,31 @@ count-map f (x ∷ xs) =
 ones-count : (w : ℕ) → w < 2 ^ 64 → count_ones w ≡ count_by (holds w) (range_with_len 0 64)
 ones-count w h = ap count_ones (sym (from_bits 64 w h)) ∙ ones-mask_l (holds w) (range_with_len 0 64)
 
+-- the places that hold, moved down by `from`
+count-moved : (f g : ℕ → Bool) (from to : ℕ) → from ≤ to → to ≤ 64 →
+    ((k : ℕ) → k < 64 → f k ≡ (nat_lt (from + k) to && g (from + k))) → count_by f (range_with_len 0 64) ≡ count_by g (range_with_len from (to - from))
+count-moved f g from to order within same =
+    let n = to - from in
+    ap (λ k. count_by f (range_with_len 0 k)) (let e : 64 ≡ n + (64 - n) = omega arith in e)
+    ∙ count-append f 0 n (64 - n)
+    ∙ ap₂ (λ s t. s + t)
+    (count-same f g 0 from n (λ k h. let e = same (0 + k) (omega arith) in grind (arith, nat_tests)))
+    (count-same f (λ _. false) (0 + n) 0 (64 - n) (λ k h. let e = same (0 + n + k) (omega arith) in grind (arith, nat_tests))
+    ∙ count-none 0 (64 - n))
+    ∙ (let e : count_by g (range_with_len from n) + 0 ≡ count_by g (range_with_len from n) = omega arith in e)
+
 -- the bits from one place up to another, of a word without those past them
 pub ones-between : (word low from to : ℕ) → low < 2 ^ 64 → from ≤ to → 1 ≤ to → to ≤ 64 →
     ((b : ℕ) → b < 64 → holds low b ≡ (nat_le b (to - 1) && holds word b)) →
     count_ones (low / 2 ^ from) ≡ count_by (holds word) (range_with_len from (to - from))
 ones-between word low from to small order some within is =
-    let n = to - from in
     ones-count (low / 2 ^ from) (omega (arith, div-le_self low (2 ^ from)))
-    ∙ ap (λ k. count_by (holds (low / 2 ^ from)) (range_with_len 0 k)) (let e : 64 ≡ n + (64 - n) = omega arith in e)
-    ∙ count-append (holds (low / 2 ^ from)) 0 n (64 - n)
-    ∙ ap₂ (λ s t. s + t)
-    (count-same (holds (low / 2 ^ from)) (holds word) 0 from n (λ k h.
-    let le : nat_le (from + k) (to - 1) ≡ true = grind (arith, nat_tests) in
-    moved k ∙ is (from + k) (omega arith) ∙ ap (λ t. t && holds word (from + k)) le))
-    (count-same (holds (low / 2 ^ from)) (λ _. false) (0 + n) 0 (64 - n) (λ k h.
-    let e : from + (n + k) ≡ to + k = omega arith in
-    ap (holds (low / 2 ^ from)) (let z : 0 + n + k ≡ 0 + (n + k) = omega arith in z) ∙ moved (n + k) ∙ ap (holds low) e ∙ past (to + k) (omega arith))
-    ∙ count-none 0 (64 - n))
-    ∙ (let e : count_by (holds word) (range_with_len from n) + 0 ≡ count_by (holds word) (range_with_len from n) = omega arith in e)
+    ∙ count-moved (holds (low / 2 ^ from)) (holds word) from to order within (λ k h. holds-shr from k low ∙ cut (from + k))
   where
-    moved : (k : ℕ) → holds (low / 2 ^ from) (0 + k) ≡ holds low (from + k)
-    moved k = ap (holds (low / 2 ^ from)) (let e : 0 + k ≡ k = omega arith in e) ∙ holds-shr from k low
-
-    past : (b : ℕ) → to ≤ b → holds low b ≡ false
-    past b le = elim (cases_lt b 64) [
-      | inl lt ↦
-          let no : nat_le b (to - 1) ≡ false = grind (arith, nat_tests) in
-          is b lt ∙ ap (λ t. t && holds word b) no
-      | inr high ↦ holds-above low 64 b small high
+    cut : (b : ℕ) → holds low b ≡ (nat_lt b to && holds word b)
+    cut b = elim (cases_lt b 64) [
+      | inl lt ↦ is b lt ∙ ap (λ t. t && holds word b) (let e : nat_le b (to - 1) ≡ nat_lt b to = grind (arith, nat_tests) in e)
+      | inr high ↦ holds-above low 64 b small high ∙ sym (ap (λ t. t && holds word b) (le-ltb b to (omega arith)))
     ]
 
 -- ---- the ones of words

@@ -1,15 +1,15 @@
 -- The directions that a set holds, one direction after another: their number is the sum of the set's bits, and a sum over them the
 -- sum over all directions of what those give that the set holds.
-use Rattle.std.proofs.Common.{◌≡◌, ℕ, zero, suc, ◌+◌, Bool, true, false, if◌then◌else◌, List, [], ◌∷◌, ◌++◌, length, filter, fold, ap, ap₂, ◌∙◌, sym, refl, arith, add-one, zero-add, ℤ, pos, ◌+ℤ◌}
+use Rattle.std.proofs.Common.{◌≡◌, ℕ, zero, suc, ◌+◌, Bool, true, false, if◌then◌else◌, List, [], ◌∷◌, ◌++◌, length, filter, fold, ap, ◌∙◌, sym, refl, arith, add-one, zero-add, ℤ, pos, ◌+ℤ◌}
 use Rattle.std.specs.List.{range_with_len}
 use Rattle.std.proofs.lemmas.Int.{ints}
-use Rattle.std.proofs.lemmas.List.{length-append, map-id}
+use Rattle.std.proofs.lemmas.List.{map-id}
 use Rattle.std.proofs.lemmas.List.FromFn.{filter_of_map_range_with_len_more}
-use Rattle.std.proofs.lemmas.List.Sums.{fold-append}
+use Rattle.std.proofs.lemmas.List.Sums.{fold-append, length-filter}
 use Rattle.std.specs.Int.{bit_at}
 use Rattle.gas_geom.specs.Gas.{Rules, holds, particles, signed_sum_by}
-use Rattle.gas_geom.proofs.Sets.{bit_of, bit_of-holds}
-use Rattle.gas_geom.proofs.Sums.{sum_below}
+use Rattle.gas_geom.proofs.Sets.{bit_of-holds}
+use Rattle.gas_geom.proofs.Sums.{sum_below, sum_below-cong, count-below}
 
 -- the directions below n that a set holds
 abbrev pub held_below : ℕ → ℕ → List ℕ
@@ -24,15 +24,9 @@ held_below-more n s =
     ∙ filter_of_map_range_with_len_more (holds s) (λ (k : ℕ). k) 0 n n (zero-add n)
     ∙ ap (λ (xs : List ℕ). filter (holds s) xs ++ one_or_none (holds s n) n) (map-id (range_with_len 0 n))
 
-length-one : (b : Bool) (n : ℕ) → length (one_or_none b n) ≡ bit_of b
-length-one true n = refl
-length-one false n = refl
-
 pub length-held : (n s : ℕ) → length (held_below n s) ≡ sum_below n (λ i. bit_at s i)
-length-held zero s = refl
-length-held (suc n) s =
-    ap (λ (xs : List ℕ). length xs) (held_below-more n s) ∙ length-append (held_below n s) (one_or_none (holds s n) n)
-    ∙ ap₂ (λ a b. a + b) (length-held n s) (length-one (holds s n) n ∙ bit_of-holds s n)
+length-held n s =
+    length-filter (holds s) (range_with_len 0 n) ∙ count-below (holds s) n ∙ sum_below-cong n _ _ (λ i _. bit_of-holds s i)
 
 pub particles-bits : (gas : Rules) (s : ℕ) → particles gas s ≡ sum_below gas.dirs (λ i. bit_at s i)
 particles-bits gas s = length-held gas.dirs s

@@ -1,26 +1,17 @@
 -- The number law. The particles of a lattice are a sum over its places: a column, a row and a direction each. A collision
 -- keeps those of each cell. Streaming only moves them: what a place holds afterwards stood at another place before, and the
 -- map between the places is two involutions, neither of which changes the sum.
-use Rattle.std.proofs.Common.{◌≡◌, ℕ, zero, suc, ◌+◌, ◌<◌, ◌^◌, Bool, true, false, if◌then◌else◌, List, [], map, get_or, ap, ◌∙◌, sym, refl, add-one, zero-add}
+use Rattle.std.proofs.Common.{◌≡◌, ℕ, ◌<◌, ◌^◌, Bool, true, false, if◌then◌else◌, List, [], get_or, ap, ◌∙◌, sym, refl}
 use Rattle.std.specs.Prelude.{sum_by}
-use Rattle.std.specs.List.{range_with_len}
 use Rattle.std.specs.Int.{bit_at}
-use Rattle.std.proofs.lemmas.List.FromFn.{sum_by-map-range_with_len_more, fill_by_all}
+use Rattle.std.proofs.lemmas.List.FromFn.{fill_by_all}
 use Rattle.gas_geom.specs.Gas.{Rules, IsGas, particles}
 use Rattle.gas_geom.specs.Channel.{ChannelModel, is_solid}
 use Rattle.gas_geom.specs.Lattice.{cell, row_of, rows_of, IsLattice, collided, streamed, next, count}
-use Rattle.gas_geom.proofs.Sums.{sum_below, sum_below-cong}
+use Rattle.gas_geom.proofs.Sums.{sum_below, sum_below-cong, sum_by-row}
 use Rattle.gas_geom.proofs.Held.{particles-bits}
 use Rattle.gas_geom.proofs.Places.{total}
 use Rattle.gas_geom.proofs.Links.{held, total-streamed}
-
--- a sum over a list that is made by index
-pub sum_by-row : {X : Type 0} (g : X → ℕ) (f : ℕ → X) (n : ℕ) → sum_by g (map f (range_with_len 0 n)) ≡ sum_below n (λ k. g (f k))
-sum_by-row g f zero = refl
-sum_by-row g f (suc n) =
-    ap (λ m. sum_by g (map f (range_with_len 0 m))) (sym (add-one n))
-    ∙ sum_by-map-range_with_len_more g f 0 n n (zero-add n)
-    ∙ ap (λ s. s + g (f n)) (sum_by-row g f n)
 
 -- the particles of rows that are made cell by cell
 count-rows_of : (gas : Rules) (w h : ℕ) (at : ℕ → ℕ → ℕ) →

@@ -1,7 +1,10 @@
 -- Finite sums over the numbers below n: equal terms, sums of sums, a double sum in either order, and a sum of which a test
 -- picks one term.
-use Rattle.std.proofs.Common.{◌≡◌, ℕ, zero, suc, ◌+◌, ◌<◌, Bool, if◌then◌else◌, ◌==◌, ◌&&◌, ap, ◌∙◌, sym, refl, arith}
-use Rattle.std.specs.Prelude.{nat_lt}
+use Rattle.std.proofs.Common.{◌≡◌, ℕ, zero, suc, ◌+◌, ◌<◌, Bool, if◌then◌else◌, ◌==◌, ◌&&◌, ap, ◌∙◌, sym, refl, arith, add-one, zero-add}
+use Rattle.std.specs.Prelude.{nat_lt, sum_by, count_by, map}
+use Rattle.std.specs.List.{range_with_len}
+use Rattle.std.proofs.lemmas.List.{map-id}
+use Rattle.std.proofs.lemmas.List.FromFn.{sum_by-map-range_with_len_more}
 use Rattle.std.proofs.lemmas.Bool.{lt-ltb, le-ltb}
 use Rattle.std.proofs.lemmas.Bool.Decides.{nat_tests}
 
@@ -32,6 +35,17 @@ sum_below-swap zero n f = sym (sum_below-zero n)
 sum_below-swap (suc m) n f =
     ap (λ v. v + sum_below n (λ j. f m j)) (sum_below-swap m n f)
     ∙ sym (sum_below-add n (λ j. sum_below m (λ i. f i j)) (λ j. f m j))
+
+-- a sum over a list that is made by index
+pub sum_by-row : {X : Type 0} (g : X → ℕ) (f : ℕ → X) (n : ℕ) → sum_by g (map f (range_with_len 0 n)) ≡ sum_below n (λ k. g (f k))
+sum_by-row g f zero = refl
+sum_by-row g f (suc n) =
+    ap (λ m. sum_by g (map f (range_with_len 0 m))) (sym (add-one n))
+    ∙ sum_by-map-range_with_len_more g f 0 n n (zero-add n)
+    ∙ ap (λ s. s + g (f n)) (sum_by-row g f n)
+
+pub count-below : (p : ℕ → Bool) (n : ℕ) → count_by p (range_with_len 0 n) ≡ sum_below n (λ k. if p k then 1 else 0)
+count-below p n = ap (count_by p) (sym (map-id (range_with_len 0 n))) ∙ sum_by-row (λ k. if p k then 1 else 0) (λ k. k) n
 
 -- a number where a test holds, else 0
 abbrev pub when : Bool → ℕ → ℕ
