@@ -1,5 +1,5 @@
 -- What the words of a plane say of its cells, before and after writes of words.
-use Rattle.std.proofs.Common.{◌≡◌, ◌≢◌, ℕ, ◌+◌, ◌*◌, ◌/◌, ◌%◌, ◌<◌, ◌≤◌, Bool, false, ◌&&◌, if◌then◌else◌, List, length, get_or, set, replicate, refl, arith}
+use Rattle.std.proofs.Common.{◌≡◌, ◌≢◌, ℕ, ◌+◌, ◌*◌, ◌/◌, ◌%◌, ◌<◌, ◌≤◌, Bool, false, ◌&&◌, if◌then◌else◌, List, length, get_or, set, length-set, replicate, refl, arith}
 use Rattle.std.specs.Prelude.{◌==◌, nat_lt}
 use Rattle.std.specs.List.{All}
 use Rattle.std.proofs.lemmas.List.Elements.{All-get_or}
@@ -38,6 +38,9 @@ pub bit-set : (words : List ℕ) (j v x : ℕ) → j < length words →
     bit (set words j v) x ≡ (if x / 64 == j then holds v (x % 64) else bit words x)
 unfolding bit
 bit-set words j v x within = grind (arith, nat_tests, places, get_or-set_at)
+
+-- what is left of the bits after writes of words
+pub ruleset word_writes = (nat_tests, bit-set, length-set)
 
 pub bit-set_here : (words : List ℕ) (j v x : ℕ) → j < length words → x / 64 ≡ j → bit (set words j v) x ≡ holds v (x % 64)
 bit-set_here words j v x within e = grind (arith, nat_tests, bit-set)

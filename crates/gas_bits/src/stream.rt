@@ -54,6 +54,7 @@ fn closing_word<'a, S: Side>(incoming: &Incoming<'a>, j: usize) -> u64
 
 // Streams into the words from `from` to `to - 1`, none of them at the end at which the row closes.
 #[inline(always)]
+#[tactic(auto, using(crate::proofs::Words::word_writes))]
 fn stream_inner<'a, S: Side>(incoming: &Incoming<'a>, from: usize, to: usize, out: &mut [u64])
     requires out { length out.old ≡ words_in incoming.now.width }
     requires order { from ≤ to }
@@ -72,6 +73,7 @@ fn stream_inner<'a, S: Side>(incoming: &Incoming<'a>, from: usize, to: usize, ou
 // it, from `rest` on. All are computed before one is written, so that the compiler can compute them
 // at once.
 #[inline(always)]
+#[tactic(auto, using(crate::proofs::Words::word_writes))]
 fn stream_end<'a, S: Side>(incoming: &Incoming<'a>, at: usize, rest: usize, out: &mut [u64])
     requires out { length out.old ≡ words_in incoming.now.width }
     requires first { S.CLOSES_LAST ≡ false → (at ≡ 0) × (rest ≡ 1) }
