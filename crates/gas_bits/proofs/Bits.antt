@@ -9,7 +9,7 @@ use Rattle.std.proofs.lemmas.Nat.{div-add-mod', pow_pos}
 use Rattle.std.proofs.lemmas.Bool.{lt-ltb, le-ltb, cases_lt}
 use Rattle.std.proofs.lemmas.Bool.Decides.{nat_tests}
 use Rattle.gas_geom.specs.Gas.{holds}
-use Rattle.gas_geom.proofs.Holds.{holds-zero, holds-and, holds-or, holds-above}
+use Rattle.gas_geom.proofs.Holds.{holds-zero, holds-and, holds-not, holds-or, holds-above}
 
 -- the bits below the width
 holds-mod : (width n i : ℕ) → i < width → holds (n % 2 ^ width) i ≡ holds n i
@@ -76,3 +76,6 @@ holds-joined low high b h lt =
       | inr above ↦ ap₂ (λ p q. p || q) (holds-above low 32 b h above) (holds-shl_high 32 b high above lt)
           ∙ sym (ap (λ t. if t then holds low b else holds high (b - 32)) (le-ltb b 32 above))
     ]
+
+-- what the operations on one word make of its bits
+pub ruleset word_bits = (nat_tests, holds-set, holds-clear, holds-shr_and, holds-up_to, holds-and, holds-not)

@@ -1,4 +1,6 @@
 //! One word of 64 cells, bit by bit.
+#![tactic(auto, using(crate::proofs::Bits::word_bits))]
+
 ghost use Rattle.std.specs.Prelude.{◌≡◌, ◌+◌, ◌-◌, ◌*◌, ◌<◌, ◌≤◌, ◌==◌, ◌&&◌, ◌||◌, ℕ, not, nat_le, nat_lt, if◌then◌else◌, false, length, slice_index_or};
 ghost use Rattle.gas_geom.specs.Gas.{holds};
 ghost use Rattle.gas_geom.specs.declared.size.TheConstants.{MOST_SIDE};
