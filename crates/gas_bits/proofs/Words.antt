@@ -39,7 +39,7 @@ pub bit-set : (words : List ℕ) (j v x : ℕ) → j < length words →
 unfolding bit
 bit-set words j v x within = grind (arith, nat_tests, places, get_or-set_at)
 
--- what is left of the bits after writes of words
+-- the bits of words after some of them were written
 pub ruleset word_writes = (nat_tests, bit-set, length-set)
 
 pub bit-set_here : (words : List ℕ) (j v x : ℕ) → j < length words → x / 64 ≡ j → bit (set words j v) x ≡ holds v (x % 64)
