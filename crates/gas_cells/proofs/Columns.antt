@@ -5,7 +5,7 @@ use Rattle.std.specs.List.{find, range_with_len}
 use Rattle.std.specs.Option.{option_or}
 use Rattle.std.proofs.lemmas.Bool.{false≢true}
 use Rattle.std.proofs.lemmas.List.Folds.{find-append}
-use Rattle.gas_cells.proofs.Ranges.{range-append}
+use Rattle.gas_bits.proofs.Ones.{range-append}
 
 -- what passes below n + m, by what passes below n
 find-split : (p : ℕ → Bool) (n m : ℕ) → find p (range_with_len 0 (n + m)) ≡ option_or (find p (range_with_len 0 n)) (find p (range_with_len n m))

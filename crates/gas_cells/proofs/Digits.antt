@@ -26,30 +26,15 @@ same_option None (Some y) e = absurd (false≢true e)
 same_option (Some x) None e = absurd (false≢true e)
 same_option (Some x) (Some y) e = ap Some (eqb-true x y e)
 
-abbrev by_ranges : ℕ → Option ℕ
+abbrev pub by_ranges : ℕ → Option ℕ
 by_ranges b =
     if nat_le 48 b && nat_le b 57 then Some (b - 48)
     else if nat_le 97 b && nat_le b 102 then Some (b - 97 + 10)
     else None
 
-digit_of-by_ranges : (b : ℕ) → b < 256 → digit_of b ≡ by_ranges b
+pub digit_of-by_ranges : (b : ℕ) → b < 256 → digit_of b ≡ by_ranges b
 unfolding digit_of
 digit_of-by_ranges b h = same_option _ _ (agree_below_at (λ b. option_eq nat_eq (digit_of b) (by_ranges b)) (λ _. true) 256 b refl h)
-
-pub digit_of-decimal : (b : ℕ) → 48 ≤ b → b < 58 → Some (b - 48) ≡ digit_of b
-digit_of-decimal b low high = grind (arith, nat_tests, digit_of-by_ranges)
-
-pub digit_of-letter : (b : ℕ) → 97 ≤ b → b < 103 → Some (b - 97 + 10) ≡ digit_of b
-digit_of-letter b low high = grind (arith, nat_tests, digit_of-by_ranges)
-
-pub digit_of-below : (b : ℕ) → b < 48 → None ≡ digit_of b
-digit_of-below b high = grind (arith, nat_tests, digit_of-by_ranges)
-
-pub digit_of-between : (b : ℕ) → 58 ≤ b → b < 97 → None ≡ digit_of b
-digit_of-between b low high = grind (arith, nat_tests, digit_of-by_ranges)
-
-pub digit_of-above : (b : ℕ) → 103 ≤ b → b < 256 → None ≡ digit_of b
-digit_of-above b low high = grind (arith, nat_tests, digit_of-by_ranges)
 
 -- a digit's value is below 16
 pub digit_of-small : (b : ℕ) → b < 256 → unwrap_or (digit_of b) 0 < 16
@@ -97,13 +82,15 @@ either_or_none : (t : Bool) (cell : Cell) → IfSome (if t then Some cell else N
 either_or_none true cell = refl
 either_or_none false cell = tt
 
-solid_at : (states b : ℕ) → IfSome (cell_of states SOLID_MARK b) (λ c. solid_cell ≡ c)
-unfolding cell_of digit_of
-solid_at states b = either_or_none ((b == SOLID_MARK) && true) solid_cell
+-- the state of a solid cell, whose characters are no digits
+solid_or_none : (t : Bool) (n : ℕ) → (t ≡ true → n ≡ 0) → IfSome (if t then Some solid_cell else None) (λ c. record { solid = true; state = n } ≡ c)
+solid_or_none true n none = ap (λ s. record { solid = true; state = s }) (none refl)
+solid_or_none false n none = tt
 
--- a cell whose first character is the mark of solid cells
-pub cell_of-solid : (states a b : ℕ) → a ≡ SOLID_MARK → IfSome (cell_of states a b) (λ c. solid_cell ≡ c)
-cell_of-solid states a b mark = subst (λ k. IfSome (cell_of states k b) (λ c. solid_cell ≡ c)) (sym mark) (solid_at states b)
+solid_at : (states b : ℕ) → IfSome (cell_of states SOLID_MARK b)
+    (λ c. record { solid = true; state = unwrap_or (digit_of SOLID_MARK) 0 * 16 + unwrap_or (digit_of b) 0 } ≡ c)
+unfolding cell_of digit_of
+solid_at states b = solid_or_none ((b == SOLID_MARK) && true) _ (λ e. let mark : b ≡ SOLID_MARK = grind (arith, nat_tests, e) in rw mark refl)
 
 state_at : (states : ℕ) (high low : Option ℕ) → IfSome (state_of states high low) (λ c. fluid (unwrap_or high 0 * 16 + unwrap_or low 0) ≡ c)
 state_at states None low = tt
@@ -129,10 +116,17 @@ empty_at a b marked =
     let second : b ≡ EMPTY_MARK = grind (arith, nat_tests, both) in
     rw (first, second) refl
 
--- a cell with another first character
-pub cell_of-state : (states a b n : ℕ) → (a == SOLID_MARK) ≡ false → n ≡ unwrap_or (digit_of a) 0 * 16 + unwrap_or (digit_of b) 0
-    → IfSome (cell_of states a b) (λ c. fluid n ≡ c)
+fluid_at : (states a b : ℕ) → (a == SOLID_MARK) ≡ false → IfSome (cell_of states a b) (λ c. fluid (unwrap_or (digit_of a) 0 * 16 + unwrap_or (digit_of b) 0) ≡ c)
 unfolding cell_of
-cell_of-state states a b n other number =
-    rw number (state_by_mark (is_marked SOLID_MARK a b) (is_marked EMPTY_MARK a b) states (digit_of a) (digit_of b)
-    (not_marked (a == SOLID_MARK) ((b == SOLID_MARK) && true) other) (empty_at a b))
+fluid_at states a b other =
+    state_by_mark (is_marked SOLID_MARK a b) (is_marked EMPTY_MARK a b) states (digit_of a) (digit_of b)
+    (not_marked (a == SOLID_MARK) ((b == SOLID_MARK) && true) other) (empty_at a b)
+
+-- the cell of two characters, by whether the first is the mark of solid cells
+pub cell_of-read : (states a b n : ℕ) → n ≡ unwrap_or (digit_of a) 0 * 16 + unwrap_or (digit_of b) 0
+    → IfSome (cell_of states a b) (λ c. record { solid = a == SOLID_MARK; state = n } ≡ c)
+cell_of-read states a b n number = rw number (by (a == SOLID_MARK) refl)
+  where
+    by : (t : Bool) → (a == SOLID_MARK) ≡ t → IfSome (cell_of states a b) (λ c. record { solid = t; state = unwrap_or (digit_of a) 0 * 16 + unwrap_or (digit_of b) 0 } ≡ c)
+    by true e = rw (eqb-true a SOLID_MARK e) (solid_at states b)
+    by false e = fluid_at states a b e

@@ -14,7 +14,7 @@ use Rattle.std.proofs.lemmas.Str.Ascii.{IsAscii-nil}
 use Rattle.gas_geom.specs.Channel.{ChannelModel, is_solid}
 use Rattle.gas_geom.specs.Lattice.{cell}
 use Rattle.gas_cells.specs.Cells.{cell_text, row_cells}
-use Rattle.gas_cells.proofs.Ranges.{range-append}
+use Rattle.gas_bits.proofs.Ones.{range-append}
 
 -- a cell has two characters
 pub cell_text-long : (solid : Bool) (state : ℕ) → length (cell_text solid state) ≡ 2

@@ -68,16 +68,9 @@ fn two_digits(first: u8, second: u8) -> u8
 fn read(first: u8, second: u8) -> Cell
     ensures { (states : ℕ) → IfSome (cell_of states first second) (λ cell. result ≡ cell) }
 {
-    if first == SOLID_MARK {
-        Cell {
-            solid: true,
-            state: 0,
-        }
-    } else {
-        Cell {
-            solid: false,
-            state: two_digits(first, second),
-        }
+    Cell {
+        solid: first == SOLID_MARK,
+        state: two_digits(first, second),
     }
 }
 
