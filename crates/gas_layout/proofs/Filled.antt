@@ -1,6 +1,9 @@
 -- Filling: the states, and a lattice whose first rows are filled.
-use Rattle.std.proofs.Common.{◌≡◌, ℕ, zero, suc, ◌+◌, ◌^◌, ◌<◌, Bool, true, false, List, get_or, set, nat_lt, ap, sym, ◌∙◌, refl, arith, if◌then◌else◌}
+use Rattle.std.proofs.Common.{◌≡◌, ℕ, zero, suc, ◌+◌, ◌^◌, ◌<◌, Bool, true, false, List, length, get_or, set, nat_lt, ap, sym, subst, ◌∙◌, refl, arith, inl, inr, if◌then◌else◌}
+use Rattle.std.proofs.lemmas.Bool.{cases_lt}
 use Rattle.std.proofs.lemmas.Bool.Decides.{nat_tests}
+use Rattle.std.proofs.lemmas.List.{get_or_past}
+use Rattle.std.proofs.lemmas.Nat.{pow_pos}
 use Rattle.std.proofs.lemmas.List.FromFn.{get_or-map-range_with_len, length-map-range_with_len}
 use Rattle.gas_geom.specs.Gas.{Rules}
 use Rattle.gas_geom.specs.Lattice.{LatticeModel, set_of, row_of, empty_lattice}
@@ -14,9 +17,17 @@ use Rattle.gas_layout.proofs.Steps.{before-here, before-other, before-none, befo
 pub set_of-filled-below : (n seed rate width x y : ℕ) → set_of n (filled seed rate width x y) < 2 ^ n
 set_of-filled-below n seed rate width x y = set_of-lt n (filled seed rate width x y)
 
-pub filling-below : (gas : Rules) (seed rate width x y : ℕ) → filling gas seed rate width x y < 2 ^ gas.dirs
+filling-below : (gas : Rules) (seed rate width x y : ℕ) → filling gas seed rate width x y < 2 ^ gas.dirs
 unfolding filling
 filling-below gas seed rate width x y = set_of-filled-below gas.dirs seed rate width x y
+
+-- the states of a row are sets of directions, and past its end 0
+pub filling-small : (gas : Rules) (seed rate w y : ℕ) (states : List ℕ) → length states ≡ w
+    → ((x : ℕ) → x < w → get_or states x 0 ≡ filling gas seed rate w x y) → (x : ℕ) → get_or states x 0 < 2 ^ gas.dirs
+filling-small gas seed rate w y states wide same x = elim (cases_lt x w) [
+  | inl within ↦ subst (λ n. n < 2 ^ gas.dirs) (sym (same x within)) (filling-below gas seed rate w x y)
+  | inr past ↦ subst (λ n. n < 2 ^ gas.dirs) (sym (get_or_past states x 0 (omega (arith, wide, past)))) (pow_pos gas.dirs)
+]
 
 pub filling-is : (gas : Rules) (n seed rate width x y : ℕ) → n ≡ gas.dirs
     → set_of n (filled seed rate width x y) ≡ filling gas seed rate width x y

@@ -1,11 +1,7 @@
 //! Rectangles drawn into a channel. Each is read once, in its first row, however much they overlap.
 
-ghost use Rattle.std.specs.Prelude.{◌≡◌, ℕ, ◌≤◌, ◌<◌, [], ◌∷◌, ◌++◌, Bool, true, false, List, length, pos, IfOk, OnOk, OnErr};
-ghost use Rattle.gas_geom.specs.Size.{IsSize};
-ghost use Rattle.gas_geom.specs.Channel.{free_channel};
-ghost use Rattle.gas_geom.specs.declared.size.TheConstants.{MOST_SIDE};
-ghost use Rattle.gas_layout.specs.Layout.{channel_of, drawn, fits};
-ghost use Rattle.gas_layout.specs.Inner.Strips.{AreStrips, IsSkyline, passes, is_drawn, strips_at};
+ghost use Rattle.std.specs.Prelude.{◌≡◌, [], ◌∷◌, ◌++◌, ℕ, true, List, IfOk, OnOk, OnErr};
+ghost use Rattle.gas_layout.specs.Layout.{drawn, fits};
 ghost use Rattle.gas_layout.specs.declared.rectangle.Rectangle.{Rectangle};
 
 use crate::rectangle::Rectangle;
@@ -24,32 +20,19 @@ pub struct Drawing {
 }
 
 impl Model for Drawing {
+    ghost use Rattle.std.specs.Prelude.{◌≡◌, length};
     ghost use Rattle.gas_geom.specs.Channel.{ChannelModel};
     ghost use Rattle.gas_layout.specs.Layout.{channel_of};
-    ghost use Rattle.gas_layout.specs.Inner.Strips.{AreStrips, is_drawn};
+    ghost use Rattle.gas_layout.specs.Inner.Strips.{AreStrips, is_drawn, strips_of};
 
     ghost Value = { ChannelModel };
 
-    ghost view = { λ d. channel_of d.size.width d.size.height (is_drawn d.rows.items) };
+    ghost view = { λ d. channel_of d.size.width d.size.height (is_drawn (strips_of d.rows.items)) };
 
-    ghost invariant = { λ d. AreStrips d.size.width d.size.height d.rows.items };
-}
-
-// Makes each cell solid that a strip covers. `solid` is a buffer for a row.
-fn make_solid(channel: &mut Channel, rows: &[Vec<Strip>], skyline: &mut Skyline, solid: &mut [bool])
-    requires few { channel.old.width ≤ MOST_SIDE }
-    requires wide { length solid.old ≡ channel.old.width }
-    requires sized { IsSkyline channel.old.width skyline.old }
-    requires flat { (x y : ℕ) → passes skyline.old x y ≡ false }
-    requires strips { AreStrips channel.old.width channel.old.height rows.now }
-    ensures { (w h : ℕ) → channel.old ≡ free_channel w h
-        → channel.new ≡ channel_of w h (is_drawn rows.now) }
-{
-    for y in 0..channel.size().height() {
-        skyline.extend_all(rows[y as usize].as_slice());
-        skyline.mark(solid, y);
-        channel.set_row(y, solid);
-    }
+    ghost invariant = { λ d. record {
+      high : length d.rows.items ≡ d.size.height;
+      strips : AreStrips d.size.width (strips_of d.rows.items);
+    } };
 }
 
 impl Drawing {
@@ -86,12 +69,11 @@ impl Drawing {
         let width = self.size.width() as usize;
         let mut skyline = Skyline::flat(alloc, width)?;
         let mut solid = vec![in alloc; false; width]?;
-        make_solid(
-            &mut channel,
-            self.rows.as_slice(),
-            &mut skyline,
-            solid.as_mut_slice(),
-        );
+        for y in 0..self.size.height() {
+            skyline.extend_all(self.rows[y as usize].as_slice());
+            skyline.mark(solid.as_mut_slice(), y);
+            channel.set_row(y, solid.as_slice());
+        }
         Ok(channel)
     }
 }

@@ -73,50 +73,6 @@ fn fill_states<G: Gas>(
     }
 }
 
-// Fills the fluid cells of row `y`. `states` and `words` are buffers for a row.
-fn fill_row<G: Gas>(
-    lattice: &mut Lattice<G>,
-    states: &mut [u8],
-    words: &mut [u32],
-    seed: u64,
-    rate: u32,
-    y: u32,
-)
-    requires size { IsSize lattice.old.channel.width lattice.old.channel.height }
-    requires wide { length states.old ≡ lattice.old.channel.width }
-    requires as_wide { length words.old ≡ lattice.old.channel.width }
-    requires row { y < lattice.old.channel.height }
-    ensures channel { lattice.new.channel ≡ lattice.old.channel }
-    ensures cells { (w h : ℕ) (solid : ℕ → ℕ → Bool)
-        → lattice.old ≡ filled_before G.rules seed rate w h solid y
-        → lattice.new ≡ filled_before G.rules seed rate w h solid (y + 1) }
-{
-    let width = lattice.channel().size().width();
-    fill_states::<G>(states, words, width, seed, rate, y);
-    lattice.set_states(y, states);
-}
-
-// Fills the fluid cells. `states` and `words` are buffers for a row.
-fn fill_rows<G: Gas>(
-    lattice: &mut Lattice<G>,
-    states: &mut [u8],
-    words: &mut [u32],
-    seed: u64,
-    rate: u32,
-)
-    requires size { IsSize lattice.old.channel.width lattice.old.channel.height }
-    requires wide { length states.old ≡ lattice.old.channel.width }
-    requires as_wide { length words.old ≡ lattice.old.channel.width }
-    ensures channel { lattice.new.channel ≡ lattice.old.channel }
-    ensures cells { (w h : ℕ) (solid : ℕ → ℕ → Bool)
-        → lattice.old ≡ filled_before G.rules seed rate w h solid 0
-        → lattice.new ≡ filled_before G.rules seed rate w h solid h }
-{
-    for y in 0..lattice.channel().size().height() {
-        fill_row(lattice, states, words, seed, rate, y);
-    }
-}
-
 /// Fills the fluid cells of an empty lattice at a rate in thousandths, 0 to 1000.
 ///
 /// Direction `i` of the cell `(x, y)` has its own word of the seed's key stream. It is word
@@ -141,15 +97,20 @@ pub fn fill<G: Gas>(
     if rate == 0 {
         return Ok(());
     }
-    let width = lattice.channel().size().width() as usize;
-    let mut states = vec![in alloc; 0u8; width]?;
-    let mut words = vec![in alloc; 0u32; width]?;
-    fill_rows(
-        lattice,
-        states.as_mut_slice(),
-        words.as_mut_slice(),
-        seed,
-        rate,
-    );
+    let size = lattice.channel().size();
+    let width = size.width();
+    let mut states = vec![in alloc; 0u8; width as usize]?;
+    let mut words = vec![in alloc; 0u32; width as usize]?;
+    for y in 0..size.height() {
+        fill_states::<G>(
+            states.as_mut_slice(),
+            words.as_mut_slice(),
+            width,
+            seed,
+            rate,
+            y,
+        );
+        lattice.set_states(y, states.as_slice());
+    }
     Ok(())
 }

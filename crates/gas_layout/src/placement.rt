@@ -22,32 +22,15 @@ pub struct Placement {
 impl Placement {
     ghost use Rattle.gas_layout.specs.Layout.{is_index, can_place, lattice_of, placed};
 
-    // Returns whether the cell is in the channel.
-    fn is_in(self, channel: &Channel) -> bool
-        ensures value { result
-            ≡ (is_index channel.now.width self.x && is_index channel.now.height self.y) }
-        ensures size { IsSize channel.now.width channel.now.height }
-    {
-        let size = channel.size();
-        is_index(size.width(), self.x) && is_index(size.height(), self.y)
-    }
-
-    // Returns whether the cell is fluid.
-    fn is_fluid(self, channel: &Channel) -> bool
-        requires size { IsSize channel.now.width channel.now.height }
-        requires inside { (is_index channel.now.width self.x && is_index channel.now.height self.y)
-            ≡ true }
-        ensures { result ≡ not (is_solid channel.now (nat_abs self.x) (nat_abs self.y)) }
-    {
-        !channel.is_solid(self.x as u32, self.y as u32)
-    }
-
     /// Returns whether the cell is a fluid cell of the channel and the state is below `states`.
     pub fn can_stand(self, channel: &Channel, states: u16) -> bool
         ensures value { result ≡ can_place states channel.now.width channel.now.height
             (λ x y. is_solid channel.now (nat_abs x) (nat_abs y)) self }
     {
-        self.is_in(channel) && (is_index(u32::from(states), self.state) && self.is_fluid(channel))
+        let size = channel.size();
+        (is_index(size.width(), self.x) && is_index(size.height(), self.y))
+            && (is_index(u32::from(states), self.state)
+                && !channel.is_solid(self.x as u32, self.y as u32))
     }
 
     /// Sets the state of the cell.

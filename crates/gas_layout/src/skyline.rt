@@ -35,34 +35,10 @@ fn extend_ends(depths: &mut [u32], strip: Strip) -> Strip
         ≡ (nat_lt y (slice_index depths.old x) || reaches strip x y) }
 {
     let first = strip.start.div_ceil(256);
-    let last = strip.end / 256;
-    if last < first {
-        extend(depths, strip);
-        return Strip {
-            start: 0,
-            end: 0,
-            ..strip
-        };
-    }
-    extend(
-        depths,
-        Strip {
-            end: 256 * first,
-            ..strip
-        },
-    );
-    extend(
-        depths,
-        Strip {
-            start: 256 * last,
-            ..strip
-        },
-    );
-    Strip {
-        start: first,
-        end: last,
-        ..strip
-    }
+    let last = first.max(strip.end / 256);
+    extend(depths, strip.with_columns(strip.start, strip.end.min(256 * first)));
+    extend(depths, strip.with_columns(strip.end.min(256 * last), strip.end));
+    strip.with_columns(first, last)
 }
 
 // Marks which of the columns `from..to` are solid in row `y`: all if `whole` is set, else by their

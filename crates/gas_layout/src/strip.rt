@@ -29,6 +29,13 @@ impl Strip {
         }
     }
 
+    /// Returns the strip of the columns `start..end` that is as deep.
+    pub(crate) fn with_columns(self, start: u32, end: u32) -> Strip
+        ensures { result ≡ record self { start = start; end = end } }
+    {
+        Strip { start, end, ..self }
+    }
+
     /// Returns the first row of a rectangle.
     pub(crate) fn first_row(rectangle: Rectangle) -> u32
         requires { IsInside MOST_SIDE MOST_SIDE rectangle }

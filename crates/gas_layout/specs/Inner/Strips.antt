@@ -39,21 +39,20 @@ pub record IsSkyline (width : ℕ) (s : Skyline) : Type 0 where
   pub few : width ≤ MOST_SIDE
   pub blocks : width ≤ 256 * length s.blocks.items
 
--- the strips of row y
-abbrev pub strips_at : List (Vec Strip Global) → ℕ → List Strip
-strips_at rows y = slice_index_or (map (λ v. v.items) rows) y []
+-- the strips of each row
+abbrev pub strips_of : List (Vec Strip Global) → List (List Strip)
+strips_of rows = map (λ v. v.items) rows
 
--- the strips of each row of an area of this size
-pub record AreStrips (width height : ℕ) (rows : List (Vec Strip Global)) : Type 0 where
-  pub high : length rows ≡ height
-  pub columns : (y : ℕ) → y < height → All (λ s. IsStrip width s) (strips_at rows y)
+-- strips of rows of this width
+abbrev pub AreStrips : ℕ → List (List Strip) → Type 0
+AreStrips width rows = (y : ℕ) → All (λ s. IsStrip width s) (slice_index_or rows y [])
 
 -- whether one of the strips that start in the first n rows reaches the cell (x, y)
-abbrev pub is_reached : List (Vec Strip Global) → ℕ → ℕ → ℕ → Bool
+abbrev pub is_reached : List (List Strip) → ℕ → ℕ → ℕ → Bool
 is_reached rows zero x y = false
 is_reached rows (suc n) x y =
-    is_reached rows n x y || list_any (λ s. reaches s x y) (strips_at rows n)
+    is_reached rows n x y || list_any (λ s. reaches s x y) (slice_index_or rows n [])
 
 -- whether one of the strips covers the cell (x, y)
-abbrev pub is_drawn : List (Vec Strip Global) → ℕ → ℕ → Bool
+abbrev pub is_drawn : List (List Strip) → ℕ → ℕ → Bool
 is_drawn rows x y = is_reached rows (y + 1) x y
