@@ -1,7 +1,7 @@
 -- What one more row, and the flush, bring to a stage that computes. The rows that it holds are the last two of those fed,
 -- collided; with the next row they are the rows about the last but one, so streaming gives that row of the next lattice.
 use Rattle.std.proofs.Common.{◌≡◌, ℕ, ◌+◌, ◌-◌, ◌<◌, ◌≤◌, Bool, true, false, if◌then◌else◌, ◌==◌, Option, Some, None, List, [], ◌∷◌, ◌++◌, take, length, get_or, ap, ◌∙◌, sym, refl, subst, arith, eq-eqb, IsSome, unwrap_or}
-use Rattle.std.proofs.lemmas.List.{length-append, take-take}
+use Rattle.std.proofs.lemmas.List.{length_push, take-take}
 use Rattle.std.proofs.lemmas.List.FromFn.{get_or-map-range_with_len}
 use Rattle.gas_geom.specs.Gas.{Rules}
 use Rattle.gas_geom.specs.Channel.{ChannelModel, is_solid}
@@ -20,9 +20,6 @@ use Rattle.gas_stage.proofs.Local.{range-cong, cell-push_at, collided_of, collid
 abbrev collided_row : Rules → List Bool → List Bool → List ℕ → List ℕ
 collided_row gas solid bits row =
     row_of (length row) (λ x. collided_set gas (get_or solid x false) (get_or bits x false) (get_or row x 0))
-
-length-push : (q : List (List ℕ)) (row : List ℕ) → length (q ++ row ∷ []) ≡ length q + 1
-length-push q row = length-append q (row ∷ [])
 
 module _ (gas : Rules) (c : ChannelModel) (chi : ℕ → ℕ → Bool) (q : List (List ℕ)) where
   -- the row that was fed, collided by random bits that make no difference from those of its cells
@@ -99,15 +96,15 @@ module _ (gas : Rules) (s : StageModel) (g : ℕ) (q : List (List ℕ)) (fits : 
         MayHaveBeenFed gas (record s { fed = s.fed + 1; before_last = before_last; last = fed_row }) (Some g) p
     fits-push before_last moved = record {
       pass = fits.pass;
-      fed = omega (arith, fits.fed, length-push q row);
+      fed = omega (arith, fits.fed, length_push q row);
       held = record {
         before_last = λ two.
-            let one : 1 ≤ length q = omega (arith, length-push q row) in
-            let e : length q - 1 ≡ length p - 2 = omega (arith, length-push q row) in
+            let one : 1 ≤ length q = omega (arith, length_push q row) in
+            let e : length q - 1 ≡ length p - 2 = omega (arith, length_push q row) in
             moved one ∙ fits.held.last one ∙ collided_at-push gas c chi q row (length q - 1) (omega arith)
             ∙ ap (collided_at gas c chi p) e;
         last = λ one.
-            let e : length q ≡ length p - 1 = omega (arith, length-push q row) in
+            let e : length q ≡ length p - 1 = omega (arith, length_push q row) in
             collides ∙ ap (collided_at gas c chi p) e;
       };
     }
@@ -119,7 +116,7 @@ module _ (gas : Rules) (s : StageModel) (g : ℕ) (q : List (List ℕ)) (fits : 
         given gas c s.chirality (Some g) p ≡ given gas c s.chirality (Some g) q ++ out ∷ []
     gives-next out some room streams =
         given-take gas s g p
-        ∙ ap (λ n. take n (next gas c chi p)) (let e : length p - 1 ≡ m + 1 = omega (arith, length-push q row, fits.fed) in e)
+        ∙ ap (λ n. take n (next gas c chi p)) (let e : length p - 1 ≡ m + 1 = omega (arith, length_push q row, fits.fed) in e)
         ∙ take-next-push gas c chi q row m (omega (arith, fits.fed)) (omega (arith, fits.fed))
         ∙ ap (λ (r : List ℕ). take m (next gas c chi q) ++ r ∷ []) (sym (streams (collided_of gas c chi p) about))
         ∙ ap (λ n. take n (next gas c chi q) ++ out ∷ []) (let e : m ≡ length q - 1 = omega (arith, fits.fed) in e)
@@ -223,18 +220,7 @@ module _ (gas : Rules) (s old : StageModel) (view : s ≡ old) where
         subst (λ (v : StageModel). given gas v.channel v.chirality (Some g) (q ++ row ∷ []) ≡ given gas v.channel v.chirality (Some g) q ++ out ∷ []) view
         (gives-next gas s g q now row fed_row (collides-push g q now) out some room streams)
 
--- what it says of a stage's last row that it is there, or is not
-pub there : (o : Option (List ℕ)) (r : List ℕ) → Some r ≡ o → IsSome o
-there None r e = absurd (cc)
-there (Some x) r e = refl
-
-pub there-unwrap : (o : Option (List ℕ)) (r : List ℕ) → Some r ≡ o → r ≡ unwrap_or o []
-there-unwrap o r e = ap (λ v. unwrap_or v []) e
-
-pub nothing_there : (o : Option (List ℕ)) → None ≡ o → IsSome o → ⊥
-nothing_there None e h = cc
-nothing_there (Some x) e h = cc
-
+-- a stage that holds a row does not hand rows on
 pub not_handing_on : (m : Mode) (o : Option (List ℕ)) (r : List ℕ) → Some r ≡ o → (m ≡ HandsOn → o ≡ None) → open_pass m ≡ Some None → ⊥
 not_handing_on Closed o r e none passes = cc
 not_handing_on HandsOn o r e none passes = let n = none refl in cc

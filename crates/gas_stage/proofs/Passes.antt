@@ -1,9 +1,11 @@
 -- A pass over a queue of rows: those that are still to be fed stand in front, those that the stage gave behind.
 use Rattle.std.proofs.Common.{◌≡◌, ℕ, ◌+◌, ◌-◌, ◌<◌, ◌≤◌, Some, Option, List, [], ◌∷◌, ◌++◌, length, take, get_or, ap, ◌∙◌, sym, refl, subst, arith, append_assoc, append-nil, add-one, Bool, if◌then◌else◌, eq-eqb}
 use Rattle.std.specs.Option.{option_to_list}
-use Rattle.std.proofs.lemmas.List.{length-append, length-take}
-use Rattle.gas_geom.specs.Gas.{Rules}
-use Rattle.gas_geom.specs.Lattice.{next, generation}
+use Rattle.std.proofs.lemmas.List.{length-append, length-take, nil_from_length}
+use Rattle.std.proofs.Math.Seq.{get_or-append_seam}
+use Rattle.gas_geom.specs.Gas.{Rules, IsGas}
+use Rattle.gas_geom.specs.Lattice.{IsLattice, next, generation}
+use Rattle.gas_geom.proofs.Runs.{IsLattice-generation}
 use Rattle.gas_rows.specs.Chirality.{chirality_bit}
 use Rattle.gas_rows.specs.declared.chirality.Chirality.{Chirality}
 use Rattle.gas_geom.specs.Channel.{ChannelModel}
@@ -19,10 +21,6 @@ pub record IsUnderWay (gas : Rules) (old s : StageModel) (g : ℕ) (all queue : 
   pub chirality : s.chirality ≡ old.chirality
   pub fits : MayHaveBeenFed gas s (Some g) fed
   pub queued : queue ≡ rest ++ given gas old.channel old.chirality (Some g) fed
-
-get_or-append_at : (fed rest : List (List ℕ)) (r d : List ℕ) → get_or (fed ++ r ∷ rest) (length fed) d ≡ r
-get_or-append_at [] rest r d = refl
-get_or-append_at (f ∷ fs) rest r d = get_or-append_at fs rest r d
 
 -- the row at the front of the queue is the next one
 pub record IsNext (gas : Rules) (old : StageModel) (g : ℕ) (all fed : List (List ℕ)) (row : List ℕ) (behind : List (List ℕ)) : Type 0 where
@@ -47,7 +45,7 @@ next_of gas old s g all queue behind n row way left front = by way.rest way.join
         record {
           rest = rest;
           joined = there;
-          is = sym (ap (λ (l : List (List ℕ)). get_or l (length way.fed) []) there) ∙ get_or-append_at way.fed rest row [];
+          is = sym (ap (λ (l : List (List ℕ)). get_or l (length way.fed) []) there) ∙ get_or-append_seam way.fed row rest [];
           queued = cc;
         }
 
@@ -82,10 +80,6 @@ under_way_next gas old s s' g all queue behind queue' n row gave way next channe
         (subst (λ (h : Chirality). given gas s.channel h (Some g) (way.fed ++ row ∷ []) ≡ given gas s.channel h (Some g) way.fed ++ option_to_list gave)
         way.chirality gives)
 
-no_rest : (rest : List (List ℕ)) → length rest ≡ 0 → rest ≡ []
-no_rest [] e = refl
-no_rest (r ∷ rs) e = absurd (omega arith)
-
 -- all rows were fed
 pub record IsFed (gas : Rules) (old s : StageModel) (g : ℕ) (all queue : List (List ℕ)) : Type 0 where
   pub fits : MayHaveBeenFed gas s (Some g) all
@@ -95,7 +89,7 @@ pub fed_all : (gas : Rules) (old s : StageModel) (g : ℕ) (all queue : List (Li
     IsUnderWay gas old s g all queue n → length all ≤ n → IsFed gas old s g all queue
 fed_all gas old s g all queue n way enough =
     let none : way.rest ≡ [] =
-    no_rest way.rest (omega (arith, length-append way.fed way.rest, ap length way.joined, way.counted)) in
+    nil_from_length way.rest (omega (arith, length-append way.fed way.rest, ap length way.joined, way.counted)) in
     let whole : way.fed ≡ all =
     sym (append-nil way.fed) ∙ ap (λ (l : List (List ℕ)). way.fed ++ l) (sym none) ∙ way.joined in
     record {
@@ -151,3 +145,12 @@ generation_more gas c h first s rows now after n channel chirality is step =
     ∙ ap (λ (x : Chirality). next gas c (chirality_bit x c.width (first + n)) now) chirality
     ∙ ap (next gas c (chirality_bit h c.width (first + n))) is
     ∙ ap (generation gas c (chirality_bit h c.width) first rows) (sym (add-one n))
+
+-- the rows after n generations of the rows of a lattice are a lattice's, under equal names of its channel
+pub IsLattice-after : (gas : Rules) → IsGas gas → (whole channel here : ChannelModel) (chi : ℕ → ℕ → ℕ → Bool) (first n : ℕ) (rows start now : List (List ℕ)) →
+    IsLattice gas whole rows → channel ≡ whole → start ≡ rows → here ≡ channel → now ≡ generation gas channel chi first start n → IsLattice gas here now
+IsLattice-after gas laws whole channel here chi first n rows start now is same begun there after =
+    subst (λ (c : ChannelModel). IsLattice gas c now) (sym there)
+    (subst (IsLattice gas channel) (sym after)
+    (IsLattice-generation gas laws channel chi first start
+    (subst (λ (c : ChannelModel). IsLattice gas c start) (sym same) (subst (IsLattice gas whole) (sym begun) is)) n))

@@ -30,14 +30,12 @@ pub fn lattice_after<G: Gas>(
     ensures lattice { IfOk result (λ l. l ≡ lattice_after G.rules chirality first lattice.now generations) }
 {
     let (channel, rows) = lattice.copy(alloc)?.into_rows();
-    let rows = rows_after(
-        alloc,
-        &channel,
-        chirality,
-        first,
-        generations,
-        VecDeque::from(rows),
-    )?;
+    let mut rows = VecDeque::from(rows);
+    let mut stage = Stage::new(alloc, &channel, chirality)?;
+    for done in 0..generations {
+        pass(&mut stage, first + done, &mut rows);
+    }
+    drop(stage);
     Ok(Lattice::from_rows(channel, Vec::from(rows)))
 }
 
@@ -48,28 +46,6 @@ pub fn generations_add_up()
         lattice_after gas chirality (first + m) (lattice_after gas chirality first lattice m) n
         ≡ lattice_after gas chirality first lattice (m + n) }
 {}
-
-// The rows some generations after those of generation `first`.
-fn rows_after<G: Gas>(
-    alloc: Global,
-    channel: &Channel,
-    chirality: Chirality,
-    first: u64,
-    generations: u64,
-    mut rows: VecDeque<Row<G>>,
-) -> Result<VecDeque<Row<G>>, AllocError>
-    requires lattice { IsLattice G.rules channel.now rows.items }
-    requires room { first + generations < 2 ^ 64 }
-    ensures { IfOk result (λ r. r.items
-        ≡ generation G.rules channel.now (chirality_bit chirality channel.now.width)
-        first rows.items generations) }
-{
-    let mut stage = Stage::new(alloc, channel, chirality)?;
-    for done in 0..generations {
-        pass(&mut stage, first + done, &mut rows);
-    }
-    Ok(rows)
-}
 
 // One pass: every row leaves the queue at its front and goes through the stage. The rows that the
 // stage returns join the queue at its end.

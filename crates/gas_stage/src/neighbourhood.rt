@@ -1,9 +1,8 @@
 //! A row of a channel between the rows beside it, and its streaming: every particle moves along its
 //! link, or is sent back if the link ends at a solid cell or the wall.
-ghost use Rattle.std.specs.Prelude.{◌≡◌, ◌≢◌, ◌+◌, ◌<◌, ◌^◌, ℕ, IsTrue, length, slice_index};
+ghost use Rattle.std.specs.Prelude.{◌≡◌, ◌+◌, ◌<◌, ◌^◌, ℕ, IsTrue, length, slice_index};
 ghost use Rattle.gas_geom.specs.Moves.{Move, amount};
-ghost use Rattle.gas_geom.specs.Gas.{holds};
-ghost use Rattle.gas_stage.specs.Inner.Neighbourhood.{AreRowsOf, AreStreamed, HasOnlyFluidAround, IsStreamedIn, row_beside, streamed_row};
+ghost use Rattle.gas_stage.specs.Inner.Neighbourhood.{AreRowsOf, AreStreamed, HasOnlyFluidAround, row_beside, streamed_row};
 
 use gas_bits::incoming::Incoming;
 use gas_geom::gas::Gas;
@@ -44,17 +43,6 @@ impl<'a, G: Gas> Model for Neighbourhood<'a, G> {
     } };
 }
 
-// Whether it is known that no cell is solid in row `y` or in the rows beside it.
-#[inline(always)]
-fn has_only_fluid_around(channel: &Channel, y: u32) -> bool
-    requires row { y < channel.now.height }
-    ensures fluid { IsTrue result → HasOnlyFluidAround channel.now y }
-{
-    channel.mask(y).is_blank()
-        && channel.mask_beside(y, -1).is_blank()
-        && channel.mask_beside(y, 1).is_blank()
-}
-
 impl<'a, G: Gas> Neighbourhood<'a, G> {
     // The row above, the middle row or the row below: `down` is -1, 0 or 1.
     #[inline(always)]
@@ -72,18 +60,22 @@ impl<'a, G: Gas> Neighbourhood<'a, G> {
         }
     }
 
-    // Streams one direction. If `all_fluid`, no cell is solid in the row or in the rows beside it.
+    // Streams direction `i`, if the gas has it, after those before it. If `all_fluid`, no cell is
+    // solid in the row or in the rows beside it.
     #[inline(always)]
     fn stream_direction(&self, i: u32, all_fluid: bool, out: &mut Row<G>)
-        requires direction { i < G.rules.dirs }
         requires fluid { IsTrue all_fluid → HasOnlyFluidAround self.now.channel self.now.y }
         requires wide { length out.old ≡ self.now.channel.width }
+        requires states { 0 < i → (x : ℕ) → slice_index out.old x < 2 ^ G.rules.dirs }
         ensures wide { length out.new ≡ self.now.channel.width }
         ensures states { (x : ℕ) → slice_index out.new x < 2 ^ G.rules.dirs }
-        ensures streamed { IsStreamedIn G.rules self.now i out.new }
-        ensures others { (x k : ℕ) → k ≢ i →
-            holds (slice_index out.new x) k ≡ holds (slice_index out.old x) k }
+        ensures streamed { (at : ℕ → ℕ → ℕ) → AreRowsOf self.now at →
+            AreStreamed G.rules self.now at i out.old →
+            AreStreamed G.rules self.now at (i + 1) out.new }
     {
+        if i >= G::DIRS {
+            return;
+        }
         let opposite = G::opposite(i);
         let (along, down) = G::step(opposite, self.y % 2 == 1);
         let solid_there = self.channel.mask_beside(self.y, down).words();
@@ -101,23 +93,6 @@ impl<'a, G: Gas> Neighbourhood<'a, G> {
         out.stream_plane(i, along, &incoming);
     }
 
-    // Streams direction `i`, if the gas has it, after those before it.
-    #[inline(always)]
-    fn stream_next(&self, i: u32, all_fluid: bool, out: &mut Row<G>)
-        requires fluid { IsTrue all_fluid → HasOnlyFluidAround self.now.channel self.now.y }
-        requires wide { length out.old ≡ self.now.channel.width }
-        requires states { 0 < i → (x : ℕ) → slice_index out.old x < 2 ^ G.rules.dirs }
-        ensures wide { length out.new ≡ self.now.channel.width }
-        ensures states { (x : ℕ) → slice_index out.new x < 2 ^ G.rules.dirs }
-        ensures streamed { (at : ℕ → ℕ → ℕ) → AreRowsOf self.now at →
-            AreStreamed G.rules self.now at i out.old →
-            AreStreamed G.rules self.now at (i + 1) out.new }
-    {
-        if i < G::DIRS {
-            self.stream_direction(i, all_fluid, out);
-        }
-    }
-
     // Writes the row after streaming. If `ALL_FLUID`, no cell is solid in it or in the rows beside it;
     // a type parameter, so that a compiler leaves the masks out.
     fn stream_directions<const ALL_FLUID: bool>(&self, out: &mut Row<G>)
@@ -128,14 +103,24 @@ impl<'a, G: Gas> Neighbourhood<'a, G> {
             out.new ≡ streamed_row G.rules self.now at }
     {
         // Unrolled by hand: with a constant direction a compiler knows its step.
-        self.stream_next(0, ALL_FLUID, out);
-        self.stream_next(1, ALL_FLUID, out);
-        self.stream_next(2, ALL_FLUID, out);
-        self.stream_next(3, ALL_FLUID, out);
-        self.stream_next(4, ALL_FLUID, out);
-        self.stream_next(5, ALL_FLUID, out);
-        self.stream_next(6, ALL_FLUID, out);
-        self.stream_next(7, ALL_FLUID, out);
+        self.stream_direction(0, ALL_FLUID, out);
+        self.stream_direction(1, ALL_FLUID, out);
+        self.stream_direction(2, ALL_FLUID, out);
+        self.stream_direction(3, ALL_FLUID, out);
+        self.stream_direction(4, ALL_FLUID, out);
+        self.stream_direction(5, ALL_FLUID, out);
+        self.stream_direction(6, ALL_FLUID, out);
+        self.stream_direction(7, ALL_FLUID, out);
+    }
+
+    // Whether it is known that no cell is solid in the row or in the rows beside it.
+    #[inline(always)]
+    fn has_only_fluid(&self) -> bool
+        ensures fluid { IsTrue result → HasOnlyFluidAround self.now.channel self.now.y }
+    {
+        self.channel.mask(self.y).is_blank()
+            && self.channel.mask_beside(self.y, -1).is_blank()
+            && self.channel.mask_beside(self.y, 1).is_blank()
     }
 
     /// Writes the row after streaming.
@@ -146,7 +131,7 @@ impl<'a, G: Gas> Neighbourhood<'a, G> {
         ensures streamed { (at : ℕ → ℕ → ℕ) → AreRowsOf self.now at →
             out.new ≡ streamed_row G.rules self.now at }
     {
-        if has_only_fluid_around(self.channel, self.y) {
+        if self.has_only_fluid() {
             self.stream_directions::<true>(out);
         } else {
             self.stream_directions::<false>(out);

@@ -9,16 +9,6 @@ use gas_geom::gas::Gas;
 use gas_rows::channel::Channel;
 use gas_rows::row::Row;
 
-// A row or, if there is none, another of its width.
-#[inline(always)]
-fn row_or<'a, G: Gas>(row: Option<&'a Row<G>>, other: &'a Row<G>) -> &'a Row<G>
-    requires wide { ForSome (option_copied row) (λ r. length r ≡ length other.now) }
-    ensures wide { length result.now ≡ length other.now }
-    ensures row { IsSome row.entry → result.now ≡ unwrap_or (option_copied row.entry) [] }
-{
-    row.unwrap_or(other)
-}
-
 /// Row `y` after streaming, from the collided rows above it, at it and below it. The first is None
 /// at the top, and the last at the bottom. Solid cells are not read.
 pub fn stream_row<G: Gas>(
@@ -44,9 +34,9 @@ pub fn stream_row<G: Gas>(
 {
     let neighbourhood = Neighbourhood {
         channel,
-        above: row_or(up, mid),
+        above: up.unwrap_or(mid),
         middle: mid,
-        below: row_or(down, mid),
+        below: down.unwrap_or(mid),
         y,
     };
     neighbourhood.stream_into(out);

@@ -30,11 +30,6 @@ row_beside On above middle below = below
 abbrev pub HasOnlyFluidAround : ChannelModel → ℕ → Type 0
 HasOnlyFluidAround channel y = (x : ℕ) (m : Move) → x < channel.width → is_solid_beside channel x y m ≡ false
 
--- direction i of a row is that of the middle row after streaming, in every lattice that the rows are of
-abbrev pub IsStreamedIn : Rules → NeighbourhoodModel → ℕ → List ℕ → Type 0
-IsStreamedIn gas n i row = (at : ℕ → ℕ → ℕ) → AreRowsOf n at → (x : ℕ) → x < n.channel.width
-    → holds (slice_index row x) i ≡ holds (streamed gas n.channel at x n.y) i
-
 -- the directions below k of a row are those of the middle row of the lattice `at` after streaming
 abbrev pub AreStreamed : Rules → NeighbourhoodModel → (ℕ → ℕ → ℕ) → ℕ → List ℕ → Type 0
 AreStreamed gas n at k row = (i x : ℕ) → i < k → i < gas.dirs → x < n.channel.width

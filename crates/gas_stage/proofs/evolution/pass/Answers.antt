@@ -2,8 +2,6 @@ use Rattle.std.proofs.Common.{◌≡◌, ◌<◌, ◌≤◌, ◌++◌, ℕ, List
 use Rattle.std.specs.Option.{option_to_list}
 use Rattle.std.specs.VecDeque.{deque_len}
 use Rattle.gas_geom.specs.Channel.{ChannelModel}
-use Rattle.gas_geom.specs.Lattice.{next}
-use Rattle.gas_rows.specs.Chirality.{chirality_bit}
 use Rattle.gas_stage.specs.Stage.{StageModel}
 use Rattle.gas_stage.proofs.Passes.{next_of, under_way_next, fed_all, some_queued, one_held, pass_gives}
 use Rattle.gas_stage.proofs.evolution.pass.Goals as goal
@@ -15,8 +13,8 @@ loop-init g c = record {
     rest = c.args.rows.now.items;
     joined = refl;
     counted = refl;
-    channel = refl;
-    chirality = refl;
+    channel = ap (λ (s : StageModel). s.channel) c.begin.ensures.opened;
+    chirality = ap (λ (s : StageModel). s.chirality) c.begin.ensures.opened;
     fits = c.begin.ensures.fits;
     queued = sym (append-nil c.args.rows.now.items);
   };
@@ -36,7 +34,6 @@ feed-requires-clause-open g c = subst IsSome (sym c.loop.invariant.way.fits.pass
 pub feed-requires-clause-room : goal.feed-requires-clause-room
 feed-requires-clause-room g c =
     let way = c.loop.invariant.way in
-    let channel : c.loop.stage.channel ≡ c.args.stage.now.channel = way.channel ∙ ap (λ (s : StageModel). s.channel) c.begin.ensures.opened in
     omega (
       arith,
       c.len-end.ensures,
@@ -44,20 +41,19 @@ feed-requires-clause-room g c =
       c.requires.lattice.high,
       way.fits.fed,
       way.counted,
-      ap (λ (h : ChannelModel). h.height) channel,
+      ap (λ (h : ChannelModel). h.height) way.channel,
     )
 
 pub feed-requires-clause-wide : goal.feed-requires-clause-wide
 feed-requires-clause-wide g c =
     let way = c.loop.invariant.way in
-    let channel : c.loop.stage.channel ≡ c.args.stage.now.channel = way.channel ∙ ap (λ (s : StageModel). s.channel) c.begin.ensures.opened in
     let left : c.loop.counter < length c.args.rows.now.items = omega (arith, c.len-end.ensures, c.args.rows.now.ok.0) in
     let front : c.loop.rows.items ≡ c.unwrap-row.result ∷ c.pop_front.new.self.items =
     c.pop_front.ensures.items ∙ ap (λ (o : Option (List ℕ)). option_to_list o ++ c.pop_front.new.self.items) c.unwrap-row.ensures in
     let next = next_of _ _ _ _ _ _ _ _ _ way left front in
     ap length (sym next.is)
     ∙ c.requires.lattice.wide (length way.fed) (omega (arith, way.counted, c.requires.lattice.high))
-    ∙ sym (ap (λ (h : ChannelModel). h.width) channel)
+    ∙ sym (ap (λ (h : ChannelModel). h.width) way.channel)
 
 pub push_some-requires : goal.push_some-requires
 push_some-requires g c = record {
@@ -86,10 +82,9 @@ loop-preserved g c =
 pub flush-requires-clause-all : goal.flush-requires-clause-all
 flush-requires-clause-all g c =
     let way = c.loop.invariant.way in
-    let channel : c.loop.stage.channel ≡ c.args.stage.now.channel = way.channel ∙ ap (λ (s : StageModel). s.channel) c.begin.ensures.opened in
     let enough : length c.args.rows.now.items ≤ c.loop.counter = omega (arith, c.len-end.ensures, c.args.rows.now.ok.0) in
     let fed = fed_all _ _ _ _ _ _ _ way enough in
-    omega (arith, fed.fits.fed, c.requires.lattice.high, ap (λ (h : ChannelModel). h.height) channel)
+    omega (arith, fed.fits.fed, c.requires.lattice.high, ap (λ (h : ChannelModel). h.height) way.channel)
 
 pub push_some-requires-2 : goal.push_some-requires-2
 push_some-requires-2 g c =
@@ -103,9 +98,5 @@ returns-clause-next g c =
     let way = c.loop.invariant.way in
     let enough : length c.args.rows.now.items ≤ c.loop.counter = omega (arith, c.len-end.ensures, c.args.rows.now.ok.0) in
     let fed = fed_all _ _ _ _ _ _ _ way enough in
-    let high : length c.args.rows.now.items ≡ c.begin.new.self.channel.height =
-    c.requires.lattice.high ∙ sym (ap (λ (s : StageModel). s.channel.height) c.begin.ensures.opened) in
-    pass_gives _ _ _ _ _ _ _ c.flush.result fed way.channel way.chirality high (c.flush.ensures.gives_all _ _ fed.fits)
+    pass_gives _ _ _ _ _ _ _ c.flush.result fed way.channel way.chirality c.requires.lattice.high (c.flush.ensures.gives_all _ _ fed.fits)
     c.push_some-2.ensures.items
-    ∙ ap (λ (s : StageModel). next g.G.Gas.rules s.channel (chirality_bit s.chirality s.channel.width c.args.generation) c.args.rows.now.items)
-    c.begin.ensures.opened

@@ -1,11 +1,13 @@
-use Rattle.std.proofs.Common.{◌≡◌, ◌<◌, ℕ, Bool, true, false, List, get_or, ap, ◌∙◌, sym, subst, rules, w32, FitsSigned}
+use Rattle.std.proofs.Common.{◌≡◌, ◌<◌, ◌+◌, ℕ, inl, inr, arith, Bool, true, false, List, get_or, ap, ◌∙◌, sym, subst, rules, w32, FitsSigned}
+use Rattle.std.proofs.lemmas.Bool.{cases_eq}
 use Rattle.std.proofs.lemmas.Int.{to_z-of_z}
 use Rattle.gas_geom.specs.Moves.{Move, Stay, amount, column_after}
 use Rattle.gas_geom.specs.Gas.{holds}
+use Rattle.gas_geom.specs.Lattice.{streamed}
 use Rattle.gas_geom.specs.Laws.Steps.{is_odd, column_after-lt}
 use Rattle.gas_bits.specs.Words.{words_in, bit}
 use Rattle.gas_bits.proofs.ShiftedBits.{streamed_bit}
-use Rattle.gas_stage.specs.Inner.Neighbourhood.{NeighbourhoodModel, IsStreamedIn, HasOnlyFluidAround, row_beside}
+use Rattle.gas_stage.specs.Inner.Neighbourhood.{NeighbourhoodModel, AreRowsOf, AreStreamed, HasOnlyFluidAround, row_beside}
 use Rattle.gas_stage.proofs.Directions.{streamed_there, none_solid}
 use Rattle.gas_stage.proofs.neighbourhood.Neighbourhood.stream_direction.Goals as goal
 
@@ -49,18 +51,24 @@ returns-clause-streamed g c =
     let i : ℕ = c.args.i in
     let m : Move × Move = gas.step (gas.opposite i) (is_odd near.y) in
     let opposite : c.opposite-opposite.result ≡ gas.opposite i = c.opposite-opposite.ensures.value in
+    let direction : i < gas.dirs = omega (arith, c.DIRS.ensures, g.met.G.Gas.dirs_are) in
     let across_fits : FitsSigned w32 c.step-along.result.0 = search rules in
     let down_fits : FitsSigned w32 c.step-along.result.1 = search rules in
     let across = to_z-of_z w32 c.step-along.result.0 across_fits ∙ c.step-along.ensures.across ∙ ap (λ k. amount (gas.step k (is_odd near.y)).0) opposite in
     let down = to_z-of_z w32 c.step-along.result.1 down_fits ∙ c.step-along.ensures.down ∙ ap (λ k. amount (gas.step k (is_odd near.y)).1) opposite in
     let wide = c.requires.wide ∙ ap (λ (n : NeighbourhoodModel). n.channel.width) (sym c.self.view_is) in
     let beside = c.row_beside.ensures.row m.1 down ∙ ap (λ (n : NeighbourhoodModel). row_beside m.1 n.above n.middle n.below) (sym c.self.view_is) in
-    subst (λ (n : NeighbourhoodModel). IsStreamedIn gas n i c.stream_plane.new.self) c.self.view_is (λ at rows x h.
-    let u : ℕ = column_after width x m.0 in
-    c.stream_plane.ensures.streamed m.0 across x (subst (λ w. x < w) (sym wide) h)
-    ∙ ap (λ (w : ℕ). streamed_bit (bit c.plane_of_width.result.now (column_after w x m.0)) (bit c.words-solid_there.result.now (column_after w x m.0)) (bit c.plane_of_width-2.result.now x) (bit c.words-solid_here.result.now x)) (c.width-width.ensures.value ∙ wide)
-    ∙ streamed_there gas near.channel.now at x near.y i near.above.now near.middle.now near.below.now _ _ _ _ c.requires.direction h rows
-    (c.plane_of_width.ensures.bits u ∙ ap (λ (r : List ℕ). holds (get_or r u 0) i) beside)
-    (c.words-solid_there.ensures.bits u ∙ c.mask_beside.ensures.cells m.1 down u (column_after-lt width x m.0 h))
-    (λ fluid. c.plane_of_width-2.ensures.bits x ∙ ap (holds (get_or near.middle.now x 0)) opposite ∙ ap (λ s. holds s (gas.opposite i)) (rows.mid_is x h fluid))
-    (c.words-solid_here.ensures.bits x ∙ ap (λ (mask : List Bool). get_or mask x false) c.mask.ensures.row))
+    λ at.
+    subst (λ (n : NeighbourhoodModel). AreRowsOf n at → AreStreamed gas n at i c.args.out.now → AreStreamed gas n at (i + 1) c.stream_plane.new.self) c.self.view_is
+    (λ rows before k x lt in_gas h. elim (cases_eq k i) [
+      | inl e ↦ subst (λ j. holds (get_or c.stream_plane.new.self x 0) j ≡ holds (streamed gas near.channel.now at x near.y) j) (sym e)
+          (let u : ℕ = column_after width x m.0 in
+          c.stream_plane.ensures.streamed m.0 across x (subst (λ w. x < w) (sym wide) h)
+          ∙ ap (λ (w : ℕ). streamed_bit (bit c.plane_of_width.result.now (column_after w x m.0)) (bit c.words-solid_there.result.now (column_after w x m.0)) (bit c.plane_of_width-2.result.now x) (bit c.words-solid_here.result.now x)) (c.width-width.ensures.value ∙ wide)
+          ∙ streamed_there gas near.channel.now at x near.y i near.above.now near.middle.now near.below.now _ _ _ _ direction h rows
+          (c.plane_of_width.ensures.bits u ∙ ap (λ (r : List ℕ). holds (get_or r u 0) i) beside)
+          (c.words-solid_there.ensures.bits u ∙ c.mask_beside.ensures.cells m.1 down u (column_after-lt width x m.0 h))
+          (λ fluid. c.plane_of_width-2.ensures.bits x ∙ ap (holds (get_or near.middle.now x 0)) opposite ∙ ap (λ s. holds s (gas.opposite i)) (rows.mid_is x h fluid))
+          (c.words-solid_here.ensures.bits x ∙ ap (λ (mask : List Bool). get_or mask x false) c.mask.ensures.row))
+      | inr ne ↦ c.stream_plane.ensures.others x k ne ∙ before k x (omega (arith, lt, ne)) in_gas h
+    ])
