@@ -5,6 +5,7 @@ use Rattle.std.proofs.lemmas.Bool.{cases_eq}
 use Rattle.std.proofs.lemmas.List.{get_or-replicate, length-replicate, get_or-set_same, get_or-set_other, length-set}
 use Rattle.std.proofs.lemmas.List.FromFn.{fill_by_all, length-map-range_with_len, get_or-map-range_with_len}
 use Rattle.gas_geom.specs.Lattice.{with_cell, rows_of}
+use Rattle.gas_rows.proofs.Rows.{row_of-same}
 use Rattle.gas_layout.specs.Layout.{lattice_of}
 
 -- row k, and the value at a cell
@@ -15,16 +16,11 @@ pub value-rows_of : {A : Type 0} (w h : ℕ) (f : ℕ → ℕ → A) (x y : ℕ)
 value-rows_of w h f x y d in_columns in_rows =
     ap (λ row. get_or row x d) (row-rows_of w h f y in_rows) ∙ get_or-map-range_with_len (λ u. f u y) 0 w x x d in_columns (omega arith)
 
-row-same : {A : Type 0} (w : ℕ) (f g : ℕ → A) (d : A) → ((u : ℕ) → u < w → f u ≡ g u) → map f (range_with_len 0 w) ≡ map g (range_with_len 0 w)
-row-same w f g d same =
-    fill_by_all g (map f (range_with_len 0 w)) w d (length-map-range_with_len f 0 w)
-    (λ u within. get_or-map-range_with_len f 0 w u u d within (omega arith) ∙ same u within)
-
 -- rows of the same values
 pub rows_of-same : {A : Type 0} (w h : ℕ) (f g : ℕ → ℕ → A) (d : A) → ((u k : ℕ) → u < w → k < h → f u k ≡ g u k) → rows_of w h f ≡ rows_of w h g
 rows_of-same w h f g d same =
     fill_by_all (λ k. map (λ u. g u k) (range_with_len 0 w)) (rows_of w h f) h [] (length-map-range_with_len (λ k. map (λ u. f u k) (range_with_len 0 w)) 0 h)
-    (λ k within. row-rows_of w h f k within ∙ row-same w (λ u. f u k) (λ u. g u k) d (λ u in_row. same u k in_row within))
+    (λ k within. row-rows_of w h f k within ∙ row_of-same d w (λ u. f u k) (λ u. g u k) (λ u in_row. same u k in_row within))
 
 pub rows_of-replicate : {A : Type 0} (w h : ℕ) (f : ℕ → ℕ → A) (d : A) → ((u k : ℕ) → d ≡ f u k) → replicate h (replicate w d) ≡ rows_of w h f
 rows_of-replicate w h f d same =
@@ -43,7 +39,7 @@ rows_of-set {A = A} w h f g x y v in_columns in_rows new old =
     (λ (e : k ≡ y). ap (λ j. get_or (set (rows_of w h f) y changed) j []) e
     ∙ get_or-set_same (rows_of w h f) y changed [] (omega (arith, high)) ∙ row_y ∙ ap (λ j. map (λ u. g u j) (range_with_len 0 w)) (sym e))
     (λ (ne : k ≢ y). get_or-set_other (rows_of w h f) y k changed [] ne ∙ row-rows_of w h f k within
-    ∙ row-same w (λ u. f u k) (λ u. g u k) v (λ u in_row. old u k (inr ne)))
+    ∙ row_of-same v w (λ u. f u k) (λ u. g u k) (λ u in_row. old u k (inr ne)))
     (cases_eq k y))
   where
     changed : List A
@@ -73,7 +69,7 @@ rows_of-set_row w h f g y row d in_rows wide new old =
     ∙ get_or-set_same (rows_of w h f) y row [] (omega (arith, high))
     ∙ fill_by_all (λ u. g u y) row w d wide new ∙ ap (λ j. map (λ u. g u j) (range_with_len 0 w)) (sym e))
     (λ (ne : k ≢ y). get_or-set_other (rows_of w h f) y k row [] ne ∙ row-rows_of w h f k within
-    ∙ row-same w (λ u. f u k) (λ u. g u k) d (λ u in_row. old u k ne))
+    ∙ row_of-same d w (λ u. f u k) (λ u. g u k) (λ u in_row. old u k ne))
     (cases_eq k y))
   where
     high : length (rows_of w h f) ≡ h

@@ -7,7 +7,7 @@ use Rattle.std.proofs.Math.Nat.{mod-eq_of_lt, add-mul-mod_self_right, suc-mul}
 use Rattle.gas_geom.specs.Gas.{Rules}
 use Rattle.gas_geom.specs.Channel.{ChannelModel, is_solid}
 use Rattle.gas_geom.specs.Lattice.{IsLattice, cell, row_of}
-use Rattle.gas_stage.proofs.Local.{range-cong}
+use Rattle.gas_rows.proofs.Rows.{row_of-same}
 use Rattle.gas_rows.specs.Row.{RowModel}
 use Rattle.gas_pipe_model.specs.Inner.Circle.{joined}
 use Rattle.gas_pipe_members.specs.Feeder.{emptied_row, emptied_from}
@@ -19,7 +19,7 @@ row_same row = sym (fill_by_all (λ x. get_or row x 0) row (length row) 0 refl (
 -- a row that is empty at its solid cells stays as it is
 emptied_row_same : (c : ChannelModel) (y : ℕ) (row : RowModel) → ((x : ℕ) → is_solid c x y ≡ true → get_or row x 0 ≡ 0) → emptied_row c y row ≡ row
 emptied_row_same c y row empty =
-    range-cong (λ x. if is_solid c x y then 0 else get_or row x 0) (λ x. get_or row x 0) (length row) 0 same ∙ row_same row
+    row_of-same 0 (length row) (λ x. if is_solid c x y then 0 else get_or row x 0) (λ x. get_or row x 0) same ∙ row_same row
   where
     same : (x : ℕ) → x < length row → (if is_solid c x y then 0 else get_or row x 0) ≡ get_or row x 0
     same x _ =

@@ -182,11 +182,6 @@ cells-filled width words value each =
     each x ∙ ap (λ t. t && value) is ∙ sym (get_or-replicate width x value false h))
 
 -- ---- lists by the index
-pub map-same : (f g : ℕ → Bool) (n : ℕ) → ((x : ℕ) → x < n → f x ≡ g x) → map f (range_with_len 0 n) ≡ map g (range_with_len 0 n)
-map-same f g n same =
-    fill_by_all g (map f (range_with_len 0 n)) n false (length-map-range_with_len f 0 n)
-    (λ x h. get_or-map-range_with_len f 0 n x x false h (omega arith) ∙ same x h)
-
 pub replicate-map : (f : ℕ → Bool) (n : ℕ) (value : Bool) → ((x : ℕ) → f x ≡ value) → replicate n value ≡ map f (range_with_len 0 n)
 replicate-map f n value same =
     fill_by_all f (replicate n value) n false (length-replicate n value) (λ x h. get_or-replicate n x value false h ∙ sym (same x))

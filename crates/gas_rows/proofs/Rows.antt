@@ -4,8 +4,7 @@ use mathlib.Core.Bool.{and-false}
 use Rattle.std.proofs.lemmas.Bool.{cases_eq, cases_lt}
 use Rattle.std.proofs.lemmas.Bool.Decides.{nat_tests}
 use Rattle.std.proofs.lemmas.List.{get_or_past, length-set}
-use Rattle.std.proofs.lemmas.List.FromFn.{get_or-map-range_with_len, length-map-range_with_len}
-use Rattle.std.proofs.lemmas.Grind.{same_number_lists}
+use Rattle.std.proofs.lemmas.List.FromFn.{fill_by_all, get_or-map-range_with_len, length-map-range_with_len}
 use Rattle.gas_geom.specs.Gas.{holds}
 use Rattle.gas_geom.specs.Lattice.{row_of}
 use Rattle.gas_geom.specs.Planes.{set_at}
@@ -29,11 +28,10 @@ either true a b p q = p
 either false a b p q = q
 
 -- rows of equal cells
-pub row_of-same : (n : ℕ) (f g : ℕ → ℕ) → ((x : ℕ) → x < n → f x ≡ g x) → row_of n f ≡ row_of n g
-row_of-same n f g each =
-    same_number_lists _ _ (length-map-range_with_len f 0 n ∙ sym (length-map-range_with_len g 0 n)) (λ k h.
-    let lt : k < n = omega (arith, length-map-range_with_len f 0 n) in
-    get_or-map-range_with_len f 0 n k k 0 lt (omega arith) ∙ each k lt ∙ sym (get_or-map-range_with_len g 0 n k k 0 lt (omega arith)))
+pub row_of-same : {A : Type 0} (d : A) (n : ℕ) (f g : ℕ → A) → ((x : ℕ) → x < n → f x ≡ g x) → row_of n f ≡ row_of n g
+row_of-same d n f g each =
+    fill_by_all g (row_of n f) n d (length-map-range_with_len f 0 n)
+    (λ x h. get_or-map-range_with_len f 0 n x x d h (omega arith) ∙ each x h)
 
 module _ (d width : ℕ) (words row : List ℕ) (inside : ArePlanes d width words) (view : cells_of d width words ≡ row) where
   pub wide : length row ≡ width

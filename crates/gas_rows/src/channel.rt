@@ -119,8 +119,7 @@ impl Channel {
         requires row { y < self.old.height }
         ensures written { self.new ≡ with_solid self.old x y }
     {
-        let mask = &mut self.masks[y as usize];
-        mask.set(x, true);
+        self.masks[y as usize].set(x, true);
     }
 
     /// Sets which cells of row `y` are solid, a value for each column.
@@ -130,8 +129,7 @@ impl Channel {
         ensures written { self.new
             ≡ record self.old { solid = slice_set self.old.solid y solid.now } }
     {
-        let mask = &mut self.masks[y as usize];
-        mask.copy_from(solid);
+        self.masks[y as usize].copy_from(solid);
     }
 
     /// Returns the number of solid cells.

@@ -115,8 +115,7 @@ impl<G: Gas> Lattice<G> {
         requires state { state < 2 ^ G.rules.dirs }
         ensures written { self.new ≡ record self.old { rows = with_cell self.old.rows x y state } }
     {
-        let row = &mut self.rows[y as usize];
-        row.set(x, state);
+        self.rows[y as usize].set(x, state);
     }
 
     /// Makes the cell in column `x` of row `y` solid and empty.
@@ -130,8 +129,7 @@ impl<G: Gas> Lattice<G> {
             } }
     {
         self.channel.make_solid(x, y);
-        let row = &mut self.rows[y as usize];
-        row.set(x, 0);
+        self.rows[y as usize].set(x, 0);
     }
 
     /// Sets which cells of row `y` are solid, and the states of all its cells, 0 at the solid ones.
@@ -149,8 +147,7 @@ impl<G: Gas> Lattice<G> {
         } }
     {
         self.channel.set_row(y, solid);
-        let row = &mut self.rows[y as usize];
-        row.copy_from(states);
+        self.rows[y as usize].copy_from(states);
     }
 
     /// Sets the states of the fluid cells of row `y`. The solid ones stay empty.

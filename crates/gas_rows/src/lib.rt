@@ -3,7 +3,6 @@
 
 pub mod channel;
 pub mod chirality;
-pub mod collide;
 mod collision;
 mod directions;
 pub mod key;

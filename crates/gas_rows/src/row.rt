@@ -3,7 +3,7 @@ ghost use Rattle.std.specs.Prelude.{◌≡◌, ◌≢◌, ◌⊎◌, ◌+◌, �
 ghost use Rattle.std.specs.List.{range_with_len};
 ghost use Rattle.gas_geom.specs.Moves.{Move, amount};
 ghost use Rattle.gas_geom.specs.Gas.{holds, particles};
-ghost use Rattle.gas_geom.specs.Lattice.{row_of};
+ghost use Rattle.gas_geom.specs.Lattice.{row_of, collided_set};
 ghost use Rattle.gas_bits.specs.Shift.{streamed_cell};
 ghost use Rattle.gas_bits.specs.Words.{words_in, bit};
 ghost use Rattle.gas_rows.specs.Planes.{AreWordsOf, cells_of};
@@ -125,7 +125,7 @@ impl<G: Gas> Row<G> {
         ensures count { result
             ≡ count_by (λ x. holds (slice_index self.now x) i) (range_with_len from (to - from)) }
     {
-        count_in(self.plane(i), from, to)
+        count_in(self.plane_of_width(i, self.width()), from, to)
     }
 
     /// Returns all words: those of direction 0, from the first cell on, then those of direction 1,
@@ -169,16 +169,7 @@ impl<G: Gas> Row<G> {
     }
 
     /// Returns the words of direction `i`: bit `b` of word `j` is 1 if cell `64 * j + b` holds it.
-    /// Bits past the width are 0.
-    pub fn plane(&self, i: u32) -> &[u64]
-        requires direction { i < G.rules.dirs }
-        ensures long { length result.now ≡ words_in (length self.now) }
-        ensures bits { (x : ℕ) → bit result.now x ≡ holds (slice_index self.now x) i }
-    {
-        self.plane_of_width(i, self.width)
-    }
-
-    /// Returns the words of direction `i` of a row whose width the caller has at hand.
+    /// Bits past the width are 0. The caller has the row's width at hand.
     #[inline(always)]
     pub fn plane_of_width(&self, i: u32, width: u32) -> &[u64]
         requires direction { i < G.rules.dirs }
@@ -245,25 +236,6 @@ impl<G: Gas> Row<G> {
         }
     }
 
-    /// Collides each fluid cell by the gas's table with its random bit, and empties the solid
-    /// cells. If `all_fluid`, no cell is solid.
-    pub(crate) fn collide(&mut self, all_fluid: bool, solid: &[u64], chi: &[u64])
-        requires fluid { IsTrue all_fluid → (x : ℕ) → bit solid.now x ≡ false }
-        requires solid { length solid.now ≡ words_in (length self.old) }
-        requires chi { length chi.now ≡ words_in (length self.old) }
-        ensures { self.new ≡ row_of (length self.old) (λ x.
-            if bit solid.now x then 0
-            else G.rules.collide (slice_index self.old x) (bit chi.now x)) }
-    {
-        let collision = Collision {
-            words_each: words_for(self.width),
-            solid,
-            chi,
-            all_fluid,
-        };
-        collide::<G>(&mut self.words, &collision);
-    }
-
     /// Streams direction `i` into this row. `along` is -1, 0 or 1: the particles come from the west,
     /// from this column, or from the east.
     #[inline(always)]
@@ -279,4 +251,23 @@ impl<G: Gas> Row<G> {
     {
         stream_direction(&mut self.words, i as usize, along, incoming);
     }
+}
+
+/// Collides each fluid cell of a row by the gas's table with its random bit, and empties the solid
+/// cells. The row and the masks have the same width.
+pub fn collide_row<G: Gas>(row: &mut Row<G>, solid: &Mask, chi: &Mask)
+    requires solid_wide { length solid.now ≡ length row.old }
+    requires chi_wide { length chi.now ≡ length row.old }
+    ensures wide { length row.new ≡ length row.old }
+    ensures collided { row.new ≡ row_of (length row.old) (λ x.
+        collided_set G.rules (slice_index_or solid.now x false) (slice_index_or chi.now x false)
+        (slice_index row.old x)) }
+{
+    let collision = Collision {
+        words_each: words_for(row.width),
+        solid: solid.words(),
+        chi: chi.words(),
+        all_fluid: solid.is_blank(),
+    };
+    collide::<G>(&mut row.words, &collision);
 }

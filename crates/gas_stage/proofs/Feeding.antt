@@ -13,8 +13,8 @@ use Rattle.gas_stage.specs.declared.stage.Mode.{Mode}
 use Rattle.gas_stage.specs.declared.stage.Mode.TheVariants.{Closed, HandsOn, Computes}
 use Rattle.gas_stage.specs.Inner.Passes.{open_pass}
 use Rattle.gas_stage.specs.Stage.{StageModel, MayHaveBeenFed, given, owed}
-use Rattle.gas_stage.proofs.Local.{collided_at}
-use Rattle.gas_stage.proofs.Local.{range-cong, cell-push_at, collided_of, collided_of-append, take-next-push, next-all}
+use Rattle.gas_rows.proofs.Rows.{row_of-same}
+use Rattle.gas_stage.proofs.Local.{collided_at, cell-push_at, collided_of, collided_of-append, take-next-push, next-all}
 
 -- a collided row, from its sets, its solid cells and its random bits
 abbrev collided_row : Rules → List Bool → List Bool → List ℕ → List ℕ
@@ -29,9 +29,9 @@ module _ (gas : Rules) (c : ChannelModel) (chi : ℕ → ℕ → Bool) (q : List
       collided_row gas solid bits row ≡ collided_at gas c chi (q ++ row ∷ []) y
   collided_row-push row solid bits y here wide solid_is collides =
       ap (λ n. row_of n (λ x. collided_set gas (get_or solid x false) (get_or bits x false) (get_or row x 0))) wide
-      ∙ range-cong
+      ∙ row_of-same 0 c.width
       (λ x. collided_set gas (get_or solid x false) (get_or bits x false) (get_or row x 0))
-      (λ x. collided_of gas c chi (q ++ row ∷ []) x y) c.width 0
+      (λ x. collided_of gas c chi (q ++ row ∷ []) x y)
       (λ x h.
       let set : get_or row x 0 ≡ cell (q ++ row ∷ []) x y = sym (cell-push_at q row x y here) in
       ap (λ (l : List Bool). collided_set gas (get_or l x false) (get_or bits x false) (get_or row x 0)) solid_is
@@ -41,7 +41,7 @@ module _ (gas : Rules) (c : ChannelModel) (chi : ℕ → ℕ → Bool) (q : List
   -- a row that was fed before stays as it was
   collided_at-push : (row : List ℕ) (y : ℕ) → y < length q → collided_at gas c chi q y ≡ collided_at gas c chi (q ++ row ∷ []) y
   collided_at-push row y h =
-      range-cong (λ x. collided_of gas c chi q x y) (λ x. collided_of gas c chi (q ++ row ∷ []) x y) c.width 0
+      row_of-same 0 c.width (λ x. collided_of gas c chi q x y) (λ x. collided_of gas c chi (q ++ row ∷ []) x y)
       (λ x _. sym (collided_of-append gas c chi q (row ∷ []) x y h))
 
 -- a cell of a collided row

@@ -3,7 +3,7 @@
 use Rattle.std.proofs.Common.{◌≡◌, ℕ, ◌+◌, ◌<◌, ◌≤◌, Bool, if◌then◌else◌, Option, Some, None, List, [], ◌∷◌, ◌++◌, map, take, length, get_or, ap, ◌∙◌, sym, refl, arith}
 use Rattle.std.specs.List.{range_with_len}
 use Rattle.std.proofs.lemmas.List.{get_or_append_left, get_or-append-add}
-use Rattle.std.proofs.lemmas.List.FromFn.{fill_by_all, get_or-map-range_with_len, length-map-range_with_len, take-map-range_with_len, map-range_with_len_more}
+use Rattle.std.proofs.lemmas.List.FromFn.{length-map-range_with_len, take-map-range_with_len, map-range_with_len_more}
 use Rattle.std.proofs.lemmas.Bool.Decides.{nat_tests}
 use Rattle.gas_geom.specs.Gas.{Rules, holds}
 use Rattle.gas_geom.specs.Moves.{Move, Back, Stay, On, row_after}
@@ -12,17 +12,11 @@ use Rattle.gas_geom.specs.Channel.{ChannelModel, is_solid}
 use Rattle.gas_geom.specs.Lattice.{cell, row_of, arriving, collided, streamed, next}
 use Rattle.gas_geom.proofs.Arriving.{arrives_from, behind, sent_back}
 use Rattle.gas_geom.proofs.Holds.{set_of-same}
+use Rattle.gas_rows.proofs.Rows.{row_of-same}
 
 -- row y of the rows q, collided
 abbrev pub collided_at : Rules → ChannelModel → (ℕ → ℕ → Bool) → List (List ℕ) → ℕ → List ℕ
 collided_at gas channel chi q y = row_of channel.width (λ x. collided gas channel chi (cell q) x y)
-
--- lists made by index are equal where their elements are
-pub range-cong : {X : Type 0} (f g : ℕ → X) (n : ℕ) (d : X) → ((k : ℕ) → k < n → f k ≡ g k) →
-    map f (range_with_len 0 n) ≡ map g (range_with_len 0 n)
-range-cong f g n d e =
-    fill_by_all g (map f (range_with_len 0 n)) n d (length-map-range_with_len f 0 n)
-    (λ k h. get_or-map-range_with_len f 0 n k k d h (omega arith) ∙ e k h)
 
 row_after-le : (h y y' : ℕ) (m : Move) → row_after h y m ≡ Some y' → y' ≤ y + 1
 row_after-le h y y' Back there = grind (arith, nat_tests)
@@ -72,7 +66,7 @@ module _ (gas : Rules) (c : ChannelModel) (chi : ℕ → ℕ → Bool) where
   -- a row whose neighbours are all in q does not change with more rows
   next_row-append : (q more : List (List ℕ)) (y : ℕ) → y + 1 < length q → next_row (q ++ more) y ≡ next_row q y
   next_row-append q more y h =
-      range-cong (λ x. streamed gas c (collided_of (q ++ more)) x y) (λ x. streamed gas c (collided_of q) x y) c.width 0
+      row_of-same 0 c.width (λ x. streamed gas c (collided_of (q ++ more)) x y) (λ x. streamed gas c (collided_of q) x y)
       (λ x _. streamed-local gas c (collided_of (q ++ more)) (collided_of q) x y
       (λ x' y' near. collided_of-append q more x' y' (omega arith)))
 
@@ -84,7 +78,7 @@ module _ (gas : Rules) (c : ChannelModel) (chi : ℕ → ℕ → Bool) where
       take n (next gas c chi (q ++ more)) ≡ take n (next gas c chi q)
   take-next-append q more n within h =
       take-next (q ++ more) n h
-      ∙ range-cong (next_row (q ++ more)) (next_row q) n [] (λ y hy. next_row-append q more y (omega arith))
+      ∙ row_of-same [] n (next_row (q ++ more)) (next_row q) (λ y hy. next_row-append q more y (omega arith))
       ∙ sym (take-next q n h)
 
   -- with the row that follows row m of q, the next lattice's row m is known beside those before it

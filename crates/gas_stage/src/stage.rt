@@ -8,7 +8,7 @@ use crate::neighbourhood::Neighbourhood;
 use gas_geom::gas::Gas;
 use gas_rows::channel::Channel;
 use gas_rows::chirality::Chirality;
-use gas_rows::collide::collide_row;
+use gas_rows::row::collide_row;
 use gas_rows::random_bits::RandomBits;
 use gas_rows::row::Row;
 use std::alloc::{AllocError, Global};

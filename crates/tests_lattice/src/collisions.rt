@@ -6,7 +6,7 @@ use gas_geom::fhp_rest::FhpRest;
 use gas_geom::fhp1::Fhp1;
 use gas_geom::gas::Gas;
 use gas_geom::hpp::Hpp;
-use gas_rows::collide::collide_row;
+use gas_rows::row::collide_row;
 use gas_rows::mask::Mask;
 use gas_rows::row::Row;
 use std::alloc::{AllocError, Global};

@@ -12,8 +12,8 @@ invariant_of-self g c =
     let inx : c.args.x < c.self.inside.channel.width = subst (λ (l : LatticeModel). c.args.x < l.channel.width) (sym c.self.view_is) c.requires.column in
     let iny : c.args.y < c.self.inside.channel.height = subst (λ (l : LatticeModel). c.args.y < l.channel.height) (sym c.self.view_is) c.requires.row in
     let there : c.args.y < length rows = omega (arith, c.self.invariant.high) in
-    let row : c.index_mut-row.result.now ≡ get_or rows c.args.y [] =
-    c.index_mut-row.ensures.value ∙ get_or_default rows c.args.y c.index_mut-row.result.now [] there in
+    let row : c.index_mut.result.now ≡ get_or rows c.args.y [] =
+    c.index_mut.ensures.value ∙ get_or_default rows c.args.y c.index_mut.result.now [] there in
     let changed : set rows c.args.y c.set.new.self ≡ with_cell rows c.args.x c.args.y 0 =
     ap (set rows c.args.y) (c.set.ensures.written ∙ ap (λ (r : List ℕ). set r c.args.x 0) row) in
     subst (λ (ch : ChannelModel). IsLattice gas ch (set rows c.args.y c.set.new.self)) (sym c.make_solid.ensures.written)

@@ -8,6 +8,6 @@ pub returns : goal.returns
 returns g c = record {
   count =
       c.count_in.ensures.count
-      ∙ count-same (bit c.plane.result.now) (λ x. holds (get_or c.args.self.now x 0) c.args.i) c.args.from c.args.from (c.args.to - c.args.from)
-      (λ k h. c.plane.ensures.bits (c.args.from + k));
+      ∙ count-same (bit c.plane_of_width.result.now) (λ x. holds (get_or c.args.self.now x 0) c.args.i) c.args.from c.args.from (c.args.to - c.args.from)
+      (λ k h. c.plane_of_width.ensures.bits (c.args.from + k));
 }

@@ -44,7 +44,7 @@ returns-then-not-is_blank-clause-emptied g c =
     new n c.words.result.now c.words.result.now c.words_for-words_each.ensures.value (c.empty_solid.auto.words ∙ ap length c.deref_mut.ensures.value)
     (subst (λ e. Emptied new c.self.inside.words.items n e c.words.result.now) c.directions.ensures.value
     (subst (λ ws. Emptied new ws n c.directions.result c.words.result.now) c.deref_mut.ensures.value c.empty_solid.ensures.emptied))
-    ∙ row_of-same (length c.args.self.now) _ _ (λ x h. ap (λ (s : Bool). if s then 0 else get_or c.args.self.now x 0) (c.words.ensures.bits x))
+    ∙ row_of-same 0 (length c.args.self.now) _ _ (λ x h. ap (λ (s : Bool). if s then 0 else get_or c.args.self.now x 0) (c.words.ensures.bits x))
 
 pub returns-then-not-is_blank-clause-states : goal.returns-then-not-is_blank-clause-states
 returns-then-not-is_blank-clause-states g c x =
