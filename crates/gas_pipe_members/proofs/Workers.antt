@@ -1,9 +1,11 @@
 -- What a worker has done, seen from its two lists.
-use Rattle.std.proofs.Common.{◌≡◌, ℕ, ◌-◌, ◌≤◌, ◌++◌, Option, Some, None, IsSome, List, [], length, drop, ap, ◌∙◌, sym, refl, subst, append_assoc, append-nil, arith}
+use Rattle.std.proofs.Common.{◌≡◌, ℕ, ◌-◌, ◌≤◌, ◌==◌, ◌++◌, Bool, true, false, if◌then◌else◌, Option, Some, None, IsSome, List, [], length, drop, ap, ◌∙◌, sym, refl, subst, append_assoc, append-nil, arith}
 use Rattle.std.proofs.lemmas.List.{take-append-drop}
 use Rattle.std.specs.Option.{option_to_list}
 use Rattle.gas_geom.specs.Gas.{Rules}
 use Rattle.gas_geom.specs.Channel.{ChannelModel}
+use Rattle.gas_geom.specs.Lattice.{next}
+use Rattle.gas_rows.specs.Chirality.{chirality_bit}
 use Rattle.gas_rows.specs.declared.chirality.Chirality.{Chirality}
 use Rattle.gas_stage.specs.Stage.{owed, given}
 use Rattle.gas_rows.specs.Row.{RowModel}
@@ -13,10 +15,14 @@ use Rattle.gas_pipe_members.specs.Worker.{WorkerModel, IsClosed, MayHaveDone, ow
 -- what a stage returned before the flush is the beginning of what it owes
 given_prefix : (gas : Rules) (c : ChannelModel) (h : Chirality) (e : Option ℕ) (q : List RowModel) → IsPrefix (given gas c h e q) (owed gas c h e q)
 given_prefix gas c h None q = ([], append-nil q)
-given_prefix gas c h (Some g) q = (
-  drop (length q - 1) (owed gas c h (Some g) q),
-  take-append-drop (length q - 1) (owed gas c h (Some g) q),
-)
+given_prefix gas c h (Some g) q = by (length q == c.height)
+  where
+    rows : List RowModel
+    rows = next gas c (chirality_bit h c.width g) q
+
+    by : (b : Bool) → IsPrefix (given gas c h (Some g) q) (if b then rows else given gas c h (Some g) q)
+    by true = (drop (length q - 1) rows, take-append-drop (length q - 1) rows)
+    by false = ([], append-nil (given gas c h (Some g) q))
 
 pub done_prefix : (gas : Rules) (w : WorkerModel) (e : Option ℕ) (took gave : List RowModel) → MayHaveDone gas w e took gave → IsPrefix gave (owes gas w e took)
 done_prefix gas w e took gave done = by w.stage.pass refl

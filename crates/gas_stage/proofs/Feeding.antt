@@ -1,7 +1,7 @@
 -- What one more row, and the flush, bring to a stage that computes. The rows that it holds are the last two of those fed,
 -- collided; with the next row they are the rows about the last but one, so streaming gives that row of the next lattice.
-use Rattle.std.proofs.Common.{◌≡◌, ℕ, ◌+◌, ◌-◌, ◌<◌, ◌≤◌, Bool, true, false, if◌then◌else◌, ◌==◌, Option, Some, None, List, [], ◌∷◌, ◌++◌, take, length, get_or, ap, ◌∙◌, sym, refl, subst, arith, eq-eqb, IsSome, unwrap_or}
-use Rattle.std.proofs.lemmas.List.{length_push, take-take}
+use Rattle.std.proofs.Common.{◌≡◌, ℕ, ◌+◌, ◌-◌, ◌<◌, ◌≤◌, Bool, true, false, if◌then◌else◌, ◌==◌, Option, Some, None, List, [], ◌∷◌, ◌++◌, take, length, get_or, ap, ◌∙◌, sym, refl, subst, arith, eq-eqb}
+use Rattle.std.proofs.lemmas.List.{length_push}
 use Rattle.std.proofs.lemmas.List.FromFn.{get_or-map-range_with_len}
 use Rattle.gas_geom.specs.Gas.{Rules}
 use Rattle.gas_geom.specs.Channel.{ChannelModel, is_solid}
@@ -50,18 +50,6 @@ get_or-collided_at : (gas : Rules) (c : ChannelModel) (chi : ℕ → ℕ → Boo
 get_or-collided_at gas c chi q kept x y h e =
     ap (λ (r : List ℕ). get_or r x 0) e
     ∙ get_or-map-range_with_len (λ x'. collided_of gas c chi q x' y) 0 c.width x x 0 h (omega arith)
-
--- what was given is the next lattice but for the last row that was fed
-pub given-take : (gas : Rules) (s : StageModel) (g : ℕ) (q : List (List ℕ)) →
-    given gas s.channel s.chirality (Some g) q ≡ take (length q - 1) (next gas s.channel (chirality_bit s.chirality s.channel.width g) q)
-given-take gas s g q = by (length q == s.channel.height)
-  where
-    rows : List (List ℕ)
-    rows = next gas s.channel (chirality_bit s.chirality s.channel.width g) q
-
-    by : (b : Bool) → take (length q - 1) (if b then rows else take (length q - 1) rows) ≡ take (length q - 1) rows
-    by true = refl
-    by false = take-take (length q - 1) (length q - 1) rows (omega arith)
 
 module _ (gas : Rules) (s : StageModel) (g : ℕ) (q : List (List ℕ)) (fits : MayHaveBeenFed gas s (Some g) q) where
   abbrev c : ChannelModel
@@ -115,12 +103,10 @@ module _ (gas : Rules) (s : StageModel) (g : ℕ) (q : List (List ℕ)) (fits : 
         out ≡ row_of c.width (λ x. streamed gas c at x (s.fed - 1))) →
         given gas c s.chirality (Some g) p ≡ given gas c s.chirality (Some g) q ++ out ∷ []
     gives-next out some room streams =
-        given-take gas s g p
-        ∙ ap (λ n. take n (next gas c chi p)) (let e : length p - 1 ≡ m + 1 = omega (arith, length_push q row, fits.fed) in e)
+        ap (λ n. take n (next gas c chi p)) (let e : length p - 1 ≡ m + 1 = omega (arith, length_push q row, fits.fed) in e)
         ∙ take-next-push gas c chi q row m (omega (arith, fits.fed)) (omega (arith, fits.fed))
         ∙ ap (λ (r : List ℕ). take m (next gas c chi q) ++ r ∷ []) (sym (streams (collided_of gas c chi p) about))
         ∙ ap (λ n. take n (next gas c chi q) ++ out ∷ []) (let e : m ≡ length q - 1 = omega (arith, fits.fed) in e)
-        ∙ sym (ap (λ (l : List (List ℕ)). l ++ out ∷ []) (given-take gas s g q))
       where
         m : ℕ
         m = s.fed - 1
@@ -144,7 +130,6 @@ module _ (gas : Rules) (s : StageModel) (g : ℕ) (q : List (List ℕ)) (fits : 
       ∙ next-all gas c chi q m (omega (arith, whole))
       ∙ ap (λ (r : List ℕ). take m rows ++ r ∷ []) (sym (streams (collided_of gas c chi q) about))
       ∙ ap (λ n. take n rows ++ out ∷ []) (let e : m ≡ length q - 1 = omega (arith, fits.fed) in e)
-      ∙ sym (ap (λ (l : List (List ℕ)). l ++ out ∷ []) (given-take gas s g q))
     where
       rows : List (List ℕ)
       rows = next gas c chi q

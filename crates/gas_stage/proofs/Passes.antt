@@ -115,7 +115,7 @@ some_queued gas old s g all queue n way left =
 pub one_held : (gas : Rules) (old s : StageModel) (g : ℕ) (all queue : List (List ℕ)) →
     IsFed gas old s g all queue → 0 < length all → length queue < length all
 one_held gas old s g all queue fed some =
-    omega (arith, ap length fed.queued, length-take (length all - 1) (owed gas old.channel old.chirality (Some g) all))
+    omega (arith, ap length fed.queued, length-take (length all - 1) (next gas old.channel (chirality_bit old.chirality old.channel.width g) all))
 
 -- what the queue holds after the flush
 pub pass_gives : (gas : Rules) (old s : StageModel) (g : ℕ) (all queue queue' : List (List ℕ)) (gave : Option (List ℕ)) →

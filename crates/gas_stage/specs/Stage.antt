@@ -18,19 +18,19 @@ pub record StageModel : Type 0 where
   pub before_last : List ℕ
   pub last : List ℕ
 
--- What a stage owes for the rows q. In a pass that hands rows on, q itself. In one that computes the step from generation g, rows
--- of the next lattice: all of them if q has all rows, else one fewer than q, because the last row of q lacks the one below it. Rows
--- that have not come count as empty.
+-- What a stage returned for the rows q before the flush. In a pass that hands rows on, q itself. In one that computes the step from
+-- generation g, rows of the next lattice, one fewer than q, because the last row of q lacks the one below it. Rows that have not come
+-- count as empty.
+abbrev pub given : Rules → ChannelModel → Chirality → Option ℕ → List (List ℕ) → List (List ℕ)
+given gas channel chirality None q = q
+given gas channel chirality (Some g) q = take (length q - 1) (next gas channel (chirality_bit chirality channel.width g) q)
+
+-- what it owes for them: the same, but all rows of the next lattice if q has all rows
 abbrev pub owed : Rules → ChannelModel → Chirality → Option ℕ → List (List ℕ) → List (List ℕ)
 owed gas channel chirality None q = q
 owed gas channel chirality (Some g) q =
-    let rows : List (List ℕ) = next gas channel (chirality_bit chirality channel.width g) q in
-    if length q == channel.height then rows else take (length q - 1) rows
-
--- what it returned for them before the flush: a pass that computes keeps the last row back
-abbrev pub given : Rules → ChannelModel → Chirality → Option ℕ → List (List ℕ) → List (List ℕ)
-given gas channel chirality None q = q
-given gas channel chirality (Some g) q = take (length q - 1) (owed gas channel chirality (Some g) q)
+    if length q == channel.height then next gas channel (chirality_bit chirality channel.width g) q
+    else given gas channel chirality (Some g) q
 
 -- of the rows q, a stage that computes the step from generation g holds the last two, collided
 pub record HoldsLast (gas : Rules) (s : StageModel) (g : ℕ) (q : List (List ℕ)) : Type 0 where
