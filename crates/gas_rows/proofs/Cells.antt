@@ -18,6 +18,9 @@ pub length-cells : (d width : ℕ) (words : List ℕ) → length (cells_of d wid
 unfolding cells_of
 length-cells d width words = length-map-range_with_len _ 0 width
 
+-- a row has as many cells as its width says
+pub ruleset rows = length-cells
+
 pub get_or-cells : (d width : ℕ) (words : List ℕ) (x : ℕ) → x < width →
     get_or (cells_of d width words) x 0 ≡ state words (words_in width) d x
 unfolding cells_of

@@ -60,6 +60,9 @@ bit-cells width words mask x =
     (λ (h : width ≤ x). mask.clear x h ∙ sym (get_or_past (cells width words) x false (omega (arith, length-cells width words))))
     (cases_lt x width)
 
+-- a mask has as many cells as its width says
+pub ruleset masks = length-cells
+
 pub width_of : (width : ℕ) (words : List ℕ) (xs : List Bool) → cells width words ≡ xs → length xs ≡ width
 width_of width words xs e = ap length (sym e) ∙ length-cells width words
 

@@ -33,6 +33,7 @@ impl Model for Mask {
     ghost invariant = { λ m. IsMask m.width m.blank m.words.items };
 }
 
+#[tactic(auto, using(crate::proofs::Masks::masks))]
 impl Mask {
     /// Returns a mask of 1 to 65536 cells that is false everywhere.
     pub fn blank(alloc: Global, width: u32) -> Result<Mask, AllocError>

@@ -43,6 +43,7 @@ impl<G: Gas> Model for Row<G> {
     ghost invariant = { λ r. ArePlanes G.rules.dirs r.width r.words.items };
 }
 
+#[tactic(auto, using(crate::proofs::Cells::rows))]
 impl<G: Gas> Row<G> {
     /// Returns a row of 1 to 65536 empty cells.
     pub fn blank(alloc: Global, width: u32) -> Result<Self, AllocError>
@@ -255,6 +256,7 @@ impl<G: Gas> Row<G> {
 
 /// Collides each fluid cell of a row by the gas's table with its random bit, and empties the solid
 /// cells. The row and the masks have the same width.
+#[tactic(auto, using(crate::proofs::Cells::rows))]
 pub fn collide_row<G: Gas>(row: &mut Row<G>, solid: &Mask, chi: &Mask)
     requires solid_wide { length solid.now ≡ length row.old }
     requires chi_wide { length chi.now ≡ length row.old }

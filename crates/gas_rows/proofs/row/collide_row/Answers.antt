@@ -35,11 +35,6 @@ invariant_of-row g c =
     (subst (λ ws. (y : ℕ) → y / 64 < n → state c.collide.new.words n gas.dirs y
     ≡ (if bit c.words.result.now y then 0 else gas.collide (state ws n gas.dirs y) (bit c.words-2.result.now y))) c.deref_mut.ensures.value c.collide.ensures))
 
-pub returns-clause-wide : goal.returns-clause-wide
-returns-clause-wide g c =
-    length-cells g.G.Gas.rules.dirs c.row.inside.width _
-    ∙ sym (wide g.G.Gas.rules.dirs c.row.inside.width c.row.inside.words.items c.args.row.now c.row.invariant c.row.view_is)
-
 pub returns-clause-collided : goal.returns-clause-collided
 returns-clause-collided g c =
     let gas = g.G.Gas.rules in

@@ -7,12 +7,6 @@ use Rattle.gas_rows.proofs.Masks.{width_of, cells-from, IsMask-written, cut-list
 use Rattle.gas_bits.proofs.Words.{bit-all_zero}
 use Rattle.gas_rows.proofs.mask.Mask.copy_from.Goals as goal
 
-pub pack-requires : goal.pack-requires
-pack-requires c = record {
-  long = ap (λ (words : List ℕ). length words) c.deref_mut.ensures.value ∙ c.self.invariant.long
-      ∙ ap words_in (sym (c.requires ∙ width_of c.self.inside.width c.self.inside.words.items c.args.self.now c.self.view_is));
-}
-
 pub invariant_of-self : goal.invariant_of-self
 invariant_of-self c =
     let width = c.self.inside.width in

@@ -6,10 +6,6 @@ use Rattle.gas_rows.proofs.Masks.{width_of, bit-cells}
 use Rattle.gas_bits.proofs.Ones.{count-same}
 use Rattle.gas_rows.proofs.mask.Mask.count_in.Goals as goal
 
-pub count_in-requires-clause-within : goal.count_in-requires-clause-within
-count_in-requires-clause-within c =
-    omega (arith, ap (λ (ws : List ℕ). length ws) c.deref.ensures.value, c.self.invariant.long, width_of c.self.inside.width c.self.inside.words.items c.args.self.now c.self.view_is)
-
 pub returns : goal.returns
 returns c = record {
   count =

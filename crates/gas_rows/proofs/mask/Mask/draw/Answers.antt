@@ -8,13 +8,6 @@ use Rattle.gas_rows.specs.Inner.Mask.{cells, IsMask}
 use Rattle.gas_rows.proofs.Masks.{width_of, IsMask-written, cells-written}
 use Rattle.gas_rows.proofs.mask.Mask.draw.Goals as goal
 
-pub draw-requires-clause-places : goal.draw-requires-clause-places
-draw-requires-clause-places c =
-    let long : length c.deref_mut.result.now ≡ words_in c.self.inside.width =
-    ap (λ (words : List ℕ). length words) c.deref_mut.ensures.value ∙ c.self.invariant.long in
-    let wide : length c.args.self.now ≡ c.self.inside.width = width_of c.self.inside.width c.self.inside.words.items c.args.self.now c.self.view_is in
-    omega (arith, long, wide, c.requires)
-
 pub invariant_of-self : goal.invariant_of-self
 invariant_of-self c =
     let width = c.self.inside.width in

@@ -11,12 +11,6 @@ none true false e = refl
 none false false e = refl
 none b true e = cc
 
-pub fill-requires : goal.fill-requires
-fill-requires c =
-    let long : length c.deref_mut.result.now ≡ words_in c.self.inside.width =
-    ap (λ (words : List ℕ). length words) c.deref_mut.ensures.value ∙ c.self.invariant.long in
-    record { some_cells = c.self.invariant.some_cells; long = long }
-
 pub invariant_of-self : goal.invariant_of-self
 invariant_of-self c =
     let width = c.self.inside.width in

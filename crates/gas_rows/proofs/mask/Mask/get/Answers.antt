@@ -4,10 +4,6 @@ use Rattle.gas_rows.proofs.Masks.{word-within, bit-cells}
 use Rattle.gas_bits.proofs.Words.{read_at, bit-is}
 use Rattle.gas_rows.proofs.mask.Mask.get.Goals as goal
 
-pub index-requires : goal.index-requires
-index-requires c =
-    omega (arith, c.self.inside.words.ok, word-within c.self.inside.width c.self.inside.words.items c.args.self.now c.self.invariant c.self.view_is c.args.x c.requires.within)
-
 pub returns : goal.returns
 returns c = record {
   value =

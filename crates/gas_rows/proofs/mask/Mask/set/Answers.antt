@@ -5,14 +5,6 @@ use Rattle.gas_rows.proofs.Masks.{width_of, word-within, IsMask-set, cells-set}
 use Rattle.gas_bits.proofs.Words.{read_at}
 use Rattle.gas_rows.proofs.mask.Mask.set.Goals as goal
 
-pub index-requires : goal.index-requires
-index-requires c =
-    omega (arith, c.self.inside.words.ok, word-within c.self.inside.width c.self.inside.words.items c.args.self.now c.self.invariant c.self.view_is c.args.x c.requires.within)
-
-pub index_mut-requires : goal.index_mut-requires
-index_mut-requires c =
-    omega (arith, c.self.inside.words.ok, word-within c.self.inside.width c.self.inside.words.items c.args.self.now c.self.invariant c.self.view_is c.args.x c.requires.within)
-
 pub invariant_of-self : goal.invariant_of-self
 invariant_of-self c =
     let width = c.self.inside.width in

@@ -4,10 +4,6 @@ use Rattle.gas_rows.proofs.Masks.{width_of, bit-cells}
 use Rattle.gas_bits.proofs.Words.{read_at, bit-at}
 use Rattle.gas_rows.proofs.mask.Mask.word.Goals as goal
 
-pub index-requires : goal.index-requires
-index-requires c =
-    omega (arith, c.self.inside.words.ok, c.self.invariant.long, width_of c.self.inside.width c.self.inside.words.items c.args.self.now c.self.view_is)
-
 pub returns : goal.returns
 returns c = record {
   bits = λ b h.

@@ -3,11 +3,6 @@ use Rattle.gas_bits.specs.Words.{words_in, bit}
 use Rattle.gas_rows.proofs.Masks.{width_of, bit-cells}
 use Rattle.gas_rows.proofs.mask.Mask.words.Goals as goal
 
-pub returns-clause-long : goal.returns-clause-long
-returns-clause-long c =
-    ap (λ (words : List ℕ). length words) c.deref.ensures.value ∙ c.self.invariant.long
-    ∙ ap words_in (sym (width_of c.self.inside.width c.self.inside.words.items c.args.self.now c.self.view_is))
-
 pub returns-clause-bits : goal.returns-clause-bits
 returns-clause-bits c x =
     ap (λ (words : List ℕ). bit words x) c.deref.ensures.value

@@ -6,11 +6,6 @@ use Rattle.gas_rows.specs.Inner.Planes.{ArePlanes}
 use Rattle.gas_rows.proofs.Rows.{wide, planes-of_states, row-of_states}
 use Rattle.gas_rows.proofs.row.Row.copy_from.Goals as goal
 
-pub load_states-requires-clause-wide : goal.load_states-requires-clause-wide
-load_states-requires-clause-wide g c =
-    ap words_in (c.requires.wide ∙ wide g.G.Gas.rules.dirs c.self.inside.width c.self.inside.words.items c.args.self.now c.self.invariant c.self.view_is)
-    ∙ sym c.words_for-words_each.ensures.value
-
 pub invariant_of-self : goal.invariant_of-self
 invariant_of-self g c =
     let same = with_items_is c.self.inside.words c.load_states.new.words (c.load_states.auto.words ∙ c.deref_mut.ensures.len) in

@@ -7,12 +7,6 @@ use Rattle.gas_rows.proofs.Cells.{length-cells}
 use Rattle.gas_rows.proofs.Rows.{wide, long, words_of, planes-loaded, row-loaded}
 use Rattle.gas_rows.proofs.row.Row.exchange_words.Goals as goal
 
-pub clear_planes_past-requires-clause-long : goal.clear_planes_past-requires-clause-long
-clear_planes_past-requires-clause-long g c =
-    c.deref_mut.ensures.len ∙ ap vec_len c.swap.ensures.x_after ∙ c.requires.long
-    ∙ ap₂ (λ d w. d * words_in w) (sym c.directions.ensures.value)
-    (wide g.G.Gas.rules.dirs c.self.inside.width c.self.inside.words.items c.args.self.now c.self.invariant c.self.view_is)
-
 pub invariant_of-self : goal.invariant_of-self
 invariant_of-self g c =
     let dirs = g.G.Gas.rules.dirs in
@@ -23,17 +17,6 @@ invariant_of-self g c =
     c.directions.ensures.value c.self.invariant.some_cells c.self.invariant.few_cells
     (c.clear_planes_past.auto.words ∙ c.deref_mut.ensures.len ∙ ap vec_len c.swap.ensures.x_after ∙ c.requires.long ∙ ap (λ w. dirs * words_in w) wide)
     c.clear_planes_past.ensures.cleared)
-
-pub returns-clause-wide : goal.returns-clause-wide
-returns-clause-wide g c =
-    length-cells g.G.Gas.rules.dirs c.self.inside.width _
-    ∙ sym (wide g.G.Gas.rules.dirs c.self.inside.width c.self.inside.words.items c.args.self.now c.self.invariant c.self.view_is)
-
-pub returns-clause-long : goal.returns-clause-long
-returns-clause-long g c =
-    ap vec_len c.swap.ensures.y_after ∙ c.self.inside.words.ok.0
-    ∙ long g.G.Gas.rules.dirs c.self.inside.width c.self.inside.words.items c.args.self.now c.self.invariant c.self.view_is
-    ∙ sym c.requires.long
 
 pub returns-clause-cells : goal.returns-clause-cells
 returns-clause-cells g c =

@@ -4,10 +4,6 @@ use Rattle.gas_bits.specs.Planes.{state}
 use Rattle.gas_rows.proofs.Rows.{place, read, read-lt}
 use Rattle.gas_rows.proofs.row.Row.get.Goals as goal
 
-pub read_cell-requires-clause-within : goal.read_cell-requires-clause-within
-read_cell-requires-clause-within g c =
-    omega (arith, c.words_for.ensures.value, place g.G.Gas.rules.dirs c.self.inside.width c.self.inside.words.items c.args.self.now c.self.invariant c.self.view_is c.args.x c.requires.within)
-
 pub returns-clause-value : goal.returns-clause-value
 returns-clause-value g c =
     c.read_cell.ensures.value

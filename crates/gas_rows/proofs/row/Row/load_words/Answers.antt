@@ -7,17 +7,6 @@ use Rattle.gas_rows.proofs.Cells.{length-cells}
 use Rattle.gas_rows.proofs.Rows.{wide, planes-loaded, row-loaded}
 use Rattle.gas_rows.proofs.row.Row.load_words.Goals as goal
 
-pub load_words-requires-clause-long : goal.load_words-requires-clause-long
-load_words-requires-clause-long g c =
-    ap length c.deref_mut.ensures.value ∙ c.self.invariant.long
-    ∙ ap (λ d. d * words_in c.self.inside.width) (sym c.directions.ensures.value)
-
-pub load_words-requires-clause-given : goal.load_words-requires-clause-given
-load_words-requires-clause-given g c =
-    c.requires.long
-    ∙ ap₂ (λ d w. d * words_in w) (sym c.directions.ensures.value)
-    (wide g.G.Gas.rules.dirs c.self.inside.width c.self.inside.words.items c.args.self.now c.self.invariant c.self.view_is)
-
 pub invariant_of-self : goal.invariant_of-self
 invariant_of-self g c =
     let same = with_items_is c.self.inside.words c.load_words.new.words (c.load_words.auto.words ∙ c.deref_mut.ensures.len) in
@@ -25,11 +14,6 @@ invariant_of-self g c =
     (planes-loaded g.G.Gas.rules.dirs c.self.inside.width c.args.words.now c.load_words.new.words c.directions.result
     c.directions.ensures.value c.self.invariant.some_cells c.self.invariant.few_cells
     (c.load_words.auto.words ∙ ap length c.deref_mut.ensures.value ∙ c.self.invariant.long) c.load_words.ensures.loaded)
-
-pub returns-clause-wide : goal.returns-clause-wide
-returns-clause-wide g c =
-    length-cells g.G.Gas.rules.dirs c.self.inside.width _
-    ∙ sym (wide g.G.Gas.rules.dirs c.self.inside.width c.self.inside.words.items c.args.self.now c.self.invariant c.self.view_is)
 
 pub returns-clause-cells : goal.returns-clause-cells
 returns-clause-cells g c =

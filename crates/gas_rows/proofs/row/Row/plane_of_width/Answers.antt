@@ -10,11 +10,6 @@ part_is words ws i n m e same =
     let z : i * n + n - i * n ≡ n = omega arith in
     ap (λ k. take k (drop (i * n) ws)) z ∙ ap₂ (λ k us. take k (drop (i * k) us)) e same
 
-pub words_for-words_each-requires : goal.words_for-words_each-requires
-words_for-words_each-requires g c =
-    let wide = width_of g.G.Gas.rules.dirs c.self.inside.width c.self.inside.words.items c.args.self.now c.self.view_is in
-    record { few_cells = omega (arith, c.requires.wide, wide, c.self.invariant.few_cells) }
-
 pub slice_bounds-result-end : goal.slice_bounds-result-end
 slice_bounds-result-end g c =
     let same = c.requires.wide ∙ width_of g.G.Gas.rules.dirs c.self.inside.width c.self.inside.words.items c.args.self.now c.self.view_is in

@@ -7,10 +7,6 @@ use Rattle.gas_rows.specs.Planes.{cells_of}
 use Rattle.gas_rows.proofs.Rows.{place, planes-written, row-written}
 use Rattle.gas_rows.proofs.row.Row.set.Goals as goal
 
-pub write_cell-requires-clause-within : goal.write_cell-requires-clause-within
-write_cell-requires-clause-within g c =
-    omega (arith, c.words_for-words_each.ensures.value, place g.G.Gas.rules.dirs c.self.inside.width c.self.inside.words.items c.args.self.now c.self.invariant c.self.view_is c.args.x c.requires.within)
-
 pub invariant_of-self : goal.invariant_of-self
 invariant_of-self g c =
     let same = with_items_is c.self.inside.words c.write_cell.new.words (c.write_cell.auto.words ∙ c.deref_mut.ensures.len) in

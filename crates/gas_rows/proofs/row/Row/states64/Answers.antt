@@ -3,13 +3,6 @@ use Rattle.gas_bits.specs.Words.{words_in}
 use Rattle.gas_rows.proofs.Rows.{wide, state-of_planes}
 use Rattle.gas_rows.proofs.row.Row.states64.Goals as goal
 
-pub planes_at-planes-requires-clause-within : goal.planes_at-planes-requires-clause-within
-planes_at-planes-requires-clause-within g c =
-    let there : c.args.j < words_in c.self.inside.width =
-    subst (λ w. c.args.j < words_in w)
-    (wide g.G.Gas.rules.dirs c.self.inside.width c.self.inside.words.items c.args.self.now c.self.invariant c.self.view_is) c.requires.within in
-    omega (arith, c.words_for-words_each.ensures.value)
-
 pub returns : goal.returns
 returns g c = record {
   states = λ b hb.

@@ -3,12 +3,6 @@ use Rattle.gas_rows.specs.Planes.{AreWordsOf, cells_of}
 use Rattle.gas_rows.proofs.Rows.{long, words_of, decoded}
 use Rattle.gas_rows.proofs.row.Row.words.Goals as goal
 
-pub copy_from_slice-requires : goal.copy_from_slice-requires
-copy_from_slice-requires g c =
-    c.requires.long
-    ∙ sym (long g.G.Gas.rules.dirs c.self.inside.width c.self.inside.words.items c.args.self.now c.self.invariant c.self.view_is)
-    ∙ sym (ap length c.deref.ensures.value)
-
 pub returns-clause-words : goal.returns-clause-words
 returns-clause-words g c =
     subst (AreWordsOf g.G.Gas.rules.dirs c.args.self.now) (sym (c.copy_from_slice.ensures.after ∙ c.deref.ensures.value))
