@@ -11,15 +11,12 @@ use Rattle.gas_bits.specs.Planes.{has, state}
 use Rattle.gas_rows.specs.Inner.Planes.{IsClear}
 use Rattle.gas_rows.specs.Planes.{cells_of}
 use Rattle.gas_geom.proofs.Holds.{holds-zero}
-use Rattle.gas_bits.proofs.Cells.{has-blank, holds-state, state-from, state-lt, state-same}
+use Rattle.gas_bits.proofs.Cells.{whole_plane, place_in, has-blank, holds-state, state-from, state-lt, state-same}
 
 -- ---- a row
 pub length-cells : (d width : ℕ) (words : List ℕ) → length (cells_of d width words) ≡ width
 unfolding cells_of
 length-cells d width words = length-map-range_with_len _ 0 width
-
--- a row has as many cells as its width says
-pub ruleset rows = length-cells
 
 pub get_or-cells : (d width : ℕ) (words : List ℕ) (x : ℕ) → x < width →
     get_or (cells_of d width words) x 0 ≡ state words (words_in width) d x
@@ -33,6 +30,9 @@ cells-lt d width words x = elim (cases_lt x width) [
   | inl lt ↦ subst (λ s. s < 2 ^ d) (sym (get_or-cells d width words x lt)) (state-lt words (words_in width) d x)
   | inr le ↦ subst (λ s. s < 2 ^ d) (sym (get_or_past (cells_of d width words) x 0 (omega (arith, length-cells d width words)))) (pow_pos d)
 ]
+
+-- what follows from the width of a row without more
+pub ruleset rows = (length-cells, cells-lt, whole_plane, place_in)
 
 -- a row is known by its cells
 pub cells-from : (d width : ℕ) (words xs : List ℕ) → length xs ≡ width →

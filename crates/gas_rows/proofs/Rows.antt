@@ -40,17 +40,11 @@ module _ (d width : ℕ) (words row : List ℕ) (inside : ArePlanes d width word
   pub long : length words ≡ d * words_in (length row)
   long = inside.long ∙ ap (λ w. d * words_in w) (sym wide)
 
-  pub place : (x : ℕ) → x < length row → x / 64 < words_in width
-  place x h = let e = wide in omega arith
-
   pub read : (x : ℕ) → x < length row → state words (words_in width) d x ≡ get_or row x 0
   read x h = sym (get_or-cells d width words x (let e = wide in omega arith)) ∙ ap (λ r. get_or r x 0) view
 
   pub read-lt : (x : ℕ) → x < length row → get_or row x 0 < 2 ^ d
   read-lt x h = subst (λ s. s < 2 ^ d) (read x h) (state-lt words (words_in width) d x)
-
-  pub decoded : cells_of d (length row) words ≡ row
-  decoded = ap (λ w. cells_of d w words) wide ∙ view
 
   -- direction i of a cell, also of one past the width
   pub held : (i x : ℕ) → i < d → x < 64 * words_in width → has words (words_in width) i x ≡ holds (get_or row x 0) i

@@ -1,10 +1,9 @@
-use Rattle.std.proofs.Common.{◌≡◌, ◌/◌, ◌*◌, ◌<◌, ℕ, Bool, if◌then◌else◌, length, get_or, ap, ap₂, ◌∙◌, sym, subst, arith}
+use Rattle.std.proofs.Common.{◌≡◌, ◌/◌, ◌<◌, ℕ, Bool, if◌then◌else◌, length, get_or, ap, ap₂, ◌∙◌, sym, subst, arith}
 use Rattle.std.proofs.lemmas.List.{with_items_is}
 use Rattle.gas_bits.specs.Words.{words_in, bit}
 use Rattle.gas_bits.specs.Planes.{state}
 use Rattle.gas_rows.specs.Inner.Planes.{ArePlanes}
 use Rattle.gas_rows.specs.Planes.{cells_of}
-use Rattle.gas_rows.proofs.Cells.{length-cells}
 use Rattle.gas_rows.proofs.Rows.{wide, row_of-same}
 use Rattle.gas_rows.proofs.Collisions.{nothing, planes-collided, row-collided}
 use Rattle.gas_rows.proofs.row.collide_row.Goals as goal
@@ -19,10 +18,6 @@ invariant_of-collision g c =
       chi_long = c.words-2.ensures.long ∙ ap words_in c.requires.chi_wide ∙ same;
       fluid = λ all y. c.words.ensures.bits y ∙ c.is_blank.ensures.blank all y;
     }
-
-pub collide-requires : goal.collide-requires
-collide-requires g c =
-    record { long = ap length c.deref_mut.ensures.value ∙ c.row.invariant.long ∙ ap (λ n. g.G.Gas.rules.dirs * n) (sym c.words_for.ensures.value) }
 
 pub invariant_of-row : goal.invariant_of-row
 invariant_of-row g c =

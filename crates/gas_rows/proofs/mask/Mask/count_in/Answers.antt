@@ -1,8 +1,8 @@
-use Rattle.std.proofs.Common.{◌+◌, ◌-◌, List, Bool, ℕ, false, get_or, length, ap, ◌∙◌, arith}
+use Rattle.std.proofs.Common.{◌+◌, ◌-◌, List, Bool, ℕ, false, get_or, ap, ◌∙◌}
 use Rattle.std.specs.Prelude.{count_by}
 use Rattle.std.specs.List.{range_with_len}
 use Rattle.gas_bits.specs.Words.{bit}
-use Rattle.gas_rows.proofs.Masks.{width_of, bit-cells}
+use Rattle.gas_rows.proofs.Masks.{bit-cells}
 use Rattle.gas_bits.proofs.Ones.{count-same}
 use Rattle.gas_rows.proofs.mask.Mask.count_in.Goals as goal
 

@@ -1,4 +1,4 @@
-use Rattle.std.proofs.Common.{◌/◌, ◌%◌, Bool, false, List, get_or, ap, ◌∙◌, sym, arith}
+use Rattle.std.proofs.Common.{◌/◌, ◌%◌, Bool, false, List, get_or, ap, ◌∙◌, sym}
 use Rattle.gas_geom.specs.Gas.{holds}
 use Rattle.gas_rows.proofs.Masks.{word-within, bit-cells}
 use Rattle.gas_bits.proofs.Words.{read_at, bit-is}

@@ -1,6 +1,6 @@
-use Rattle.std.proofs.Common.{ℕ, Bool, false, List, length, get_or, ap, ◌∙◌, sym}
-use Rattle.gas_bits.specs.Words.{words_in, bit}
-use Rattle.gas_rows.proofs.Masks.{width_of, bit-cells}
+use Rattle.std.proofs.Common.{ℕ, Bool, false, List, get_or, ap, ◌∙◌}
+use Rattle.gas_bits.specs.Words.{bit}
+use Rattle.gas_rows.proofs.Masks.{bit-cells}
 use Rattle.gas_rows.proofs.mask.Mask.words.Goals as goal
 
 pub returns-clause-bits : goal.returns-clause-bits

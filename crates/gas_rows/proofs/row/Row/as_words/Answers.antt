@@ -1,14 +1,9 @@
-use Rattle.std.proofs.Common.{◌≡◌, length, sym, subst}
-use Rattle.gas_rows.specs.Planes.{AreWordsOf, cells_of}
-use Rattle.gas_rows.proofs.Rows.{words_of, decoded}
+use Rattle.std.proofs.Common.{sym, subst}
+use Rattle.gas_rows.specs.Planes.{AreWordsOf}
+use Rattle.gas_rows.proofs.Rows.{words_of}
 use Rattle.gas_rows.proofs.row.Row.as_words.Goals as goal
 
 pub returns-clause-words : goal.returns-clause-words
 returns-clause-words g c =
     subst (AreWordsOf g.G.Gas.rules.dirs c.args.self.now) (sym c.deref.ensures.value)
     (words_of g.G.Gas.rules.dirs c.self.inside.width c.self.inside.words.items c.args.self.now c.self.invariant c.self.view_is)
-
-pub returns-clause-cells : goal.returns-clause-cells
-returns-clause-cells g c =
-    subst (λ ws. cells_of g.G.Gas.rules.dirs (length c.args.self.now) ws ≡ c.args.self.now) (sym c.deref.ensures.value)
-    (decoded g.G.Gas.rules.dirs c.self.inside.width c.self.inside.words.items c.args.self.now c.self.invariant c.self.view_is)

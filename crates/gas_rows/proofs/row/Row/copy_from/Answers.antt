@@ -1,6 +1,5 @@
 use Rattle.std.proofs.Common.{length, ap, ◌∙◌, sym, subst}
 use Rattle.std.proofs.lemmas.List.{with_items_is}
-use Rattle.gas_bits.specs.Words.{words_in}
 use Rattle.gas_rows.specs.Planes.{cells_of}
 use Rattle.gas_rows.specs.Inner.Planes.{ArePlanes}
 use Rattle.gas_rows.proofs.Rows.{wide, planes-of_states, row-of_states}

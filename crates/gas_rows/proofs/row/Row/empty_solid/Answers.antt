@@ -1,20 +1,13 @@
-use Rattle.std.proofs.Common.{◌≡◌, ◌/◌, ◌^◌, ◌<◌, ℕ, Bool, false, if◌then◌else◌, List, length, get_or, refl, ap, ◌∙◌, sym, subst}
+use Rattle.std.proofs.Common.{◌≡◌, ◌/◌, ◌<◌, ℕ, Bool, false, if◌then◌else◌, List, length, get_or, refl, ap, ◌∙◌, sym, subst}
 use Rattle.std.proofs.lemmas.List.{with_items_is}
 use Rattle.std.proofs.lemmas.List.FromFn.{fill_by_all}
-use Rattle.gas_bits.specs.Words.{words_in, bit}
+use Rattle.gas_bits.specs.Words.{bit}
 use Rattle.gas_bits.specs.Planes.{state}
 use Rattle.gas_rows.specs.Inner.Planes.{ArePlanes}
 use Rattle.gas_rows.specs.Planes.{cells_of}
-use Rattle.gas_rows.proofs.Cells.{cells-lt}
-use Rattle.gas_rows.proofs.Rows.{wide, row_of-same}
+use Rattle.gas_rows.proofs.Rows.{row_of-same}
 use Rattle.gas_rows.proofs.Collisions.{planes-collided, row-collided}
 use Rattle.gas_rows.proofs.row.Row.empty_solid.Goals as goal
-
-pub empty_solid-requires-clause-solid : goal.empty_solid-requires-clause-solid
-empty_solid-requires-clause-solid g c =
-    c.words.ensures.long
-    ∙ ap words_in (c.requires.wide ∙ wide g.G.Gas.rules.dirs c.self.inside.width c.self.inside.words.items c.args.self.now c.self.invariant c.self.view_is)
-    ∙ sym c.words_for-words_each.ensures.value
 
 Emptied : (new old : List ℕ) (n d : ℕ) (solid : List ℕ) → Type 0
 Emptied new old n d solid = (y : ℕ) → y / 64 < n → state new n d y ≡ (if bit solid y then 0 else state old n d y)
@@ -46,18 +39,7 @@ returns-then-not-is_blank-clause-emptied g c =
     (subst (λ ws. Emptied new ws n c.directions.result c.words.result.now) c.deref_mut.ensures.value c.empty_solid.ensures.emptied))
     ∙ row_of-same 0 (length c.args.self.now) _ _ (λ x h. ap (λ (s : Bool). if s then 0 else get_or c.args.self.now x 0) (c.words.ensures.bits x))
 
-pub returns-then-not-is_blank-clause-states : goal.returns-then-not-is_blank-clause-states
-returns-then-not-is_blank-clause-states g c x =
-    let new = c.empty_solid.new.words in
-    let same = with_items_is c.self.inside.words new (c.empty_solid.auto.words ∙ c.deref_mut.ensures.len) in
-    subst (λ ws. get_or (cells_of g.G.Gas.rules.dirs c.self.inside.width ws) x 0 < 2 ^ g.G.Gas.rules.dirs) (sym same)
-    (cells-lt g.G.Gas.rules.dirs c.self.inside.width new x)
-
 pub returns-else-not-is_blank-clause-emptied : goal.returns-else-not-is_blank-clause-emptied
 returns-else-not-is_blank-clause-emptied g c =
     fill_by_all (λ x. if get_or c.args.solid.now x false then 0 else get_or c.args.self.now x 0) c.args.self.now (length c.args.self.now) 0 refl
     (λ x h. sym (ap (λ (s : Bool). if s then 0 else get_or c.args.self.now x 0) (c.is_blank.ensures.blank c.if-not-is_blank.false x)))
-
-pub returns-else-not-is_blank-clause-states : goal.returns-else-not-is_blank-clause-states
-returns-else-not-is_blank-clause-states g c x =
-    subst (λ row. get_or row x 0 < 2 ^ g.G.Gas.rules.dirs) c.self.view_is (cells-lt g.G.Gas.rules.dirs c.self.inside.width c.self.inside.words.items x)

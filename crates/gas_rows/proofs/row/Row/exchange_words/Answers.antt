@@ -3,8 +3,7 @@ use Rattle.std.proofs.lemmas.List.{with_items_is}
 use Rattle.gas_bits.specs.Words.{words_in}
 use Rattle.gas_rows.specs.Planes.{AreWordsOf, cells_of}
 use Rattle.gas_rows.specs.Inner.Planes.{ArePlanes}
-use Rattle.gas_rows.proofs.Cells.{length-cells}
-use Rattle.gas_rows.proofs.Rows.{wide, long, words_of, planes-loaded, row-loaded}
+use Rattle.gas_rows.proofs.Rows.{wide, words_of, planes-loaded, row-loaded}
 use Rattle.gas_rows.proofs.row.Row.exchange_words.Goals as goal
 
 pub invariant_of-self : goal.invariant_of-self

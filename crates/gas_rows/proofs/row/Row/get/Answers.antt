@@ -1,7 +1,7 @@
-use Rattle.std.proofs.Common.{◌<◌, ◌^◌, ap, ap₂, ◌∙◌, sym, subst, arith}
+use Rattle.std.proofs.Common.{◌<◌, ◌^◌, ap, ap₂, ◌∙◌, sym, subst}
 use Rattle.gas_bits.specs.Words.{words_in}
 use Rattle.gas_bits.specs.Planes.{state}
-use Rattle.gas_rows.proofs.Rows.{place, read, read-lt}
+use Rattle.gas_rows.proofs.Rows.{read, read-lt}
 use Rattle.gas_rows.proofs.row.Row.get.Goals as goal
 
 pub returns-clause-value : goal.returns-clause-value

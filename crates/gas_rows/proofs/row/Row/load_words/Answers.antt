@@ -1,9 +1,7 @@
-use Rattle.std.proofs.Common.{◌*◌, length, ap, ap₂, ◌∙◌, sym, subst}
+use Rattle.std.proofs.Common.{length, ap, ◌∙◌, sym, subst}
 use Rattle.std.proofs.lemmas.List.{with_items_is}
-use Rattle.gas_bits.specs.Words.{words_in}
 use Rattle.gas_rows.specs.Planes.{cells_of}
 use Rattle.gas_rows.specs.Inner.Planes.{ArePlanes}
-use Rattle.gas_rows.proofs.Cells.{length-cells}
 use Rattle.gas_rows.proofs.Rows.{wide, planes-loaded, row-loaded}
 use Rattle.gas_rows.proofs.row.Row.load_words.Goals as goal
 

@@ -1,6 +1,5 @@
 use Rattle.std.proofs.Common.{◌≡◌, ◌+◌, ◌-◌, ◌*◌, ℕ, List, length, take, drop, ap, ap₂, ◌∙◌, arith}
 use Rattle.gas_bits.specs.Words.{words_in, bit}
-use Rattle.gas_bits.proofs.Cells.{whole_plane}
 use Rattle.gas_rows.proofs.Cells.{width_of}
 use Rattle.gas_rows.proofs.Rows.{plane-long, plane-bits}
 use Rattle.gas_rows.proofs.row.Row.plane_of_width.Goals as goal
@@ -9,14 +8,6 @@ part_is : (words ws : List ℕ) (i n m : ℕ) → n ≡ m → ws ≡ words → t
 part_is words ws i n m e same =
     let z : i * n + n - i * n ≡ n = omega arith in
     ap (λ k. take k (drop (i * n) ws)) z ∙ ap₂ (λ k us. take k (drop (i * k) us)) e same
-
-pub slice_bounds-result-end : goal.slice_bounds-result-end
-slice_bounds-result-end g c =
-    let same = c.requires.wide ∙ width_of g.G.Gas.rules.dirs c.self.inside.width c.self.inside.words.items c.args.self.now c.self.view_is in
-    let each = c.words_for-words_each.ensures.value ∙ ap words_in same in
-    let at = ap (λ n. c.args.i * n + n) each in
-    let whole = whole_plane (words_in c.self.inside.width) g.G.Gas.rules.dirs c.args.i c.requires.direction in
-    omega (arith, at, whole, c.self.invariant.long, c.as_slice-words.ensures.len, c.self.inside.words.ok)
 
 pub returns-clause-long : goal.returns-clause-long
 returns-clause-long g c =

@@ -6,15 +6,6 @@ use Rattle.gas_bits.proofs.Words.{read_at}
 use Rattle.gas_rows.proofs.Rows.{wide, held_word}
 use Rattle.gas_rows.proofs.row.Row.plane_word.Goals as goal
 
-pub index-requires : goal.index-requires
-index-requires g c =
-    let width = c.self.inside.width in
-    let w = wide g.G.Gas.rules.dirs width c.self.inside.words.items c.args.self.now c.self.invariant c.self.view_is in
-    let there : c.args.j < words_in width = subst (λ v. c.args.j < words_in v) w c.requires.within in
-    let place = place_in (words_in width) g.G.Gas.rules.dirs c.args.i c.args.j c.requires.direction there in
-    let e = ap (λ n. c.args.i * n + c.args.j) c.words_for.ensures.value in
-    omega (arith, place, e, c.self.invariant.long, c.self.inside.words.ok)
-
 pub returns : goal.returns
 returns g c = record {
   bits = λ b hb.

@@ -1,10 +1,10 @@
-use Rattle.std.proofs.Common.{◌≡◌, ◌/◌, ◌<◌, ◌==◌, ℕ, if◌then◌else◌, length, ap, ◌∙◌, sym, subst, arith}
+use Rattle.std.proofs.Common.{◌≡◌, ◌/◌, ◌<◌, ◌==◌, ℕ, if◌then◌else◌, length, ap, ◌∙◌, sym, subst}
 use Rattle.std.proofs.lemmas.List.{with_items_is}
 use Rattle.gas_geom.specs.Gas.{holds}
 use Rattle.gas_bits.specs.Planes.{has}
 use Rattle.gas_rows.specs.Inner.Planes.{ArePlanes}
 use Rattle.gas_rows.specs.Planes.{cells_of}
-use Rattle.gas_rows.proofs.Rows.{place, planes-written, row-written}
+use Rattle.gas_rows.proofs.Rows.{planes-written, row-written}
 use Rattle.gas_rows.proofs.row.Row.set.Goals as goal
 
 pub invariant_of-self : goal.invariant_of-self

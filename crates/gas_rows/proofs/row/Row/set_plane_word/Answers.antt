@@ -4,25 +4,9 @@ use Rattle.gas_geom.specs.Gas.{holds}
 use Rattle.gas_bits.specs.Words.{words_in}
 use Rattle.gas_rows.specs.Planes.{cells_of}
 use Rattle.gas_rows.specs.Inner.Planes.{ArePlanes}
-use Rattle.gas_bits.proofs.Cells.{place_in}
 use Rattle.gas_rows.proofs.Cells.{length-cells}
 use Rattle.gas_rows.proofs.Rows.{wide, planes-word, word-written, word-others}
 use Rattle.gas_rows.proofs.row.Row.set_plane_word.Goals as goal
-
-pub clear_past_width-requires-clause-within : goal.clear_past_width-requires-clause-within
-clear_past_width-requires-clause-within g c =
-    subst (λ w. c.args.j < words_in w)
-    (wide g.G.Gas.rules.dirs c.self.inside.width c.self.inside.words.items c.args.self.now c.self.invariant c.self.view_is)
-    c.requires.within
-
-pub index_mut-requires : goal.index_mut-requires
-index_mut-requires g c =
-    let width = c.self.inside.width in
-    let wide = wide g.G.Gas.rules.dirs width c.self.inside.words.items c.args.self.now c.self.invariant c.self.view_is in
-    let there : c.args.j < words_in width = subst (λ w. c.args.j < words_in w) wide c.requires.within in
-    let place = place_in (words_in width) g.G.Gas.rules.dirs c.args.i c.args.j c.requires.direction there in
-    let at = ap (λ n. c.args.i * n + c.args.j) c.words_for-words_each.ensures.value in
-    omega (arith, place, at, c.self.invariant.long, c.self.inside.words.ok)
 
 cut_past : (width j b v : ℕ) (was : ℕ → Bool) → holds v b ≡ (ltb (64 * j + b) width && was b) → width ≤ 64 * j + b → holds v b ≡ false
 cut_past width j b v was e h = e ∙ ap (λ t. t && was b) (let t : ltb (64 * j + b) width ≡ false = grind (arith, nat_tests) in t)

@@ -1,21 +1,12 @@
-use Rattle.std.proofs.Common.{◌≡◌, ◌≢◌, ◌≤◌, ◌<◌, ◌+◌, ◌*◌, ◌/◌, ℕ, false, length, subst, sym, ◌∙◌, w32, arith}
+use Rattle.std.proofs.Common.{◌≡◌, ◌≢◌, ◌≤◌, ◌<◌, ◌*◌, ◌/◌, ℕ, false, subst, ◌∙◌, w32}
 use Rattle.std.proofs.lemmas.List.{with_items_is}
 use Rattle.std.proofs.lemmas.Int.{to_z-of_z}
 use Rattle.gas_bits.specs.Words.{words_in}
 use Rattle.gas_bits.specs.Planes.{has}
 use Rattle.gas_bits.specs.Shift.{streamed_cell}
-use Rattle.gas_bits.proofs.Cells.{whole_plane}
 use Rattle.gas_rows.proofs.Cells.{width_of}
 use Rattle.gas_rows.proofs.PlaneWrites.{written}
 use Rattle.gas_rows.proofs.row.Row.stream_plane.Goals as goal
-
-pub stream_direction-requires-clause-within : goal.stream_direction-requires-clause-within
-stream_direction-requires-clause-within g c =
-    let width : ℕ = c.self.inside.width in
-    let same = c.requires.wide ∙ width_of g.G.Gas.rules.dirs width c.self.inside.words.items c.args.self.now c.self.view_is in
-    let whole = whole_plane (words_in width) g.G.Gas.rules.dirs c.args.i c.requires.direction in
-    subst (λ (w : ℕ). c.args.i * words_in w + words_in w ≤ length c.deref_mut.result.now) (sym same)
-    (omega (arith, whole, c.self.invariant.long, c.deref_mut.ensures.len, c.self.inside.words.ok))
 
 pub invariant_of-self : goal.invariant_of-self
 invariant_of-self g c =
