@@ -21,6 +21,7 @@ pub struct Cell {
 }
 
 // Returns the value of a lower-case hexadecimal digit, or 16 for any other character.
+#[tactic(auto, using(crate::proofs::Digits::digits))]
 fn digit(byte: u8) -> u8
     ensures { result ≡ unwrap_or (digit_of byte) 16 }
 {
@@ -39,6 +40,7 @@ fn is_marked(mark: u8, first: u8, second: u8) -> bool
 }
 
 // Returns whether two characters are the digits of a state below `states`.
+#[tactic(auto, using(crate::proofs::Digits::digits))]
 fn is_state(first: u8, second: u8, states: u16) -> bool
     ensures { result ≡ is_some (state_of states (digit_of first) (digit_of second)) }
 {
@@ -49,6 +51,7 @@ fn is_state(first: u8, second: u8, states: u16) -> bool
 
 // Returns whether two characters are a cell. It has no branch (`&`, `|`), so that the loop over
 // cells vectorises.
+#[tactic(auto, unfolding(crate::specs::Reading::cell_of))]
 fn is_cell(first: u8, second: u8, states: u16) -> bool
     ensures { result ≡ is_some (cell_of states first second) }
 {
@@ -58,6 +61,7 @@ fn is_cell(first: u8, second: u8, states: u16) -> bool
 }
 
 // Returns the number of two digits. Any other character counts as 0.
+#[tactic(auto, using(crate::proofs::Digits::digits))]
 fn two_digits(first: u8, second: u8) -> u8
     ensures { result ≡ unwrap_or (digit_of first) 0 * 16 + unwrap_or (digit_of second) 0 }
 {
@@ -65,6 +69,7 @@ fn two_digits(first: u8, second: u8) -> u8
 }
 
 // Returns the cell of two characters, if they are one.
+#[tactic(auto, using(crate::proofs::Digits::digits), unfolding(crate::specs::Reading::cell_of))]
 fn read(first: u8, second: u8) -> Cell
     ensures { (states : ℕ) → IfSome (cell_of states first second) (λ cell. result ≡ cell) }
 {
