@@ -69,7 +69,6 @@ fn two_digits(first: u8, second: u8) -> u8
 }
 
 // Returns the cell of two characters, if they are one.
-#[tactic(auto, using(crate::proofs::Digits::digits), unfolding(crate::specs::Reading::cell_of))]
 fn read(first: u8, second: u8) -> Cell
     ensures { (states : ℕ) → IfSome (cell_of states first second) (λ cell. result ≡ cell) }
 {
