@@ -1,6 +1,6 @@
 -- What one more row, and the flush, bring to a stage that computes. The rows that it holds are the last two of those fed,
 -- collided; with the next row they are the rows about the last but one, so streaming gives that row of the next lattice.
-use Rattle.std.proofs.Common.{◌≡◌, ℕ, ◌+◌, ◌-◌, ◌<◌, ◌≤◌, Bool, true, false, if◌then◌else◌, ◌==◌, Option, Some, None, List, [], ◌∷◌, ◌++◌, take, length, get_or, ap, ◌∙◌, sym, refl, subst, arith, eq-eqb}
+use Rattle.std.proofs.Common.{◌≡◌, ℕ, ◌+◌, ◌-◌, ◌<◌, ◌≤◌, Bool, false, if◌then◌else◌, Option, Some, None, List, [], ◌∷◌, ◌++◌, take, length, get_or, ap, ◌∙◌, sym, refl, subst, arith, eq-eqb}
 use Rattle.std.proofs.lemmas.List.{length_push}
 use Rattle.std.proofs.lemmas.List.FromFn.{get_or-map-range_with_len}
 use Rattle.gas_geom.specs.Gas.{Rules}
