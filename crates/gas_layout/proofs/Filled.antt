@@ -29,11 +29,6 @@ filling-small gas seed rate w y states wide same x = elim (cases_lt x w) [
   | inr past ↦ subst (λ n. n < 2 ^ gas.dirs) (sym (get_or_past states x 0 (omega (arith, wide, past)))) (pow_pos gas.dirs)
 ]
 
-pub filling-is : (gas : Rules) (n seed rate width x y : ℕ) → n ≡ gas.dirs
-    → set_of n (filled seed rate width x y) ≡ filling gas seed rate width x y
-unfolding filling
-filling-is gas n seed rate width x y same = ap (λ m. set_of m (filled seed rate width x y)) same
-
 none-below : (n : ℕ) (f : ℕ → Bool) → ((i : ℕ) → f i ≡ false) → set_of n f ≡ 0
 none-below zero f none = refl
 none-below (suc n) f none = omega (arith, none-below n f none, ap (λ (b : Bool). if b then 2 ^ n else 0) (none n))

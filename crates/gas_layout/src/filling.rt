@@ -52,6 +52,7 @@ fn add_direction(
 }
 
 // Computes the states of row `y`. `words` is a buffer for a row.
+#[tactic(auto, unfolding(crate::specs::Layout::filling))]
 fn fill_states<G: Gas>(
     states: &mut [u8],
     words: &mut [u32],

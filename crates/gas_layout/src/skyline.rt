@@ -36,8 +36,10 @@ fn extend_ends(depths: &mut [u32], strip: Strip) -> Strip
 {
     let first = strip.start.div_ceil(256);
     let last = first.max(strip.end / 256);
-    extend(depths, strip.with_columns(strip.start, strip.end.min(256 * first)));
-    extend(depths, strip.with_columns(strip.end.min(256 * last), strip.end));
+    let before = strip.end.min(256 * first);
+    let after = strip.end.min(256 * last);
+    extend(depths, strip.with_columns(strip.start, before));
+    extend(depths, strip.with_columns(after, strip.end));
     strip.with_columns(first, last)
 }
 

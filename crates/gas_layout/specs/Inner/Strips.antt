@@ -1,7 +1,7 @@
 -- Inner words: what functions of this crate promise one another. No public contract cites them.
 -- Here: rectangles by their first rows.
 use Rattle.std.specs.Global.{Global}
-use Rattle.std.specs.Prelude.{◌≡◌, ℕ, zero, suc, ◌+◌, ◌*◌, ◌/◌, ◌<◌, ◌≤◌, ◌&&◌, ◌||◌, Bool, false, List, [], All, length, map, Vec, nat_le, nat_lt, nat_abs, slice_index, slice_index_or, ◌+ℤ◌}
+use Rattle.std.specs.Prelude.{◌≡◌, ℕ, zero, suc, ◌+◌, ◌*◌, ◌/◌, ◌≤◌, ◌&&◌, ◌||◌, Bool, false, List, [], All, length, map, Vec, nat_le, nat_lt, nat_abs, slice_index, slice_index_or, ◌+ℤ◌}
 use Rattle.std.specs.List.{list_any}
 use Rattle.gas_geom.specs.declared.size.TheConstants.{MOST_SIDE}
 use Rattle.gas_layout.specs.declared.rectangle.Rectangle.{Rectangle}
