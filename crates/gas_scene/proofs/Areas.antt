@@ -1,5 +1,5 @@
 -- Lemmas about the values of an area, and its lattice step by step.
-use Rattle.std.proofs.Common.{◌≡◌, ℕ, ◌+◌, ◌<◌, Bool, true, false, not, ◌&&◌, List, [], ◌∷◌, ◌++◌, map, length, get_or, take, pos, nat_abs, ap, ap₂, sym, ◌∙◌, refl, arith, if◌then◌else◌}
+use Rattle.std.proofs.Common.{◌≡◌, ℕ, ◌+◌, ◌<◌, Bool, true, false, not, ◌&&◌, List, [], ◌∷◌, ◌++◌, map, length, get_or, take, pos, nat_abs, Some, None, ap, ap₂, sym, ◌∙◌, refl, arith, if◌then◌else◌}
 use Rattle.std.specs.List.{list_all}
 use Rattle.std.specs.Ordering.{int_eq}
 use Rattle.std.proofs.lemmas.Int.{ints}
@@ -16,11 +16,12 @@ use Rattle.gas_layout.specs.declared.rectangle.Rectangle.{Rectangle}
 use Rattle.gas_layout.specs.declared.placement.Placement.{Placement}
 use Rattle.gas_layout.specs.Layout.{between, is_covered, fits, is_index, can_place, drawn, lattice_of, filling, placed}
 use Rattle.gas_layout.proofs.Grids.{value-rows_of}
-use Rattle.gas_scene.specs.declared.scene_table.Area.{Area}
-use Rattle.gas_scene.specs.Table.{AreaModel, rectangle_of, placement_of}
-use Rattle.gas_scene.specs.Refusals.{is_area_in_range}
+use Rattle.gas_scene.specs.declared.error.SceneError.TheVariants.{Range}
+use Rattle.gas_scene.specs.declared.scene_table.SceneTable.{SceneTable}
+use Rattle.gas_scene.specs.Table.{TableModel, rectangle_of, placement_of}
+use Rattle.gas_scene.specs.Refusals.{area_refusal}
 use Rattle.gas_scene.specs.Scene.{area_lattice}
-use Rattle.gas_scene.specs.Inner.Models.{area_model}
+use Rattle.gas_scene.specs.Inner.Models.{table_model}
 use Rattle.gas_scene.specs.Inner.Areas.{solid_in, can_stand}
 
 -- the first k values and one more, as they are read
@@ -38,14 +39,12 @@ pub placed-more : (ps : List Placement) (p : Placement) (x y s : ℕ) → placed
 placed-more [] p x y s = refl
 placed-more (q ∷ ps) p x y s = placed-more ps p x y (if int_eq q.x (pos x) && int_eq q.y (pos y) then nat_abs q.state else s)
 
-pub area_lattice-is : (gas : Rules) (seed rate : ℕ) (a : AreaModel) → rate ≡ nat_abs a.rate
-    → lattice_of (nat_abs a.width) (nat_abs a.height) (λ x y. is_covered a.solid (pos x) (pos y))
-    (λ x y. placed a.particles x y (if is_covered a.solid (pos x) (pos y) then 0 else filling gas seed rate (nat_abs a.width) x y))
-    ≡ area_lattice gas seed a
+pub area_lattice-is : (gas : Rules) (seed rate : ℕ) (t : TableModel) → seed ≡ nat_abs t.seed → rate ≡ nat_abs t.rate
+    → lattice_of (nat_abs t.width) (nat_abs t.height) (λ x y. is_covered t.solid (pos x) (pos y))
+    (λ x y. placed t.particles x y (if is_covered t.solid (pos x) (pos y) then 0 else filling gas seed rate (nat_abs t.width) x y))
+    ≡ area_lattice gas t
 unfolding area_lattice
-area_lattice-is gas seed rate a same =
-    ap (λ n. lattice_of (nat_abs a.width) (nat_abs a.height) (λ x y. is_covered a.solid (pos x) (pos y))
-    (λ x y. placed a.particles x y (if is_covered a.solid (pos x) (pos y) then 0 else filling gas seed n (nat_abs a.width) x y))) same
+area_lattice-is gas seed rate t seeded same = rw (seeded, same) refl
 
 -- whether a placement can stand, by the channel and by its rectangles
 within-drawn : (states w h : ℕ) (rs : List Rectangle) (p : Placement) (b : Bool) → (is_index w p.x && is_index h p.y) ≡ b
@@ -82,16 +81,17 @@ rest_decides true true false rest all = absurd (cc)
 rest_decides true false c rest all = absurd (cc)
 rest_decides false b c rest all = absurd (cc)
 
--- whether an area with a size and a rate in range is in range, by the tests of its check
-pub in_range-tests : (most states : ℕ) (a : Area) (s : SizeModel) (channel : ChannelModel)
+-- the fault of an area with a size and a rate in range, by the tests of its check
+pub area_refusal-tests : (most states : ℕ) (a : SceneTable) (s : SizeModel) (channel : ChannelModel)
     → true ≡ (between (pos 1) (pos most) a.width && (between (pos 1) (pos most) a.height && between (pos 0) (pos 1000) a.rate))
-    → s ≡ record { width = nat_abs a.width; height = nat_abs a.height } → channel ≡ drawn s.width s.height (area_model a).solid
-    → is_area_in_range most states (area_model a) ≡ (list_all (λ v. fits s.width s.height (rectangle_of (view v))) a.solid.now && can_stand states channel a.particles.now)
-in_range-tests most states a s channel size made is =
+    → s ≡ record { width = nat_abs a.width; height = nat_abs a.height } → channel ≡ drawn s.width s.height (table_model a).solid
+    → area_refusal most states (table_model a)
+    ≡ (if list_all (λ v. fits s.width s.height (rectangle_of (view v))) a.solid.now && can_stand states channel a.particles.now then None else Some Range)
+area_refusal-tests most states a s channel size made is =
     let w = nat_abs a.width in
     let h = nat_abs a.height in
-    let rs = (area_model a).solid in
-    rest_decides (between (pos 1) (pos most) a.width) (between (pos 1) (pos most) a.height) (between (pos 0) (pos 1000) a.rate) _ size
+    let rs = (table_model a).solid in
+    ap (λ b. if b then None else Some Range) (rest_decides (between (pos 1) (pos most) a.width) (between (pos 1) (pos most) a.height) (between (pos 0) (pos 1000) a.rate) _ size
     ∙ sym (ap₂ (λ f p. f && p)
     (ap (λ (t : SizeModel). list_all (λ v. fits t.width t.height (rectangle_of (view v))) a.solid.now) made ∙ fits-views w h a.solid.now)
-    (ap (λ k. can_stand states k a.particles.now) (is ∙ ap (λ (t : SizeModel). drawn t.width t.height rs) made) ∙ can_stand-drawn states w h rs a.particles.now))
+    (ap (λ k. can_stand states k a.particles.now) (is ∙ ap (λ (t : SizeModel). drawn t.width t.height rs) made) ∙ can_stand-drawn states w h rs a.particles.now)))

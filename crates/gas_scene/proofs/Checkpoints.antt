@@ -1,9 +1,8 @@
 -- The table of a checkpoint reads as the scene that it was made of.
-use Rattle.std.proofs.Common.{◌≡◌, ℕ, ◌*◌, ◌/◌, ◌%◌, ◌^◌, ◌<◌, ◌≤◌, ◌==◌, Bool, true, false, not, ◌&&◌, cond, List, [], ◌∷◌, map, length, get_or, Some, None, codes, pos, nat_le, nat_lt, ap, ap₂, sym, ◌∙◌, refl, arith, if◌then◌else◌}
+use Rattle.std.proofs.Common.{◌≡◌, ℕ, ◌*◌, ◌/◌, ◌%◌, ◌^◌, ◌<◌, ◌≤◌, ◌==◌, Bool, true, false, not, ◌&&◌, cond, List, [], map, length, get_or, Some, None, pos, nat_le, nat_lt, ap, ap₂, sym, ◌∙◌, refl, arith, if◌then◌else◌}
 use Rattle.std.specs.Prelude.{Ok, Err, is_some, option_map, int_le}
-use Rattle.std.specs.List.{range_with_len, position, list_any}
+use Rattle.std.specs.List.{range_with_len, position}
 use Rattle.std.specs.Option.{option_or, option_map_or, unwrap_or}
-use Rattle.std.specs.Str.{bytes_eq}
 use Rattle.std.proofs.lemmas.Bool.{and_from, and_parts, leb-true}
 use Rattle.std.proofs.lemmas.Bool.Decides.{nat_tests}
 use Rattle.std.proofs.lemmas.Int.{ints}
@@ -20,17 +19,16 @@ use Rattle.gas_cells.specs.Reading.{cell_at, bad_column}
 use Rattle.gas_cells.proofs.Pairs.{length-row_cells}
 use Rattle.gas_cells.proofs.Printed.{cell_at-row_cells, bad_column-row_cells}
 use Rattle.gas_scene.specs.declared.catalog.KnownGas.{KnownGas}
-use Rattle.gas_scene.specs.declared.catalog.KnownGas.TheVariants.{Fhp1}
-use Rattle.gas_scene.specs.Catalog.{rules_of, GasLattice}
-use Rattle.gas_scene.proofs.Names.{gas_named-self}
+use Rattle.gas_scene.specs.declared.catalog.KnownGas.TheVariants.{Fhp1, Hpp, FhpRest}
+use Rattle.gas_scene.specs.Catalog.{rules_of, gas_named, name_and_seed, chirality_named, GasLattice}
 use Rattle.gas_layout.specs.Layout.{between, lattice_of}
 use Rattle.gas_layout.proofs.Grids.{lattice_of-same}
 use Rattle.gas_scene.specs.declared.common_values.TheConstants.{LAST_GENERATION}
 use Rattle.gas_scene.specs.declared.error.SceneError.TheVariants.{Range, RowLength, BadCell}
 use Rattle.gas_scene.specs.Table.{TableModel, table_of}
-use Rattle.gas_scene.specs.Refusals.{gas_of, has_wrong_length, row_length, bad_cell, map_refusal, is_common_in_range, value_refusal, refusal_of}
-use Rattle.gas_scene.specs.Scene.{map_cell, map_lattice, chirality_of, scene_of, table_answer}
-use Rattle.gas_scene.specs.Checkpoint.{name_and_seed, can_be_stated, checkpoint_table}
+use Rattle.gas_scene.specs.Refusals.{gas_of, has_wrong_length, row_length, bad_cell, map_refusal, is_common_in_range, table_refusal, value_refusal}
+use Rattle.gas_scene.specs.Scene.{map_cell, map_lattice, scene_of, table_answer}
+use Rattle.gas_scene.specs.Checkpoint.{can_be_stated, checkpoint_table}
 use Rattle.gas_scene.specs.Inner.Maps.{row_at}
 use Rattle.gas_scene.proofs.Tables.{texts, with_rows, table_of-checkpoint, table_refusal-checkpoint}
 
@@ -48,22 +46,22 @@ rows_of-whole w h rows d high wide =
     (λ y within. fill_by_all (λ x. get_or (get_or rows y []) x d) (get_or rows y []) w d (wide y within) (λ x _. refl))
 
 fit : (w : ℕ) → 1 ≤ w → w ≤ MOST_SIDE
-    → not ((2 * w % 2 == 0) && (nat_le 2 (2 * w) && (nat_le (2 * w) (2 * MOST_SIDE) && (2 * w == 2 * w)))) ≡ false
-fit w some few = grind (arith, nat_tests)
+    → not ((2 * w % 2 == 0) && (between (pos 1) (pos MOST_SIDE) (pos (2 * w / 2)) && (2 * w == 2 * w))) ≡ false
+fit w some few = grind (arith, nat_tests, ints)
 
 few_rows : (n : ℕ) → 1 ≤ n → n ≤ MOST_SIDE → between (pos 1) (pos MOST_SIDE) (pos n) ≡ true
 few_rows n some few = grind (arith, ints)
 
--- each chirality has its name
-is_chirality : (chirality : Chirality) → list_any (bytes_eq (name_and_seed chirality).0) (codes "seeded" ∷ codes "left" ∷ codes "right" ∷ []) ≡ true
-is_chirality (Seeded seed) = refl
-is_chirality Left = refl
-is_chirality Right = refl
+-- each gas and each chirality has its own name
+gas_named-self : (gas : KnownGas) → gas_named (rules_of gas).name ≡ Some gas
+gas_named-self Fhp1 = refl
+gas_named-self Hpp = refl
+gas_named-self FhpRest = refl
 
-chirality_of-name_and_seed : (chirality : Chirality) → chirality_of (name_and_seed chirality).0 (unwrap_or (name_and_seed chirality).1 0) ≡ chirality
-chirality_of-name_and_seed (Seeded seed) = refl
-chirality_of-name_and_seed Left = refl
-chirality_of-name_and_seed Right = refl
+chirality_named-self : (chirality : Chirality) → chirality_named (name_and_seed chirality).0 (unwrap_or (name_and_seed chirality).1 0) ≡ Some chirality
+chirality_named-self (Seeded seed) = refl
+chirality_named-self Left = refl
+chirality_named-self Right = refl
 
 natural : (n : ℕ) → int_le (pos 0) (pos n) ≡ true
 natural n = grind (arith, ints)
@@ -110,7 +108,7 @@ module _ (gas : KnownGas) (l : LatticeModel) (whole : IsLattice (rules_of gas) l
 
   fits : (r : ℕ) → r < l.channel.height → has_wrong_length MOST_SIDE (length (row_at (texts l) 0)) (row_at (texts l) r) ≡ false
   fits r within =
-      ap₂ (λ (n k : ℕ). not ((n % 2 == 0) && (nat_le 2 n && (nat_le n (2 * MOST_SIDE) && (n == k))))) (wide-texts r within) (wide-texts 0 channel.size.some_rows)
+      ap₂ (λ (n k : ℕ). not ((n % 2 == 0) && (between (pos 1) (pos MOST_SIDE) (pos (n / 2)) && (n == k)))) (wide-texts r within) (wide-texts 0 channel.size.some_rows)
       ∙ fit l.channel.width channel.size.some_columns channel.size.few_columns
 
   lengths : row_length MOST_SIDE (texts l) ≡ None
@@ -145,7 +143,7 @@ module _ (gas : KnownGas) (l : LatticeModel) (whole : IsLattice (rules_of gas) l
 
     common : is_common_in_range table ≡ true
     common =
-        and_from _ _ (natural _) (and_from _ _ (few_generations chirality generation is) (and_from _ _ (ap is_some (gas_named-self gas)) (is_chirality chirality)))
+        and_from _ _ (natural _) (and_from _ _ (few_generations chirality generation is) (and_from _ _ (ap is_some (gas_named-self gas)) (ap is_some (chirality_named-self chirality))))
 
     values : value_refusal table ≡ None
     unfolding value_refusal
@@ -154,7 +152,7 @@ module _ (gas : KnownGas) (l : LatticeModel) (whole : IsLattice (rules_of gas) l
         ∙ ap (λ (g : KnownGas). map_refusal MOST_SIDE (2 ^ (rules_of g).dirs) (texts l)) gas_is
         ∙ map_refusal-texts
 
-    refused : refusal_of (checkpoint_table here chirality generation) ≡ None
+    refused : option_or (table_refusal (checkpoint_table here chirality generation)) (value_refusal (table_of (checkpoint_table here chirality generation))) ≡ None
     refused = ap₂ option_or (table_refusal-checkpoint here generation chirality) (ap value_refusal (table_of-checkpoint here generation chirality) ∙ values)
 
     scene : scene_of table ≡ record { lattice = here; chirality = chirality; generation = generation }
@@ -163,7 +161,7 @@ module _ (gas : KnownGas) (l : LatticeModel) (whole : IsLattice (rules_of gas) l
           lattice = record { gas = g; lattice = map_lattice (2 ^ (rules_of g).dirs) (texts l) };
           chirality = c;
           generation = generation;
-        }) gas_is (chirality_of-name_and_seed chirality)
+        }) gas_is (ap (λ o. unwrap_or o Left) (chirality_named-self chirality))
         ∙ ap (λ (m : LatticeModel). record { lattice = record { gas = gas; lattice = m }; chirality = chirality; generation = generation }) map_lattice-texts
 
     pub table_answer-checkpoint : table_answer (checkpoint_table here chirality generation) ≡ Ok (record { lattice = here; chirality = chirality; generation = generation })

@@ -1,6 +1,4 @@
-pub mod Names
 pub mod Lists
-pub mod Refused
 pub mod Firsts
 pub mod Maps
 pub mod Areas

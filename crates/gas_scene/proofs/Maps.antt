@@ -195,13 +195,14 @@ not_false : (b : Bool) → not b ≡ false → b ≡ true
 not_false true e = refl
 not_false false e = sym e
 
-fitting : (most first : ℕ) (row : List ℕ) → has_wrong_length most first row ≡ false → (2 ≤ length row) × ((length row ≤ (2 * most)) × (length row ≡ first))
+fitting : (most first : ℕ) (row : List ℕ) → has_wrong_length most first row ≡ false → (1 ≤ cells_in row) × ((cells_in row ≤ most) × (length row ≡ first))
 fitting most first row held =
     let whole = and_parts (length row % 2 == 0) _ (not_false _ held) in
-    (grind (arith, nat_tests, whole.1), (grind (arith, nat_tests, whole.1), grind (arith, nat_tests, whole.1)))
+    let side = and_parts (between (pos 1) (pos most) (pos (cells_in row))) _ whole.1 in
+    (grind (arith, ints, side.0), (grind (arith, ints, side.0), grind (arith, nat_tests, side.1)))
 
 module _ (most : ℕ) (rows : List (List ℕ)) (few : most ≤ MOST_SIDE) (lengths : row_length most rows ≡ None) where
-  fits : (r : ℕ) → r < length rows → (2 ≤ length (row_at rows r)) × ((length (row_at rows r) ≤ (2 * most)) × (length (row_at rows r) ≡ length (row_at rows 0)))
+  fits : (r : ℕ) → r < length rows → (1 ≤ cells_in (row_at rows r)) × ((cells_in (row_at rows r) ≤ most) × (length (row_at rows r) ≡ length (row_at rows 0)))
   fits r within = fitting most _ (row_at rows r) (none_passes _ rows (mapped_none (λ r. RowLength r) _ lengths) r [] within)
 
   pub AreShort-lengths : length rows ≤ MOST_SIDE → AreShort rows
@@ -224,12 +225,11 @@ module _ (most : ℕ) (rows : List (List ℕ)) (few : most ≤ MOST_SIDE) (lengt
       let some_rows : 1 ≤ length rows = grind (arith, ints, high) in
       let few_rows : length rows ≤ most = grind (arith, ints, high) in
       let first = fits 0 some_rows in
-      let first_long = first.0 in
       let first_short = first.1.0 in
       record {
         some_rows = some_rows;
         few_rows = omega (arith, few_rows, few);
-        some_cells = omega (arith, first_long);
+        some_cells = first.0;
         few_cells = omega (arith, first_short, few);
         wide = λ y within. ap (λ n. n / 2) (fits y within).1.1;
         cells = λ x y in_columns in_rows. no_bad states cells x y in_rows (let same = (fits y in_rows).1.1 in omega (arith, in_columns, same));

@@ -1,11 +1,19 @@
--- The members of a table after an insert.
-use Rattle.std.proofs.Common.{◌≡◌, List, [], ◌∷◌, String, Global, Ordering, Less, Equal, Greater, string_bytes, refl, ◌∙◌}
+-- The keys of a table, and its members after an insert.
+use Rattle.std.proofs.Common.{◌≡◌, ◌&&◌, List, [], ◌∷◌, map, ap, String, Global, Ordering, Less, Equal, Greater, string_bytes, refl, ◌∙◌}
 use Rattle.std.specs.BTreeMap.{insert_entry}
+use Rattle.std.specs.List.{list_all}
 use Rattle.std.specs.Ordering.{match_ordering}
 use Rattle.std.specs.String.{string_cmp}
 use Rattle.toml.specs.View.{view, members_view}
 use Rattle.toml.specs.declared.value.Value.{Value}
+use Rattle.gas_scene.specs.Keys.{are_known}
+use Rattle.gas_scene.specs.Inner.Keys.{is_known}
 use Rattle.gas_scene.specs.Inner.Printing.{insert_member}
+
+pub all_known : (es : List (String Global × Value)) → list_all (λ k. is_known (string_bytes k)) (map (λ e. e.0) es) ≡ are_known (members_view es)
+unfolding is_known
+all_known [] = refl
+all_known (e ∷ es) = ap (λ b. is_known (string_bytes e.0) && b) (all_known es)
 
 match_members : (o : Ordering) (a b c : List (String Global × Value)) → members_view (match_ordering o a b c) ≡ match_ordering o (members_view a) (members_view b) (members_view c)
 match_members Less a b c = refl

@@ -3,20 +3,19 @@ use Rattle.std.proofs.Common.{◌≡◌, ℕ, suc, Bool, true, not, ◌&&◌, �
 use Rattle.std.specs.Prelude.{max}
 use Rattle.std.specs.List.{list_all, range_with_len}
 use Rattle.std.specs.Option.{unwrap_or}
-use Rattle.toml.specs.Data.{Data, string, Members, items_depth, members_depth}
+use Rattle.toml.specs.Data.{Data, string, Members, as_str, items_depth, members_depth}
 use Rattle.toml.specs.View.{items_of}
 use Rattle.gas_geom.specs.Lattice.{LatticeModel}
 use Rattle.gas_rows.specs.declared.chirality.Chirality.{Chirality}
 use Rattle.gas_rows.specs.declared.chirality.Chirality.TheVariants.{Seeded, Left, Right}
 use Rattle.gas_cells.specs.Cells.{row_cells}
-use Rattle.gas_scene.specs.Catalog.{rules_of, GasLattice}
+use Rattle.gas_scene.specs.Catalog.{rules_of, name_and_seed, GasLattice}
 use Rattle.gas_scene.specs.declared.error.SceneError.TheVariants.{WrongType}
 use Rattle.gas_scene.specs.Table.{TableModel, text_of, list_of, table_of}
-use Rattle.gas_scene.specs.Keys.{is_text, is_typed}
+use Rattle.gas_scene.specs.Keys.{has_type, is_typed}
 use Rattle.gas_scene.specs.Refusals.{table_refusal}
-use Rattle.gas_scene.specs.Checkpoint.{name_and_seed, row_values, checkpoint_table}
-use Rattle.gas_scene.specs.Inner.Models.{no_area}
-use Rattle.gas_scene.specs.Inner.Printing.{insert_all}
+use Rattle.gas_scene.specs.Checkpoint.{checkpoint_table}
+use Rattle.gas_scene.specs.Inner.Printing.{row_values, insert_all}
 
 -- the rows of a lattice as texts
 abbrev pub texts : LatticeModel → List (List ℕ)
@@ -26,7 +25,7 @@ texts_read : (f : ℕ → List ℕ) (ys : List ℕ) → map text_of (list_of (it
 texts_read f [] = refl
 texts_read f (y ∷ ys) = ap (λ (ts : List (List ℕ)). f y ∷ ts) (texts_read f ys)
 
-all_texts : (f : ℕ → List ℕ) (ys : List ℕ) → list_all is_text (list_of (items_of (map (λ y. string (f y)) ys))) ≡ true
+all_texts : (f : ℕ → List ℕ) (ys : List ℕ) → list_all (has_type as_str) (list_of (items_of (map (λ y. string (f y)) ys))) ≡ true
 all_texts f [] = refl
 all_texts f (y ∷ ys) = all_texts f ys
 
@@ -58,7 +57,11 @@ with_rows l chirality generation rows = record {
   seed = pos (unwrap_or (name_and_seed chirality).1 0);
   generation = pos generation;
   cells = Some rows;
-  area = no_area;
+  width = pos 0;
+  height = pos 0;
+  rate = pos 0;
+  solid = [];
+  particles = [];
 }
 
 module _ (l : GasLattice) (generation : ℕ) where
@@ -71,7 +74,7 @@ module _ (l : GasLattice) (generation : ℕ) where
   table_of-checkpoint Left = rows_read Left
   table_of-checkpoint Right = rows_read Right
 
-  none_wrong : (if not (list_all is_text (list_of (items_of (row_values l.lattice))) && true) then Some WrongType else None) ≡ None
+  none_wrong : (if not (list_all (has_type as_str) (list_of (items_of (row_values l.lattice))) && true) then Some WrongType else None) ≡ None
   none_wrong = ap (λ (b : Bool). if not (b && true) then Some WrongType else None) (all_texts (row_cells l.lattice.channel l.lattice.rows) (range_with_len 0 l.lattice.channel.height))
 
   pub table_refusal-checkpoint : (chirality : Chirality) → table_refusal (checkpoint_table l chirality generation) ≡ None

@@ -1,19 +1,20 @@
 //! The lattice of an area.
 
-ghost use Rattle.std.specs.Prelude.{◌≡◌, ℕ, ◌^◌, Bool, true, map, IfOk};
+ghost use Rattle.std.specs.Prelude.{◌≡◌, ℕ, ◌^◌, Bool, true, map, nat_abs, IfOk};
 ghost use Rattle.std.specs.List.{list_all};
 ghost use Rattle.toml.specs.View.{view};
 ghost use Rattle.gas_geom.specs.Size.{IsSize};
 ghost use Rattle.gas_layout.specs.Layout.{fits, drawn, lattice_of, placed};
 ghost use Rattle.gas_scene.specs.Table.{rectangle_of, placement_of};
 ghost use Rattle.gas_scene.specs.Scene.{area_lattice};
-ghost use Rattle.gas_scene.specs.Inner.Models.{area_model};
+ghost use Rattle.gas_scene.specs.Inner.Models.{table_model};
 ghost use Rattle.gas_scene.specs.Inner.Areas.{can_stand, IsDrawn};
 
 use crate::any_lattice;
-use crate::catalog::{AnyLattice, KnownGas};
+use crate::catalog::AnyLattice;
+use crate::common_values::CommonValues;
 use crate::error::SceneError;
-use crate::scene_table::Area;
+use crate::scene_table::SceneTable;
 use crate::toml_values::{placement, rectangle};
 use gas_geom::gas::Gas;
 use gas_geom::size::Size;
@@ -24,14 +25,6 @@ use gas_rows::channel::Channel;
 use gas_rows::lattice::Lattice;
 use std::alloc::{AllocError, Global};
 use toml::Value;
-
-/// An area whose values are all in their ranges, its channel with its rectangles, and its rate.
-#[derive(Drop)]
-pub struct DrawnArea<'a> {
-    pub area: Area<'a>,
-    pub channel: Channel,
-    pub rate: u32,
-}
 
 // Returns whether each rectangle has cells, all of them in the area.
 fn are_rectangles(values: &[Value], size: Size) -> bool
@@ -77,41 +70,43 @@ fn place_all<G: Gas>(lattice: &mut Lattice<G>, particles: &[Value])
     }
 }
 
-// Returns the lattice of an area that is drawn.
+// Returns the lattice of an area that is drawn in a channel.
 fn area_lattice<G: Gas>(
     alloc: Global,
-    drawn: DrawnArea,
+    table: &SceneTable,
+    channel: Channel,
     seed: u64,
 ) -> Result<Lattice<G>, AllocError>
-    requires { IsDrawn (2 ^ G.rules.dirs) drawn }
-    ensures { IfOk result (λ l. l ≡ area_lattice G.rules seed (area_model drawn.entry.area)) }
+    requires drawn { IsDrawn (2 ^ G.rules.dirs) table.now channel }
+    requires seed { seed ≡ nat_abs table.now.seed }
+    ensures { IfOk result (λ l. l ≡ area_lattice G.rules (table_model table.now)) }
 {
-    let mut lattice = Lattice::blank(alloc, drawn.channel)?;
-    fill(alloc, &mut lattice, seed, drawn.rate)?;
-    place_all(&mut lattice, drawn.area.particles);
+    let mut lattice = Lattice::blank(alloc, channel)?;
+    fill(alloc, &mut lattice, seed, table.rate as u32)?;
+    place_all(&mut lattice, table.particles);
     Ok(lattice)
 }
 
-impl<'a> Area<'a> {
-    ghost use Rattle.std.specs.Prelude.{◌≡◌, ◌⊎◌, ◌^◌, ◌≤◌, ◌&&◌, true, false, is_some, pos, nat_abs, IfSome, IfOk, IfErr};
+impl SceneTable<'_> {
+    ghost use Rattle.std.specs.Prelude.{◌≡◌, ◌⊎◌, ◌^◌, ◌≤◌, ◌&&◌, Some, None, is_some, pos, nat_abs, IfSome, IfOk, IfErr};
     ghost use Rattle.gas_geom.specs.declared.size.TheConstants.{MOST_SIDE};
     ghost use Rattle.gas_layout.specs.Layout.{between};
     ghost use Rattle.gas_scene.specs.Catalog.{rules_of, gas_lattice};
-    ghost use Rattle.gas_scene.specs.declared.error.SceneError.TheVariants.{Range, Memory};
-    ghost use Rattle.gas_scene.specs.Refusals.{is_area_in_range};
+    ghost use Rattle.gas_scene.specs.declared.error.SceneError.TheVariants.{Memory};
+    ghost use Rattle.gas_scene.specs.Refusals.{area_refusal};
     ghost use Rattle.gas_scene.specs.Scene.{area_lattice};
-    ghost use Rattle.gas_scene.specs.Inner.Models.{area_model};
+    ghost use Rattle.gas_scene.specs.Inner.Models.{table_model};
     ghost use Rattle.gas_scene.specs.Inner.Areas.{IsDrawn};
 
     // Returns the size of the area if its sides and its rate are in their ranges.
-    fn size(self, most: u32) -> Option<Size>
+    fn size(&self, most: u32) -> Option<Size>
         requires { most ≤ MOST_SIDE }
-        ensures within { is_some result ≡ (between (pos 1) (pos most) self.entry.width
-            && (between (pos 1) (pos most) self.entry.height
-            && between (pos 0) (pos 1000) self.entry.rate)) }
+        ensures within { is_some result ≡ (between (pos 1) (pos most) self.now.width
+            && (between (pos 1) (pos most) self.now.height
+            && between (pos 0) (pos 1000) self.now.rate)) }
         ensures made { IfSome result (λ s. s ≡ record {
-          width = nat_abs self.entry.width;
-          height = nat_abs self.entry.height;
+          width = nat_abs self.now.width;
+          height = nat_abs self.now.height;
         }) }
     {
         if !is_between(0, 1000, self.rate) {
@@ -121,15 +116,12 @@ impl<'a> Area<'a> {
     }
 
     // Draws the area, or refuses it if a value is out of its range.
-    fn check(self, alloc: Global, most: u32, states: u16) -> Result<DrawnArea<'a>, SceneError>
+    fn draw_area(&self, alloc: Global, most: u32, states: u16) -> Result<Channel, SceneError>
         requires { most ≤ MOST_SIDE }
         ensures refused { IfErr result (λ e.
-            ((is_area_in_range most states (area_model self.entry) ≡ false) × (e ≡ Range))
-            ⊎ (e ≡ Memory)) }
-        ensures accepted { IfOk result (λ d.
-            is_area_in_range most states (area_model self.entry) ≡ true) }
-        ensures area { IfOk result (λ d. d.area ≡ self.entry) }
-        ensures drawn { IfOk result (λ d. IsDrawn states d) }
+            (area_refusal most states (table_model self.now) ≡ Some e) ⊎ (e ≡ Memory)) }
+        ensures accepted { IfOk result (λ c. area_refusal most states (table_model self.now) ≡ None) }
+        ensures drawn { IfOk result (λ c. IsDrawn states self.now c) }
     {
         let Some(size) = self.size(most) else {
             return Err(SceneError::Range);
@@ -141,34 +133,29 @@ impl<'a> Area<'a> {
         if !are_placements(self.particles, &channel, states) {
             return Err(SceneError::Range);
         }
-        Ok(DrawnArea {
-            area: self,
-            channel,
-            rate: self.rate as u32,
-        })
+        Ok(channel)
     }
 
-    /// Returns the lattice of the area, with sides of at most `most` cells. The error is `Range` if
-    /// a value is out of its range.
-    pub(crate) fn lattice(
-        self,
+    /// Returns the lattice of the area. The error is `Range` if a value is out of its range.
+    pub(crate) fn area_lattice(
+        &self,
         alloc: Global,
-        gas: KnownGas,
-        most: u32,
-        seed: u64,
+        common: CommonValues,
     ) -> Result<AnyLattice, SceneError>
-        requires { most ≤ MOST_SIDE }
+        requires most { common.most_side ≤ MOST_SIDE }
+        requires seed { common.seed ≡ nat_abs self.now.seed }
         ensures refused { IfErr result (λ e.
-            ((is_area_in_range most (2 ^ (rules_of gas).dirs) (area_model self.entry) ≡ false)
-            × (e ≡ Range)) ⊎ (e ≡ Memory)) }
+            (area_refusal common.most_side (2 ^ (rules_of common.gas).dirs) (table_model self.now)
+            ≡ Some e) ⊎ (e ≡ Memory)) }
         ensures accepted { IfOk result (λ l.
-            is_area_in_range most (2 ^ (rules_of gas).dirs) (area_model self.entry) ≡ true) }
+            area_refusal common.most_side (2 ^ (rules_of common.gas).dirs) (table_model self.now)
+            ≡ None) }
         ensures value { IfOk result (λ l. gas_lattice l ≡ record {
-          gas = gas;
-          lattice = area_lattice (rules_of gas) seed (area_model self.entry);
+          gas = common.gas;
+          lattice = area_lattice (rules_of common.gas) (table_model self.now);
         }) }
     {
-        let drawn = self.check(alloc, most, gas.states())?;
-        Ok(any_lattice!(gas, area_lattice(alloc, drawn, seed)?))
+        let channel = self.draw_area(alloc, common.most_side, common.gas.states())?;
+        Ok(any_lattice!(common.gas, area_lattice(alloc, self, channel, common.seed)?))
     }
 }

@@ -7,11 +7,11 @@ ghost use Rattle.toml.specs.Data.{integer};
 ghost use Rattle.toml.specs.Parse.{parse_document};
 ghost use Rattle.toml.specs.View.{view, table_view};
 ghost use Rattle.gas_cells.specs.Cells.{row_cells};
-ghost use Rattle.gas_scene.specs.Catalog.{rules_of, gas_lattice};
+ghost use Rattle.gas_scene.specs.Catalog.{rules_of, name_and_seed, gas_lattice};
 ghost use Rattle.gas_scene.specs.declared.error.SceneError.TheVariants.{Memory, Range};
 ghost use Rattle.gas_scene.specs.Scene.{scene_of_text};
-ghost use Rattle.gas_scene.specs.Checkpoint.{name_and_seed, can_be_stated, row_values, checkpoint_table};
-ghost use Rattle.gas_scene.specs.Inner.Printing.{gas_with, insert_member, insert_seed, insert_all};
+ghost use Rattle.gas_scene.specs.Checkpoint.{can_be_stated, checkpoint_table};
+ghost use Rattle.gas_scene.specs.Inner.Printing.{row_values, gas_with, insert_member, insert_seed, insert_all};
 
 use crate::catalog::AnyLattice;
 use crate::common_values::LAST_GENERATION;

@@ -1,10 +1,8 @@
 //! The values that maps and areas share, in their ranges.
 
-ghost use Rattle.std.specs.Prelude.{◌≡◌, is_some, pos, codes, [], ◌∷◌, IfSome};
-ghost use Rattle.std.specs.List.{list_any};
-ghost use Rattle.std.specs.Str.{bytes_eq};
+ghost use Rattle.std.specs.Prelude.{◌≡◌};
+ghost use Rattle.gas_scene.specs.Catalog.{chirality_named};
 ghost use Rattle.gas_scene.specs.Refusals.{most_side};
-ghost use Rattle.gas_scene.specs.Scene.{chirality_of};
 
 use crate::catalog::KnownGas;
 use crate::scene_table::SceneTable;
@@ -41,29 +39,22 @@ fn most_side(version: i64) -> u32
 
 // Returns the chirality of this name. A seeded one has this seed.
 fn chirality(name: &str, seed: u64) -> Option<Chirality>
-    ensures known { is_some result
-        ≡ list_any (bytes_eq name.now)
-        (codes "seeded" ∷ codes "left" ∷ codes "right" ∷ []) }
-    ensures value { IfSome result (λ c. c ≡ chirality_of name.now seed) }
+    ensures { result ≡ chirality_named name.now seed }
 {
-    if name == "left" {
-        Some(Chirality::Left)
-    } else if name == "right" {
-        Some(Chirality::Right)
-    } else if name == "seeded" {
-        Some(Chirality::Seeded(seed))
-    } else {
-        None
+    match name {
+        "seeded" => Some(Chirality::Seeded(seed)),
+        "left" => Some(Chirality::Left),
+        "right" => Some(Chirality::Right),
+        _ => None,
     }
 }
 
 impl SceneTable<'_> {
-    ghost use Rattle.std.specs.Prelude.{◌≡◌, ◌≤◌, ◌&&◌, Some, is_some, pos, nat_abs, int_le, IfSome};
-    ghost use Rattle.gas_scene.specs.Catalog.{gas_named, rules_of};
+    ghost use Rattle.std.specs.Prelude.{◌≡◌, ◌≤◌, ◌&&◌, is_some, pos, nat_abs, int_le, IfSome};
     ghost use Rattle.gas_layout.specs.Layout.{between};
     ghost use Rattle.gas_scene.specs.declared.common_values.TheConstants.{LAST_GENERATION};
-    ghost use Rattle.gas_scene.specs.Refusals.{is_common_in_range, most_side};
-    ghost use Rattle.gas_scene.specs.Scene.{chirality_of};
+    ghost use Rattle.gas_scene.specs.Refusals.{gas_of, is_common_in_range, most_side};
+    ghost use Rattle.gas_scene.specs.Scene.{scene_of};
     ghost use Rattle.gas_scene.specs.Inner.Models.{table_model};
 
     // Returns whether the numbers are in their ranges.
@@ -80,9 +71,8 @@ impl SceneTable<'_> {
     /// Returns the values that maps and areas share, or None if one is out of its range.
     pub(crate) fn common_values(&self) -> Option<CommonValues>
         ensures within { is_some result ≡ is_common_in_range (table_model self.now) }
-        ensures gas { IfSome result (λ c. gas_named self.now.gas.now ≡ Some c.gas) }
-        ensures chirality { IfSome result (λ c. c.chirality
-            ≡ chirality_of self.now.chirality.now (nat_abs self.now.seed)) }
+        ensures gas { IfSome result (λ c. c.gas ≡ gas_of (table_model self.now)) }
+        ensures chirality { IfSome result (λ c. c.chirality ≡ (scene_of (table_model self.now)).chirality) }
         ensures seed { IfSome result (λ c. c.seed ≡ nat_abs self.now.seed) }
         ensures generation { IfSome result (λ c. c.generation ≡ nat_abs self.now.generation) }
         ensures few { IfSome result (λ c. c.generation ≤ LAST_GENERATION) }

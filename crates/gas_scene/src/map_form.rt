@@ -1,8 +1,7 @@
 //! The lattice of a map.
 
-ghost use Rattle.std.specs.Prelude.{◌≡◌, ◌⊎◌, ℕ, ◌+◌, ◌*◌, ◌/◌, ◌<◌, ◌≤◌, ◌^◌, pos, length, map, is_some, slice_get, IfOk, IfErr, Some, None, IfSome};
+ghost use Rattle.std.specs.Prelude.{◌≡◌, ◌⊎◌, ◌+◌, ◌<◌, ◌≤◌, ◌^◌, pos, length, is_some, IfOk, IfErr, Some, None};
 ghost use Rattle.std.specs.List.{position};
-ghost use Rattle.std.specs.Option.{option_map_or};
 ghost use Rattle.toml.specs.View.{view};
 ghost use Rattle.gas_geom.specs.declared.size.TheConstants.{MOST_SIDE};
 ghost use Rattle.gas_cells.specs.Reading.{bad_column};
@@ -12,6 +11,7 @@ ghost use Rattle.gas_scene.specs.declared.error.SceneError.TheVariants.{Memory};
 ghost use Rattle.gas_scene.specs.Table.{text_of};
 ghost use Rattle.gas_scene.specs.Refusals.{has_wrong_length, row_length, bad_cell, map_refusal};
 ghost use Rattle.gas_scene.specs.Scene.{map_lattice};
+ghost use Rattle.gas_scene.specs.Inner.Models.{texts_of};
 ghost use Rattle.gas_scene.specs.Inner.Maps.{as_result, map_before, map_width, AreShort, IsMap, row_at};
 
 use crate::any_lattice;
@@ -35,16 +35,16 @@ fn row_of(value: &Value) -> &[u8]
 
 fn row(rows: &[Value], r: usize) -> &[u8]
     requires { r < length rows.now }
-    ensures { result.now ≡ row_at (map text_of (map view rows.now)) r }
+    ensures { result.now ≡ row_at (texts_of rows.now) r }
 {
     row_of(&rows[r])
 }
 
-// Returns whether there are 1 to `most` rows.
-fn is_height(most: u32, rows: usize) -> bool
-    ensures { result ≡ between (pos 1) (pos most) (pos rows) }
+// Returns whether a side has 1 to `most` cells.
+fn is_side(most: u32, cells: usize) -> bool
+    ensures { result ≡ between (pos 1) (pos most) (pos cells) }
 {
-    1 <= rows && rows <= most as usize
+    1 <= cells && cells <= most as usize
 }
 
 // Returns whether the length of a row is wrong. The first row has `first` characters.
@@ -52,10 +52,7 @@ fn has_wrong_length(most: u32, first: usize, row: &[u8]) -> bool
     ensures { result ≡ has_wrong_length most first row.now }
 {
     let length = row.len();
-    !(length % CHARACTERS == 0
-        && CHARACTERS <= length
-        && length <= CHARACTERS * most as usize
-        && length == first)
+    !(length % CHARACTERS == 0 && (is_side(most, length / CHARACTERS) && length == first))
 }
 
 fn first_of_wrong_length(most: u32, first: usize, rows: &[Value]) -> Option<usize>
@@ -77,7 +74,7 @@ fn first_bad_row(states: u16, rows: &[Value]) -> Option<usize>
 fn check_lengths(most: u32, rows: &[Value]) -> Result<(), SceneError>
     requires some { 1 ≤ length rows.now }
     requires few { length rows.now ≤ MOST_SIDE }
-    ensures { result ≡ as_result (row_length most (map text_of (map view rows.now))) }
+    ensures { result ≡ as_result (row_length most (texts_of rows.now)) }
 {
     match first_of_wrong_length(most, row(rows, 0).len(), rows) {
         Some(r) => Err(SceneError::RowLength(r as u32)),
@@ -87,8 +84,8 @@ fn check_lengths(most: u32, rows: &[Value]) -> Result<(), SceneError>
 
 // Refuses the first pair of characters that is no cell.
 fn check_cells(states: u16, rows: &[Value]) -> Result<(), SceneError>
-    requires { AreShort (map text_of (map view rows.now)) }
-    ensures { result ≡ as_result (bad_cell states (map text_of (map view rows.now))) }
+    requires { AreShort (texts_of rows.now) }
+    ensures { result ≡ as_result (bad_cell states (texts_of rows.now)) }
 {
     match first_bad_row(states, rows) {
         Some(r) => {
@@ -107,64 +104,40 @@ fn put_row<G: Gas>(
     solid: &mut [bool],
     state_of: &mut [u8],
 )
-    requires map { IsMap (2 ^ G.rules.dirs) (map text_of (map view rows.now)) }
+    requires map { IsMap (2 ^ G.rules.dirs) (texts_of rows.now) }
     requires within { y < length rows.now }
-    requires wide { length solid.old ≡ map_width (map text_of (map view rows.now)) }
-    requires as_wide { length state_of.old ≡ map_width (map text_of (map view rows.now)) }
-    requires before { lattice.old
-        ≡ map_before (2 ^ G.rules.dirs) (map text_of (map view rows.now)) y }
-    ensures { lattice.new
-        ≡ map_before (2 ^ G.rules.dirs) (map text_of (map view rows.now)) (y + 1) }
+    requires wide { length solid.old ≡ map_width (texts_of rows.now) }
+    requires as_wide { length state_of.old ≡ map_width (texts_of rows.now) }
+    requires before { lattice.old ≡ map_before (2 ^ G.rules.dirs) (texts_of rows.now) y }
+    ensures { lattice.new ≡ map_before (2 ^ G.rules.dirs) (texts_of rows.now) (y + 1) }
 {
     let row = row(rows, y as usize);
     read_row(row, solid, state_of);
     lattice.set_row(y, solid, state_of);
 }
 
-// Puts the cells of all rows. `solid` and `state_of` are buffers for a row.
-fn put_rows<G: Gas>(
-    lattice: &mut Lattice<G>,
-    rows: &[Value],
-    solid: &mut [bool],
-    state_of: &mut [u8],
-)
-    requires map { IsMap (2 ^ G.rules.dirs) (map text_of (map view rows.now)) }
-    requires before { lattice.old
-        ≡ map_before (2 ^ G.rules.dirs) (map text_of (map view rows.now)) 0 }
-    requires wide { length solid.old ≡ map_width (map text_of (map view rows.now)) }
-    requires as_wide { length state_of.old ≡ map_width (map text_of (map view rows.now)) }
-    ensures { lattice.new
-        ≡ map_before (2 ^ G.rules.dirs) (map text_of (map view rows.now)) (length rows.now) }
-{
-    for y in 0..rows.len() {
-        put_row(lattice, rows, y as u32, solid, state_of);
-    }
-}
-
 fn map_lattice<G: Gas>(alloc: Global, rows: &[Value]) -> Result<Lattice<G>, AllocError>
-    requires { IsMap (2 ^ G.rules.dirs) (map text_of (map view rows.now)) }
-    ensures { IfOk result (λ l.
-        l ≡ map_lattice (2 ^ G.rules.dirs) (map text_of (map view rows.now))) }
+    requires { IsMap (2 ^ G.rules.dirs) (texts_of rows.now) }
+    ensures { IfOk result (λ l. l ≡ map_lattice (2 ^ G.rules.dirs) (texts_of rows.now)) }
 {
     let width = row(rows, 0).len() / CHARACTERS;
     let size = Size::new(width as u32, rows.len() as u32).unwrap();
     let mut lattice = Lattice::blank(alloc, Channel::free(alloc, size)?)?;
     let mut solid = vec![in alloc; false; width]?;
     let mut state_of = vec![in alloc; 0u8; width]?;
-    put_rows(
-        &mut lattice,
-        rows,
-        solid.as_mut_slice(),
-        state_of.as_mut_slice(),
-    );
+    let solid = solid.as_mut_slice();
+    let state_of = state_of.as_mut_slice();
+    for y in 0..rows.len() {
+        put_row(&mut lattice, rows, y as u32, solid, state_of);
+    }
     Ok(lattice)
 }
 
 fn check(most: u32, states: u16, rows: &[Value]) -> Result<(), SceneError>
     requires { most ≤ MOST_SIDE }
-    ensures { result ≡ as_result (map_refusal most states (map text_of (map view rows.now))) }
+    ensures { result ≡ as_result (map_refusal most states (texts_of rows.now)) }
 {
-    if !is_height(most, rows.len()) {
+    if !is_side(most, rows.len()) {
         return Err(SceneError::Range);
     }
     check_lengths(most, rows)?;
@@ -172,10 +145,10 @@ fn check(most: u32, states: u16, rows: &[Value]) -> Result<(), SceneError>
 }
 
 fn build(alloc: Global, gas: KnownGas, rows: &[Value]) -> Result<AnyLattice, AllocError>
-    requires { IsMap (2 ^ (rules_of gas).dirs) (map text_of (map view rows.now)) }
+    requires { IsMap (2 ^ (rules_of gas).dirs) (texts_of rows.now) }
     ensures { IfOk result (λ l. gas_lattice l ≡ record {
       gas = gas;
-      lattice = map_lattice (2 ^ (rules_of gas).dirs) (map text_of (map view rows.now));
+      lattice = map_lattice (2 ^ (rules_of gas).dirs) (texts_of rows.now);
     }) }
 {
     Ok(any_lattice!(gas, map_lattice(alloc, rows)?))
@@ -190,13 +163,13 @@ pub(crate) fn lattice(
 ) -> Result<AnyLattice, SceneError>
     requires { most ≤ MOST_SIDE }
     ensures refused { IfErr result (λ e.
-        (map_refusal most (2 ^ (rules_of gas).dirs) (map text_of (map view rows.now)) ≡ Some e)
+        (map_refusal most (2 ^ (rules_of gas).dirs) (texts_of rows.now) ≡ Some e)
         ⊎ (e ≡ Memory)) }
     ensures accepted { IfOk result (λ l.
-        map_refusal most (2 ^ (rules_of gas).dirs) (map text_of (map view rows.now)) ≡ None) }
+        map_refusal most (2 ^ (rules_of gas).dirs) (texts_of rows.now) ≡ None) }
     ensures value { IfOk result (λ l. gas_lattice l ≡ record {
       gas = gas;
-      lattice = map_lattice (2 ^ (rules_of gas).dirs) (map text_of (map view rows.now));
+      lattice = map_lattice (2 ^ (rules_of gas).dirs) (texts_of rows.now);
     }) }
 {
     // All cells are checked before the first request for memory, so that no refusal of memory hides

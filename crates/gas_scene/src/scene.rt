@@ -11,7 +11,7 @@ use crate::common_values::CommonValues;
 pub use crate::common_values::LAST_GENERATION;
 use crate::error::SceneError;
 use crate::map_form;
-use crate::scene_table::{Form, SceneTable};
+use crate::scene_table::SceneTable;
 use gas_rows::chirality::Chirality;
 use std::alloc::Global;
 use std::marker::Model;
@@ -71,16 +71,17 @@ impl Scene {
 
 impl SceneTable<'_> {
     ghost use Rattle.std.specs.Prelude.{◌≡◌, ◌⊎◌, true, Some, None, nat_abs, IfOk, IfErr};
-    ghost use Rattle.gas_scene.specs.Catalog.{gas_lattice, gas_named};
+    ghost use Rattle.gas_scene.specs.Catalog.{gas_lattice};
     ghost use Rattle.gas_scene.specs.declared.error.SceneError.TheVariants.{Memory};
     ghost use Rattle.gas_scene.specs.Scene.{scene_of};
-    ghost use Rattle.gas_scene.specs.Refusals.{is_common_in_range, most_side, value_refusal};
+    ghost use Rattle.gas_scene.specs.Refusals.{gas_of, is_common_in_range, most_side, value_refusal};
     ghost use Rattle.gas_scene.specs.Inner.Models.{table_model};
 
     // Returns the lattice of the map or of the area, or the first fault of its values.
+    #[tactic(auto, unfolding(crate::specs::Refusals::value_refusal))]
     fn lattice(&self, alloc: Global, common: CommonValues) -> Result<AnyLattice, SceneError>
         requires common { is_common_in_range (table_model self.now) ≡ true }
-        requires gas { gas_named self.now.gas.now ≡ Some common.gas }
+        requires gas { common.gas ≡ gas_of (table_model self.now) }
         requires seed { common.seed ≡ nat_abs self.now.seed }
         requires most { common.most_side ≡ most_side self.now.version }
         ensures refused { IfErr result (λ e.
@@ -88,13 +89,14 @@ impl SceneTable<'_> {
         ensures accepted { IfOk result (λ l. value_refusal (table_model self.now) ≡ None) }
         ensures value { IfOk result (λ l. gas_lattice l ≡ (scene_of (table_model self.now)).lattice) }
     {
-        match self.form {
-            Form::Map(rows) => map_form::lattice(alloc, common.gas, common.most_side, rows),
-            Form::Area(area) => area.lattice(alloc, common.gas, common.most_side, common.seed),
+        match self.cells {
+            Some(rows) => map_form::lattice(alloc, common.gas, common.most_side, rows),
+            None => self.area_lattice(alloc, common),
         }
     }
 
     // Returns the scene, or the first fault of the values.
+    #[tactic(auto, unfolding(crate::specs::Refusals::value_refusal))]
     fn scene(&self, alloc: Global) -> Result<Scene, SceneError>
         ensures refused { IfErr result (λ e.
             (value_refusal (table_model self.now) ≡ Some e) ⊎ (e ≡ Memory)) }
@@ -146,12 +148,7 @@ pub fn read(alloc: Global, text: &[u8]) -> Result<Scene, SceneError>
 {
     match toml::table_from_slice(alloc, text) {
         Ok(table) => read_table(alloc, &table),
-        Err(error) => {
-            if error.is_memory() {
-                Err(SceneError::Memory)
-            } else {
-                Err(SceneError::Syntax)
-            }
-        }
+        Err(error) if error.is_memory() => Err(SceneError::Memory),
+        Err(_) => Err(SceneError::Syntax),
     }
 }

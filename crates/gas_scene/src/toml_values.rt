@@ -1,36 +1,39 @@
 //! Values read as the types of their keys.
 
-ghost use Rattle.std.specs.Prelude.{◌≡◌, true, [], is_some, map, IfSome};
+ghost use Rattle.std.specs.Prelude.{◌≡◌, true, [], is_some, map, option_map, IfSome};
 ghost use Rattle.std.specs.List.{list_all};
 ghost use Rattle.std.specs.Option.{option_map_or};
-ghost use Rattle.toml.specs.View.{view};
-ghost use Rattle.gas_scene.specs.Table.{text_of, integer_of, elements_of, number, rectangle_of, placement_of};
-ghost use Rattle.gas_scene.specs.Keys.{is_text, is_integer, is_array_of, is_tuple};
-ghost use Rattle.gas_scene.specs.Inner.Values.{data_of};
+ghost use Rattle.toml.specs.Data.{get_member, as_str, as_integer};
+ghost use Rattle.toml.specs.View.{view, table_view};
+ghost use Rattle.gas_scene.specs.Table.{text_of, elements_of, number, rectangle_of, placement_of, value_at};
+ghost use Rattle.gas_scene.specs.Keys.{has_type, is_array_of, is_tuple};
 
+use crate::keys::value_at;
 use gas_layout::placement::Placement;
 use gas_layout::rectangle::Rectangle;
-use toml::Value;
+use toml::{Table, Value};
 
 /// Returns the integer at a key, `otherwise` if the key is absent, or None for another type.
-pub(crate) fn integer(value: Option<&Value>, otherwise: i64) -> Option<i64>
-    ensures typed { is_some result ≡ option_map_or is_integer (data_of value.entry) true }
+pub(crate) fn integer_at(table: &Table, key: &str, otherwise: i64) -> Option<i64>
+    ensures typed { is_some result
+        ≡ option_map_or (has_type as_integer) (get_member key.now (table_view table.now)) true }
     ensures value { IfSome result (λ z.
-        z ≡ option_map_or integer_of (data_of value.entry) otherwise) }
+        z ≡ value_at as_integer key.now otherwise (table_view table.now)) }
 {
-    match value {
+    match value_at(table, key) {
         Some(value) => value.as_integer(),
         None => Some(otherwise),
     }
 }
 
 /// Returns the text at a key, `otherwise` if the key is absent, or None for another type.
-pub(crate) fn text<'a>(value: Option<&'a Value>, otherwise: &'a str) -> Option<&'a str>
-    ensures typed { is_some result ≡ option_map_or is_text (data_of value.entry) true }
+pub(crate) fn text_at<'a>(table: &'a Table, key: &str, otherwise: &'a str) -> Option<&'a str>
+    ensures typed { is_some result
+        ≡ option_map_or (has_type as_str) (get_member key.now (table_view table.now)) true }
     ensures value { IfSome result (λ s.
-        s.now ≡ option_map_or text_of (data_of value.entry) otherwise.now) }
+        s.now ≡ value_at as_str key.now otherwise.now (table_view table.now)) }
 {
-    match value {
+    match value_at(table, key) {
         Some(value) => value.as_str(),
         None => Some(otherwise),
     }
@@ -48,14 +51,14 @@ fn elements(value: &Value) -> &[Value]
 
 // Returns whether each value is a text.
 fn are_texts(values: &[Value]) -> bool
-    ensures { result ≡ list_all (λ v. is_text (view v)) values.now }
+    ensures { result ≡ list_all (λ v. has_type as_str (view v)) values.now }
 {
     values.iter().all(|value| value.is_str())
 }
 
 // Returns whether each value is an integer.
 fn are_integers(values: &[Value]) -> bool
-    ensures { result ≡ list_all (λ v. is_integer (view v)) values.now }
+    ensures { result ≡ list_all (λ v. has_type as_integer (view v)) values.now }
 {
     values.iter().all(|value| value.is_integer())
 }
@@ -65,10 +68,7 @@ fn is_tuple(value: &Value, n: usize) -> bool
     ensures { result ≡ is_tuple n (view value.now) }
 {
     let numbers = elements(value);
-    if !value.is_array() {
-        return false;
-    }
-    numbers.len() == n && are_integers(numbers)
+    numbers.len() == n && (value.is_array() && are_integers(numbers))
 }
 
 // Returns whether each value is an array of `n` integers.
@@ -80,7 +80,7 @@ fn are_tuples(values: &[Value], n: usize) -> bool
 
 // Returns whether the value is an array of texts.
 fn is_array_of_texts(value: &Value) -> bool
-    ensures { result ≡ is_array_of is_text (view value.now) }
+    ensures { result ≡ is_array_of (has_type as_str) (view value.now) }
 {
     value.is_array() && are_texts(elements(value))
 }
@@ -92,27 +92,29 @@ fn is_array_of_tuples(value: &Value, n: usize) -> bool
     value.is_array() && are_tuples(elements(value), n)
 }
 
-/// Returns the elements of an array of texts, or None for another type.
-pub(crate) fn texts(value: &Value) -> Option<&[Value]>
-    ensures typed { is_some result ≡ is_array_of is_text (view value.now) }
-    ensures value { IfSome result (λ vs. map view vs.now ≡ elements_of (view value.now)) }
+/// Returns the elements of the array of texts at a key, if there is one, or None for another type.
+pub(crate) fn texts_at<'a>(table: &'a Table, key: &str) -> Option<Option<&'a [Value]>>
+    ensures typed { is_some result ≡ option_map_or (is_array_of (has_type as_str))
+        (get_member key.now (table_view table.now)) true }
+    ensures value { IfSome result (λ o. option_map (λ vs. map text_of (map view vs.now)) o
+        ≡ option_map (λ d. map text_of (elements_of d)) (get_member key.now (table_view table.now))) }
 {
-    if is_array_of_texts(value) {
-        Some(elements(value))
-    } else {
-        None
+    match value_at(table, key) {
+        Some(value) if is_array_of_texts(value) => Some(Some(elements(value))),
+        Some(_) => None,
+        None => Some(None),
     }
 }
 
-/// Returns the elements of an array of arrays of `n` integers, no element if the key is absent, or
-/// None for another type.
-pub(crate) fn tuples(value: Option<&Value>, n: usize) -> Option<&[Value]>
-    ensures typed { is_some result
-        ≡ option_map_or (is_array_of (is_tuple n)) (data_of value.entry) true }
-    ensures value { IfSome result (λ vs.
-        map view vs.now ≡ option_map_or elements_of (data_of value.entry) []) }
+/// Returns the elements of the array of arrays of `n` integers at a key, no element if the key is
+/// absent, or None for another type.
+pub(crate) fn tuples_at<'a>(table: &'a Table, key: &str, n: usize) -> Option<&'a [Value]>
+    ensures typed { is_some result ≡ option_map_or (is_array_of (is_tuple n))
+        (get_member key.now (table_view table.now)) true }
+    ensures value { IfSome result (λ vs. map view vs.now
+        ≡ option_map_or elements_of (get_member key.now (table_view table.now)) []) }
 {
-    match value {
+    match value_at(table, key) {
         Some(value) if is_array_of_tuples(value, n) => Some(elements(value)),
         Some(_) => None,
         None => Some(&[]),

@@ -1,10 +1,9 @@
 -- Inner words: what functions of this crate promise one another. No public contract cites them.
 -- Here: the results of checks, and how far the lattice of a map is built.
-use Rattle.std.specs.Prelude.{◌≡◌, ℕ, ◌*◌, ◌<◌, ◌≤◌, false, List, [], slice_index_or, Option, IsSome, Result, Ok, Err, length, nat_lt, if◌then◌else◌}
+use Rattle.std.specs.Prelude.{◌≡◌, ℕ, ◌<◌, ◌≤◌, false, List, [], slice_index_or, Option, IsSome, Result, Ok, Err, length, nat_lt, if◌then◌else◌}
 use Rattle.std.specs.Option.{option_map_or}
 use Rattle.gas_geom.specs.Lattice.{LatticeModel}
 use Rattle.gas_geom.specs.declared.size.TheConstants.{MOST_SIDE}
-use Rattle.gas_cells.specs.declared.cells.TheConstants.{CHARACTERS}
 use Rattle.gas_cells.specs.Reading.{cells_in, cell_at}
 use Rattle.gas_layout.specs.Layout.{lattice_of}
 use Rattle.gas_scene.specs.declared.error.SceneError.{SceneError}
@@ -21,7 +20,7 @@ row_at rows r = slice_index_or rows r []
 -- rows that are neither too many nor too long
 pub record AreShort (rows : List (List ℕ)) : Type 0 where
   pub high : length rows ≤ MOST_SIDE
-  pub wide : (r : ℕ) → r < length rows → length (row_at rows r) ≤ (CHARACTERS * MOST_SIDE)
+  pub wide : (r : ℕ) → r < length rows → cells_in (row_at rows r) ≤ MOST_SIDE
 
 -- the first row sets the width
 abbrev pub map_width : List (List ℕ) → ℕ

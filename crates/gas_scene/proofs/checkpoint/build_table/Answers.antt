@@ -2,7 +2,7 @@ use Rattle.std.proofs.Common.{◌≡◌, ◌∙◌, ap, ap₂, pos, map, codes}
 use Rattle.toml.specs.Data.{string, integer, array, Members, no_members}
 use Rattle.toml.specs.View.{view, table_view, members_view, items_of}
 use Rattle.toml.proofs.Views.{view-Integer, view-Array}
-use Rattle.gas_scene.specs.Checkpoint.{name_and_seed}
+use Rattle.gas_scene.specs.Catalog.{name_and_seed}
 use Rattle.gas_scene.specs.Inner.Printing.{insert_member, insert_seed, insert_all}
 use Rattle.gas_scene.proofs.checkpoint.build_table.Goals as goal
 

@@ -1,4 +1,4 @@
-use Rattle.std.proofs.Common.{◌^◌, ◌/◌, map, length, ◌∙◌, ap, sym}
+use Rattle.std.proofs.Common.{◌^◌, ◌/◌, map, length, ◌∙◌, ap, sym, arith}
 use Rattle.toml.specs.View.{view}
 use Rattle.gas_geom.specs.Size.{SizeModel}
 use Rattle.gas_geom.specs.Channel.{free_channel}
@@ -8,8 +8,8 @@ use Rattle.gas_scene.specs.Inner.Maps.{map_width, map_before}
 use Rattle.gas_scene.proofs.Maps.{length-rows, map_before-none, map_before-all}
 use Rattle.gas_scene.proofs.map_form.map_lattice.Goals as goal
 
-pub put_rows-requires-clause-before : goal.put_rows-requires-clause-before
-put_rows-requires-clause-before g c =
+pub loop-y-init : goal.loop-y-init
+loop-y-init g c =
     let states = 2 ^ g.G.Gas.rules.dirs in
     let values = c.args.rows.now in
     let rows = map text_of (map view values) in
@@ -23,4 +23,4 @@ pub returns : goal.returns
 returns g c =
     let states = 2 ^ g.G.Gas.rules.dirs in
     let rows = map text_of (map view c.args.rows.now) in
-    c.put_rows.ensures ∙ ap (map_before states rows) (sym (length-rows c.args.rows.now)) ∙ map_before-all states rows
+    c.loop-y.invariant ∙ ap (map_before states rows) (omega (arith, c.loop-y-test.false, length-rows c.args.rows.now)) ∙ map_before-all states rows

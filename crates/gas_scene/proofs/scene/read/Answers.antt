@@ -9,8 +9,8 @@ returns-in-Ok c =
       answer = subst (ReturnsOrMemory c.read_table.result) (sym (scene_of_text-document c.args.text.now _ c.in-Ok.ensures.ok.0 c.in-Ok.ensures.ok.1)) c.read_table.ensures;
     }
 
-pub returns-else-is_memory : goal.returns-else-is_memory
-returns-else-is_memory c =
+pub returns-in-Err-2 : goal.returns-in-Err-2
+returns-in-Err-2 c =
     record {
       answer = inl (sym (scene_of_text-none c.args.text.now (c.in-Err.ensures.refused (λ m. let bad = c.if-is_memory.ensures.1 m in cc))));
     }

@@ -1,8 +1,16 @@
-use Rattle.std.proofs.Common.{sym, ◌∙◌}
-use Rattle.gas_scene.proofs.Lists.{is_tuple-elements}
+use Rattle.std.proofs.Common.{◌≡◌, ◌==◌, ◌&&◌, true, length, sym, ap, ◌∙◌, eq-eqb}
+use Rattle.std.proofs.lemmas.List.{length-map}
+use Rattle.toml.specs.Data.{as_integer}
+use Rattle.toml.specs.View.{view}
+use Rattle.gas_scene.specs.Table.{elements_of}
+use Rattle.gas_scene.specs.Keys.{has_type, is_array_of}
+use Rattle.gas_scene.proofs.Lists.{is_array_of-elements}
 use Rattle.gas_scene.proofs.toml_values.is_tuple.Goals as goal
 
-pub returns-then-numbers-n : goal.returns-then-numbers-n
-returns-then-numbers-n c =
-    c.are_integers.ensures
-    ∙ is_tuple-elements c.elements-numbers.result.now _ c.args.n (sym c.is_array.ensures ∙ c.if-not-is_array.false) c.if-numbers-n.true c.elements-numbers.ensures
+pub returns-then-is_array : goal.returns-then-is_array
+returns-then-is_array c =
+    let d = view c.args.value.now in
+    let numbers = c.elements-numbers.result.now in
+    let long : (length (elements_of d) == c.args.n) ≡ true = eq-eqb _ _ (ap length (sym c.elements-numbers.ensures) ∙ length-map numbers view ∙ c.if-numbers-n.true) in
+    c.are_integers.ensures ∙ is_array_of-elements (has_type as_integer) numbers d (sym c.is_array.ensures ∙ c.if-is_array.true) c.elements-numbers.ensures
+    ∙ ap (λ b. b && is_array_of (has_type as_integer) d) (sym long)
