@@ -2,7 +2,6 @@ pub mod Lists
 pub mod Firsts
 pub mod Maps
 pub mod Areas
-pub mod Scenes
 pub mod Documents
 pub mod Members
 pub mod Tables

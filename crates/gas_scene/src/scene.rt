@@ -115,6 +115,7 @@ impl SceneTable<'_> {
 }
 
 // Returns the scene of a table, or its first fault.
+#[tactic(auto, unfolding(crate::specs::Scene::table_answer))]
 fn read_table(alloc: Global, table: &Table) -> Result<Scene, SceneError>
     ensures { ReturnsOrMemory result (table_answer (table_view table.now)) }
 {

@@ -73,8 +73,7 @@ fn has_area(table: &Table) -> bool
 fn is_complete(table: &Table) -> bool
     ensures { result ≡ (has (codes "gas") (table_view table.now)
         && (has (codes "cells") (table_view table.now)
-        || (has (codes "width") (table_view table.now)
-        && has (codes "height") (table_view table.now)))) }
+        || (has (codes "width") (table_view table.now) && has (codes "height") (table_view table.now)))) }
 {
     has(table, "gas") && (has(table, "cells") || has(table, "width") && has(table, "height"))
 }
