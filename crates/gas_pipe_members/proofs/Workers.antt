@@ -1,5 +1,5 @@
 -- What a worker has done, seen from its two lists.
-use Rattle.std.proofs.Common.{◌≡◌, ℕ, ◌-◌, ◌≤◌, ◌==◌, ◌++◌, Bool, true, false, if◌then◌else◌, Option, Some, None, IsSome, List, [], length, drop, ap, ◌∙◌, sym, refl, subst, append_assoc, append-nil, arith}
+use Rattle.std.proofs.Common.{◌≡◌, ℕ, ◌-◌, ◌==◌, ◌++◌, Bool, true, false, if◌then◌else◌, Option, Some, None, IsSome, List, [], length, drop, ap, ◌∙◌, sym, refl, subst, append_assoc, append-nil}
 use Rattle.std.proofs.lemmas.List.{take-append-drop}
 use Rattle.std.specs.Option.{option_to_list}
 use Rattle.gas_geom.specs.Gas.{Rules}
@@ -28,23 +28,15 @@ pub done_prefix : (gas : Rules) (w : WorkerModel) (e : Option ℕ) (took gave : 
 done_prefix gas w e took gave done = by w.stage.pass refl
   where
     by : (p : Option (Option ℕ)) → w.stage.pass ≡ p → IsPrefix gave (owes gas w e took)
-    by None is = (option_to_list w.waiting, (done.once_closed is).put)
+    by None is = (option_to_list w.waiting, done.put_all is)
     by (Some q) is =
         let before = given_prefix gas w.stage.channel w.stage.chirality e took in (
           option_to_list w.waiting ++ before.0,
           sym (append_assoc gave (option_to_list w.waiting) before.0)
-              ∙ ap (λ (l : List RowModel). l ++ before.0) (done.while_open (subst IsSome (sym is) refl)).put ∙ before.1,
+              ∙ ap (λ (l : List RowModel). l ++ before.0) (done.put_returned (subst IsSome (sym is) refl)) ∙ before.1,
         )
-
--- no more rows were taken than a lattice has
-pub done_few : (gas : Rules) (w : WorkerModel) (e : Option ℕ) (took gave : List RowModel) → MayHaveDone gas w e took gave → length took ≤ w.stage.channel.height
-done_few gas w e took gave done = by w.stage.pass refl
-  where
-    by : (p : Option (Option ℕ)) → w.stage.pass ≡ p → length took ≤ w.stage.channel.height
-    by None is = omega (arith, (done.once_closed is).all)
-    by (Some q) is = (done.while_open (subst IsSome (sym is) refl)).few
 
 -- if no pass is open, nothing is left to put
 pub closed_all : (gas : Rules) (w : WorkerModel) → IsClosed w → (e : Option ℕ) (took gave : List RowModel) → MayHaveDone gas w e took gave → gave ≡ owes gas w e took
 closed_all gas w closed e took gave done =
-    sym (append-nil gave) ∙ ap (λ (o : Option RowModel). gave ++ option_to_list o) (sym closed.waiting) ∙ (done.once_closed closed.stage).put
+    sym (append-nil gave) ∙ ap (λ (o : Option RowModel). gave ++ option_to_list o) (sym closed.waiting) ∙ done.put_all closed.stage

@@ -20,34 +20,26 @@ pub record IsClosed (w : WorkerModel) : Type 0 where
 abbrev pub owes : Rules → WorkerModel → Option ℕ → List RowModel → List RowModel
 owes gas w e took = owed gas w.stage.channel w.stage.chirality e took
 
--- While a pass is open: the stage was fed the rows that were taken, and what it returned for them was put, except for the row that waits.
-pub record IsUnderWay (gas : Rules) (w : WorkerModel) (e : Option ℕ) (took gave : List RowModel) : Type 0 where
-  pub few : length took ≤ w.stage.channel.height
-  pub fed : MayHaveBeenFed gas w.stage e took
-  pub put : gave ++ option_to_list w.waiting ≡ given gas w.stage.channel w.stage.chirality e took
-
--- Once a pass is closed: all rows of a lattice were taken, and all that is owed for them was put, except for the row that waits.
-pub record IsFlushed (gas : Rules) (w : WorkerModel) (e : Option ℕ) (took gave : List RowModel) : Type 0 where
-  pub all : length took ≡ w.stage.channel.height
-  pub put : gave ++ option_to_list w.waiting ≡ owes gas w e took
-
--- The worker may have come to its state in the pass e by taking the rows `took` and putting the rows `gave`. A new pass fits two empty
--- lists, so a promise for all lists that a worker fits is one for the lists of its open pass.
+-- The worker may have come to its state in the pass e by taking the rows `took` and putting the rows `gave`. While a pass is open, the stage
+-- was fed the rows that were taken, and what it returned for them was put. Once it is closed, all rows of a lattice were taken, and all that
+-- is owed for them was put. The row that waits was not yet put. A new pass fits two empty lists, so a promise for all lists that a worker
+-- fits is one for the lists of its open pass.
 pub record MayHaveDone (gas : Rules) (w : WorkerModel) (e : Option ℕ) (took gave : List RowModel) : Type 0 where
   pub no_stray : w.stray ≡ false
-  pub while_open : IsSome w.stage.pass → IsUnderWay gas w e took gave
-  pub once_closed : w.stage.pass ≡ None → IsFlushed gas w e took gave
+  pub few : length took ≤ w.stage.channel.height
+  pub fed : IsSome w.stage.pass → MayHaveBeenFed gas w.stage e took
+  pub put_returned : IsSome w.stage.pass → gave ++ option_to_list w.waiting ≡ given gas w.stage.channel w.stage.chirality e took
+  pub took_all : w.stage.pass ≡ None → length took ≡ w.stage.channel.height
+  pub put_all : w.stage.pass ≡ None → gave ++ option_to_list w.waiting ≡ owes gas w e took
 
 -- by a step from one state to another the worker takes the rows `takes` and puts the rows `puts`, after all that it did before
 abbrev pub Does : Rules → WorkerModel → List RowModel → List RowModel → WorkerModel → Type 0
 Does gas old takes puts new = (e : Option ℕ) (took gave : List RowModel) → MayHaveDone gas old e took gave → MayHaveDone gas new e (took ++ takes) (gave ++ puts)
 
--- it has put all that it owes for the rows that it took; all rows were taken; rows are still to come
-abbrev pub HasPutAll : Rules → WorkerModel → Type 0
-HasPutAll gas w = (e : Option ℕ) (took gave : List RowModel) → MayHaveDone gas w e took gave → gave ≡ owes gas w e took
+-- all rows were taken, and all that is owed for them was put
+abbrev pub HasDoneAll : Rules → WorkerModel → Type 0
+HasDoneAll gas w = (e : Option ℕ) (took gave : List RowModel) → MayHaveDone gas w e took gave → (length took ≡ w.stage.channel.height) × (gave ≡ owes gas w e took)
 
-abbrev pub HasTakenAll : Rules → WorkerModel → Type 0
-HasTakenAll gas w = (e : Option ℕ) (took gave : List RowModel) → MayHaveDone gas w e took gave → length took ≡ w.stage.channel.height
-
+-- rows are still to come, and all that is owed for those that were taken was put
 abbrev pub HasMoreToTake : Rules → WorkerModel → Type 0
-HasMoreToTake gas w = (e : Option ℕ) (took gave : List RowModel) → MayHaveDone gas w e took gave → length took < w.stage.channel.height
+HasMoreToTake gas w = (e : Option ℕ) (took gave : List RowModel) → MayHaveDone gas w e took gave → (length took < w.stage.channel.height) × (gave ≡ owes gas w e took)

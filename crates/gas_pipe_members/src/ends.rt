@@ -56,16 +56,6 @@ pub trait TakeEnd<T> {
         takes a row c };
 }
 
-/// Moves a spare row from the end that it was put on to the end that it was taken from.
-pub(crate) fn return_spare<R: Drop, P: PutEnd<R>, T: TakeEnd<R>>(put: &mut P, take: &mut T)
-    ensures put { P.rests put.old put.new }
-    ensures take { T.rests take.old take.new }
-{
-    if let Some(row) = put.spare() {
-        take.give(row);
-    }
-}
-
 /// What a turn of a member of the line did.
 #[derive(Clone, Copy, Debug, PartialEq, Eq)]
 pub enum Turned {

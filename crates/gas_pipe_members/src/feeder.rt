@@ -6,7 +6,7 @@ ghost use mathlib.Core.List.{IsPrefix};
 ghost use Rattle.gas_pipe_members.specs.Feeder.{FeederModel, MayHaveFed, Feeds, emptied_row, emptied_from};
 
 use crate::ends::{PutEnd, TakeEnd, Turned};
-use crate::spares::Spares;
+use crate::spares::{give_spare, keep_spare};
 use gas_geom::gas::Gas;
 use gas_rows::channel::Channel;
 use gas_rows::lattice::Lattice;
@@ -31,7 +31,7 @@ fn empty_solid<G: Gas>(channel: &Channel, y: u32, row: &mut Row<G>)
 pub struct Feeder<G: Gas> {
     channel: Channel,
     rows: VecDeque<Row<G>>,
-    spares: Spares<G>,
+    spares: Vec<Row<G>>,
     to_put: u64,
     to_take: u64,
     next: u32,
@@ -80,7 +80,7 @@ impl<G: Gas> Feeder<G> {
         Ok(Feeder {
             channel,
             rows: VecDeque::from(rows),
-            spares: Spares::new(alloc, height)?,
+            spares: Vec::with_capacity(alloc, height as usize)?,
             to_put: 0,
             to_take: 0,
             next: 0,
@@ -151,7 +151,7 @@ impl<G: Gas> Feeder<G> {
         match put.try_put(row) {
             Ok(()) => {
                 self.to_put -= 1;
-                self.spares.keep_spare(put);
+                keep_spare(&mut self.spares, put);
                 true
             }
             Err(row) => {
@@ -242,7 +242,7 @@ impl<G: Gas> Feeder<G> {
             return Turned::Stray;
         }
         self.accept(row);
-        self.spares.give_spare(take);
+        give_spare(&mut self.spares, take);
         Turned::Took
     }
 

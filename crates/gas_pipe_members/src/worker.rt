@@ -3,10 +3,11 @@ ghost use Rattle.std.specs.Prelude.{◌≡◌, ◌≢◌, ◌<◌, ◌≤◌, �
 ghost use Rattle.gas_geom.specs.Gas.{Rules};
 ghost use Rattle.gas_rows.specs.Row.{RowModel};
 ghost use mathlib.Core.List.{IsPrefix};
-ghost use Rattle.gas_pipe_members.specs.Worker.{WorkerModel, IsClosed, MayHaveDone, Does, owes, HasPutAll, HasTakenAll, HasMoreToTake};
+ghost use Rattle.gas_pipe_members.specs.Worker.{WorkerModel, IsClosed, MayHaveDone, Does, owes, HasDoneAll, HasMoreToTake};
 ghost use Rattle.gas_pipe_members.specs.Inner.Steps.{AfterTake, AfterPut, AfterNone};
 
-use crate::ends::{PutEnd, TakeEnd, Turned, return_spare};
+use crate::ends::{PutEnd, TakeEnd, Turned};
+use crate::spares::return_spare;
 use gas_geom::gas::Gas;
 use gas_rows::channel::Channel;
 use gas_rows::chirality::Chirality;
@@ -96,9 +97,8 @@ impl<'a, G: Gas> Worker<'a, G> {
         ensures owing { IsSome result → (e : Option ℕ) (took gave : List RowModel) →
             MayHaveDone G.rules self.old e took gave → gave ≡ owes G.rules self.old e took → ⊥ }
         ensures none { IsNone result → AfterNone G.rules self.old self.new }
-        ensures put_all { IsNone result → HasPutAll G.rules self.old }
-        ensures taken_all { IsNone result → self.new.stage.pass ≡ None →
-            HasTakenAll G.rules self.old }
+        ensures done_all { IsNone result → self.new.stage.pass ≡ None →
+            HasDoneAll G.rules self.old }
         ensures more { IsNone result → IsSome self.new.stage.pass →
             (self.new ≡ self.old) × (self.new.stage.fed < self.new.stage.channel.height)
             × HasMoreToTake G.rules self.old }
@@ -107,10 +107,7 @@ impl<'a, G: Gas> Worker<'a, G> {
         if self.waiting.is_some() {
             return self.waiting.take();
         }
-        if !self.stage.is_open() {
-            return None;
-        }
-        if self.stage.fed() < self.channel.size().height() {
+        if !self.stage.is_open() || self.stage.fed() < self.channel.size().height() {
             return None;
         }
         self.stage.flush()
@@ -173,8 +170,7 @@ impl<'a, G: Gas> Worker<'a, G> {
         ensures took { result ≡ Turned.Took →
             (row : RowModel) × T.takes take.old row take.new × P.rests put.old put.new
             × Does G.rules self.old (row ∷ []) [] self.new }
-        ensures took_when { result ≡ Turned.Took → HasPutAll G.rules self.old
-            × HasMoreToTake G.rules self.old }
+        ensures took_when { result ≡ Turned.Took → HasMoreToTake G.rules self.old }
         ensures put { result ≡ Turned.Put →
             (row : RowModel) × P.puts put.old row put.new × T.rests take.old take.new
             × Does G.rules self.old [] (row ∷ []) self.new }
@@ -190,8 +186,7 @@ impl<'a, G: Gas> Worker<'a, G> {
         ensures done { result ≡ Turned.Done →
             T.rests take.old take.new × P.rests put.old put.new
             × Does G.rules self.old [] [] self.new × IsClosed self.new }
-        ensures done_when { result ≡ Turned.Done → HasTakenAll G.rules self.old
-            × HasPutAll G.rules self.old }
+        ensures done_when { result ≡ Turned.Done → HasDoneAll G.rules self.old }
         ensures done_if_closed { IsClosed self.old → result ≡ Turned.Done }
         ensures done_if_all { (e : Option ℕ) (took gave : List RowModel) →
             MayHaveDone G.rules self.old e took gave →
@@ -201,8 +196,7 @@ impl<'a, G: Gas> Worker<'a, G> {
         ensures stray_at { result ≡ Turned.Stray → self.old.stray ≡ false →
             (row : RowModel) × T.takes take.old row take.new × P.rests put.old put.new
             × (length row ≢ self.old.stage.channel.width) }
-        ensures stray_when { result ≡ Turned.Stray → HasPutAll G.rules self.old
-            × HasMoreToTake G.rules self.old }
+        ensures stray_when { result ≡ Turned.Stray → HasMoreToTake G.rules self.old }
         ensures stray_ever { self.old.stray ≡ true →
             (result ≡ Turned.Stray) × T.rests take.old take.new × P.rests put.old put.new
             × (self.new ≡ self.old) }
@@ -236,6 +230,5 @@ pub fn a_pass_in_order()
         MayHaveDone gas w e took gave → IsPrefix gave (owes gas w e took) }
     ensures few { (gas : Rules) (w : WorkerModel) (e : Option ℕ) (took gave : List RowModel) →
         MayHaveDone gas w e took gave → length took ≤ w.stage.channel.height }
-    ensures closed { (gas : Rules) (w : WorkerModel) → IsClosed w → HasTakenAll gas w
-        × HasPutAll gas w }
+    ensures closed { (gas : Rules) (w : WorkerModel) → IsClosed w → HasDoneAll gas w }
 {}

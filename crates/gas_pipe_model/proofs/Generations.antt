@@ -1,5 +1,5 @@
 -- A pass over a lattice is a line, and its belts carry the lattice's generations.
-use Rattle.std.proofs.Common.{◌≡◌, ℕ, zero, suc, ◌+◌, ◌-◌, ◌*◌, ◌≤◌, ◌<◌, Bool, min, if◌then◌else◌, Option, Some, None, ltb, List, length, take, refl, eq-eqb, ap, ◌∙◌, sym, arith, ⊎_elim}
+use Rattle.std.proofs.Common.{◌≡◌, ℕ, zero, suc, ◌+◌, ◌-◌, ◌*◌, ◌≤◌, ◌<◌, Bool, min, if◌then◌else◌, Some, true, List, length, take, refl, eq-eqb, ap, ◌∙◌, sym, arith, ⊎_elim}
 use Rattle.std.proofs.lemmas.Bool.{cases_lt, lt-ltb, le-ltb}
 use Rattle.std.proofs.Math.Nat.{min-eq_left, min-eq_right}
 use Rattle.gas_geom.specs.Gas.{Rules}
@@ -10,9 +10,12 @@ use Rattle.gas_stage.specs.Stage.{owed}
 use Rattle.gas_stage.proofs.Local.{length-next}
 use Rattle.gas_stage.proofs.Owed.{owed-all, owed-grows, owed-no_more}
 use Rattle.gas_rows.specs.Row.{RowModel}
-use Rattle.gas_pipe_model.specs.Pass.{RunInputModel, computes_from, line_of, rows_on}
+use Rattle.gas_pipe_model.specs.Line.{is_done}
+use Rattle.gas_pipe_model.specs.Pass.{RunInputModel, IsRunInput, computes_from, line_of, after, rows_on}
 use Rattle.gas_pipe_model.specs.Inner.Line.{IsLine, rows_in_the_end}
-use Rattle.gas_pipe_model.specs.Inner.Input.{IsRunInput}
+use Rattle.gas_pipe_model.proofs.Turns.{Fits}
+use Rattle.gas_pipe_model.proofs.Kept.{fits}
+use Rattle.gas_pipe_model.proofs.Totals.{carried_all}
 
 module _ (gas : Rules) (input : RunInputModel) where
   -- the rows of generation n
@@ -39,19 +42,6 @@ module _ (gas : Rules) (input : RunInputModel) (is : IsRunInput gas input) (n : 
     room = is.room;
   }
 
-  -- the generation on belt k is below the last one
-  computing : (k : ℕ) → n * input.plan.stages + k < input.plan.generations → computes_from input.first input.plan n (suc k) ≡ Some (input.first + (n * input.plan.stages + k))
-  computing k on =
-      let e : n * input.plan.stages + suc k - 1 ≡ n * input.plan.stages + k = omega arith in
-      ap (λ (g : ℕ). if ltb g input.plan.generations then Some (input.first + g) else None) e
-      ∙ ap (λ (b : Bool). if b then Some (input.first + (n * input.plan.stages + k)) else None) (lt-ltb (n * input.plan.stages + k) input.plan.generations on)
-
-  passing : (k : ℕ) → input.plan.generations ≤ n * input.plan.stages + k → computes_from input.first input.plan n (suc k) ≡ None
-  passing k past =
-      let e : n * input.plan.stages + suc k - 1 ≡ n * input.plan.stages + k = omega arith in
-      ap (λ (g : ℕ). if ltb g input.plan.generations then Some (input.first + g) else None) e
-      ∙ ap (λ (b : Bool). if b then Some (input.first + (n * input.plan.stages + k)) else None) (le-ltb (n * input.plan.stages + k) input.plan.generations past)
-
   -- for all rows of a lattice a worker that computes owes the next lattice
   owed_whole : (g : ℕ) (q : List RowModel) → length q ≡ input.lattice.channel.height → owed gas input.lattice.channel input.chirality (Some g) q ≡ step gas input g q
   owed_whole g q e =
@@ -60,22 +50,33 @@ module _ (gas : Rules) (input : RunInputModel) (is : IsRunInput gas input) (n : 
   -- for all rows of one belt a worker owes the rows of the next
   pub owes_next : (k : ℕ) → owed gas input.lattice.channel input.chirality (computes_from input.first input.plan n (suc k)) (rows_on gas input n k) ≡ rows_on gas input n (suc k)
   owes_next k =
+      let before : n * input.plan.stages + suc k - 1 ≡ n * input.plan.stages + k = omega arith in
       let e : n * input.plan.stages + suc k ≡ suc (n * input.plan.stages + k) = omega arith in
       ⊎_elim
       (λ (on : n * input.plan.stages + k < input.plan.generations).
-      ap (λ (g : Option ℕ). owed gas input.lattice.channel input.chirality g (rows_on gas input n k)) (computing k on)
-      ∙ owed_whole (input.first + (n * input.plan.stages + k)) (rows_on gas input n k) (rows_high k)
+      rw (before, lt-ltb (n * input.plan.stages + k) input.plan.generations on)
+      (owed_whole (input.first + (n * input.plan.stages + k)) (rows_on gas input n k) (rows_high k)
       ∙ ap (λ (g : ℕ). step gas input (input.first + (n * input.plan.stages + k)) (at gas input g)) (min-eq_left (omega (arith, on)))
       ∙ ap (at gas input) (sym (min-eq_left on))
-      ∙ ap (λ (g : ℕ). at gas input (min g input.plan.generations)) (sym e))
+      ∙ ap (λ (g : ℕ). at gas input (min g input.plan.generations)) (sym e)))
       (λ (past : input.plan.generations ≤ n * input.plan.stages + k).
-      ap (λ (g : Option ℕ). owed gas input.lattice.channel input.chirality g (rows_on gas input n k)) (passing k past)
-      ∙ ap (at gas input) (min-eq_right past ∙ sym (min-eq_right (let more : input.plan.generations ≤ n * input.plan.stages + suc k = omega (arith, past) in more))))
+      rw (before, le-ltb (n * input.plan.stages + k) input.plan.generations past)
+      (ap (at gas input) (min-eq_right past ∙ sym (min-eq_right (let more : input.plan.generations ≤ n * input.plan.stages + suc k = omega (arith, past) in more)))))
       (cases_lt (n * input.plan.stages + k) input.plan.generations)
 
   pub carries : (k : ℕ) → rows_in_the_end (line_of gas input n) k ≡ rows_on gas input n k
   carries zero = refl
   carries (suc k) = ap (owed gas input.lattice.channel input.chirality (computes_from input.first input.plan n (suc k))) (carries k) ∙ owes_next k
+
+  -- what every turn of the pass keeps, and what its belts have carried once it is done
+  pub pass_fits : (turns : List ℕ) → Fits (line_of gas input n) (after gas input n turns)
+  pass_fits turns = fits (line_of gas input n) pass_is_line turns
+
+  pub pass_carries : (turns : List ℕ) → is_done (line_of gas input n) (after gas input n turns) ≡ true → (k : ℕ) → k ≤ input.plan.stages →
+      ((after gas input n turns).put k ≡ rows_on gas input n k) × ((after gas input n turns).taken k ≡ rows_on gas input n k)
+  pass_carries turns done k h =
+      let all = carried_all (line_of gas input n) pass_is_line (after gas input n turns) (pass_fits turns) done k h in
+      (all.0 ∙ carries k, all.1 ∙ carries k)
 
 -- the first pass begins with the lattice, and each later pass where the pass before it ended
 pub begins_first : (gas : Rules) (input : RunInputModel) → rows_on gas input 0 0 ≡ input.lattice.rows

@@ -1,5 +1,5 @@
 -- Every turn keeps `Fits`, so every run does.
-use Rattle.std.proofs.Common.{◌≡◌, ℕ, zero, suc, ◌+◌, ◌≤◌, ◌<◌, List, [], ◌∷◌, ◌++◌, inl, inr, length, refl, ap, sym, subst, arith}
+use Rattle.std.proofs.Common.{◌≡◌, ℕ, zero, suc, ◌+◌, ◌≤◌, ◌<◌, List, [], ◌∷◌, inl, inr, length, refl, ap, sym, subst, arith}
 use Rattle.std.proofs.lemmas.Bool.{cases_eq}
 use Rattle.gas_rows.specs.Row.{RowModel}
 use mathlib.Core.List.{IsPrefix}
@@ -8,10 +8,6 @@ use Rattle.gas_pipe_model.specs.Inner.Line.{after_put, after_take, IsLine}
 use Rattle.gas_pipe_model.proofs.Prefixes.{next, same_prefix, trans_prefix, prefix_length, next_prefix, next_length}
 use Rattle.gas_pipe_model.proofs.Turns.{puts, takes, idles, turn_cases, grown_same, grown_other, Fits, owe_prefix, put_short, fits_start}
 
--- xs begins xs ++ ys
-pub append_prefix : (xs ys : List RowModel) → IsPrefix xs (xs ++ ys)
-append_prefix xs ys = (ys, refl)
-
 owed_put : (l : Line) (s : State) (m k : ℕ) → owed_on l (after_put l s m) k ≡ owed_on l s k
 owed_put l s m zero = refl
 owed_put l s m (suc k) = refl
@@ -19,7 +15,7 @@ owed_put l s m (suc k) = refl
 pub grown_prefix : (f : ℕ → List RowModel) (k : ℕ) (rows : List RowModel) (j : ℕ) → IsPrefix (f j) (grown f k rows j)
 grown_prefix f k rows j =
     elim (cases_eq j k) [
-      | inl e ↦ subst (λ i. IsPrefix (f i) (grown f k rows i)) (sym e) (rw grown_same (append_prefix (f k) (next (f k) rows)))
+      | inl e ↦ subst (λ i. IsPrefix (f i) (grown f k rows i)) (sym e) (rw grown_same (next (f k) rows, refl))
       | inr ne ↦ rw (grown_other f k rows j ne) (same_prefix (f j))
     ]
 

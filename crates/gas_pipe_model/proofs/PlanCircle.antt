@@ -6,8 +6,7 @@ use Rattle.std.proofs.lemmas.List.Concat.{flat_map-append}
 use Rattle.gas_geom.specs.Gas.{Rules}
 use Rattle.gas_rows.specs.Row.{RowModel}
 use Rattle.gas_stage.proofs.Owed.{owed-all}
-use Rattle.gas_pipe_model.specs.Pass.{RunInputModel, computes_from, rows_on, carried_on}
-use Rattle.gas_pipe_model.specs.Inner.Input.{IsRunInput}
+use Rattle.gas_pipe_model.specs.Pass.{RunInputModel, IsRunInput, computes_from, rows_on, carried_on}
 use Rattle.gas_pipe_model.specs.Inner.Circle.{joined, IsCircle, owes_in}
 use Rattle.gas_pipe_model.proofs.Generations.{rows_high, owes_next, begins_next}
 use Rattle.gas_pipe_model.proofs.Circle.{goes_round}
@@ -28,9 +27,6 @@ joined_is rows (suc n) =
     ∙ ap (flat_map rows) (sym (range_more 0 n))
 
 module _ (gas : Rules) (input : RunInputModel) (is : IsRunInput gas input) where
-  again : (n : ℕ) → rows_on gas input (suc n) 0 ≡ rows_on gas input n input.plan.stages
-  again n = sym (begins_next gas input n ∙ ap (λ (m : ℕ). rows_on gas input m 0) (let e : n + 1 ≡ suc n = omega arith in e))
-
   pub is_circle : (back : List RowModel → List RowModel) → ((m : ℕ) (q : List RowModel) → take m (back q) ≡ back (take m q)) →
       ((n : ℕ) → back (joined (λ i. rows_on gas input i input.plan.stages) n) ≡ joined (λ i. rows_on gas input i input.plan.stages) n) →
       IsCircle input.lattice.channel.height input.plan.stages (owes_in gas input) back (rows_on gas input)
@@ -38,7 +34,7 @@ module _ (gas : Rules) (input : RunInputModel) (is : IsRunInput gas input) where
     whole = λ k n q h. owed-all gas input.lattice.channel input.chirality (computes_from input.first input.plan n (suc k)) q h;
     high = rows_high gas input is;
     on = λ n k. owes_next gas input is n k;
-    again = again;
+    again = λ n. sym (begins_next gas input n ∙ ap (λ (m : ℕ). rows_on gas input m 0) (let e : n + 1 ≡ suc n = omega arith in e));
     front = front;
     kept = kept;
   }

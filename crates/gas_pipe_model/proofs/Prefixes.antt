@@ -4,9 +4,6 @@ use Rattle.std.proofs.lemmas.List.{append-nil, drop_at}
 use Rattle.gas_rows.specs.Row.{RowModel}
 use mathlib.Core.List.{IsPrefix}
 
-pub nil_prefix : (ys : List RowModel) → IsPrefix [] ys
-nil_prefix ys = (ys, refl)
-
 pub same_prefix : (xs : List RowModel) → IsPrefix xs xs
 same_prefix xs = ([], append-nil xs)
 

@@ -66,9 +66,6 @@ still_here l s k m is f h in_line at may =
           ]
     ]
 
-cases_at : (k i : ℕ) → k ≤ i → (k ≡ i) ⊎ (suc k ≤ i)
-cases_at k i h = elim (cases_lt k i) [ inl more ↦ inr more | inr eq ↦ inl (omega arith) ]
-
 -- downwards from the last belt, d belts on from k
 still_from : (l : Line) (s : State) → IsLine l → Fits l s → (d k : ℕ) → k + d ≡ l.workers → Mover l s ⊎ ((i : ℕ) → k ≤ i → i ≤ l.workers → Still l s i)
 still_from l s is f zero k e =
@@ -83,9 +80,9 @@ still_from l s is f (suc d) k e =
       | inr above ↦
           elim (still_here l s k (suc k) is f (omega arith) (omega arith) refl (inr (above (suc k) (omega arith) (omega arith)).all_put)) [
             | inl m ↦ inl m
-            | inr st ↦ inr (λ i low high. elim (cases_at k i low) [
-              | inl same ↦ subst (λ j. Still l s j) same st
-              | inr more ↦ above i more high
+            | inr st ↦ inr (λ i low high. elim (cases_lt k i) [
+              | inl more ↦ above i more high
+              | inr top ↦ (let same : k ≡ i = omega arith in subst (λ j. Still l s j) same st)
             ])
           ]
     ]

@@ -1,7 +1,9 @@
 -- A round with a turn of every member brings the line at least one event on, until it is done.
-use Rattle.std.proofs.Common.{◌≡◌, ℕ, zero, suc, ◌+◌, ◌≤◌, ◌<◌, true, false, cond, List, [], ◌∷◌, ◌++◌, ◌⊎◌, inl, inr, refl, ap, sym, ◌∙◌, arith, length, get_or}
+use Rattle.std.proofs.Common.{◌≡◌, ℕ, zero, suc, ◌+◌, ◌≤◌, ◌<◌, true, false, cond, List, [], ◌∷◌, ◌++◌, ◌⊎◌, inl, inr, take, drop, refl, ap, sym, subst, ◌∙◌, arith}
 use Rattle.std.specs.List.{Contains}
 use Rattle.std.proofs.lemmas.Bool.{cases_Bool, cases_lt}
+use Rattle.std.proofs.lemmas.List.{take-append-drop}
+use Rattle.std.proofs.Math.Seq.{drop-cons}
 use Rattle.gas_pipe_model.specs.Line.{Line, State, start, turn, moves, after_turns, events, is_done, HasRounds}
 use Rattle.gas_pipe_model.specs.Inner.Line.{IsLine}
 use Rattle.gas_pipe_model.proofs.Turns.{puts, takes, idles, turn_cases, Fits, fits_start}
@@ -13,22 +15,14 @@ pub run_append : (l : Line) (xs ys : List ℕ) (s : State) → after_turns l (xs
 run_append l [] ys s = refl
 run_append l (x ∷ xs) ys s = run_append l xs ys (turn l s x)
 
--- a turn that is no event changes nothing
-turn_still : (l : Line) (s : State) (m : ℕ) → moves l s m ≡ false → turn l s m ≡ s
-turn_still l s m h =
-    elim (turn_cases l s m) [
-      | puts in_line short room event e ↦ cc
-      | takes in_line short event e ↦ cc
-      | idles nay e ↦ e
-    ]
-
+-- turns that are no events change nothing
 run_still : (l : Line) (ms : List ℕ) (s : State) → events l ms s ≡ 0 → after_turns l ms s ≡ s
 run_still l [] s h = refl
 run_still l (m ∷ ms) s h =
-    elim (cases_Bool (moves l s m)) [
-      | inl event ↦ absurd (let q : cond true 1 0 + events l ms (turn l s m) ≡ 0 = rw event at h in omega arith)
-      | inr nay ↦
-          let e = turn_still l s m nay in
+    elim (turn_cases l s m) [
+      | puts in_line short room event e ↦ absurd (let q : cond true 1 0 + events l ms (turn l s m) ≡ 0 = rw event at h in omega arith)
+      | takes in_line short event e ↦ absurd (let q : cond true 1 0 + events l ms (turn l s m) ≡ 0 = rw event at h in omega arith)
+      | idles nay e ↦
           let q : cond false 0 0 + events l ms (turn l s m) ≡ 0 = rw nay at h in
           run_still l ms (turn l s m) (omega arith) ∙ e
     ]
@@ -50,18 +44,15 @@ round_more l is s f m before after event =
           omega arith)
     ])
 
--- a list that contains x is what is before it, x and what is after it
-split_at : (xs : List ℕ) (x k : ℕ) → k < length xs → get_or xs k x ≡ x → (before : List ℕ) × ((after : List ℕ) × (before ++ x ∷ after ≡ xs))
-split_at [] x k h e = absurd (omega arith)
-split_at (y ∷ ys) x zero h e = ([], (ys, ap (λ z. z ∷ ys) (sym e)))
-split_at (y ∷ ys) x (suc k) h e = let rest = split_at ys x k (omega arith) e in (y ∷ rest.0, (rest.1.0, ap (λ zs. y ∷ zs) rest.1.1))
-
 round_on : (l : Line) → IsLine l → (s : State) → Fits l s → (round : List ℕ) → ((m : ℕ) → m ≤ l.workers → Contains round m) → is_done l s ≡ false → total l.workers s < total l.workers (after_turns l round s)
 round_on l is s f round each not_done =
     let p = progress l s is f not_done in
     let there = each p.who p.in_line in
-    let w = split_at round p.who there.0 there.1 there.2 in
-    rw (← w.1.1) (round_more l is s f p.who w.0 w.1.0 p.moves)
+    let before = take there.0 round in
+    let after = drop (suc there.0) round in
+    let whole : before ++ p.who ∷ after ≡ round =
+    ap (λ m. before ++ m ∷ after) (sym there.2) ∙ ap (λ ms. before ++ ms) (sym (drop-cons round there.0 p.who there.1)) ∙ take-append-drop there.0 round in
+    subst (λ ms. total l.workers s < total l.workers (after_turns l ms s)) whole (round_more l is s f p.who before after p.moves)
 
 rounds_on : (l : Line) → IsLine l → (n : ℕ) (turns : List ℕ) (s : State) → Fits l s → HasRounds l.workers n turns → (most l ≤ total l.workers (after_turns l turns s)) ⊎ (n + total l.workers s ≤ total l.workers (after_turns l turns s))
 rounds_on l is zero turns s f h = inr (omega (arith, total_run l is turns s f))

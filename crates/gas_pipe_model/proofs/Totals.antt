@@ -1,69 +1,57 @@
 -- How many rows were put and taken in all: one more with every event, and at most 2 * H * (N + 1).
-use Rattle.std.proofs.Common.{◌≡◌, ℕ, zero, suc, ◌+◌, ◌*◌, ◌≤◌, ◌<◌, true, cond, eqb, List, [], ◌∷◌, inl, inr, length, ap, sym, ◌∙◌, subst, arith, mul-suc, add-one}
+use Rattle.std.proofs.Common.{◌≡◌, ℕ, zero, suc, ◌+◌, ◌*◌, ◌≤◌, ◌<◌, true, cond, eqb, List, [], ◌∷◌, inl, inr, length, ap, sym, ◌∙◌, subst, arith}
 use Rattle.std.proofs.lemmas.Bool.{cases_eq, cases_lt, eqb-true, eq-eqb, and_parts, and_from}
-use Rattle.gas_pipe_model.specs.Line.{Line, State, start, owed_on, grown, source, turn, moves, after_turns, events, is_done}
+use Rattle.std.proofs.Math.Nat.{mul_comm, suc-mul}
+use Rattle.gas_geom.proofs.Sums.{sum_below, sum_below-cong, sum_below-zero}
+use Rattle.gas_pipe_model.specs.Line.{Line, State, start, owed_on, source, turn, moves, after_turns, events, is_done}
 use Rattle.gas_pipe_model.specs.Inner.Line.{after_put, after_take, rows_in_the_end, IsLine}
-use Rattle.std.proofs.Math.Nat.{mul_assoc}
 use Rattle.gas_pipe_model.proofs.Prefixes.{prefix_length, prefix_all, trans_prefix}
 use Rattle.gas_pipe_model.proofs.Turns.{puts, takes, idles, turn_cases, grown_other, Fits, put_short, put_carried, carried_length}
 use Rattle.gas_pipe_model.proofs.Kept.{grown_length, fits_turn}
 
-abbrev pub sum_to : (ℕ → ℕ) → ℕ → ℕ
-sum_to f zero = f zero
-sum_to f (suc n) = sum_to f n + f (suc n)
-
-sum_same : (f g : ℕ → ℕ) (n : ℕ) → ((j : ℕ) → j ≤ n → g j ≡ f j) → sum_to g n ≡ sum_to f n
-sum_same f g zero h = h zero (omega arith)
-sum_same f g (suc n) h = omega (arith, sum_same f g n (λ j l. h j (omega arith)), h (suc n) (omega arith))
-
-sum_more : (f g : ℕ → ℕ) (n m : ℕ) → m ≤ n → g m ≡ suc (f m) → ((j : ℕ) → (j ≡ m → ⊥) → g j ≡ f j) → sum_to g n ≡ suc (sum_to f n)
-sum_more f g zero m h more same = let e : m ≡ 0 = omega arith in subst (λ i. g i ≡ suc (f i)) e more
+-- one term is greater by one
+sum_more : (f g : ℕ → ℕ) (n m : ℕ) → m < n → g m ≡ suc (f m) → ((j : ℕ) → (j ≡ m → ⊥) → g j ≡ f j) → sum_below n g ≡ suc (sum_below n f)
+sum_more f g zero m h more same = absurd (omega arith)
 sum_more f g (suc n) m h more same =
-    elim (cases_eq m (suc n)) [
+    elim (cases_eq m n) [
       | inl e ↦ (
-          let here : g (suc n) ≡ suc (f (suc n)) = subst (λ i. g i ≡ suc (f i)) e more in
-          let below = sum_same f g n (λ j l. same j (λ q. omega arith)) in
+          let here : g n ≡ suc (f n) = subst (λ i. g i ≡ suc (f i)) e more in
+          let below = sum_below-cong n g f (λ j l. same j (λ q. omega arith)) in
           omega arith)
       | inr ne ↦ (
-          let here = same (suc n) (λ q. ne (sym q)) in
+          let here = same n (λ q. ne (sym q)) in
           let below = sum_more f g n m (omega arith) more same in
           omega arith)
     ]
 
-sum_bound : (f : ℕ → ℕ) (n h : ℕ) → ((j : ℕ) → j ≤ n → f j ≤ h) → sum_to f n ≤ sum_to (λ _. h) n
-sum_bound f zero h le = le zero (omega arith)
-sum_bound f (suc n) h le = omega (arith, sum_bound f n h (λ j l. le j (omega arith)), le (suc n) (omega arith))
+sum_all : (f : ℕ → ℕ) (n h : ℕ) → ((j : ℕ) → j < n → f j ≡ h) → sum_below n f ≡ n * h
+sum_all f zero h same = omega arith
+sum_all f (suc n) h same = omega (arith, sum_all f n h (λ j l. same j (omega arith)), same n (omega arith), suc-mul n h)
 
-sum_most : (f : ℕ → ℕ) (n h : ℕ) → ((j : ℕ) → j ≤ n → f j ≤ h) → sum_to (λ _. h) n ≤ sum_to f n → (j : ℕ) → j ≤ n → f j ≡ h
-sum_most f zero h le e j l = let z : 0 ≡ j = omega arith in subst (λ i. f i ≡ h) z (let q = le zero (omega arith) in omega arith)
+sum_bound : (f : ℕ → ℕ) (n h : ℕ) → ((j : ℕ) → j < n → f j ≤ h) → sum_below n f ≤ n * h
+sum_bound f zero h le = omega arith
+sum_bound f (suc n) h le = omega (arith, sum_bound f n h (λ j l. le j (omega arith)), le n (omega arith), suc-mul n h)
+
+sum_most : (f : ℕ → ℕ) (n h : ℕ) → ((j : ℕ) → j < n → f j ≤ h) → n * h ≤ sum_below n f → (j : ℕ) → j < n → f j ≡ h
+sum_most f zero h le e j l = absurd (omega arith)
 sum_most f (suc n) h le e j l =
     let under = sum_bound f n h (λ i k. le i (omega arith)) in
-    let last = le (suc n) (omega arith) in
-    elim (cases_lt n j) [
-      | inl top ↦ (let z : suc n ≡ j = omega arith in subst (λ i. f i ≡ h) z (omega arith))
-      | inr low ↦ sum_most f n h (λ i k. le i (omega arith)) (omega arith) j low
+    let last = le n (omega arith) in
+    let product = suc-mul n h in
+    elim (cases_lt j n) [
+      | inl low ↦ sum_most f n h (λ i k. le i (omega arith)) (omega arith) j low
+      | inr top ↦ (let z : n ≡ j = omega arith in subst (λ i. f i ≡ h) z (omega arith))
     ]
 
-sum_const : (n h : ℕ) → sum_to (λ _. h) n ≡ h * suc n
-sum_const zero h = omega arith
-sum_const (suc n) h = omega (arith, sum_const n h, mul-suc h (suc n))
+-- the rows put on belt k and taken from it, and those of the belts 0 to n
+abbrev counted : State → ℕ → ℕ
+counted s k = length (s.put k) + length (s.taken k)
 
--- the rows put and taken on the belts 0 to n
 abbrev pub total : ℕ → State → ℕ
-total n s = sum_to (λ k. length (s.put k)) n + sum_to (λ k. length (s.taken k)) n
+total n s = sum_below (n + 1) (counted s)
 
 pub total_start : (n : ℕ) → total n start ≡ 0
-total_start n = omega (arith, sum_const n 0)
-
-total_put : (l : Line) (s : State) (m : ℕ) → Fits l s → m ≤ l.workers → length (s.put m) < length (owed_on l s m) → total l.workers (after_put l s m) ≡ suc (total l.workers s)
-total_put l s m f h short =
-    let more = sum_more (λ k. length (s.put k)) (λ k. length (grown s.put m (owed_on l s m) k)) l.workers m h (grown_length s.put m (owed_on l s m) (f.put m h) short) (λ j ne. ap length (grown_other s.put m (owed_on l s m) j ne)) in
-    omega arith
-
-total_take : (l : Line) (s : State) (b : ℕ) → Fits l s → b ≤ l.workers → length (s.taken b) < length (s.put b) → total l.workers (after_take s b) ≡ suc (total l.workers s)
-total_take l s b f h short =
-    let more = sum_more (λ k. length (s.taken k)) (λ k. length (grown s.taken b (s.put b) k)) l.workers b h (grown_length s.taken b (s.put b) (f.taken b) short) (λ j ne. ap length (grown_other s.taken b (s.put b) j ne)) in
-    omega arith
+total_start n = sum_below-zero (n + 1)
 
 source_in : (l : Line) (m : ℕ) → m ≤ l.workers → source l m ≤ l.workers
 source_in l zero h = omega arith
@@ -72,8 +60,21 @@ source_in l (suc k) h = omega arith
 pub total_turn : (l : Line) (s : State) (m : ℕ) → Fits l s → total l.workers (turn l s m) ≡ cond (moves l s m) 1 0 + total l.workers s
 total_turn l s m f =
     elim (turn_cases l s m) [
-      | puts in_line short room event e ↦ rw (e, event) (omega (arith, total_put l s m f in_line short))
-      | takes in_line short event e ↦ rw (e, event) (omega (arith, total_take l s (source l m) f (source_in l m in_line) short))
+      | puts in_line short room event e ↦
+          let more = grown_length s.put m (owed_on l s m) (f.put m in_line) short in
+          rw (e, event) (omega (
+            arith,
+            sum_more (counted s) (counted (after_put l s m)) (l.workers + 1) m (omega arith) (omega arith)
+                (λ j ne. ap (λ rows. length rows + length (s.taken j)) (grown_other s.put m (owed_on l s m) j ne)),
+          ))
+      | takes in_line short event e ↦
+          let b = source l m in
+          let more = grown_length s.taken b (s.put b) (f.taken b) short in
+          rw (e, event) (omega (
+            arith,
+            sum_more (counted s) (counted (after_take s b)) (l.workers + 1) b (omega (arith, source_in l m in_line)) (omega arith)
+                (λ j ne. ap (λ rows. length (s.put j) + length rows) (grown_other s.taken b (s.put b) j ne)),
+          ))
       | idles nay e ↦ rw (e, nay) (omega arith)
     ]
 
@@ -88,20 +89,11 @@ taken_short l is s f k h = omega (arith, put_short l is s f k h, prefix_length _
 abbrev pub most : Line → ℕ
 most l = 2 * length l.rows * (l.workers + 1)
 
-most_is : (l : Line) → most l ≡ sum_to (λ _. length l.rows) l.workers + sum_to (λ _. length l.rows) l.workers
-most_is l = rw (add-one) (omega (arith, sum_const l.workers (length l.rows), mul_assoc 2 (length l.rows) (suc l.workers)))
-
-pub total_below : (l : Line) → IsLine l → (s : State) → Fits l s → total l.workers s ≤ most l
-total_below l is s f =
-    omega (arith, most_is l, sum_bound (λ k. length (s.put k)) l.workers (length l.rows) (put_short l is s f), sum_bound (λ k. length (s.taken k)) l.workers (length l.rows) (taken_short l is s f))
-
-pub total_most : (l : Line) → IsLine l → (s : State) → Fits l s → most l ≤ total l.workers s → (k : ℕ) → k ≤ l.workers → (length (s.put k) ≡ length l.rows) × (length (s.taken k) ≡ length l.rows)
+total_most : (l : Line) → IsLine l → (s : State) → Fits l s → most l ≤ total l.workers s → (k : ℕ) → k ≤ l.workers → (length (s.put k) ≡ length l.rows) × (length (s.taken k) ≡ length l.rows)
 total_most l is s f e k h =
-    let p = sum_bound (λ k. length (s.put k)) l.workers (length l.rows) (put_short l is s f) in
-    let t = sum_bound (λ k. length (s.taken k)) l.workers (length l.rows) (taken_short l is s f) in (
-      sum_most (λ k. length (s.put k)) l.workers (length l.rows) (put_short l is s f) (omega (arith, most_is l)) k h,
-      sum_most (λ k. length (s.taken k)) l.workers (length l.rows) (taken_short l is s f) (omega (arith, most_is l)) k h,
-    )
+    let few : (j : ℕ) → j < l.workers + 1 → counted s j ≤ 2 * length l.rows = λ j l1. omega (arith, put_short l is s f j (omega arith), taken_short l is s f j (omega arith)) in
+    let both : counted s k ≡ 2 * length l.rows = sum_most (counted s) (l.workers + 1) (2 * length l.rows) few (omega (arith, e, mul_comm (2 * length l.rows) (l.workers + 1))) k (omega arith) in
+    (omega (arith, both, put_short l is s f k h, taken_short l is s f k h), omega (arith, both, put_short l is s f k h, taken_short l is s f k h))
 
 pub done_from_most : (l : Line) → IsLine l → (s : State) → Fits l s → most l ≤ total l.workers s → is_done l s ≡ true
 unfolding is_done
@@ -134,9 +126,8 @@ full l is s f done =
 
 pub most_from_done : (l : Line) → IsLine l → (s : State) → Fits l s → is_done l s ≡ true → total l.workers s ≡ most l
 most_from_done l is s f done =
-    let p = sum_same (λ _. length l.rows) (λ k. length (s.put k)) l.workers (λ j h. (full l is s f done j h).0) in
-    let t = sum_same (λ _. length l.rows) (λ k. length (s.taken k)) l.workers (λ j h. (full l is s f done j h).1) in
-    omega (arith, most_is l)
+    sum_all (counted s) (l.workers + 1) (2 * length l.rows) (λ j h. let n = full l is s f done j (omega arith) in omega (arith, n.0, n.1))
+    ∙ sym (mul_comm (2 * length l.rows) (l.workers + 1))
 
 -- then each belt has carried all its rows
 pub carried_all : (l : Line) → IsLine l → (s : State) → Fits l s → is_done l s ≡ true → (k : ℕ) → k ≤ l.workers → (s.put k ≡ rows_in_the_end l k) × (s.taken k ≡ rows_in_the_end l k)

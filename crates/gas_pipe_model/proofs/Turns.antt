@@ -5,7 +5,7 @@ use Rattle.gas_rows.specs.Row.{RowModel}
 use mathlib.Core.List.{IsPrefix}
 use Rattle.gas_pipe_model.specs.Line.{Line, State, start, owed_on, grown, put_open, take_open, source, turn, moves}
 use Rattle.gas_pipe_model.specs.Inner.Line.{after_put, after_take, rows_in_the_end, IsLine}
-use Rattle.gas_pipe_model.proofs.Prefixes.{next, nil_prefix, trans_prefix, prefix_length}
+use Rattle.gas_pipe_model.proofs.Prefixes.{next, trans_prefix, prefix_length}
 
 pub grown_same : (f : ℕ → List RowModel) (k : ℕ) (rows : List RowModel) → grown f k rows k ≡ f k ++ next (f k) rows
 unfolding grown
@@ -88,7 +88,7 @@ put_short l is s f k h = omega (arith, prefix_length _ _ (put_carried l is s f k
 
 pub fits_start : (l : Line) → Fits l start
 fits_start l = record {
-  taken = λ k. nil_prefix [];
-  put = λ k h. nil_prefix (owed_on l start k);
+  taken = λ k. ([], refl);
+  put = λ k h. (owed_on l start k, refl);
   under_way = λ k. omega arith;
 }

@@ -1,13 +1,13 @@
 -- Every row that is under way in a pass has the channel's width.
-use Rattle.std.proofs.Common.{◌≡◌, ℕ, ◌+◌, ◌*◌, ◌≤◌, ◌<◌, min, List, [], ◌∷◌, ◌++◌, length, get_or, refl, ap, sym, ◌∙◌, arith, length-append, append_assoc}
+use Rattle.std.proofs.Common.{◌≡◌, ℕ, ◌+◌, ◌*◌, ◌≤◌, ◌<◌, min, List, [], ◌∷◌, ◌++◌, length, get_or, ap, sym, ◌∙◌, arith, length-append, append_assoc}
+use Rattle.std.proofs.Math.Seq.{get_or-append_seam}
 use Rattle.gas_geom.specs.Gas.{Rules, IsGas}
 use Rattle.gas_geom.specs.Lattice.{IsLattice}
 use Rattle.gas_rows.specs.Chirality.{chirality_bit}
 use Rattle.gas_geom.proofs.Runs.{IsLattice-generation}
 use Rattle.gas_rows.specs.Row.{RowModel}
 use Rattle.gas_pipe_model.specs.Line.{State}
-use Rattle.gas_pipe_model.specs.Pass.{RunInputModel, line_of, rows_on}
-use Rattle.gas_pipe_model.specs.Inner.Input.{IsRunInput}
+use Rattle.gas_pipe_model.specs.Pass.{RunInputModel, IsRunInput, line_of, rows_on}
 use Rattle.gas_pipe_model.proofs.Turns.{Fits, put_carried}
 use Rattle.gas_pipe_model.proofs.Generations.{pass_is_line, carries}
 
@@ -22,12 +22,8 @@ row_is_wide gas input laws is n k xs row ys e =
     let high = lattice.high in
     let low : length xs < input.lattice.channel.height = omega (arith, length-append xs (row ∷ ys), ap length e) in
     let there : get_or (rows_on gas input n k) (length xs) [] ≡ row =
-    ap (λ (v : List RowModel). get_or v (length xs) []) (sym e) ∙ get_or_at xs row ys in
+    ap (λ (v : List RowModel). get_or v (length xs) []) (sym e) ∙ get_or-append_seam xs row ys [] in
     ap length (sym there) ∙ lattice.wide (length xs) low
-  where
-    get_or_at : (xs : List RowModel) (row : RowModel) (ys : List RowModel) → get_or (xs ++ row ∷ ys) (length xs) [] ≡ row
-    get_or_at [] row ys = refl
-    get_or_at (x ∷ xs) row ys = get_or_at xs row ys
 
 -- a row on belt k in pass n
 pub under_way_is_wide : (gas : Rules) (input : RunInputModel) → IsGas gas → IsRunInput gas input → (n : ℕ) (s : State) → Fits (line_of gas input n) s → (k : ℕ) → k ≤ input.plan.stages →

@@ -1,14 +1,14 @@
 -- The passes of a plan over a lattice: the line of each, and what the belts carry in it and in all of them.
-use Rattle.std.specs.Prelude.{ℕ, ◌+◌, ◌-◌, ◌*◌, ◌==◌, nat_lt, min, if◌then◌else◌, Option, Some, None, List, [], map, flat_map}
+use Rattle.std.specs.Prelude.{ℕ, ◌+◌, ◌-◌, ◌*◌, ◌<◌, ◌==◌, nat_lt, min, if◌then◌else◌, Option, Some, None, List, [], map, flat_map}
 use Rattle.std.specs.Int.{div_ceil}
 use Rattle.std.specs.List.{range_with_len}
 use Rattle.gas_geom.specs.Gas.{Rules}
-use Rattle.gas_geom.specs.Lattice.{LatticeModel}
+use Rattle.gas_geom.specs.Lattice.{LatticeModel, IsLattice}
 use Rattle.gas_rows.specs.Row.{RowModel}
 use Rattle.gas_rows.specs.declared.chirality.Chirality.{Chirality}
 use Rattle.gas_stage.specs.Evolution.{lattice_after}
 use Rattle.gas_stage.specs.Stage.{owed}
-use Rattle.gas_pipe_model.specs.Line.{Line}
+use Rattle.gas_pipe_model.specs.Line.{Line, State, start, after_turns}
 use Rattle.gas_pipe_model.specs.Plan.{PlanModel}
 
 -- the input of a run: a lattice of generation `first`, its chirality, and the plan to carry out
@@ -17,6 +17,11 @@ pub record RunInputModel : Type 0 where
   pub first : ℕ
   pub lattice : LatticeModel
   pub plan : PlanModel
+
+-- what the laws of a pass require of it: its rows make a lattice, and a belt has room for a row
+pub record IsRunInput (gas : Rules) (input : RunInputModel) : Type 0 where
+  pub lattice : IsLattice gas input.lattice.channel input.lattice.rows
+  pub room : 0 < input.plan.capacity
 
 -- The generation that worker k, counted from 1, computes the step from in pass n, counted from 0, of a plan over a lattice of generation
 -- `first`. As many workers compute as generations are left; the workers after them pass rows on.
@@ -38,6 +43,10 @@ line_of gas input n = record {
   workers = input.plan.stages;
   capacity = input.plan.capacity;
 }
+
+-- the histories of pass n after these turns
+abbrev pub after : Rules → RunInputModel → ℕ → List ℕ → State
+after gas input n turns = after_turns (line_of gas input n) turns start
 
 -- what belt k carries in the first n passes: the rows of each pass, one pass after another
 abbrev pub carried_on : Rules → RunInputModel → ℕ → ℕ → List RowModel

@@ -2,12 +2,11 @@
 use Rattle.std.proofs.Common.{◌≡◌, ℕ, suc, ◌+◌, ◌<◌, Option, List, [], ◌∷◌, ◌++◌, length, ap, sym, ◌∙◌, subst, arith}
 use Rattle.std.proofs.lemmas.List.{length_push}
 use Rattle.gas_geom.specs.Gas.{Rules}
-use Rattle.gas_pipe_model.specs.Pass.{RunInputModel, computes_from, rows_on}
-use Rattle.gas_pipe_model.specs.Inner.Input.{IsRunInput}
+use Rattle.gas_pipe_model.specs.Pass.{RunInputModel, IsRunInput, computes_from, rows_on, after}
 use Rattle.gas_pipe_members.specs.Belt.{BeltModel}
 use Rattle.gas_pipe_members.specs.Worker.{WorkerModel, MayHaveDone}
 use Rattle.gas_pipe_members.specs.Feeder.{FeederModel, MayHaveFed}
-use Rattle.gas_pipe_replay.specs.Inner.LocalLine.{after, IsAt, HaveBegun, AreUnused, Shows}
+use Rattle.gas_pipe_replay.specs.Inner.LocalLine.{IsAt, HaveBegun, AreUnused, Shows}
 use Rattle.gas_pipe_replay.proofs.Slots.{at_push}
 
 -- one worker more has begun its pass
@@ -27,7 +26,7 @@ begun_more gas input workers n w e begun channel chirality from done = (
 
 pub begun_shows : (gas : Rules) (input : RunInputModel) (f : FeederModel) (workers : List WorkerModel) (belts : List BeltModel) → IsRunInput gas input → 0 < input.plan.stages →
     HaveBegun gas input workers input.plan.stages → AreUnused input.plan.capacity belts (input.plan.stages + 1) → f.channel ≡ input.lattice.channel → MayHaveFed f 1 (rows_on gas input 0 0) [] [] →
-    Shows gas input f workers belts (after gas input [])
+    Shows gas input f workers belts (after gas input 0 [])
 begun_shows gas input f workers belts is some begun unused channel fed = record {
   is_input = is;
   some = some;

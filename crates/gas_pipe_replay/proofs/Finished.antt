@@ -10,25 +10,23 @@ use Rattle.gas_geom.specs.Gas.{Rules, IsGas}
 use Rattle.gas_geom.specs.Lattice.{LatticeModel}
 use Rattle.gas_stage.specs.Evolution.{lattice_after}
 use Rattle.gas_pipe_model.specs.Line.{State, is_done}
-use Rattle.gas_pipe_model.specs.Pass.{RunInputModel, line_of, rows_on}
+use Rattle.gas_pipe_model.specs.Pass.{RunInputModel, line_of, after, rows_on}
 use Rattle.gas_pipe_members.specs.Belt.{BeltModel}
 use Rattle.gas_pipe_members.specs.Worker.{WorkerModel}
 use Rattle.gas_pipe_members.specs.Feeder.{FeederModel}
 use Rattle.gas_pipe_members.specs.Inner.Steps.{emptied}
 use Rattle.gas_pipe_replay.specs.Replay.{ReplayModel, counts_of, replay_of}
 use Rattle.gas_pipe_replay.specs.declared.answer.Counts.{Counts}
-use Rattle.gas_pipe_replay.specs.Inner.LocalLine.{after, Shows}
-use Rattle.gas_pipe_model.proofs.Kept.{fits}
-use Rattle.gas_pipe_model.proofs.Totals.{carried_all}
-use Rattle.gas_pipe_model.proofs.Generations.{pass_is_line, carries, rows_high, ends_last}
+use Rattle.gas_pipe_replay.specs.Inner.LocalLine.{Shows}
+use Rattle.gas_pipe_model.proofs.Generations.{pass_carries, rows_high, ends_last}
 use Rattle.gas_pipe_members.proofs.Emptied.{emptied_lattice}
 use Rattle.gas_pipe_members.proofs.Feeds.{one_pass_holds}
 use Rattle.gas_pipe_model.proofs.Wide.{after_is_lattice}
 
 module _ (gas : Rules) (input : RunInputModel) (f : FeederModel) (ws : List WorkerModel) (bs : List BeltModel) (turns : List ℕ)
-    (laws : IsGas gas) (sh : Shows gas input f ws bs (after gas input turns)) where
+    (laws : IsGas gas) (sh : Shows gas input f ws bs (after gas input 0 turns)) where
   abbrev now : State
-  now = after gas input turns
+  now = after gas input 0 turns
 
   high : length (rows_on gas input 0 0) ≡ f.channel.height
   high = rows_high gas input sh.is_input 0 0 ∙ ap (λ c. c.height) (sym sh.channel)
@@ -51,10 +49,7 @@ module _ (gas : Rules) (input : RunInputModel) (f : FeederModel) (ws : List Work
   -- the rows that came back are the rows of the last belt
   holds_last : f.to_take ≡ 0 → f.rows ≡ rows_on gas input 0 input.plan.stages
   holds_last over =
-      let line = pass_is_line gas input sh.is_input 0 in
-      let back : now.taken input.plan.stages ≡ rows_on gas input 0 input.plan.stages =
-      (carried_all (line_of gas input 0) line now (fits (line_of gas input 0) line turns) (closed_done over) input.plan.stages (omega arith)).1
-      ∙ carries gas input sh.is_input 0 input.plan.stages in
+      let back = (pass_carries gas input sh.is_input 0 turns (closed_done over) input.plan.stages (omega arith)).1 in
       one_pass_holds f (rows_on gas input 0 0) (now.put 0) (now.taken input.plan.stages) sh.fed high over
       ∙ ap (λ c. emptied c (now.taken input.plan.stages)) sh.channel
       ∙ ap (emptied input.lattice.channel) back
@@ -72,17 +67,17 @@ one_pass generations stages some few =
 
 -- the state of the only pass of a plan, if it has generations to compute
 pub stands : (gas : Rules) (input : RunInputModel) (turns : List ℕ) (r : ReplayModel) → (input.plan.generations ≡ 0 → ⊥) → input.plan.generations ≤ input.plan.stages →
-    r.lattice ≡ (if is_done (line_of gas input 0) (after gas input turns) then Some (record input.lattice { rows = rows_on gas input 0 input.plan.stages }) else None) →
-    r.belts ≡ map (counts_of (after gas input turns)) (range_with_len 0 (input.plan.stages + 1)) →
+    r.lattice ≡ (if is_done (line_of gas input 0) (after gas input 0 turns) then Some (record input.lattice { rows = rows_on gas input 0 input.plan.stages }) else None) →
+    r.belts ≡ map (counts_of (after gas input 0 turns)) (range_with_len 0 (input.plan.stages + 1)) →
     r ≡ replay_of gas input.chirality input.first input.lattice input.plan turns
 stands gas input turns r some enough is_lattice is_belts =
     let last : rows_on gas input 0 input.plan.stages ≡ (lattice_after gas input.chirality input.first input.lattice input.plan.generations).rows =
     ends_last gas input 0 (let more : input.plan.generations ≤ (0 + 1) * input.plan.stages = omega (arith, enough) in more) in
     rw (ne_eqb input.plan.generations 0 some)
     (ap (λ (l : Option LatticeModel). record { lattice = l; belts = r.belts })
-    (is_lattice ∙ ap (λ rows. if is_done (line_of gas input 0) (after gas input turns) then Some (record input.lattice { rows = rows }) else None) last)
+    (is_lattice ∙ ap (λ rows. if is_done (line_of gas input 0) (after gas input 0 turns) then Some (record input.lattice { rows = rows }) else None) last)
     ∙ ap (λ (b : List Counts). record {
-      lattice = if is_done (line_of gas input 0) (after gas input turns)
+      lattice = if is_done (line_of gas input 0) (after gas input 0 turns)
           then Some (lattice_after gas input.chirality input.first input.lattice input.plan.generations) else None;
       belts = b;
     }) is_belts)

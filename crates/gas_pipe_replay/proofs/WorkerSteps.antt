@@ -8,7 +8,7 @@ use Rattle.gas_pipe_model.specs.Line.{Line, State, owed_on, grown, put_open, tak
 use Rattle.gas_pipe_model.specs.Inner.Line.{after_put, after_take, IsLine}
 use Rattle.gas_pipe_model.specs.Pass.{RunInputModel, computes_from, line_of, rows_on}
 use Rattle.gas_pipe_members.specs.Belt.{BeltModel}
-use Rattle.gas_pipe_members.specs.Worker.{WorkerModel, IsClosed, MayHaveDone, Does, owes, HasPutAll, HasTakenAll, HasMoreToTake}
+use Rattle.gas_pipe_members.specs.Worker.{WorkerModel, IsClosed, MayHaveDone, Does, owes, HasDoneAll, HasMoreToTake}
 use Rattle.gas_pipe_members.specs.Feeder.{FeederModel}
 use Rattle.gas_pipe_replay.specs.Inner.LocalLine.{belt, IsAt, Shows}
 use Rattle.gas_pipe_members.specs.declared.ends.Turned.{Turned}
@@ -26,13 +26,13 @@ pub record WorkerTurned (gas : Rules) (r : Turned) (w v : WorkerModel) (from fro
   pub channel : v.stage.channel ≡ w.stage.channel
   pub chirality : v.stage.chirality ≡ w.stage.chirality
   pub took : r ≡ Took → (row : RowModel) × (from ≡ record from2 { rows = row ∷ from2.rows }) × (to2 ≡ to) × Does gas w (row ∷ []) [] v
-  pub took_when : r ≡ Took → HasPutAll gas w × HasMoreToTake gas w
+  pub took_when : r ≡ Took → HasMoreToTake gas w
   pub gave : r ≡ Put → (row : RowModel) × ((length to.rows < to.capacity) × (to2 ≡ record to { rows = to.rows ++ row ∷ [] })) × (from2 ≡ from) × Does gas w [] (row ∷ []) v
   pub idle : r ≡ Idle → (from2 ≡ from) × (to2 ≡ to) × Does gas w [] [] v
   pub idle_owing : r ≡ Idle → (e : Option ℕ) (took gave : List RowModel) → MayHaveDone gas w e took gave → length gave < length (owes gas w e took) → length to.rows < to.capacity → ⊥
   pub idle_taking : r ≡ Idle → (e : Option ℕ) (took gave : List RowModel) → MayHaveDone gas w e took gave → gave ≡ owes gas w e took → 0 < length from.rows → ⊥
   pub done : r ≡ Done → (from2 ≡ from) × (to2 ≡ to) × Does gas w [] [] v × IsClosed v
-  pub done_when : r ≡ Done → HasTakenAll gas w × HasPutAll gas w
+  pub done_when : r ≡ Done → HasDoneAll gas w
   pub stray_at : r ≡ Stray → w.stray ≡ false → (row : RowModel) × (from ≡ record from2 { rows = row ∷ from2.rows }) × (to2 ≡ to) × (length row ≢ w.stage.channel.width)
 
 module _ (gas : Rules) (input : RunInputModel) (f : FeederModel) (ws : List WorkerModel) (bs : List BeltModel) (s : State) (k : ℕ) (w v : WorkerModel) (t q : BeltModel)
@@ -196,7 +196,7 @@ module _ (gas : Rules) (input : RunInputModel) (f : FeederModel) (ws : List Work
   worker_step Took h =
       let c = h.took refl in
       took_step c.0 c.1 c.2 h.channel h.chirality (rw (append-nil (s.put (suc k))) at (c.3 from (s.taken k) (s.put (suc k)) was.done))
-      ((h.took_when refl).0 from (s.taken k) (s.put (suc k)) was.done)
+      (h.took_when refl from (s.taken k) (s.put (suc k)) was.done).1
   worker_step Put h =
       let c = h.gave refl in
       gave_step c.0 c.1.1 c.1.0 c.2 h.channel h.chirality (rw (append-nil (s.taken k)) at (c.3 from (s.taken k) (s.put (suc k)) was.done))
@@ -206,9 +206,9 @@ module _ (gas : Rules) (input : RunInputModel) (f : FeederModel) (ws : List Work
       (h.idle_owing refl from (s.taken k) (s.put (suc k)) was.done) (h.idle_taking refl from (s.taken k) (s.put (suc k)) was.done)
   worker_step Done h =
       let c = h.done refl in
-      let d = h.done_when refl in
+      let d = h.done_when refl from (s.taken k) (s.put (suc k)) was.done in
       done_step c.0 c.1 h.channel h.chirality (rw (append-nil (s.taken k), append-nil (s.put (suc k))) at (c.2 from (s.taken k) (s.put (suc k)) was.done))
-      (d.1 from (s.taken k) (s.put (suc k)) was.done) (d.0 from (s.taken k) (s.put (suc k)) was.done)
+      d.1 d.0
   worker_step Stray h =
       let c = h.stray_at refl was.done.no_stray in
       absurd (stray_step c.0 c.1 c.3)

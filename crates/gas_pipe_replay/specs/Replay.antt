@@ -5,8 +5,8 @@ use Rattle.gas_geom.specs.Gas.{Rules}
 use Rattle.gas_geom.specs.Lattice.{LatticeModel}
 use Rattle.gas_rows.specs.declared.chirality.Chirality.{Chirality}
 use Rattle.gas_stage.specs.Evolution.{lattice_after}
-use Rattle.gas_pipe_model.specs.Line.{Line, State, start, after_turns, is_done}
-use Rattle.gas_pipe_model.specs.Pass.{line_of}
+use Rattle.gas_pipe_model.specs.Line.{State, is_done}
+use Rattle.gas_pipe_model.specs.Pass.{RunInputModel, line_of, after}
 use Rattle.gas_pipe_model.specs.Plan.{PlanModel}
 use Rattle.gas_pipe_replay.specs.declared.answer.Counts.{Counts}
 
@@ -23,9 +23,9 @@ counts_of s k = record { put = length (s.put k); taken = length (s.taken k) }
 -- generations. Without a generation to compute there is no belt, and it is done at once.
 abbrev pub replay_of : Rules → Chirality → ℕ → LatticeModel → PlanModel → List ℕ → ReplayModel
 replay_of gas chirality first lattice plan turns =
-    let line : Line = line_of gas (record { chirality = chirality; first = first; lattice = lattice; plan = plan }) 0 in
+    let input : RunInputModel = record { chirality = chirality; first = first; lattice = lattice; plan = plan } in
     if plan.generations == 0 then record { lattice = Some lattice; belts = [] }
     else record {
-      lattice = if is_done line (after_turns line turns start) then Some (lattice_after gas chirality first lattice plan.generations) else None;
-      belts = map (counts_of (after_turns line turns start)) (range_with_len 0 (plan.stages + 1));
+      lattice = if is_done (line_of gas input 0) (after gas input 0 turns) then Some (lattice_after gas chirality first lattice plan.generations) else None;
+      belts = map (counts_of (after gas input 0 turns)) (range_with_len 0 (plan.stages + 1));
     }

@@ -3,12 +3,11 @@ ghost use Rattle.std.specs.Prelude.{◌≡◌, ℕ, ◌+◌, ◌*◌, ◌<◌, �
 ghost use Rattle.std.specs.List.{range_with_len};
 ghost use Rattle.gas_geom.specs.declared.size.TheConstants.{MOST_SIDE};
 ghost use Rattle.gas_pipe_model.specs.Line.{State, is_done};
-ghost use Rattle.gas_pipe_model.specs.Pass.{RunInputModel, line_of, rows_on};
-ghost use Rattle.gas_pipe_model.specs.Inner.Input.{IsRunInput};
+ghost use Rattle.gas_pipe_model.specs.Pass.{RunInputModel, IsRunInput, line_of, after, rows_on};
 ghost use Rattle.gas_pipe_members.specs.Feeder.{FeederModel};
 ghost use Rattle.gas_pipe_members.specs.Worker.{WorkerModel};
 ghost use Rattle.gas_pipe_replay.specs.Replay.{counts_of};
-ghost use Rattle.gas_pipe_replay.specs.Inner.LocalLine.{after, IsAt, HaveBegun, AreUnused, Shows};
+ghost use Rattle.gas_pipe_replay.specs.Inner.LocalLine.{IsAt, HaveBegun, AreUnused, Shows};
 
 use crate::answer::Counts;
 use gas_geom::gas::Gas;
@@ -33,8 +32,8 @@ fn turn_worker<G: Gas>(
     ensures workers { length workers.new ≡ length workers.old }
     ensures belts { length belts.new ≡ length belts.old }
     ensures shows { (input : RunInputModel) (f : FeederModel) (turns : List ℕ) →
-        Shows G.rules input f workers.old belts.old (after G.rules input turns) →
-        Shows G.rules input f workers.new belts.new (after G.rules input (turns ++ who ∷ [])) }
+        Shows G.rules input f workers.old belts.old (after G.rules input 0 turns) →
+        Shows G.rules input f workers.new belts.new (after G.rules input 0 (turns ++ who ∷ [])) }
 {
     let (before, behind) = belts.split_at_mut(who);
     workers[who - 1].turn(&mut before[who - 1], &mut behind[0])
@@ -45,8 +44,8 @@ fn turn_feeder<G: Gas>(feeder: &mut Feeder<G>, belts: &mut [PlainBelt<G>]) -> Tu
     requires { 1 < length belts.old }
     ensures belts { length belts.new ≡ length belts.old }
     ensures shows { (input : RunInputModel) (workers : List WorkerModel) (turns : List ℕ) →
-        Shows G.rules input feeder.old workers belts.old (after G.rules input turns) →
-        Shows G.rules input feeder.new workers belts.new (after G.rules input (turns ++ 0 ∷ [])) }
+        Shows G.rules input feeder.old workers belts.old (after G.rules input 0 turns) →
+        Shows G.rules input feeder.new workers belts.new (after G.rules input 0 (turns ++ 0 ∷ [])) }
 {
     let last = belts.len() - 1;
     let (before, behind) = belts.split_at_mut(last);
@@ -104,7 +103,7 @@ impl<'a, G: Gas> LocalLine<'a, G> {
         ensures input { IfOk result (λ _. IsRunInput G.rules input.now) }
         ensures shows { IfOk result (λ c.
             Shows G.rules input.now c.feeder c.workers.items c.belts.items
-            (after G.rules input.now [])) }
+            (after G.rules input.now 0 [])) }
     {
         let mut feeder = Feeder::new(alloc, input.lattice)?;
         feeder.begin();
@@ -119,9 +118,9 @@ impl<'a, G: Gas> LocalLine<'a, G> {
     pub(crate) fn turn(&mut self, who: u32)
         ensures { (input : RunInputModel) (turns : List ℕ) →
             Shows G.rules input self.old.feeder self.old.workers.items self.old.belts.items
-            (after G.rules input turns) →
+            (after G.rules input 0 turns) →
             Shows G.rules input self.new.feeder self.new.workers.items self.new.belts.items
-            (after G.rules input (turns ++ who ∷ [])) }
+            (after G.rules input 0 (turns ++ who ∷ [])) }
     {
         let who = who as usize;
         if who == 0 {
@@ -135,9 +134,9 @@ impl<'a, G: Gas> LocalLine<'a, G> {
     pub(crate) fn run(&mut self, turns: &[u32])
         ensures { (input : RunInputModel) →
             Shows G.rules input self.old.feeder self.old.workers.items self.old.belts.items
-            (after G.rules input []) →
+            (after G.rules input 0 []) →
             Shows G.rules input self.new.feeder self.new.workers.items self.new.belts.items
-            (after G.rules input turns.now) }
+            (after G.rules input 0 turns.now) }
     {
         for who in turns {
             self.turn(*who);
@@ -179,8 +178,8 @@ impl<'a, G: Gas> LocalLine<'a, G> {
     pub(crate) fn finish(self) -> Option<Lattice<G>>
         ensures { (input : RunInputModel) (turns : List ℕ) →
             Shows G.rules input self.entry.feeder self.entry.workers.items self.entry.belts.items
-            (after G.rules input turns) →
-            result ≡ (if is_done (line_of G.rules input 0) (after G.rules input turns)
+            (after G.rules input 0 turns) →
+            result ≡ (if is_done (line_of G.rules input 0) (after G.rules input 0 turns)
             then Some (record input.lattice { rows = rows_on G.rules input 0 input.plan.stages })
             else None) }
     {

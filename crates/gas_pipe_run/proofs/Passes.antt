@@ -1,5 +1,5 @@
 -- A worker's pass between two belts, from its first turn to its last.
-use Rattle.std.proofs.Common.{◌≡◌, ℕ, suc, ◌+◌, ◌*◌, Option, List, [], ◌∷◌, ◌++◌, refl, ap, sym, ◌∙◌, length, length-append, append_assoc, append-nil, arith}
+use Rattle.std.proofs.Common.{◌≡◌, ℕ, suc, ◌+◌, ◌*◌, Option, List, [], ◌∷◌, ◌++◌, ap, sym, ◌∙◌, length, length-append, append_assoc, append-nil, arith}
 use Rattle.std.proofs.Math.Nat.{suc-mul}
 use Rattle.gas_geom.specs.Gas.{Rules}
 use Rattle.gas_geom.specs.Channel.{ChannelModel}
@@ -7,7 +7,7 @@ use Rattle.gas_rows.specs.declared.chirality.Chirality.{Chirality}
 use Rattle.gas_stage.specs.Stage.{owed}
 use Rattle.gas_belt.specs.Belt.{Belt, Sender, Receiver}
 use Rattle.gas_rows.specs.Row.{RowModel}
-use Rattle.gas_pipe_members.specs.Worker.{WorkerModel, MayHaveDone, Does, HasTakenAll, HasPutAll}
+use Rattle.gas_pipe_members.specs.Worker.{WorkerModel, MayHaveDone, Does}
 use Rattle.gas_pipe_model.specs.Plan.{PlanModel}
 use Rattle.gas_pipe_model.specs.Pass.{computes_from}
 use Rattle.gas_pipe_model.proofs.Circle.{owed_pass}
@@ -39,20 +39,6 @@ pub record Running (gas : Rules) (e : Option ℕ) (w0 w : WorkerModel) (rx0 rx :
   pub tx_is : tx.belt ≡ tx0.belt
 
 module _ (gas : Rules) (e : Option ℕ) (w0 : WorkerModel) (rx0 : Receiver) (tx0 : Sender) where
-  pub run_begins : (w : WorkerModel) → MayHaveDone gas w e [] [] → w.stage.channel ≡ w0.stage.channel → w.stage.chirality ≡ w0.stage.chirality →
-      Running gas e w0 w rx0 rx0 tx0 tx0
-  run_begins w done channel chirality = record {
-    took = [];
-    gave = [];
-    done = done;
-    came = sym (append-nil rx0.taken);
-    went = sym (append-nil tx0.put);
-    channel = channel;
-    chirality = chirality;
-    rx_is = refl;
-    tx_is = refl;
-  }
-
   module _ (w v : WorkerModel) (rx rx2 : Receiver) (tx tx2 : Sender) (was : Running gas e w0 w rx0 rx tx0 tx)
       (channel : v.stage.channel ≡ w.stage.channel) (chirality : v.stage.chirality ≡ w.stage.chirality) where
     pub run_took : (row : RowModel) → TookFrom rx row rx2 → SamePut tx tx2 → Does gas w (row ∷ []) [] v → Running gas e w0 v rx0 rx2 tx0 tx2
@@ -98,21 +84,6 @@ module _ (gas : Rules) (e : Option ℕ) (w0 : WorkerModel) (rx0 : Receiver) (tx0
   pub run_wide : (w : WorkerModel) (rx : Receiver) (tx : Sender) → Running gas e w0 w rx0 rx tx0 tx → rx0.belt.width ≡ w0.stage.channel.width → rx.belt.width ≡ w.stage.channel.width
   run_wide w rx tx was wide =
       ap (λ (b : Belt). b.width) was.rx_is ∙ wide ∙ ap (λ (c : ChannelModel). c.width) (sym was.channel)
-
-  -- a pass that is over is whole
-  pub run_over : (w : WorkerModel) (rx rx2 : Receiver) (tx tx2 : Sender) → Running gas e w0 w rx0 rx tx0 tx → SameTaken rx rx2 → SamePut tx tx2 → HasTakenAll gas w → HasPutAll gas w →
-      OnePass gas w0 e rx0.taken tx0.put rx2.taken tx2.put
-  run_over w rx rx2 tx tx2 was rests_rx rests_tx all put = record {
-    took = was.took;
-    whole = all e was.took was.gave was.done ∙ ap (λ (c : ChannelModel). c.height) was.channel;
-    came = rests_rx.1 ∙ was.came;
-    went =
-        rests_tx.1 ∙ was.went
-        ∙ ap (λ (l : List RowModel). tx0.put ++ l)
-        (put e was.took was.gave was.done
-        ∙ ap (λ (c : ChannelModel). owed gas c w.stage.chirality e was.took) was.channel
-        ∙ ap (λ (h : Chirality). owed gas w0.stage.channel h e was.took) was.chirality);
-  }
 
 -- one pass more, of a worker that has made some
 pub one_pass_more : (gas : Rules) (w0 w : WorkerModel) (first : ℕ) (plan : PlanModel) (who pass : ℕ) (t p t2 p2 : List RowModel) →

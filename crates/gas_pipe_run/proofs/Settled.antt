@@ -5,15 +5,16 @@ use Rattle.std.specs.Int.{div_ceil}
 use Rattle.std.specs.List.{range_with_len}
 use Rattle.std.proofs.lemmas.Bool.{ne_eqb}
 use Rattle.std.proofs.lemmas.List.{length-append, length-map, map-id}
+use Rattle.std.proofs.lemmas.Simd.{map-map}
 use Rattle.std.proofs.lemmas.List.FromFn.{length-map-range_with_len, get_or-map-range_with_len}
 use Rattle.gas_geom.specs.Gas.{Rules, IsGas}
 use Rattle.gas_geom.specs.Channel.{ChannelModel}
 use Rattle.gas_geom.specs.Lattice.{LatticeModel, IsLattice}
 use Rattle.gas_stage.specs.Evolution.{lattice_after}
+use Rattle.gas_rows.proofs.Rows.{row_of-same}
 use Rattle.gas_belt.specs.Belt.{CarriedModel}
 use Rattle.gas_rows.specs.Row.{RowModel}
-use Rattle.gas_pipe_model.specs.Pass.{RunInputModel, carried_on, carried_by_belts, rows_on}
-use Rattle.gas_pipe_model.specs.Inner.Input.{IsRunInput}
+use Rattle.gas_pipe_model.specs.Pass.{RunInputModel, IsRunInput, carried_on, carried_by_belts, rows_on}
 use Rattle.gas_pipe_model.specs.Inner.Circle.{joined, IsCircle, owes_in}
 use Rattle.gas_pipe_model.proofs.Boundaries.{enough_passes, some_passes}
 use Rattle.gas_pipe_model.proofs.Generations.{begins_first, ends_last, same_lattice}
@@ -28,20 +29,12 @@ use Rattle.gas_pipe_members.proofs.Emptied.{take-emptied, emptied_joined}
 use Rattle.gas_pipe_members.proofs.Feeds.{fed_gave, fed_given, fed_taken, fed_holds}
 use Rattle.gas_pipe_run.proofs.Meetings.{on_more, on_long}
 
-map_same : {A B : Type 0} (f g : A → B) → ((x : A) → f x ≡ g x) → (xs : List A) → map f xs ≡ map g xs
-map_same f g same [] = refl
-map_same f g same (x ∷ xs) = ap (λ y. y ∷ map f xs) (same x) ∙ ap (λ l. g x ∷ l) (map_same f g same xs)
-
-map_twice : {A B C : Type 0} (g : B → C) (f : A → B) (xs : List A) → map (λ x. g (f x)) xs ≡ map g (map f xs)
-map_twice g f [] = refl
-map_twice g f (x ∷ xs) = ap (λ l. g (f x) ∷ l) (map_twice g f xs)
-
 -- what was put on belts that carried these rows, and what was taken from them
 pub all_put : (rows : List (List RowModel)) → map (λ (b : CarriedModel). b.put) (map carrying rows) ≡ rows
-all_put rows = sym (map_twice (λ (b : CarriedModel). b.put) carrying rows) ∙ map-id rows
+all_put rows = map-map (λ (b : CarriedModel). b.put) carrying rows ∙ map-id rows
 
 pub all_taken : (rows : List (List RowModel)) → map (λ (b : CarriedModel). b.taken) (map carrying rows) ≡ rows
-all_taken rows = sym (map_twice (λ (b : CarriedModel). b.taken) carrying rows) ∙ map-id rows
+all_taken rows = map-map (λ (b : CarriedModel). b.taken) carrying rows ∙ map-id rows
 
 -- what was taken from the last of some belts
 last_of : (xs : List CarriedModel) (last : CarriedModel) → get_or (map (λ (b : CarriedModel). b.taken) (xs ++ last ∷ [])) (length xs) [] ≡ last.taken
@@ -181,9 +174,9 @@ module _ (gas : Rules) (laws : IsGas gas) (input : RunInputModel) (is : IsRunInp
     -- each belt has carried the rows of all passes
     pub belts_are : belts_before gas input b (input.plan.stages + 1) ≡ map carrying (carried_by_belts gas input)
     belts_are =
-        map_same (λ k. carrying (rows_on_belt gas input b k)) (λ k. carrying (carried_on gas input passes k)) (λ k. ap carrying (carries k ∙ joined_is (λ i. rows_on gas input i k) passes))
-        (range_with_len 0 (input.plan.stages + 1))
-        ∙ map_twice carrying (carried_on gas input passes) (range_with_len 0 (input.plan.stages + 1))
+        row_of-same (carrying []) (input.plan.stages + 1) (λ k. carrying (rows_on_belt gas input b k)) (λ k. carrying (carried_on gas input passes k))
+        (λ k _. ap carrying (carries k ∙ joined_is (λ i. rows_on gas input i k) passes))
+        ∙ sym (map-map carrying (carried_on gas input passes) (range_with_len 0 (input.plan.stages + 1)))
         ∙ ap (map carrying) (sym (rw (ne_eqb input.plan.generations 0 (λ none. absurd (omega (arith, none, more)))) refl))
 
     abbrev before : ℕ

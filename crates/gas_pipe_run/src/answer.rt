@@ -1,6 +1,5 @@
 //! The result of a run: the lattice, and what the belts carried.
 ghost use Rattle.std.specs.Prelude.{◌≡◌, ◌≤◌, ◌<◌, IfSome, IfNone, length};
-ghost use Rattle.std.specs.Int.{div_ceil};
 
 use gas_belt::carried::Carried;
 use gas_geom::gas::Gas;
@@ -11,9 +10,9 @@ use std::marker::Model;
 /// The lattice after a run, and what each belt carried in all passes.
 #[derive(Drop)]
 pub struct Run<G: Gas> {
-    lattice: Lattice<G>,
-    plan: Plan,
-    belts: Vec<Carried<G>>,
+    pub(crate) lattice: Lattice<G>,
+    pub(crate) plan: Plan,
+    pub(crate) belts: Vec<Carried<G>>,
 }
 
 impl<G: Gas> Model for Run<G> {
@@ -31,19 +30,6 @@ impl<G: Gas> Model for Run<G> {
 }
 
 impl<G: Gas> Run<G> {
-    pub(crate) fn new(lattice: Lattice<G>, plan: Plan, belts: Vec<Carried<G>>) -> Self
-        ensures lattice { result.lattice ≡ lattice }
-        ensures stages { result.stages ≡ plan.stages }
-        ensures passes { result.passes ≡ div_ceil plan.generations plan.stages }
-        ensures belts { result.belts ≡ belts.items }
-    {
-        Run {
-            lattice,
-            plan,
-            belts,
-        }
-    }
-
     /// The lattice after the generations of the plan.
     pub fn lattice(&self) -> &Lattice<G>
         ensures value { result.now ≡ self.now.lattice }

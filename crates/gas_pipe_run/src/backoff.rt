@@ -67,20 +67,16 @@ impl Backoff {
     fn phase(&self) -> Phase
         ensures park { result ≡ Park → self.now.is_announced ≡ true }
     {
-        let tries_awake = match self.trials.mode() {
-            Mode::Yielding => SPINS + YIELDS,
-            Mode::Trial | Mode::Banned => SPINS_WITHOUT_YIELDS,
-        };
-        if self.tries >= tries_awake {
-            if self.is_announced {
-                Phase::Park
-            } else {
-                Phase::Announce
-            }
-        } else if self.tries >= SPINS && self.trials.mode() == Mode::Yielding {
-            Phase::Yield
-        } else {
+        let yields = self.trials.mode == Mode::Yielding;
+        let spins = if yields { SPINS } else { SPINS_WITHOUT_YIELDS };
+        if self.tries < spins {
             Phase::Spin
+        } else if yields && self.tries < SPINS + YIELDS {
+            Phase::Yield
+        } else if self.is_announced {
+            Phase::Park
+        } else {
+            Phase::Announce
         }
     }
 

@@ -3,8 +3,8 @@ ghost use Rattle.std.specs.Prelude.{◌≡◌, ℕ, List, IsTrue};
 ghost use Rattle.gas_rows.specs.Row.{RowModel};
 ghost use Rattle.gas_pipe_members.specs.Feeder.{MayHaveFed};
 
+use crate::shared::Shared;
 use crate::waiter::Waiter;
-use crate::wake_ups::WakeUps;
 use gas_belt::rx::Rx;
 use gas_belt::tx::Tx;
 use gas_geom::gas::Gas;
@@ -13,9 +13,8 @@ use gas_pipe_members::feeder::Feeder;
 use std::sync::Wait;
 
 /// Makes the feeder's turns until its passes are over. False if the stop flag was raised before.
-pub(crate) fn run_feeder<G: Gas, R: Wait>(
-    rt: &R,
-    wake_ups: &WakeUps,
+pub(crate) fn run_feeder<G: Gas, H, R: Wait>(
+    shared: &Shared<'_, H, R>,
     feeder: &mut Feeder<G>,
     rx: &mut Rx<G>,
     tx: &mut Tx<G>,
@@ -31,12 +30,12 @@ pub(crate) fn run_feeder<G: Gas, R: Wait>(
         MayHaveFed feeder.old passes rows tx.old.put rx.old.taken →
         MayHaveFed feeder.new passes rows tx.new.put rx.new.taken }
 {
-    let mut waiter = Waiter::new(wake_ups, 0);
-    for _ in rt.forever() {
+    let mut waiter = Waiter::new(shared.wake_ups, 0);
+    for _ in shared.rt.forever() {
         match feeder.turn(tx, rx) {
             Turned::Done => return true,
             Turned::Idle => {
-                if !waiter.publish_or_wait(rt, tx) {
+                if !waiter.publish_or_wait(shared.rt, tx) {
                     return false;
                 }
             }

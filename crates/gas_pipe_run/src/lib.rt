@@ -3,7 +3,6 @@
 
 pub mod answer;
 pub mod backoff;
-mod fed_line;
 mod feeder_loop;
 pub mod gate;
 mod job;
@@ -77,10 +76,15 @@ pub fn run<G: Gas + Send, H: Gate + Sync, R: Threads + Wait + Sync>(
         IfOk result (λ r. (r.lattice ≡ lattice.now) × (r.belts ≡ [])) }
     ensures refused { IfErr result (λ e. e ≡ RunError.Memory) }
 {
-    let feeder = Feeder::new(alloc, lattice)?;
+    let mut feeder = Feeder::new(alloc, lattice)?;
     if plan.generations() == 0 {
-        return Ok(Run::new(feeder.finish(), plan, Vec::new(alloc)));
+        return Ok(Run {
+            lattice: feeder.finish(),
+            plan,
+            belts: Vec::new(alloc),
+        });
     }
+    feeder.begin_ring(plan.passes());
     let input = RunInput {
         lattice,
         chirality,

@@ -1,13 +1,12 @@
 //! The line of workers of a run: how it is made, started and run to its end.
 ghost use Rattle.std.specs.Prelude.{◌≡◌, ◌<◌, [], IfOk, IfSome};
-ghost use Rattle.gas_pipe_run.specs.Inner.Links.{IsBeltOf, IsJobOf, IsRunOf};
-ghost use Rattle.gas_pipe_run.specs.Inner.Line.{HoldsInput, IsLinked};
+ghost use Rattle.gas_pipe_run.specs.Inner.Links.{IsBeltOf, IsJobOf, IsLinked, MayHaveFedInput, IsRunOf};
 
 use crate::answer::Run;
-use crate::fed_line::FedLine;
 use crate::feeder_loop::run_feeder;
 use crate::gate::Gate;
 use crate::job::Job;
+use crate::join::join_and_meet;
 use crate::shared::Shared;
 use crate::start::{give_up, start_workers};
 use crate::wake_ups::WakeUps;
@@ -19,7 +18,6 @@ use gas_pipe_members::feeder::Feeder;
 use gas_pipe_members::input::RunInput;
 use gas_pipe_members::worker::Worker;
 use std::alloc::{AllocError, Global};
-use std::marker::Model;
 use std::sync::Wait;
 use std::thread;
 use std::thread::{Scope, Threads};
@@ -55,107 +53,54 @@ fn make_job<'e, G: Gas>(
     Ok((job, next))
 }
 
-/// A line that is ready to start: the feeder, which has all passes before it, its two ends, and the
-/// workers' jobs in order.
-#[derive(Drop)]
-pub struct Line<'e, G: Gas> {
-    input: &'e RunInput<'e, G>,
-    feeder: Feeder<G>,
-    first: Tx<G>,
-    jobs: Vec<Job<'e, G>>,
-    last: Rx<G>,
-}
-
-impl<'e, G: Gas> Model for Line<'e, G> {
-    ghost use Rattle.gas_pipe_run.specs.Inner.Line.{LineModel};
-
-    ghost Value = { LineModel };
-
-    ghost view = { λ l. record {
-      input = l.input.now;
-      feeder = l.feeder;
-      first = l.first;
-      jobs = l.jobs.items;
-      last = l.last;
-    } };
-}
-
-impl<'e, G: Gas> Line<'e, G> {
-    /// Makes the belts and a worker for each stage, and opens all passes.
-    pub(crate) fn new(
-        alloc: Global,
-        input: &'e RunInput<'e, G>,
-        mut feeder: Feeder<G>,
-    ) -> Result<Self, AllocError>
-        requires holds { HoldsInput G.rules input.now feeder }
-        ensures input { IfOk result (λ line. line.input ≡ input.now) }
-        ensures linked { IfOk result (λ line. IsLinked G.rules line) }
-    {
-        let stages = input.schedule.plan.stages();
-        let width = input.lattice.channel().size().width();
-        let mut jobs = Vec::with_capacity(alloc, stages as usize)?;
-        let (first, mut last) = belt(alloc, input.schedule.plan.capacity(), width)?;
-        for k in 0..stages {
-            let (job, next) = make_job(alloc, input, k, last)?;
-            jobs.push(job)?;
-            last = next;
-        }
-        feeder.begin_ring(input.schedule.plan.passes());
-        Ok(Line {
-            input,
-            feeder,
-            first,
-            jobs,
-            last,
-        })
+// The end that the feeder puts on, a job for each stage, and the end that the feeder takes from.
+fn make_line<'e, G: Gas>(
+    alloc: Global,
+    input: &RunInput<'e, G>,
+) -> Result<(Tx<G>, Vec<Job<'e, G>>, Rx<G>), AllocError>
+    ensures linked { IfOk result (λ r. IsLinked input.now r.0.belt r.1.items r.2.belt) }
+    ensures nothing_put { IfOk result (λ r. r.0.put ≡ []) }
+    ensures nothing_taken { IfOk result (λ r. r.2.taken ≡ []) }
+{
+    let plan = input.schedule.plan;
+    let width = input.lattice.channel().size().width();
+    let mut jobs = Vec::with_capacity(alloc, plan.stages() as usize)?;
+    let (first, mut last) = belt(alloc, plan.capacity(), width)?;
+    for k in 0..plan.stages() {
+        let (job, next) = make_job(alloc, input, k, last)?;
+        jobs.push(job)?;
+        last = next;
     }
+    Ok((first, jobs, last))
 }
 
-// Makes a line and all its passes. None if memory or a start was refused.
+// Makes a line, and runs it to its end. None if memory or a start was refused.
 fn run_in_scope<'s, 'e: 's, G: Gas + Send + 'e, H: Gate + Sync, R: Threads + Wait + Sync>(
     scope: &'s Scope<'s, &'e ()>,
     alloc: Global,
     shared: &'e Shared<'e, H, R>,
     input: &'e RunInput<'e, G>,
-    feeder: Feeder<G>,
+    mut feeder: Feeder<G>,
 ) -> Option<Run<G>>
-    requires holds { HoldsInput G.rules input.now feeder }
+    requires begun { MayHaveFedInput G.rules input.now feeder [] [] }
     ensures { IfSome result (λ run. IsRunOf G.rules input.now run) }
 {
-    let Ok(line) = Line::new(alloc, input, feeder) else {
+    let Ok((mut first, jobs, mut last)) = make_line(alloc, input) else {
         return None;
     };
-    let Line {
-        input,
-        mut feeder,
-        mut first,
-        jobs,
-        mut last,
-    } = line;
-    let belts = Vec::with_capacity(alloc, jobs.len() + 1).ok()?;
+    let Ok(belts) = Vec::with_capacity(alloc, jobs.len() + 1) else {
+        return None;
+    };
     let threads = start_workers(scope, alloc, shared, jobs)?;
-    if !run_feeder(
-        shared.rt,
-        shared.wake_ups,
-        &mut feeder,
-        &mut last,
-        &mut first,
-    ) {
+    if !run_feeder(shared, &mut feeder, &mut last, &mut first) {
         give_up(shared, threads);
         return None;
     }
-    let line = FedLine {
-        input,
-        feeder,
-        first,
-        threads,
-        last,
-    };
-    line.join_and_meet(shared.rt, belts)
+    join_and_meet(shared.rt, input, feeder, first, threads, last, belts)
 }
 
 /// Makes all passes of a plan over the feeder's rows: a thread for each worker, and the feeder on
-/// the caller's thread. Every thread that was started is joined before it returns. The error means
+/// the caller's thread. Every thread that was started is over before it returns. The error means
 /// that memory, or the start of a thread, was refused.
 pub(crate) fn run_line<G: Gas + Send, H: Gate + Sync, R: Threads + Wait + Sync>(
     rt: &R,
@@ -164,7 +109,7 @@ pub(crate) fn run_line<G: Gas + Send, H: Gate + Sync, R: Threads + Wait + Sync>(
     input: &RunInput<'_, G>,
     feeder: Feeder<G>,
 ) -> Result<Run<G>, AllocError>
-    requires holds { HoldsInput G.rules input.now feeder }
+    requires begun { MayHaveFedInput G.rules input.now feeder [] [] }
     ensures { IfOk result (λ run. IsRunOf G.rules input.now run) }
 {
     let wake_ups = WakeUps::new(alloc, input.schedule.plan.stages())?;
@@ -177,7 +122,7 @@ pub(crate) fn run_line<G: Gas + Send, H: Gate + Sync, R: Threads + Wait + Sync>(
         thread::scope_env(),
         rt,
         move |scope| -> Option<Run<G>>
-            requires { HoldsInput G.rules input.now feeder }
+            requires { MayHaveFedInput G.rules input.now feeder [] [] }
             ensures { IfSome result (λ run. IsRunOf G.rules input.entry.now run) }
         { run_in_scope(scope, alloc, shared, input, feeder) },
     );

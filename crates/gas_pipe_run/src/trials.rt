@@ -63,7 +63,7 @@ impl YieldBan {
 /// ended without a late wake-up.
 #[derive(Drop)]
 pub(crate) struct Trials {
-    mode: Mode,
+    pub mode: Mode,
     // The waits before the next trial, and from that one to the one after it.
     until_next: u32,
     gap: u32,
@@ -129,11 +129,6 @@ impl Trials {
         } else {
             Mode::Yielding
         };
-    }
-
-    /// The mode of the wait.
-    pub(crate) fn mode(&self) -> Mode {
-        self.mode
     }
 
     /// A park ended. The wait ends late if no neighbour ended the park although yields were not

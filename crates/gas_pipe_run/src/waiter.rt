@@ -13,15 +13,21 @@ use std::{hint, thread};
 pub struct Waiter<'a> {
     wake_ups: &'a WakeUps,
     member: usize,
+    before: usize,
+    behind: usize,
     backoff: Backoff,
 }
 
 impl<'a> Waiter<'a> {
     /// The waiter of the feeder, 0, or of a worker.
     pub(crate) fn new(wake_ups: &'a WakeUps, member: u32) -> Self {
+        let member = member as usize;
+        let last = wake_ups.last_member();
         Waiter {
             wake_ups,
-            member: member as usize,
+            member,
+            before: if member == 0 { last } else { member - 1 },
+            behind: if member < last { member + 1 } else { 0 },
             backoff: Backoff::new(),
         }
     }
@@ -54,9 +60,7 @@ impl<'a> Waiter<'a> {
     /// A row was put, so the wait is over. Wakes the member behind, which may wait for the row.
     pub(crate) fn wake_behind(&mut self) {
         self.end_wait();
-        let behind = self.member.wrapping_add(1);
-        let is_last = behind >= self.wake_ups.members();
-        self.wake_ups.wake(if is_last { 0 } else { behind });
+        self.wake_ups.wake(self.behind);
     }
 
     /// Shows the member behind the rows that gathered on the belt. Returns whether there were any.
@@ -86,12 +90,6 @@ impl<'a> Waiter<'a> {
     /// A row was taken, so the wait is over. Wakes the member before, which may wait for its room.
     pub(crate) fn wake_before(&mut self) {
         self.end_wait();
-        let is_first = self.member == 0;
-        let before = if is_first {
-            self.wake_ups.members()
-        } else {
-            self.member
-        };
-        self.wake_ups.wake(before.wrapping_sub(1));
+        self.wake_ups.wake(self.before);
     }
 }

@@ -61,11 +61,9 @@ impl WakeUps {
         self.stop.load(Ordering::SeqCst)
     }
 
-    /// The number of members.
-    pub(crate) fn members(&self) -> usize
-        ensures { result ≡ self.now.members }
-    {
-        self.states.len()
+    /// The member that the feeder takes from.
+    pub(crate) fn last_member(&self) -> usize {
+        self.states.len().saturating_sub(1)
     }
 
     /// The ban on yields that all members share.

@@ -1,17 +1,17 @@
 //! What a worker's thread does.
-ghost use Rattle.std.specs.Prelude.{◌≡◌, ◌≤◌, ◌*◌, [], length, IsTrue};
-ghost use Rattle.std.specs.Int.{div_ceil};
+ghost use Rattle.std.specs.Prelude.{◌≡◌, IsTrue, IfSome};
 ghost use Rattle.gas_pipe_members.specs.Worker.{IsClosed};
-ghost use Rattle.gas_pipe_run.specs.Inner.Job.{OnePass, owes_until};
+ghost use Rattle.gas_pipe_run.specs.Inner.Job.{OnePass, IsReady, HasFinished};
 
 use crate::gate::Gate;
+use crate::job::{Ended, Job};
 use crate::shared::Shared;
 use crate::waiter::Waiter;
+use crate::work::Work;
 use gas_belt::rx::Rx;
 use gas_belt::tx::Tx;
 use gas_geom::gas::Gas;
 use gas_pipe_members::ends::Turned;
-use gas_pipe_members::schedule::Schedule;
 use gas_pipe_members::worker::Worker;
 use std::sync::Wait;
 
@@ -54,39 +54,49 @@ fn make_pass<G: Gas, H, R: Wait>(
     unreachable!()
 }
 
-/// Makes all passes of a plan's worker, counted from 1, between unused ends. Returns whether all
-/// are over. It enters the gate before the first turn of each.
-pub(crate) fn make_passes<G: Gas, H: Gate, R: Wait>(
+// Makes all passes of a worker, and closes the end that it put on. None if the stop flag was raised
+// before. It enters the gate before the first turn of each pass.
+fn make_passes<G: Gas, H: Gate, R: Wait>(
+    job: Job<'_, G>,
     shared: &Shared<'_, H, R>,
-    who: u32,
-    schedule: &Schedule,
-    worker: &mut Worker<'_, G>,
-    rx: &mut Rx<G>,
-    tx: &mut Tx<G>,
-) -> bool
-    requires some { 1 ≤ who }
-    requires one_of { who ≤ schedule.now.plan.stages }
-    requires closed { IsClosed worker.old }
-    requires wide { rx.old.belt.width ≡ worker.old.stage.channel.width }
-    requires nothing_taken { rx.old.taken ≡ [] }
-    requires nothing_put { tx.old.put ≡ [] }
-    ensures rx { rx.new.belt ≡ rx.old.belt }
-    ensures tx { tx.new.belt ≡ tx.old.belt }
-    ensures whole { IsTrue result → length rx.new.taken
-        ≡ div_ceil schedule.now.plan.generations schedule.now.plan.stages
-        * worker.old.stage.channel.height }
-    ensures owes { IsTrue result → tx.new.put
-        ≡ owes_until G.rules worker.old schedule.now.first schedule.now.plan who
-        (div_ceil schedule.now.plan.generations schedule.now.plan.stages) rx.new.taken }
+) -> Option<Ended<G>>
+    requires { IsReady job }
+    ensures { IfSome result (λ e. HasFinished G.rules job.entry e.0 e.1) }
 {
-    let passes = schedule.passes();
+    let Job {
+        who,
+        schedule,
+        mut worker,
+        mut rx,
+        mut tx,
+    } = job;
     let mut waiter = Waiter::new(shared.wake_ups, who);
-    for pass in 0..passes {
+    for pass in 0..schedule.plan.passes() {
         shared.gate.enter(who);
         let generation = schedule.generation(pass, who);
-        if !make_pass(shared, &mut waiter, generation, worker, rx, tx) {
-            return false;
+        if !make_pass(
+            shared,
+            &mut waiter,
+            generation,
+            &mut worker,
+            &mut rx,
+            &mut tx,
+        ) {
+            return None;
         }
     }
-    true
+    Some((rx, tx.close()))
+}
+
+impl<'a, G: Gas> Work<Ended<G>> for Job<'a, G> {
+    ghost fresh = { λ j. IsReady j };
+
+    ghost kept = { λ j e. HasFinished G.rules j e.0 e.1 };
+
+    fn do_work<H: Gate, R: Wait>(self, shared: &Shared<'_, H, R>) -> Option<Ended<G>> {
+        let who = self.who;
+        let ended = make_passes(self, shared);
+        shared.gate.leave(who);
+        ended
+    }
 }

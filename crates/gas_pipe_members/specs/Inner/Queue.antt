@@ -1,5 +1,5 @@
 -- Inner words: what functions of this crate promise one another. No public contract cites them.
--- The rows of a feeder, and its spare rows.
+-- The rows of a feeder.
 use Rattle.std.specs.Prelude.{◌≡◌, ℕ, ◌+◌, ◌%◌, ◌^◌, ◌<◌, true, List, [], length, slice_index_or}
 use Rattle.gas_geom.specs.Gas.{Rules}
 use Rattle.gas_geom.specs.Channel.{ChannelModel, is_solid}
@@ -15,8 +15,3 @@ pub record IsQueue (gas : Rules) (channel : ChannelModel) (rows : List RowModel)
   pub wide : (i : ℕ) → i < length rows → length (slice_index_or rows i []) ≡ channel.width
   pub sets : (x i : ℕ) → cell rows x i < 2 ^ gas.dirs
   pub empty : (x y : ℕ) → y < channel.height → is_solid channel x y ≡ true → cell rows x ((y + to_put) % channel.height) ≡ 0
-
--- spare rows, and how many there can be
-pub record SparesModel : Type 0 where
-  pub rows : List RowModel
-  pub most : ℕ

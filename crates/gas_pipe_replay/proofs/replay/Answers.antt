@@ -3,9 +3,8 @@ use Rattle.gas_rows.specs.Chirality.{chirality_bit}
 use Rattle.gas_geom.proofs.Runs.{count-generation}
 use Rattle.gas_geom.specs.Lattice.{LatticeModel}
 use Rattle.gas_pipe_model.specs.Line.{HasRounds, is_done}
-use Rattle.gas_pipe_model.specs.Pass.{RunInputModel, line_of, rows_on}
+use Rattle.gas_pipe_model.specs.Pass.{RunInputModel, line_of, after, rows_on}
 use Rattle.gas_pipe_replay.specs.Replay.{ReplayModel}
-use Rattle.gas_pipe_replay.specs.Inner.LocalLine.{after}
 use Rattle.gas_pipe_replay.proofs.Finished.{one_pass, stands, done_is_some}
 use Rattle.gas_pipe_model.proofs.Generations.{pass_is_line, rows_high}
 use Rattle.gas_pipe_model.proofs.Rounds.{done_after}
@@ -20,7 +19,7 @@ returns-clause-state g c =
     stands g.G.Gas.rules input turns c.new-3.result
     (λ none. omega (arith, none, c.generations.ensures.value, c.if-generations-eq0.false)) enough
     (ap (λ (r : ReplayModel). r.lattice) c.new-3.ensures ∙ c.finish.ensures input turns shows)
-    (ap (λ (r : ReplayModel). r.belts) c.new-3.ensures ∙ c.in_ok-belts.ensures.value input (after g.G.Gas.rules input turns) shows)
+    (ap (λ (r : ReplayModel). r.belts) c.new-3.ensures ∙ c.in_ok-belts.ensures.value input (after g.G.Gas.rules input 0 turns) shows)
 
 pub returns-clause-done : goal.returns-clause-done
 returns-clause-done g c rounds =
@@ -29,7 +28,7 @@ returns-clause-done g c rounds =
     let shows = c.run.ensures input c.in_ok-line.ensures.shows in
     let high : c.args.lattice.now.channel.height ≡ length (rows_on g.G.Gas.rules input 0 0) = sym (rows_high g.G.Gas.rules input shows.is_input 0 0) in
     let last : LatticeModel = record c.args.lattice.now { rows = rows_on g.G.Gas.rules input 0 input.plan.stages } in
-    done_is_some (is_done (line_of g.G.Gas.rules input 0) (after g.G.Gas.rules input turns)) last c.new-3.result.lattice
+    done_is_some (is_done (line_of g.G.Gas.rules input 0) (after g.G.Gas.rules input 0 turns)) last c.new-3.result.lattice
     (ap (λ (r : ReplayModel). r.lattice) c.new-3.ensures ∙ c.finish.ensures input turns shows)
     (done_after (line_of g.G.Gas.rules input 0) (pass_is_line g.G.Gas.rules input shows.is_input 0) turns
     (subst (λ (n : ℕ). HasRounds c.args.plan.stages (2 * n * (c.args.plan.stages + 1)) turns) high rounds))

@@ -3,16 +3,11 @@
 use Rattle.std.specs.Prelude.{◌≡◌, ℕ, suc, ◌≤◌, ◌<◌, ◌++◌, [], List, length, get_or}
 use Rattle.gas_geom.specs.Gas.{Rules}
 use Rattle.gas_rows.specs.Row.{RowModel}
-use Rattle.gas_pipe_model.specs.Line.{State, start, after_turns}
-use Rattle.gas_pipe_model.specs.Pass.{RunInputModel, computes_from, line_of, rows_on}
-use Rattle.gas_pipe_model.specs.Inner.Input.{IsRunInput}
+use Rattle.gas_pipe_model.specs.Line.{State}
+use Rattle.gas_pipe_model.specs.Pass.{RunInputModel, IsRunInput, computes_from, rows_on}
 use Rattle.gas_pipe_members.specs.Belt.{BeltModel}
 use Rattle.gas_pipe_members.specs.Worker.{WorkerModel, MayHaveDone}
 use Rattle.gas_pipe_members.specs.Feeder.{FeederModel, MayHaveFed}
-
--- the histories of the one pass after these turns
-abbrev pub after : Rules → RunInputModel → List ℕ → State
-after gas input turns = after_turns (line_of gas input 0) turns start
 
 -- belt k of these
 abbrev pub belt : List BeltModel → ℕ → BeltModel

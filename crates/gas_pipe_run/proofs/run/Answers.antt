@@ -34,11 +34,3 @@ returns-clause-number g c n few =
     count-generation g.G.Gas.rules bound.laws c.args.lattice.now.channel
     (chirality_bit c.args.chirality c.args.lattice.now.channel.width) c.args.first c.args.lattice.now.rows
     (is_lattice g.G.Gas.rules c.args.lattice.now c.in_ok-feeder.feeder from.channel from.rows from.whole) n
-
-pub returns-then-generations-eq0-clause-number : goal.returns-then-generations-eq0-clause-number
-returns-then-generations-eq0-clause-number g c n few =
-    let bound = g.met.G.Gas g.world.𝓛 g.world.𝓜 g.world.𝓡 ((λ s x. x), (λ x. x), (λ x. x), λ x. x) in
-    let from = c.in_ok-feeder.ensures in
-    count-generation g.G.Gas.rules bound.laws c.args.lattice.now.channel
-    (chirality_bit c.args.chirality c.args.lattice.now.channel.width) c.args.first c.args.lattice.now.rows
-    (is_lattice g.G.Gas.rules c.args.lattice.now c.in_ok-feeder.feeder from.channel from.rows from.whole) n

@@ -19,11 +19,6 @@ pub record JobModel : Type 0 where
   pub rx : Receiver
   pub tx : Sender
 
--- the ends of a worker whose passes are over
-pub record EndedModel : Type 0 where
-  pub rx : Receiver
-  pub spent : Sender
-
 -- it is one of the plan's workers, its ends are unused, what it takes is as wide as its channel, and no pass is open
 pub record IsReady (j : JobModel) : Type 0 where
   pub some : 1 ≤ j.who
@@ -46,8 +41,8 @@ abbrev pub owes_until : Rules → WorkerModel → ℕ → PlanModel → ℕ → 
 owes_until gas w first plan who n took = owed_in w.stage.channel.height (λ i. owes gas w (computes_from first plan i who)) n took
 
 -- between the same two belts it took all rows of all passes, and put all that it owes for them
-pub record HasFinished (gas : Rules) (j : JobModel) (e : EndedModel) : Type 0 where
-  pub rx : e.rx.belt ≡ j.rx.belt
-  pub tx : e.spent.belt ≡ j.tx.belt
-  pub whole : length e.rx.taken ≡ div_ceil j.plan.generations j.plan.stages * j.worker.stage.channel.height
-  pub owes_is : e.spent.put ≡ owes_until gas j.worker j.first j.plan j.who (div_ceil j.plan.generations j.plan.stages) e.rx.taken
+pub record HasFinished (gas : Rules) (j : JobModel) (rx : Receiver) (spent : Sender) : Type 0 where
+  pub rx_is : rx.belt ≡ j.rx.belt
+  pub tx_is : spent.belt ≡ j.tx.belt
+  pub whole : length rx.taken ≡ div_ceil j.plan.generations j.plan.stages * j.worker.stage.channel.height
+  pub owes_is : spent.put ≡ owes_until gas j.worker j.first j.plan j.who (div_ceil j.plan.generations j.plan.stages) rx.taken

@@ -1,18 +1,19 @@
 -- Inner words: what functions of this crate promise one another. No public contract cites them.
 -- How the belts of a run are linked, and what they have carried when it is over.
-use Rattle.std.specs.Prelude.{◌≡◌, ℕ, suc, ◌++◌, List, [], ◌∷◌, map, Option, Some}
+use Rattle.std.specs.Prelude.{◌≡◌, ℕ, suc, ◌<◌, List, [], ◌∷◌, length, map, Option}
 use Rattle.std.specs.Int.{div_ceil}
 use Rattle.std.specs.List.{range_with_len}
 use Rattle.std.specs.declared.thread.PromisedHandle.{PromisedHandle}
 use Rattle.gas_geom.specs.Gas.{Rules}
-use Rattle.gas_belt.specs.Belt.{Belt, Sender, CarriedModel}
+use Rattle.gas_belt.specs.Belt.{Belt, Sender, Receiver, CarriedModel}
 use Rattle.gas_pipe_run.specs.declared.work.WorkPromise.{WorkPromise}
 use Rattle.gas_rows.specs.Row.{RowModel}
 use Rattle.gas_stage.specs.Evolution.{lattice_after}
-use Rattle.gas_pipe_model.specs.Pass.{RunInputModel, carried_by_belts}
+use Rattle.gas_pipe_model.specs.Pass.{RunInputModel, IsRunInput, carried_by_belts}
 use Rattle.gas_pipe_model.specs.Inner.Circle.{on_belt, owes_in}
+use Rattle.gas_pipe_members.specs.Feeder.{FeederModel, MayHaveFed}
 use Rattle.gas_pipe_run.specs.Run.{RunModel}
-use Rattle.gas_pipe_run.specs.Inner.Job.{JobModel, EndedModel, IsReady}
+use Rattle.gas_pipe_run.specs.Inner.Job.{JobModel, IsReady}
 
 -- a belt for rows of the input's lattice, with the capacity of its plan
 pub record IsBeltOf (input : RunInputModel) (belt : Belt) : Type 0 where
@@ -41,13 +42,31 @@ abbrev pub last_belt : Belt → List JobModel → Belt
 last_belt from [] = from
 last_belt from (j ∷ js) = last_belt j.tx.belt js
 
+-- The line is linked: there is a job for each stage, they lead from the feeder's first belt to its last, and each belt is one of the
+-- input's plan.
+pub record IsLinked (input : RunInputModel) (first : Belt) (jobs : List JobModel) (last : Belt) : Type 0 where
+  pub stages : 0 < input.plan.stages
+  pub count : length jobs ≡ input.plan.stages
+  pub leads : Linked input 0 first jobs
+  pub puts_on : IsBeltOf input first
+  pub end : last_belt first jobs ≡ last
+  pub takes_from : IsBeltOf input last
+
+-- in all passes over the input's lattice the feeder may have come to its state by putting and taking these rows, and there is a
+-- generation to compute
+pub record MayHaveFedInput (gas : Rules) (input : RunInputModel) (f : FeederModel) (put took : List RowModel) : Type 0 where
+  pub is_input : IsRunInput gas input
+  pub some : 0 < input.plan.generations
+  pub channel : f.channel ≡ input.lattice.channel
+  pub fed : MayHaveFed f (div_ceil input.plan.generations input.plan.stages) input.lattice.rows put took
+
 -- all may start
 abbrev pub AllReady : List JobModel → Type 0
 AllReady [] = Unit {0}
 AllReady (j ∷ js) = IsReady j × AllReady js
 
 -- the job that a thread was given
-abbrev pub job_of : PromisedHandle (Option EndedModel) (WorkPromise JobModel) → JobModel
+abbrev pub job_of : PromisedHandle (Option (Receiver × Sender)) (WorkPromise JobModel) → JobModel
 job_of h = h.promise.0.value
 
 -- a belt from which these rows were taken, and no others were put on it
@@ -68,16 +87,6 @@ pub record IsRunOf (gas : Rules) (input : RunInputModel) (r : RunModel) : Type 0
   pub stages : r.stages ≡ input.plan.stages
   pub passes : r.passes ≡ div_ceil input.plan.generations input.plan.stages
   pub belts : r.belts ≡ map carrying (carried_by_belts gas input)
-
--- the ends of a belt have met, and the rest of the line goes on with `next`
-pub record HasMet (current : Option Sender) (ended : Option EndedModel) (before now : List CarriedModel) (next : Sender) : Type 0 where
-  pub spent : Sender
-  pub over : EndedModel
-  pub current_is : current ≡ Some spent
-  pub ended_is : ended ≡ Some over
-  pub next_is : next ≡ over.spent
-  pub same : over.rx.taken ≡ spent.put
-  pub belts : now ≡ before ++ carrying spent.put ∷ []
 
 -- the belts before the k-th have met, and these rows were put on it
 pub record HaveMetUpTo (gas : Rules) (input : RunInputModel) (b : List RowModel) (k : ℕ) (put : List RowModel) (now : List CarriedModel) : Type 0 where

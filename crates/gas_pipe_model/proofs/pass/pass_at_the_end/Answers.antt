@@ -1,34 +1,26 @@
 use Rattle.std.proofs.Common.{◌≡◌, ℕ, ◌+◌, ◌*◌, length, ap, ◌∙◌, arith}
-use Rattle.gas_pipe_model.specs.Line.{after_turns, start, events}
-use Rattle.gas_pipe_model.specs.Pass.{line_of, rows_on}
+use Rattle.gas_pipe_model.specs.Line.{start, events}
+use Rattle.gas_pipe_model.specs.Pass.{line_of, after, rows_on}
 use Rattle.gas_pipe_model.proofs.Turns.{fits_start}
 use Rattle.gas_pipe_model.proofs.Kept.{fits}
-use Rattle.gas_pipe_model.proofs.Totals.{carried_all, total_run, total_start, most_from_done}
-use Rattle.gas_pipe_model.proofs.Generations.{pass_is_line, carries, rows_high, ends_last}
+use Rattle.gas_pipe_model.proofs.Totals.{total_run, total_start, most_from_done}
+use Rattle.gas_pipe_model.proofs.Generations.{pass_is_line, pass_carries, rows_high, ends_last}
 use Rattle.gas_pipe_model.proofs.pass.pass_at_the_end.Goals as goal
 
 pub returns : goal.returns
 returns c = record {
-  put = λ gas input n turns k is room done h.
-      let line = pass_is_line gas input (record { lattice = is; room = room }) n in
-      (carried_all (line_of gas input n) line (after_turns (line_of gas input n) turns start) (fits (line_of gas input n) line turns) done k h).0
-      ∙ carries gas input (record { lattice = is; room = room }) n k;
-  taken = λ gas input n turns k is room done h.
-      let line = pass_is_line gas input (record { lattice = is; room = room }) n in
-      (carried_all (line_of gas input n) line (after_turns (line_of gas input n) turns start) (fits (line_of gas input n) line turns) done k h).1
-      ∙ carries gas input (record { lattice = is; room = room }) n k;
-  last = λ gas input n turns is room done enough.
-      let line = pass_is_line gas input (record { lattice = is; room = room }) n in
-      (carried_all (line_of gas input n) line (after_turns (line_of gas input n) turns start) (fits (line_of gas input n) line turns) done input.plan.stages (omega arith)).1
-      ∙ carries gas input (record { lattice = is; room = room }) n input.plan.stages ∙ ends_last gas input n enough;
-  count = λ gas input n turns is room done.
-      let line = pass_is_line gas input (record { lattice = is; room = room }) n in
+  put = λ gas input n turns k is done h. (pass_carries gas input is n turns done k h).0;
+  taken = λ gas input n turns k is done h. (pass_carries gas input is n turns done k h).1;
+  last = λ gas input n turns is done enough.
+      (pass_carries gas input is n turns done input.plan.stages (omega arith)).1 ∙ ends_last gas input n enough;
+  count = λ gas input n turns is done.
+      let line = pass_is_line gas input is n in
       let whole : events (line_of gas input n) turns start ≡ 2 * length (rows_on gas input n 0) * (input.plan.stages + 1) =
       omega (
         arith,
         total_run (line_of gas input n) line turns start (fits_start (line_of gas input n)),
         total_start input.plan.stages,
-        most_from_done (line_of gas input n) line (after_turns (line_of gas input n) turns start) (fits (line_of gas input n) line turns) done,
+        most_from_done (line_of gas input n) line (after gas input n turns) (fits (line_of gas input n) line turns) done,
       ) in
-      whole ∙ ap (λ (h : ℕ). 2 * h * (input.plan.stages + 1)) (rows_high gas input (record { lattice = is; room = room }) n 0);
+      whole ∙ ap (λ (h : ℕ). 2 * h * (input.plan.stages + 1)) (rows_high gas input is n 0);
 }

@@ -7,7 +7,7 @@ use Rattle.gas_pipe_model.proofs.pass.pass_done_in_rounds.Goals as goal
 
 pub returns : goal.returns
 returns c = record {
-  done = λ gas input n turns is room h.
-      done_after (line_of gas input n) (pass_is_line gas input (record { lattice = is; room = room }) n) turns
-      (subst (λ (m : ℕ). HasRounds input.plan.stages (2 * m * (input.plan.stages + 1)) turns) (sym (rows_high gas input (record { lattice = is; room = room }) n 0)) h);
+  done = λ gas input n turns is h.
+      done_after (line_of gas input n) (pass_is_line gas input is n) turns
+      (subst (λ (m : ℕ). HasRounds input.plan.stages (2 * m * (input.plan.stages + 1)) turns) (sym (rows_high gas input is n 0)) h);
 }

@@ -1,10 +1,8 @@
 use Rattle.std.proofs.Common.{◌≡◌, ◌<◌, ◌∷◌, [], length, get_or, sym, ◌∙◌, arith}
 use Rattle.gas_pipe_model.specs.Line.{start}
-use Rattle.gas_pipe_model.specs.Pass.{line_of}
+use Rattle.gas_pipe_model.specs.Pass.{line_of, after}
 use Rattle.gas_pipe_members.specs.Belt.{BeltModel}
-use Rattle.gas_pipe_replay.specs.Inner.LocalLine.{after}
-use Rattle.gas_pipe_model.proofs.Generations.{pass_is_line}
-use Rattle.gas_pipe_model.proofs.Kept.{fits}
+use Rattle.gas_pipe_model.proofs.Generations.{pass_fits}
 use Rattle.gas_pipe_model.proofs.Rounds.{run_append}
 use Rattle.gas_pipe_replay.proofs.Slots.{two_writes, read_before, read_behind}
 use Rattle.gas_pipe_replay.proofs.FeederSteps.{FeederTurned, feeder_step_at}
@@ -38,8 +36,8 @@ returns-clause-shows g c input ws turns sh =
       done_when = c.turn.ensures.done_when;
       stray_at = c.turn.ensures.stray_at;
     } in
-    let step = feeder_step_at g.G.Gas.rules input c.args.feeder.now c.turn.new.self ws bs (after g.G.Gas.rules input turns) c.turn.new.put c.turn.new.take
-    g.met.G.Gas.laws (fits (line_of g.G.Gas.rules input 0) (pass_is_line g.G.Gas.rules input sh.is_input 0) turns) sh
+    let step = feeder_step_at g.G.Gas.rules input c.args.feeder.now c.turn.new.self ws bs (after g.G.Gas.rules input 0 turns) c.turn.new.put c.turn.new.take
+    g.met.G.Gas.laws (pass_fits g.G.Gas.rules input sh.is_input 0 turns) sh
     c.turn.result to from (sym c.index-before-0.is ∙ x) (sym c.index-behind-0.is ∙ y) turned in
     rw (two_writes bs before behind 0 input.plan.stages c.turn.new.put c.turn.new.take parts at some)
     (rw (run_append (line_of g.G.Gas.rules input 0) turns (0 ∷ []) start) step)

@@ -1,11 +1,10 @@
 use Rattle.std.proofs.Common.{◌≡◌, ◌<◌, ◌∷◌, [], length, ◌-◌, suc, get_or, sym, ap, ◌∙◌, arith}
 use Rattle.std.proofs.lemmas.List.{get_or_read}
 use Rattle.gas_pipe_model.specs.Line.{start}
-use Rattle.gas_pipe_model.specs.Pass.{line_of}
+use Rattle.gas_pipe_model.specs.Pass.{line_of, after}
 use Rattle.gas_pipe_members.specs.Belt.{BeltModel}
-use Rattle.gas_pipe_replay.specs.Inner.LocalLine.{after, belt}
-use Rattle.gas_pipe_model.proofs.Generations.{pass_is_line}
-use Rattle.gas_pipe_model.proofs.Kept.{fits}
+use Rattle.gas_pipe_replay.specs.Inner.LocalLine.{belt}
+use Rattle.gas_pipe_model.proofs.Generations.{pass_fits}
 use Rattle.gas_pipe_model.proofs.Rounds.{run_append}
 use Rattle.gas_pipe_replay.proofs.Slots.{two_writes, read_before, read_behind}
 use Rattle.gas_pipe_replay.proofs.WorkerSteps.{WorkerTurned, worker_step_at}
@@ -43,8 +42,8 @@ returns-clause-shows g c input f turns sh =
       done_when = c.turn.ensures.done_when;
       stray_at = c.turn.ensures.stray_at;
     } in
-    let step = worker_step_at g.G.Gas.rules input f c.args.workers.now bs (after g.G.Gas.rules input turns) (who - 1) w c.turn.new.self c.turn.new.take c.turn.new.put
-    g.met.G.Gas.laws (fits (line_of g.G.Gas.rules input 0) (pass_is_line g.G.Gas.rules input sh.is_input 0) turns) in_line sh
+    let step = worker_step_at g.G.Gas.rules input f c.args.workers.now bs (after g.G.Gas.rules input 0 turns) (who - 1) w c.turn.new.self c.turn.new.take c.turn.new.put
+    g.met.G.Gas.laws (pass_fits g.G.Gas.rules input sh.is_input 0 turns) in_line sh
     (λ d. sym (get_or_read c.args.workers.now (who - 1) c.index-workers-who.result low c.index-workers-who.is d) ∙ c.index-workers-who.is)
     c.turn.result from to (sym c.index-before-who.is ∙ x) (sym c.index-behind-0.is ∙ y ∙ ap (λ n. belt bs n) (sym next)) turned in
     rw (two_writes bs before behind (who - 1) who c.turn.new.take c.turn.new.put parts at below)

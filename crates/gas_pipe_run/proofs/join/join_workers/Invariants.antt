@@ -1,4 +1,4 @@
-use Rattle.std.proofs.Common.{IfSome, map}
+use Rattle.std.proofs.Common.{map}
 use Rattle.std.specs.Vec.Iter.{into_iter_items, into_iter_len}
 use Rattle.gas_pipe_run.specs.Inner.Links.{last_belt, job_of}
 use Rattle.gas_pipe_run.proofs.Meetings.{Ahead}
@@ -6,6 +6,5 @@ use Rattle.gas_pipe_run.proofs.join.join_workers.Given as goal
 
 abbrev pub invariant-loop-thread : goal.invariant-loop-thread
 invariant-loop-thread g l =
-    IfSome l.current
-    (Ahead g.G.Gas.rules l.fn.input l.fn.spent.put (last_belt l.fn.spent.belt (map job_of (into_iter_items l.initial.thread-iterator)))
-    (into_iter_len l.initial.thread-iterator) (into_iter_items l.thread-iterator) (into_iter_len l.thread-iterator) l.belts.items)
+    Ahead g.G.Gas.rules l.fn.input l.fn.first.put (last_belt l.fn.first.belt (map job_of (into_iter_items l.initial.thread-iterator)))
+    (into_iter_len l.initial.thread-iterator) (into_iter_items l.thread-iterator) (into_iter_len l.thread-iterator) l.belts.items l.spent

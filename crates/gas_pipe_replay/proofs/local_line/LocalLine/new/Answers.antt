@@ -2,8 +2,7 @@ use Rattle.std.proofs.Common.{◌+◌, ◌<◌, List, [], ◌∙◌, ap, sym, su
 use Rattle.gas_geom.specs.Channel.{ChannelModel}
 use Rattle.gas_geom.specs.Lattice.{IsLattice}
 use Rattle.gas_rows.specs.Row.{RowModel}
-use Rattle.gas_pipe_model.specs.Pass.{RunInputModel}
-use Rattle.gas_pipe_model.specs.Inner.Input.{IsRunInput}
+use Rattle.gas_pipe_model.specs.Pass.{RunInputModel, IsRunInput}
 use Rattle.gas_pipe_model.proofs.Generations.{begins_first}
 use Rattle.gas_pipe_members.specs.Feeder.{MayHaveFed}
 use Rattle.gas_pipe_replay.specs.Inner.LocalLine.{AreUnused}

@@ -2,7 +2,7 @@ use Rattle.std.proofs.Common.{◌≡◌, ◌+◌, arith, length, sym, subst}
 use Rattle.gas_belt.specs.Belt.{Belt}
 use Rattle.gas_pipe_run.specs.Inner.Links.{IsJobOf}
 use Rattle.gas_pipe_run.proofs.Chains.{linked_snoc, last_belt_snoc}
-use Rattle.gas_pipe_run.proofs.line.Line.new.Goals as goal
+use Rattle.gas_pipe_run.proofs.line.make_line.Goals as goal
 
 pub loop-k-preserved : goal.loop-k-preserved
 loop-k-preserved g c =

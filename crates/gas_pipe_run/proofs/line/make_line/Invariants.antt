@@ -1,6 +1,6 @@
 use Rattle.std.proofs.Common.{◌≡◌, [], length}
 use Rattle.gas_pipe_run.specs.Inner.Links.{IsBeltOf, Linked, last_belt}
-use Rattle.gas_pipe_run.proofs.line.Line.new.Given as goal
+use Rattle.gas_pipe_run.proofs.line.make_line.Given as goal
 
 abbrev pub invariant-loop-k : goal.invariant-loop-k
 invariant-loop-k g l = record {
