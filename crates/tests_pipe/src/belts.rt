@@ -1,6 +1,6 @@
 //! Belts between threads.
 
-ghost use Rattle.std.specs.Prelude.{◌≡◌};
+ghost use Rattle.std.specs.Prelude.{◌≡◌, IfOk};
 
 use gas_belt::belt;
 use gas_belt::carried::meet;
@@ -13,6 +13,16 @@ use std::process::Abort;
 
 mod steps;
 mod threads;
+
+// The promises of a belt are long. The helpers promise no more than which belt an end is of, so that
+// no test carries the others.
+
+// The two ends of an unused belt.
+fn ends(alloc: Global, places: u32, width: u32) -> Result<(Tx<Fhp1>, Rx<Fhp1>), AllocError>
+    ensures { IfOk result (λ r. r.0.belt ≡ r.1.belt) }
+{
+    belt(alloc, places.clamp(1, 1024), width.clamp(2, 65536))
+}
 
 // A row of at least two cells whose first and last cell hold a number below 4096.
 fn numbered_row(alloc: Global, width: u32, number: u32) -> Result<Row<Fhp1>, AllocError> {
@@ -29,7 +39,7 @@ fn number(row: &Row<Fhp1>) -> u32 {
 }
 
 // A step with a belt, and its expected outcome. Rows are named by their numbers.
-#[derive(Clone, Copy, Debug)]
+#[derive(Clone, Copy)]
 enum Step {
     // A row is put, put so that it may gather, or handed back.
     Put(u32),
@@ -55,26 +65,41 @@ fn is_numbered(row: Option<Row<Fhp1>>, width: u32, n: u32) -> bool {
     row.is_some_and(|row| row.width() == width && number(&row) == n)
 }
 
+// Puts a row, so that it may gather or not. Returns it if it is handed back.
+fn offer(tx: &mut Tx<Fhp1>, row: Row<Fhp1>, gathers: bool) -> Option<Row<Fhp1>>
+    ensures { tx.new.belt ≡ tx.old.belt }
+{
+    if gathers {
+        tx.try_gather(row).err()
+    } else {
+        tx.try_put(row).err()
+    }
+}
+
+// The same of a new row of this width, with this number.
+fn put(
+    alloc: Global,
+    tx: &mut Tx<Fhp1>,
+    gathers: bool,
+    width: u32,
+    n: u32,
+) -> Result<Option<Row<Fhp1>>, AllocError>
+    ensures { tx.new.belt ≡ tx.old.belt }
+{
+    let row = numbered_row(alloc, width, n)?;
+    Ok(offer(tx, row, gathers))
+}
+
 // Does a step with the end that rows are put on. Returns whether its outcome is the expected one.
 fn send(alloc: Global, tx: &mut Tx<Fhp1>, width: u32, step: Step) -> Result<bool, AllocError>
     ensures { tx.new.belt ≡ tx.old.belt }
 {
     Ok(match step {
-        Step::Put(n) => tx.try_put(numbered_row(alloc, width, n)?).is_ok(),
-        Step::Gathered(n) => tx.try_gather(numbered_row(alloc, width, n)?).is_ok(),
-        Step::PutBack(n) => is_numbered(tx.try_put(numbered_row(alloc, width, n)?).err(), width, n),
-        Step::GatheredBack(n) => {
-            is_numbered(
-                tx.try_gather(numbered_row(alloc, width, n)?).err(),
-                width,
-                n,
-            )
-        }
-        Step::OtherBack(cells) => is_numbered(
-            tx.try_put(numbered_row(alloc, cells, 5)?).err(),
-            cells,
-            5,
-        ),
+        Step::Put(n) => put(alloc, tx, false, width, n)?.is_none(),
+        Step::Gathered(n) => put(alloc, tx, true, width, n)?.is_none(),
+        Step::PutBack(n) => is_numbered(put(alloc, tx, false, width, n)?, width, n),
+        Step::GatheredBack(n) => is_numbered(put(alloc, tx, true, width, n)?, width, n),
+        Step::OtherBack(cells) => is_numbered(put(alloc, tx, false, cells, 5)?, cells, 5),
         Step::Shown => tx.publish(),
         Step::NothingShown => !tx.publish(),
         Step::Spare(n) => is_numbered(tx.spare(), width, n),
@@ -112,9 +137,11 @@ fn play(
     ensures sent { tx.new.belt ≡ tx.old.belt }
     ensures received { rx.new.belt ≡ rx.old.belt }
 {
+    let mut number = 1u32;
     for &step in steps {
-        assert!(rt; send(alloc, tx, width, step)?, "{step:?}");
-        assert!(rt; receive(alloc, rx, width, step)?, "{step:?}");
+        assert!(rt; send(alloc, tx, width, step)?, "step {number}");
+        assert!(rt; receive(alloc, rx, width, step)?, "step {number}");
+        number = number.wrapping_add(1);
     }
     Ok(())
 }
@@ -131,6 +158,13 @@ fn is_next(rx: &mut Rx<Fhp1>, n: u32) -> bool
     is_next
 }
 
+// Returns whether no row is left to take.
+fn is_over(rx: &mut Rx<Fhp1>) -> bool
+    ensures { rx.new.belt ≡ rx.old.belt }
+{
+    rx.try_take().is_none()
+}
+
 // Takes the rows with these numbers, which are the last ones.
 fn take_last(rt: &impl Abort, rx: &mut Rx<Fhp1>, numbers: &[u32])
     ensures { rx.new.belt ≡ rx.old.belt }
@@ -138,7 +172,7 @@ fn take_last(rt: &impl Abort, rx: &mut Rx<Fhp1>, numbers: &[u32])
     for &n in numbers {
         assert!(rt; is_next(rx, n), "row {n}");
     }
-    assert!(rt; rx.try_take().is_none());
+    assert!(rt; is_over(rx));
 }
 
 // Closes a belt on which the rows with these numbers are left. Its ends have to meet once these are

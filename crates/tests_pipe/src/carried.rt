@@ -1,11 +1,11 @@
 //! The rows that each belt of a line carries, compared one by one. All members have their turns on
-//! one thread. A row is put on one part of a belt, and the test moves it to the other part, from
-//! which it is taken.
+//! one thread. A belt has one place: a row is looked at as soon as it is put.
 
-use super::runs::{Cell, full_lattice, have_same_cells, lattice};
+use super::helpers::{feeder, finished, turn_feeder, turn_worker, worker};
+use super::runs::{Cell, full_lattice, lattice};
 use gas_geom::fhp1::Fhp1;
 use gas_geom::size::Size;
-use gas_pipe::ends::Turned::{Done, Stray};
+use gas_pipe::ends::Turned::{Put, Stray};
 use gas_pipe::ends::{PutEnd, TakeEnd};
 use gas_pipe::feeder::Feeder;
 use gas_pipe::plain_belt::PlainBelt;
@@ -23,144 +23,158 @@ use std::test::Fail;
 
 // The helpers promise nothing, so that no test carries the promises of all its turns.
 
-// The places of each part of a belt.
-const PLACES: u32 = 2;
-
 // More rounds than a line of these tests needs.
 const ROUNDS: u32 = 400;
+
+// The words of a row of at most 64 columns.
+type Words = [u64; 6];
+
+fn words(row: &Row<Fhp1>) -> Option<Words> {
+    match row.as_words() {
+        [a, b, c, d, e, f] => Some([*a, *b, *c, *d, *e, *f]),
+        _ => None,
+    }
+}
+
+// A line over the first of these lattices, and the number of their rows.
+#[derive(Clone, Copy)]
+struct Line<'a> {
+    schedule: Schedule,
+    lattices: &'a [Lattice<Fhp1>],
+    height: u32,
+}
+
+impl Line<'_> {
+    // The words of row `n` of these generations, one lattice after another.
+    fn row(&self, generations: &[usize], n: u32) -> Option<Words> {
+        let generation = generations.get((n / self.height.max(1)) as usize)?;
+        let lattice = self.lattices.get(*generation)?;
+        words(lattice.row(n % lattice.channel().size().height()))
+    }
+
+    // What worker `k`, counted from 0, begins its next pass with, if there is one, after it has put
+    // that number of rows.
+    fn beginning(&self, k: usize, put: u32) -> Option<Option<u64>> {
+        let who = u32::try_from(k).ok()?;
+        let pass = u64::from(put / self.height.max(1));
+        if pass < self.schedule.passes() && who < self.schedule.plan.stages() {
+            Some(self.schedule.generation(pass, who + 1))
+        } else {
+            None
+        }
+    }
+}
 
 // A belt, and the generations whose rows it has to carry.
 #[derive(Drop)]
 struct Belt<'a> {
-    put: PlainBelt<Fhp1>,
-    compared: PlainBelt<Fhp1>,
-    lattices: &'a [Lattice<Fhp1>],
+    rows: PlainBelt<Fhp1>,
     generations: &'a [usize],
     carried: u32,
 }
 
-impl<'a> Belt<'a> {
-    // The row that it has to carry next; None after the last one.
-    fn expected(&self) -> Option<&'a Row<Fhp1>> {
-        let height = self.lattices.first()?.channel().size().height();
-        let generation = self.generations.get((self.carried / height) as usize)?;
-        let lattice = self.lattices.get(*generation)?;
-        Some(lattice.row(self.carried % lattice.channel().size().height()))
-    }
-
-    // Moves the next row that was put, if there is one and a place for it.
-    fn carry(&mut self, rt: &impl Abort) {
-        if self.compared.len() == PLACES {
-            return;
-        }
-        let Some(row) = self.put.try_take() else {
-            return;
-        };
-        let expected = self.expected();
-        assert!(rt;
-            expected.is_some_and(|expected| row.as_words() == expected.as_words()),
-            "row {}",
-            self.carried
-        );
-        self.carried = self.carried.wrapping_add(1);
-        assert!(rt; self.compared.try_put(row).is_ok());
-    }
+// The words of the only row on a belt, which stays there.
+fn look(belt: &mut PlainBelt<Fhp1>) -> Option<Words> {
+    let row = belt.try_take()?;
+    let words = words(&row);
+    belt.try_put(row).ok()?;
+    words
 }
 
-// A worker, counted from 1, and the number of passes that it has begun.
-#[derive(Drop)]
-struct Member<'a> {
-    who: u32,
-    worker: Worker<'a, Fhp1>,
-    passes: u64,
+// Asserts that the row that was put on a belt is the one that it has to carry next.
+fn carries_next(rt: &impl Abort, line: &Line<'_>, belt: &mut Belt<'_>) {
+    let wanted = line.row(belt.generations, belt.carried);
+    let found = look(&mut belt.rows);
+    assert!(rt; wanted.is_some() && found == wanted, "row {}", belt.carried);
+    belt.carried = belt.carried.wrapping_add(1);
 }
 
-// What a worker begins a pass with, if there is such a pass and such a worker.
-fn beginning(schedule: &Schedule, pass: u64, who: u32) -> Option<Option<u64>> {
-    if pass < schedule.passes() && 1 <= who && who <= schedule.plan.stages() {
-        Some(schedule.generation(pass, who))
-    } else {
-        None
-    }
-}
-
-impl Member<'_> {
-    // A turn between two belts. After its last turn in a pass it begins the next one.
-    fn turn(
-        &mut self,
-        rt: &impl Abort,
-        schedule: &Schedule,
-        before: &mut Belt<'_>,
-        behind: &mut Belt<'_>,
-    ) {
-        match self.worker.turn(&mut before.compared, &mut behind.put) {
-            Done => {
-                if let Some(generation) = beginning(schedule, self.passes, self.who) {
-                    self.worker.begin(generation);
-                    self.passes = self.passes.wrapping_add(1);
-                }
-            }
-            turned => assert!(rt; turned != Stray),
-        }
-    }
-}
-
+// A turn of worker `k`, counted from 0. After its last turn in a pass it begins the next one.
 fn turn_member(
     rt: &impl Abort,
-    schedule: &Schedule,
-    members: &mut [Member<'_>],
+    line: &Line<'_>,
+    workers: &mut [Worker<'_, Fhp1>],
     belts: &mut [Belt<'_>],
     k: usize,
 ) {
-    assert!(rt; k < members.len() && members.len() < belts.len());
+    assert!(rt; k < workers.len() && workers.len() < belts.len());
     let (before, behind) = belts.split_at_mut(k + 1);
-    members[k].turn(rt, schedule, &mut before[k], &mut behind[0]);
+    let next = line.beginning(k, behind[0].carried);
+    match turn_worker(
+        &mut workers[k],
+        next,
+        &mut before[k].rows,
+        &mut behind[0].rows,
+    ) {
+        Put => carries_next(rt, line, &mut behind[0]),
+        turned => assert!(rt; turned != Stray),
+    }
 }
 
-fn turn_feeder(rt: &impl Abort, feeder: &mut Feeder<Fhp1>, belts: &mut [Belt<'_>]) {
+fn turn_first(rt: &impl Abort, line: &Line<'_>, feeder: &mut Feeder<Fhp1>, belts: &mut [Belt<'_>]) {
     assert!(rt; belts.len() > 1);
     let last = belts.len() - 1;
     let (before, behind) = belts.split_at_mut(last);
-    assert!(rt; feeder.turn(&mut before[0].put, &mut behind[0].compared) != Stray);
+    match turn_feeder(feeder, &mut before[0].rows, &mut behind[0].rows) {
+        Put => carries_next(rt, line, &mut before[0]),
+        turned => assert!(rt; turned != Stray),
+    }
 }
 
-// A feeder that has begun all passes.
-fn feeder(alloc: Global, lattice: &Lattice<Fhp1>, passes: u64) -> Result<Feeder<Fhp1>, AllocError> {
-    let mut feeder = Feeder::new(alloc, lattice)?;
-    feeder.begin_ring(passes.clamp(1, 1_000_000));
-    Ok(feeder)
+fn turn_members(
+    rt: &impl Abort,
+    line: &Line<'_>,
+    workers: &mut [Worker<'_, Fhp1>],
+    belts: &mut [Belt<'_>],
+) {
+    for k in 0..workers.len() {
+        turn_member(rt, line, workers, belts, k);
+    }
+}
+
+// Asserts that the belts have carried all rows, and that all were taken.
+fn are_over(rt: &impl Abort, line: &Line<'_>, belts: &[Belt<'_>]) {
+    for belt in belts {
+        let next = line.row(belt.generations, belt.carried);
+        assert!(rt; next.is_none() && belt.rows.len() == 0);
+    }
+}
+
+// Lets each member have a turn, round after round, until all passes are over.
+fn play(
+    rt: &impl Abort,
+    line: &Line<'_>,
+    feeder: &mut Feeder<Fhp1>,
+    workers: &mut [Worker<'_, Fhp1>],
+    belts: &mut [Belt<'_>],
+) {
+    for _ in 0..ROUNDS {
+        turn_first(rt, line, feeder, belts);
+        turn_members(rt, line, workers, belts);
+    }
+    are_over(rt, line, belts);
 }
 
 // Workers that have begun no pass.
-fn members<'a>(
+fn workers<'a>(
     alloc: Global,
     channel: &'a Channel,
     chirality: Chirality,
     stages: u32,
-) -> Result<Vec<Member<'a>>, AllocError> {
-    let mut members = Vec::new(alloc);
-    for k in 0..stages {
-        members.push(Member {
-            who: k + 1,
-            worker: Worker::new(alloc, channel, chirality)?,
-            passes: 0,
-        })?;
+) -> Result<Vec<Worker<'a, Fhp1>>, AllocError> {
+    let mut workers = Vec::new(alloc);
+    for _ in 0..stages {
+        workers.push(worker(alloc, channel, chirality)?)?;
     }
-    Ok(members)
+    Ok(workers)
 }
 
 // Unused belts, which have to carry the rows of these generations.
-fn belts<'a>(
-    alloc: Global,
-    lattices: &'a [Lattice<Fhp1>],
-    carried: &'a [&'a [usize]],
-) -> Result<Vec<Belt<'a>>, AllocError> {
+fn belts<'a>(alloc: Global, carried: &'a [&'a [usize]]) -> Result<Vec<Belt<'a>>, AllocError> {
     let mut belts = Vec::new(alloc);
     for generations in carried {
         belts.push(Belt {
-            put: PlainBelt::new(alloc, PLACES)?,
-            compared: PlainBelt::new(alloc, PLACES)?,
-            lattices,
+            rows: PlainBelt::new(alloc, 1)?,
             generations: *generations,
             carried: 0,
         })?;
@@ -168,47 +182,16 @@ fn belts<'a>(
     Ok(belts)
 }
 
-fn carry_rows(rt: &impl Abort, belts: &mut [Belt<'_>]) {
-    for belt in belts.iter_mut() {
-        belt.carry(rt);
+// Asserts that a lattice is the last one of the line.
+fn is_last(rt: &impl Abort, line: &Line<'_>, lattice: Option<Lattice<Fhp1>>) {
+    let Some(lattice) = lattice else {
+        assert!(rt; false);
+        return;
+    };
+    let last = line.lattices.len().saturating_sub(1);
+    for y in 0..lattice.channel().size().height() {
+        assert!(rt; words(lattice.row(y)) == line.row(&[last], y), "row {y}");
     }
-}
-
-fn turn_members(
-    rt: &impl Abort,
-    schedule: &Schedule,
-    members: &mut [Member<'_>],
-    belts: &mut [Belt<'_>],
-) {
-    for k in 0..members.len() {
-        turn_member(rt, schedule, members, belts, k);
-    }
-}
-
-// Asserts that the belts have carried all rows, and that all were taken.
-fn are_over(rt: &impl Abort, belts: &[Belt<'_>]) {
-    for belt in belts {
-        assert!(rt; belt.expected().is_none() && belt.put.len() + belt.compared.len() == 0);
-    }
-}
-
-// Lets each belt carry a row and each member have a turn, round after round, until all passes are
-// over. Returns the lattice that the line has come to.
-fn play(
-    rt: &impl Abort,
-    schedule: &Schedule,
-    mut feeder: Feeder<Fhp1>,
-    members: &mut [Member<'_>],
-    belts: &mut [Belt<'_>],
-) -> Lattice<Fhp1> {
-    for _ in 0..ROUNDS {
-        carry_rows(rt, belts);
-        turn_members(rt, schedule, members, belts);
-        turn_feeder(rt, &mut feeder, belts);
-    }
-    are_over(rt, belts);
-    assert!(rt; feeder.is_closed());
-    feeder.finish()
 }
 
 // Asserts that a line over the first of these lattices comes to the last one, and that each belt
@@ -220,14 +203,19 @@ fn carries(
     lattices: &[Lattice<Fhp1>],
     carried: &[&[usize]],
 ) -> Result<(), Fail> {
-    let first = lattices.first().ok_or("a lattice")?;
-    let last = lattices.last().ok_or("a lattice")?;
-    let schedule = Schedule { first: 0, plan };
-    let mut members = members(alloc, first.channel(), chirality, plan.stages())?;
-    let mut belts = belts(alloc, lattices, carried)?;
-    let feeder = feeder(alloc, first, schedule.passes())?;
-    let after = play(rt, &schedule, feeder, &mut members, &mut belts);
-    assert!(rt; have_same_cells(alloc, &after, last)?);
+    let [first, ..] = lattices else {
+        return Err(Fail::new("no lattice"));
+    };
+    let line = Line {
+        schedule: Schedule { first: 0, plan },
+        lattices,
+        height: first.channel().size().height(),
+    };
+    let mut workers = workers(alloc, first.channel(), chirality, plan.stages())?;
+    let mut belts = belts(alloc, carried)?;
+    let mut feeder = feeder(alloc, first, plan.passes())?;
+    play(rt, &line, &mut feeder, &mut workers, &mut belts);
+    is_last(rt, &line, finished(feeder));
     Ok(())
 }
 

@@ -1,6 +1,7 @@
-//! The members of the line between belts of one thread, turn by turn.
+//! The members of a line of one worker between belts of one thread, turn by turn, and plans.
 
-use super::helpers::row_is;
+use super::helpers::{feeder, finished, row_is, turn_feeder, turn_worker, worker};
+use super::runs::lattice;
 use gas_geom::fhp1::Fhp1;
 use gas_geom::size::Size;
 use gas_pipe::ends::Turned::{Done, Idle, Put, Stray, Took};
@@ -9,7 +10,6 @@ use gas_pipe::feeder::Feeder;
 use gas_pipe::plain_belt::PlainBelt;
 use gas_pipe::plan::{Plan, PlanError};
 use gas_pipe::worker::Worker;
-use gas_rows::channel::Channel;
 use gas_rows::chirality::Chirality;
 use gas_rows::lattice::Lattice;
 use gas_rows::row::Row;
@@ -19,186 +19,154 @@ use std::test::Fail;
 
 // The helpers promise nothing, so that no test carries the promises of all its turns.
 
-// A channel of four columns.
-fn channel(alloc: Global, height: u32) -> Result<Channel, Fail> {
-    let size = Size::new(4, height).ok_or("a size")?;
-    Ok(Channel::free(alloc, size)?)
+// Rows of four columns, with one particle that goes east from (0, 0), the passes over them, and the
+// places of each belt. One belt begins with two strays, if a number names it. Then turns of a member,
+// 0 for the feeder and 1 for the worker, and where the passes are over the particle's column.
+struct Case {
+    rows: u32,
+    passes: u64,
+    places: u32,
+    strays_on: Option<u32>,
+    turns: &'static [(u32, &'static [Turned])],
+    came_to: Option<u32>,
 }
 
-// The belts before and behind a worker.
+const CASES: [Case; 4] = [
+    // A row of another width is a stray, and whoever met one answers so from then on.
+    Case {
+        rows: 1,
+        passes: 1,
+        places: 2,
+        strays_on: Some(0),
+        turns: &[(1, &[Done, Stray, Stray, Stray])],
+        came_to: None,
+    },
+    Case {
+        rows: 1,
+        passes: 1,
+        places: 2,
+        strays_on: Some(1),
+        turns: &[(0, &[Put, Stray, Stray, Stray])],
+        came_to: None,
+    },
+    // One pass.
+    Case {
+        rows: 1,
+        passes: 1,
+        places: 1,
+        strays_on: None,
+        turns: &[
+            (0, &[Put]),
+            (1, &[Done, Took, Put]),
+            (0, &[Took]),
+            (1, &[Done]),
+            (0, &[Done]),
+        ],
+        came_to: Some(1),
+    },
+    // Two passes: a row of the second is put as soon as it has come, while the first is still under
+    // way.
+    Case {
+        rows: 2,
+        passes: 2,
+        places: 4,
+        strays_on: None,
+        turns: &[
+            (0, &[Put, Put, Idle]),
+            (1, &[Done, Took, Took, Put, Put]),
+            (0, &[Took, Put, Took, Put, Idle]),
+            (1, &[Done, Took, Took, Put, Put]),
+            (0, &[Took, Took, Done]),
+        ],
+        came_to: Some(2),
+    },
+];
+
+// The belts before and behind the worker.
 #[derive(Drop)]
 struct Belts {
     first: PlainBelt<Fhp1>,
     last: PlainBelt<Fhp1>,
 }
 
-impl Belts {
-    // Two belts with room for `capacity` rows, one at least.
-    fn new(alloc: Global, capacity: u32) -> Result<Belts, AllocError> {
-        let capacity = capacity.clamp(1, 1024);
-        Ok(Belts {
-            first: PlainBelt::new(alloc, capacity)?,
-            last: PlainBelt::new(alloc, capacity)?,
-        })
+// A belt with an empty row that is wider than the channel, and one that is as wide, or with no row.
+fn belt(alloc: Global, places: u32, has_strays: bool) -> Result<PlainBelt<Fhp1>, AllocError> {
+    let mut belt = PlainBelt::new(alloc, places.clamp(1, 1024))?;
+    if has_strays {
+        for width in [5, 4] {
+            drop(belt.try_put(Row::blank(alloc, width)?));
+        }
+    }
+    Ok(belt)
+}
+
+fn belts_of(alloc: Global, case: &Case) -> Result<Belts, AllocError> {
+    Ok(Belts {
+        first: belt(alloc, case.places, case.strays_on == Some(0))?,
+        last: belt(alloc, case.places, case.strays_on == Some(1))?,
+    })
+}
+
+fn feeder_turns(rt: &impl Abort, feeder: &mut Feeder<Fhp1>, belts: &mut Belts, wanted: &[Turned]) {
+    for turned in wanted {
+        assert!(rt; turn_feeder(feeder, &mut belts.first, &mut belts.last) == *turned);
     }
 }
 
-// A worker that has begun a pass.
-fn worker(
-    alloc: Global,
-    channel: &Channel,
-    generation: Option<u64>,
-) -> Result<Worker<'_, Fhp1>, AllocError> {
-    let mut worker = Worker::new(alloc, channel, Chirality::Left)?;
-    worker.begin(generation);
-    Ok(worker)
-}
-
-// A feeder that has begun one or two passes over a lattice with one particle, which goes east from
-// (0, 0).
-fn ring_feeder(alloc: Global, channel: Channel, passes: u64) -> Result<Feeder<Fhp1>, AllocError> {
-    let mut lattice = Lattice::blank(alloc, channel)?;
-    let size = lattice.channel().size();
-    if size.width() > 0 && size.height() > 0 && !lattice.channel().is_solid(0, 0) {
-        lattice.set_cell(0, 0, 0x01);
+fn worker_turns(
+    rt: &impl Abort,
+    worker: &mut Worker<'_, Fhp1>,
+    belts: &mut Belts,
+    wanted: &[Turned],
+) {
+    let next = Some(Some(0));
+    for turned in wanted {
+        assert!(rt; turn_worker(worker, next, &mut belts.first, &mut belts.last) == *turned);
     }
-    let mut feeder = Feeder::new(alloc, &lattice)?;
-    match passes {
-        2 => feeder.begin_ring(2),
-        _ => feeder.begin(),
+}
+
+// If the passes are to be over, the particle is in the first row of the lattice, in this column.
+fn has_come_to(rt: &impl Abort, feeder: Feeder<Fhp1>, came_to: Option<u32>) {
+    if came_to.is_none() {
+        return;
     }
-    Ok(feeder)
+    match finished(feeder) {
+        Some(lattice) => row_is(rt, lattice.row(0), came_to),
+        None => assert!(rt; false),
+    }
 }
 
-// The same for one pass.
-fn feeder(alloc: Global, channel: Channel) -> Result<Feeder<Fhp1>, AllocError> {
-    ring_feeder(alloc, channel, 1)
-}
-
-fn turn_worker(rt: &impl Abort, worker: &mut Worker<'_, Fhp1>, belts: &mut Belts, answer: Turned) {
-    assert!(rt; worker.turn(&mut belts.first, &mut belts.last) == answer);
-}
-
-fn turn_feeder(rt: &impl Abort, feeder: &mut Feeder<Fhp1>, belts: &mut Belts, answer: Turned) {
-    assert!(rt; feeder.turn(&mut belts.first, &mut belts.last) == answer);
-}
-
-// Puts an empty row that is wider than the channel, and one that is as wide.
-fn put_strays(
+fn plays_on(
     rt: &impl Abort,
     alloc: Global,
-    belt: &mut PlainBelt<Fhp1>,
+    lattice: &Lattice<Fhp1>,
+    case: &Case,
 ) -> Result<(), AllocError> {
-    for width in [5, 4] {
-        assert!(rt; belt.try_put(Row::blank(alloc, width)?).is_ok());
+    let mut belts = belts_of(alloc, case)?;
+    let mut worker = worker(alloc, lattice.channel(), Chirality::Left)?;
+    let mut feeder = feeder(alloc, lattice, case.passes)?;
+    for (member, wanted) in case.turns {
+        if *member == 0 {
+            feeder_turns(rt, &mut feeder, &mut belts, wanted);
+        } else {
+            worker_turns(rt, &mut worker, &mut belts, wanted);
+        }
     }
+    has_come_to(rt, feeder, case.came_to);
     Ok(())
 }
 
-// A row of another width is a stray, and whoever met one answers so from then on.
-#[test]
-fn a_worker_meets_a_stray(rt: HostRuntime) -> Result<(), Fail> {
-    let channel = channel(rt.alloc(), 1)?;
-    let mut belts = Belts::new(rt.alloc(), 2)?;
-    let mut worker = worker(rt.alloc(), &channel, Some(0))?;
-    put_strays(&rt, rt.alloc(), &mut belts.first)?;
-    for _ in 0..3 {
-        turn_worker(&rt, &mut worker, &mut belts, Stray);
-    }
-    Ok(())
+fn plays(rt: &impl Abort, alloc: Global, case: &Case) -> Result<(), Fail> {
+    let size = Size::new(4, case.rows).ok_or("a size")?;
+    let lattice = lattice(alloc, size, &[(0, 0, 0x01)])?;
+    Ok(plays_on(rt, alloc, &lattice, case)?)
 }
 
 #[test]
-fn a_feeder_meets_a_stray(rt: HostRuntime) -> Result<(), Fail> {
-    let mut feeder = feeder(rt.alloc(), channel(rt.alloc(), 1)?)?;
-    let mut belts = Belts::new(rt.alloc(), 2)?;
-    put_strays(&rt, rt.alloc(), &mut belts.last)?;
-    turns_feeder(&rt, &mut feeder, &mut belts, &[Put, Stray, Stray, Stray]);
-    Ok(())
-}
-
-// The passes of a feeder are over, and the particle is in the first row of its lattice, in this
-// column.
-fn gives(rt: &impl Abort, mut feeder: Feeder<Fhp1>, belts: &mut Belts, column: u32) {
-    match feeder.turn(&mut belts.first, &mut belts.last) {
-        Done => row_is(rt, feeder.finish().row(0), Some(column)),
-        _ => assert!(rt; false),
+fn turns_of_each_line(rt: HostRuntime) -> Result<(), Fail> {
+    for case in &CASES {
+        plays(&rt, rt.alloc(), case)?;
     }
-}
-
-// The turns of one pass of a line of one worker over one row.
-fn pass_of_one_row(
-    rt: &impl Abort,
-    feeder: &mut Feeder<Fhp1>,
-    worker: &mut Worker<'_, Fhp1>,
-    belts: &mut Belts,
-) {
-    turn_feeder(rt, feeder, belts, Put);
-    turn_worker(rt, worker, belts, Took);
-    turn_worker(rt, worker, belts, Put);
-    turn_feeder(rt, feeder, belts, Took);
-    turn_worker(rt, worker, belts, Done);
-}
-
-// One particle goes east through a line of one worker, whose turns are made by hand.
-#[test]
-fn a_pass_by_hand(rt: HostRuntime) -> Result<(), Fail> {
-    let channel = channel(rt.alloc(), 1)?;
-    let mut feeder = feeder(rt.alloc(), channel.copy(rt.alloc())?)?;
-    let mut worker = worker(rt.alloc(), &channel, Some(0))?;
-    let mut belts = Belts::new(rt.alloc(), 1)?;
-    pass_of_one_row(&rt, &mut feeder, &mut worker, &mut belts);
-    gives(&rt, feeder, &mut belts, 1);
-    Ok(())
-}
-
-// These turns of the feeder.
-fn turns_feeder(rt: &impl Abort, feeder: &mut Feeder<Fhp1>, belts: &mut Belts, answers: &[Turned]) {
-    for answer in answers {
-        turn_feeder(rt, feeder, belts, *answer);
-    }
-}
-
-// A pass of a worker over two rows, from the generation on.
-fn pass_of_two_rows(
-    rt: &impl Abort,
-    worker: &mut Worker<'_, Fhp1>,
-    belts: &mut Belts,
-    generation: u64,
-) {
-    match worker.turn(&mut belts.first, &mut belts.last) {
-        Done => worker.begin(Some(generation)),
-        _ => assert!(rt; false),
-    }
-    for answer in [Took, Took, Put, Put] {
-        turn_worker(rt, worker, belts, answer);
-    }
-}
-
-// The turns of two passes: a row of the second is put as soon as it has come, while the first is
-// still under way.
-fn two_passes_of_two_rows(
-    rt: &impl Abort,
-    feeder: &mut Feeder<Fhp1>,
-    worker: &mut Worker<'_, Fhp1>,
-    belts: &mut Belts,
-) {
-    turns_feeder(rt, feeder, belts, &[Put, Put, Idle]);
-    pass_of_two_rows(rt, worker, belts, 0);
-    turns_feeder(rt, feeder, belts, &[Took, Put, Took, Put, Idle]);
-    pass_of_two_rows(rt, worker, belts, 1);
-    turns_feeder(rt, feeder, belts, &[Took, Took]);
-}
-
-// Two passes as a ring.
-#[test]
-fn a_ring_by_hand(rt: HostRuntime) -> Result<(), Fail> {
-    let channel = channel(rt.alloc(), 2)?;
-    let mut feeder = ring_feeder(rt.alloc(), channel.copy(rt.alloc())?, 2)?;
-    let mut worker = Worker::new(rt.alloc(), &channel, Chirality::Left)?;
-    let mut belts = Belts::new(rt.alloc(), 4)?;
-    two_passes_of_two_rows(&rt, &mut feeder, &mut worker, &mut belts);
-    gives(&rt, feeder, &mut belts, 2);
     Ok(())
 }
 

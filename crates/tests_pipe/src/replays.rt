@@ -37,8 +37,8 @@ fn replay_of(
 // `count` turns, round after round.
 fn turns(alloc: Global, round: &[u32], count: usize) -> Result<Vec<u32>, AllocError> {
     let mut turns = Vec::with_capacity(alloc, count)?;
-    for who in round.iter().cycle().take(count) {
-        turns.push(*who)?;
+    for n in 0..count {
+        turns.push(round.get(n % round.len().max(1)).copied().unwrap_or(0))?;
     }
     Ok(turns)
 }

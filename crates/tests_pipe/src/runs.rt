@@ -6,6 +6,7 @@ use gas_geom::gas::Gas;
 use gas_geom::hpp::Hpp;
 use gas_geom::size::Size;
 use gas_pipe::answers::Run;
+use gas_pipe::error::RunError;
 use gas_pipe::gate::{Gate, NoGate};
 use gas_pipe::plan::Plan;
 use gas_pipe::run;
@@ -74,22 +75,29 @@ fn cell<G: Gas>(lattice: &Lattice<G>, x: u32, y: u32) -> u8 {
     }
 }
 
-// The cells of a lattice that are not empty, row by row.
-fn nonempty_cells<G: Gas>(alloc: Global, lattice: &Lattice<G>) -> Result<Vec<Cell>, AllocError> {
-    let size = lattice.channel().size();
-    let mut cells = Vec::new(alloc);
-    for y in 0..size.height() {
-        for x in 0..size.width() {
-            let cell = cell(lattice, x, y);
-            if cell != 0x00 {
-                cells.push((x, y, cell))?;
-            }
+// The numbers of the particles and of the solid cells of some cells.
+fn totals(cells: &[Cell]) -> (u64, u64) {
+    let (mut particles, mut solid) = (0u64, 0u64);
+    for (_, _, cell) in cells {
+        match *cell {
+            SOLID => solid = solid.wrapping_add(1),
+            state => particles = particles.wrapping_add(u64::from(state.count_ones())),
         }
     }
-    Ok(cells)
+    (particles, solid)
 }
 
-fn run_from<G: Gas + Send, R: Threads + Wait + Sync, T: Gate + Sync>(
+// Asserts that these cells of a lattice are as given. All others are then empty: it has no more
+// particles and no more solid cells.
+fn has_cells<G: Gas>(rt: &impl Abort, lattice: &Lattice<G>, cells: &[Cell]) {
+    for (x, y, wanted) in cells {
+        assert!(rt; cell(lattice, *x, *y) == *wanted, "cell ({x}, {y})");
+    }
+    let found = (lattice.count(), lattice.channel().count_solid());
+    assert!(rt; found == totals(cells));
+}
+
+pub(super) fn run_from<G: Gas + Send, R: Threads + Wait + Sync, T: Gate + Sync>(
     rt: &R,
     alloc: Global,
     lattice: &Lattice<G>,
@@ -97,9 +105,9 @@ fn run_from<G: Gas + Send, R: Threads + Wait + Sync, T: Gate + Sync>(
     first: u64,
     plan: Plan,
     gate: &T,
-) -> Result<Run<G>, Fail> {
+) -> Result<Run<G>, RunError> {
     let first = first % (1 << 63);
-    Ok(run(rt, alloc, lattice, chirality, first, plan, gate)?)
+    run(rt, alloc, lattice, chirality, first, plan, gate)
 }
 
 // Asserts that this number of rows went through each belt of a pass, and that there is no further
@@ -143,16 +151,30 @@ fn comes_to<G: Gas + Send, R: Abort + Threads + Wait + Sync>(
     (stages, first): (u32, u64),
     (generations, after): (u64, &[Cell]),
 ) -> Result<(), Fail> {
-    let size = lattice.channel().size();
     let plan = Plan::new(stages, 1, generations)?;
     let run = run_from(rt, alloc, lattice, chirality, first, plan, &NoGate)?;
-    let (width, height) = (size.width(), size.height());
-    assert!(rt;
-        nonempty_cells(alloc, run.lattice())?.as_slice() == after,
-        "{generations} generations of {width} x {height}"
-    );
+    has_cells(rt, run.lattice(), after);
     let passes = generations.div_ceil(u64::from(stages.max(1)));
-    went_through(rt, &run, passes, stages.wrapping_add(1), height);
+    went_through(
+        rt,
+        &run,
+        passes,
+        stages.wrapping_add(1),
+        lattice.channel().size().height(),
+    );
+    Ok(())
+}
+
+fn plays_on<G: Gas + Send, R: Abort + Threads + Wait + Sync>(
+    rt: &R,
+    alloc: Global,
+    line: (u32, u64),
+    lattice: &Lattice<G>,
+    example: &Example,
+) -> Result<(), Fail> {
+    for after in example.after {
+        comes_to(rt, alloc, lattice, example.chirality, line, *after)?;
+    }
     Ok(())
 }
 
@@ -164,10 +186,7 @@ fn plays<G: Gas + Send, R: Abort + Threads + Wait + Sync>(
 ) -> Result<(), Fail> {
     let size = Size::new(example.size.0, example.size.1).ok_or("a size")?;
     let lattice = lattice::<G>(alloc, size, example.before)?;
-    for after in example.after {
-        comes_to(rt, alloc, &lattice, example.chirality, line, *after)?;
-    }
-    Ok(())
+    plays_on(rt, alloc, line, &lattice, example)
 }
 
 fn play<G: Gas + Send, R: Abort + Threads + Wait + Sync>(
@@ -415,12 +434,10 @@ pub(super) fn full_lattice<G: Gas>(alloc: Global, state: u8) -> Result<Lattice<G
     Ok(lattice)
 }
 
-pub(super) fn have_same_cells<G: Gas>(
-    alloc: Global,
-    one: &Lattice<G>,
-    other: &Lattice<G>,
-) -> Result<bool, AllocError> {
-    Ok(nonempty_cells(alloc, one)? == nonempty_cells(alloc, other)?)
+// Asserts that a lattice has that obstacle and so many particles, which is all that it has room for.
+fn is_full<G: Gas>(rt: &impl Abort, lattice: &Lattice<G>, particles: u64) {
+    let totals = (lattice.count(), lattice.channel().count_solid());
+    assert!(rt; cell(lattice, 2, 1) == SOLID && totals == (particles, 1));
 }
 
 // Asserts that a lattice that is full but for an obstacle, with that number of particles, stays as
@@ -434,8 +451,7 @@ fn stays_full<G: Gas + Send, R: Abort + Threads + Wait + Sync>(
     let full = full_lattice::<G>(alloc, state)?;
     let plan = Plan::new(3, 1, 7)?;
     let run = run_from(rt, alloc, &full, Left, 0, plan, &NoGate)?;
-    assert!(rt; have_same_cells(alloc, run.lattice(), &full)?);
-    assert!(rt; run.lattice().count() == particles);
+    is_full(rt, run.lattice(), particles);
     went_through(rt, &run, 3, 4, 4);
     Ok(())
 }
@@ -453,6 +469,22 @@ struct Counts {
     entered: AtomicU64,
     left: AtomicU64,
     entered_before: AtomicU64,
+}
+
+impl Counts {
+    fn new() -> Counts {
+        Counts {
+            entered: AtomicU64::new(0),
+            left: AtomicU64::new(0),
+            entered_before: AtomicU64::new(0),
+        }
+    }
+
+    fn are(&self, rt: &impl Abort, entered: u64, left: u64) {
+        assert!(rt; self.entered.load(Ordering::SeqCst) == entered);
+        assert!(rt; self.left.load(Ordering::SeqCst) == left);
+        assert!(rt; self.entered_before.load(Ordering::SeqCst) == entered);
+    }
 }
 
 fn place(who: u32) -> u64 {
@@ -487,17 +519,11 @@ fn counts_are<R: Abort + Threads + Wait + Sync>(
     entered: u64,
     left: u64,
 ) -> Result<(), Fail> {
-    let gate = Counts {
-        entered: AtomicU64::new(0),
-        left: AtomicU64::new(0),
-        entered_before: AtomicU64::new(0),
-    };
+    let gate = Counts::new();
     let lattice = full_lattice::<Fhp1>(alloc, 0x09)?;
     let plan = Plan::new(stages, 2, 5)?;
     run_from(rt, alloc, &lattice, Seeded(7), 0, plan, &gate)?;
-    assert!(rt; gate.entered.load(Ordering::SeqCst) == entered);
-    assert!(rt; gate.left.load(Ordering::SeqCst) == left);
-    assert!(rt; gate.entered_before.load(Ordering::SeqCst) == entered);
+    gate.are(rt, entered, left);
     Ok(())
 }
 

@@ -1,17 +1,14 @@
 //! The outcomes of one step after another on a belt whose two ends one thread has.
-ghost use Rattle.std.specs.Prelude.{◌≤◌};
 
 use super::Step::{
     Gathered, GatheredBack, Given, Held, NoSpare, NothingShown, NothingTaken, OtherBack, Put,
     PutBack, Shown, Spare, Taken,
 };
-use super::{Step, count_carried, is_next, numbered_row, play};
-use gas_belt::belt;
+use super::{Step, count_carried, ends, is_next, is_over, play, put};
 use gas_belt::rx::Rx;
 use gas_belt::tx::Tx;
 use gas_geom::fhp1::Fhp1;
 use std::alloc::{AllocError, Global};
-use std::ops::Range;
 use std::process::Abort;
 use std::test::Fail;
 
@@ -176,9 +173,8 @@ const CASES: [Case; 8] = [
 ];
 
 fn plays(rt: &impl Abort, alloc: Global, case: &Case) -> Result<(), Fail> {
-    let width = case.width.clamp(2, 65536);
-    let (mut tx, mut rx) = belt(alloc, case.places.clamp(1, 1024), width)?;
-    play(rt, alloc, &mut tx, &mut rx, width, case.steps)?;
+    let (mut tx, mut rx) = ends(alloc, case.places, case.width)?;
+    play(rt, alloc, &mut tx, &mut rx, case.width, case.steps)?;
     let carried = count_carried(rt, tx, rx, case.left);
     assert!(rt; carried == Some(case.carried), "{} places", case.places);
     Ok(())
@@ -192,43 +188,68 @@ fn steps_of_one_thread(rt: HostRuntime) -> Result<(), Fail> {
     Ok(())
 }
 
-// Puts a row with this number, so that it may gather or not. Returns whether there was a place.
-fn has_place(
-    alloc: Global,
-    tx: &mut Tx<Fhp1>,
-    gathers: bool,
+// A belt, and how many rows were put on it and taken from it, which are their numbers too.
+#[derive(Drop)]
+struct Belt {
+    tx: Tx<Fhp1>,
+    rx: Rx<Fhp1>,
     width: u32,
-    n: u32,
-) -> Result<bool, AllocError> {
-    let row = numbered_row(alloc, width, n)?;
-    let tried = if gathers {
-        tx.try_gather(row)
-    } else {
-        tx.try_put(row)
-    };
-    Ok(tried.is_ok())
+    put: u32,
+    taken: u32,
 }
 
-// Puts the rows with these numbers. There is no place for another.
-fn fill(
-    rt: &impl Abort,
-    alloc: Global,
-    tx: &mut Tx<Fhp1>,
-    gathers: bool,
-    width: u32,
-    numbers: Range<u32>,
-) -> Result<(), AllocError> {
-    for n in numbers {
-        assert!(rt; has_place(alloc, tx, gathers, width, n)?, "row {n}");
+impl Belt {
+    fn new(alloc: Global, places: u32, width: u32) -> Result<Belt, AllocError> {
+        let (tx, rx) = ends(alloc, places, width)?;
+        Ok(Belt {
+            tx,
+            rx,
+            width,
+            put: 0,
+            taken: 0,
+        })
     }
-    assert!(rt; !has_place(alloc, tx, gathers, width, 0)?);
-    Ok(())
-}
 
-// Takes the rows with these numbers.
-fn drain(rt: &impl Abort, rx: &mut Rx<Fhp1>, numbers: Range<u32>) {
-    for n in numbers {
-        assert!(rt; is_next(rx, n), "row {n}");
+    // Puts the next row, so that it may gather or not. Returns whether there was a place.
+    fn put_one(&mut self, alloc: Global, gathers: bool) -> Result<bool, AllocError> {
+        let back = put(alloc, &mut self.tx, gathers, self.width, self.put)?;
+        self.put = self.put.wrapping_add(u32::from(back.is_none()));
+        Ok(back.is_none())
+    }
+
+    // Takes the next row and gives it back as a spare row. Returns whether it came.
+    fn take_one(&mut self) -> bool {
+        let has_come = is_next(&mut self.rx, self.taken);
+        self.taken = self.taken.wrapping_add(u32::from(has_come));
+        has_come
+    }
+
+    // Puts this number of rows. There is no place for another.
+    fn fill(
+        &mut self,
+        rt: &impl Abort,
+        alloc: Global,
+        gathers: bool,
+        rows: u32,
+    ) -> Result<(), AllocError> {
+        for n in 0..rows {
+            assert!(rt; self.put_one(alloc, gathers)?, "row {n}");
+        }
+        assert!(rt; !self.put_one(alloc, gathers)?);
+        Ok(())
+    }
+
+    fn drain(&mut self, rt: &impl Abort, rows: u32) {
+        for n in 0..rows {
+            assert!(rt; self.take_one(), "row {n}");
+        }
+    }
+
+    // Takes all rows that are under way.
+    fn empty(&mut self, rt: &impl Abort) {
+        self.tx.publish();
+        self.drain(rt, self.put.wrapping_sub(self.taken));
+        assert!(rt; is_over(&mut self.rx));
     }
 }
 
@@ -239,30 +260,15 @@ fn refuses_if_full(
     gathers: bool,
     places: u32,
     width: u32,
-) -> Result<(), AllocError>
-    requires some_places { 1 ≤ places }
-    requires few_places { places ≤ 1024 }
-    requires some_cells { 2 ≤ width }
-    requires few_cells { width ≤ 65536 }
-{
-    let (mut tx, mut rx) = belt(alloc, places, width)?;
-    let half = places / 2;
-    fill(rt, alloc, &mut tx, gathers, width, 0..places)?;
-    drain(rt, &mut rx, 0..1);
-    fill(rt, alloc, &mut tx, gathers, width, places..places + 1)?;
-    drain(rt, &mut rx, 1..1 + half);
-    fill(
-        rt,
-        alloc,
-        &mut tx,
-        gathers,
-        width,
-        places + 1..places + 1 + half,
-    )?;
-    tx.publish();
-    drain(rt, &mut rx, 1 + half..places + 1 + half);
-    assert!(rt; rx.try_take().is_none());
-    fill(rt, alloc, &mut tx, gathers, width, 0..places)
+) -> Result<(), AllocError> {
+    let mut belt = Belt::new(alloc, places, width)?;
+    belt.fill(rt, alloc, gathers, places)?;
+    for rows in [1, places / 2] {
+        belt.drain(rt, rows);
+        belt.fill(rt, alloc, gathers, rows)?;
+    }
+    belt.empty(rt);
+    belt.fill(rt, alloc, gathers, places)
 }
 
 #[test]
@@ -270,59 +276,56 @@ fn a_belt_is_full_if_as_many_rows_are_under_way_as_it_has_places(
     rt: HostRuntime,
 ) -> Result<(), Fail> {
     for gathers in [false, true] {
-        refuses_if_full(&rt, rt.alloc(), gathers, 1, 7)?;
-        refuses_if_full(&rt, rt.alloc(), gathers, 8, 7)?;
-        refuses_if_full(&rt, rt.alloc(), gathers, 8, 1000)?;
-        refuses_if_full(&rt, rt.alloc(), gathers, 9, 65)?;
-        refuses_if_full(&rt, rt.alloc(), gathers, 33, 256)?;
-        refuses_if_full(&rt, rt.alloc(), gathers, 1024, 4)?;
+        for (places, width) in [(1, 7), (8, 7), (8, 1000), (9, 65), (33, 256), (1024, 4)] {
+            refuses_if_full(&rt, rt.alloc(), gathers, places, width)?;
+        }
     }
     Ok(())
 }
 
-// Shows, takes, gathers and puts rows in a mixed order, more puts than takes at first and then more
-// takes than puts. A row is refused exactly if as many are under way as the belt has places.
+// Shows the rows that gathered, takes a row, or puts one, which may gather or not. A row is refused
+// exactly if as many are under way as the belt has places.
+fn make_any(
+    rt: &impl Abort,
+    alloc: Global,
+    belt: &mut Belt,
+    places: u32,
+    (choice, takes): (u32, u32),
+) -> Result<(), AllocError> {
+    if choice == 0 {
+        belt.tx.publish();
+    } else if choice < takes {
+        belt.take_one();
+    } else {
+        let under_way = belt.put.wrapping_sub(belt.taken);
+        let has_place = belt.put_one(alloc, choice < 7)?;
+        assert!(rt; has_place == (under_way < places), "{under_way} under way");
+    }
+    Ok(())
+}
+
+// Makes steps in a mixed order, more puts than takes at first and then more takes than puts.
 fn refuses_in_any_order(
     rt: &impl Abort,
     alloc: Global,
     places: u32,
     width: u32,
-) -> Result<(), AllocError>
-    requires some_places { 1 ≤ places }
-    requires few_places { places ≤ 1024 }
-    requires some_cells { 2 ≤ width }
-    requires few_cells { width ≤ 65536 }
-{
-    let (mut tx, mut rx) = belt(alloc, places, width)?;
-    fill(rt, alloc, &mut tx, true, width, 0..places)?;
-    let (mut put, mut taken, mut mixed) = (places, 0_u32, 1_u32);
+) -> Result<(), AllocError> {
+    let mut belt = Belt::new(alloc, places, width)?;
+    belt.fill(rt, alloc, true, places)?;
+    let mut mixed = 1_u32;
     for i in 0..3000_u32 {
         mixed = mixed.wrapping_mul(1_664_525).wrapping_add(1_013_904_223);
-        match mixed >> 29 {
-            0 => {
-                tx.publish();
-            }
-            n if n < 4 + i / 500 % 2 => {
-                taken = taken.wrapping_add(u32::from(is_next(&mut rx, taken)));
-            }
-            n => {
-                let under_way = put.wrapping_sub(taken);
-                let has_place = has_place(alloc, &mut tx, n < 7, width, put)?;
-                assert!(rt; has_place == (under_way < places), "row {put}");
-                put = put.wrapping_add(u32::from(has_place));
-            }
-        }
+        make_any(rt, alloc, &mut belt, places, (mixed >> 29, 4 + i / 500 % 2))?;
     }
-    tx.publish();
-    drain(rt, &mut rx, taken..put);
-    assert!(rt; rx.try_take().is_none());
+    belt.empty(rt);
     Ok(())
 }
 
 #[test]
 fn gathered_rows_have_their_places(rt: HostRuntime) -> Result<(), Fail> {
-    refuses_in_any_order(&rt, rt.alloc(), 8, 7)?;
-    refuses_in_any_order(&rt, rt.alloc(), 9, 65)?;
-    refuses_in_any_order(&rt, rt.alloc(), 33, 256)?;
-    Ok(refuses_in_any_order(&rt, rt.alloc(), 1024, 4)?)
+    for (places, width) in [(8, 7), (9, 65), (33, 256), (1024, 4)] {
+        refuses_in_any_order(&rt, rt.alloc(), places, width)?;
+    }
+    Ok(())
 }

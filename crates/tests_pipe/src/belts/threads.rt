@@ -1,9 +1,8 @@
 //! A belt whose ends two threads have.
 
-ghost use Rattle.std.specs.Prelude.{◌≡◌, ◌<◌, IfOk};
+ghost use Rattle.std.specs.Prelude.{◌≡◌, IfOk};
 
-use super::{number, numbered_row};
-use gas_belt::belt;
+use super::{ends, number, numbered_row, offer};
 use gas_belt::carried::meet;
 use gas_belt::rx::Rx;
 use gas_belt::tx::{Spent, Tx};
@@ -20,9 +19,9 @@ fn put_one(rt: &impl Wait, tx: &mut Tx<Fhp1>, mut row: Row<Fhp1>)
     ensures { tx.new.belt ≡ tx.old.belt }
 {
     for _ in rt.forever() {
-        match tx.try_put(row) {
-            Ok(()) => return,
-            Err(back) => row = back,
+        match offer(tx, row, false) {
+            None => return,
+            Some(back) => row = back,
         }
         thread::yield_now();
     }
@@ -71,11 +70,8 @@ fn through_threads<R: Threads + Wait + Sync>(
     rt: &R,
     alloc: Global,
     capacity: u32,
-) -> Result<Option<(u64, bool)>, AllocError>
-    requires some_places { 0 < capacity }
-    requires few_places { capacity < 1025 }
-{
-    let (tx, rx) = belt(alloc, capacity, 4)?;
+) -> Result<Option<(u64, bool)>, AllocError> {
+    let (tx, rx) = ends(alloc, capacity, 4)?;
     let (spent, (rx, in_order)) = thread::join(
         rt,
         move || -> Result<Spent<Fhp1>, AllocError>
