@@ -21,7 +21,8 @@ use std::test::Fail;
 
 // Rows of four columns, with one particle that goes east from (0, 0), the passes over them, and the
 // places of each belt. One belt begins with two strays, if a number names it. Then turns of a member,
-// 0 for the feeder and 1 for the worker, and where the passes are over the particle's column.
+// 0 for the feeder and 1 for the worker, and where the passes are over the particle's column. The
+// worker's turns begin with the end of a pass, and it begins the next one: generation 0, then 1.
 struct Case {
     rows: u32,
     passes: u64,
@@ -117,9 +118,10 @@ fn worker_turns(
     rt: &impl Abort,
     worker: &mut Worker<'_, Fhp1>,
     belts: &mut Belts,
+    generation: u64,
     wanted: &[Turned],
 ) {
-    let next = Some(Some(0));
+    let next = Some(Some(generation));
     for turned in wanted {
         assert!(rt; turn_worker(worker, next, &mut belts.first, &mut belts.last) == *turned);
     }
@@ -145,11 +147,13 @@ fn plays_on(
     let mut belts = belts_of(alloc, case)?;
     let mut worker = worker(alloc, lattice.channel(), Chirality::Left)?;
     let mut feeder = feeder(alloc, lattice, case.passes)?;
+    let mut generation = 0;
     for (member, wanted) in case.turns {
         if *member == 0 {
             feeder_turns(rt, &mut feeder, &mut belts, wanted);
         } else {
-            worker_turns(rt, &mut worker, &mut belts, wanted);
+            worker_turns(rt, &mut worker, &mut belts, generation, wanted);
+            generation = generation.wrapping_add(1);
         }
     }
     has_come_to(rt, feeder, case.came_to);
