@@ -1,7 +1,7 @@
 #!/usr/bin/env python3
 """Site updates per second (cells times generations by seconds) of `fhpgas run` and of other programs that compute the same lattice of
-FHP-I, filled at rate 300: one stage on one thread (probes), C on bit planes in place, on one thread and in bands on all (bands.c), and what
-one would write in an afternoon, in C (bytes.c) and in numpy (bytes.py, if numpy is installed, and only with chirality "left"). Under a seed
+FHP-I, filled at rate 300: one stage on one thread (probes), C on bit planes in place, on one thread and in bands on all (tests/oracles/bands.c), and
+what one would write in an afternoon, in C (tests/oracles/bytes.c) and in numpy (bytes.py, if numpy is installed, and only with chirality "left"). Under a seed
 it also makes only the random bits of the same number of updates.
 
 Every program takes its turn in every round. A figure is the best of the rounds, followed by how many times longer the worst one took. The
@@ -38,7 +38,7 @@ def build(room):
     subprocess.run(["make", "-C", ROOT, "fhpgas", "probes"], stdout=sys.stderr, check=True)
     level = LEVEL.read_text().strip()
     for name in C_PROGRAMS:
-        words = ["-O3", "-march=" + level, "-pthread", "-o", room / name, ROOT / f"bench/{name}.c"]
+        words = ["-O3", "-march=" + level, "-pthread", "-o", room / name, ROOT / f"tests/oracles/{name}.c"]
         subprocess.run(["cc", *words], check=True)
     return level
 

@@ -1,6 +1,6 @@
 #!/usr/bin/env python3
 """Compares the built program with C programs that compute the same lattices in other ways, on twenty random maps with obstacles:
-bench/bytes.c, cell by cell from tables, for every gas, and bench/bands.c, on bit planes cut into bands, for FHP-I. The gases, chiralities,
+tests/oracles/bytes.c, cell by cell from tables, for every gas, and tests/oracles/bands.c, on bit planes cut into bands, for FHP-I. The gases, chiralities,
 sizes, first generations and pipelines take turns, and seeds are fixed. All must print the same bytes. Ends with the counts."""
 
 import concurrent.futures
@@ -64,7 +64,7 @@ def main():
     with tempfile.TemporaryDirectory() as folder, concurrent.futures.ThreadPoolExecutor(os.cpu_count()) as pool:
         room = pathlib.Path(folder)
         for name in "bytes", "bands":
-            needs.compiled(f"bench/{name}.c", room / name, "-O3", "-march=x86-64-v2", "-pthread")
+            needs.compiled(f"tests/oracles/{name}.c", room / name, "-O3", "-march=x86-64-v2", "-pthread")
         faults = list(filter(None, pool.map(lambda number: fault(number, room), range(MAPS))))
     for found in faults:
         print(f"FAILED: {found}")
@@ -72,4 +72,5 @@ def main():
     return 1 if faults else 0
 
 
-sys.exit(main())
+if __name__ == "__main__":
+    sys.exit(main())
