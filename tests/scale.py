@@ -4,7 +4,6 @@ same lattice, from a C program, or because a full channel stays full. What needs
 says so. Ends with the counts."""
 
 import hashlib
-import os
 import pathlib
 import re
 import subprocess
