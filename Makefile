@@ -74,7 +74,11 @@ $(names):
 	        cat $(kit)/KIT-ID $(kit)/WHAT $(foreach d,$(below_$@),../$d/out/rlib/$d.rlib/format)
 	        find @(src|specs|proofs) -type f -print0 | LC_ALL=C sort -z | xargs -0 sha256sum; } | sha256sum
 	}
-	fail() { echo "crate $@ was not built; the end of its log:"; tail -n 20 out/build.log; exit 1; } >&2
+	fail() {
+	    echo "crate $@ was not built; the whole log is crates/$@/out/build.log"
+	    grep -m 12 -E 'error(\[|:)|is not proved|: no proof|must prove|may be false' out/build.log | cut -c 1-400 || tail -n 20 out/build.log
+	    exit 1
+	} >&2
 	sum=$$(sum)
 	[ "$$(cat $(sums) 2>&1)" != "$$sum $$(sha256sum $(made) 2>&1)" ] || { $(done); exit; }
 	trap exit TERM INT HUP; trap 'kill $${!-} 2> /dev/null || :; rm -rf out/new' EXIT

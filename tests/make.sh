@@ -1,6 +1,7 @@
 #!/bin/bash
 # Tries ./fhpgas and the Makefile on three small crates, with stubs for the kit: its prover only notes which crate it was called for, and
-# "proves" a crate unless it contains a file `refused`. A library states the first line of its source. Ends with the counts.
+# "proves" a crate unless it contains a file `refused`, whose text it prints. A library states the first line of its source. At last the
+# kit itself refuses a wrong body. Ends with the counts.
 . "$(dirname "$0")/try.sh"
 
 top=$room/top kit=$room/kit
@@ -16,7 +17,7 @@ END
 cat > "$kit/bin/rattle" << END
 #!/bin/bash
 echo "\${PWD##*/}" >> "$room/proved"
-[ ! -e refused ] || { echo "refused, as \$* shows"; exit 1; }
+[ ! -e refused ] || { cat refused; exit 1; }
 [ ! -e slow ] || { touch "$room/begun"; sleep 2; }
 while [ "\$1" != -o ]; do shift; done
 case \$2 in *.rlib) mkdir "\$2" && head -n 1 src/lib.rt > "\$2/format" ;; *) cp src/main.rt "\$2" ;; esac
@@ -27,6 +28,7 @@ while [ "$1" != -o ]; do shift; done
 printf '#!/bin/sh\necho "words $*"\ncat\nexit 3\n' > "$2" && chmod +x "$2"
 END
 chmod +x "$kit"/bin/*
+without_stubs=$PATH
 PATH=$kit/bin:$PATH
 cd "$top" || exit 1
 
@@ -76,13 +78,29 @@ try 'another level needs the program alone' proves 'fhpgas' build CPU=x86-64-v0
 try 'one of a level that no machine has is built again' proves 'fhpgas' launch
 try 'a crate is built by its name' proves '' build high
 
-touch crates/high/refused
+{ # what a real check said of a body that is wrong, before twenty lines about libraries
+    echo 'note: src/rectangle.rt:29:5: it is not proved that what the function ensures holds when it returns'
+    echo 'fn gas_layout::rectangle::Rectangle::fits: no proof: expected answers in ./proofs/rectangle/Rectangle/fits/Answers.antt'
+    yes 'statements core: modules loaded=933 checked=0' | head -n 20
+} > crates/high/refused
 echo 'proved again' >> crates/high/src/lib.rt
-try 'a build that fails ends with status 70' fails 'refused, as build src/lib.rt'
+try 'a build that fails ends with status 70, and says what is not proved' fails 'rectangle.rt:29:5: it is not proved'
+try 'and where' fails 'Rectangle::fits: no proof'
+try 'and names its log' fails 'the whole log is crates/high/out/build.log'
 try 'and leaves no library' [ ! -e crates/high/out/rlib ]
+echo 'something else' > crates/high/refused
+try 'of a log that is not understood the end is shown' fails 'something else'
 rm crates/high/refused
+with_kit=$PATH PATH=/usr/bin:/bin
+try 'without the kit a program that is older than its sources runs' launch
+try 'with a warning' grep -q 'this program is older than its sources' "$room/told"
+mv crates/fhpgas/out/fhpgas "$room/fhpgas"
+try 'and without a program one sentence says what is missing' fails 'the command rt of the Rattle kit, which builds it, is not on the PATH'
+try 'and no more' [ "$(wc -l < "$room/told")" = 1 ]
+mv "$room/fhpgas" crates/fhpgas/out/fhpgas
+PATH=$with_kit
 touch "$room/no_kit"
-try 'so does one without the kit' fails 'rt is not on the PATH'
+try 'a kit that does not answer ends with status 70 too' fails 'rt is not on the PATH'
 rm "$room/no_kit"
 touch crates/high/slow
 setsid make > "$room/told" 2>&1 &
@@ -108,4 +126,15 @@ make > /dev/null & make > /dev/null
 wait
 try 'two at once prove each crate once' [ "$(paste -sd ' ' "$room/proved")" = 'high' ]
 try 'and then it is run' quietly
+
+# and the kit itself, if it is here, on a body that does not do what its contract says
+PATH=$without_stubs
+if command -v rt > /dev/null; then
+    mkdir -p crates/wrong/src
+    echo 'wrong:' > crates.txt
+    printf '%s\n' '#![tactic(auto)]' 'ghost use Rattle.std.specs.Prelude.{◌≡◌};' '/// Two.' 'pub fn two() -> u32' \
+        '    ensures value { result ≡ 2 }' '{' '    1' '}' > crates/wrong/src/lib.rt
+    make wrong > "$room/told" 2>&1
+    try 'the kit refuses a wrong body, and the build says where' grep -qE '^note: src/lib.rt:4:1: it is not proved' "$room/told"
+fi
 tell
