@@ -5,8 +5,9 @@ A definition is an item of a crate's specs/. It must be believed if the contract
 does. A reader also meets the code's types that these definitions name, and the ghost members of public traits that public contracts name.
 
 Fails if DEFINITIONS.md leaves out one of them, in a section that names its crate, or has a row for one that is gone, if a definition to be
-believed names a type that is not public, and if a file of specs/ has a definition that need not be believed without saying in its first
-line that its words are inner ones. Prints how many lines there are to believe. With --list it prints the definitions instead.
+believed names a type that is not public, if one, or a clause of a public call, cites a constant of the code instead of the number, and if a
+file of specs/ has a definition that need not be believed without saying in its first line that its words are inner ones. Prints how many
+lines there are to believe. With --list it prints the definitions instead.
 """
 import collections
 import re
@@ -21,8 +22,10 @@ HEAD = re.compile(r"^(?:(?:pub|abbrev|unfoldable|record|data) )+([\w'-]+)", re.M
 USE = re.compile(r"^\s*(?:ghost )?use Rattle\.(\w+)\.specs\.([\w.]+)\.\{([^}]*)\}", re.M)
 USE_OF_TYPE = re.compile(r"^\s*use Rattle\.(\w+)\.specs\.declared\.[\w.]*?(\w+)(?:\.TheVariants)?(?:\.\{([^}]*)\}| as (\w+))", re.M)
 
-# A definition is known by its crate, its file and its name. It has lines, and uses other definitions and the code's types.
-Definition = collections.namedtuple("Definition", "lines uses types")
+CONSTANT = re.compile(r"^\s*(?:pub(?:\(\w+\))? )?const (\w+):", re.M)
+
+# A definition is known by its crate, its file and its name. It has lines, and uses other definitions and the code's types. Its words are kept.
+Definition = collections.namedtuple("Definition", "lines uses types words")
 
 
 def names_in(text, mark):
@@ -64,10 +67,10 @@ def definitions_in(crate, file, text):
         lines = sum(not line.lstrip().startswith("--") for line in block.strip("\n").split("\n"))
         for name in heads:
             own_types = {types[word] for word in words & types.keys() - local.keys()}
-            yield (crate, file, name), Definition(lines if name == heads[0] else 0, uses - {(crate, file, name)}, own_types)
+            yield (crate, file, name), Definition(lines if name == heads[0] else 0, uses - {(crate, file, name)}, own_types, words)
         if re.search(r"^pub data ", block, re.M):
             for name in re.findall(r"^  (?:pub )?([\w'-]+) :", block, re.M):
-                yield (crate, file, name), Definition(0, {(crate, file, heads[0])}, set())
+                yield (crate, file, name), Definition(0, {(crate, file, heads[0])}, set(), set())
 
 
 def definitions_of(crate):
@@ -80,6 +83,12 @@ def definitions_of(crate):
             found |= dict(definitions_in(crate, file, text))
             inner |= {(crate, file)} if text.startswith(INNER) else set()
     return found, inner
+
+
+def constants():
+    """The constants of the code. Those that a trait asks for are what a type states of itself, and no limits."""
+    texts = [path.read_text() for path in CRATES.glob("*/src/**/*.rt")]
+    return {name for text in texts for name in CONSTANT.findall(text)} - {name for text in texts for name in re.findall(r"^    ghost (\w+):", text, re.M)}
 
 
 def public_texts(crate):
@@ -180,14 +189,16 @@ def complaints(believed, known, inner, members, public, document):
 
 
 def main():
+    limits = constants()
     public = {path.name: list(public_texts(path.name)) for path in sorted(CRATES.iterdir())}
-    known, inner, cited, asked, words = {}, set(), set(), set(), set()
+    known, inner, cited, asked, words, wrong = {}, set(), set(), set(), set(), []
     for crate, texts in public.items():
         found, files = definitions_of(crate)
         known, inner = known | found, inner | files
         for text in texts:
             brought, named = imports(text), set().union(*(names_in(clause, "//") for clause in contracts(text)))
             cited |= {brought[word] for word in named & brought.keys()}
+            wrong += [f"a clause of a public call of {crate} cites {name}, a constant of the code" for name in sorted(named & limits)]
             words |= {part for clause in contracts(text) for part in re.findall(r"\w+", clause)}
             asked |= {name for body in traits(text) for name in re.findall(r"^    ghost (\w+):", body, re.M)}
     believed = closure(cited, known)
@@ -196,7 +207,9 @@ def main():
             print(f"{crate}/specs/{file.replace('.', '/')}.antt: {name}")
         return
     document = (needs.ROOT / "docs/DEFINITIONS.md").read_text()
-    wrong = list(complaints(believed, known, inner, asked & words, public, document))
+    wrong += complaints(believed, known, inner, asked & words, public, document)
+    wrong += [f"{key[2]} of {key[0]} must be believed, and cites {name}, a constant of the code"
+              for key in sorted(believed) for name in sorted(known[key].words & limits)]
     for line in wrong:
         print(f"FAILED: {line}")
     _, kept = told_in(document, public)

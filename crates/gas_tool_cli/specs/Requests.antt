@@ -5,7 +5,6 @@ use Rattle.std.specs.Str.Parse.{ParsesUnsigned}
 use Rattle.std.specs.declared.num.ParseIntError.{ParseIntError}
 use Rattle.clap.specs.Words.{Row, Text, all_of, one_of, IsAmong, Kinds}
 use Rattle.clap.specs.declared.error.kind.ErrorKind.TheVariants.{DisplayHelp, DisplayVersion}
-use Rattle.gas_tool_cli.specs.declared.arguments.TheConstants.{MOST_BLOCK_SIDE}
 use Rattle.gas_tool_cli.specs.declared.faults.UsageFault.{UsageFault}
 use Rattle.gas_tool_cli.specs.declared.faults.UsageFault.TheVariants as fault
 use Rattle.gas_tool_cli.specs.declared.request.Request.{Request}
@@ -27,7 +26,7 @@ pub record IsPlanAt (rows : List Row) (stages capacity generations : ℕ) : Type
 
 -- and, for an option, this width or height of blocks
 abbrev pub IsSideAt : List Row → Text → ℕ → Type 0
-IsSideAt rows option n = IsNumberAt 32 rows option n × (1 ≤ n) × (n ≤ MOST_BLOCK_SIDE)
+IsSideAt rows option n = IsNumberAt 32 rows option n × (1 ≤ n) × (n ≤ 4096)
 
 -- and these turns, in order; none if there are no such words
 abbrev pub AreTurnsAt : List Row → List ℕ → Type 0

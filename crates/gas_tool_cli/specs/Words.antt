@@ -1,12 +1,11 @@
 -- The command line, for `clap`.
-use Rattle.std.specs.Prelude.{ℕ, pos, List, [], ◌∷◌, ◌++◌, Some, true, false, codes}
+use Rattle.std.specs.Prelude.{pos, List, [], ◌∷◌, ◌++◌, Some, true, false, codes}
 use Rattle.clap.specs.Words.{App, Rule, Shape, Text, new_rule}
 use Rattle.clap.specs.Simple.{new_shape}
 use Rattle.clap.specs.Lexer.{usize_max}
 use Rattle.clap.specs.declared.builder.action.ArgAction.TheVariants.{Append, Set}
 use Rattle.clap.specs.declared.builder.value_parser.ValueParser.{ValueParser}
 use Rattle.clap.specs.declared.builder.value_parser.ValueParser.TheVariants.{Signed, Unsigned}
-use Rattle.gas_tool_cli.specs.declared.arguments.TheConstants.{MOST_BLOCK_SIDE}
 
 -- an option `--name VALUE`
 abbrev pub option_rule : Text → ValueParser → Rule
@@ -30,7 +29,7 @@ plan_rules =
 
 -- the width or the height of blocks
 abbrev pub side_rule : Text → Rule
-side_rule name = required_rule name (Signed (pos 1) (pos MOST_BLOCK_SIDE))
+side_rule name = required_rule name (Signed (pos 1) (pos 4096))
 
 -- [TURN]...: any number of words, each a number of 32 bits
 abbrev pub turns_rule : Rule

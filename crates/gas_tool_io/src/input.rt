@@ -2,7 +2,6 @@
 
 ghost use Rattle.std.specs.Prelude.{◌≡◌, ◌≤◌, ◌<◌, IfOk, IfSome, length, vec_len, IsErrOf};
 ghost use Rattle.std.specs.Io.KnownBytes.{IsAtEnd};
-ghost use Rattle.gas_tool_io.specs.declared.input.TheConstants.{LONGEST_INPUT};
 ghost use Rattle.gas_tool_io.specs.declared.faults.InputFault.TheVariants as fault;
 
 use crate::faults::InputFault;
@@ -21,9 +20,9 @@ pub fn slurp<R: Read>(alloc: Global, reader: &mut R) -> Result<Vec<u8>, InputFau
     ensures bytes { IfOk result (λ text.
         IfSome (R.remaining reader.old) (λ xs. text.items ≡ xs)) }
     ensures at_end { IfOk result (λ _. IsAtEnd (R.remaining reader.new)) }
-    ensures short { IfOk result (λ text. vec_len text ≤ LONGEST_INPUT) }
+    ensures short { IfOk result (λ text. vec_len text ≤ 67108864) }
     ensures too_long { IsErrOf result fault.TooLong →
-        IfSome (R.remaining reader.old) (λ xs. LONGEST_INPUT < length xs) }
+        IfSome (R.remaining reader.old) (λ xs. 67108864 < length xs) }
 {
     let mut text = Vec::new(alloc);
     let mut block = [0u8; BLOCK];
