@@ -23,7 +23,7 @@ unexport MAKEFLAGS
 # The crates in the order in which they begin, with the seconds that one processor takes to prove each: first the ones for which the longest
 # chains of others wait. A crate that has several processors is proved sooner with a third more work, so the two that have time take one.
 costs := gas_geom:30 gas_bits:60 gas_rows:120 gas_tool_cli:120 gas_layout:55 gas_cells:20 gas_scene:175 gas_belt:90 gas_stage:65 \
-    gas_pipe_model:10 gas_pipe_members:115 gas_pipe_run:190 gas_pipe_replay:70 gas_tool_io:95 gas_tool_perform:75 fhpgas:70
+    gas_pipe_model:10 gas_pipe_members:115 gas_pipe_run:190 gas_pipe_replay:70 gas_tool_io:95 gas_tool:80 fhpgas:70
 order := $(foreach c,$(costs),$(firstword $(subst :, ,$c)))
 jobs = $(if $(filter gas_tool_cli gas_scene,$@),1,$(processors))
 

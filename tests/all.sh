@@ -5,7 +5,7 @@
 . "$(dirname "$0")/try.sh"
 set -o pipefail
 
-for name in lint.sh definitions.py links.py prose.py make.sh waiting.sh; do part tests/$name; done
+for name in lint.sh definitions.py edges.py links.py prose.py make.sh waiting.sh; do part tests/$name; done
 [ ${#failed[@]} = 0 ] || exit 1
 rt ci 2>&1 | tee "$room/gate" || exit 1
 if grep 'only because a proof file names what the edit took away' "$room/gate"; then

@@ -19,6 +19,7 @@ examples() {
 part tests/lint.sh
 part tests/links.py
 part tests/definitions.py
+part tests/edges.py
 if tools/is_built; then
     part tests/command_line.py
     part tests/mutated_scenes.py 300

@@ -7,8 +7,8 @@ use Rattle.clap.specs.declared.error.kind.ErrorKind.{ErrorKind}
 use Rattle.clap.specs.declared.error.kind.ErrorKind.TheVariants.{DisplayHelp, DisplayVersion, OutOfMemory}
 use Rattle.clap.proofs.OnLiterals.{clap_on_literals}
 use Rattle.gas_tool_cli.specs.Words.{program_app}
-use Rattle.gas_tool_cli.specs.declared.faults.UsageFault.{UsageFault}
-use Rattle.gas_tool_cli.specs.declared.faults.UsageFault.TheVariants as fault
+use Rattle.gas_tool_cli.specs.declared.words.UsageFault.{UsageFault}
+use Rattle.gas_tool_cli.specs.declared.words.UsageFault.TheVariants as fault
 use Rattle.gas_tool_cli.specs.Requests.{IsFaultOf}
 use Rattle.gas_tool_cli.specs.Inner.Kinds.{TellsKind}
 

@@ -1,12 +1,18 @@
 -- The request in the matches of the words, and the fault of words without a request.
-use Rattle.std.specs.Prelude.{◌≡◌, ◌≢◌, ◌⊎◌, ◌≤◌, ℕ, List, [], ◌∷◌, Option, Some, None, IsSomeAnd, Ok, codes, unwrap_or, ⊤}
+use Rattle.std.specs.Prelude.{◌≡◌, ◌≢◌, ◌⊎◌, ◌≤◌, ℕ, List, [], ◌∷◌, map, Option, Some, None, IsSomeAnd, Result, Ok, IsOkAnd, IfOk, String, codes, unwrap_or, ⊤}
+use Rattle.std.specs.Global.{Global}
+use Rattle.std.specs.String.{string_bytes}
+use Rattle.std.specs.Vec.Iter.{into_iter_items}
+use Rattle.std.specs.declared.io.Error.{Error}
+use Rattle.std.specs.declared.vec.IntoIter.{IntoIter}
 use Rattle.std.specs.List.{AllZip}
 use Rattle.std.specs.Str.Parse.{ParsesUnsigned}
 use Rattle.std.specs.declared.num.ParseIntError.{ParseIntError}
-use Rattle.clap.specs.Words.{Row, Text, all_of, one_of, IsAmong, Kinds}
+use Rattle.clap.specs.Words.{Row, Text, all_of, fault_of, one_of, subcommand_of, IsAmong, Kinds}
 use Rattle.clap.specs.declared.error.kind.ErrorKind.TheVariants.{DisplayHelp, DisplayVersion}
-use Rattle.gas_tool_cli.specs.declared.faults.UsageFault.{UsageFault}
-use Rattle.gas_tool_cli.specs.declared.faults.UsageFault.TheVariants as fault
+use Rattle.gas_tool_cli.specs.Words.{program_app}
+use Rattle.gas_tool_cli.specs.declared.words.UsageFault.{UsageFault}
+use Rattle.gas_tool_cli.specs.declared.words.UsageFault.TheVariants as fault
 use Rattle.gas_tool_cli.specs.declared.request.Request.{Request}
 use Rattle.gas_tool_cli.specs.declared.request.Request.TheVariants.{Check, Run, Coarse, Replay}
 
@@ -55,3 +61,15 @@ abbrev pub IsFaultOf : Kinds → UsageFault → Type 0
 IsFaultOf kinds fault.Memory = ⊤
 IsFaultOf kinds (fault.Help text) = IsAmong DisplayHelp kinds ⊎ IsAmong DisplayVersion kinds
 IsFaultOf kinds (fault.Usage text) = (kinds ≢ DisplayHelp ∷ []) × (kinds ≢ DisplayVersion ∷ [])
+
+-- the program's words, or why they could not be had
+abbrev pub Words : Type 0
+Words = Result (IntoIter (String Global) Global) Error
+
+-- the words ask for this request
+abbrev pub AskFor : Words → Request → Type 0
+AskFor words request = IsOkAnd words (λ all. IsRequestOf (subcommand_of program_app (map string_bytes (into_iter_items all))) request)
+
+-- the words are no request, with this fault
+abbrev pub HaveFault : Words → UsageFault → Type 0
+HaveFault words fault = IfOk words (λ all. IsFaultOf (fault_of program_app (map string_bytes (into_iter_items all))) fault)

@@ -3,7 +3,6 @@
 
 mod arguments;
 mod command;
-pub mod faults;
 mod help;
 mod matches;
 pub mod request;

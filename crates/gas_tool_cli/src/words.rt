@@ -1,17 +1,50 @@
 //! Reading the words of the command line: their request, or why they are none.
 
-ghost use Rattle.std.specs.Prelude.{[], IfOk, IfErr, map};
+ghost use Rattle.std.specs.Prelude.{◌≡◌, [], IfOk, IfErr, String, map};
+ghost use Rattle.std.specs.Global.{Global};
+ghost use Rattle.std.specs.String.{string_bytes};
+ghost use Rattle.std.specs.Vec.Iter.{into_iter_items};
 ghost use Rattle.clap.specs.Words.{fault_of, kind_of, subcommand_of};
 ghost use Rattle.gas_tool_cli.specs.Words.{program_app};
-ghost use Rattle.gas_tool_cli.specs.Requests.{IsAllowed, IsFaultOf, IsRequestOf};
+ghost use Rattle.gas_tool_cli.specs.Requests.{AskFor, HaveFault, IsAllowed, IsFaultOf, IsRequestOf};
 ghost use Rattle.gas_tool_cli.specs.Inner.Kinds.{TellsKind};
+ghost use Rattle.gas_tool_cli.specs.declared.words.UsageFault.TheVariants as fault;
 
 use crate::command::program_command;
-use crate::faults::UsageFault;
 use crate::matches::request_of;
 use crate::request::Request;
 use clap::error::ErrorKind;
-use std::alloc::Global;
+use std::alloc::{AllocError, Global};
+use std::env::Args;
+use std::io;
+use thiserror::Error;
+
+/// Why the words are no request. `Usage` and `Help` contain the text to print, with its last line
+/// feed. The version is a `Help` too.
+#[derive(Debug, Drop, Error)]
+pub enum UsageFault {
+    #[error("memory refused")]
+    Memory,
+    #[error("{0}")]
+    Usage(String),
+    #[error("{0}")]
+    Help(String),
+}
+
+impl UsageFault {
+    /// Returns the program's exit status: 2 for usage, 3 for memory, 0 for help.
+    pub fn status(&self) -> u8
+        ensures memory { self.now ≡ fault.Memory → result ≡ 3 }
+        ensures usage { (text : String Global) → self.now ≡ fault.Usage text → result ≡ 2 }
+        ensures help { (text : String Global) → self.now ≡ fault.Help text → result ≡ 0 }
+    {
+        match self {
+            UsageFault::Memory => 3,
+            UsageFault::Usage(_) => 2,
+            UsageFault::Help(_) => 0,
+        }
+    }
+}
 
 // The fault of matches without a request. `clap` returns no such matches for this command line, but
 // that is not proved.
@@ -59,5 +92,55 @@ pub fn parse_words<'a>(alloc: Global, words: &'a [&'a str]) -> Result<Request, U
             Err(_) => Err(UsageFault::Memory),
         },
         Err(error) => Err(usage_of(alloc, error)),
+    }
+}
+
+/// The request of all words that `env::args` returned, in their order. A word that is not UTF-8 is
+/// wrong usage.
+pub fn read_request(alloc: Global, words: io::Result<Args>) -> Result<Request, UsageFault>
+    ensures allowed { IfOk result IsAllowed }
+    ensures request { IfOk result (AskFor words) }
+    ensures fault { IfErr result (HaveFault words) }
+{
+    match words {
+        Ok(words) => parse_args(alloc, words),
+        Err(error) if error.kind() == io::ErrorKind::InvalidData => Err(not_utf8_fault(alloc)),
+        Err(_) => Err(UsageFault::Memory),
+    }
+}
+
+fn parse_args(alloc: Global, words: Args) -> Result<Request, UsageFault>
+    ensures allowed { IfOk result IsAllowed }
+    ensures request { IfOk result (IsRequestOf
+        (subcommand_of program_app (map string_bytes (into_iter_items words)))) }
+    ensures fault { IfErr result (IsFaultOf
+        (fault_of program_app (map string_bytes (into_iter_items words)))) }
+{
+    let Ok(words) = words.collect::<Vec<String>>(alloc) else {
+        return Err(UsageFault::Memory);
+    };
+    match texts(alloc, words.as_slice()) {
+        Ok(texts) => parse_words(alloc, texts.as_slice()),
+        Err(_) => Err(UsageFault::Memory),
+    }
+}
+
+// The words as texts.
+fn texts<'a>(alloc: Global, words: &'a [String]) -> Result<Vec<&'a str>, AllocError>
+    ensures { IfOk result (λ texts.
+        map (λ s. s.now) texts.items ≡ map string_bytes words.entry.now) }
+{
+    let mut texts = Vec::with_capacity(alloc, words.len())?;
+    for word in words {
+        texts.push(word.as_str())?;
+    }
+    Ok(texts)
+}
+
+// The fault of a word that is not UTF-8.
+fn not_utf8_fault(alloc: Global) -> UsageFault {
+    match String::from_str(alloc, "error: a word is not UTF-8\n") {
+        Ok(text) => UsageFault::Usage(text),
+        Err(_) => UsageFault::Memory,
     }
 }

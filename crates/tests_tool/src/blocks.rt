@@ -6,12 +6,12 @@ use gas_geom::hpp::Hpp;
 use gas_geom::size::Size;
 use gas_rows::channel::Channel;
 use gas_rows::lattice::Lattice;
-use gas_tool_io::blocks::{Block, coarse};
+use gas_tool::{Block, coarse};
 use std::alloc::{AllocError, Global};
 use std::process::Abort;
 use std::test::Fail;
 
-/// Returns the block at a place, with these numbers of fluid cells and particles and this momentum.
+/// The block at a place, with these numbers of fluid cells and particles and this momentum.
 fn block(place: (u32, u32), fluid: u64, particles: u64, momentum: (i64, i64)) -> Block {
     Block {
         col: place.0,

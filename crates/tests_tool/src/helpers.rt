@@ -8,10 +8,7 @@ use gas_rows::lattice::Lattice;
 use gas_scene::error::SceneError;
 use gas_scene::scene::{Scene, read};
 use gas_scene::with_lattice;
-use gas_tool_cli::request::Request;
-use gas_tool_cli::words::parse_words;
-use gas_tool_perform::faults::ToolError;
-use gas_tool_perform::perform;
+use gas_tool::{Request, ToolError, parse_words, perform};
 use std::alloc::{AllocError, Global};
 use std::fmt::Write as _;
 use std::io;
@@ -62,7 +59,7 @@ impl Narrow {
         }
     }
 
-    /// Returns whether the writer was not called.
+    /// Whether the writer was not called.
     pub(super) fn is_uncalled(&self) -> bool {
         self.writes == 0 && self.flushes == 0
     }
@@ -118,7 +115,7 @@ fn words_of<'a>(alloc: Global, line: &'a str) -> Result<Vec<&'a str>, AllocError
     Ok(words)
 }
 
-/// Returns the request of a line's words, or the exit status of the program.
+/// The request of a line's words, or the exit status of the program.
 pub(super) fn request_of(alloc: Global, line: &str) -> Result<Result<Request, u8>, AllocError> {
     let words = words_of(alloc, line)?;
     Ok(parse_words(alloc, words.as_slice()).map_err(|fault| fault.status()))
@@ -139,7 +136,7 @@ pub(super) fn perform_words<R: Abort + Threads + Wait + Sync>(
     Ok(perform(rt, alloc, scene.as_bytes(), &request, &NoGate, out))
 }
 
-/// Returns why a text is refused, or None if it is a scene.
+/// Why a text is refused, or None if it is a scene.
 pub(super) fn refusal(alloc: Global, text: &[u8]) -> Option<SceneError> {
     read(alloc, text).err()
 }

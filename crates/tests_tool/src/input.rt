@@ -1,21 +1,21 @@
 //! Reading the whole input, and how often it reads.
 
 use super::helpers::DRIFT;
-use gas_tool_io::input::slurp;
+use gas_tool::slurp;
 use std::alloc::Global;
 use std::io;
 use std::io::{ErrorKind, Read};
 use std::process::Abort;
 use std::test::Fail;
 
-/// Returns `left` bytes, at most `most` per read: first a text, then the old bytes of the buffer.
+/// A reader of `left` bytes, at most `most` per read: first a text, then the old bytes of the buffer.
 /// It counts its reads, and read number `fails_at` fails.
 #[derive(Drop)]
-struct Given<'a> {
+pub(super) struct Given<'a> {
     text: &'a [u8],
     left: usize,
     most: usize,
-    reads: usize,
+    pub(super) reads: usize,
     fails_at: usize,
 }
 
@@ -34,8 +34,8 @@ impl Read for Given<'_> {
     }
 }
 
-// A reader of the scene, a byte per read.
-fn scene(fails_at: usize) -> Given<'static> {
+/// A reader of the scene, a byte per read.
+pub(super) fn scene(fails_at: usize) -> Given<'static> {
     let text = DRIFT.as_bytes();
     Given {
         text,

@@ -10,11 +10,11 @@ mod helpers;
 #[cfg(test)]
 mod input;
 #[cfg(test)]
-mod memory;
-#[cfg(test)]
 mod output;
 #[cfg(test)]
 mod perform;
+#[cfg(test)]
+mod program;
 #[cfg(test)]
 mod refusals;
 #[cfg(test)]

@@ -1,7 +1,7 @@
 //! Whole requests, from the text of a scene to the printed bytes.
 
 use super::helpers::{DRIFT, DRIFTED, End, Narrow, assert_got, perform_words};
-use gas_tool_perform::faults::ToolError;
+use gas_tool::ToolError;
 use std::alloc::Global;
 use std::process::Abort;
 use std::sync::Wait;

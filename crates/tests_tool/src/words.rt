@@ -1,7 +1,7 @@
 //! The requests of the command line's words.
 
 use super::helpers::request_of;
-use gas_tool_cli::request::{Request, Turns};
+use gas_tool::{Request, Turns};
 use std::alloc::Global;
 use std::process::Abort;
 use std::test::Fail;

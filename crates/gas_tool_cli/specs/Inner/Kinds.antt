@@ -3,8 +3,8 @@
 use Rattle.std.specs.Prelude.{◌≡◌, ◌≢◌, ◌⊎◌, ⊤}
 use Rattle.clap.specs.declared.error.kind.ErrorKind.{ErrorKind}
 use Rattle.clap.specs.declared.error.kind.ErrorKind.TheVariants.{DisplayHelp, DisplayVersion, OutOfMemory}
-use Rattle.gas_tool_cli.specs.declared.faults.UsageFault.{UsageFault}
-use Rattle.gas_tool_cli.specs.declared.faults.UsageFault.TheVariants as fault
+use Rattle.gas_tool_cli.specs.declared.words.UsageFault.{UsageFault}
+use Rattle.gas_tool_cli.specs.declared.words.UsageFault.TheVariants as fault
 
 -- the fault of an error of this kind
 abbrev pub TellsKind : ErrorKind → UsageFault → Type 0

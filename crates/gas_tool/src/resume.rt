@@ -3,7 +3,7 @@
 ghost use Rattle.std.specs.Prelude.{◌≡◌, ℕ, ◌+◌, List, None, Ok};
 ghost use Rattle.gas_pipe_members.specs.Plan.{plan_refusal};
 ghost use Rattle.gas_scene.specs.Scene.{SceneModel, scene_of_text};
-ghost use Rattle.gas_tool_perform.specs.Outcome.{outcome, scene_after};
+ghost use Rattle.gas_tool.specs.Outcome.{outcome, scene_after};
 ghost use Rattle.gas_tool_cli.specs.declared.request.Request.TheVariants.{Run, Coarse};
 
 /// A run in two parts prints what one run prints, for any numbers of stages and any capacities.

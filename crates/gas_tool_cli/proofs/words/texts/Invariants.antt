@@ -1,6 +1,6 @@
 use Rattle.std.proofs.Common.{◌≡◌, map, take}
 use Rattle.std.specs.String.{string_bytes}
-use Rattle.fhpgas.proofs.arguments.texts.Given as goal
+use Rattle.gas_tool_cli.proofs.words.texts.Given as goal
 
 -- the words so far are in the list
 abbrev pub invariant-loop-word : goal.invariant-loop-word

@@ -3,13 +3,13 @@ use Rattle.std.specs.Prelude.{◌≡◌, ◌≤◌, ◌+◌, ℕ, nat_lt, List, 
 use Rattle.std.specs.Int.{div_ceil}
 use Rattle.std.specs.Io.KnownBytes.{Appends}
 use Rattle.std.specs.Option.{option_map_or}
-use Rattle.std.specs.Result.{result_flatten, result_map_both}
 use Rattle.gas_geom.specs.Gas.{Rules}
 use Rattle.gas_geom.specs.Lattice.{LatticeModel}
 use Rattle.gas_rows.specs.declared.chirality.Chirality.{Chirality}
 use Rattle.gas_stage.specs.Evolution.{lattice_after}
 use Rattle.gas_scene.specs.Catalog.{rules_of}
 use Rattle.gas_scene.specs.Scene.{SceneModel, scene_of_text}
+use Rattle.gas_scene.specs.declared.error.SceneError.{SceneError}
 use Rattle.gas_pipe_model.specs.Plan.{PlanModel}
 use Rattle.gas_pipe_members.specs.Plan.{plan_refusal}
 use Rattle.gas_pipe_replay.specs.Replay.{replay_of}
@@ -18,8 +18,8 @@ use Rattle.gas_tool_io.specs.Text.{cells_text, check_text}
 use Rattle.gas_tool_io.specs.Blocks.{blocks_of}
 use Rattle.gas_tool_io.specs.Table.{table_text}
 use Rattle.gas_tool_io.specs.Replay.{replay_text}
-use Rattle.gas_tool_perform.specs.declared.faults.ToolError.{ToolError}
-use Rattle.gas_tool_perform.specs.declared.faults.ToolError.TheVariants.{Memory, Scene, Plan, Write, MorePasses}
+use Rattle.gas_tool.specs.declared.faults.ToolError.{ToolError}
+use Rattle.gas_tool.specs.declared.faults.ToolError.TheVariants.{Memory, Scene, Plan, Write, MorePasses}
 use Rattle.gas_tool_cli.specs.declared.request.Request.{Request}
 use Rattle.gas_tool_cli.specs.declared.request.Request.TheVariants.{Check, Run, Coarse, Replay}
 
@@ -41,10 +41,14 @@ gas_outcome gas lattice chirality first (Replay stages capacity generations turn
     unless_refused (plan_refusal stages capacity generations) (if nat_lt 1 (div_ceil generations stages) then Err MorePasses
     else Ok (replay_text gas (replay_of gas chirality first lattice plan turns) (first + generations)))
 
+-- the outcome of a request on what was read: the fault, or the outcome on the scene's lattice
+abbrev pub scene_outcome : Result SceneModel SceneError → Request → Result (List ℕ) ToolError
+scene_outcome (Err error) request = Err (Scene error)
+scene_outcome (Ok s) request = gas_outcome (rules_of s.lattice.gas) s.lattice.lattice s.chirality s.generation request
+
 -- the outcome of a request on a text: its first fault, in the order scene, plan, passes, or the text of its answer
 abbrev pub outcome : List ℕ → Request → Result (List ℕ) ToolError
-outcome text request = result_flatten (result_map_both
-    (λ s. gas_outcome (rules_of s.lattice.gas) s.lattice.lattice s.chirality s.generation request) Scene (scene_of_text text))
+outcome text request = scene_outcome (scene_of_text text) request
 
 -- the scene of a scene's lattice n generations later
 abbrev pub scene_after : SceneModel → ℕ → SceneModel

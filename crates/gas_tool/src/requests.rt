@@ -4,7 +4,7 @@ ghost use Rattle.std.specs.Prelude.{◌≡◌, IfOk, IfErr};
 ghost use Rattle.gas_stage.specs.Evolution.{lattice_after};
 ghost use Rattle.gas_tool_cli.specs.Requests.{IsAllowed};
 ghost use Rattle.gas_tool_cli.specs.declared.request.Request.TheVariants as request_of;
-ghost use Rattle.gas_tool_perform.specs.Outcome.{Performs, gas_outcome, outcome};
+ghost use Rattle.gas_tool.specs.Outcome.{Performs, gas_outcome, outcome};
 
 use crate::faults::ToolError;
 use gas_geom::gas::Gas;

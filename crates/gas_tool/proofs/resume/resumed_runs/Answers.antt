@@ -9,10 +9,9 @@ use Rattle.gas_pipe_members.specs.declared.plan.PlanError.{PlanError}
 use Rattle.gas_scene.specs.declared.error.SceneError.{SceneError}
 use Rattle.gas_scene.specs.Catalog.{rules_of}
 use Rattle.gas_scene.specs.Scene.{SceneModel}
-use Rattle.gas_tool_perform.specs.Outcome.{unless_refused}
-use Rattle.gas_tool_perform.proofs.Outcomes.{scene_outcome}
+use Rattle.gas_tool.specs.Outcome.{scene_outcome, unless_refused}
 use Rattle.gas_tool_cli.specs.declared.request.Request.TheVariants.{Run, Coarse}
-use Rattle.gas_tool_perform.proofs.resume.resumed_runs.Goals as goal
+use Rattle.gas_tool.proofs.resume.resumed_runs.Goals as goal
 
 pub returns-clause-cells : goal.returns-clause-cells
 returns-clause-cells c text later s m n stages capacity stages2 capacity2 here there accepted accepted2 =

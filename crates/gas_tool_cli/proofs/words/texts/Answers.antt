@@ -1,7 +1,7 @@
 use Rattle.std.proofs.Common.{◌≡◌, ◌<◌, ◌+◌, ◌++◌, [], ◌∷◌, ℕ, List, get_or, length, map, take, ap, ap₂, sym, ◌∙◌}
 use Rattle.std.proofs.lemmas.List.{map-append, take_all, take_more}
 use Rattle.std.specs.String.{string_bytes}
-use Rattle.fhpgas.proofs.arguments.texts.Goals as goal
+use Rattle.gas_tool_cli.proofs.words.texts.Goals as goal
 
 -- the first k values of a list, and one more
 one_more : {A B : Type 0} (f : A → B) (xs : List A) (k : ℕ) (x : A) → k < length xs → x ≡ get_or xs k x

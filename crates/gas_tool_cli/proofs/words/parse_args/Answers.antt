@@ -8,7 +8,7 @@ use Rattle.std.proofs.lemmas.Iterator.Adapters.{YieldsList-from_vec}
 use Rattle.clap.specs.Words.{fault_of, subcommand_of}
 use Rattle.gas_tool_cli.specs.Requests.{IsFaultOf, IsRequestOf}
 use Rattle.gas_tool_cli.specs.Words.{program_app}
-use Rattle.fhpgas.proofs.arguments.request_of.Goals as goal
+use Rattle.gas_tool_cli.proofs.words.parse_args.Goals as goal
 
 pub returns-in-Ok-texts-clause-request : goal.returns-in-Ok-texts-clause-request
 returns-in-Ok-texts-clause-request c =
