@@ -149,7 +149,7 @@ CELLS = {
     row_length(0): ["fhp1 é.", "fhp1 "],
 }
 
-# Rectangles that overlap, and their seams at whole blocks of 64 columns and whole groups of 64 blocks.
+# Rectangles that overlap, and their seams at whole words of 64 columns and whole blocks of 256.
 RECTANGLES = [
     "width = 200\nheight = 6\nsolid = [[3, 1, 190, 2], [64, 0, 64, 4], [100, 2, 100, 3], [0, 4, 63, 1], [127, 0, 2, 1], [199, 0, 1, 6], "
     "[3, 1, 190, 1], [10, 3, 20, 1]]",
