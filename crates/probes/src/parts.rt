@@ -14,6 +14,7 @@ use gas_rows::channel::Channel;
 use gas_rows::chirality::Chirality;
 use gas_rows::lattice::Lattice;
 use gas_rows::mask::Mask;
+use gas_rows::random_bits::RandomBits;
 use gas_rows::row::Row;
 use gas_stage::stage::Stage;
 use std::alloc::{AllocError, Global};
@@ -71,6 +72,12 @@ pub fn make(probe: &mut Probe) {
         "mask_blank",
         |alloc| Ok(Mask::blank(alloc, 70)?.count() == 0),
     );
+    probe.call("mask_copy", |alloc| {
+        Ok(Mask::blank(alloc, 70)?.copy(alloc)?.count() == 0)
+    });
+    probe.call("random_bits", |alloc| {
+        RandomBits::new(alloc, Chirality::Left, 70).map(|_| true)
+    });
     probe.call("channel_free", |alloc| {
         Ok(free_channel(alloc)?.count_solid() == 0)
     });

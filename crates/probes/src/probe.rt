@@ -23,7 +23,7 @@ pub fn drifting_lattice(alloc: Global) -> Result<Lattice<Fhp1>, AllocError> {
     Ok(lattice)
 }
 
-/// Returns whether this is that lattice after its particle has come to this column.
+/// Whether this is that lattice after its particle has come to this column.
 pub fn has_drifted_to<G: Gas>(lattice: &Lattice<G>, column: u32) -> bool {
     let size = lattice.channel().size();
     size.width() == 7
