@@ -60,6 +60,7 @@ impl Sink {
         if self.block.remaining_capacity() < bytes.len() {
             self.hand_over(out);
         }
+        // There is room now.
         let _ = self.block.try_extend_from_slice(bytes);
     }
 
