@@ -10,7 +10,7 @@ use Rattle.gas_tool_cli.specs.Words.{program_app}
 use Rattle.gas_tool_cli.specs.declared.words.UsageFault.{UsageFault}
 use Rattle.gas_tool_cli.specs.declared.words.UsageFault.TheVariants as fault
 use Rattle.gas_tool_cli.specs.Requests.{IsFaultOf}
-use Rattle.gas_tool_cli.specs.Inner.Kinds.{TellsKind}
+use Rattle.gas_tool_cli.specs.Inner.{TellsKind}
 
 -- the errors of the command's parses have known kinds
 pub program_is_free : is_simple_and_free program_app ≡ true

@@ -5,7 +5,7 @@ ghost use Rattle.clap.specs.declared.builder.command.Command.TheViews.{out-Comma
 ghost use Rattle.clap.specs.Simple.{on_top};
 ghost use Rattle.clap.specs.Words.{App, Rule, Shape, app_of, new_app, rule_of, with_rule, with_subcommand};
 ghost use Rattle.gas_tool_cli.specs.Words.{plan_rules, program_app, side_rule, subcommand, turns_rule};
-ghost use Rattle.gas_tool_cli.specs.Inner.Commands.{leaf_app};
+ghost use Rattle.gas_tool_cli.specs.Inner.{leaf_app};
 
 use crate::arguments::{
     block_height_arg, block_width_arg, capacity_arg, generations_arg, stages_arg, turns_arg,

@@ -10,7 +10,7 @@ use crate::request::{Request, Turns};
 use clap::ArgMatches;
 use std::alloc::{AllocError, Global};
 
-// Returns the request of the matches, or None if they are no request.
+// The request of the matches, or None if they are no request.
 pub(crate) fn request_of(alloc: Global, matches: &ArgMatches) -> Result<Option<Request>, AllocError>
     ensures { IfOk result (λ r. IfSome r (IsRequestOf (subcommand_rows_of matches.now))) }
 {
@@ -48,7 +48,7 @@ fn plan_of(options: &ArgMatches) -> Option<PlanNumbers>
     })
 }
 
-// Returns the width or the height of blocks, or None if it is missing or out of range.
+// The width or the height of blocks, or None if it is missing or out of range.
 fn side_of(options: &ArgMatches, name: &str) -> Option<u32>
     ensures { IfSome result (IsSideAt (rows_of (found_of options.now)) name.now) }
 {
@@ -86,7 +86,7 @@ fn coarse_request(options: &ArgMatches) -> Option<Request>
     })
 }
 
-// Parses each word as a number. Returns None if a word is no number.
+// The words as numbers, or None if a word is no number.
 fn parse_numbers(alloc: Global, words: &[&str]) -> Result<Option<Vec<u32>>, AllocError>
     ensures { IfOk result (λ r. IfSome r
         (λ numbers. AllZip (IsNumber 32) (map (λ w. w.now) words.now) numbers.items)) }
@@ -101,7 +101,7 @@ fn parse_numbers(alloc: Global, words: &[&str]) -> Result<Option<Vec<u32>>, Allo
     Ok(Some(numbers))
 }
 
-// Returns the turns, or None if a word is no number. That cannot happen, because `clap` refuses
+// The turns, or None if a word is no number. That cannot happen, because `clap` refuses
 // such words.
 fn turns_of(alloc: Global, options: &ArgMatches) -> Result<Option<Turns>, AllocError>
     ensures { IfOk result (λ r. IfSome r (AreTurnsAt (rows_of (found_of options.now)))) }

@@ -22,14 +22,14 @@ impl Model for Turns {
 }
 
 impl Turns {
-    /// Returns the schedule of these turns.
+    /// The schedule of these turns.
     pub fn new(list: Vec<u32>) -> Turns
         ensures value { result ≡ list.items }
     {
         Turns { list }
     }
 
-    /// Returns the turns in order.
+    /// The turns in order.
     pub fn as_slice(&self) -> &[u32]
         ensures value { result.now ≡ self.now }
     {

@@ -7,7 +7,7 @@ ghost use Rattle.std.specs.Vec.Iter.{into_iter_items};
 ghost use Rattle.clap.specs.Words.{fault_of, kind_of, subcommand_of};
 ghost use Rattle.gas_tool_cli.specs.Words.{program_app};
 ghost use Rattle.gas_tool_cli.specs.Requests.{AskFor, HaveFault, IsAllowed, IsFaultOf, IsRequestOf};
-ghost use Rattle.gas_tool_cli.specs.Inner.Kinds.{TellsKind};
+ghost use Rattle.gas_tool_cli.specs.Inner.{TellsKind};
 ghost use Rattle.gas_tool_cli.specs.declared.words.UsageFault.TheVariants as fault;
 
 use crate::command::program_command;
@@ -32,7 +32,7 @@ pub enum UsageFault {
 }
 
 impl UsageFault {
-    /// Returns the program's exit status: 2 for usage, 3 for memory, 0 for help.
+    /// The exit status of the program: 2 for usage, 3 for memory, 0 for help.
     pub fn status(&self) -> u8
         ensures memory { self.now ≡ fault.Memory → result ≡ 3 }
         ensures usage { (text : String Global) → self.now ≡ fault.Usage text → result ≡ 2 }
@@ -73,7 +73,7 @@ fn usage_of(alloc: Global, error: clap::Error) -> UsageFault
     }
 }
 
-/// Returns the request of the words, the program's name first. The fault is `Help` if the words ask
+/// The request of the words, the program's name first. The fault is `Help` if the words ask
 /// for help or the version, `Usage` if they are wrong, and `Memory` if memory is refused.
 pub fn parse_words<'a>(alloc: Global, words: &'a [&'a str]) -> Result<Request, UsageFault>
     ensures fault { IfErr result (IsFaultOf

@@ -17,7 +17,7 @@ pub enum InputFault {
 }
 
 impl InputFault {
-    /// Returns the program's exit status: 3 for memory, 1 for a refused input.
+    /// The exit status of the program: 3 for memory, 1 for a refused input.
     pub fn status(&self) -> u8
         ensures memory { self.now ≡ fault.Memory → result ≡ 3 }
         ensures refused { self.now ≢ fault.Memory → result ≡ 1 }

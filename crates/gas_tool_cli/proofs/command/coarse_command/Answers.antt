@@ -1,5 +1,5 @@
 use Rattle.std.proofs.Common.{codes}
-use Rattle.gas_tool_cli.specs.Inner.Commands.{leaf_app}
+use Rattle.gas_tool_cli.specs.Inner.{leaf_app}
 use Rattle.gas_tool_cli.specs.Words.{plan_rules, side_rule, subcommand}
 use Rattle.gas_tool_cli.proofs.command.coarse_command.Goals as goal
 
