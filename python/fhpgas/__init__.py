@@ -1,36 +1,36 @@
-"""Lattice gases from Python: scenes from fields and shapes, runs of the program, observables and pictures.
+"""Lattice gases from Python: lattices as numpy's arrays, runs of the program, fields of the fluid and pictures.
 
-    import fhpgas                                     # pip install ./python, or PYTHONPATH=python
-    scene = fhpgas.gas(0.2, east=0.1, solid=fhpgas.Obstacles(512, 256).disc(128, 128, 20), seed=1)
-    cells = fhpgas.run(scene, 1000)                   # cells.states[y][x], cells.solid[y][x], cells.particles
-    table = fhpgas.coarse(scene, 1000, 8, 9)          # table.density(), table.velocity(), table.px[row][column]
-    fhpgas.picture("speed.png", "speed", table)
-    later = fhpgas.run(fhpgas.resume(scene, cells), 1000)
+    import fhpgas, numpy as np                        # pip install ./python, or PYTHONPATH=python
+    X, Y = fhpgas.positions((512, 256))               # the places of the cells, north is up
+    start = fhpgas.gas(0.2, east=0.3, solid=np.hypot(X - 128, Y - 110) < 20, seed=1)
+    late = start.run(1000)                            # another Lattice: late.states[y, x], late.solid[y, x], late.particles
+    late.plot("vorticity", smooth=2)
+    blocks = late.blocks(8, 9)                        # blocks.density[row, column], blocks.east, blocks.speed, ..
+    late.save("late.toml")
+    later = fhpgas.Lattice.load("late.toml").run(1000)
     mean, error = fhpgas.mean(fhpgas.side_by_side(measure, range(1, 9)))
 
-A scene is passed as its text. Bit i of a state is a particle to E, NE, NW, W, SW, SE (fhp1, and fhp-rest with rest as bit 6) or to E, N, W,
-S (hpp). Row 0 is the top, and north is up: the middle of cell [y][x] lies at x + (y % 2) / 2, -sqrt(3)/2 y on the triangular lattice. Input
-that does not fit raises a `Fault` of one line; `explain(scene)` says where and why a scene is refused. Only `arrays()` needs a package,
-numpy. The program is proved, this package is not.
+A *filling* is the chance per direction, 0 to 1, and a *density* the particles per cell. Lengths are in cells' widths, times in generations.
+Input that does not fit raises a `Fault` of one line, a ValueError. `explain(scene)` says where and why a scene is refused, and needs the
+standard library only. The rest needs numpy, pictures need matplotlib, and some functions scipy. The program is proved, this package is not.
 """
-from .drawing import draw
-from .drive import driven
-from .fault import Fault
-from .fields import equilibrium, gas
-from .gases import GASES, SOLID, Gas, gas_named
-from .observe import average, counts, fluid, flux, forces, smooth, staggered, vorticity
-from .pictures import picture, svg
-from .program import Summary, check, coarse, plan, run, side_by_side
-from .refusals import explain
-from .reversal import returned, reverse
-from .scenes import keys_of, long_run, read_scene, resume, resume_changed, scene_of, series, text_of, with_seed
-from .shapes import Obstacles
-from .tables import Cells, Table, mean, read_cells, read_table, total
-from .theory import Numbers, numbers
+import importlib.util
 
-__all__ = [
-    "average", "Cells", "check", "coarse", "counts", "draw", "driven", "equilibrium", "explain", "Fault", "fluid", "flux", "forces",
-    "Gas", "gas", "gas_named", "GASES", "keys_of", "long_run", "mean", "Numbers", "numbers", "Obstacles", "picture", "plan",
-    "read_cells", "read_scene", "read_table", "resume", "resume_changed", "returned", "reverse", "run", "scene_of", "series",
-    "side_by_side", "smooth", "SOLID", "staggered", "Summary", "svg", "Table", "text_of", "total", "vorticity", "with_seed",
-]
+from .fault import Fault
+from .program import Summary, check, plan, side_by_side
+from .refusals import explain
+
+__version__ = "1.1.0"
+__all__ = ["Fault", "Summary", "check", "explain", "plan", "side_by_side"]
+
+if importlib.util.find_spec("numpy"):
+    from . import shapes
+    from .blocks import Blocks, read_table
+    from .drive import Point, driven
+    from .fields import equilibrium, positions
+    from .gases import GASES, Gas, gas_named
+    from .lattice import Lattice, coarse, gas, read_cells, run
+    from .shapes import bitmap, disc, nozzle, polygon, porous
+
+    __all__ += ["Blocks", "GASES", "Gas", "Lattice", "Point", "bitmap", "coarse", "disc", "driven", "equilibrium", "gas", "gas_named",
+                "nozzle", "polygon", "porous", "positions", "read_cells", "read_table", "run", "shapes"]

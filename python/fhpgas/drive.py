@@ -3,91 +3,82 @@
 A particle that is turned adds the momentum of two. Which ones are turned is drawn at random from a seed, in proportion to the fluid cells
 of the rows. A driven run is therefore repeatable, and the force that acted is known exactly.
 """
-import dataclasses
-import functools
-import random
 from collections.abc import Iterator
+from typing import Any, NamedTuple
 
-from .fault import Fault, as_seed
-from .gases import SOLID, Gas, gas_named
-from .observe import counts as counts_of, fluid
-from .program import run, show_progress
-from .scenes import keys_of, later_scene
-from .tables import Cells
+import numpy as np
+
+from .fault import Fault, integer, real
+from .gases import Array, Gas
+from .lattice import MOST_SEED, Lattice
+from .program import show_progress
 
 
-@dataclasses.dataclass(frozen=True)
-class Point:
-    """A point of a driven run: the cells before and after particles were turned, how many were turned (to the west if negative), and the
-    scene that continues. `force` is the momentum per fluid cell and generation that these add until the next point. A mean flow is the
-    velocity of the cells before plus half of the kick: `velocity`."""
+class Point(NamedTuple):
+    """A point of a driven run: the lattice before and after particles were turned, and how many were turned (to the west if negative).
+    `force` is the momentum per fluid cell and generation that these add until the next point. `velocity` is the mean flow: the mean velocity
+    of the lattice before plus half of the kick."""
 
-    before: Cells
-    after: Cells
+    before: Lattice
+    after: Lattice
     turned: int
     force: float
     velocity: float
-    scene: str = dataclasses.field(repr=False)
 
 
-def driven(scene: str, generations: int, every: int = 10, *, force: float | None = None, flow: float | None = None, seed: int = 0,
-           **plan) -> Iterator[Point]:
+def driven(lattice: Lattice, generations: int, every: int = 10, *, force: float | None = None, flow: float | None = None, seed: int = 0,
+           **plan: Any) -> Iterator[Point]:
     """The points of a driven run: at its start, and after every `every` generations. Either a body force acts eastwards, a momentum per
     fluid cell and generation, or the particles are turned that bring the mean velocity to `flow`, and `Point.force` is the force that this
-    takes. The plan is as in `run`."""
+    takes. The plan is as in `Lattice.run`. A row that has too few particles to turn raises a Fault."""
     if (force is None) == (flow is None):
         raise Fault("a flow is driven either by a force or towards a mean flow: force=.. or flow=.. (--force, --flow)")
-    if every < 1 or generations < 0 or generations % every:
+    every, generations = integer("the number of generations between points", every, 1), integer("the number of generations", generations)
+    if generations % every:
         raise Fault(f"{generations} generations are not a multiple of {every}, those from one point to the next")
-    keys, cells = keys_of(scene), run(scene, 0, **plan)
-    if not cells.particles:
-        raise Fault("the scene has no particle that could be turned")
-    return _points(keys, cells, generations, every, force, flow, random.Random(as_seed(seed)), plan)
+    if not lattice.particles:
+        raise Fault("the lattice has no particle that could be turned")
+    force = force if force is None else real("a force", force, -2, 2)
+    flow = flow if flow is None else real("a flow, the mean velocity of the particles,", flow, -1, 1)
+    return _points(lattice, generations, every, force, flow, np.random.PCG64(integer("a seed", seed, 0, MOST_SEED)), plan)
 
 
-def _points(keys: dict, cells: Cells, generations: int, every: int, force: float | None, flow: float | None, lots: random.Random,
-            plan: dict) -> Iterator[Point]:
+def _points(lattice: Lattice, generations: int, every: int, force: float | None, flow: float | None, lots: np.random.PCG64,
+            plan: dict[str, Any]) -> Iterator[Point]:
     """The points of `driven`. A row is owed what rounding left of its share so far."""
-    gas, number, scene = gas_named(keys["gas"]), fluid(cells), ""
-    shares = [(len(row) - row.count(SOLID)) / number for row in cells.rows]
-    owed = [lots.random() - 0.5 for _ in shares]
+    fluid = [np.flatnonzero(~row) for row in lattice.solid]
+    shares, owed = np.array([*map(len, fluid)]) / lattice.fluid, _uniform(lots, len(fluid)) - 0.5
     for done in range(0, generations + 1, every):
         show_progress(f"{done} of {generations} generations")
-        cells = run(scene, every, **plan) if done else cells
-        before = momentum(cells, gas)
-        wanted = force * every * number / 2 if flow is None else (flow * cells.particles - before) / 2
-        owed = [part + wanted * share for part, share in zip(owed, shares)]
-        counts = [round(part) for part in owed]
-        owed = [part - count for part, count in zip(owed, counts)]
-        rows = (turned(row, count, gas, lots, y) if count else row for y, (row, count) in enumerate(zip(cells.rows, counts)))
-        after = dataclasses.replace(cells, rows=tuple(rows))
-        scene, count = later_scene(keys, after), sum(counts)
+        before = lattice.run(every, **plan) if done else lattice
+        momentum = before.momentum[0]
+        wanted = (flow * before.particles - momentum) / 2 if force is None else force * every * before.fluid / 2
+        owed += wanted * shares
+        numbers = np.rint(owed).astype(int)
+        owed -= numbers
+        states, count = before.states.copy(), int(numbers.sum())
+        for y in np.flatnonzero(numbers):
+            _turn(states[y], fluid[y], int(numbers[y]), before.gas, lots, y)
+        lattice = before.replace(states=states)
         show_progress("")
-        yield Point(cells, after, count, 2 * count / every / number, (before + count) / cells.particles, scene)
+        yield Point(before, lattice, count, 2 * count / every / before.fluid, float(momentum + count) / before.particles)
 
 
-def momentum(cells: Cells, gas: Gas) -> float:
-    """The momentum eastwards of all particles, in units of a particle that moves east."""
-    return sum(n * velocity[0] for n, velocity in zip(counts_of(cells, gas=gas.name), gas.velocities))
+def _uniform(lots: np.random.PCG64, number: int) -> Array:
+    """Numbers from 0 to less than 1 with 53 random bits."""
+    return (lots.random_raw(number) >> np.uint64(11)) * 2.0**-53
 
 
-@functools.cache
-def turnable(gas: Gas, old: int, new: int) -> bytes:
-    """Whether states have the particle `old` and not `new`, as 0 or 1. Solid cells have 0."""
-    return bytes(state & old != 0 == state & new for state in range(SOLID)) + bytes(SOLID)
-
-
-def turned(row: bytes, number: int, gas: Gas, lots: random.Random, y: int) -> bytes:
-    """A row in which a number of particles that moved west move east, or east west if it is negative: from random fluid cells the next one,
-    eastwards, whose opposite direction is empty."""
-    east, west = 1, 1 << gas.opposite(0)
-    cells, free = bytearray(row), bytearray(row.translate(turnable(gas, *((west, east) if number > 0 else (east, west)))))
-    for _ in range(abs(number)):
-        start = next(x for x in iter(lambda: lots.randrange(len(row)), None) if row[x] != SOLID)
-        x = free.find(1, start)
-        x = free.find(1) if x < 0 else x
-        if x < 0:
-            raise Fault(f"row {y} has no particle to turn: the flow is too fast, the force too large, or the gas too thin")
-        cells[x] ^= east | west
-        free[x] = 0
-    return bytes(cells)
+def _turn(row: Array, fluid: Array, number: int, gas: Gas, lots: np.random.PCG64, y: int) -> None:
+    """Turns particles of a row that moved west to the east, or east to the west if the number is negative: from random fluid cells the next
+    one, eastwards, whose opposite direction is empty and which no other took."""
+    both = 1 | 1 << int(gas.opposite[0])
+    free, number = np.flatnonzero(row & both == (both ^ 1 if number > 0 else 1)), abs(number)
+    if number > len(free):
+        raise Fault(f"row {y} has {len(free)} particles to turn, and {number} must be: the flow is too fast, the force too large, or the gas too thin")
+    starts = np.sort(fluid[(_uniform(lots, number) * len(fluid)).astype(int)])
+    places, order = np.searchsorted(free, starts), np.arange(number)
+    taken = np.maximum.accumulate(places - order) + order
+    if past := np.count_nonzero(taken >= len(free)):  # these go on at the row's begin, with the first ones that are left
+        taken[-past:] = np.setdiff1d(np.arange(len(free)), taken[:-past])[:past]
+    row[free[taken]] ^= both

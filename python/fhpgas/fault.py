@@ -1,36 +1,62 @@
-"""What is raised and printed for input that does not fit."""
+"""What is raised and printed for input that does not fit, and the checks that many calls share."""
 import argparse
 import contextlib
 import functools
+import math
 import operator
 import os
+import reprlib
 import sys
 from collections.abc import Callable, Iterator
+from typing import Any, NoReturn, SupportsIndex
 
 
-class Fault(Exception):
-    """Why an input does not fit, in one line that names the culprit."""
+class Fault(ValueError):
+    """Why an input does not fit, in one line that names what was given and what is allowed."""
+
+    def __init__(self, why: object):
+        super().__init__(" ".join(str(why).split()))
+
+
+class Usage(Fault):
+    """A Fault of the words of a command line, after which a program ends with 2."""
+
+
+def integer(what: str, value: SupportsIndex, least: int = 0, most: int | None = None) -> int:
+    """A value as an int from `least` to `most`. Anything else raises a Fault that begins with `what`."""
+    if hasattr(value, "__index__") and least <= (number := operator.index(value)) and (most is None or number <= most):
+        return number
+    raise Fault(f"{what} is an integer from {least}{f' to {most}' if most is not None else ''}, not {reprlib.repr(value)}")
+
+
+def real(what: str, value: Any, least: float = -math.inf, most: float = math.inf) -> float:
+    """A value as a finite float from `least` to `most`. Anything else raises a Fault that begins with `what`."""
+    with contextlib.suppress(TypeError, ValueError, OverflowError):
+        if math.isfinite(number := float(value)) and least <= number <= most:
+            return number
+    raise Fault(f"{what} is a number from {least:g} to {most:g}, not {reprlib.repr(value)}")
 
 
 class Parser(argparse.ArgumentParser):
     """A reader of words whose refusals are Faults. It shows a module's docstring unchanged."""
 
-    def __init__(self, *words, **options):
+    def __init__(self, *words: Any, **options: Any):
         super().__init__(*words, formatter_class=argparse.RawDescriptionHelpFormatter, **options)
 
-    def error(self, message: str):
-        raise Fault(f"{message} (--help says more)")
+    def error(self, message: str) -> NoReturn:
+        raise Usage(f"{message} (--help says more)")
 
 
 @contextlib.contextmanager
 def one_line_faults(name: str) -> Iterator[None]:
-    """Ends a script with status 1 after one line for a Fault, or silently if the reader of its output has left, and with 130 after an
-    interrupt."""
+    """Ends a script after one line for a Fault: with 2 if the words are wrong, else with 1. It ends silently if the reader of its output
+    has left, and with 130 after an interrupt."""
     try:
         yield
         sys.stdout.flush()
     except Fault as fault:
-        sys.exit(f"{name}: {fault}")
+        print(f"{name}: {fault}", file=sys.stderr)
+        sys.exit(2 if isinstance(fault, Usage) else 1)
     except BrokenPipeError:
         os.dup2(os.open(os.devnull, os.O_WRONLY), 1)
         sys.exit(1)
@@ -38,27 +64,16 @@ def one_line_faults(name: str) -> Iterator[None]:
         sys.exit(130)
 
 
-def within(kind: type, least: float, most: float) -> Callable[[str], float]:
+def within(kind: Callable[[str], float], least: float, most: float) -> Callable[[str], float]:
     """A type of argparse: numbers of a kind from `least` to `most`."""
 
     def number(word: str) -> float:
-        if not least <= kind(word) <= most:
-            raise argparse.ArgumentTypeError(f"{word} is not {least} to {most}")
-        return kind(word)
+        with contextlib.suppress(ValueError, OverflowError):
+            if least <= kind(word) <= most:
+                return kind(word)
+        raise argparse.ArgumentTypeError(f"{word} is no {kind.__name__} from {least:g} to {most:g}")
 
     return number
 
 
 whole, number = functools.partial(within, int), functools.partial(within, float)
-
-
-def as_lists(values):
-    """A numpy array as lists, and any other value as it is."""
-    return values.tolist() if hasattr(values, "tolist") else values
-
-
-def as_seed(seed) -> int:
-    """A seed as an integer. A value that a scene cannot have raises a Fault."""
-    if not hasattr(seed, "__index__") or not 0 <= operator.index(seed) < 2**63:
-        raise Fault(f"a seed is an integer from 0 to 9223372036854775807, and this one is {seed!r}")
-    return operator.index(seed)

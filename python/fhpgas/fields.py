@@ -1,148 +1,123 @@
-"""Scenes from fields: a gas with a density and a velocity that vary in space, drawn from the equilibrium of Fermi and Dirac.
+"""Fields of a gas: the places of its cells, the equilibrium of Fermi and Dirac, and states that are drawn from it at random.
 
 At equilibrium direction i of a cell contains a particle with the chance N_i = 1 / (1 + exp(h + q.c_i)), where c_i is its velocity. The sum
-of N_i must be b d, and the sum of N_i c_i must be b d u (b directions, filling d, velocity u), which determines h and q.
+of N_i must be b d, and the sum of N_i c_i must be b d u (b directions, filling d, velocity u), which determines h and q (U. Frisch and
+others, Complex Systems 1 (1987) 649).
 """
-import array
-import functools
-import math
-import random
-from collections.abc import Callable, Sequence
+import reprlib
+from collections.abc import Callable
+from typing import Any
 
-from .fault import Fault, as_lists, as_seed
-from .gases import SOLID, Gas, gas_named
-from .scenes import map_of
+import numpy as np
 
-FIELD = float | Sequence | Callable[[float, float], float]
-STEP = 4096  # values of fields that vary along a row are rounded to this fraction, so that few equilibria are solved
-LANE = 16  # bits: of a chance in 1 / 2^15, and one for the borrow
+from .fault import Fault, integer
+from .gases import Array, Gas, gas_named
+
+Field = float | Array | Callable[[Array, Array], Any]
+CACHED = 1 << 17  # words of random bits, or cells, that are worked on at a time
 
 
-@functools.lru_cache(200_000)
-def equilibrium(gas: str, density: float, east: float = 0.0, north: float = 0.0) -> tuple[float, ...]:
-    """The chances that the directions of a cell contain a particle, for a filling (0 to 1) and a mean velocity of the particles. A velocity
-    that is impossible at this filling raises a Fault."""
+def size_checked(size: tuple[int, int]) -> tuple[int, int]:
+    """A size, columns and rows, as two ints of at least 1."""
+    try:
+        columns, rows = size
+    except (TypeError, ValueError):
+        raise Fault(f"a size is two integers, columns and rows, not {reprlib.repr(size)}") from None
+    return integer("the number of columns", columns, 1), integer("the number of rows", rows, 1)
+
+
+def positions(size: tuple[int, int], gas: str | Gas = "fhp1", rows: slice = slice(None)) -> tuple[Array, Array]:
+    """The places of the cells' middles, in cells' widths, for a `size` of columns and rows: X [rows, columns] eastwards from the middle of
+    the first cell, and Y [rows, 1] northwards from the lower wall. Row 0 is the top. With `rows` only these rows."""
+    (columns, height), named = size_checked(size), gas_named(gas)
+    y = np.arange(height)[rows, None]
+    return np.arange(columns) + (0 if named.is_square else 0.5) * (y % 2), (height - 0.5 - y) * named.row_distance
+
+
+def equilibrium(gas: str | Gas, filling: Any, east: Any = 0.0, north: Any = 0.0) -> Array:
+    """The chances [b, ..] that the b directions of a cell contain a particle, for a filling (0 to 1, the mean of these chances) and a mean
+    velocity of the particles, in cells' widths per generation. These are numbers or arrays [..] that numpy spreads. A velocity that is
+    impossible at its filling raises a Fault."""
     named = gas_named(gas)
-    if not 0 <= density <= 1 or not math.isfinite(east + north):
-        raise Fault(f"a density is the filling, 0 to 1, and this one is {density}")
-    if density in (0, 1) and (density == 0 or east == north == 0):
-        return (float(density),) * named.directions
-    chances = _solved(named, density, east, north) if 0 < density < 1 else None
-    if chances is None:
-        raise Fault(f"no {gas} of density {density} has the velocity {east}, {north}")
+    d, u, v = np.broadcast_arrays(*map(numbers_of, ("filling", "east", "north"), (filling, east, north)))
+    if (wrong := ~((d >= 0) & (d <= 1))).any():
+        raise Fault(f"a filling is the chance per direction, 0 to 1, not {d[wrong][0]:g} (particles per cell are a density)")
+    if (wrong := (d == 1) & ((u != 0) | (v != 0))).any():
+        raise _impossible(named, d[wrong], u[wrong], v[wrong])
+    chances, some = np.empty((named.directions, *d.shape)), (d > 0) & (d < 1)
+    chances[:] = d
+    if some.any():
+        chances[:, some] = _solved(named, d[some], u[some], v[some])
     return chances
 
 
-def _solved(gas: Gas, density: float, east: float, north: float) -> tuple[float, ...] | None:
-    """Newton's method for (h, q), from their values at a small velocity, with steps of at most 2 so that it does not overshoot."""
-    wanted = [gas.directions * density * part for part in (1.0, east, north)]
-    mean_square = sum(x * x for x, _ in gas.velocities) / gas.directions
-    h, qx, qy = math.log(1 / density - 1), *(-u / mean_square / (1 - density) for u in (east, north))
+def numbers_of(name: str, field: Any) -> Array:
+    """A field as an array of finite floats. Anything else raises a Fault with its name."""
+    values = np.asarray(field)
+    if values.dtype.kind not in "biuf":
+        raise Fault(f"the field `{name}` is numbers or a function of the place, not {reprlib.repr(field)}")
+    if not np.isfinite(values).all():
+        raise Fault(f"the field `{name}` has a value that is not finite")
+    return values.astype(float, copy=False)
+
+
+def _impossible(gas: Gas, d: Array, u: Array, v: Array) -> Fault:
+    return Fault(f"no {gas} of filling {d[0]:g} has the velocity {u[0]:g}, {v[0]:g}")
+
+
+def _solved(gas: Gas, d: Array, u: Array, v: Array) -> Array:
+    """Newton's method for (h, q) of all cells, from their values at a small velocity, with steps of at most 2 so that it does not
+    overshoot. Sums go direction by direction, without BLAS, so every machine rounds alike."""
+    wanted = [gas.directions * d * part for part in (1.0, u, v)]
+    square, is_done = float((gas.velocities[:, 0] ** 2).mean()), False
+    h, qx, qy = np.log(1 / d - 1), -u / square / (1 - d), -v / square / (1 - d)
     for _ in range(200):
-        chances = [1 / (1 + math.exp(min(500.0, h + qx * x + qy * y))) for x, y in gas.velocities]
+        chances = np.stack([1 / (1 + np.exp(np.minimum(500.0, h + qx * x + qy * y))) for x, y in gas.velocities])
         s, sx, sy = (-part for part in wanted)
-        a = b = c = d = e = f = 0.0
+        matrix = np.zeros((6, *d.shape))
         for n, (x, y) in zip(chances, gas.velocities):
-            bend = n * (1 - n)
             s, sx, sy = s + n, sx + n * x, sy + n * y
-            a, b, c, d, e, f = a + bend, b + bend * x, c + bend * y, d + bend * x * x, e + bend * x * y, f + bend * y * y
-        if max(abs(s), abs(sx), abs(sy)) < 1e-11:
-            return tuple(chances)
-        step = _divided((s, sx, sy), a, b, c, d, e, f)
-        if step is None or abs(h) + abs(qx) + abs(qy) > 200:
-            return None
-        share = min(1.0, 2 / max(map(abs, step)))
-        h, qx, qy = h + share * step[0], qx + share * step[1], qy + share * step[2]
-    return None
+            matrix += [n * (1 - n) * weight for weight in (1, x, y, x * x, x * y, y * y)]
+        if is_done:
+            return chances
+        is_done = max(np.abs(part).max() for part in (s, sx, sy)) < 1e-11  # then one more step makes it exact
+        steps = _divided((s, sx, sy), *matrix)
+        share = np.minimum(1, 2 / np.maximum(1e-300, np.abs(steps).max(0)))
+        h, qx, qy = h + share * steps[0], qx + share * steps[1], qy + share * steps[2]
+        if (lost := ~(np.abs(h) + np.abs(qx) + np.abs(qy) < 200)).any():
+            raise _impossible(gas, d[lost], u[lost], v[lost])
+    raise _impossible(gas, d, u, v)
 
 
-def _divided(right, a, b, c, d, e, f) -> tuple[float, float, float] | None:
-    """The solution of three linear equations whose symmetric matrix has the rows (a, b, c), (b, d, e), (c, e, f), or None."""
+def _divided(right: tuple[Array, Array, Array], a: Array, b: Array, c: Array, d: Array, e: Array, f: Array) -> Array:
+    """The solutions [3, cells] of three linear equations whose symmetric matrix has the rows (a, b, c), (b, d, e), (c, e, f)."""
     minors = d * f - e * e, c * e - b * f, b * e - c * d
     whole = a * minors[0] + b * minors[1] + c * minors[2]
-    if abs(whole) < 1e-40:
-        return None
     rows = minors, (minors[1], a * f - c * c, b * c - a * e), (minors[2], b * c - a * e, a * d - b * b)
-    return tuple(sum(m * r for m, r in zip(row, right)) / whole for row in rows)
+    with np.errstate(divide="ignore", invalid="ignore"):
+        return np.stack([(p * right[0] + q * right[1] + r * right[2]) / whole for p, q, r in rows])
 
 
-def gas(density: FIELD, east: FIELD = 0.0, north: FIELD = 0.0, *, size: tuple[int, int] | None = None, solid=None, gas: str = "fhp1",
-        chirality: str = "seeded", seed: int = 0) -> str:
-    """The scene of a gas with a density (the filling, 0 to 1) and a mean velocity, drawn at random from the equilibrium. The same arguments
-    draw the same scene. A field is a number, a list with a number per row, a list [y][x], or a function of the place: x eastwards from the
-    middle of the first cell, y northwards from the lower wall, in cells' widths. `solid` says [y][x] which cells are solid (a list, a numpy
-    array or `Obstacles`). `size`, the columns and rows, may be left out if one of these is a list that has them."""
-    named, fields = gas_named(gas), [as_lists(field) for field in (density, east, north)]
-    columns, rows = size or _size_of([solid if solid is None else as_lists(solid), *fields])
-    solid = None if solid is None else as_lists(solid)
-    if not (1 <= columns <= 65536 and 1 <= rows <= 65536):
-        raise Fault(f"a lattice has 1 to 65536 columns and rows, and this one {columns} and {rows}")
-    if solid is not None and (len(solid) != rows or {*map(len, solid)} != {columns}):
-        raise Fault(f"the solid cells are not of {columns} columns and {rows} rows")
-    draw, drawn = Drawing(named, columns, seed), []
-    for y in range(rows):
-        values = [_row_of(name, field, named, columns, rows, y) for name, field in zip(("density", "east", "north"), fields)]
-        row = draw.row(values)
-        if solid is not None and any(solid[y]):
-            row = bytes(SOLID if wall else state for state, wall in zip(row, solid[y]))
-        drawn.append(row)
-    return map_of({"version": 2, "gas": gas, "chirality": chirality, "seed": seed}, drawn)
+def drawn(gas: Gas, fields: tuple[Array, Array, Array], shape: tuple[int, int], seed: int, first: int = 0) -> Array:
+    """States (uint8) of a `shape` of rows and columns, drawn at random from the equilibrium of `fields`: filling, east and north, which
+    numpy spreads over the shape. They are the rows from `first` on of a lattice.
 
-
-def _size_of(fields: list) -> tuple[int, int]:
-    """The columns and rows of the first list that has both."""
-    for field in fields:
-        if hasattr(field, "__len__") and len(field) and hasattr(field[0], "__len__"):
-            return len(field[0]), len(field)
-    raise Fault("the size is not known: gas(.., size=(columns, rows))")
-
-
-def _row_of(name: str, field, gas: Gas, columns: int, rows: int, y: int) -> float | list[float]:
-    """The values of a field along a row: one number if they are the same."""
-    try:
-        if callable(field):
-            north = (rows - 0.5 - y) * gas.row_distance
-            values = [field(x, north) for x in ((column + y % 2 / 2 if gas.name != "hpp" else column) for column in range(columns))]
-        else:
-            values = field[y] if hasattr(field, "__len__") else field
-        if not hasattr(values, "__len__"):
-            return float(values)
-        if len(values) != columns:
-            raise Fault(f"the field `{name}` has {len(values)} values in row {y}, and the lattice has {columns} columns")
-        return float(values[0]) if values.count(values[0]) == columns else [float(value) for value in values]
-    except IndexError:
-        raise Fault(f"the field `{name}` has too few rows: {len(field)} of {rows}") from None
-    except (TypeError, ValueError):
-        raise Fault(f"the field `{name}` is no number, no list of numbers and no function of the place") from None
-
-
-class Drawing:
-    """Draws rows of states. Random numbers of 15 bits are compared with the chances of all cells in one subtraction of long integers, which
-    have 16 bits per cell, so a row is drawn at once."""
-
-    def __init__(self, gas: Gas, columns: int, seed: int):
-        self.gas, self.columns, self.lots = gas, columns, random.Random(as_seed(seed))
-        self.ones = self._lanes([1] * columns)
-        self.numbers, self.borrow = self.ones * 0x7FFF, self.ones << 15
-        self.limits = {}  # of an equilibrium: per direction the chance in 1 / 2^15
-
-    def _lanes(self, values) -> int:
-        return int.from_bytes(array.array("H", values).tobytes(), "little")
-
-    def _limits(self, at: tuple[float, float, float]) -> tuple[int, ...]:
-        if at not in self.limits:
-            self.limits[at] = tuple(round(chance * 0x8000) for chance in equilibrium(self.gas.name, *at))
-        return self.limits[at]
-
-    def row(self, values: list[float | list[float]]) -> bytes:
-        """A row of states for values of the density and of the velocity eastwards and northwards."""
-        if all(isinstance(value, float) for value in values):
-            planes = [limit * self.ones for limit in self._limits(tuple(values))]
-        else:
-            along = [[value] * self.columns if isinstance(value, float) else [round(STEP * v) / STEP for v in value] for value in values]
-            planes = map(self._lanes, zip(*map(self._limits, zip(*along))))
-        states = 0
-        for direction, plane in enumerate(planes):
-            drawn = self.lots.getrandbits(LANE * self.columns) & self.numbers
-            states |= (plane + self.borrow - self.ones - drawn >> 15 & self.ones) << direction
-        return states.to_bytes(2 * self.columns, "little")[::2]
+    Direction i of a cell contains a particle if a number of 16 bits is less than 65536 times its chance, rounded. A row takes, direction by
+    direction, the columns' numbers from the little-endian 64-bit words of numpy's PCG64(seed), and its first word is number
+    row * b * ceil(columns / 4). So a row has the same states whichever rows are drawn with it.
+    """
+    rows, columns = shape
+    words = gas.directions * -(-columns // 4)
+    fields = tuple(np.reshape(field, (1,) * (2 - np.ndim(field)) + np.shape(field)) for field in fields)
+    is_profile, height = all(field.shape[1] == 1 for field in fields), max(1, CACHED // words)
+    chances = np.broadcast_to(equilibrium(gas, *fields), (gas.directions, rows, 1)) if is_profile else None
+    source, states = np.random.PCG64(seed).advance(first * words), np.zeros(shape, np.uint8)
+    for top in range(0, rows, height):
+        part, strip = states[top : top + height], slice(top, top + height)
+        here = equilibrium(gas, *(field[strip] if len(field) > 1 else field for field in fields)) if chances is None else chances[:, strip]
+        limits = np.rint(65536 * here)
+        limits = limits.astype(np.uint16 if limits.max() < 65536 else np.int32)
+        lots = source.random_raw(len(part) * words).astype("<u8", copy=False).view("<u2").reshape(len(part), gas.directions, -1)
+        for i, limit in enumerate(limits):
+            part |= (lots[:, i, :columns] < limit).view(np.uint8) << i
+    return states

@@ -3,94 +3,96 @@
 Bit i of a state is a particle in direction i: E, NE, NW, W, SW, SE in `fhp1`, the same and rest in `fhp-rest`, E, N, W, S in `hpp`. Lengths
 are in cells' widths, times in generations.
 """
-import dataclasses
 import functools
-import math
+import reprlib
+from collections.abc import Sequence
+from typing import Any
+
+import numpy as np
 
 from .fault import Fault
 
-SOLID = 0x80  # the byte of a solid cell; any other cell's byte is its state
-ROOT3 = math.sqrt(3)
-EXCHANGES = ((0x41, 0x22), (0x42, 0x05), (0x44, 0x0A), (0x48, 0x14), (0x50, 0x28), (0x60, 0x11))  # one moving and one at rest, two
+Array = np.ndarray[Any, np.dtype[Any]]
+Pairs = Sequence[tuple[int, int]]
+ROOT3 = 3**0.5
+SIDES = {"seeded": ("left", "right"), "left": ("left",), "right": ("right",)}  # of the pairs that turn, by chirality
+STATES = np.arange(128, dtype=np.uint8)
+EXCHANGES = {0x41: 0x22, 0x42: 0x05, 0x44: 0x0A, 0x48: 0x14, 0x50: 0x28, 0x60: 0x11}  # one moving and one at rest: two moving
 
 
-@dataclasses.dataclass(frozen=True)
+def read_only(array: Array) -> Array:
+    """The same array, which can no longer be written."""
+    array.flags.writeable = False
+    return array
+
+
 class Gas:
-    """A gas. `momenta` has the directions' momenta in the units of the columns `px` and `py`, and `units` has these units. `steps` has the
-    columns and rows to the neighbour, per direction, from an even row and from an odd one."""
+    """A gas, one of `GASES`. With b directions:
 
-    name: str
-    momenta: tuple[tuple[int, int], ...]
-    units: tuple[float, float]
-    steps: tuple[tuple[tuple[int, int], ...], ...]
-    row_distance: float
+    `momenta` [b, 2] are the directions' momenta eastwards and northwards in the units of `px` and `py`, and `velocities` [b, 2] are `momenta`
+    times these `units` [2]. `opposite` [b] are the directions turned back. `steps` [parity of the row, b, 2] are the columns and rows to the
+    neighbour. `row_distance` is the distance of rows. By state, for all 128: `bits` [128, b], the `number` of particles, `px` and `py`, and
+    the states with all particles `turned` back.
+    """
 
-    @functools.cached_property
-    def directions(self) -> int:
-        return len(self.momenta)
+    def __init__(self, name: str, momenta: Pairs, units: tuple[float, float], even: Pairs, odd: Pairs, row_distance: float):
+        self.name, self.directions, self.row_distance = name, len(momenta), row_distance
+        self.momenta, self.units, self.steps = map(read_only, (np.array(momenta), np.array(units), np.array([even, odd])))
+        self.velocities = read_only(self.momenta * self.units)
+        self.opposite = read_only(np.array([momenta.index((-x, -y)) for x, y in momenta]))
+        self.bits = read_only((STATES[:, None] >> np.arange(self.directions) & 1).astype(np.uint8))
+        self.number, self.px, self.py = map(read_only, (self.bits.sum(1, dtype=int), *(self.bits @ self.momenta).T))
+        self.turned = read_only((self.bits @ (1 << self.opposite)).astype(np.uint8))
 
-    @functools.cached_property
-    def velocities(self) -> tuple[tuple[float, float], ...]:
-        """The velocities of the directions' particles, eastwards and northwards."""
-        return tuple((self.units[0] * x, self.units[1] * y) for x, y in self.momenta)
+    def __repr__(self) -> str:
+        return self.name
 
-    def place(self, column: int, row: int) -> tuple[float, float]:
-        """The place of the middle of a cell: eastwards from the first cell's middle, and southwards."""
-        return (column if self.name == "hpp" else column + row % 2 / 2), row * self.row_distance
+    def __reduce__(self) -> tuple[Any, ...]:
+        return gas_named, (self.name,)
 
-    def opposite(self, direction: int) -> int:
-        x, y = self.momenta[direction]
-        return self.momenta.index((-x, -y))
-
-    def table(self, of_state) -> bytes:
-        """The results of a function for all states, for `bytes.translate`. Solid cells stay."""
-        return bytes(of_state(state) if state >> self.directions == 0 else state for state in range(256))
-
-    @functools.cached_property
-    def turned(self) -> bytes:
-        """All states with their particles turned back."""
-        back = [self.opposite(i) for i in range(self.directions)]
-        return self.table(lambda state: sum(1 << back[i] for i in range(self.directions) if state >> i & 1))
+    @property
+    def is_square(self) -> bool:
+        """Whether the lattice is the square one."""
+        return self.directions == 4
 
     @functools.cache
-    def collisions(self, side: str) -> bytes:
-        """The states after a collision of all states, with head-on pairs that turn to this side, "left" or "right"."""
+    def collisions(self, side: str) -> Array:
+        """The states [128] after a collision, with head-on pairs that turn to this side, "left" or "right"."""
         if side not in ("left", "right"):
             raise Fault(f"head-on pairs turn left or right, not {side!r}")
-        pairs = (0x05, 0x0A) if self.name == "hpp" else (0x09, 0x12, 0x24) if side == "left" else (0x24, 0x12, 0x09)
-        changes = dict(zip(pairs, (*pairs[1:], pairs[0]))) | ({} if self.name == "hpp" else {0x15: 0x2A, 0x2A: 0x15})
+        pairs = (0x05, 0x0A) if self.is_square else (0x09, 0x12, 0x24) if side == "left" else (0x24, 0x12, 0x09)
+        changes = dict(zip(pairs, (*pairs[1:], pairs[0]))) | ({} if self.is_square else {0x15: 0x2A, 0x2A: 0x15})
         if self.name == "fhp-rest":
             changes |= {before | 0x40: after | 0x40 for before, after in changes.items()}
-            changes |= dict(EXCHANGES) | {two: one for one, two in EXCHANGES}
-        return self.table(lambda state: changes.get(state, state))
+            changes |= EXCHANGES | {two: one for one, two in EXCHANGES.items()}
+        table = STATES.copy()
+        table[[*changes]] = [*changes.values()]
+        return read_only(table)
 
 
 _HEXAGON = (2, 0), (1, 1), (-1, 1), (-2, 0), (-1, -1), (1, -1)
 _EVEN = (1, 0), (0, -1), (-1, -1), (-1, 0), (-1, 1), (0, 1)
 _ODD = (1, 0), (1, -1), (0, -1), (-1, 0), (0, 1), (1, 1)
 _SQUARE = (1, 0), (0, -1), (-1, 0), (0, 1)
-GASES = {
-    gas.name: gas
-    for gas in (
-        Gas("fhp1", _HEXAGON, (1 / 2, ROOT3 / 2), (_EVEN, _ODD), ROOT3 / 2),
-        Gas("hpp", ((1, 0), (0, 1), (-1, 0), (0, -1)), (1, 1), (_SQUARE, _SQUARE), 1),
-        Gas("fhp-rest", (*_HEXAGON, (0, 0)), (1 / 2, ROOT3 / 2), ((*_EVEN, (0, 0)), (*_ODD, (0, 0))), ROOT3 / 2),
-    )
-}
+_REST = (0, 0)
+GASES = {gas.name: gas for gas in (
+    Gas("fhp1", _HEXAGON, (1 / 2, ROOT3 / 2), _EVEN, _ODD, ROOT3 / 2),
+    Gas("hpp", ((1, 0), (0, 1), (-1, 0), (0, -1)), (1, 1), _SQUARE, _SQUARE, 1.0),
+    Gas("fhp-rest", (*_HEXAGON, _REST), (1 / 2, ROOT3 / 2), (*_EVEN, _REST), (*_ODD, _REST), ROOT3 / 2),
+)}
 
 
 def gas_named(name: str | Gas) -> Gas:
-    """The gas of a name. Any other value raises a Fault."""
+    """The gas of a name, or a gas itself. Any other value raises a Fault."""
     if isinstance(name, Gas):
         return name
     if not isinstance(name, str) or name not in GASES:
-        raise Fault(f"there is no gas {name!r}: {', '.join(GASES)}" if isinstance(name, str) else f"a gas is a text: {', '.join(GASES)}")
+        raise Fault(f"a gas is one of {', '.join(GASES)}, not {reprlib.repr(name)}")
     return GASES[name]
 
 
-def known_gas(*names: str | None) -> Gas:
-    """The gas of the first name that is not None; a Fault if all are."""
-    name = next((name for name in names if name is not None), None)
-    if name is None:
-        raise Fault("the gas is not known: printed texts do not say it, so name it (gas=\"fhp1\")")
-    return gas_named(name)
+def chirality_named(name: str) -> str:
+    """A chirality, "seeded", "left" or "right". Any other value raises a Fault."""
+    if not isinstance(name, str) or name not in SIDES:
+        raise Fault(f"a chirality is one of {', '.join(SIDES)}, not {reprlib.repr(name)}")
+    return name

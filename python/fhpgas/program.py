@@ -1,25 +1,26 @@
-"""Finds and runs the program: `check`, `run`, `coarse`, runs in parts, and several runs side by side."""
+"""Finds and runs the program on the text of a scene: `check`, calls, plans, and runs side by side. The standard library is enough for it."""
 import concurrent.futures
-import dataclasses
+import contextlib
 import functools
 import multiprocessing
 import os
 import pathlib
 import re
 import shutil
+import signal
 import subprocess
 import sys
-from collections.abc import Callable, Iterable
+from collections.abc import Callable, Iterable, Iterator
+from typing import Any, NamedTuple
 
-from .fault import Fault
-from .tables import Cells, Table, read_cells, read_table
+from .fault import Fault, integer
 
 ABOVE = pathlib.Path(__file__).resolve().parents[2]  # the repository, or the unpacked archive
-# The line of a scene that names its gas: in a scene that the program takes, no text and no comment has such a line within.
-GAS = re.compile(r"""^[ \t]*gas[ \t]*=[ \t]*(["'])([\w-]+)\1""", re.M)
-HEIGHT = re.compile(r"^[ \t]*height[ \t]*=[ \t]*(\d+)", re.M)
-MOST_STAGES, CAPACITY = 64, 128
-_function, _cores = None, 0  # of a worker of `side_by_side`: what it calls, and the cores of its runs
+HEIGHT = re.compile(rb"^[ \t]*height[ \t]*=[ \t]*(\d+)", re.M)
+MOST_BYTES, MOST_GENERATIONS, MOST_STAGES, CAPACITY = 67_108_864, 1_000_000, 64, 128
+_cores = 0  # of the runs of a worker of `side_by_side`
+
+Scene = str | os.PathLike[str]  # the text of a scene, or a path
 
 
 @functools.cache
@@ -33,41 +34,56 @@ def program_path() -> pathlib.Path:
     if not path.is_file():
         raise Fault(f"{path} is missing")
     try:
-        status = subprocess.run([path, "--version"], stdout=subprocess.DEVNULL, stdin=subprocess.DEVNULL).returncode
+        done = subprocess.run([path, "--version"], stdout=subprocess.PIPE, stdin=subprocess.DEVNULL)
     except OSError as fault:
         raise Fault(f"{path}: {fault.strerror}") from None
-    if status:
-        raise Fault(f"{path} does not start")
+    if done.returncode or b"fhpgas" not in done.stdout:
+        raise Fault(f"{path} does not start, or is another program")
     built = ABOVE / "crates/fhpgas/out/fhpgas"
     return built if path == own and built.exists() else path
 
 
-def text_checked(scene: str) -> str:
-    """A scene's text. A path, or what is not a text, raises a Fault."""
-    if not isinstance(scene, str):
-        raise Fault("a scene is passed as its text: read_scene(path), or resume(scene, cells) for cells")
-    if scene.endswith(".toml") and "\n" not in scene:
-        raise Fault(f"{scene} is no scene but a path: its scene is read_scene({scene!r})")
-    return scene
+def read_bytes(path: str | os.PathLike[str]) -> bytes:
+    """The bytes of a file, or of standard input for "-". A file that cannot be read raises a Fault."""
+    try:
+        return sys.stdin.buffer.read() if str(path) == "-" else pathlib.Path(path).read_bytes()
+    except OSError as fault:
+        raise Fault(f"{path}: {fault.strerror}") from None
 
 
-def call(scene: str, *words) -> str:
-    """What the program prints for a scene. The line of a refusal is raised as a Fault. On a terminal the program itself reports its
-    progress, so the scene is checked first."""
-    text = text_checked(scene).encode()
+def scene_bytes(scene: Scene) -> bytes:
+    """The bytes of a scene that is passed as its text or as a path. A str is a text if it contains `=` or a line feed, or nothing."""
+    if isinstance(scene, str) and (not scene or "=" in scene or "\n" in scene):
+        return scene.encode()
+    if not isinstance(scene, (str, os.PathLike)):
+        raise Fault(f"a scene is passed as its text or as the path of its file, not as {type(scene).__name__}")
+    return read_bytes(scene)
+
+
+def call(scene: bytes, *words: object, is_checked: bool = False) -> bytes:
+    """What the program prints for the bytes of a scene. The line of a refusal is raised as a Fault. Input and output are files in memory,
+    because pipes take longer than the program. On a terminal the program itself reports its progress, so the scene is checked first."""
+    if len(scene) > MOST_BYTES:
+        raise Fault(f"the scene has {len(scene)} bytes, and the program reads {MOST_BYTES}: an area describes a large lattice in few lines")
     shows = not _cores and words[0] != "check" and sys.stderr.isatty()
-    if shows:
+    if shows and not is_checked:
         call(scene, "check")
-    done = subprocess.run([program_path(), *map(str, words)], input=text, stdout=subprocess.PIPE, stderr=None if shows else subprocess.PIPE)
+    with os.fdopen(os.memfd_create("scene"), "w+b", 0) as given, os.fdopen(os.memfd_create("answer"), "w+b", 0) as answer:
+        left = memoryview(scene)
+        while left:
+            left = left[given.write(left) :]
+        given.seek(0)
+        done = subprocess.run([program_path(), *map(str, words)], stdin=given, stdout=answer, stderr=None if shows else subprocess.PIPE)
+        answer.seek(0)
+        found = answer.read()
     if done.returncode:
         line = (done.stderr or b"").decode(errors="replace").split("\n")[0] or f"fhpgas ended with status {done.returncode}"
         raise Fault(line + " (`explain` says where)" * line.startswith("scene: "))
-    return done.stdout.decode()
+    return found
 
 
-@dataclasses.dataclass(frozen=True)
-class Summary:
-    """What `check` says of a scene."""
+class Summary(NamedTuple):
+    """What `check` says of a scene: its gas, its columns and rows, and the numbers of its solid cells and of its particles."""
 
     gas: str
     width: int
@@ -76,45 +92,32 @@ class Summary:
     particles: int
 
 
-def check(scene: str) -> Summary:
-    """The summary of a scene. A refused scene raises a Fault."""
-    words = call(scene, "check").split()
+def check(scene: Scene) -> Summary:
+    """The summary of a scene, its text or its path. A refused scene raises a Fault with the program's line."""
+    words = call(scene_bytes(scene), "check").decode().split()
     return Summary(words[1], *map(int, words[3::2]))
 
 
 def plan(rows: int, generations: int, cores: int | None = None) -> tuple[int, int]:
     """Good numbers of stages and rows per belt (docs/PERFORMANCE.md): four workers per core, at most one per 16 rows or per generation, and
-    a single worker if other runs keep the other cores busy."""
-    cores = cores or _cores or os.cpu_count() or 1
+    a single worker if other runs keep the other cores busy. `cores` are by default those that this process may use."""
+    cores = cores or _cores or len(os.sched_getaffinity(0))
     return 1 if cores == 1 else max(1, min(4 * cores, rows // 16, generations, MOST_STAGES)), CAPACITY
 
 
-def _planned(scene: str, generations: int, stages: int | None, capacity: int | None) -> list:
-    """The words of a plan. A map does not say its height, so its lines are counted."""
-    good = (1, CAPACITY)
-    if isinstance(scene, str) and isinstance(generations, int):
-        height = HEIGHT.search(scene[:10_000])
-        good = plan(int(height[1]) if height else scene.count("\n"), generations)
-    return ["--generations", generations, "--stages", good[0] if stages is None else stages, "--capacity", good[1] if capacity is None else capacity]
+def planned(rows: int, generations: int, stages: int | None = None, capacity: int | None = None) -> tuple[object, ...]:
+    """The words of a plan. What is out of its range raises a Fault."""
+    generations = integer("the number of generations", generations, 0, MOST_GENERATIONS)
+    good = plan(rows, generations)
+    chosen = (integer("the number of stages", good[0] if stages is None else stages, 1, MOST_STAGES),
+              integer("the capacity", good[1] if capacity is None else capacity, 1, 1024))
+    return "--generations", generations, "--stages", chosen[0], "--capacity", chosen[1]
 
 
-def gas_of(scene: str) -> str:
-    """The name of a scene's gas."""
-    named = GAS.search(scene)
-    return named[2] if named else check(scene).gas
-
-
-def run(scene: str, generations: int, stages: int | None = None, capacity: int | None = None) -> Cells:
-    """The cells of a scene after 0 to 1,000,000 generations. They do not depend on the plan, for which there is a default."""
-    return read_cells(call(scene, "run", *_planned(scene, generations, stages, capacity)), gas_of(scene))
-
-
-def coarse(scene: str, generations: int, block_width: int, block_height: int, stages: int | None = None, capacity: int | None = None) -> Table:
-    """The table of a scene after some generations, in blocks of 1 to 4096 columns and rows. Blocks of 8 x 9 cells of the triangular lattice
-    are nearly square. The plan is as in `run`."""
-    blocks = "--block-width", block_width, "--block-height", block_height
-    table = read_table(call(scene, "coarse", *_planned(scene, generations, stages, capacity), *blocks))
-    return dataclasses.replace(table, gas=gas_of(scene), block=(block_width, block_height))
+def height_of(scene: bytes) -> int:
+    """About how many rows a scene has, for a plan: a map does not say it, so its lines are counted."""
+    found = HEIGHT.search(scene[:10_000])
+    return int(found[1]) if found else scene.count(b"\n")
 
 
 def show_progress(text: str) -> None:
@@ -123,36 +126,67 @@ def show_progress(text: str) -> None:
         print(f"\r\033[K{text}", end="", file=sys.stderr, flush=True)
 
 
-def _take(function: Callable, cores: int) -> None:
-    global _function, _cores
-    _function, _cores = function, cores
-
-
-def _taken(value):
-    return _function(value)
-
-
-def _alone(function: Callable, value):
-    """A call in the worker of an executor: it has one core."""
-    _take(function, 1)
-    return function(value)
-
-
-def side_by_side(function: Callable, values: Iterable, executor: concurrent.futures.Executor | None = None) -> list:
-    """The results of the function for the values, in their order: in one local process per processor, or by an executor of
-    `concurrent.futures` (Dask's `Client.get_executor()`, mpi4py's `MPIPoolExecutor()`). An executor sends the function to its workers, so
-    it must be at the top of a module that they have, and they need this package and the program."""
-    values, cores = list(values), os.cpu_count() or 1
+def side_by_side(function: Callable[[Any], Any], values: Iterable[Any], executor: concurrent.futures.Executor | None = None) -> list[Any]:
+    """The results of the function for the values, in their order: in one local process per core, or by an executor of `concurrent.futures`
+    (Dask's `Client.get_executor()`, mpi4py's `MPIPoolExecutor()`). An executor sends the function to its workers, so it must be at the top
+    of a module that they have, and they need this package and the program."""
+    global _function
+    values, cores = list(values), len(os.sched_getaffinity(0))
     if executor is not None:
         return _gathered([executor.submit(_alone, function, value) for value in values])
     program_path()
     workers = max(1, min(len(values), cores))
     # a forked worker has the function without pickling it, so it may be a lambda
     with concurrent.futures.ProcessPoolExecutor(workers, multiprocessing.get_context("fork"), _take, (function, cores // workers)) as pool:
-        return _gathered([pool.submit(_taken, value) for value in values])
+        with _interrupted_together():
+            return _gathered([pool.submit(_taken, value) for value in values])
 
 
-def _gathered(futures: list) -> list:
+_function: Callable[[Any], Any]  # of a worker: what it calls
+
+
+def _take(function: Callable[[Any], Any], cores: int) -> None:
+    global _function, _cores
+    _function, _cores = function, cores
+    signal.signal(signal.SIGINT, _pass)
+
+
+def _pass(*_: object) -> None:
+    """An interrupt between calls: the process that asked is interrupted too, and ends the workers."""
+
+
+def _taken(value: Any) -> Any:
+    signal.signal(signal.SIGINT, signal.default_int_handler)
+    try:
+        return _function(value)
+    finally:
+        signal.signal(signal.SIGINT, _pass)
+
+
+def _alone(function: Callable[[Any], Any], value: Any) -> Any:
+    """A call in the worker of an executor: it has one core."""
+    global _cores
+    before, _cores = _cores, 1
+    try:
+        return function(value)
+    finally:
+        _cores = before
+
+
+@contextlib.contextmanager
+def _interrupted_together() -> Iterator[None]:
+    """Interrupts the workers too, with the programs that they run, if this process is interrupted or a run fails."""
+    others = multiprocessing.active_children()
+    try:
+        yield
+    except BaseException:
+        for worker in multiprocessing.active_children():
+            if worker not in others and worker.pid:
+                os.kill(worker.pid, signal.SIGINT)
+        raise
+
+
+def _gathered(futures: list["concurrent.futures.Future[Any]"]) -> list[Any]:
     try:
         for done, future in enumerate(concurrent.futures.as_completed(futures), start=1):
             future.result()

@@ -5,7 +5,7 @@ It reads the scene itself, without the program (reader.py). The tests compare it
 import re
 
 from . import reader
-from .program import text_checked
+from .program import Scene, scene_bytes
 
 MOST_REASONS = 8
 NOT_REFUSED = "the scene is not refused\n"
@@ -33,9 +33,9 @@ def explanation(text: bytes) -> str:
     return "\n".join(lines) + "\n" if lines else NOT_REFUSED
 
 
-def explain(scene: str) -> str:
-    """Where and why a scene is refused, in lines."""
-    return explanation(text_checked(scene).encode())
+def explain(scene: Scene) -> str:
+    """Where and why a scene, its text or its path, is refused, in lines."""
+    return explanation(scene_bytes(scene))
 
 
 def position(source: str, path: tuple) -> str:

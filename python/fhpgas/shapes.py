@@ -1,146 +1,145 @@
-"""Solid cells from shapes and pictures. Cells are named by column and row from 0 at the top left. Lengths are in cells' widths."""
+"""Solid cells as arrays [y, x] of truth values, which are combined by `|`, `&` and `~`. A `size` is columns and rows. Cells are named by column
+and row from 0 at the top left, and lengths are in cells' widths. What a formula of the place says needs no shape:
+`numpy.hypot(X - 200, Y - 220) < 40` with `X, Y = fhpgas.positions(size)`.
+"""
+import functools
 import math
-import random
-from collections.abc import Iterable, Iterator, Sequence
+import os
+import reprlib
+from collections.abc import Iterable, Sequence
+from typing import Any
 
-from .fault import Fault
-from .gases import gas_named
-from .pictures import read_mask
+import numpy as np
 
-NEARLY = 1e-9
-
-
-class Obstacles:
-    """The solid cells of a lattice: `Obstacles(512, 256).disc(128, 128, 20).block(300, 0, 4, 100)`. `obstacles[y][x]` says whether a cell
-    is solid. Discs continue past the last column, and all shapes but blocks are cut at the walls."""
-
-    def __init__(self, columns: int, rows: int, gas: str = "fhp1"):
-        self.gas, self.columns, self.solid = gas_named(gas), columns, 0
-        if not (1 <= columns <= 65536 and 1 <= rows <= 65536):
-            raise Fault("width and height must be 1 to 65536")
-        self.rows = [bytearray(columns) for _ in range(rows)]
-
-    def __len__(self) -> int:
-        return len(self.rows)
-
-    def __getitem__(self, row: int) -> bytearray:
-        return self.rows[row]
-
-    def block(self, column: int, row: int, columns: int, rows: int) -> "Obstacles":
-        """A rectangle of cells, or a plate, if it is thin."""
-        check_inside("a block", (column, row, columns, rows), self.columns, len(self))
-        for y in range(row, row + rows):
-            self._run(y, column, columns)
-        return self
-
-    def disc(self, column: int, row: int, radius: float) -> "Obstacles":
-        """The cells whose middles are at most `radius` from the middle of a cell."""
-        if not (0 <= column < self.columns and 0 <= row < len(self)):
-            raise Fault(f"a disc's middle, column {column} and row {row}, is outside the channel of {self.columns} x {len(self)} cells")
-        if radius < 0:
-            raise Fault(f"a disc's radius is {radius}, and must not be negative")
-        x, y = self.gas.place(column, row)
-        reach = math.ceil(radius / self.gas.row_distance)
-        for other in range(max(0, row - reach), min(len(self), row + reach + 1)):
-            square = radius**2 - (self.gas.place(0, other)[1] - y) ** 2
-            if square > -NEARLY:
-                half = math.sqrt(max(0.0, square))
-                self._span(other, x - half, x + half)
-        return self
-
-    def polygon(self, corners: Iterable[Sequence[float]]) -> "Obstacles":
-        """The cells whose middles are inside a polygon. Its corners are columns and rows, which need not be whole."""
-        corners = [(x, y * self.gas.row_distance) for x, y in corners]
-        if len(corners) < 3:
-            raise Fault("a polygon has three corners or more")
-        for row in range(len(self)):
-            y, crossed = self.gas.place(0, row)[1], []
-            for (x0, y0), (x1, y1) in zip(corners, [*corners[1:], corners[0]]):
-                if (y0 <= y) != (y1 <= y):
-                    crossed.append(x0 + (y - y0) * (x1 - x0) / (y1 - y0))
-            crossed.sort()
-            for left, right in zip(crossed[::2], crossed[1::2]):
-                self._span(row, left, right)
-        return self
-
-    def nozzle(self, throat: int, length: int) -> "Obstacles":
-        """The channel narrows to `throat` open rows in its middle column and widens again, over `length` columns in all."""
-        rows = len(self)
-        if not (1 <= throat <= rows and 1 <= length <= self.columns):
-            raise Fault("throat must be 1 to the height, length 1 to the width")
-        middle = self.columns // 2
-        for column in range(self.columns):
-            opening = throat + round((rows - throat) * min(1, abs(column - middle) / (length / 2)))
-            top = (rows - opening) // 2
-            for row in (*range(top), *range(top + opening, rows)):
-                self._run(row, column, 1)
-        return self
-
-    def porous(self, percent: float, radius: float, lots: random.Random | int = 0) -> "Obstacles":
-        """Discs at random places, until that share of all cells is solid. `lots` is a seed or a source of random numbers."""
-        if not (0 <= percent <= 100 and radius >= 0):
-            raise Fault("percent must be 0 to 100, radius not negative")
-        lots = lots if isinstance(lots, random.Random) else random.Random(lots)
-        while 100 * self.solid < percent * self.columns * len(self):
-            self.disc(lots.randrange(self.columns), lots.randrange(len(self)), radius)
-        return self
-
-    def picture(self, path, pixel: float = 1.0, column: int = 0, row: int = 0) -> "Obstacles":
-        """The dark pixels of a PBM or PNG picture, `pixel` cells' widths wide and high. Its upper left corner is at a cell. A picture that
-        leaves the channel raises a Fault."""
-        mask = read_mask(path)
-        if not 0 < pixel < math.inf:
-            raise Fault(f"a pixel is {pixel} cells wide, and must be wider than 0")
-        wide = math.ceil(pixel * max(map(len, mask), default=0) - NEARLY)
-        tall = math.ceil(pixel * len(mask) / self.gas.row_distance - 0.5 - NEARLY)
-        check_inside("the picture", (column, row, wide, tall), self.columns, len(self))
-        for y in range(row, row + tall):
-            line = int((y - row + 0.5) * self.gas.row_distance / pixel)
-            for first, last in runs([x for x, dark in enumerate(mask[line]) if dark]):
-                self._span(y, column + first * pixel, column + last * pixel - 2 * NEARLY)
-        return self
-
-    def closed(self) -> "Obstacles":
-        """The first column, which closes the ends of the channel."""
-        return self.block(0, 0, 1, len(self))
-
-    def rectangles(self) -> list[list[int]]:
-        """Rectangles [x, y, w, h] that cover every solid cell once: runs along a row, joined to equal runs in the rows below."""
-        last, found = {}, []
-        for y, row in enumerate(self.rows):
-            here = {}
-            for first, end in runs([x for x, wall in enumerate(row) if wall]) if any(row) else ():
-                here[first, end] = last.get((first, end)) or [first, y, end - first, 0]
-                here[first, end][3] += 1
-            found += [rectangle for key, rectangle in here.items() if key not in last]
-            last = here
-        return found
-
-    def _run(self, row: int, first: int, length: int) -> None:
-        """Makes cells of a row solid. After the last column comes the first."""
-        cells, first, length = self.rows[row], first % self.columns, min(length, self.columns)
-        before = min(length, self.columns - first)
-        self.solid += length - cells.count(1, first, first + before) - cells.count(1, 0, length - before)
-        cells[first : first + before] = b"\1" * before
-        cells[: length - before] = b"\1" * (length - before)
-
-    def _span(self, row: int, left: float, right: float) -> None:
-        """Makes the cells of a row solid whose middles lie from left to right."""
-        shift = self.gas.place(0, row)[0]
-        first, last = math.ceil(left - shift - NEARLY), math.floor(right - shift + NEARLY)
-        if first <= last:
-            self._run(row, first, last - first + 1)
+from .fault import Fault, integer, real
+from .fields import size_checked
+from .gases import Array, Gas, gas_named
 
 
-def check_inside(what: str, block: Sequence[int], columns: int, rows: int) -> None:
-    """Raises a Fault if a rectangle of cells is empty or leaves the lattice."""
+def disc(size: tuple[int, int], column: int, row: int, radius: float, gas: str | Gas = "fhp1") -> Array:
+    """The cells whose middles are at most `radius` from the middle of a cell. It continues past the last column and is cut at the walls."""
+    (columns, rows), named = size_checked(size), gas_named(gas)
+    solid = np.zeros((rows, columns), bool)
+    column, row = integer("the column of a disc", column, 0, columns - 1), integer("the row of a disc", row, 0, rows - 1)
+    _stamp(solid, column, row, *_round(real("the radius of a disc", radius, 0), row % 2, named.is_square))
+    return solid
+
+
+@functools.lru_cache(4)
+def _round(radius: float, parity: int, is_square: bool) -> tuple[Array, Array]:
+    """The columns and rows of the cells of a disc, from its middle in a row of this parity. Four times the square of a distance is an
+    integer on both lattices, so nothing is rounded."""
+    y, x = np.ogrid[-int(1.2 * radius) - 1 : int(1.2 * radius) + 2, -int(radius) - 1 : int(radius) + 2]
+    shift = 0 if is_square else (y + parity) % 2 - parity
+    square = (2 * x + shift) ** 2 + (4 if is_square else 3) * y**2
+    down, across = np.nonzero(square <= 4 * radius**2 * (1 + 1e-12))
+    return across - int(radius) - 1, down - int(1.2 * radius) - 1
+
+
+def _stamp(solid: Array, column: int, row: int, across: Array, down: Array) -> None:
+    """Makes the cells solid that lie so far from a cell, past the last column from the first on."""
+    inside = (0 <= row + down) & (row + down < len(solid))
+    solid[row + down[inside], (column + across[inside]) % solid.shape[1]] = True
+
+
+def polygon(size: tuple[int, int], corners: Iterable[Sequence[float]], gas: str | Gas = "fhp1") -> Array:
+    """The cells whose middles are inside a polygon. Its corners are columns and rows, which need not be whole: (0, 0) is the middle of the
+    first cell. It continues past the last column and is cut at the walls. Of a polygon that crosses itself, what lies inside an odd number
+    of times. A cell on an upper or left edge belongs to it, on a lower or right edge not."""
+    (columns, rows), named = size_checked(size), gas_named(gas)
+    corners = np.array([[real("a corner of a polygon", part) for part in corner] for corner in _listed(corners)])
+    if corners.ndim != 2 or corners.shape[0] < 3 or corners.shape[1] != 2:
+        raise Fault(f"a polygon has three corners (column, row) or more, not {reprlib.repr(corners.tolist())}")
+    left, right = math.floor(corners[:, 0].min()) - 1, math.ceil(corners[:, 0].max()) + 1
+    y, x = np.ogrid[:rows, left : right + 1]
+    places, inside = x + (0 if named.is_square else 0.5) * (y % 2), np.zeros((rows, right + 1 - left), bool)
+    for (x0, y0), (x1, y1) in zip(corners, np.roll(corners, -1, 0)):
+        if y0 != y1:
+            inside ^= ((y0 <= y) != (y1 <= y)) & (places >= x0 + (y - y0) * (x1 - x0) / (y1 - y0))
+    solid, (down, across) = np.zeros((rows, columns), bool), np.nonzero(inside)
+    solid[down, (left + across) % columns] = True
+    return solid
+
+
+def _listed(corners: Iterable[Sequence[float]]) -> list[Sequence[float]]:
+    try:
+        return [tuple(corner) for corner in corners]
+    except TypeError:
+        raise Fault(f"the corners of a polygon are pairs (column, row), not {reprlib.repr(corners)}") from None
+
+
+def nozzle(size: tuple[int, int], throat: int, length: int) -> Array:
+    """A channel that narrows to `throat` open rows in its middle column and widens again, over `length` columns in all."""
+    columns, rows = size_checked(size)
+    throat, length = integer("the throat of a nozzle", throat, 1, rows), integer("the length of a nozzle", length, 1, columns)
+    apart = np.minimum(1, np.abs(np.arange(columns) - columns // 2) / (length / 2))
+    opening = throat + np.rint((rows - throat) * apart).astype(int)
+    top, y = (rows - opening) // 2, np.arange(rows)[:, None]
+    return (y < top) | (y >= top + opening)
+
+
+def porous(size: tuple[int, int], share: float, radius: float, seed: int = 0, gas: str | Gas = "fhp1") -> Array:
+    """Discs at random places, until that share (0 to 1) of all cells is solid, drawn from the raw bits of numpy's PCG64(seed)."""
+    (columns, rows), named = size_checked(size), gas_named(gas)
+    share, radius = real("the share of solid cells", share, 0, 1), real("the radius of a disc", radius, 0)
+    lots, solid = np.random.PCG64(integer("a seed", seed)), np.zeros((rows, columns), bool)
+    while np.count_nonzero(solid) < share * solid.size:
+        column, row = (int(lots.random_raw() >> 32) * side >> 32 for side in (columns, rows))
+        _stamp(solid, column, row, *_round(radius, row % 2, named.is_square))
+    return solid
+
+
+def bitmap(size: tuple[int, int], picture: Any, pixel: float = 1.0, column: int = 0, row: int = 0, gas: str | Gas = "fhp1") -> Array:
+    """The dark pixels of a picture, `pixel` cells' widths wide and high. Its upper left corner is at a cell. `picture` is the path of a file
+    that Pillow reads, or an array [y, x] of truth values. A picture that leaves the channel raises a Fault."""
+    (columns, rows), named = size_checked(size), gas_named(gas)
+    dark, pixel = _dark(picture), real("the width of a pixel", pixel, 1e-9)
+    y, x = np.ogrid[:rows, :columns]
+    right = np.floor((x - column + (0 if named.is_square else 0.5) * (y % 2)) / pixel + 1e-9).astype(int)
+    down = np.floor((y - row + 0.5) * named.row_distance / pixel).astype(int)
+    wide, tall = math.ceil(pixel * dark.shape[1] - 1e-9), math.ceil(pixel * len(dark) / named.row_distance - 0.5 - 1e-9)
+    check_inside("the picture", (column, row, wide, tall), (columns, rows))
+    inside = (0 <= right) & (right < dark.shape[1]) & (0 <= down) & (down < len(dark))
+    return inside & dark[down.clip(0, len(dark) - 1), right.clip(0, dark.shape[1] - 1)]
+
+
+def _dark(picture: Any) -> Array:
+    """Whether the pixels [y, x] of a picture are dark: black, or darker than half of white, and not transparent."""
+    if not isinstance(picture, (str, os.PathLike)):
+        if (mask := np.asarray(picture)).ndim != 2 or not mask.size:
+            raise Fault(f"a picture is the path of a file or an array [y, x], not of the shape {mask.shape}")
+        return mask.astype(bool)
+    from PIL import Image
+
+    try:
+        with Image.open(picture) as image:
+            grey = image.point(lambda shade: shade / 256).convert("L") if image.mode.startswith("I") else image
+            shades = np.asarray(grey.convert("RGBA")).astype(int)
+    except OSError as fault:
+        raise Fault(f"{picture}: {fault.strerror or 'no picture that Pillow reads'}") from None
+    except (ValueError, SyntaxError, EOFError) as fault:
+        raise Fault(f"{picture}: the picture is damaged: {fault}") from None
+    return (shades[..., :3].sum(-1) * 2 < 3 * 255) & (shades[..., 3] > 127)
+
+
+def check_inside(what: str, block: Sequence[int], size: tuple[int, int]) -> None:
+    """Raises a Fault if a rectangle of cells, its column, row, columns and rows, is empty or leaves a lattice."""
     x, y, w, h = block
-    if not (0 <= x and 0 <= y and 1 <= w and 1 <= h and x + w <= columns and y + h <= rows):
-        raise Fault(f"{what} leaves the channel of {columns} x {rows} cells or is empty: {x} {y} {w} {h}")
+    if not (0 <= x and 0 <= y and 1 <= w and 1 <= h and x + w <= size[0] and y + h <= size[1]):
+        raise Fault(f"{what} leaves the channel of {size[0]} x {size[1]} cells or is empty: {x} {y} {w} {h}")
 
 
-def runs(numbers: list[int]) -> Iterator[tuple[int, int]]:
-    """The runs of ascending numbers: pairs of the first, and the last and 1."""
-    starts = [x for x, before in zip(numbers, [None, *numbers]) if before is None or before != x - 1]
-    ends = [x + 1 for x, after in zip(numbers, [*numbers[1:], None]) if after != x + 1]
-    return zip(starts, ends)
+def rectangles(solid: Array) -> list[list[int]]:
+    """Rectangles [x, y, w, h], as an area has them, that cover every solid cell once: runs along a row, joined to equal runs in the rows
+    below."""
+    last: dict[tuple[int, int], list[int]] = {}
+    found = []
+    for y, row in enumerate(np.pad(solid, ((0, 0), (1, 1))).astype(np.int8)):
+        steps = np.flatnonzero(np.diff(row)).tolist()
+        here = {}
+        for first, end in zip(steps[::2], steps[1::2]):
+            here[first, end] = last.get((first, end)) or [first, y, end - first, 0]
+            here[first, end][3] += 1
+            found += [here[first, end]] if here[first, end][3] == 1 else []
+        last = here
+    return found

@@ -1,0 +1,375 @@
+"""The lattice of a gas: its cells as numpy arrays, its runs, its pictures and its files."""
+import dataclasses
+import functools
+import os
+import pathlib
+import re
+import tomllib
+from collections.abc import Iterator
+from typing import TYPE_CHECKING, Any
+
+import numpy as np
+
+from . import fields, program
+from .blocks import Blocks, block_sums, read_table
+from .fault import Fault, integer
+from .gases import Array, Gas, chirality_named, gas_named, read_only
+from .program import Scene
+
+if TYPE_CHECKING:
+    from .drive import Point
+
+SOLID = 0x80  # in a byte per cell: a solid cell. Any other cell's byte is its state
+NO_CELL = 0xFF
+MOST_SIDE, MOST_SEED, MOST_GENERATION = 65536, 2**63 - 1, 10**12 + 10**6
+PAIRS = np.array([b"##" if c & SOLID else b"%02x" % c if c else b".." for c in range(256)], "S2").view("<u2")  # the characters of a byte
+CODES = np.full(1 << 16, NO_CELL, np.uint8)  # the byte of two characters
+CODES[PAIRS[: SOLID + 1]] = range(SOLID + 1)
+CODES[ord("0") * 257] = 0
+NUMBER = np.array([0 if c & SOLID else c.bit_count() for c in range(256)], np.uint8)  # of the particles of a byte
+ROWS = re.compile(r"^[ \t]*cells[ \t]*=[ \t]*\[[^\]#]*(?:##[^\]#]*)*\]", re.M)  # the key of a map, without comments
+OTHER = {"left": "right", "right": "left", "seeded": "seeded"}
+
+
+@dataclasses.dataclass(frozen=True, init=False, eq=False, repr=False)
+class Lattice:
+    """The cells of a gas at a generation. A lattice does not change: `run` and its like return another.
+
+    `states` (uint8) and `solid` (bool) are read-only arrays [y, x], 1 to 65536 cells each way. Row 0 is the top, and north is up. Bit i of a
+    state is a particle in direction i: E, NE, NW, W, SW, SE in `fhp1`, the same and rest in `fhp-rest`, E, N, W, S in `hpp`. A solid cell has
+    the state 0. `chirality` is "seeded", "left" or "right", `seed` 0 to 2^63 - 1. Values that a lattice cannot have raise a Fault.
+    """
+
+    states: Array
+    solid: Array
+    gas: Gas
+    chirality: str
+    seed: int
+    generation: int
+
+    def __init__(self, states: Any, solid: Any = None, gas: str | Gas = "fhp1", chirality: str = "seeded", seed: int = 0, generation: int = 0):
+        named, states = gas_named(gas), np.asarray(states)
+        solid = np.zeros(states.shape, bool) if solid is None else np.asarray(solid)
+        if states.ndim != 2 or solid.shape != states.shape or not all(1 <= side <= MOST_SIDE for side in states.shape):
+            raise Fault(f"states and solid cells are arrays [y, x] of one shape, 1 to {MOST_SIDE} each way, not {states.shape} and {solid.shape}")
+        if states.dtype.kind not in "iub" or states.min() < 0 or states.max() >> named.directions:
+            raise Fault(_wrong_state(named, states))
+        if solid.dtype.kind not in "iub":
+            raise Fault(f"solid cells are an array of truth values, not of {solid.dtype}")
+        self.__dict__.update(states=read_only(states.astype(np.uint8)), solid=read_only(solid.astype(bool)), gas=named,
+                             chirality=chirality_named(chirality), seed=integer("a seed", seed, 0, MOST_SEED),
+                             generation=integer("a generation", generation, 0, MOST_GENERATION))
+        if (both := self.solid & (self.states > 0)).any():
+            y, x = np.argwhere(both)[0]
+            raise Fault(f"row {y} column {x} is solid and contains a particle: numpy.where(solid, 0, states) clears such cells")
+
+    def __reduce__(self) -> tuple[Any, ...]:
+        return Lattice, tuple(getattr(self, field.name) for field in dataclasses.fields(self))
+
+    # -- making one
+
+    @classmethod
+    def load(cls, scene: Scene) -> "Lattice":
+        """The lattice of a scene, the path of its file or its text. A refused scene raises a Fault with the program's line."""
+        text = program.scene_bytes(scene)
+        generation, codes = cells_of(program.call(text, "run", "--generations", 0, "--stages", 1))
+        return cls._of(codes, generation, **keys_of(text))
+
+    @classmethod
+    def _of(cls, codes: Array, generation: int, gas: str | Gas, chirality: str = "seeded", seed: int = 0) -> "Lattice":
+        return cls(np.where(codes < SOLID, codes, np.uint8(0)), codes >= SOLID, gas, chirality, seed, generation)
+
+    def replace(self, **changes: Any) -> "Lattice":
+        """The same lattice with other `states`, `solid`, `gas`, `chirality`, `seed` or `generation`. A run of it continues with the random
+        bits that come next."""
+        return dataclasses.replace(self, **changes)
+
+    # -- what it is
+
+    @property
+    def size(self) -> tuple[int, int]:
+        """The numbers of columns and rows."""
+        rows, columns = self.states.shape
+        return columns, rows
+
+    @functools.cached_property
+    def particles(self) -> int:
+        """The number of particles."""
+        return int(NUMBER[self.states].sum(dtype=np.int64))
+
+    @functools.cached_property
+    def fluid(self) -> int:
+        """The number of cells that are not solid."""
+        return self.solid.size - int(np.count_nonzero(self.solid))
+
+    @functools.cached_property
+    def momentum(self) -> Array:
+        """The momentum [east, north] of all particles, in units of a particle of speed 1."""
+        return read_only(self.counts() @ self.gas.velocities)
+
+    @property
+    def positions(self) -> tuple[Array, Array]:
+        """The places X [y, x] and Y [y, 1] of the cells' middles: see `fhpgas.positions`."""
+        return fields.positions(self.size, self.gas)
+
+    def counts(self, width: int | None = None, height: int | None = None) -> Array:
+        """The numbers of particles by direction: [b] of all cells, or [b, row, column] of blocks of so many columns and rows."""
+        if width is None and height is None:
+            return np.bincount(self.states.ravel(), minlength=128) @ self.gas.bits.astype(int)
+        return block_sums(self.states, self.gas.bits.T, width or self.size[0], height or self.size[1])
+
+    def blocks(self, width: int = 8, height: int = 9) -> Blocks:
+        """Sums over blocks of so many columns and rows. Blocks of 8 x 9 cells of the triangular lattice are nearly square."""
+        sums = block_sums(self.states, np.stack([self.gas.number, self.gas.px, self.gas.py]), width, height)
+        fluid = block_sums(self.solid.view(np.uint8), np.array([[1, 0]]), width, height)
+        return Blocks(*fluid, *sums, self.gas, (width, height), self.size, self.generation)
+
+    def __eq__(self, other: object) -> bool:
+        return isinstance(other, Lattice) and self._kept() == other._kept() and np.array_equal(self.states, other.states) and np.array_equal(
+            self.solid, other.solid)
+
+    def __hash__(self) -> int:
+        return hash((self._kept(), self.states.tobytes(), self.solid.tobytes()))
+
+    def _kept(self) -> tuple[object, ...]:
+        return self.gas.name, self.chirality, self.seed, self.generation
+
+    def __repr__(self) -> str:
+        columns, rows = self.size
+        return f"<Lattice {self.gas} {self.chirality} {columns} x {rows}, generation {self.generation}, {self.particles} particles>"
+
+    # -- its texts
+
+    def text(self) -> str:
+        """The cells as `fhpgas run` prints them."""
+        return f"generation {self.generation} particles {self.particles}\n" + lines_of(self._codes()).decode()
+
+    def scene(self) -> str:
+        """The text of the scene that has this lattice, a map."""
+        return self._scene().decode()
+
+    def save(self, path: str | os.PathLike[str]) -> None:
+        """Writes the scene to a file. The file is whole or as before, because a finished one takes its name."""
+        part = pathlib.Path(f"{os.fspath(path)}.part")
+        try:
+            part.write_bytes(self._scene())
+            os.replace(part, path)
+        except OSError as fault:
+            raise Fault(f"{path}: {fault.strerror}") from None
+
+    def _codes(self) -> Array:
+        return self.states | self.solid.view(np.uint8) << 7
+
+    def _scene(self) -> bytes:
+        head = f'version = 2\ngas = "{self.gas}"\nchirality = "{self.chirality}"\nseed = {self.seed}\ngeneration = {self.generation}\ncells = [\n'
+        return b"".join([head.encode(), lines_of(self._codes(), b'    "', b'",\n'), b"]\n"])
+
+    # -- what happens to it
+
+    def run(self, generations: int, stages: int | None = None, capacity: int | None = None) -> "Lattice":
+        """The lattice after 0 to 1,000,000 generations. The plan, `stages` and `capacity`, changes only the time."""
+        words = program.planned(len(self.states), generations, stages, capacity)
+        generation, codes = cells_of(program.call(self._scene(), "run", *words, is_checked=True))
+        return Lattice._of(codes, generation, self.gas, self.chirality, self.seed)
+
+    def every(self, step: int, count: int, **plan: Any) -> Iterator["Lattice"]:
+        """Yields this lattice, and then `count` times the lattice `step` generations later."""
+        steps = [0] + [integer("a step", step, 0, program.MOST_GENERATIONS)] * integer("the number of steps", count)
+        return self._after(steps, plan)
+
+    def _after(self, steps: list[int], plan: dict[str, Any]) -> Iterator["Lattice"]:
+        lattice = self
+        for done, step in enumerate(steps):
+            program.show_progress(f"{done} of {len(steps)} parts")
+            lattice = lattice.run(step, **plan) if step else lattice
+            program.show_progress("")
+            yield lattice
+
+    def coarse(self, generations: int, width: int = 8, height: int = 9, **plan: Any) -> Blocks:
+        """The blocks of the lattice after some generations, summed by the program."""
+        text = _coarse(self._scene(), len(self.states), generations, width, height, plan)
+        return read_table(text, self.gas, (width, height), self.size, self.generation + generations)
+
+    def reverse(self) -> "Lattice":
+        """The lattice with all particles turned back. `lattice.run(n).reverse().run(n).reverse()` has the states of `lattice`, bit for bit.
+
+        A generation collides and then moves. Backwards it moves and then collides, so the particles collide before they are turned, and a
+        collision to the left is undone by one to the right. Random bits only run forwards, so "seeded" raises a Fault (but not in `hpp`,
+        which has none)."""
+        if self.chirality == "seeded" and not self.gas.is_square:
+            raise Fault('a run with chirality "seeded" cannot be reversed, since its random bits only run forwards: take "left" or "right"')
+        after = self.gas.collisions("right" if self.chirality == "right" else "left")[self.states]
+        return self.replace(states=self.gas.turned[after], chirality=OTHER[self.chirality])
+
+    def driven(self, generations: int, every: int = 10, **how: Any) -> "Iterator[Point]":
+        """The points of a run under a force or towards a mean flow: see `fhpgas.driven`."""
+        from .drive import driven
+
+        return driven(self, generations, every, **how)
+
+    def resume(self, text: str | bytes) -> "Lattice":
+        """The lattice of cells that `fhpgas run` printed in a run that began with this lattice. Cells that cannot come from it raise a Fault:
+        they have another size, other solid cells, another number of particles, an earlier generation, or the same generation and other
+        cells. Cells do not show whether another chirality or seed was used."""
+        return self._before(read_cells(text, self.gas, self.size, self.chirality, self.seed))
+
+    def _before(self, later: "Lattice") -> "Lattice":
+        """A later lattice of a run of this one, or a Fault."""
+        why = None
+        if later.size != self.size:
+            why = f"they are {later.size[0]} x {later.size[1]}, and it has {self.size[0]} x {self.size[1]}"
+        elif later._kept()[:3] != self._kept()[:3]:
+            why = "they have another gas, chirality or seed"
+        elif not np.array_equal(later.solid, self.solid):
+            why = "other cells are solid"
+        elif later.particles != self.particles:
+            why = f"they contain {later.particles} particles, and it has {self.particles}"
+        elif later.generation < self.generation:
+            why = f"it begins at generation {self.generation}, and they are of {later.generation}"
+        elif later.generation == self.generation and later != self:
+            why = f"they are of its own generation, {self.generation}, and not its cells"
+        if why:
+            raise Fault(f"the cells are not of this lattice: {why}")
+        return later
+
+    def long_run(self, generations: int, step: int, kept: str | os.PathLike[str], **plan: Any) -> Iterator["Lattice"]:
+        """Runs for some generations, `step` of them at a time, and yields the lattice after every part. Then the file `kept` contains the
+        scene that continues, so the same call continues a run that a time limit or a failure ended. The file is tried first."""
+        last = self.generation + integer("the number of generations", generations)
+        step = integer("a step", step, 1, program.MOST_GENERATIONS)
+        here = self._before(Lattice.load(pathlib.Path(kept))) if os.path.exists(kept) else self
+        here.save(kept)
+        left = last - here.generation
+        parts = here._after([0] + [step] * (left // step) + [left % step] * (left % step > 0), plan)
+        next(parts)
+        return _kept(parts, kept)
+
+    # -- pictures
+
+    def plot(self, what: str | None = None, ax: Any = None, **options: Any) -> Any:
+        """Shows a field of its blocks on Axes of matplotlib, or its particles as arrows if it is small and no field is named: see
+        `fhpgas.plot`."""
+        from . import pictures
+
+        return pictures.plot(self, what, ax, **options)
+
+    def _repr_png_(self) -> bytes:
+        from . import pictures
+
+        return pictures.png(self)
+
+
+def _wrong_state(gas: Gas, states: Array) -> str:
+    """Why states are not those of a gas."""
+    allowed = f"a state of {gas} is an integer from 0 to {(1 << gas.directions) - 1}"
+    if states.dtype.kind not in "iub":
+        return f"{allowed}, and these are of the type {states.dtype}"
+    y, x = np.argwhere((states < 0) | (states >> gas.directions > 0))[0]
+    return f"{allowed}, and row {y} column {x} has {states[y, x]}"
+
+
+def _kept(parts: Iterator[Lattice], kept: str | os.PathLike[str]) -> Iterator[Lattice]:
+    for lattice in parts:
+        lattice.save(kept)
+        yield lattice
+
+
+def lines_of(codes: Array, before: bytes = b"", after: bytes = b"\n") -> bytes:
+    """The rows of cells, a byte each, as lines of text with two characters per cell."""
+    rows, columns = codes.shape
+    lines = np.empty((rows, len(before) + 2 * columns + len(after)), np.uint8)
+    lines[:, : len(before)] = np.frombuffer(before, np.uint8)
+    lines[:, len(before) + 2 * columns :] = np.frombuffer(after, np.uint8)
+    lines[:, len(before) : len(before) + 2 * columns] = PAIRS[codes].view(np.uint8)
+    return lines.tobytes()
+
+
+def cells_of(text: bytes, size: tuple[int, int] | None = None) -> tuple[int, Array]:
+    """The generation and the cells, a byte each, of a text that `fhpgas run` printed, of columns and rows if they are known. A text that is
+    not whole raises a Fault."""
+    head = re.match(rb"generation (\d+) particles (\d+)\n([^\n]+\n)", text)
+    width = len(head[3]) if head else 0
+    if not head or width % 2 == 0 or (len(text) - head.start(3)) % width:
+        raise Fault("these are no printed cells, or not all: they begin with `generation g particles c`, and then have rows of one length")
+    lines = np.frombuffer(text, np.uint8, offset=head.start(3)).reshape(-1, width)
+    codes = CODES[lines[:, :-1].view("<u2")]
+    if (wrong := (codes == NO_CELL) | (lines[:, -1:] != ord("\n"))).any():
+        raise Fault(f"these are no printed cells: row {np.argwhere(wrong)[0][0]} contains something else")
+    if size is not None and codes.shape != size[::-1]:
+        raise Fault(f"the cells are {codes.shape[1]} x {codes.shape[0]} (columns x rows), and not {size[0]} x {size[1]}")
+    if (found := int(NUMBER[codes].sum(dtype=np.int64))) != int(head[2]):
+        raise Fault(f"the cells contain {found} particles, and their first line says {int(head[2])}")
+    return int(head[1]), codes
+
+
+def keys_of(scene: bytes) -> dict[str, Any]:
+    """The gas, the chirality and the seed of a scene that the program takes, as far as it has them."""
+    keys = document(scene)
+    return {key: keys[key] for key in ("gas", "chirality", "seed") if key in keys}
+
+
+def document(scene: bytes) -> dict[str, Any]:
+    """The keys of a scene that the program takes. The rows of a map are left out, because Python's reader goes from character to
+    character."""
+    text = scene.decode("utf-8-sig")
+    for cut in (ROWS.sub("", text), text):
+        try:
+            return tomllib.loads(cut)
+        except tomllib.TOMLDecodeError as fault:
+            why = fault
+    raise Fault(f"the scene is TOML 1.1, and Python reads 1.0: {why}")
+
+
+def read_cells(text: str | bytes, gas: str | Gas, size: tuple[int, int], chirality: str = "seeded", seed: int = 0) -> Lattice:
+    """The lattice of cells that `fhpgas run` printed. The text does not name the gas, the chirality and the seed of the run. `size`, its
+    columns and rows, shows whether rows are lost. A text that is not whole raises a Fault."""
+    generation, codes = cells_of(text.encode() if isinstance(text, str) else text, fields.size_checked(size))
+    return Lattice._of(codes, generation, gas, chirality, seed)
+
+
+def gas(filling: fields.Field, east: fields.Field = 0.0, north: fields.Field = 0.0, *, size: tuple[int, int] | None = None, solid: Any = None,
+        gas: str | Gas = "fhp1", chirality: str = "seeded", seed: int = 0) -> Lattice:
+    """A gas with a filling (the chance per direction, 0 to 1) and a mean velocity of its particles (in cells' widths per generation), drawn
+    at random from the equilibrium of Fermi and Dirac. The same arguments draw the same lattice on every machine.
+
+    A field is a number, an array that numpy spreads over the cells [y, x] (so [rows, 1] is a profile across the channel), or a function of
+    the places X, Y of `fhpgas.positions` that returns one of these. `solid` (bool, [y, x]) are the solid cells. `size`, the columns and rows,
+    may be left out if one of these has it.
+    """
+    named, solid = gas_named(gas), None if solid is None else np.asarray(solid, bool)
+    known = dict(filling=filling, east=east, north=north)
+    shapes = [np.shape(field) for field in (*known.values(), solid) if field is not None and not callable(field)]
+    try:
+        shape = np.broadcast_shapes(*shapes, *([fields.size_checked(size)[::-1]] if size is not None else []))
+    except ValueError as fault:
+        raise fault if isinstance(fault, Fault) else Fault(f"fields, solid cells and size do not fit: {shapes}, size {size}") from None
+    if size is None and (len(shape) != 2 or any(map(callable, known.values())) and solid is None):
+        raise Fault("the size is not known: gas(.., size=(columns, rows))")
+    if size is not None and shape != tuple(size)[::-1] or solid is not None and solid.shape != shape:
+        raise Fault(f"fields and solid cells are for {shape[1]} columns and {shape[0]} rows, and not all of this size")
+    places = fields.positions(shape[::-1], named) if any(map(callable, known.values())) else ()
+    values = tuple(fields.numbers_of(name, field(*places) if callable(field) else field) for name, field in known.items())
+    states = fields.drawn(named, values, shape, integer("a seed", seed, 0, MOST_SEED))
+    return Lattice(states if solid is None else np.where(solid, np.uint8(0), states), solid, named, chirality, seed)
+
+
+def _coarse(text: bytes, rows: int, generations: int, width: int, height: int, plan: dict[str, Any]) -> bytes:
+    sides = integer("the width of a block", width, 1, 4096), integer("the height of a block", height, 1, 4096)
+    words = program.planned(rows, generations, **plan)
+    return program.call(text, "coarse", *words, "--block-width", sides[0], "--block-height", sides[1])
+
+
+def run(scene: Scene, generations: int, **plan: Any) -> Lattice:
+    """The lattice of a scene, the path of its file or its text, after 0 to 1,000,000 generations."""
+    text = program.scene_bytes(scene)
+    generation, codes = cells_of(program.call(text, "run", *program.planned(program.height_of(text), generations, **plan)))
+    return Lattice._of(codes, generation, **keys_of(text))
+
+
+def coarse(scene: Scene, generations: int, width: int = 8, height: int = 9, **plan: Any) -> Blocks:
+    """The blocks of a scene, the path of its file or its text, after some generations, summed by the program. The lattice may be larger
+    than the memory of Python: an area of 65536 x 65536 cells is a text of five lines."""
+    text = program.scene_bytes(scene)
+    size = program.check(scene)
+    table = _coarse(text, size.height, generations, width, height, plan)
+    return read_table(table, size.gas, (width, height), (size.width, size.height), document(text).get("generation", 0) + generations)
