@@ -19,9 +19,10 @@ import importlib.util
 from .fault import Fault
 from .program import Summary, check, plan, side_by_side
 from .refusals import explain
+from .scenes import with_seed
 
 __version__ = "1.1.0"
-__all__ = ["Fault", "Summary", "check", "explain", "plan", "side_by_side"]
+__all__ = ["Fault", "Summary", "check", "explain", "plan", "side_by_side", "with_seed"]
 
 if importlib.util.find_spec("numpy"):
     from . import shapes

@@ -10,8 +10,9 @@ import numpy as np
 
 from .fault import Fault, integer, real
 from .gases import Array, Gas
-from .lattice import MOST_SEED, Lattice
+from .lattice import Lattice
 from .program import show_progress
+from .scenes import MOST_SEED
 
 
 class Point(NamedTuple):

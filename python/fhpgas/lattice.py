@@ -4,7 +4,6 @@ import functools
 import os
 import pathlib
 import re
-import tomllib
 from collections.abc import Iterator
 from typing import TYPE_CHECKING, Any
 
@@ -15,19 +14,19 @@ from .blocks import Blocks, block_sums, read_table
 from .fault import Fault, integer
 from .gases import Array, Gas, chirality_named, gas_named, read_only
 from .program import Scene
+from .scenes import MOST_SEED, keys_of
 
 if TYPE_CHECKING:
     from .drive import Point
 
 SOLID = 0x80  # in a byte per cell: a solid cell. Any other cell's byte is its state
 NO_CELL = 0xFF
-MOST_SIDE, MOST_SEED, MOST_GENERATION = 65536, 2**63 - 1, 10**12 + 10**6
+MOST_SIDE, MOST_GENERATION = 65536, 10**12 + 10**6
 PAIRS = np.array([b"##" if c & SOLID else b"%02x" % c if c else b".." for c in range(256)], "S2").view("<u2")  # the characters of a byte
 CODES = np.full(1 << 16, NO_CELL, np.uint8)  # the byte of two characters
 CODES[PAIRS[: SOLID + 1]] = range(SOLID + 1)
 CODES[ord("0") * 257] = 0
 NUMBER = np.array([0 if c & SOLID else c.bit_count() for c in range(256)], np.uint8)  # of the particles of a byte
-ROWS = re.compile(r"^[ \t]*cells[ \t]*=[ \t]*\[[^\]#]*(?:##[^\]#]*)*\]", re.M)  # the key of a map, without comments
 OTHER = {"left": "right", "right": "left", "seeded": "seeded"}
 
 
@@ -73,7 +72,7 @@ class Lattice:
         """The lattice of a scene, the path of its file or its text. A refused scene raises a Fault with the program's line."""
         text = program.scene_bytes(scene)
         generation, codes = cells_of(program.call(text, "run", "--generations", 0, "--stages", 1))
-        return cls._of(codes, generation, **keys_of(text))
+        return cls._of(codes, generation, **_names(text))
 
     @classmethod
     def _of(cls, codes: Array, generation: int, gas: str | Gas, chirality: str = "seeded", seed: int = 0) -> "Lattice":
@@ -302,22 +301,10 @@ def cells_of(text: bytes, size: tuple[int, int] | None = None) -> tuple[int, Arr
     return int(head[1]), codes
 
 
-def keys_of(scene: bytes) -> dict[str, Any]:
+def _names(scene: bytes) -> dict[str, Any]:
     """The gas, the chirality and the seed of a scene that the program takes, as far as it has them."""
-    keys = document(scene)
+    keys = keys_of(scene)
     return {key: keys[key] for key in ("gas", "chirality", "seed") if key in keys}
-
-
-def document(scene: bytes) -> dict[str, Any]:
-    """The keys of a scene that the program takes. The rows of a map are left out, because Python's reader goes from character to
-    character."""
-    text = scene.decode("utf-8-sig")
-    for cut in (ROWS.sub("", text), text):
-        try:
-            return tomllib.loads(cut)
-        except tomllib.TOMLDecodeError as fault:
-            why = fault
-    raise Fault(f"the scene is TOML 1.1, and Python reads 1.0: {why}")
 
 
 def read_cells(text: str | bytes, gas: str | Gas, size: tuple[int, int], chirality: str = "seeded", seed: int = 0) -> Lattice:
@@ -363,7 +350,7 @@ def run(scene: Scene, generations: int, **plan: Any) -> Lattice:
     """The lattice of a scene, the path of its file or its text, after 0 to 1,000,000 generations."""
     text = program.scene_bytes(scene)
     generation, codes = cells_of(program.call(text, "run", *program.planned(program.height_of(text), generations, **plan)))
-    return Lattice._of(codes, generation, **keys_of(text))
+    return Lattice._of(codes, generation, **_names(text))
 
 
 def coarse(scene: Scene, generations: int, width: int = 8, height: int = 9, **plan: Any) -> Blocks:
@@ -372,4 +359,4 @@ def coarse(scene: Scene, generations: int, width: int = 8, height: int = 9, **pl
     text = program.scene_bytes(scene)
     size = program.check(scene)
     table = _coarse(text, size.height, generations, width, height, plan)
-    return read_table(table, size.gas, (width, height), (size.width, size.height), document(text).get("generation", 0) + generations)
+    return read_table(table, size.gas, (width, height), (size.width, size.height), keys_of(text).get("generation", 0) + generations)

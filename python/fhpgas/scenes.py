@@ -1,0 +1,60 @@
+"""The texts of scenes: their keys, and areas, which describe a lattice of any size in few lines. The standard library is enough for it."""
+import json
+import operator
+import re
+import tomllib
+from typing import Any
+
+from .fault import Fault, integer
+from .program import Scene, call, scene_bytes
+
+INTEGERS = "version", "generation", "seed", "width", "height", "rate"
+ROWS = re.compile(r"^[ \t]*cells[ \t]*=[ \t]*\[[^\]#]*(?:##[^\]#]*)*\]", re.M)  # the key of a map, without comments
+MOST_SEED = 2**63 - 1
+
+
+def keys_of(scene: bytes, with_cells: bool = False) -> dict[str, Any]:
+    """The keys and values of a scene that the program takes. The rows of a map are left out, because Python's reader goes from character to
+    character."""
+    text, why = scene.decode("utf-8-sig"), None
+    for cut in [ROWS.sub("", text)] * (not with_cells) + [text]:
+        try:
+            return tomllib.loads(cut)
+        except tomllib.TOMLDecodeError as fault:
+            why = fault
+    raise Fault(f"the scene is TOML 1.1, and Python reads 1.0: {why}")
+
+
+def text_of(keys: dict[str, Any]) -> str:
+    """The scene of a dictionary of keys and values, with a line per entry of a list. Values are texts, integers (also numpy's) and lists of
+    them. Others raise a Fault."""
+    lines = []
+    for key, value in keys.items():
+        if isinstance(value, (list, tuple)):
+            lines += [f"{key} = [", *(f"    {_value(key, entry)}," for entry in value), "]"]
+        else:
+            lines.append(f"{key} = {_value(key, value)}")
+    return "\n".join(lines) + "\n"
+
+
+def _value(key: str, value: Any) -> str:
+    """A key's value, or an entry of its list, as TOML has it."""
+    try:
+        is_integer = key in INTEGERS or not isinstance(value, (str, list, tuple))
+        return json.dumps(operator.index(value) if is_integer else value, ensure_ascii=False, default=operator.index)
+    except TypeError:
+        raise Fault(f"`{key}` cannot be a value of type {type(value).__name__}") from None
+
+
+def with_seed(scene: Scene, seed: int) -> str:
+    """The text of an area with another seed, and so with another filling. A scene whose start would be the same, in part or as a whole,
+    raises a Fault: a map, an area with `particles`, and one with rate 0."""
+    text = scene_bytes(scene)
+    call(text, "check")
+    keys = keys_of(text, with_cells=True)
+    for key in ("cells", "particles"):
+        if keys.get(key):
+            raise Fault(f"another seed would leave `{key}` as they are: draw the scene again, as `fhpgas.draw` and `fhpgas.gas` do with a seed")
+    if not keys.get("rate"):
+        raise Fault("another seed would change nothing: `rate` is 0, so nothing is filled at random")
+    return text_of(keys | {"seed": integer("a seed", seed, 0, MOST_SEED)})
