@@ -1,120 +1,59 @@
-"""Observables of tables and of cells. Lengths are in cells' widths, times in generations, momenta in units of a particle of speed 1."""
-import math
-from collections.abc import Callable, Iterable
+"""Observables of lattices: forces on walls and obstacles, staggered momenta, and the flux of momentum. Momenta are in units of a particle of
+speed 1."""
+from __future__ import annotations
+
+from typing import TYPE_CHECKING, Any
+
+import numpy as np
 
 from .fault import Fault
-from .gases import SOLID, known_gas
-from .tables import BITS, Cells, Table
+from .gases import Array, Gas, gas_named
 
-Field = list[list[float | None]]
+if TYPE_CHECKING:
+    from .lattice import Lattice
 
-
-def vorticity(table: Table, gas: str | None = None) -> Field:
-    """dv/dx - du/dy of the blocks, by differences of the blocks next to them, of one side if the other is solid, empty or past a wall. None
-    if the block itself is solid or empty."""
-    if table.block is None:
-        raise Fault("the size of the blocks is not known: dataclasses.replace(table, block=(width, height))")
-    velocity, (width, height) = table.velocity(gas), table.block
-    columns, rows, apart = len(table.fluid[0]), len(table.fluid), (width, height * known_gas(gas, table.gas).row_distance)
-
-    def at(axis, row, column):
-        value = velocity[axis][row][column % columns] if 0 <= row < rows else None
-        return None if value is None or math.isnan(value) else value
-
-    def slope(axis, row, column, right, up):
-        before, here, after = (at(axis, row - k * up, column + k * right) for k in (-1, 0, 1))
-        known = (before is not None) + (after is not None)
-        return ((here if after is None else after) - (here if before is None else before)) / max(1, known) / apart[up]
-
-    def of(row, column):
-        return None if at(0, row, column) is None else slope(1, row, column, 1, 0) - slope(0, row, column, 0, 1)
-
-    return [[of(row, column) for column in range(columns)] for row in range(rows)]
+FORCED = "upper", "lower", "solid"
 
 
-def smooth(table: Table, times: int = 1) -> Table:
-    """A table in which the numbers of a block are sums over it and the blocks next to it, with weights 1, 2, 1 in both directions. A solid
-    block stays solid. Momenta and particles are summed alike, so velocities are means."""
-    def spread(rows: list[list]) -> list[list]:
-        rows = [[a + 2 * b + c for a, b, c in zip(*three)] for three in zip(rows[:1] + rows[:-1], rows, rows[1:] + rows[-1:])]
-        return [[a + 2 * b + c for a, b, c in zip(row[-1:] + row[:-1], row, row[1:] + row[:1])] for row in rows]
-
-    columns = table.columns()
-    for _ in range(times):
-        columns = [spread(rows) for rows in columns]
-    kept = ([[n if fluid else 0 for n, fluid in zip(*pair)] for pair in zip(rows, table.fluid)] for rows in columns)
-    return Table(*kept, gas=table.gas, block=table.block)
+def flux(numbers: Any, gas: str | Gas) -> Array:
+    """The momentum flux [2, 2, ..] of particles of these numbers by direction [b, ..]: the sum of c c times the number. Divide by the cells
+    for the flux per cell, and by the area of a cell, the distance of rows, for the flux per length."""
+    c, given = gas_named(gas).velocities, np.asarray(numbers)
+    if given.shape[:1] != c.shape[:1]:
+        raise Fault(f"{gas_named(gas)} has {len(c)} directions, and these numbers have the shape {given.shape}")
+    return np.asarray(np.einsum("i...,ia,ib->ab...", given, c, c))
 
 
-def counts(cells: Cells, block_width: int | None = None, block_height: int | None = None, gas: str | None = None) -> list:
-    """The numbers of particles by direction: of all cells, or as a list [row][column] of blocks."""
-    bits = BITS[: known_gas(gas, cells.gas).directions]
-    if not block_width and not block_height:
-        return [sum(row.translate(bit).count(1) for row in cells.rows) for bit in bits]
-    return [cells.counted(bit, block_width or len(cells.rows[0]), block_height or len(cells.rows)) for bit in bits]
+def forces(lattice: Lattice, part: Any = None) -> dict[str, Array]:
+    """The momentum [2], eastwards and northwards, that the `upper` wall, the `lower` wall and the `solid` cells received in the generation
+    that ended with this lattice. A particle that moves away from a neighbouring wall or solid cell was just reflected by it, so the wall
+    received twice the momentum with which it came. `part` [y, x] says which solid cells count, for one obstacle of several."""
+    gas, rows, of_these = lattice.gas, len(lattice.states), lattice.solid if part is None else np.asarray(part, bool)
+    if of_these.shape != lattice.states.shape:
+        raise Fault(f"the part of the solid cells has the shape {of_these.shape}, and the lattice {lattice.states.shape}")
+    kinds = np.pad(3 * (lattice.solid & of_these), ((1, 1), (0, 0)))
+    kinds[0], kinds[-1] = 1, 2
+    found = np.zeros((len(FORCED) + 1, 2))
+    for parity in range(min(2, rows)):
+        y = np.arange(parity, rows, 2)
+        for i in np.flatnonzero(gas.velocities.any(1)):
+            right, down = gas.steps[parity, gas.opposite[i]]
+            struck = np.roll(kinds[y + down + 1], -right, axis=1)[lattice.states[y] >> i & 1 > 0]
+            found -= 2 * np.bincount(struck, minlength=len(found))[:, None] * gas.velocities[i]
+    return dict(zip(FORCED, found[1:]))
 
 
-def fluid(cells: Cells) -> int:
-    """The number of cells that are not solid."""
-    return sum(len(row) - row.count(SOLID) for row in cells.rows)
-
-
-def flux(numbers: Iterable[float], gas: str) -> tuple[float, float, float]:
-    """The momentum flux xx, xy, yy of particles of these numbers by direction: the sum of c_i c_i times the number. Divide by the cells for
-    the flux per cell, and by the area of a cell, the rows' distance, for the flux per area."""
-    pairs = list(zip(numbers, known_gas(gas).velocities, strict=True))
-    return tuple(sum(n * c[a] * c[b] for n, c in pairs) for a, b in ((0, 0), (0, 1), (1, 1)))
-
-
-def forces(cells: Cells, gas: str | None = None, part: Callable[[int, int], bool] | None = None) -> dict[str, tuple[float, float]]:
-    """The momentum, eastwards and northwards, that the `upper` wall, the `lower` wall and the `solid` cells received in the generation that
-    ended with these cells. A particle that moves away from a neighbouring wall or solid cell was just reflected by it, so the wall received
-    twice the momentum with which it came. `part` says of a column and row whether a solid cell counts, for one obstacle of several."""
-    named, columns, rows = known_gas(gas, cells.gas), len(cells.rows[0]), len(cells.rows)
-    solid = [bytes(wall and part(x, y) for x, wall in enumerate(row)) for y, row in enumerate(cells.solid)] if part else cells.solid
-    found, wall = {name: [0.0, 0.0] for name in ("upper", "lower", "solid")}, b"\1" * columns
-    for y, states in enumerate(cells.states):
-        if 0 < y < rows - 1 and not any(map(any, solid[y - 1 : y + 2])):
-            continue
-        for i, velocity in enumerate(named.velocities[: 4 if named.name == "hpp" else 6]):
-            across, down = named.steps[y % 2][named.opposite(i)]
-            name = "upper" if y + down < 0 else "lower" if y + down == rows else "solid"
-            beside = solid[y + down] if name == "solid" else wall
-            struck = (int.from_bytes(states) >> i & int.from_bytes(beside[across:] + beside[:across])).bit_count()
-            found[name] = [total - 2 * struck * part for total, part in zip(found[name], velocity)]
-    return {name: tuple(force) for name, force in found.items()}
-
-
-def staggered(cells: Cells, gas: str | None = None) -> tuple[int, ...]:
+def staggered(lattice: Lattice) -> tuple[int, ...]:
     """The three staggered momenta: (-1)^generation times the sum, over the lines that are parallel to a direction, of (-1)^line times the
-    momentum across the line, in units of sqrt(3)/2. They stay constant, with walls and obstacles too. The two slanted axes need an even
-    width, so for an odd width only the first is returned."""
-    if known_gas(gas, cells.gas).name == "hpp":
-        raise Fault("hpp keeps the momentum along each row instead: `px` of a table of rows")
-    columns, found = len(cells.rows[0]), []
-    odd, every = (int.from_bytes(bytes(x % 2 or whole for x in range(columns))) for whole in (0, 1))
+    momentum across the line, in units of sqrt(3)/2. They stay constant, with walls and obstacles too (G. Zanetti, Phys. Rev. A 40 (1989)
+    1539). The two slanted axes need an even width, so for an odd width only the first is returned."""
+    gas, found = lattice.gas, []
+    if gas.is_square:
+        raise Fault("hpp keeps the momentum along each row instead: `px` of blocks of a row")
+    columns, rows = lattice.size
+    y, x = np.ogrid[:rows, :columns]
     for axis in range(1 if columns % 2 else 3):
-        total = 0
-        for y, row in enumerate(cells.states):
-            packed, first = int.from_bytes(row), (y, y - y // 2, -(y // 2))[axis] % 2  # the parity of the line of column 0
-            for i, sign in ((axis + 1, 1), (axis + 2, 1), (axis + 4, -1), (axis + 5, -1)):
-                plane = packed >> i % 6 & every
-                on_odd = (plane & odd).bit_count() if axis else 0
-                total += sign * (-1) ** first * (plane.bit_count() - 2 * on_odd)
-        found.append((-1) ** cells.generation * total)
+        is_odd = (y, y - y // 2 + x, x - y // 2)[axis] % 2
+        across = gas.bits.astype(int) @ [(0, 1, 1, 0, -1, -1, 0)[(i - axis) % 6] if i < 6 else 0 for i in range(gas.directions)]
+        found.append((-1) ** lattice.generation * int(((1 - 2 * is_odd) * across[lattice.states]).sum()))
     return tuple(found)
-
-
-def average(values: Iterable[float], least: int = 16) -> tuple[float, float]:
-    """The mean of a series in time and its standard error by blocking: neighbours are averaged in pairs, again and again while `least`
-    blocks are left, and the largest of the errors is taken, because values near in time are alike (Flyvbjerg and Petersen, J. Chem. Phys.
-    91 (1989) 461)."""
-    values = list(map(float, values))
-    if len(values) < least:
-        raise Fault(f"an average over time needs {least} values or more, and there are {len(values)}")
-    middle, error, blocks = math.fsum(values) / len(values), 0.0, values
-    while len(blocks) >= least:
-        centre = math.fsum(blocks) / len(blocks)
-        error = max(error, math.sqrt(math.fsum((b - centre) ** 2 for b in blocks) / (len(blocks) - 1) / len(blocks)))
-        blocks = [(a + b) / 2 for a, b in zip(blocks[::2], blocks[1::2])]
-    return middle, error
