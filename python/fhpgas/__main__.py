@@ -1,52 +1,143 @@
-"""Lattice gases at the command line: draws scenes and pictures, explains refusals, and runs scenes over seeds, over time and in parts.
+"""Lattice gases at the command line: draws scenes, pictures and films, explains refusals, and runs scenes over seeds, over time and in parts.
 
-SCENE, CELLS and TABLE are files, or - for standard input. A fault is one line on standard error, and status 1.
+SCENE is the file of a scene, and SOURCE one of a scene, of cells that `fhpgas run` printed, or of a table of `fhpgas coarse`: - is standard
+input. A fault is one line on standard error. The status is 2 if the words are wrong, and else 1.
 """
-import dataclasses
-import math
+from __future__ import annotations
+
+import argparse
+import pathlib
 import sys
 import time
+from collections.abc import Callable, Iterator
+from typing import TYPE_CHECKING, Any
 
-from . import drawing, pictures, scenes, theory
-from .drive import driven
-from .fault import Fault, Parser, one_line_faults, whole
-from .gases import GASES, gas_named
-from .program import check, coarse, plan, side_by_side
-from .refusals import NOT_REFUSED, explanation
-from .tables import mean, read_cells, read_table
+from . import __version__, drawing
+from .fault import Fault, Parser, Usage, number, one_line_faults, whole
+from .program import check, plan, read_bytes, side_by_side
+from .scenes import with_seed
 
+if TYPE_CHECKING:
+    from .blocks import Blocks
+    from .lattice import Lattice
+
+FIELDS = "speed", "east", "north", "vorticity", "density", "filling", "pressure"
+FILMS, FIGURES = (".gif", ".webp", ".apng", ".mp4"), (".png", ".svg", ".pdf")
 UNITS = ("days", 86400), ("hours", 3600), ("minutes", 60), ("seconds", 1)
 
 
-def explain(asked) -> None:
-    told = explanation(scenes.read_bytes(asked.scene))
+def text(path: str) -> str:
+    """The text of a scene. It has a line feed, so it is never taken for a path."""
+    return read_bytes(path).decode(errors="replace") + "\n"
+
+
+def lattice(path: str) -> Lattice:
+    from .lattice import Lattice
+
+    return Lattice.load(text(path))
+
+
+def source(path: str, asked: argparse.Namespace) -> Lattice | Blocks:
+    """What a file has: a scene, or cells or a table, which do not name their gas and the sizes of the lattice and of the blocks."""
+    from .blocks import read_table
+    from .lattice import Lattice, read_cells
+
+    found = read_bytes(path)
+    is_table = found.startswith(b"  col ")
+    if not is_table and not found.startswith(b"generation "):
+        return Lattice.load(found.decode(errors="replace") + "\n")
+    if asked.scene is None and None in (asked.gas, asked.size):
+        raise Usage(f"{path} does not name its gas and its size: --scene SCENE, or --gas GAS and --size COLUMNS ROWS")
+    if is_table and asked.block is None:
+        raise Usage(f"{path} does not name the size of its blocks: --block COLUMNS ROWS")
+    run = check(text(asked.scene)) if asked.scene else None
+    gas, size = (run.gas, (run.width, run.height)) if run else (asked.gas, asked.size)
+    try:
+        return read_table(found, gas, asked.block, size) if is_table else read_cells(found, gas, size)
+    except Fault as fault:
+        raise Fault(f"{path}: {fault}") from None
+
+
+def steps(asked: argparse.Namespace, last: int, step: int) -> int:
+    """How many steps of so many generations there are to the last one."""
+    if last % step:
+        raise Usage(f"{last} generations are no multiple of {step}, those of a step")
+    return last // step
+
+
+def explain(asked: argparse.Namespace) -> None:
+    from .refusals import NOT_REFUSED, explanation
+
+    told = explanation(read_bytes(asked.scene))
     print(told, end="")
     if told != NOT_REFUSED:
         sys.exit(1)
 
 
-def picture(asked) -> None:
-    if not asked.file.endswith((".png", ".svg")):
-        raise Fault(f"{asked.file}: a picture is written as .png or .svg")
-    texts = [scenes.read_scene(path) for path in asked.sources]
-    if asked.file.endswith(".svg"):
-        return pictures.svg(asked.file, read_cells(texts[0], asked.gas))
-    read = [read_cells(text, asked.gas).table(*asked.block) if text.startswith("generation ") else read_table(text) for text in texts]
-    tables = [dataclasses.replace(table, gas=asked.gas, block=tuple(asked.block)) for table in read]
-    low, high = pictures.picture(asked.file, asked.what, *tables, low=asked.low, high=asked.high, scale=asked.scale, smoothing=asked.smooth)
-    print(f"{asked.what} from {low:.4g} to {high:.4g}")
+def looks(asked: argparse.Namespace) -> dict[str, Any]:
+    """The options of a picture."""
+    if asked.low is not None and asked.high is not None and asked.low >= asked.high:
+        raise Usage(f"--low {asked.low:g} is not below --high {asked.high:g}")
+    limits = {"vmin": asked.low, "vmax": asked.high}
+    return {"block": asked.block or (8, 9), "smooth": asked.smooth} | {name: limit for name, limit in limits.items() if limit is not None}
 
 
-def how_long(asked) -> None:
+def picture(asked: argparse.Namespace) -> None:
+    """A figure of one source or a strip of several, or if the file is .gif, .webp, .apng or .mp4 a film of them."""
+    suffix = pathlib.Path(asked.file).suffix
+    if suffix not in FIGURES + FILMS:
+        raise Usage(f"{asked.file}: a picture is written as {', '.join(FIGURES + FILMS)}")
+    options = looks(asked)
+    from matplotlib import use
+
+    from . import pictures
+
+    use("agg")
+    sources = [source(path, asked) for path in asked.sources]
+    if suffix in FILMS:
+        return pictures.film(asked.file, sources, asked.what, dpi=asked.dpi, **options)
+    figure = pictures.strip(sources, asked.what, **options) if len(sources) > 1 else pictures.figure_of(sources[0])
+    if len(sources) == 1:
+        pictures.plot(sources[0], asked.what, figure.add_subplot(), **options)
+    written(asked.file, lambda path: figure.savefig(path, dpi=asked.dpi))
+    if images := figure.axes[0].images:
+        print("{} from {:.4g} to {:.4g}".format(asked.what, *images[0].get_clim()))
+
+
+def film(asked: argparse.Namespace) -> None:
+    """Runs a scene, and shows it every so many generations, from its start on. A flow is kept at each frame by turning particles."""
+    count, options = steps(asked, asked.until, asked.every), looks(asked)
+    if asked.flow is not None and asked.force is not None:
+        raise Usage("a flow is driven by a force or towards a mean flow: --force or --flow")
+    from . import pictures
+
+    pictures.film_writer(asked.file)
+    start, how = lattice(asked.scene), {"force": asked.force, "flow": asked.flow, "seed": asked.seed}
+    is_driven = asked.flow is not None or asked.force is not None
+    frames = (point.before for point in start.driven(asked.until, asked.every, **how)) if is_driven else start.every(asked.every, count)
+    written(asked.file, lambda path: pictures.film(path, frames, asked.what, fps=asked.fps, dpi=asked.dpi, **options))
+    print(f"{asked.file}: {count + 1} frames, generations {start.generation} to {start.generation + asked.until}")
+
+
+def written(path: str, write: Callable[[str], object]) -> None:
+    try:
+        write(path)
+    except OSError as fault:
+        raise Fault(f"{path}: {fault.strerror or fault}") from None
+
+
+def how_long(asked: argparse.Namespace) -> None:
     """Times a few short runs with the same plan, and scales. On a busy machine the figure changes every minute."""
-    scene = scenes.read_scene(asked.scene)
+    from .lattice import coarse
+
+    scene = text(asked.scene)
     size = check(scene)
     stages, capacity = plan(size.height, asked.generations)
     stages, capacity = asked.stages or stages, asked.capacity or capacity
 
-    def timed(generations):
+    def timed(generations: int) -> float:
         begun = time.perf_counter()
-        coarse(scene, generations, 4096, 4096, stages, capacity)
+        coarse(scene, generations, 4096, 4096, stages=stages, capacity=capacity)
         return time.perf_counter() - begun
 
     around, generations = min(timed(0), timed(0)), stages
@@ -59,108 +150,141 @@ def how_long(asked) -> None:
     print(f"{asked.generations} generations of {cells} cells: about {whole_run / length:.2g} {unit}")
 
 
-def resume(asked) -> None:
-    print(scenes.resume(scenes.read_scene(asked.scene), read_cells(scenes.read_scene(asked.cells))), end="")
+def resume(asked: argparse.Namespace) -> None:
+    print(lattice(asked.scene).resume(read_bytes(asked.cells)).scene(), end="")
 
 
-def long_run(asked) -> None:
-    for cells in scenes.long_run(scenes.read_scene(asked.scene), asked.generations, asked.step, asked.kept):
-        print(f"generation {cells.generation} particles {cells.particles}", flush=True)
+def long_run(asked: argparse.Namespace) -> None:
+    for later in lattice(asked.scene).long_run(asked.generations, asked.step, asked.kept):
+        print(f"generation {later.generation} particles {later.particles}", flush=True)
 
 
-def over_time(asked) -> None:
-    if asked.last % asked.step:
-        raise Fault(f"LAST is {asked.last}, which is no multiple of STEP, {asked.step}")
-    for cells, _ in scenes.series(scenes.read_scene(asked.scene), [asked.step] * (asked.last // asked.step)):
-        print(f"generation {cells.generation} particles {cells.particles}")
-        print(cells.table(*asked.block).text(), end="", flush=True)
+def over_time(asked: argparse.Namespace) -> None:
+    count = steps(asked, asked.last, asked.step)
+    for later in lattice(asked.scene).every(asked.step, count):
+        print(f"generation {later.generation} particles {later.particles}")
+        print(later.blocks(*asked.block).text(), end="", flush=True)
 
 
-def drive(asked) -> None:
+def drive(asked: argparse.Namespace) -> None:
     """Turns particles from west to east between short runs, and says how fast the gas flows and which force acts until the next point."""
-    points = driven(scenes.read_scene(asked.scene), asked.generations, asked.every, force=asked.force, flow=asked.flow, seed=asked.seed)
+    if (asked.flow is None) == (asked.force is None):
+        raise Usage("a flow is driven either by a force or towards a mean flow: --force or --flow")
+    steps(asked, asked.generations, asked.every)
+    points = lattice(asked.scene).driven(asked.generations, asked.every, force=asked.force, flow=asked.flow, seed=asked.seed)
     print("generation    velocity       force")
     for point in points:
         print(f"{point.before.generation:10} {point.velocity:11.5f} {point.force:11.3g}", flush=True)
 
 
-def draw(asked) -> None:
+def draw(asked: argparse.Namespace) -> None:
     print(drawing.drawn(asked), end="")
 
 
-def over_seeds(asked) -> None:
-    scene = None if asked.drawn else scenes.read_scene(asked.scene or "-")
+def over_seeds(asked: argparse.Namespace) -> None:
+    from .lattice import coarse
+    from .statistics import mean
 
-    def columns(seed):
-        text = drawing.draw(asked.drawn, seed) if asked.drawn else scenes.with_seed(scene, seed)
-        table = coarse(text, asked.generations, *asked.block)
-        return table.fluid, table.particles, *table.velocity()
+    if asked.drawn is not None:
+        reader = Parser("--drawn")
+        drawing.add_words(reader)
+        words = reader.parse_args(asked.drawn)
+    scene = None if asked.drawn is not None else text(asked.scene or "-")
+
+    def columns(seed: int) -> Any:
+        blocks = coarse(drawing.drawn(words, seed) if scene is None else with_seed(scene, seed), asked.generations, *asked.block)
+        return [blocks.fluid, blocks.particles, *blocks.velocity]
 
     (fluid, *means), (_, *errors) = mean(side_by_side(columns, range(1, asked.seeds + 1)))
     print("  col   row    fluid" + "".join(f"{name:>12}{name + '_error':>16}" for name in ("particles", "u", "v")))
-    for row, counts in enumerate(fluid):
-        for column, cells in enumerate(counts):
-            pairs = [(middle[row][column], error[row][column]) for middle, error in zip(means, errors)]
-            numbers = "".join(f"{'-':>12}{'-':>16}" if m is None or m != m else f"{m:12.5g}{e:16.2g}" for m, e in pairs)
-            print(f"{column:5} {row:5} {cells:8.1f}{numbers}")
+    for row, column in ((row, column) for row in range(len(fluid)) for column in range(fluid.shape[1])):
+        pairs = ((middle[row, column], error[row, column]) for middle, error in zip(means, errors))
+        numbers = "".join(f"{'-':>12}{'-':>16}" if m != m else f"{m:12.5g}{e:16.2g}" for m, e in pairs)
+        print(f"{column:5} {row:5} {fluid[row, column]:8.1f}{numbers}")
 
 
-def numbers(asked) -> None:
-    flow = {"density": asked.density, "speed": asked.speed}
-    if [value is None for value in flow.values()] != [bool(asked.table)] * 2:
-        raise Fault("a flow has --density and --speed, or a --table of `coarse`")
-    if asked.table:
-        gas, table = gas_named(asked.gas), read_table(scenes.read_scene(asked.table))
-        fluid, particles, px, py = (sum(map(sum, rows)) for rows in table.columns())
-        speed = math.hypot(gas.units[0] * px, gas.units[1] * py) / (particles or 1)
-        flow = {"density": particles / gas.directions / (fluid or 1), "speed": speed}
-    told = theory.numbers(asked.gas, *flow.values(), asked.length, asked.chirality)._asdict()
+def numbers(asked: argparse.Namespace) -> None:
+    from . import theory
+    from .blocks import Blocks
+
+    flow = {"filling": asked.filling, "speed": asked.speed}
+    if [value is None for value in flow.values()] != [asked.table is not None] * 2:
+        raise Usage("a flow has --filling and --speed, or a --table")
+    gas = asked.gas or "fhp1"
+    if asked.table is not None:
+        found = source(asked.table, asked)
+        blocks = found if isinstance(found, Blocks) else found.blocks()
+        total = {name: getattr(blocks, name).sum() for name in ("fluid", "particles", "px", "py")}
+        x, y = blocks.gas.units * (total["px"], total["py"]) / max(1, total["particles"])
+        gas = blocks.gas.name
+        flow = {"filling": total["particles"] / blocks.gas.directions / max(1, total["fluid"]), "speed": (x**2 + y**2) ** 0.5}
+    told = theory.numbers(gas, **flow, length=asked.length, chirality=asked.chirality)._asdict()
     for name, value in (flow | told if asked.table else told).items():
         print(f"{name.replace('_', ' '):16}{value:12.4g}")
 
 
-def reader() -> Parser:
+def reader(name: str) -> Parser:
     """The words of the command line."""
-    top = Parser("python3 -m fhpgas", description=__doc__)
+    top = Parser(name, description=__doc__)
+    top.add_argument("--version", action="version", version=f"fhpgas-tools {__version__}")
     commands = top.add_subparsers(required=True, metavar="COMMAND")
 
-    def command(function, name, about, *words):
-        made = commands.add_parser(name, help=about, description=function.__doc__ or about)
+    def command(function: Callable[[argparse.Namespace], None], about: str, *words: Any) -> Parser:
+        made = commands.add_parser(function.__name__.replace("_", "-"), help=about, description=function.__doc__ or about)
         made.set_defaults(function=function)
         for word, options in words:
             made.add_argument(word, **options)
         return made
 
-    block = "--block", {"type": whole(1, 4096), "nargs": 2, "metavar": ("COLUMNS", "ROWS"), "default": (8, 9), "help": "of a block; default 8 9"}
-    gas = "--gas", {"choices": GASES, "default": "fhp1", "help": "default fhp1"}
-    scene, cells = ("scene", {"metavar": "SCENE"}), ("cells", {"metavar": "CELLS"})
-    generations, step = {"type": whole(0, 1_000_000), "metavar": "GENERATIONS"}, ("step", {"type": whole(1, 1_000_000), "metavar": "STEP"})
+    side, most, finite = whole(1, 65536), 1_000_000, number(-1e300, 1e300)
+    scene, gas = ("scene", {"metavar": "SCENE"}), ("--gas", {"choices": drawing.GASES})
+    generations, step = {"type": whole(0, most), "metavar": "GENERATIONS"}, {"type": whole(1, most), "metavar": "STEP"}
+    block = {"type": whole(1, 4096), "nargs": 2, "metavar": ("COLUMNS", "ROWS"), "help": "of a block"}
+    run = (gas, ("--size", {"type": side, "nargs": 2, "metavar": ("COLUMNS", "ROWS"), "help": "of the lattice"}), ("--block", block),
+           ("--scene", {"metavar": "SCENE", "help": "the scene of the run, for its gas and its size"}))
+    blocks = "--block", block | {"default": (8, 9), "help": "of a block; default 8 9"}
+    look = (("--low", {"type": finite, "help": "the value of the first colour"}), ("--high", {"type": finite, "help": "and of the last"}),
+            ("--smooth", {"type": number(0, 100), "default": 0, "metavar": "BLOCKS", "help": "width of a Gaussian that smooths, in blocks"}),
+            ("--dpi", {"type": whole(10, 1000), "default": 100, "help": "dots per inch; default 100, 700 across"}))
+    force = ("--force", {"type": number(-2, 2), "help": "momentum per fluid cell and generation"}), ("--flow", {
+        "type": number(-1, 1), "help": "mean velocity"}), ("--seed", {"type": whole(0, drawing.MOST_SEED), "default": 0, "help":
+        "of the particles that are turned; default 0"})
+    file, what = {"metavar": "FILE"}, {"choices": (*FIELDS, "particles")}
     draw.__doc__ = drawing.__doc__
-    drawing.add_words(command(draw, "draw", "draw a scene"))
-    command(explain, "explain", "say where and why a scene is refused", scene)
-    command(picture, "picture", "a PNG of tables or cells (several: animated), or an SVG of few cells", ("what", {"choices": pictures.KINDS}),
-            ("file", {"metavar": "FILE", "help": "to write: .png or .svg"}), ("sources", {"metavar": "TABLE", "nargs": "+", "help": "or CELLS"}), gas, block,
-            ("--low", {"type": float}), ("--high", {"type": float}), ("--scale", {"type": whole(1, 64), "default": 0, "help": "pixels across a block"}),
-            ("--smooth", {"type": whole(0, 20), "default": 0, "metavar": "TIMES", "help": "average neighbours this often"}))
-    command(how_long, "how-long", "say how long a run will take", scene, ("generations", generations), ("--stages", {"type": whole(1, 64)}),
-            ("--capacity", {"type": whole(1, 1024)}), ("--seconds", {"type": whole(1, 3600), "default": 2, "help": "the least that is timed; default 2"}))
-    command(resume, "resume", "print the scene that continues a run from printed cells", scene, cells)
-    command(long_run, "long-run", "run in parts, each kept in a file; the same command continues an ended run", scene,
-            ("generations", generations | {"type": whole(0, 10**12)}), step, ("kept", {"metavar": "KEPT", "help": "the file, a scene"}))
-    command(drive, "drive", "run a scene under a force or towards a mean flow", scene, ("generations", generations), ("every", step[1] | {"metavar": "EVERY"}),
-            ("--force", {"type": float, "help": "momentum per fluid cell and generation"}), ("--flow", {"type": float, "help": "mean velocity"}),
-            ("--seed", {"type": int, "default": 0, "help": "of the particles that are turned; default 0"}))
-    command(over_time, "over-time", "tables every STEP generations up to LAST", scene, ("last", {"type": whole(0, 10**12), "metavar": "LAST"}), step, block)
-    command(over_seeds, "over-seeds", "the mean over seeds of a table, with standard errors", ("--seeds", {"type": whole(2, 10**6), "default": 8}),
-            ("--generations", generations | {"required": True}), block, ("scene", {"nargs": "?", "metavar": "SCENE", "help": "an area without particles"}),
-            ("--drawn", {"nargs": "...", "metavar": "WORD", "help": "words of `draw` to the end of the line: the scene is drawn for each seed"}))
-    command(numbers, "numbers", "Mach and Reynolds number of a flow, and the rest", gas, ("--density", {"type": float}), ("--speed", {"type": float}),
-            ("--table", {"metavar": "TABLE", "help": "of `coarse`, for its density and mean speed"}), ("--length", {"type": float, "required": True}),
-            ("--chirality", {"default": "seeded"}))
+    drawing.add_words(command(draw, "draw a scene"))
+    command(explain, "say where and why a scene is refused", scene)
+    command(picture, "a figure of a scene, of cells or of a table, or of several", ("what", what), ("file", file),
+            ("sources", {"metavar": "SOURCE", "nargs": "+"}), *run, *look)
+    command(film, "run a scene and write a film: .gif, .webp, .apng, .mp4", scene, ("file", file), ("--every", step | {"required": True, "help":
+            "generations from frame to frame"}), ("--until", generations | {"required": True, "help": "generations in all"}), ("--what", what | {
+            "help": "default speed, or particles if the lattice is small"}), blocks, *look, ("--fps", {"type": number(0.1, 100), "default": 10,
+            "help": "frames per second; default 10"}), *force)
+    command(how_long, "say how long a run will take", scene, ("generations", generations), ("--stages", {"type": whole(1, 64)}), ("--capacity", {
+            "type": whole(1, 1024)}), ("--seconds", {"type": whole(1, 3600), "default": 2, "help": "the least that is timed; default 2"}))
+    command(resume, "print the scene that continues a run from printed cells", scene, ("cells", {"metavar": "CELLS"}))
+    command(long_run, "run in parts, each kept in a file; the same command continues an ended run", scene, ("generations", generations | {
+            "type": whole(0, 10**12)}), ("step", step), ("kept", {"metavar": "KEPT", "help": "the file, a scene"}))
+    command(drive, "run a scene under a force or towards a mean flow", scene, ("generations", generations), ("every", step | {"metavar": "EVERY"}), *force)
+    command(over_time, "tables every STEP generations up to LAST", scene, ("last", {"type": whole(0, 10**12), "metavar": "LAST"}), ("step", step), blocks)
+    command(over_seeds, "the mean over seeds of a table, with standard errors", ("--seeds", {"type": whole(2, 10**6), "default": 8}),
+            ("--generations", generations | {"required": True}), blocks, ("scene", {"nargs": "?", "metavar": "SCENE", "help":
+            "an area without particles"}), ("--drawn", {"nargs": "...", "metavar": "WORD", "help":
+            "words of `draw` to the end of the line: the scene is drawn for each seed"}))
+    command(numbers, "Mach and Reynolds number of a flow, and the rest", ("--filling", {"type": number(1e-4, 0.9999)}), ("--speed", {
+            "type": number(0, 1)}), ("--table", {"metavar": "SOURCE", "help": "for its filling and mean speed"}), ("--length", {
+            "type": number(1e-3, 1e9), "required": True}), ("--chirality", {"choices": drawing.CHIRALITIES, "default": "seeded"}), *run)
     return top
 
 
+def main() -> None:
+    name = pathlib.Path(sys.argv[0]).name
+    with one_line_faults("fhpgas-tools"):
+        asked = reader("python3 -m fhpgas" if name == "__main__.py" else name).parse_args()
+        try:
+            asked.function(asked)
+        except ModuleNotFoundError as missing:
+            raise Fault(f"the Python package {missing.name} is missing: apt install python3-{missing.name}, or pip install {missing.name}") from None
+
+
 if __name__ == "__main__":
-    with one_line_faults("fhpgas"):
-        given = reader().parse_args()
-        given.function(given)
+    main()

@@ -1,202 +1,241 @@
-"""Pictures by the standard library only: PNG of tables or cells with a legend of the range, a small lattice with its arrows as SVG, and
-reading a PBM or PNG picture as a mask."""
-import itertools
-import math
+"""Pictures by matplotlib: fields of blocks in colours, small lattices as arrows, strips of several states, and films.
+
+Lengths are in cells' widths, so 512 rows of a triangular lattice are 443 high. Solid cells are grey, blocks without a value pale or grey.
+Fields with a sign are blue below 0 and red above it, the others run from dark to light. Colour-blind readers can tell both apart.
+"""
+from __future__ import annotations
+
+import io
+import os
 import pathlib
-import re
-import struct
-import zlib
+from collections.abc import Iterable, Sequence
+from typing import TYPE_CHECKING, Any, NamedTuple
 
-from .fault import Fault
-from .gases import SOLID, known_gas
-from .observe import Field, smooth, vorticity
-from .tables import Cells, Table
+import numpy as np
 
-KINDS = ("density", "speed", "vorticity", "east", "north")
-SIGNATURE = b"\x89PNG\r\n\x1a\n"
-GREY, DARK, WHITE = bytes((90, 90, 90)), bytes(3), b"\xff" * 3
-HEAT = (20, 20, 90), (0, 130, 170), (90, 190, 110), (250, 220, 60), (250, 250, 235)
-SIGNED = (20, 60, 170), (120, 170, 230), (250, 250, 250), (240, 150, 110), (170, 20, 30)
-SHADES = 200
-GLYPHS = dict(zip("0123456789-.+e", (0x7B6F, 0x2C97, 0x73E7, 0x73CF, 0x5BC9, 0x79CF, 0x79EF, 0x7249, 0x7BEF, 0x7BCF, 0x1C0, 2, 0x5D0, 0x7BE7)))
+from .blocks import Blocks
+from .fault import Fault, integer, real
+from .gases import Array
 
+if TYPE_CHECKING:
+    from matplotlib.axes import Axes
+    from matplotlib.figure import Figure
+    from matplotlib.image import AxesImage
 
-def measured(what: str, table: Table) -> Field:
-    """The numbers [row][column] of one of KINDS."""
-    if what not in KINDS:
-        raise Fault(f"there is no picture of {what!r}: {', '.join(KINDS)}")
-    if what in ("density", "vorticity"):
-        return table.density() if what == "density" else vorticity(table)
-    east, north = table.velocity()
-    speed = [[None if u is None else math.hypot(u, v) for u, v in zip(*rows)] for rows in zip(east, north)]
-    return {"east": east, "north": north, "speed": speed}[what]
+    from .lattice import Lattice
+
+PLAIN, SIGNED = "viridis", "RdBu_r"
+VELOCITY = "cells per generation"
+FIELDS = {  # the unit and the colours of what is shown
+    "speed": (VELOCITY, PLAIN), "east": (VELOCITY, SIGNED), "north": (VELOCITY, SIGNED), "vorticity": ("1 per generation", SIGNED),
+    "density": ("particles per cell", PLAIN), "filling": ("particles per direction", PLAIN), "pressure": ("per cell", PLAIN),
+}
+PARTICLES, SMALL = "particles", 2_000  # a lattice of at most so many cells shows its particles if no field is named
+PILLOW, FFMPEG = (".gif", ".webp", ".apng"), (".mp4",)
+PALE, GREY, INK = "0.88", "0.55", "#1f4e79"
 
 
-def field(what: str, table: Table, smoothing: int = 0) -> Field:
-    """The numbers [row][column] of one of KINDS in a table that is smoothed this often. None for blocks of which less than half is fluid,
-    or which are empty before the table is smoothed."""
-    values, shown = measured(what, table), measured(what, smooth(table, smoothing))
-    columns = [max(column) / 2 / (max(map(max, table.fluid)) or 1) for column in zip(*table.fluid)]  # blocks at the ends are smaller
-    halves = [[max(row) * column for column in columns] for row in table.fluid]
-    return [[None if fluid < half or v is None or math.isnan(v) else number for v, number, fluid, half in zip(*rows)]
-            for rows in zip(values, shown, table.fluid, halves)]
+class Shown(NamedTuple):
+    """A field: values [row, column] of blocks, masked where less than half of a block is fluid, and the solid cells if they are known."""
+
+    values: np.ma.MaskedArray[Any, Any]
+    blocks: Blocks
+    solid: Array | None
 
 
-def picture(path, what: str, *sources: Table | Cells, block: tuple[int, int] = (8, 9), low: float | None = None, high: float | None = None,
-            scale: int = 0, pause: float = 0.1, smoothing: int = 0) -> tuple[float, float]:
-    """Writes a PNG of one of KINDS, with its range below it. Solid blocks are grey. Several tables or cells, of which `block` cells are
-    taken together, make an animated PNG with `pause` seconds per frame. The range, by default of all values, is returned.
-    `scale` is the pixels across a block. `smoothing` is how often neighbours are averaged, which leaves the grey blocks as they are."""
-    tables = [source.table(*block) if isinstance(source, Cells) else source for source in sources]
-    if not tables:
-        raise Fault("a picture is one of a table or of cells")
-    fields = [field(what, table, smoothing) for table in tables]
-    values = [v for rows in fields for row in rows for v in row if v is not None] or [0.0]
-    least, most = min(values), max(values)
-    if what in ("vorticity", "east", "north"):
-        most = max(most, -least)
-        least = -most
-    low, high = least if low is None else low, most if high is None else high
-    wide, tall = tables[0].block or block
-    aspect = tall * known_gas(tables[0].gas).row_distance / wide
-    scale = scale or max(1, min(8, 1024 // len(fields[0][0])))
-    colours = palette(HEAT if least >= 0 and what in ("density", "speed") else SIGNED)
-    frames = [painted(values, low, high if high > low else low + 1, (scale, max(1, round(scale * aspect))), colours) for values in fields]
-    write(path, png(frames, pause))
-    return low, high
+def chosen(source: Lattice | Blocks, what: Any) -> Any:
+    """What is shown of a lattice or of blocks if this is asked for, PARTICLES if it is particles."""
+    is_lattice = not isinstance(source, Blocks)
+    if what is None:
+        return PARTICLES if not isinstance(source, Blocks) and source.states.size <= SMALL else "speed"
+    if not isinstance(what, str):
+        return np.asarray(what)
+    if what == PARTICLES and is_lattice:
+        return PARTICLES
+    if what not in FIELDS:
+        raise Fault(f"there is no picture of {what!r}: {', '.join([*FIELDS, PARTICLES] if is_lattice else FIELDS)}")
+    return what
 
 
-def palette(stops: tuple) -> list[bytes]:
-    apart = SHADES // (len(stops) - 1)
-    pairs = [(p, q) for p, q in zip(stops, stops[1:]) for _ in range(apart)]
-    return [bytes(round(a + k % apart / apart * (b - a)) for a, b in zip(*pair)) for k, pair in enumerate(pairs)] + [bytes(stops[-1])]
+def field(source: Lattice | Blocks, what: Any, block: Sequence[int], smooth: float) -> Shown:
+    blocks, solid = (source, None) if isinstance(source, Blocks) else (source.blocks(*block), source.solid)
+    smoothed = blocks.smooth(smooth) if smooth else blocks
+    values = getattr(smoothed, what) if isinstance(what, str) else what
+    if values.shape != blocks.fluid.shape or values.dtype.kind not in "biuf":
+        raise Fault(f"what is shown are numbers [row, column] of {blocks.fluid.shape} blocks, not {values.dtype} of the shape {values.shape}")
+    x, y = blocks.edges
+    cells = np.diff(x) * np.diff(-y)[:, None] / blocks.gas.row_distance
+    return Shown(np.ma.masked_where(~np.isfinite(values) | (2 * blocks.fluid < cells - 0.5), values), blocks, solid)
 
 
-def painted(values: list, low: float, high: float, scale: tuple[int, int], colours: list[bytes]) -> list[bytes]:
-    """The lines of pixels of a field, and below it a bar of the colours between the least and the largest number."""
-    lines = []
-    for row in values:
-        pixels = (GREY if v is None else colours[round(SHADES * min(1.0, max(0.0, (v - low) / (high - low))))] for v in row)
-        lines += [b"".join(pixel * scale[0] for pixel in pixels)] * scale[1]
-    width = len(lines[0]) // 3
-    left, right = lettered(f"{low:.3g}"), lettered(f"{high:.3g}")
-    bar = max(1, width - len(left[0]) - len(right[0]) - 8)
-    for y in range(16):
-        is_text = 3 <= y < 13
-        sides = [[DARK if is_text and ink else WHITE for ink in letters[(y - 3) // 2 if is_text else 0]] for letters in (left, right)]
-        shades = [colours[SHADES * k // bar] if is_text else WHITE for k in range(bar)]
-        lines.append(b"".join([WHITE, WHITE, *sides[0], WHITE, WHITE, *shades, WHITE, WHITE, *sides[1], WHITE, WHITE][:width]))
-    return lines
+def colours(fields: list[Shown], what: Any, options: dict[str, Any]) -> dict[str, Any]:
+    """The options of images with one range of values for all fields, which is symmetric about 0 if the field has a sign."""
+    from matplotlib import colormaps
+
+    known = np.concatenate([shown.values.compressed() for shown in fields])
+    least, most = (float(known.min()), float(known.max())) if known.size else (0.0, 1.0)
+    name = FIELDS[what][1] if isinstance(what, str) else PLAIN
+    if name == SIGNED:
+        least, most = min(least, -most), max(most, -least)
+    shades = options.get("cmap", name)
+    shades = (colormaps[shades] if isinstance(shades, str) else shades).copy()
+    shades.set_bad(GREY if fields[0].solid is None else PALE)
+    return {"interpolation": "nearest"} | ({} if "norm" in options else {"vmin": least, "vmax": most}) | options | {"cmap": shades}
 
 
-def lettered(text: str) -> list[list[int]]:
-    """Five rows of pixels of a number: three columns per character and one between, all twice as wide."""
-    return [[GLYPHS[letter] >> 14 - 3 * y - x // 2 & 1 if x < 6 else 0 for letter in text for x in range(8)] for y in range(5)]
+def paint(ax: Axes, shown: Shown, options: dict[str, Any]) -> AxesImage:
+    """The image of a field on Axes in cells' widths, and the solid cells over it."""
+    blocks = shown.blocks
+    (x, y), (rows, columns), (width, height) = blocks.edges, blocks.fluid.shape, blocks.block
+    full = x[0], x[0] + columns * width, y[0] - rows * height * blocks.gas.row_distance, y[0]  # as if the last blocks were not smaller
+    image = ax.imshow(shown.values, extent=full, **options)
+    if shown.solid is not None and shown.solid.any():
+        over = np.zeros((*shown.solid.shape, 4))
+        over[shown.solid] = (*[float(GREY)] * 3, 1)
+        ax.imshow(over, extent=(x[0], x[-1], y[-1], y[0]))
+    ax.set(xlim=(x[0], x[-1]), ylim=(y[-1], y[0]), xlabel="x (cells)", ylabel="y (cells)")
+    return image
 
 
-def png(frames: list[list[bytes]], pause: float = 0.1) -> bytes:
-    """A PNG of frames, which are lists of lines of red, green and blue. It is animated if there are several."""
-    width, height, number = len(frames[0][0]) // 3, len(frames[0]), itertools.count()
-    if any(len(frame) != height or {*map(len, frame)} != {3 * width} for frame in frames):
-        raise Fault("all frames are of one size")
-    parts = [SIGNATURE, chunk(b"IHDR", struct.pack(">IIBBBBB", width, height, 8, 2, 0, 0, 0))]
-    parts += [chunk(b"acTL", struct.pack(">II", len(frames), 0))] if len(frames) > 1 else []
-    for k, frame in enumerate(frames):
-        packed = zlib.compress(b"".join(b"\0" + line for line in frame), 9)
-        if len(frames) > 1:
-            parts.append(chunk(b"fcTL", struct.pack(">IIIIIHHBB", next(number), width, height, 0, 0, round(1000 * pause), 1000, 0, 0)))
-        parts.append(chunk(b"fdAT", struct.pack(">I", next(number)) + packed) if k else chunk(b"IDAT", packed))
-    return b"".join(parts) + chunk(b"IEND", b"")
+def bar(image: AxesImage, what: Any, ax: Axes) -> None:
+    """The bar of an image's colours, beside its Axes and as high as they are."""
+    label = f"{what}\n({FIELDS[what][0]})" if isinstance(what, str) else None
+    ax.figure.colorbar(image, cax=ax.inset_axes((1.02, 0, 0.025, 1)), label=label)
 
 
-def chunk(kind: bytes, data: bytes) -> bytes:
-    return struct.pack(">I", len(data)) + kind + data + struct.pack(">I", zlib.crc32(kind + data))
+def particles(lattice: Any, ax: Axes) -> Axes:
+    """A small lattice: moving particles as arrows, particles at rest as dots, solid cells grey, and the walls as lines."""
+    from matplotlib.collections import EllipseCollection, PolyCollection
+
+    gas, (X, Y) = lattice.gas, np.broadcast_arrays(*lattice.positions)
+    corners = 4 if gas.is_square else 6
+    turns = np.exp(2j * np.pi * (np.arange(corners) + 0.5) / corners) / 2 / np.cos(np.pi / corners)
+    outlines = np.stack([X.reshape(-1, 1) + turns.real, Y.reshape(-1, 1) + turns.imag], 2)
+    ax.add_collection(PolyCollection(outlines, facecolors=np.where(lattice.solid.ravel(), GREY, "white"), edgecolors=PALE, linewidths=0.8))
+    for i, (u, v) in enumerate(gas.velocities):
+        here = lattice.states >> i & 1 > 0
+        if u or v:
+            ax.quiver(X[here], Y[here], 0.46 * u, 0.46 * v, angles="xy", scale_units="xy", scale=1, units="xy", width=0.06, headwidth=3,
+                      headlength=3.5, headaxislength=3, minlength=0, color=INK, zorder=3)
+        else:
+            at, sizes = np.column_stack([X[here], Y[here]]), np.full(here.sum(), 0.24)
+            ax.add_collection(EllipseCollection(sizes, sizes, 0 * sizes, units="xy", offsets=at, offset_transform=ax.transData, color=INK))
+    top, right = lattice.size[1] * gas.row_distance, X.max() + 0.6
+    ax.hlines((0, top), -0.6, right, "black", linewidth=2)
+    ax.set(aspect="equal", xlim=(-0.6, right), ylim=(-0.2, top + 0.2), xticks=[], yticks=[])
+    ax.spines[:].set_visible(False)
+    return ax
 
 
-def svg(path, cells: Cells, gas: str | None = None) -> None:
-    """Writes a small lattice as SVG: moving particles as arrows, particles at rest as dots, solid cells as discs."""
-    named, unit, parts = known_gas(gas, cells.gas), 40, []
-    if len(cells.rows) * len(cells.rows[0]) > 10_000:
-        raise Fault("a lattice of more than 10,000 cells is no small one: take a PNG")
-    for y, row in enumerate(cells.rows):
-        for x, state in enumerate(row):
-            east, south = (unit * (part + 0.5) for part in named.place(x, y))
-            parts.append(f'<circle cx="{east:g}" cy="{south:g}" r="{16 if state >= SOLID else 2}" fill="#777"/>')
-            for i, (u, v) in enumerate(named.velocities if state < SOLID else ()):
-                if state >> i & 1:
-                    arrow = f'<line x1="{east:g}" y1="{south:g}" x2="{east + 15 * u:g}" y2="{south - 15 * v:g}" marker-end="url(#a)"/>'
-                    parts.append(arrow if u or v else f'<circle cx="{east:g}" cy="{south:g}" r="5"/>')
-    width, height = unit * (len(cells.rows[0]) + 0.5), unit * (named.row_distance * (len(cells.rows) - 1) + 1)
-    head = f'<svg xmlns="http://www.w3.org/2000/svg" width="{width:g}" height="{height:g}" stroke="#036" fill="#036" stroke-width="2">'
-    marker = '<marker id="a" markerWidth="4" markerHeight="4" refX="2" refY="2" orient="auto"><path d="M0,0 L4,2 L0,4" stroke="none"/></marker>'
-    write(path, "\n".join([head, marker, *parts, "</svg>\n"]).encode())
+def plot(source: Lattice | Blocks, what: Any = None, ax: Axes | None = None, *, block: Sequence[int] = (8, 9), smooth: float = 0.0,
+         colorbar: bool = True, **options: Any) -> AxesImage | Axes:
+    """Shows a lattice or blocks on Axes of matplotlib (None: pyplot's), and returns the image.
+
+    `what` is "speed", "east", "north", "vorticity", "density", "filling" or "pressure", an array [row, column] of the blocks, or "particles"
+    for the arrows of single particles. By default it is the speed, and the particles of a lattice of at most 2000 cells. A lattice is shown in
+    blocks of `block` columns and rows. `smooth` is the width in blocks of a Gaussian that smooths. `options`, such as vmin, vmax, cmap and
+    interpolation, are those of `imshow`."""
+    if ax is None:
+        from matplotlib import pyplot
+
+        ax = pyplot.gca()
+    if (what := chosen(source, what)) is PARTICLES:
+        return particles(source, ax)
+    shown = field(source, what, block, smooth)
+    image = paint(ax, shown, colours([shown], what, options))
+    if colorbar:
+        bar(image, what, ax)
+    return image
 
 
-def write(path, data: bytes) -> None:
-    try:
-        pathlib.Path(path).write_bytes(data)
-    except OSError as fault:
-        raise Fault(f"{path}: {fault.strerror}") from None
+def strip(sources: Iterable[Lattice | Blocks], what: Any = None, *, block: Sequence[int] = (8, 9), smooth: float = 0.0,
+          columns: int | None = None, **options: Any) -> Figure:
+    """A figure of pyplot with several states of a lattice, which have one range of colours. `columns` is how many stand beside one another.
+    All else is as in `plot`."""
+    from matplotlib import pyplot
+
+    many = list(sources)
+    if not many:
+        raise Fault("a strip has a state or more")
+    n, aspect = len(many), many[0].size[1] * many[0].gas.row_distance / many[0].size[0]
+    across = integer("the number of columns", columns, 1, n) if columns is not None else min(
+        (k for k in range(1, n + 1) if n % k == 0), key=lambda k: abs(np.log(k * k / n / aspect / 3)))  # about three times as wide as high
+    down = -(-n // across)
+    figure, grid = pyplot.subplots(down, across, figsize=(9, down * (7.6 / across * aspect + 0.4) + 0.5), layout="constrained", squeeze=False,
+                                   sharex=True, sharey=True)
+    what = chosen(many[0], what)
+    fields = [] if what is PARTICLES else [field(source, what, block, smooth) for source in many]
+    options = colours(fields, what, options) if fields else {}
+    for k, ax in enumerate(grid.flat):
+        if k < n:
+            image = paint(ax, fields[k], options) if fields else particles(many[k], ax)
+            ax.set_title(f"generation {many[k].generation}", fontsize="medium")
+            ax.label_outer()
+        else:
+            ax.remove()
+    if fields:
+        figure.colorbar(image, ax=grid, label=f"{what} ({FIELDS[what][0]})" if isinstance(what, str) else None, aspect=30)
+    return figure
 
 
-def read_mask(path) -> list[list[bool]]:
-    """Whether the pixels [y][x] of a PBM or PNG picture are dark: black, or darker than half of white and not transparent."""
-    try:
-        data = pathlib.Path(path).read_bytes()
-        if data.startswith((b"P1", b"P4")):
-            return read_pbm(data)
-        if data.startswith(SIGNATURE):
-            return read_png(data)
-    except OSError as fault:
-        raise Fault(f"{path}: {fault.strerror}") from None
-    except (TypeError, IndexError, ValueError, KeyError, struct.error, zlib.error):
-        raise Fault(f"{path}: the picture is damaged, or a PNG that is interlaced, which is not read") from None
-    raise Fault(f"{path}: neither PBM nor PNG")
+def figure_of(source: Lattice | Blocks) -> Figure:
+    """A figure beside pyplot, as high as the lattice asks."""
+    from matplotlib.figure import Figure
+
+    return Figure(figsize=(7, max(1.5, min(9, 5.4 * source.size[1] * source.gas.row_distance / source.size[0] + 0.8))), layout="constrained")
 
 
-def read_pbm(data: bytes) -> list[list[bool]]:
-    head = re.match(rb"P[14]\s+(?:#.*\s+)*(\d+)\s+(?:#.*\s+)*(\d+)\s", data)
-    width, height, body = int(head[1]), int(head[2]), data[head.end() :]
-    if data.startswith(b"P1"):
-        bits = re.sub(rb"#.*|\s", b"", body)
-        return [[bits[width * y + x] == ord("1") for x in range(width)] for y in range(height)]
-    wide = (width + 7) // 8
-    return [[bool(body[wide * y + x // 8] >> 7 - x % 8 & 1) for x in range(width)] for y in range(height)]
+def png(source: Lattice | Blocks) -> bytes:
+    """What a notebook shows for a lattice or blocks."""
+    figure, out = figure_of(source), io.BytesIO()
+    ax = figure.add_subplot()
+    plot(source, None, ax)
+    ax.set_title(repr(source)[1:-1], fontsize="small")
+    figure.savefig(out, format="png", dpi=100)
+    return out.getvalue()
 
 
-def read_png(data: bytes) -> list[list[bool]]:
-    """Dark pixels of a PNG, by the PNG specification: chunks, filters of lines, and the kinds of colour."""
-    at, chunks = 8, {b"tRNS": b"", b"IDAT": b""}
-    while at < len(data):
-        length, kind = struct.unpack(">I4s", data[at : at + 8])
-        chunks[kind] = chunks.get(kind, b"") + data[at + 8 : at + 8 + length]
-        at += length + 12
-    width, height, depth, colour, _, _, interlaced = struct.unpack(">IIBBBBB", chunks[b"IHDR"])
-    if interlaced:
-        raise ValueError
-    samples = {0: 1, 2: 3, 3: 1, 4: 2, 6: 4}[colour]
-    wide, apart, lines, mask = (width * samples * depth + 7) // 8, max(1, samples * depth // 8), zlib.decompress(chunks[b"IDAT"]), []
-    most, before = 255 if colour == 3 else (1 << depth) - 1, bytes(wide)
-    for start in range(0, height * (wide + 1), wide + 1):
-        before = unfiltered(lines[start], lines[start + 1 : start + 1 + wide], before, apart)
-        whole, mask = int.from_bytes(before), [*mask, []]
-        for x in range(width):
-            pixel = [whole >> 8 * wide - depth * (x * samples + s + 1) & (1 << depth) - 1 for s in range(samples)]
-            if colour == 3:
-                k = pixel[0]
-                pixel = [*chunks[b"PLTE"][3 * k : 3 * k + 3], *(chunks[b"tRNS"][k : k + 1] or b"\xff")]
-            shades = pixel[:3] if len(pixel) > 2 else pixel[:1]
-            opaque = len(pixel) in (1, 3) or 2 * pixel[-1] > most
-            mask[-1].append(opaque and 2 * sum(shades) < most * len(shades))
-    return mask
+def film(path: str | os.PathLike[str], sources: Iterable[Lattice | Blocks], what: Any = None, *, block: Sequence[int] = (8, 9),
+         smooth: float = 0.0, fps: float = 10.0, dpi: int = 100, **options: Any) -> None:
+    """Writes a film of lattices or blocks, which may come one by one, as .gif, .webp, .apng, or if there is ffmpeg as .mp4. All frames have
+    one range of colours. `fps` is the frames per second, and with 100 `dpi` a frame is 700 pixels wide. All else is as in `plot`."""
+    writer, dpi, figure = film_writer(path, fps), integer("the dots per inch", dpi, 10, 1000), None
+    frames, fields = list[Any](), list[Shown]()
+    for source in sources:
+        figure, what = figure or figure_of(source), chosen(source, what)
+        frames.append(source if what is PARTICLES else source.generation)
+        fields += [] if what is PARTICLES else [field(source, what, block, smooth)]
+    if figure is None:
+        raise Fault("a film has a frame or more")
+    ax = figure.add_subplot(title="generation")
+    if fields:
+        image = paint(ax, fields[0], colours(fields, what, options))
+        bar(image, what, ax)
+    figure.draw_without_rendering()
+    figure.set_layout_engine("none")
+    with writer.saving(figure, os.fspath(path), dpi):
+        for k, frame in enumerate(frames):
+            if fields:
+                image.set_data(fields[k].values)
+            else:
+                ax.clear()
+                particles(frame, ax)
+            ax.set_title(f"generation {fields[k].blocks.generation if fields else frame.generation}")
+            writer.grab_frame()
 
 
-def unfiltered(kind: int, line: bytes, above: bytes, apart: int) -> bytes:
-    """A line of a PNG before its filter."""
-    out = bytearray(line)
-    for k, up in enumerate(above):
-        left, corner = (out[k - apart], above[k - apart]) if k >= apart else (0, 0)
-        guess = left + up - corner
-        nearest = min((left, up, corner), key=lambda value: abs(guess - value))
-        out[k] = out[k] + (0, left, up, (left + up) // 2, nearest)[kind] & 255
-    return bytes(out)
+def film_writer(path: str | os.PathLike[str], fps: float = 10.0) -> Any:
+    """The writer of matplotlib for a file's suffix. An unknown one raises a Fault."""
+    from matplotlib.animation import FFMpegWriter, PillowWriter
+
+    class Pictures(PillowWriter):
+        def grab_frame(self, **options: Any) -> None:
+            super().grab_frame(**options)
+            self._frames[-1] = self._frames[-1].convert("RGB")  # of frames that may be transparent a GIF has few colours
+
+    suffix, fps = pathlib.Path(path).suffix, real("the frames per second", fps, 0.1, 100)
+    if suffix not in PILLOW + FFMPEG:
+        raise Fault(f"{path}: a film is written as {', '.join(PILLOW + FFMPEG)}")
+    if suffix in FFMPEG and not FFMpegWriter.isAvailable():
+        raise Fault(f"{path}: a film of this kind needs the program ffmpeg")
+    return (FFMpegWriter if suffix in FFMPEG else Pictures)(fps=fps)
