@@ -71,8 +71,7 @@ class Lattice:
     def load(cls, scene: Scene) -> "Lattice":
         """The lattice of a scene, the path of its file or its text. A refused scene raises a Fault with the program's line."""
         text = program.scene_bytes(scene)
-        generation, codes = cells_of(program.call(text, "run", "--generations", 0, "--stages", 1))
-        return cls._of(codes, generation, **_names(text))
+        return cls._of(*cells_of(program.call(text, "run", "--generations", 0, "--stages", 1)), **_names(text))
 
     @classmethod
     def _of(cls, codes: Array, generation: int, gas: str | Gas, chirality: str = "seeded", seed: int = 0) -> "Lattice":
@@ -168,8 +167,7 @@ class Lattice:
     def run(self, generations: int, stages: int | None = None, capacity: int | None = None) -> "Lattice":
         """The lattice after 0 to 1,000,000 generations. The plan, `stages` and `capacity`, changes only the time."""
         words = program.planned(len(self.states), generations, stages, capacity)
-        generation, codes = cells_of(program.call(self._scene(), "run", *words, is_checked=True))
-        return Lattice._of(codes, generation, self.gas, self.chirality, self.seed)
+        return Lattice._of(*cells_of(program.call(self._scene(), "run", *words, is_checked=True)), self.gas, self.chirality, self.seed)
 
     def every(self, step: int, count: int, **plan: Any) -> Iterator["Lattice"]:
         """Yields this lattice, and then `count` times the lattice `step` generations later."""
@@ -283,8 +281,8 @@ def lines_of(codes: Array, before: bytes = b"", after: bytes = b"\n") -> bytes:
     return lines.tobytes()
 
 
-def cells_of(text: bytes, size: tuple[int, int] | None = None) -> tuple[int, Array]:
-    """The generation and the cells, a byte each, of a text that `fhpgas run` printed, of columns and rows if they are known. A text that is
+def cells_of(text: bytes, size: tuple[int, int] | None = None) -> tuple[Array, int]:
+    """The cells, a byte each, and the generation of a text that `fhpgas run` printed, of columns and rows if they are known. A text that is
     not whole raises a Fault."""
     head = re.match(rb"generation (\d+) particles (\d+)\n([^\n]+\n)", text)
     width = len(head[3]) if head else 0
@@ -298,7 +296,7 @@ def cells_of(text: bytes, size: tuple[int, int] | None = None) -> tuple[int, Arr
         raise Fault(f"the cells are {codes.shape[1]} x {codes.shape[0]} (columns x rows), and not {size[0]} x {size[1]}")
     if (found := int(NUMBER[codes].sum(dtype=np.int64))) != int(head[2]):
         raise Fault(f"the cells contain {found} particles, and their first line says {int(head[2])}")
-    return int(head[1]), codes
+    return codes, int(head[1])
 
 
 def _names(scene: bytes) -> dict[str, Any]:
@@ -310,8 +308,7 @@ def _names(scene: bytes) -> dict[str, Any]:
 def read_cells(text: str | bytes, gas: str | Gas, size: tuple[int, int], chirality: str = "seeded", seed: int = 0) -> Lattice:
     """The lattice of cells that `fhpgas run` printed. The text does not name the gas, the chirality and the seed of the run. `size`, its
     columns and rows, shows whether rows are lost. A text that is not whole raises a Fault."""
-    generation, codes = cells_of(text.encode() if isinstance(text, str) else text, fields.size_checked(size))
-    return Lattice._of(codes, generation, gas, chirality, seed)
+    return Lattice._of(*cells_of(text.encode() if isinstance(text, str) else text, fields.size_checked(size)), gas, chirality, seed)
 
 
 def gas(filling: fields.Field, east: fields.Field = 0.0, north: fields.Field = 0.0, *, size: tuple[int, int] | None = None, solid: Any = None,
@@ -349,8 +346,8 @@ def _coarse(text: bytes, rows: int, generations: int, width: int, height: int, p
 def run(scene: Scene, generations: int, **plan: Any) -> Lattice:
     """The lattice of a scene, the path of its file or its text, after 0 to 1,000,000 generations."""
     text = program.scene_bytes(scene)
-    generation, codes = cells_of(program.call(text, "run", *program.planned(program.height_of(text), generations, **plan)))
-    return Lattice._of(codes, generation, **_names(text))
+    words = program.planned(program.height_of(text), generations, **plan)
+    return Lattice._of(*cells_of(program.call(text, "run", *words)), **_names(text))
 
 
 def coarse(scene: Scene, generations: int, width: int = 8, height: int = 9, **plan: Any) -> Blocks:
