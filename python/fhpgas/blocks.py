@@ -1,7 +1,7 @@
 """Sums over blocks of cells, and the fields of a fluid that they make."""
 import dataclasses
 import functools
-import re
+import io
 from typing import Any
 
 import numpy as np
@@ -206,20 +206,16 @@ def _slope(values: Array, places: Array) -> Array:
 def read_table(text: str | bytes, gas: str | Gas, block: tuple[int, int], size: tuple[int, int], generation: int = 0) -> Blocks:
     """The blocks of a table that `fhpgas coarse` printed. The text does not name the gas, the columns and rows of a block, and those of the
     lattice, which show whether the text is whole. A text that is not raises a Fault."""
-    text = text.decode() if isinstance(text, bytes) else text
     (columns, rows), (width, height) = size_checked(size), size_checked(block)
     shape = -(-rows // height), -(-columns // width)
-    first, _, body = text.partition("\n")
+    first, _, body = (text.encode() if isinstance(text, str) else text).partition(b"\n")
     fault = Fault(f"this is no whole table of `coarse` with {shape[1]} columns and {shape[0]} rows of blocks")
-    if first != HEADER or body.count("\n") != shape[0] * shape[1] or not body.endswith("\n") or re.search(r"[^-\d \n]", body):
+    if first != HEADER.encode() or body[-1:] != b"\n" or body.count(b"\n") != shape[0] * shape[1] or body.translate(None, b"-0123456789 \n"):
         raise fault
     try:
-        numbers = np.array(body.split(), np.int64)
+        table = np.loadtxt(io.BytesIO(body), np.int64).reshape(*shape, 6)
     except (ValueError, OverflowError):
         raise fault from None
-    if numbers.size != 6 * shape[0] * shape[1]:
-        raise fault
-    table = numbers.reshape(*shape, 6)
     if (table[..., :2] != np.stack(np.indices(shape)[::-1], -1)).any():
         raise fault
     return Blocks(*np.moveaxis(table[..., 2:], -1, 0), gas_named(gas), (width, height), (columns, rows), generation)
