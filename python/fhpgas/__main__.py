@@ -6,10 +6,11 @@ input. A fault is one line on standard error. The status is 2 if the words are w
 from __future__ import annotations
 
 import argparse
+import os
 import pathlib
 import sys
 import time
-from collections.abc import Callable, Iterator
+from collections.abc import Callable
 from typing import TYPE_CHECKING, Any
 
 from . import __version__, drawing
@@ -22,8 +23,10 @@ if TYPE_CHECKING:
     from .lattice import Lattice
 
 FIELDS = "speed", "east", "north", "vorticity", "density", "filling", "pressure"
-FILMS, FIGURES = (".gif", ".webp", ".apng", ".mp4"), (".png", ".svg", ".pdf")
+FIGURES, FILMS = (".png", ".svg", ".pdf"), (".gif", ".webp", ".apng", ".mp4")
 UNITS = ("days", 86400), ("hours", 3600), ("minutes", 60), ("seconds", 1)
+
+# -- what is read
 
 
 def text(path: str) -> str:
@@ -58,11 +61,31 @@ def source(path: str, asked: argparse.Namespace) -> Lattice | Blocks:
         raise Fault(f"{path}: {fault}") from None
 
 
-def steps(asked: argparse.Namespace, last: int, step: int) -> int:
+def steps(last: int, step: int) -> int:
     """How many steps of so many generations there are to the last one."""
     if last % step:
         raise Usage(f"{last} generations are no multiple of {step}, those of a step")
     return last // step
+
+
+def to_write(*suffixes: str) -> Callable[[str], str]:
+    """A type of argparse: files that can be written and have one of these suffixes."""
+
+    def file(word: str) -> str:
+        if pathlib.Path(word).suffix not in suffixes:
+            raise argparse.ArgumentTypeError(f"{word} is written as {', '.join(suffixes)}")
+        if not os.access(pathlib.Path(word).absolute().parent, os.W_OK):
+            raise argparse.ArgumentTypeError(f"the folder of {word} is missing or cannot be written to")
+        return word
+
+    return file
+
+
+# -- the commands
+
+
+def draw(asked: argparse.Namespace) -> None:
+    print(drawing.drawn(asked), end="")
 
 
 def explain(asked: argparse.Namespace) -> None:
@@ -84,9 +107,6 @@ def looks(asked: argparse.Namespace) -> dict[str, Any]:
 
 def picture(asked: argparse.Namespace) -> None:
     """A figure of one source or a strip of several, or if the file is .gif, .webp, .apng or .mp4 a film of them."""
-    suffix = pathlib.Path(asked.file).suffix
-    if suffix not in FIGURES + FILMS:
-        raise Usage(f"{asked.file}: a picture is written as {', '.join(FIGURES + FILMS)}")
     options = looks(asked)
     from matplotlib import use
 
@@ -94,36 +114,28 @@ def picture(asked: argparse.Namespace) -> None:
 
     use("agg")
     sources = [source(path, asked) for path in asked.sources]
-    if suffix in FILMS:
+    if asked.file.endswith(FILMS):
         return pictures.film(asked.file, sources, asked.what, dpi=asked.dpi, **options)
     figure = pictures.strip(sources, asked.what, **options) if len(sources) > 1 else pictures.figure_of(sources[0])
     if len(sources) == 1:
         pictures.plot(sources[0], asked.what, figure.add_subplot(), **options)
-    written(asked.file, lambda path: figure.savefig(path, dpi=asked.dpi))
+    figure.savefig(asked.file, dpi=asked.dpi)
     if images := figure.axes[0].images:
         print("{} from {:.4g} to {:.4g}".format(asked.what, *images[0].get_clim()))
 
 
 def film(asked: argparse.Namespace) -> None:
     """Runs a scene, and shows it every so many generations, from its start on. A flow is kept at each frame by turning particles."""
-    count, options = steps(asked, asked.until, asked.every), looks(asked)
-    if asked.flow is not None and asked.force is not None:
+    count, options, how = steps(asked.until, asked.every), looks(asked), {"force": asked.force, "flow": asked.flow}
+    if None not in how.values():
         raise Usage("a flow is driven by a force or towards a mean flow: --force or --flow")
     from . import pictures
 
-    pictures.film_writer(asked.file)
-    start, how = lattice(asked.scene), {"force": asked.force, "flow": asked.flow, "seed": asked.seed}
-    is_driven = asked.flow is not None or asked.force is not None
-    frames = (point.before for point in start.driven(asked.until, asked.every, **how)) if is_driven else start.every(asked.every, count)
-    written(asked.file, lambda path: pictures.film(path, frames, asked.what, fps=asked.fps, dpi=asked.dpi, **options))
+    start = lattice(asked.scene)
+    frames = start.every(asked.every, count) if how == {"force": None, "flow": None} else (
+        point.before for point in start.driven(asked.until, asked.every, **how, seed=asked.seed))
+    pictures.film(asked.file, frames, asked.what, fps=asked.fps, dpi=asked.dpi, **options)
     print(f"{asked.file}: {count + 1} frames, generations {start.generation} to {start.generation + asked.until}")
-
-
-def written(path: str, write: Callable[[str], object]) -> None:
-    try:
-        write(path)
-    except OSError as fault:
-        raise Fault(f"{path}: {fault.strerror or fault}") from None
 
 
 def how_long(asked: argparse.Namespace) -> None:
@@ -160,67 +172,64 @@ def long_run(asked: argparse.Namespace) -> None:
 
 
 def over_time(asked: argparse.Namespace) -> None:
-    count = steps(asked, asked.last, asked.step)
-    for later in lattice(asked.scene).every(asked.step, count):
+    for later in lattice(asked.scene).every(asked.step, steps(asked.last, asked.step)):
         print(f"generation {later.generation} particles {later.particles}")
         print(later.blocks(*asked.block).text(), end="", flush=True)
 
 
 def drive(asked: argparse.Namespace) -> None:
     """Turns particles from west to east between short runs, and says how fast the gas flows and which force acts until the next point."""
+    steps(asked.generations, asked.every)
     if (asked.flow is None) == (asked.force is None):
         raise Usage("a flow is driven either by a force or towards a mean flow: --force or --flow")
-    steps(asked, asked.generations, asked.every)
     points = lattice(asked.scene).driven(asked.generations, asked.every, force=asked.force, flow=asked.flow, seed=asked.seed)
     print("generation    velocity       force")
     for point in points:
         print(f"{point.before.generation:10} {point.velocity:11.5f} {point.force:11.3g}", flush=True)
 
 
-def draw(asked: argparse.Namespace) -> None:
-    print(drawing.drawn(asked), end="")
-
-
 def over_seeds(asked: argparse.Namespace) -> None:
     from .lattice import coarse
     from .statistics import mean
 
-    if asked.drawn is not None:
-        reader = Parser("--drawn")
-        drawing.add_words(reader)
-        words = reader.parse_args(asked.drawn)
-    scene = None if asked.drawn is not None else text(asked.scene or "-")
+    if asked.drawn is None:
+        scene = text(asked.scene or "-")
+    else:
+        words = Parser("--drawn")
+        drawing.add_words(words)
+        drawn = words.parse_args(asked.drawn)
 
     def columns(seed: int) -> Any:
-        blocks = coarse(drawing.drawn(words, seed) if scene is None else with_seed(scene, seed), asked.generations, *asked.block)
+        blocks = coarse(with_seed(scene, seed) if asked.drawn is None else drawing.drawn(drawn, seed), asked.generations, *asked.block)
         return [blocks.fluid, blocks.particles, *blocks.velocity]
 
     (fluid, *means), (_, *errors) = mean(side_by_side(columns, range(1, asked.seeds + 1)))
     print("  col   row    fluid" + "".join(f"{name:>12}{name + '_error':>16}" for name in ("particles", "u", "v")))
     for row, column in ((row, column) for row in range(len(fluid)) for column in range(fluid.shape[1])):
         pairs = ((middle[row, column], error[row, column]) for middle, error in zip(means, errors))
-        numbers = "".join(f"{'-':>12}{'-':>16}" if m != m else f"{m:12.5g}{e:16.2g}" for m, e in pairs)
-        print(f"{column:5} {row:5} {fluid[row, column]:8.1f}{numbers}")
+        shown = "".join(f"{'-':>12}{'-':>16}" if m != m else f"{m:12.5g}{e:16.2g}" for m, e in pairs)
+        print(f"{column:5} {row:5} {fluid[row, column]:8.1f}{shown}")
 
 
 def numbers(asked: argparse.Namespace) -> None:
     from . import theory
     from .blocks import Blocks
 
-    flow = {"filling": asked.filling, "speed": asked.speed}
+    gas, flow = asked.gas or "fhp1", {"filling": asked.filling, "speed": asked.speed}
     if [value is None for value in flow.values()] != [asked.table is not None] * 2:
         raise Usage("a flow has --filling and --speed, or a --table")
-    gas = asked.gas or "fhp1"
     if asked.table is not None:
         found = source(asked.table, asked)
         blocks = found if isinstance(found, Blocks) else found.blocks()
-        total = {name: getattr(blocks, name).sum() for name in ("fluid", "particles", "px", "py")}
-        x, y = blocks.gas.units * (total["px"], total["py"]) / max(1, total["particles"])
-        gas = blocks.gas.name
-        flow = {"filling": total["particles"] / blocks.gas.directions / max(1, total["fluid"]), "speed": (x**2 + y**2) ** 0.5}
+        gas, particles = blocks.gas.name, max(1, blocks.particles.sum())
+        x, y = blocks.gas.units * (blocks.px.sum(), blocks.py.sum()) / particles
+        flow = {"filling": particles / blocks.gas.directions / max(1, blocks.fluid.sum()), "speed": (x**2 + y**2) ** 0.5}
     told = theory.numbers(gas, **flow, length=asked.length, chirality=asked.chirality)._asdict()
     for name, value in (flow | told if asked.table else told).items():
         print(f"{name.replace('_', ' '):16}{value:12.4g}")
+
+
+# -- their words
 
 
 def reader(name: str) -> Parser:
@@ -229,50 +238,52 @@ def reader(name: str) -> Parser:
     top.add_argument("--version", action="version", version=f"fhpgas-tools {__version__}")
     commands = top.add_subparsers(required=True, metavar="COMMAND")
 
-    def command(function: Callable[[argparse.Namespace], None], about: str, *words: Any) -> Parser:
+    def command(function: Callable[[argparse.Namespace], None], about: str, *words: tuple[str, dict[str, Any]]) -> Parser:
         made = commands.add_parser(function.__name__.replace("_", "-"), help=about, description=function.__doc__ or about)
         made.set_defaults(function=function)
         for word, options in words:
             made.add_argument(word, **options)
         return made
 
-    side, most, finite = whole(1, 65536), 1_000_000, number(-1e300, 1e300)
-    scene, gas = ("scene", {"metavar": "SCENE"}), ("--gas", {"choices": drawing.GASES})
+    def two(most: int, about: str, **options: Any) -> dict[str, Any]:
+        return {"type": whole(1, most), "nargs": 2, "metavar": ("COLUMNS", "ROWS"), "help": about} | options
+
+    finite, most = number(-1e300, 1e300), 1_000_000
+    scene, what = ("scene", {"metavar": "SCENE"}), {"choices": (*FIELDS, "particles")}
     generations, step = {"type": whole(0, most), "metavar": "GENERATIONS"}, {"type": whole(1, most), "metavar": "STEP"}
-    block = {"type": whole(1, 4096), "nargs": 2, "metavar": ("COLUMNS", "ROWS"), "help": "of a block"}
-    run = (gas, ("--size", {"type": side, "nargs": 2, "metavar": ("COLUMNS", "ROWS"), "help": "of the lattice"}), ("--block", block),
-           ("--scene", {"metavar": "SCENE", "help": "the scene of the run, for its gas and its size"}))
-    blocks = "--block", block | {"default": (8, 9), "help": "of a block; default 8 9"}
+    blocks = "--block", two(4096, "of a block; default 8 9", default=(8, 9))
+    run = (("--scene", {"metavar": "SCENE", "help": "the scene of the run, for its gas and its size"}), ("--gas", {"choices": drawing.GASES}),
+           ("--size", two(65536, "of the lattice")), ("--block", two(4096, "of a block")))
     look = (("--low", {"type": finite, "help": "the value of the first colour"}), ("--high", {"type": finite, "help": "and of the last"}),
             ("--smooth", {"type": number(0, 100), "default": 0, "metavar": "BLOCKS", "help": "width of a Gaussian that smooths, in blocks"}),
-            ("--dpi", {"type": whole(10, 1000), "default": 100, "help": "dots per inch; default 100, 700 across"}))
-    force = ("--force", {"type": number(-2, 2), "help": "momentum per fluid cell and generation"}), ("--flow", {
-        "type": number(-1, 1), "help": "mean velocity"}), ("--seed", {"type": whole(0, drawing.MOST_SEED), "default": 0, "help":
-        "of the particles that are turned; default 0"})
-    file, what = {"metavar": "FILE"}, {"choices": (*FIELDS, "particles")}
+            ("--dpi", {"type": whole(10, 1000), "default": 100, "help": "dots per inch; default 100"}))
+    force = (("--force", {"type": number(-2, 2), "help": "momentum per fluid cell and generation"}),
+             ("--flow", {"type": number(-1, 1), "help": "mean velocity"}),
+             ("--seed", {"type": whole(0, drawing.MOST_SEED), "default": 0, "help": "of the particles that are turned; default 0"}))
     draw.__doc__ = drawing.__doc__
     drawing.add_words(command(draw, "draw a scene"))
     command(explain, "say where and why a scene is refused", scene)
-    command(picture, "a figure of a scene, of cells or of a table, or of several", ("what", what), ("file", file),
+    command(picture, "a figure of a scene, of cells or of a table, or of several", ("what", what),
+            ("file", {"type": to_write(*FIGURES, *FILMS), "metavar": "FILE", "help": ", ".join(FIGURES + FILMS)}),
             ("sources", {"metavar": "SOURCE", "nargs": "+"}), *run, *look)
-    command(film, "run a scene and write a film: .gif, .webp, .apng, .mp4", scene, ("file", file), ("--every", step | {"required": True, "help":
-            "generations from frame to frame"}), ("--until", generations | {"required": True, "help": "generations in all"}), ("--what", what | {
-            "help": "default speed, or particles if the lattice is small"}), blocks, *look, ("--fps", {"type": number(0.1, 100), "default": 10,
-            "help": "frames per second; default 10"}), *force)
-    command(how_long, "say how long a run will take", scene, ("generations", generations), ("--stages", {"type": whole(1, 64)}), ("--capacity", {
-            "type": whole(1, 1024)}), ("--seconds", {"type": whole(1, 3600), "default": 2, "help": "the least that is timed; default 2"}))
+    command(film, "run a scene and write a film", scene, ("file", {"type": to_write(*FILMS), "metavar": "FILE", "help": ", ".join(FILMS)}),
+            ("--every", step | {"required": True, "help": "generations from frame to frame"}),
+            ("--until", generations | {"required": True, "help": "generations in all"}),
+            ("--what", what | {"help": "default speed, or particles if the lattice is small"}), blocks, *look,
+            ("--fps", {"type": number(0.1, 100), "default": 10, "help": "frames per second; default 10"}), *force)
+    command(how_long, "say how long a run will take", scene, ("generations", generations), ("--stages", {"type": whole(1, 64)}),
+            ("--capacity", {"type": whole(1, 1024)}), ("--seconds", {"type": whole(1, 3600), "default": 2, "help": "the least that is timed; default 2"}))
     command(resume, "print the scene that continues a run from printed cells", scene, ("cells", {"metavar": "CELLS"}))
-    command(long_run, "run in parts, each kept in a file; the same command continues an ended run", scene, ("generations", generations | {
-            "type": whole(0, 10**12)}), ("step", step), ("kept", {"metavar": "KEPT", "help": "the file, a scene"}))
+    command(long_run, "run in parts, each kept in a file; the same command continues an ended run", scene,
+            ("generations", generations | {"type": whole(0, 10**12)}), ("step", step), ("kept", {"metavar": "KEPT", "help": "the file, a scene"}))
     command(drive, "run a scene under a force or towards a mean flow", scene, ("generations", generations), ("every", step | {"metavar": "EVERY"}), *force)
     command(over_time, "tables every STEP generations up to LAST", scene, ("last", {"type": whole(0, 10**12), "metavar": "LAST"}), ("step", step), blocks)
     command(over_seeds, "the mean over seeds of a table, with standard errors", ("--seeds", {"type": whole(2, 10**6), "default": 8}),
-            ("--generations", generations | {"required": True}), blocks, ("scene", {"nargs": "?", "metavar": "SCENE", "help":
-            "an area without particles"}), ("--drawn", {"nargs": "...", "metavar": "WORD", "help":
-            "words of `draw` to the end of the line: the scene is drawn for each seed"}))
-    command(numbers, "Mach and Reynolds number of a flow, and the rest", ("--filling", {"type": number(1e-4, 0.9999)}), ("--speed", {
-            "type": number(0, 1)}), ("--table", {"metavar": "SOURCE", "help": "for its filling and mean speed"}), ("--length", {
-            "type": number(1e-3, 1e9), "required": True}), ("--chirality", {"choices": drawing.CHIRALITIES, "default": "seeded"}), *run)
+            ("--generations", generations | {"required": True}), blocks, ("scene", {"nargs": "?", "metavar": "SCENE", "help": "an area without particles"}),
+            ("--drawn", {"nargs": "...", "metavar": "WORD", "help": "words of `draw` to the end of the line: the scene is drawn for each seed"}))
+    command(numbers, "Mach and Reynolds number of a flow, and the rest", ("--filling", {"type": number(1e-4, 0.9999)}), ("--speed", {"type": number(0, 1)}),
+            ("--table", {"metavar": "SOURCE", "help": "for its filling and mean speed"}), ("--length", {"type": number(1e-3, 1e9), "required": True}),
+            ("--chirality", {"choices": drawing.CHIRALITIES, "default": "seeded"}), *run)
     return top
 
 
@@ -283,7 +294,9 @@ def main() -> None:
         try:
             asked.function(asked)
         except ModuleNotFoundError as missing:
-            raise Fault(f"the Python package {missing.name} is missing: apt install python3-{missing.name}, or pip install {missing.name}") from None
+            raise Fault(f"the Python package {missing.name} is missing (Debian: python3-{str(missing.name).lower()})") from None
+        except OSError as fault:
+            raise fault if isinstance(fault, BrokenPipeError) else Fault(f"{fault.filename or 'a file'}: {fault.strerror}") from None
 
 
 if __name__ == "__main__":

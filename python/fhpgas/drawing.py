@@ -81,12 +81,13 @@ def shape(asked: argparse.Namespace, size: tuple[int, int], seed: int) -> Any:
     from . import shapes
 
     if asked.shape == "bitmap":
-        return shapes.bitmap(size, asked.picture, asked.pixel, *asked.at, gas=asked.gas)
+        column, row = asked.at
+        return shapes.bitmap(size, asked.picture, asked.pixel, column, row, asked.gas)
     if asked.shape == "nozzle":
         return shapes.nozzle(size, asked.throat, asked.length)
     if asked.shape == "porous":
         return shapes.porous(size, asked.share, asked.radius, seed, asked.gas)
-    many = [shapes.disc(size, *disc, gas=asked.gas) for disc in asked.disc] if asked.shape == "discs" else []
+    many = [shapes.disc(size, x, y, radius, asked.gas) for x, y, radius in asked.disc] if asked.shape == "discs" else []
     for numbers in asked.polygon if asked.shape == "polygons" else ():
         if len(numbers) % 2:
             raise Usage(f"a polygon has corners of two numbers each, and these are {len(numbers)}")
