@@ -88,7 +88,9 @@ class Blocks:
         return dataclasses.replace(other, **{name: getattr(self, name) + getattr(other, name) for name in SUMS})
 
     def __radd__(self, other: Any) -> "Blocks":
-        return self if isinstance(other, int) and other == 0 else NotImplemented
+        if not isinstance(other, int) or other:
+            return NotImplemented
+        return self
 
     # -- fields
 
@@ -147,9 +149,8 @@ class Blocks:
     @property
     def edges(self) -> tuple[Array, Array]:
         """The edges of the blocks: x [columns + 1] eastwards, and y [rows + 1] northwards from the lower wall, from the top."""
-        shift = 0 if self.gas.is_square else 0.25  # odd rows lie half a cell to the east
         x, y = (np.minimum(np.arange(0, side + step, step), side) for side, step in zip(self.size, self.block))
-        return x - 0.5 + shift, (self.size[1] - y) * self.gas.row_distance
+        return x - 0.5 + self.gas.shift / 2, (self.size[1] - y) * self.gas.row_distance
 
     @property
     def positions(self) -> tuple[Array, Array]:
@@ -216,6 +217,7 @@ def read_table(text: str | bytes, gas: str | Gas, block: tuple[int, int], size: 
         table = np.loadtxt(io.BytesIO(body), np.int64).reshape(*shape, 6)
     except (ValueError, OverflowError):
         raise fault from None
-    if (table[..., :2] != np.stack(np.indices(shape)[::-1], -1)).any():
+    if (table[..., 1::-1] != np.moveaxis(np.indices(shape), 0, -1)).any():
         raise fault
-    return Blocks(*np.moveaxis(table[..., 2:], -1, 0), gas_named(gas), (width, height), (columns, rows), generation)
+    sums = dict(zip(SUMS, np.moveaxis(table[..., 2:], -1, 0)))
+    return Blocks(**sums, gas=gas_named(gas), block=(width, height), size=(columns, rows), generation=generation)

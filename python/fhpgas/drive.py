@@ -53,7 +53,7 @@ def _points(lattice: Lattice, generations: int, every: int, force: float | None,
         show_progress(f"{done} of {generations} generations")
         before = lattice.run(every, **plan) if done else lattice
         momentum = before.momentum[0]
-        wanted = (flow * before.particles - momentum) / 2 if force is None else force * every * before.fluid / 2
+        wanted = force * every * before.fluid / 2 if force is not None else ((flow or 0) * before.particles - momentum) / 2
         owed += wanted * shares
         numbers = np.rint(owed).astype(int)
         owed -= numbers

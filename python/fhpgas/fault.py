@@ -41,7 +41,8 @@ class Parser(argparse.ArgumentParser):
     """A reader of words whose refusals are Faults. It shows a module's docstring unchanged."""
 
     def __init__(self, *words: Any, **options: Any):
-        super().__init__(*words, formatter_class=argparse.RawDescriptionHelpFormatter, **options)
+        options.setdefault("formatter_class", argparse.RawDescriptionHelpFormatter)
+        super().__init__(*words, **options)
 
     def error(self, message: str) -> NoReturn:
         raise Usage(f"{message} (--help says more)")

@@ -5,7 +5,7 @@ of N_i must be b d, and the sum of N_i c_i must be b d u (b directions, filling 
 others, Complex Systems 1 (1987) 649).
 """
 import reprlib
-from collections.abc import Callable
+from collections.abc import Callable, Iterable
 from typing import Any
 
 import numpy as np
@@ -31,7 +31,7 @@ def positions(size: tuple[int, int], gas: str | Gas = "fhp1", rows: slice = slic
     the first cell, and Y [rows, 1] northwards from the lower wall. Row 0 is the top. With `rows` only these rows."""
     (columns, height), named = size_checked(size), gas_named(gas)
     y = np.arange(height)[rows, None]
-    return np.arange(columns) + (0 if named.is_square else 0.5) * (y % 2), (height - 0.5 - y) * named.row_distance
+    return np.arange(columns) + named.shift * (y % 2), (height - 0.5 - y) * named.row_distance
 
 
 def equilibrium(gas: str | Gas, filling: Any, east: Any = 0.0, north: Any = 0.0) -> Array:
@@ -68,7 +68,7 @@ def _impossible(gas: Gas, d: Array, u: Array, v: Array) -> Fault:
 def _solved(gas: Gas, d: Array, u: Array, v: Array) -> Array:
     """Newton's method for (h, q) of all cells, from their values at a small velocity, with steps of at most 2 so that it does not
     overshoot. Sums go direction by direction, without BLAS, so every machine rounds alike."""
-    wanted = [gas.directions * d * part for part in (1.0, u, v)]
+    wanted = gas.directions * d, gas.directions * d * u, gas.directions * d * v
     square, is_done = float((gas.velocities[:, 0] ** 2).mean()), False
     h, qx, qy = np.log(1 / d - 1), -u / square / (1 - d), -v / square / (1 - d)
     for _ in range(200):
@@ -95,10 +95,10 @@ def _divided(right: tuple[Array, Array, Array], a: Array, b: Array, c: Array, d:
     whole = a * minors[0] + b * minors[1] + c * minors[2]
     rows = minors, (minors[1], a * f - c * c, b * c - a * e), (minors[2], b * c - a * e, a * d - b * b)
     with np.errstate(divide="ignore", invalid="ignore"):
-        return np.stack([(p * right[0] + q * right[1] + r * right[2]) / whole for p, q, r in rows])
+        return np.stack([(row[0] * right[0] + row[1] * right[1] + row[2] * right[2]) / whole for row in rows])
 
 
-def drawn(gas: Gas, fields: tuple[Array, Array, Array], shape: tuple[int, int], seed: int, first: int = 0) -> Array:
+def drawn(gas: Gas, fields: Iterable[Array], shape: tuple[int, int], seed: int, first: int = 0) -> Array:
     """States (uint8) of a `shape` of rows and columns, drawn at random from the equilibrium of `fields`: filling, east and north, which
     numpy spreads over the shape. They are the rows from `first` on of a lattice.
 
@@ -108,13 +108,13 @@ def drawn(gas: Gas, fields: tuple[Array, Array, Array], shape: tuple[int, int], 
     """
     rows, columns = shape
     words = gas.directions * -(-columns // 4)
-    fields = tuple(np.reshape(field, (1,) * (2 - np.ndim(field)) + np.shape(field)) for field in fields)
-    is_profile, height = all(field.shape[1] == 1 for field in fields), max(1, CACHED // words)
-    chances = np.broadcast_to(equilibrium(gas, *fields), (gas.directions, rows, 1)) if is_profile else None
+    flat = [field.reshape((1,) * (2 - field.ndim) + field.shape) for field in fields]
+    is_profile, height = all(field.shape[1] == 1 for field in flat), max(1, CACHED // words)
+    chances = np.broadcast_to(equilibrium(gas, *flat), (gas.directions, rows, 1)) if is_profile else None
     source, states = np.random.PCG64(seed).advance(first * words), np.zeros(shape, np.uint8)
     for top in range(0, rows, height):
         part, strip = states[top : top + height], slice(top, top + height)
-        here = equilibrium(gas, *(field[strip] if len(field) > 1 else field for field in fields)) if chances is None else chances[:, strip]
+        here = equilibrium(gas, *(field[strip] if len(field) > 1 else field for field in flat)) if chances is None else chances[:, strip]
         limits = np.rint(65536 * here)
         limits = limits.astype(np.uint16 if limits.max() < 65536 else np.int32)
         lots = source.random_raw(len(part) * words).astype("<u8", copy=False).view("<u2").reshape(len(part), gas.directions, -1)

@@ -55,6 +55,11 @@ class Gas:
         """Whether the lattice is the square one."""
         return self.directions == 4
 
+    @property
+    def shift(self) -> float:
+        """How far odd rows lie to the east."""
+        return 0.0 if self.is_square else 0.5
+
     @functools.cache
     def collisions(self, side: str) -> Array:
         """The states [128] after a collision, with head-on pairs that turn to this side, "left" or "right"."""

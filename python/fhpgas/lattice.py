@@ -118,9 +118,9 @@ class Lattice:
 
     def blocks(self, width: int = 8, height: int = 9) -> Blocks:
         """Sums over blocks of so many columns and rows. Blocks of 8 x 9 cells of the triangular lattice are nearly square."""
-        sums = block_sums(self.states, np.stack([self.gas.number, self.gas.px, self.gas.py]), width, height)
-        fluid = block_sums(self.solid.view(np.uint8), np.array([[1, 0]]), width, height)
-        return Blocks(*fluid, *sums, self.gas, (width, height), self.size, self.generation)
+        (fluid,) = block_sums(self.solid.view(np.uint8), np.array([[1, 0]]), width, height)
+        particles, px, py = block_sums(self.states, np.stack([self.gas.number, self.gas.px, self.gas.py]), width, height)
+        return Blocks(fluid, particles, px, py, self.gas, (width, height), self.size, self.generation)
 
     def __eq__(self, other: object) -> bool:
         return isinstance(other, Lattice) and self._kept() == other._kept() and np.array_equal(self.states, other.states) and np.array_equal(
@@ -321,20 +321,29 @@ def gas(filling: fields.Field, east: fields.Field = 0.0, north: fields.Field = 0
     may be left out if one of these has it.
     """
     named, solid = gas_named(gas), None if solid is None else np.asarray(solid, bool)
-    known = dict(filling=filling, east=east, north=north)
-    shapes = [np.shape(field) for field in (*known.values(), solid) if field is not None and not callable(field)]
-    try:
-        shape = np.broadcast_shapes(*shapes, *([fields.size_checked(size)[::-1]] if size is not None else []))
-    except ValueError as fault:
-        raise fault if isinstance(fault, Fault) else Fault(f"fields, solid cells and size do not fit: {shapes}, size {size}") from None
-    if size is None and (len(shape) != 2 or any(map(callable, known.values())) and solid is None):
-        raise Fault("the size is not known: gas(.., size=(columns, rows))")
-    if size is not None and shape != tuple(size)[::-1] or solid is not None and solid.shape != shape:
-        raise Fault(f"fields and solid cells are for {shape[1]} columns and {shape[0]} rows, and not all of this size")
-    places = fields.positions(shape[::-1], named) if any(map(callable, known.values())) else ()
-    values = tuple(fields.numbers_of(name, field(*places) if callable(field) else field) for name, field in known.items())
-    states = fields.drawn(named, values, shape, integer("a seed", seed, 0, MOST_SEED))
+    known = {"filling": filling, "east": east, "north": north}
+    rows, columns = _shape_of(size, solid, [np.shape(field) for field in known.values() if not callable(field)])
+    places = fields.positions((columns, rows), named) if any(map(callable, known.values())) else ()
+    values = [fields.numbers_of(name, field(*places) if callable(field) else field) for name, field in known.items()]
+    for name, value in zip((*known, "solid"), (*values, *([] if solid is None else [solid]))):
+        if value.ndim > 2 or any(have not in (1, want) for have, want in zip(value.shape[::-1], (columns, rows))):
+            raise Fault(f"the field `{name}` has the shape {value.shape}, and the lattice {rows} rows and {columns} columns")
+    states = fields.drawn(named, values, (rows, columns), integer("a seed", seed, 0, MOST_SEED))
     return Lattice(states if solid is None else np.where(solid, np.uint8(0), states), solid, named, chirality, seed)
+
+
+def _shape_of(size: tuple[int, int] | None, solid: Array | None, shapes: list[tuple[int, ...]]) -> tuple[int, int]:
+    """The rows and columns of a gas: of its size, of its solid cells, or of fields that have both."""
+    if size is not None:
+        columns, rows = fields.size_checked(size)
+        return rows, columns
+    try:
+        shape = np.broadcast_shapes(*shapes) if solid is None else solid.shape
+    except ValueError:
+        raise Fault(f"the fields have the shapes {', '.join(map(str, shapes))}, which do not fit together") from None
+    if len(shape) != 2 or solid is None and 1 in shape:
+        raise Fault("the size is not known: gas(.., size=(columns, rows))")
+    return shape[0], shape[1]
 
 
 def _coarse(text: bytes, rows: int, generations: int, width: int, height: int, plan: dict[str, Any]) -> bytes:

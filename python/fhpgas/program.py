@@ -99,10 +99,10 @@ def check(scene: Scene) -> Summary:
 
 
 def plan(rows: int, generations: int, cores: int | None = None) -> tuple[int, int]:
-    """Good numbers of stages and rows per belt (docs/PERFORMANCE.md): four workers per core, at most one per 16 rows or per generation, and
-    a single worker if other runs keep the other cores busy. `cores` are by default those that this process may use."""
+    """Good numbers of stages and rows per belt (docs/PERFORMANCE.md): four workers per core, at most one per 16 rows or per generation.
+    `cores` are by default those that this process may use, in a run of `side_by_side` its share of them."""
     cores = cores or _cores or len(os.sched_getaffinity(0))
-    return 1 if cores == 1 else max(1, min(4 * cores, rows // 16, generations, MOST_STAGES)), CAPACITY
+    return max(1, min(4 * cores, rows // 16, generations, MOST_STAGES)), CAPACITY
 
 
 def planned(rows: int, generations: int, stages: int | None = None, capacity: int | None = None) -> tuple[object, ...]:

@@ -8,6 +8,7 @@ import math
 import re
 import tomllib
 from collections.abc import Iterable, Iterator
+from typing import Any
 
 STATES = {"fhp1": 64, "hpp": 16, "fhp-rest": 128}
 CHIRALITIES = ("seeded", "left", "right")
@@ -69,6 +70,9 @@ def document(text: bytes) -> dict:
         table = tomllib.loads(letters, parse_float=finite)
     except tomllib.TOMLDecodeError as fault:
         raise Refused(SYNTAX, [((), sentence(str(fault), letters))], unsure=bool(NEWER.search(letters))) from None
+    except ValueError:  # Python reads integers of up to 4300 digits
+        line = next(k for k, line in enumerate(letters.split("\n"), start=1) if re.search(r"[\d_]{4300}", line))
+        raise Refused(SYNTAX, [((), f"line {line}: an integer of thousands of digits is no integer of 64 bits")]) from None
     except RecursionError:
         raise Refused(SYNTAX, [((), f"lists, tables or keys are nested more than {DEEPEST} deep")]) from None
     if reasons := list(beyond(table)):
@@ -83,7 +87,7 @@ def finite(word: str) -> float:
     return float(word)
 
 
-def beyond(value, path: tuple = (), deep: int = 0) -> Reasons:
+def beyond(value: Any, path: tuple = (), deep: int = 0) -> Reasons:
     """What Python's reader takes and the program does not: integers of more than 64 bits, and what is nested too deep."""
     if deep > DEEPEST:
         yield path[:1], f"lists, tables or keys are nested more than {DEEPEST} deep"
@@ -91,7 +95,7 @@ def beyond(value, path: tuple = (), deep: int = 0) -> Reasons:
         for key, entry in value.items() if type(value) is dict else enumerate(value):
             yield from beyond(entry, (*path, key), deep + (type(entry) in (dict, list)))
     elif type(value) is int and not -(2**63) <= value < 2**63:
-        yield path, f"{value} is no integer of 64 bits"
+        yield path, f"{value if value.bit_length() < 200 else f'one of {value.bit_length()} bits'} is no integer of 64 bits"
 
 
 def sentence(message: str, text: str) -> str:
@@ -116,7 +120,7 @@ def sentence(message: str, text: str) -> str:
 def faults(table: dict) -> list[tuple[str, list]]:
     """The lines that refuse a scene with their reasons, in order. Before a further check what is at fault is mended if it is a misspelt
     word, and else left out."""
-    table, found = dict(table), {}
+    table, found = dict(table), dict[str, list]()
     for line, check in CHECKS:
         for path, why in list(check(table)):
             found.setdefault(line, []).append((path, why))
@@ -129,7 +133,7 @@ def mend(table: dict, key: str | None = None) -> None:
     value, near = table.pop(key, None), closest(key or "", KEYS)
     if near and near not in table and near != key:
         table[near] = value
-    known = {"gas": STATES, "chirality": CHIRALITIES}.get(key)
+    known: Iterable[str] | None = {"gas": STATES, "chirality": CHIRALITIES}.get(key or "")
     if known and type(value) is str and closest(value, known):
         table[key] = closest(value, known)
 
@@ -153,18 +157,18 @@ def nearest(word: str, known: Iterable[str]) -> str:
     return f"there {'is none here, only' if is_published else 'are'} " + ", ".join(f"`{name}`" for name in known)
 
 
-def shown(value) -> str:
+def shown(value: Any) -> str:
     """A value in one line, cut if it is long."""
     text = json.dumps(value, ensure_ascii=False, default=str)
     text = "".join(letter if letter.isprintable() else f"\\u{ord(letter):04x}" for letter in text)
     return text if len(text) <= 60 else text[:57] + ".."
 
 
-def type_of(value) -> str:
+def type_of(value: Any) -> str:
     return TYPES.get(type(value), "a date or a time")
 
 
-def is_tuple(value, count: int) -> bool:
+def is_tuple(value: Any, count: int) -> bool:
     return type(value) is list and len(value) == count and all(type(entry) is int for entry in value)
 
 
@@ -233,7 +237,7 @@ def misplaced(table: dict) -> Reasons:
     """The rectangles that are empty or leave the area, and the particles outside it, in a rectangle, or with a state that the gas lacks."""
     if "width" not in table or "height" not in table:
         return
-    width, height, solid, states = table["width"], table["height"], table.get("solid", []), STATES.get(table.get("gas"), 256)
+    width, height, solid, states = table["width"], table["height"], table.get("solid", []), STATES.get(table.get("gas", ""), 256)
     area = f"the area of columns 0 to {width - 1} and rows 0 to {height - 1}"
     for place, (x, y, w, h) in enumerate(solid):
         if w < 1 or h < 1:
@@ -277,10 +281,11 @@ def row_faults(table: dict) -> Iterator[tuple[str, list]]:
             yield f"scene: row {number} has a wrong length", [(("cells", number), why)]
         else:
             whole.append(number)
-    gas = table.get("gas")
+    gas = table.get("gas", "")
     cell = re.compile(rb"(?:\.\.|##|[0-%d][0-9a-f])*" % (STATES.get(gas, 16) // 16 - 1))
     for number in whole if gas in STATES else ():
-        length = cell.match(rows[number]).end()  # up to the first pair that is not a cell
+        found = cell.match(rows[number])
+        length = found.end() if found else 0  # up to the first pair that is not a cell
         if length + 1 < len(rows[number]):
             why = cell_fault(rows[number][length : length + 2], gas)
             yield f"scene: row {number} cell {length // 2} is not a cell", [(("cells", number, length // 2), why)]

@@ -26,7 +26,7 @@ def explained(text: bytes) -> list[tuple[str, list[str]]]:
 
 def explanation(text: bytes) -> str:
     """What is printed for the bytes of a scene: the line that refuses it and its reasons, and then what else is wrong."""
-    lines = []
+    lines: list[str] = []
     for line, reasons in explained(text):
         lines += [f"and then: {line}" if lines else line, *(f"  {reason}" for reason in reasons[:MOST_REASONS])]
         lines += [f"  and {len(reasons) - MOST_REASONS} more of the kind"] if len(reasons) > MOST_REASONS else []

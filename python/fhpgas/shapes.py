@@ -30,8 +30,7 @@ def _round(radius: float, parity: int, is_square: bool) -> tuple[Array, Array]:
     """The columns and rows of the cells of a disc, from its middle in a row of this parity. Four times the square of a distance is an
     integer on both lattices, so nothing is rounded."""
     y, x = np.ogrid[-int(1.2 * radius) - 1 : int(1.2 * radius) + 2, -int(radius) - 1 : int(radius) + 2]
-    shift = 0 if is_square else (y + parity) % 2 - parity
-    square = (2 * x + shift) ** 2 + (4 if is_square else 3) * y**2
+    square = (2 * x + (not is_square) * ((y + parity) % 2 - parity)) ** 2 + (4 if is_square else 3) * y**2
     down, across = np.nonzero(square <= 4 * radius**2 * (1 + 1e-12))
     return across - int(radius) - 1, down - int(1.2 * radius) - 1
 
@@ -47,13 +46,11 @@ def polygon(size: tuple[int, int], corners: Iterable[Sequence[float]], gas: str 
     first cell. It continues past the last column and is cut at the walls. Of a polygon that crosses itself, what lies inside an odd number
     of times. A cell on an upper or left edge belongs to it, on a lower or right edge not."""
     (columns, rows), named = size_checked(size), gas_named(gas)
-    corners = np.array([[real("a corner of a polygon", part) for part in corner] for corner in _listed(corners)])
-    if corners.ndim != 2 or corners.shape[0] < 3 or corners.shape[1] != 2:
-        raise Fault(f"a polygon has three corners (column, row) or more, not {reprlib.repr(corners.tolist())}")
-    left, right = math.floor(corners[:, 0].min()) - 1, math.ceil(corners[:, 0].max()) + 1
+    places_of = np.array(_pairs(corners))
+    left, right = math.floor(places_of[:, 0].min()) - 1, math.ceil(places_of[:, 0].max()) + 1
     y, x = np.ogrid[:rows, left : right + 1]
-    places, inside = x + (0 if named.is_square else 0.5) * (y % 2), np.zeros((rows, right + 1 - left), bool)
-    for (x0, y0), (x1, y1) in zip(corners, np.roll(corners, -1, 0)):
+    places, inside = x + named.shift * (y % 2), np.zeros((rows, right + 1 - left), bool)
+    for (x0, y0), (x1, y1) in zip(places_of, np.roll(places_of, -1, 0)):
         if y0 != y1:
             inside ^= ((y0 <= y) != (y1 <= y)) & (places >= x0 + (y - y0) * (x1 - x0) / (y1 - y0))
     solid, (down, across) = np.zeros((rows, columns), bool), np.nonzero(inside)
@@ -61,11 +58,18 @@ def polygon(size: tuple[int, int], corners: Iterable[Sequence[float]], gas: str 
     return solid
 
 
-def _listed(corners: Iterable[Sequence[float]]) -> list[Sequence[float]]:
+def _pairs(corners: Iterable[Sequence[float]]) -> list[tuple[float, float]]:
     try:
-        return [tuple(corner) for corner in corners]
+        found = [(real("a corner's column", column), real("a corner's row", row)) for column, row in corners]
     except TypeError:
-        raise Fault(f"the corners of a polygon are pairs (column, row), not {reprlib.repr(corners)}") from None
+        found = []
+    except ValueError as fault:
+        if isinstance(fault, Fault):
+            raise
+        found = []
+    if len(found) < 3:
+        raise Fault(f"a polygon has three corners (column, row) or more, not {reprlib.repr(corners)}")
+    return found
 
 
 def nozzle(size: tuple[int, int], throat: int, length: int) -> Array:
@@ -95,7 +99,7 @@ def bitmap(size: tuple[int, int], picture: Any, pixel: float = 1.0, column: int 
     (columns, rows), named = size_checked(size), gas_named(gas)
     dark, pixel = _dark(picture), real("the width of a pixel", pixel, 1e-9)
     y, x = np.ogrid[:rows, :columns]
-    right = np.floor((x - column + (0 if named.is_square else 0.5) * (y % 2)) / pixel + 1e-9).astype(int)
+    right = np.floor((x - column + named.shift * (y % 2)) / pixel + 1e-9).astype(int)
     down = np.floor((y - row + 0.5) * named.row_distance / pixel).astype(int)
     wide, tall = math.ceil(pixel * dark.shape[1] - 1e-9), math.ceil(pixel * len(dark) / named.row_distance - 0.5 - 1e-9)
     check_inside("the picture", (column, row, wide, tall), (columns, rows))
