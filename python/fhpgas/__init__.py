@@ -25,13 +25,18 @@ __version__ = "1.1.0"
 __all__ = ["Fault", "Summary", "check", "explain", "plan", "side_by_side", "with_seed"]
 
 if importlib.util.find_spec("numpy"):
-    from . import shapes
+    from . import boltzmann, shapes, theory
     from .blocks import Blocks, read_table
     from .drive import Point, driven
     from .fields import equilibrium, positions
     from .gases import GASES, Gas, gas_named
     from .lattice import Lattice, coarse, gas, read_cells, run
+    from .observe import flux, forces, staggered
+    from .pictures import film, plot, strip
     from .shapes import bitmap, disc, nozzle, polygon, porous
+    from .statistics import average, mean
+    from .theory import Numbers, numbers
 
-    __all__ += ["Blocks", "GASES", "Gas", "Lattice", "Point", "bitmap", "coarse", "disc", "driven", "equilibrium", "gas", "gas_named",
-                "nozzle", "polygon", "porous", "positions", "read_cells", "read_table", "run", "shapes"]
+    __all__ += ["Blocks", "GASES", "Gas", "Lattice", "Numbers", "Point", "average", "bitmap", "boltzmann", "coarse", "disc", "driven",
+                "equilibrium", "film", "flux", "forces", "gas", "gas_named", "mean", "nozzle", "numbers", "plot", "polygon", "porous",
+                "positions", "read_cells", "read_table", "run", "shapes", "staggered", "strip", "theory"]

@@ -72,7 +72,7 @@ def within(kind: Callable[[str], float], least: float, most: float) -> Callable[
         with contextlib.suppress(ValueError, OverflowError):
             if least <= kind(word) <= most:
                 return kind(word)
-        raise argparse.ArgumentTypeError(f"{word} is no {kind.__name__} from {least:g} to {most:g}")
+        raise argparse.ArgumentTypeError(f"{word} is no {'integer' if kind is int else 'number'} from {least} to {most}")
 
     return number
 

@@ -54,7 +54,7 @@ def with_seed(scene: Scene, seed: int) -> str:
     keys = keys_of(text, with_cells=True)
     for key in ("cells", "particles"):
         if keys.get(key):
-            raise Fault(f"another seed would leave `{key}` as they are: draw the scene again, as `fhpgas.draw` and `fhpgas.gas` do with a seed")
+            raise Fault(f"another seed would leave `{key}` as they are: draw the scene again, by `fhpgas.gas(.., seed=..)` or `over-seeds --drawn`")
     if not keys.get("rate"):
         raise Fault("another seed would change nothing: `rate` is 0, so nothing is filled at random")
     return text_of(keys | {"seed": integer("a seed", seed, 0, MOST_SEED)})
