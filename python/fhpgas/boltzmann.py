@@ -1,14 +1,13 @@
 """Boltzmann's equation for the gases, solved without noise: what theory says of a flow if correlations between particles are left out.
 
     flow = boltzmann.Flow("fhp1", np.zeros((64, 1)))     # solid [y, x]: 64 rows, and nothing varies along x
-    chances = flow.at(0.2, 0.1)                           # filling and velocity, at equilibrium
-    for _ in range(400):
-        chances = flow.step(chances)
-    east, north = flow.velocity(chances)                  # [y, x]
+    for chances in flow.every(flow.at(0.2, 0.1), 100, 4):  # from a filling and a velocity, at equilibrium
+        east, north = flow.velocity(chances)              # [y, x]
 
 `chances` [direction, y, x] are the chances that the directions of a cell contain a particle. Walls, obstacles and collisions are the
 program's. Lengths are in cells' widths, times in generations. The equation is that of U. Frisch and others, Complex Systems 1 (1987) 649.
 """
+from collections.abc import Iterator
 from typing import Any
 
 import numpy as np
@@ -19,8 +18,8 @@ from .gases import SIDES, Array, Gas, chirality_named, gas_named
 
 
 class Flow:
-    """A channel of a gas with cells `solid` [y, x] (row 0 at the top), periodic in x, between walls above and below. Without these walls it
-    is periodic in y too, unlike the program's channels, and its rows must be even."""
+    """A channel of a gas with cells `solid` [y, x] (row 0 at the top), periodic in x, between walls above and below. Without these walls
+    it is periodic in y too, unlike the program's channels, and its rows must be even."""
 
     def __init__(self, gas: str | Gas, solid: Any, chirality: str = "seeded", has_walls: bool = True):
         self.gas, self.solid = gas_named(gas), np.asarray(solid).astype(bool)
@@ -34,8 +33,8 @@ class Flow:
         self._full, self._change, self._sources = bits[collide] > 0, change[collide], self._streaming(has_walls)
 
     def _streaming(self, has_walls: bool) -> Array:
-        """Where, in all chances one after the other, the chance of a direction of a cell streams from: the neighbour, or if that is solid the
-        opposite direction of the cell itself."""
+        """Where, in all chances one after the other, the chance of a direction of a cell streams from: the neighbour, or if that is solid
+        the opposite direction of the cell itself."""
         rows, columns = self.solid.shape
         i, y, x = np.indices((self.gas.directions, rows, columns))
         back = self.gas.opposite[i]
@@ -63,6 +62,22 @@ class Flow:
         """The chances one generation later."""
         return self.collided(chances).ravel()[self._sources]
 
+    def every(self, chances: Array, step: int, count: int) -> Iterator[Array]:
+        """Yields these chances, and then `count` times the chances `step` generations later, as `Lattice.every` does."""
+        yield chances
+        for _ in range(count):
+            for _ in range(step):
+                chances = self.step(chances)
+            yield chances
+
+    def driven(self, chances: Array, count: int, every: int, force: float) -> Iterator[tuple[Array, Array]]:
+        """Yields the chances before and after a force acts that adds up to `force` per fluid cell and generation: at the start, and then
+        `count` times after every `every` generations, as `fhpgas.driven` does."""
+        for _ in range(count + 1):
+            kicked = self.forced(chances, every * force)
+            yield chances, kicked
+            *_, chances = self.every(kicked, every, 1)
+
     def forced(self, chances: Array, force: float) -> Array:
         """The chances after a force that adds this momentum eastwards to every fluid cell, from west to east as `fhpgas.driven` does."""
         after = chances.copy()
@@ -81,4 +96,4 @@ class Flow:
     def velocity(self, chances: Array) -> Array:
         """The mean velocity eastwards and northwards [2, y, x] of the particles, nan where a cell is solid or empty."""
         with np.errstate(invalid="ignore"):
-            return self.momentum(chances) / self.density(chances)
+            return np.asarray(self.momentum(chances) / self.density(chances))

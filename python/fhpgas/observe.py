@@ -1,5 +1,5 @@
-"""Observables of lattices: forces on walls and obstacles, staggered momenta, and the flux of momentum. Momenta are in units of a particle of
-speed 1."""
+"""Observables of lattices: forces on walls and obstacles, staggered momenta, and the flux of momentum. Momenta are in units of a particle
+of speed 1."""
 from __future__ import annotations
 
 from typing import TYPE_CHECKING, Any

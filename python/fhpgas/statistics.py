@@ -5,6 +5,7 @@ from typing import Any
 import numpy as np
 
 from .fault import Fault, integer
+from .gases import Array
 
 
 def mean(values: Iterable[Any]) -> tuple[Any, Any]:
@@ -29,8 +30,8 @@ def average(values: Iterable[Any], least: int = 16) -> tuple[float, float]:
     return float(middle), float(max(errors))
 
 
-def _floats(values: Iterable[Any]) -> np.ndarray[Any, np.dtype[Any]]:
+def _floats(values: Iterable[Any]) -> Array:
     try:
-        return np.atleast_1d(np.array([*values], float))
+        return np.atleast_1d(np.asarray([*values], float))
     except (TypeError, ValueError):
         raise Fault("the mean is of numbers, or of arrays of one shape") from None

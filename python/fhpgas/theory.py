@@ -20,8 +20,8 @@ def sound_speed(gas: str | Gas) -> float:
 
 
 def galilean_factor(gas: str | Gas, filling: Any, wind: float = 0.0) -> Any:
-    """The factor g by which u.grad u is multiplied in the momentum equation: (1 - 2d) / (2 (1 - d)), and 7/6 of it in `fhp-rest`. With a wind
-    (up to 1), for which these formulas are no longer exact, g is the factor by which the wind carries a slow flow across it, from the
+    """The factor g by which u.grad u is multiplied in the momentum equation: (1 - 2d) / (2 (1 - d)), and 7/6 of it in `fhp-rest`. With a
+    wind (-1 to 1), for which these formulas are not exact, g is the factor by which the wind carries a slow flow across it, from the
     equilibrium of Fermi and Dirac: momentum flux xy / (density wind v)."""
     named, d = isotropic(gas), checked(filling)
     if not wind:
@@ -48,8 +48,8 @@ def checked(filling: Any) -> Array:
 
 
 def relaxed(gas: str | Gas, filling: Any, chirality: str, mode: Array) -> Any:
-    """The share of a mode [b] that collisions undo in a generation, in the Boltzmann equation linearized about equal filling: the eigenvalue
-    of the collision operator, of which the mode must be an eigenvector."""
+    """The share of a mode [b] that collisions undo in a generation, in the Boltzmann equation linearized about equal filling: the
+    eigenvalue of the collision operator, of which the mode must be an eigenvector."""
     named, d, sides = gas_named(gas), checked(filling)[..., None, None], SIDES[chirality_named(chirality)]
     bits = named.bits[: 1 << named.directions].astype(float)
     chance, slopes = np.where(bits, d, 1 - d).prod(-1), np.where(bits, 1 / d, -1 / (1 - d)) @ mode
@@ -101,8 +101,8 @@ def noise(gas: str | Gas, filling: Any, cells: Any) -> Any:
 
 
 class Numbers(NamedTuple):
-    """The numbers of a flow: `mach` is speed / sound speed, `reynolds` g speed length / viscosity, `viscous_time` length^2 / viscosity, and
-    `turnover_time` length / (g speed), because a flow is carried by g times its velocity. At d = 1/2 nothing is carried: the last is inf."""
+    """The numbers of a flow: `mach` is speed / sound speed, `reynolds` g speed length / viscosity, `viscous_time` length^2 / viscosity,
+    and `turnover_time` length / (g speed), because a flow is carried by g times its velocity. If nothing is carried (d = 1/2) it is inf."""
 
     sound_speed: float
     galilean_factor: float
