@@ -1,5 +1,5 @@
 """What the scripts of this folder need. If it is missing, a script says so in one line and ends with 2. They may import the package in
-python/. A script that imports this module continues in the system's Python if only that has numpy."""
+python/. A script that imports this module continues in the system's Python if only that has the libraries which the package wants."""
 
 import importlib.util
 import os
@@ -10,6 +10,7 @@ import sys
 
 ROOT = pathlib.Path(__file__).resolve().parent.parent
 SYSTEM = "/usr/bin/python3"  # to which Debian's python3-numpy belongs
+LIBRARIES = {"numpy": "numpy", "scipy": "scipy", "matplotlib": "matplotlib", "PIL": "pil"}  # with the end of the name of Debian's package
 sys.path.append(str(ROOT / "python"))
 
 
@@ -40,16 +41,17 @@ def compiled(source, made, *words):
     subprocess.run(["cc", "-Wall", "-o", made, ROOT / source, *words], check=True)
 
 
-def left_out(count):
-    """What a script adds to its counts if parts of it need numpy and it is missing."""
-    return f", {count} left out, because numpy is missing: apt-get install python3-numpy" if count else ""
+def libraries(**more):
+    """Stops a script if Python lacks a library that the package wants, or one of these too."""
+    missing = [f"python3-{package}" for name, package in (LIBRARIES | more).items() if not importlib.util.find_spec(name)]
+    if missing:
+        stop(f"Python lacks libraries: apt-get install {' '.join(missing)}")
 
 
-if not importlib.util.find_spec("numpy") and sys.executable != SYSTEM:
-    asks = "import numpy, sys; sys.exit(sys.version_info < (3, 11))"
+if not all(map(importlib.util.find_spec, LIBRARIES)) and sys.executable != SYSTEM:
+    asks = f"import {', '.join(LIBRARIES)}, sys; sys.exit(sys.version_info < (3, 11))"
     if os.path.exists(SYSTEM) and subprocess.run([SYSTEM, "-c", asks], stderr=subprocess.DEVNULL).returncode == 0:
         os.environ["PATH"] = f"{os.path.dirname(SYSTEM)}:{os.environ['PATH']}"  # for the `python3` of commands
         os.execv(SYSTEM, [SYSTEM, *sys.argv])
-HAS_NUMPY = importlib.util.find_spec("numpy") is not None
 if sys.version_info < (3, 11):
     stop("this Python is too old: run it by Python 3.11 or later")

@@ -183,8 +183,8 @@ def drive(asked: argparse.Namespace) -> None:
     if (asked.flow is None) == (asked.force is None):
         raise Usage("a flow is driven either by a force or towards a mean flow: --force or --flow")
     points = lattice(asked.scene).driven(asked.generations, asked.every, force=asked.force, flow=asked.flow, seed=asked.seed)
-    print("generation    velocity       force")
-    for point in points:
+    for done, point in enumerate(points):
+        print("generation    velocity       force\n" * (done == 0), end="")
         print(f"{point.before.generation:10} {point.velocity:11.5f} {point.force:11.3g}", flush=True)
 
 
@@ -287,10 +287,10 @@ def reader(name: str) -> Parser:
     return top
 
 
-def main() -> None:
+def main(words: list[str] | None = None) -> None:
     name = pathlib.Path(sys.argv[0]).name
     with one_line_faults("fhpgas-tools"):
-        asked = reader("python3 -m fhpgas" if name == "__main__.py" else name).parse_args()
+        asked = reader("python3 -m fhpgas" if name == "__main__.py" else name).parse_args(words)
         try:
             asked.function(asked)
         except ModuleNotFoundError as missing:
