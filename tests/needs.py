@@ -51,7 +51,7 @@ def libraries(**more):
 if not all(map(importlib.util.find_spec, LIBRARIES)) and sys.executable != SYSTEM:
     asks = f"import {', '.join(LIBRARIES)}, sys; sys.exit(sys.version_info < (3, 11))"
     if os.path.exists(SYSTEM) and subprocess.run([SYSTEM, "-c", asks], stderr=subprocess.DEVNULL).returncode == 0:
-        os.environ["PATH"] = f"{os.path.dirname(SYSTEM)}:{os.environ['PATH']}"  # for the `python3` of commands
         os.execv(SYSTEM, [SYSTEM, *sys.argv])
+os.environ["PATH"] = f"{os.path.dirname(sys.executable)}:{os.environ['PATH']}"  # for the `python3` of commands
 if sys.version_info < (3, 11):
     stop("this Python is too old: run it by Python 3.11 or later")

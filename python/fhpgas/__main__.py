@@ -211,6 +211,12 @@ def over_seeds(asked: argparse.Namespace) -> None:
         print(f"{column:5} {row:5} {fluid[row, column]:8.1f}{shown}")
 
 
+def live(asked: argparse.Namespace) -> None:
+    from .live import serve
+
+    serve(text(asked.scene) if asked.scene else None, asked.port, not asked.no_browser)
+
+
 def numbers(asked: argparse.Namespace) -> None:
     from . import theory
     from .blocks import Blocks
@@ -271,6 +277,8 @@ def reader(name: str) -> Parser:
             ("--until", generations | {"required": True, "help": "generations in all"}),
             ("--what", what | {"help": "default speed, or particles if the lattice is small"}), blocks, *look,
             ("--fps", {"type": number(0.1, 100), "default": 10, "help": "frames per second; default 10"}), *force)
+    command(live, "show a gas that moves on a page of the browser", ("scene", {"metavar": "SCENE", "nargs": "?"}),
+            ("--port", {"type": whole(0, 65535), "default": 0, "help": "default any that is free"}), ("--no-browser", {"action": "store_true"}))
     command(how_long, "say how long a run will take", scene, ("generations", generations), ("--stages", {"type": whole(1, 64)}),
             ("--capacity", {"type": whole(1, 1024)}), ("--seconds", {"type": whole(1, 3600), "default": 2, "help": "the least that is timed; default 2"}))
     command(resume, "print the scene that continues a run from printed cells", scene, ("cells", {"metavar": "CELLS"}))
