@@ -40,3 +40,7 @@ if importlib.util.find_spec("numpy"):
     __all__ += ["Blocks", "GASES", "Gas", "Lattice", "Numbers", "Point", "average", "bitmap", "boltzmann", "coarse", "disc", "driven",
                 "equilibrium", "film", "flux", "forces", "gas", "gas_named", "mean", "nozzle", "numbers", "plot", "polygon", "porous",
                 "positions", "read_cells", "read_table", "run", "shapes", "staggered", "strip", "theory"]
+else:
+
+    def __getattr__(name: str) -> object:
+        raise AttributeError(f"fhpgas.{name} needs numpy, and this Python has none (Debian: python3-numpy)")
