@@ -17,8 +17,8 @@ LANE = 21  # bits of a sum over a column of a block: at most 65536 rows of a wei
 
 
 def block_sums(states: Array, weights: Array, width: int, height: int) -> Array:
-    """The sums [k, row, column] over blocks of `width` x `height` cells of the weights [k, state], at most 31 apart, of their cells' states.
-    Columns of blocks are summed first, with three weights at a time in the lanes of an integer of 64 bits."""
+    """The sums [k, row, column] over blocks of `width` x `height` cells of the weights [k, state], at most 31 apart, of their states. The
+    rows of a block are added first, with three weights at a time in the lanes of an integer of 64 bits."""
     width, height = integer("the width of a block", width, 1), integer("the height of a block", height, 1)
     tops, lefts, found = np.arange(0, len(states), height), np.arange(0, states.shape[1], width), []
     rows, strip = np.diff(tops, append=len(states))[:, None], max(1, CACHED // (height * states.shape[1]))
@@ -37,8 +37,8 @@ def block_sums(states: Array, weights: Array, width: int, height: int) -> Array:
 
 @dataclasses.dataclass(frozen=True, eq=False, repr=False)
 class Blocks:
-    """Sums over blocks of cells as read-only arrays [row, column], row 0 at the top: the numbers of `fluid` cells and of `particles`, and the
-    momenta eastwards and northwards, `px` and `py`, in the gas's units, as `fhpgas coarse` prints them.
+    """Sums over blocks of cells as read-only arrays [row, column], row 0 at the top: the numbers of `fluid` cells and of `particles`, and
+    the momenta eastwards and northwards, `px` and `py`, in the gas's units, as `fhpgas coarse` prints them.
 
     `block` is the columns and rows of a block. Blocks at the right and at the bottom may be smaller. `size` is the columns and rows of the
     lattice, `generation` its generation. The fields are arrays of floats: nan in solid blocks, and velocities also in empty ones.
@@ -59,7 +59,8 @@ class Blocks:
         if any(array.shape != shape or array.dtype.kind not in "iuf" for array in sums.values()):
             raise Fault(f"{columns} x {rows} cells have {shape[1]} x {shape[0]} blocks of {width} x {height}, and the sums are arrays"
                         f" [row, column] of {', '.join(str(array.shape) for array in sums.values())}")
-        self.__dict__.update({name: read_only(array) for name, array in sums.items()}, gas=gas_named(self.gas), block=(width, height), size=(columns, rows))
+        sums = {name: read_only(array) for name, array in sums.items()}
+        self.__dict__.update(sums, gas=gas_named(self.gas), block=(width, height), size=(columns, rows))
 
     def __reduce__(self) -> tuple[Any, ...]:
         return Blocks, tuple(getattr(self, field.name) for field in dataclasses.fields(self))
@@ -126,9 +127,9 @@ class Blocks:
 
     @functools.cached_property
     def pressure(self) -> Array:
-        """The pressure per cell at equilibrium, to second order in the speed u: c^2 density (1 - k g u^2), where c is the speed of sound, k is
-        1 in `fhp1` and 5/6 in `fhp-rest`, and g = (b/12) (1 - 2d) / (1 - d) at the filling d (docs/PHYSICS.md). Per area divide by the rows'
-        distance. In `hpp`, whose stress is not isotropic, c^2 density."""
+        """The pressure per cell at equilibrium, to second order in the speed u: c^2 density (1 - k g u^2), where c is the speed of sound, k
+        is 1 in `fhp1` and 5/6 in `fhp-rest`, and g = (b/12) (1 - 2d) / (1 - d) at the filling d (docs/PHYSICS.md). Per area divide by the
+        rows' distance. In `hpp`, whose stress is not isotropic, c^2 density."""
         square, b = float((self.gas.velocities[:, 0] ** 2).mean()), self.gas.directions
         k = 0 if self.gas.is_square else 2 - 1 / (2 * square)
         with np.errstate(divide="ignore", invalid="ignore"):
@@ -140,8 +141,9 @@ class Blocks:
         """d north/dx - d east/dy, by differences of the blocks next to a block, of one side if the other is solid, empty or past a wall."""
         x, y = self.positions
         edged = np.pad(self.east, ((1, 1), (0, 0)), constant_values=np.nan)
-        wrapped = np.pad(self.north, ((0, 0), (1, 1)), mode="wrap")
-        curl = _slope(wrapped.T, np.pad(x, 1, mode="wrap") + self.size[0] * np.array([-1, *np.zeros(len(x)), 1])).T - _slope(edged, np.pad(y, 1))
+        wrapped = np.pad(self.north, ((0, 0), (1, 1)), mode="wrap").T
+        around = np.array([x[-1] - self.size[0], *x, x[0] + self.size[0]])
+        curl = _slope(wrapped, around).T - _slope(edged, np.array([y[0] + 1, *y, y[-1] - 1]))  # past a wall is nothing, at any distance
         return read_only(np.where(np.isnan(self.east), np.nan, curl))
 
     # -- places
@@ -159,8 +161,8 @@ class Blocks:
         return (x[1:] + x[:-1]) / 2, (y[1:] + y[:-1]) / 2
 
     def smooth(self, sigma: float = 1.0) -> "Blocks":
-        """The sums spread by a Gaussian of `sigma` blocks, periodic in x. Solid blocks stay solid. Particles and momenta are spread alike, so
-        velocities are means."""
+        """The sums spread by a Gaussian of `sigma` blocks, periodic in x. Solid blocks stay solid. Particles and momenta are spread alike,
+        so velocities are means."""
         from scipy.ndimage import gaussian_filter
 
         sigma = real("sigma", sigma, 0)
@@ -172,6 +174,8 @@ class Blocks:
     def text(self) -> str:
         """The table as `fhpgas coarse` prints it."""
         rows, columns = np.indices(self.fluid.shape)
+        if self.fluid.dtype.kind == "f":
+            raise Fault("a table has whole numbers, and smoothed sums have fractions")
         table = np.stack([columns, rows, *(getattr(self, name) for name in SUMS)], -1).reshape(-1, 6).tolist()
         return "\n".join([HEADER, *("%5d %5d %8d %9d %10d %10d" % tuple(line) for line in table)]) + "\n"
 
@@ -193,7 +197,7 @@ def _ratio(above: Array, below: Array) -> Array:
 
 
 def _slope(values: Array, places: Array) -> Array:
-    """The slopes along the first axis, at all places but the first and the last: of the parabola through a place and its neighbours, or of a
+    """The slopes along the first axis, at all places but the first and the last: of the parabola through a place and its neighbours, of a
     line if one of these is nan, or 0 if both are."""
     apart = np.diff(places).reshape(-1, *[1] * (values.ndim - 1))
     steps = np.diff(values, axis=0) / apart
@@ -211,7 +215,8 @@ def read_table(text: str | bytes, gas: str | Gas, block: tuple[int, int], size: 
     shape = -(-rows // height), -(-columns // width)
     first, _, body = (text.encode() if isinstance(text, str) else text).partition(b"\n")
     fault = Fault(f"this is no whole table of `coarse` with {shape[1]} columns and {shape[0]} rows of blocks")
-    if first != HEADER.encode() or body[-1:] != b"\n" or body.count(b"\n") != shape[0] * shape[1] or body.translate(None, b"-0123456789 \n"):
+    is_whole = first == HEADER.encode() and body[-1:] == b"\n" and body.count(b"\n") == shape[0] * shape[1]
+    if not is_whole or body.translate(None, b"-0123456789 \n"):
         raise fault
     try:
         table = np.loadtxt(io.BytesIO(body), np.int64).reshape(*shape, 6)

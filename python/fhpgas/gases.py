@@ -29,10 +29,10 @@ def read_only(array: Array) -> Array:
 class Gas:
     """A gas, one of `GASES`. With b directions:
 
-    `momenta` [b, 2] are the directions' momenta eastwards and northwards in the units of `px` and `py`, and `velocities` [b, 2] are `momenta`
-    times these `units` [2]. `opposite` [b] are the directions turned back. `steps` [parity of the row, b, 2] are the columns and rows to the
-    neighbour. `row_distance` is the distance of rows. By state, for all 128: `bits` [128, b], the `number` of particles, `px` and `py`, and
-    the states with all particles `turned` back.
+    `momenta` [b, 2] are the directions' momenta eastwards and northwards in the units of `px` and `py`, and `velocities` [b, 2] are
+    `momenta` times these `units` [2]. `opposite` [b] are the directions turned back. `steps` [parity of the row, b, 2] are the columns and
+    rows to the neighbour. `row_distance` is the distance of rows. By state, for all 128: `bits` [128, b], the `number` of particles, `px`
+    and `py`, and the states with all particles `turned` back.
     """
 
     def __init__(self, name: str, momenta: Pairs, units: tuple[float, float], even: Pairs, odd: Pairs, row_distance: float):

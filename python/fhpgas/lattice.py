@@ -14,7 +14,7 @@ from .blocks import Blocks, block_sums, read_table
 from .fault import Fault, integer
 from .gases import Array, Gas, chirality_named, gas_named, read_only
 from .program import Scene
-from .scenes import MOST_SEED, keys_of
+from .scenes import MOST_SEED, keys_of, text_of
 
 if TYPE_CHECKING:
     from .drive import Point
@@ -34,9 +34,9 @@ OTHER = {"left": "right", "right": "left", "seeded": "seeded"}
 class Lattice:
     """The cells of a gas at a generation. A lattice does not change: `run` and its like return another.
 
-    `states` (uint8) and `solid` (bool) are read-only arrays [y, x], 1 to 65536 cells each way. Row 0 is the top, and north is up. Bit i of a
-    state is a particle in direction i: E, NE, NW, W, SW, SE in `fhp1`, the same and rest in `fhp-rest`, E, N, W, S in `hpp`. A solid cell has
-    the state 0. `chirality` is "seeded", "left" or "right", `seed` 0 to 2^63 - 1. Values that a lattice cannot have raise a Fault.
+    `states` (uint8) and `solid` (bool) are read-only arrays [y, x], 1 to 65536 cells each way. Row 0 is the top, and north is up. Bit i of
+    a state is a particle in direction i: E, NE, NW, W, SW, SE in `fhp1`, the same and rest in `fhp-rest`, E, N, W, S in `hpp`. A solid cell
+    has the state 0. `chirality` is "seeded", "left" or "right", `seed` 0 to 2^63 - 1. Values that a lattice cannot have raise a Fault.
     """
 
     states: Array
@@ -46,11 +46,13 @@ class Lattice:
     seed: int
     generation: int
 
-    def __init__(self, states: Any, solid: Any = None, gas: str | Gas = "fhp1", chirality: str = "seeded", seed: int = 0, generation: int = 0):
+    def __init__(self, states: Any, solid: Any = None, gas: str | Gas = "fhp1", chirality: str = "seeded", seed: int = 0,
+                 generation: int = 0):
         named, states = gas_named(gas), np.asarray(states)
         solid = np.zeros(states.shape, bool) if solid is None else np.asarray(solid)
         if states.ndim != 2 or solid.shape != states.shape or not all(1 <= side <= MOST_SIDE for side in states.shape):
-            raise Fault(f"states and solid cells are arrays [y, x] of one shape, 1 to {MOST_SIDE} each way, not {states.shape} and {solid.shape}")
+            raise Fault(f"states and solid cells are arrays [y, x] of one shape, 1 to {MOST_SIDE} each way, not {states.shape} and"
+                        f" {solid.shape}")
         if states.dtype.kind not in "iub" or states.min() < 0 or states.max() >> named.directions:
             raise Fault(_wrong_state(named, states))
         if solid.dtype.kind not in "iub":
@@ -123,8 +125,8 @@ class Lattice:
         return Blocks(fluid, particles, px, py, self.gas, (width, height), self.size, self.generation)
 
     def __eq__(self, other: object) -> bool:
-        return isinstance(other, Lattice) and self._kept() == other._kept() and np.array_equal(self.states, other.states) and np.array_equal(
-            self.solid, other.solid)
+        return (isinstance(other, Lattice) and self._kept() == other._kept() and np.array_equal(self.states, other.states)
+                and np.array_equal(self.solid, other.solid))
 
     def __hash__(self) -> int:
         return hash((self._kept(), self.states.tobytes(), self.solid.tobytes()))
@@ -159,8 +161,8 @@ class Lattice:
         return self.states | self.solid.view(np.uint8) << 7
 
     def _scene(self) -> bytes:
-        head = f'version = 2\ngas = "{self.gas}"\nchirality = "{self.chirality}"\nseed = {self.seed}\ngeneration = {self.generation}\ncells = [\n'
-        return b"".join([head.encode(), lines_of(self._codes(), b'    "', b'",\n'), b"]\n"])
+        keys = {"version": 2, "gas": self.gas.name, "chirality": self.chirality, "seed": self.seed, "generation": self.generation}
+        return b"".join([text_of(keys).encode(), b"cells = [\n", lines_of(self._codes(), b'    "', b'",\n'), b"]\n"])
 
     # -- what happens to it
 
@@ -205,9 +207,9 @@ class Lattice:
         return driven(self, generations, every, **how)
 
     def resume(self, text: str | bytes) -> "Lattice":
-        """The lattice of cells that `fhpgas run` printed in a run that began with this lattice. Cells that cannot come from it raise a Fault:
-        they have another size, other solid cells, another number of particles, an earlier generation, or the same generation and other
-        cells. Cells do not show whether another chirality or seed was used."""
+        """The lattice of cells that `fhpgas run` printed in a run that began with this lattice. Cells that cannot come from it raise a
+        Fault: they have another size, other solid cells, another number of particles, an earlier generation, or the same generation and
+        other cells. Cells do not show whether another chirality or seed was used."""
         return self._before(read_cells(text, self.gas, self.size, self.chirality, self.seed))
 
     def _before(self, later: "Lattice") -> "Lattice":
@@ -311,14 +313,14 @@ def read_cells(text: str | bytes, gas: str | Gas, size: tuple[int, int], chirali
     return Lattice._of(*cells_of(text.encode() if isinstance(text, str) else text, fields.size_checked(size)), gas, chirality, seed)
 
 
-def gas(filling: fields.Field, east: fields.Field = 0.0, north: fields.Field = 0.0, *, size: tuple[int, int] | None = None, solid: Any = None,
-        gas: str | Gas = "fhp1", chirality: str = "seeded", seed: int = 0) -> Lattice:
+def gas(filling: fields.Field, east: fields.Field = 0.0, north: fields.Field = 0.0, *, size: tuple[int, int] | None = None,
+        solid: Any = None, gas: str | Gas = "fhp1", chirality: str = "seeded", seed: int = 0) -> Lattice:
     """A gas with a filling (the chance per direction, 0 to 1) and a mean velocity of its particles (in cells' widths per generation), drawn
     at random from the equilibrium of Fermi and Dirac. The same arguments draw the same lattice on every machine.
 
     A field is a number, an array that numpy spreads over the cells [y, x] (so [rows, 1] is a profile across the channel), or a function of
-    the places X, Y of `fhpgas.positions` that returns one of these. `solid` (bool, [y, x]) are the solid cells. `size`, the columns and rows,
-    may be left out if one of these has it.
+    the places X, Y of `fhpgas.positions` that returns one of these. `solid` (bool, [y, x]) are the solid cells. `size`, the columns and
+    rows, may be left out if one of these has it.
     """
     named, solid = gas_named(gas), None if solid is None else np.asarray(solid, bool)
     known = {"filling": filling, "east": east, "north": north}

@@ -1,4 +1,4 @@
-"""Finds and runs the program on the text of a scene: `check`, calls, plans, and runs side by side. The standard library is enough for it."""
+"""Finds and runs the program on the text of a scene: `check`, calls, plans, and runs side by side. It needs the standard library only."""
 import concurrent.futures
 import contextlib
 import functools
@@ -18,7 +18,7 @@ from .fault import Fault, integer
 ABOVE = pathlib.Path(__file__).resolve().parents[2]  # the repository, or the unpacked archive
 HEIGHT = re.compile(rb"^[ \t]*height[ \t]*=[ \t]*(\d+)", re.M)
 MOST_BYTES, MOST_GENERATIONS, MOST_STAGES, CAPACITY = 67_108_864, 1_000_000, 64, 128
-_cores = 0  # of the runs of a worker of `side_by_side`
+_cores = 0  # of the runs of a worker of `side_by_side`, 0 in other processes
 
 Scene = str | os.PathLike[str]  # the text of a scene, or a path
 
@@ -126,11 +126,17 @@ def show_progress(text: str) -> None:
         print(f"\r\033[K{text}", end="", file=sys.stderr, flush=True)
 
 
+def _pass(*_: object) -> None:
+    """An interrupt between the calls of a worker, which ends when the process that asked does."""
+
+
+_function: Callable[[Any], Any] = _pass  # what a worker calls
+
+
 def side_by_side(function: Callable[[Any], Any], values: Iterable[Any], executor: concurrent.futures.Executor | None = None) -> list[Any]:
     """The results of the function for the values, in their order: in one local process per core, or by an executor of `concurrent.futures`
     (Dask's `Client.get_executor()`, mpi4py's `MPIPoolExecutor()`). An executor sends the function to its workers, so it must be at the top
     of a module that they have, and they need this package and the program."""
-    global _function
     values, cores = list(values), len(os.sched_getaffinity(0))
     if executor is not None:
         return _gathered([executor.submit(_alone, function, value) for value in values])
@@ -142,17 +148,10 @@ def side_by_side(function: Callable[[Any], Any], values: Iterable[Any], executor
             return _gathered([pool.submit(_taken, value) for value in values])
 
 
-_function: Callable[[Any], Any]  # of a worker: what it calls
-
-
 def _take(function: Callable[[Any], Any], cores: int) -> None:
     global _function, _cores
     _function, _cores = function, cores
     signal.signal(signal.SIGINT, _pass)
-
-
-def _pass(*_: object) -> None:
-    """An interrupt between calls: the process that asked is interrupted too, and ends the workers."""
 
 
 def _taken(value: Any) -> Any:

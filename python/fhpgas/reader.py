@@ -220,7 +220,8 @@ def wrong_types(table: dict) -> Reasons:
 
 def out_of_range(table: dict) -> Reasons:
     side, version = MOST_SIDE[version_of(table)], version_of(table)
-    ranges = {"version": (1, 2), "seed": (0, 2**63 - 1), "generation": (0, 10**12), "rate": (0, 1000), "width": (1, side), "height": (1, side)}
+    ranges = {"version": (1, 2), "seed": (0, 2**63 - 1), "generation": (0, 10**12), "rate": (0, 1000), "width": (1, side)}
+    ranges["height"] = ranges["width"]
     sizes = {key: table[key] for key in ranges if key in table} | ({"cells": len(table["cells"])} if "cells" in table else {})
     for key, value in sizes.items():
         least, most = ranges.get(key, (1, side))

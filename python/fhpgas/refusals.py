@@ -10,7 +10,8 @@ from .program import Scene, scene_bytes
 MOST_REASONS = 8
 NOT_REFUSED = "the scene is not refused\n"
 # A text, a mark or a word of a document, without blanks and comments before it: marks in a text or a comment do not count.
-TOKEN = re.compile(r'(?:\s|#[^\n]*+)*+("""(?:[^\\]|\\.)*?"""|' r"'''.*?'''|" r'"(?:[^"\\\n]|\\.)*"|' r"'[^'\n]*'|[\[\]{}=,]|[^\s#\"'\[\]{}=,]+)", re.S)
+TOKEN = re.compile(r'(?:\s|#[^\n]*+)*+("""(?:[^\\]|\\.)*?"""|' r"'''.*?'''|"
+                   r'"(?:[^"\\\n]|\\.)*"|' r"'[^'\n]*'|[\[\]{}=,]|[^\s#\"'\[\]{}=,]+)", re.S)
 
 
 def explained(text: bytes) -> list[tuple[str, list[str]]]:

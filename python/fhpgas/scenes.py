@@ -1,4 +1,4 @@
-"""The texts of scenes: their keys, and areas, which describe a lattice of any size in few lines. The standard library is enough for it."""
+"""The texts of scenes: their keys, and areas, which describe a lattice of any size in few lines. It needs the standard library only."""
 import json
 import operator
 import re
@@ -54,7 +54,8 @@ def with_seed(scene: Scene, seed: int) -> str:
     keys = keys_of(text, with_cells=True)
     for key in ("cells", "particles"):
         if keys.get(key):
-            raise Fault(f"another seed would leave `{key}` as they are: draw the scene again, by `fhpgas.gas(.., seed=..)` or `over-seeds --drawn`")
+            raise Fault(f"another seed would leave `{key}` as they are: draw the scene again, by `fhpgas.gas(.., seed=..)` or"
+                        " `over-seeds --drawn`")
     if not keys.get("rate"):
         raise Fault("another seed would change nothing: `rate` is 0, so nothing is filled at random")
     return text_of(keys | {"seed": integer("a seed", seed, 0, MOST_SEED)})

@@ -1,5 +1,5 @@
-"""Solid cells as arrays [y, x] of truth values, which are combined by `|`, `&` and `~`. A `size` is columns and rows. Cells are named by column
-and row from 0 at the top left, and lengths are in cells' widths. What a formula of the place says needs no shape:
+"""Solid cells as arrays [y, x] of truth values, which are combined by `|`, `&` and `~`. A `size` is columns and rows. Cells are named by
+column and row from 0 at the top left, and lengths are in cells' widths. What a formula of the place says needs no shape:
 `numpy.hypot(X - 200, Y - 220) < 40` with `X, Y = fhpgas.positions(size)`.
 """
 import functools
@@ -94,8 +94,8 @@ def porous(size: tuple[int, int], share: float, radius: float, seed: int = 0, ga
 
 
 def bitmap(size: tuple[int, int], picture: Any, pixel: float = 1.0, column: int = 0, row: int = 0, gas: str | Gas = "fhp1") -> Array:
-    """The dark pixels of a picture, `pixel` cells' widths wide and high. Its upper left corner is at a cell. `picture` is the path of a file
-    that Pillow reads, or an array [y, x] of truth values. A picture that leaves the channel raises a Fault."""
+    """The dark pixels of a picture, `pixel` cells' widths wide and high. Its upper left corner is at a cell. `picture` is the path of a
+    file that Pillow reads, or an array [y, x] of truth values. A picture that leaves the channel raises a Fault."""
     (columns, rows), named = size_checked(size), gas_named(gas)
     dark, pixel = _dark(picture), real("the width of a pixel", pixel, 1e-9)
     y, x = np.ogrid[:rows, :columns]
@@ -119,10 +119,8 @@ def _dark(picture: Any) -> Array:
         with Image.open(picture) as image:
             grey = image.point(lambda shade: shade / 256).convert("L") if image.mode.startswith("I") else image
             shades = np.asarray(grey.convert("RGBA")).astype(int)
-    except OSError as fault:
-        raise Fault(f"{picture}: {fault.strerror or 'no picture that Pillow reads'}") from None
-    except (ValueError, SyntaxError, EOFError) as fault:
-        raise Fault(f"{picture}: the picture is damaged: {fault}") from None
+    except (OSError, ValueError, SyntaxError) as fault:
+        raise Fault(f"{picture}: {getattr(fault, 'strerror', None) or fault}") from None
     return (shades[..., :3].sum(-1) * 2 < 3 * 255) & (shades[..., 3] > 127)
 
 
