@@ -1,71 +1,79 @@
 #!/usr/bin/env python3
 """The Galilean factor: how fast a wind carries a wave of the flow across it, compared with g(d).
 
-In a wind u eastwards the gas moves north and south as v = 0.1 sin(k x). In a fluid the wave would move with u. Here it moves with g u, and
-at d = 1/2 it does not move. The wave's phase is taken in the middle rows, far from the walls, and a line is fitted to it. Theory: the same
-fit to the noise-free Boltzmann equation of a gas without walls. Published, for a slow wind and a long wave: g = (1 - 2d) / (2 (1 - d)) in
-fhp1 and 7/6 of it in fhp-rest (Frisch and others, Complex Systems 1 (1987) 649).
+In a wind u eastwards the gas moves north and south as v = 0.1 sin(k x). In a fluid the wave would move with u. Here it moves with g u. A
+line is fitted to its phase in the middle rows, far from the walls. Theory: the same fit to the noise-free Boltzmann equation of a gas
+without walls. Published, for a slow wind and a long wave: g = (1 - 2d) / (2 (1 - d)) in fhp1 and 7/6 of it in fhp-rest (Frisch 1987).
 """
-import cmath
-import itertools
-import math
-import statistics
-
 import common
 import fhpgas
+import numpy as np
 from fhpgas import boltzmann, theory
 
-WAVE, ACROSS, STEP, PARTS, BLOCK = 128, 0.1, 25, 12, 16
+ACROSS, STEP, PARTS, BLOCK = 0.1, 25, 12, 16
+TIMES = STEP * np.arange(PARTS + 1)
 
 
-def across(x):
-    return ACROSS * math.sin(2 * math.pi * x / WAVE)
+def places(asked, momenta):
+    """The place of the wave over time, from the momenta northwards [time, block] of blocks of columns."""
+    turns = np.exp(-2j * np.pi * BLOCK * np.arange(np.shape(momenta)[1]) / asked.wave)
+    phases = np.unwrap(np.angle(np.asarray(momenta) @ turns))
+    return (phases[0] - phases) * asked.wave / 2 / np.pi
 
 
-def speed(momenta):
-    """The speed of the wave, from the momenta northwards of blocks of columns over time."""
-    parts = [sum(p * cmath.exp(-2j * math.pi * BLOCK * n / WAVE) for n, p in enumerate(at_a_time)) for at_a_time in momenta]
-    turns = [-cmath.phase(later / part) for part, later in zip(parts, parts[1:])]
-    times, phases = range(0, STEP * len(parts), STEP), [0.0, *itertools.accumulate(turns)]
-    return statistics.linear_regression(times, phases).slope * WAVE / 2 / math.pi
+def factor(asked, found):
+    return np.polyfit(TIMES, found, 1)[0] / asked.wind
 
 
-def measured(asked, density, seed):
-    """The speed of the wave of a seed."""
+def measured(asked, filling, seed):
+    """The places of the wave of a seed."""
     rows, edge = asked.height, min(128, asked.height // 4)
-    north = [across(x) for x in range(asked.width)]
-    scene = fhpgas.gas(density, asked.wind, [north] * rows, size=(asked.width, rows), gas=asked.gas, seed=seed)
-    middle = (fhpgas.Cells(0, 0, cells.rows[edge : rows - edge], asked.gas) for cells, _ in fhpgas.series(scene, [STEP] * PARTS))
-    return speed([cells.table(BLOCK, rows).py[0] for cells in middle])
+    wave = np.resize(asked.across, asked.width)
+    lattice = fhpgas.gas(filling, asked.wind, wave, size=(asked.width, rows), gas=asked.gas, seed=seed)
+    return places(asked, [later.blocks(BLOCK, 1).py[edge : rows - edge].sum(0) for later in lattice.every(STEP, PARTS)])
 
 
-def predicted(asked, density):
-    """The speed of the wave of the Boltzmann equation."""
-    flow = boltzmann.Flow(asked.gas, [[False] * WAVE] * 2, has_walls=False)
-    chances, found = flow.at(lambda x, y: (density, asked.wind, across(x))), []
-    for t in range(STEP * PARTS + 1):
-        if t % STEP == 0:
-            momenta = [v * n for v, n in zip(flow.velocity(chances)[1][0], flow.density(chances)[0])]
-            found.append([sum(momenta[x : x + BLOCK]) for x in range(0, WAVE, BLOCK)])
-        chances = flow.step(chances)
-    return speed(found)
+def predicted(asked, filling):
+    """The places of the wave of the Boltzmann equation."""
+    flow = boltzmann.Flow(asked.gas, np.zeros((2, asked.wave)), has_walls=False)
+    states = flow.every(flow.at(filling, asked.wind, asked.across), STEP, PARTS)
+    return places(asked, [flow.momentum(chances)[1].sum(0).reshape(-1, BLOCK).sum(1) for chances in states])
 
 
+def draw(path, asked, waves):
+    """The places of the waves over time with their lines, and the factors over the filling."""
+    with common.axes(path, 1, 2) as (left, right):
+        d, (fillings, *_) = np.linspace(0.05, 0.6, 100), zip(*waves)
+        for n, (filling, found, error, _) in enumerate(waves):
+            left.errorbar(TIMES, found, error, fmt=f"C{n}o", ms=3, label=f"d = {filling}")
+            left.plot(TIMES, np.poly1d(np.polyfit(TIMES, found, 1))(TIMES), f"C{n}", lw=1)
+        left.plot(TIMES, asked.wind * TIMES, "k:", lw=1, label="a fluid")
+        left.set(xlabel="generations", ylabel="way of the wave, cells' widths", title=f"{asked.gas}, wind {asked.wind}, wave {asked.wave}")
+        right.plot(d, theory.galilean_factor(asked.gas, d), "0.6", lw=1, label="published, slow wind")
+        right.plot(d, theory.galilean_factor(asked.gas, d, asked.wind), "k", lw=1, label="Fermi and Dirac, this wind")
+        right.errorbar(fillings, *zip(*(fhpgas.mean(each[3]) for each in waves)), fmt="C0o", ms=3, label="measured")
+        right.set(xlabel="filling d", ylabel="Galilean factor g")
+        left.legend(fontsize=8), right.legend(fontsize=8)
+
+
+@common.experiment
 def main():
-    reader = common.Options(__doc__, "fhp1", "fhp-rest")
-    reader.option("--density", common.number(0.05, 0.6), [0.1, 0.2, 0.3, 0.4, 0.5], [0.2, 0.5], "fillings", nargs="+", metavar="D")
+    reader = common.Options(__doc__, "fhp1", "fhp-rest", figure="the way of the waves, and g over the filling")
+    reader.option("--filling", common.number(0.05, 0.6), [0.1, 0.2, 0.3, 0.4, 0.5], [0.2, 0.5], "fillings", nargs="+", metavar="D")
     reader.option("--wind", common.number(0.02, 0.3), 0.2, 0.2, "the speed of the wind", metavar="U")
-    reader.option("--width", common.whole(WAVE, 65536), 512, 512, f"columns, a multiple of {WAVE}")
+    reader.option("--wave", common.whole(64, 4096), 128, 128, f"the length of the wave, a multiple of {BLOCK}")
+    reader.option("--width", common.whole(64, 65536), 512, 512, "columns, a multiple of the wave")
     reader.option("--height", common.whole(256, 4096), 768, 256, "rows")
     reader.option("--seeds", common.whole(2, 1000), 8, 4, "how many")
-    asked = reader.parse_args()
-    if asked.width % WAVE:
-        raise fhpgas.Fault(f"the width is {asked.width}, and must be a multiple of {WAVE}")
-    for density in asked.density:
-        runs = fhpgas.side_by_side(lambda seed: measured(asked, density, seed), range(1, asked.seeds + 1))
-        common.compare(f"{asked.gas} d {density}: g", [found / asked.wind for found in runs], predicted(asked, density) / asked.wind)
-        print(f"{'':34} published {theory.galilean_factor(asked.gas, density):19.3f}")
-
-
-if __name__ == "__main__":
-    common.experiment(main)
+    asked, waves = reader.parse_args(), []
+    if asked.wave % BLOCK or asked.width % asked.wave:
+        raise fhpgas.Fault(f"the width is {asked.width}, and must be a multiple of the wave, {asked.wave}, and the wave of {BLOCK}")
+    asked.across = ACROSS * np.sin(2 * np.pi * np.arange(asked.wave) / asked.wave)
+    for filling in asked.filling:
+        runs = fhpgas.side_by_side(lambda seed: measured(asked, filling, seed), range(1, asked.seeds + 1))
+        found = [factor(asked, run) for run in runs]
+        common.compare(f"{asked.gas} d {filling}: g", found, factor(asked, predicted(asked, filling)), 4)
+        print(f"{'':34} published {theory.galilean_factor(asked.gas, filling):19.4f}")
+        waves.append((filling, *fhpgas.mean(runs), found))
+    if asked.picture:
+        draw(asked.picture, asked, waves)

@@ -1,47 +1,63 @@
 #!/usr/bin/env python3
-"""What these gases keep and a fluid does not: three staggered momenta, and the momenta of the rows of HPP.
+"""What these gases keep and a fluid does not (spurious invariants): three staggered momenta, and the momenta of the rows of HPP.
 
-A gas with a wind flows past a disc between walls. Its momentum falls and fluctuates. Its staggered momenta, (-1)^t times the sum over the
-lines along an axis of (-1)^line times the momentum across the line, stay to the last unit. In hpp a stream in one row of a gas at rest,
-without obstacles, stays in its row. In fhp1 the same stream spreads. These numbers are exact, so they have no errors.
+A gas with a wind flows past a disc between walls. Its staggered momenta, (-1)^t times the sum over the lines along an axis of (-1)^line
+times the momentum across the line, stay to the last unit. In hpp a stream in one row of a gas at rest stays in its row. In fhp1 it spreads.
+These numbers are exact, so they have no errors.
 """
 import common
 import fhpgas
+import numpy as np
+
+ROWS, MIDDLE = 17, 8
 
 
-def past_a_disc(gas, size, generations):
-    """Prints momenta over time of a gas that flows past a disc."""
-    solid = fhpgas.Obstacles(size, size, gas).disc(size // 3, size // 2, size // 8)
-    scene = fhpgas.gas(0.3, 0.2, solid=solid, gas=gas, seed=1)
+def past_a_disc(gas, size, step):
+    """Prints momenta over time of a gas that flows past a disc, and returns the times, momenta and staggered momenta."""
+    solid = fhpgas.disc((size, size), size // 3, size // 2, size // 8, gas)
+    lattice, found = fhpgas.gas(0.3, 0.2, solid=solid, gas=gas, seed=1), []
     print(f"{gas} past a disc\ngeneration  eastwards  northwards  staggered")
-    for cells, _ in fhpgas.series(scene, [generations // 4] * 4):
-        numbers, velocities = fhpgas.counts(cells), fhpgas.gas_named(gas).velocities
-        flow = [sum(n * c[axis] for n, c in zip(numbers, velocities)) for axis in (0, 1)]
-        print(f"{cells.generation:10}{flow[0]:11.1f}{flow[1]:12.1f}  {fhpgas.staggered(cells)}")
+    for later in lattice.every(step, 4):
+        found.append((later.generation, *later.momentum, *fhpgas.staggered(later)))
+        print("{:10}{:11.1f}{:12.1f}  ({}, {}, {})".format(*found[-1]))
+    return np.array(found)
 
 
-def stream(gas, size, generations):
-    """Prints the momenta of the middle rows of a gas with a stream in one of them."""
-    rows, middle = 17, 8
-    scene = fhpgas.gas(0.2, [0.3 if y == middle else 0.0 for y in range(rows)], size=(16 * size, rows), gas=gas, seed=1)
-    print(f"{gas}, a stream in one row: momentum eastwards of the rows {middle - 3} to {middle + 3}\ngeneration")
-    for cells, _ in fhpgas.series(scene, [generations // 4] * 4):
-        unit = fhpgas.gas_named(gas).units[0]
-        print(f"{cells.generation:10}" + "".join(f"{unit * row[0]:9.1f}" for row in cells.table(4096, 1).px[middle - 3 : middle + 4]))
+def stream(gas, size, step):
+    """Prints the momenta of the middle rows of a gas with a stream in one of them, and returns the momenta [time, row] of all."""
+    east = np.where(np.arange(ROWS)[:, None] == MIDDLE, 0.3, 0)
+    lattice, found = fhpgas.gas(0.2, east, size=(16 * size, ROWS), gas=gas, seed=1), []
+    print(f"{gas}, a stream in one row: momentum eastwards of the rows {MIDDLE - 3} to {MIDDLE + 3}\ngeneration")
+    for later in lattice.every(step, 4):
+        found.append(later.gas.units[0] * later.blocks(16 * size, 1).px[:, 0])
+        print(f"{later.generation:10}" + "".join(f"{momentum:9.1f}" for momentum in found[-1][MIDDLE - 3 : MIDDLE + 4]))
+    return found
 
 
+def draw(path, momenta, streams, step):
+    """The momenta over time, and the streams' rows at five times."""
+    with common.axes(path, 1, 3, (4, 3.4)) as panels:
+        for n, name in enumerate(("momentum eastwards", "northwards", "staggered, three axes", None, None)):
+            panels[0].plot(momenta[:, 0], momenta[:, 1 + n], f"C{min(n, 2)}o-", ms=3, lw=1, label=name)
+        panels[0].set(xlabel="generations", title="fhp1 past a disc")
+        panels[0].legend(fontsize=8)
+        for ax, (gas, found) in zip(panels[1:], streams.items()):
+            for n, row in enumerate(found):
+                ax.plot(row, np.arange(ROWS)[::-1], f"C{n}o-", ms=3, lw=1, label=f"{n * step} generations")
+            ax.set(xlabel="momentum eastwards of a row", ylabel="row, from below", title=f"{gas}, a stream in one row")
+            ax.legend(fontsize=8)
+
+
+@common.experiment
 def main():
-    reader = common.Options(__doc__)
+    reader = common.Options(__doc__, figure="the momenta over time, and the streams")
     reader.option("--size", common.whole(16, 256), 128, 48, "columns and rows; even", metavar="N")
     reader.option("--generations", common.whole(4, 100_000), 1000, 100, "in all")
     asked = reader.parse_args()
     if asked.size % 2:
         raise fhpgas.Fault(f"the size is {asked.size}: with an odd width the slanted lines close upon lines of the other sign")
-    for gas in ("fhp1", "fhp-rest"):
-        past_a_disc(gas, asked.size, asked.generations)
-    for gas in ("hpp", "fhp1"):
-        stream(gas, asked.size, asked.generations)
-
-
-if __name__ == "__main__":
-    common.experiment(main)
+    step = asked.generations // 4
+    momenta = [past_a_disc(gas, asked.size, step) for gas in ("fhp1", "fhp-rest")]
+    streams = {gas: stream(gas, asked.size, step) for gas in ("hpp", "fhp1")}
+    if asked.picture:
+        draw(asked.picture, momenta[0], streams, step)

@@ -1,83 +1,95 @@
 #!/usr/bin/env python3
-"""Poiseuille flow: a driven gas between two walls, its viscosity, the place of zero flow, and the odd viscosity of a chiral gas.
+"""Poiseuille flow: a driven gas between two walls, its viscosity, its slip at the walls, and the odd viscosity of a chiral gas.
 
-`fhpgas.driven` turns particles from west to east every ten generations, a force F on every cell. The profile is the mean of the rows'
-velocities just before and just after the turnings: just before, the flow has lost half a kick, and the walls seem farther in. The parabola
-u = F (h^2 / 4 - y^2) / (2 b d viscosity) is fitted. "Zero past the walls" is how many rows outside the walls it ends. If the gas is chiral,
-a shear du/dy changes the density by -b d odd viscosity / c^2 du/dy, so the density rises across the channel. Theory: the same kicks,
-samples and fits with the noise-free Boltzmann equation of the same channel.
+`fhpgas.driven` turns particles from west to east in short intervals, a force F on every cell. The profile is the mean of the rows'
+velocities just before and just after the turnings, and u = F (zero^2 - y^2) / (2 b d viscosity) is fitted. Bounce-back makes walls with a
+slip of second order: in H rows the parabola ends at zero^2 = H^2 / 4 + K squared rows from the middle, with one K for every H. If the gas
+is chiral, a shear du/dy changes the density by -b d odd viscosity / c^2 du/dy. Theory: the same turnings, samples and fits with the
+noise-free Boltzmann equation. "Formula" is its stationary solution for a weak force in every generation (`fhpgas.theory.slip`).
 """
-import math
-import statistics
-
 import common
 import fhpgas
+import numpy as np
 from fhpgas import boltzmann, theory
 
-EVERY = 10
+SPAN = 8  # relaxation times, until the flow is steady
 
 
-def fits(asked, flows, densities):
-    """The viscosity, the rows past the walls at which the flow is zero, and the odd viscosity, from the rows' velocities and densities."""
-    gas, rows = fhpgas.gas_named(asked.gas), len(flows)
-    heights = [gas.row_distance * ((rows - 1) / 2 - y) for y in range(rows)]
-    bend, middle = statistics.linear_regression([h * h for h in heights], flows)
-    if bend >= 0 or middle <= 0:
-        raise fhpgas.Fault("the flow is not fastest in the middle: take more generations or seeds")
-    rise = statistics.linear_regression(heights, densities).slope
-    whole = gas.directions * asked.density
-    odd = -rise / whole * theory.sound_speed(asked.gas) ** 2 / (2 * bend)
-    return -asked.force / (2 * bend * whole), math.sqrt(-middle / bend) / gas.row_distance - rows / 2, odd
+class Channel:
+    """A channel of so many rows, with the force and the times for the asked speed in the middle, from theory."""
+
+    def __init__(self, asked, rows):
+        self.gas, self.filling, self.chirality, self.rows = fhpgas.gas_named(asked.gas), asked.filling, asked.chirality, rows
+        self.size, self.mass = (asked.cells // rows, rows), self.gas.directions * asked.filling
+        flow, self.places = (self.gas, self.filling, self.chirality), (rows - 1) / 2 - np.arange(rows)
+        zero, viscosity = self.gas.row_distance**2 * (rows**2 / 4 + theory.slip(*flow)), theory.viscosity(*flow)
+        self.force, time = 2 * self.mass * viscosity * asked.speed / zero, 4 * zero / np.pi**2 / viscosity
+        self.every = int(np.clip(time / 16, 1, 4))
+        self.settled, self.last = (self.every * int(spans * time / self.every) for spans in (SPAN, SPAN * (1 + asked.spans)))
+
+    def fits(self, flows, densities):
+        """The viscosity, the slip K and the odd viscosity, from the rows' velocities and densities."""
+        bend, middle = np.polyfit(self.places**2, flows, 1)
+        if bend >= 0 or middle <= 0:
+            raise fhpgas.Fault("the flow is not fastest in the middle: take more cells or seeds")
+        bent, rise = bend / self.gas.row_distance**2, np.polyfit(self.gas.row_distance * self.places, densities, 1)[0]
+        odd = -rise / self.mass * theory.sound_speed(self.gas) ** 2 / (2 * bent)
+        return -self.force / (2 * bent * self.mass), -middle / bend - self.rows**2 / 4, odd
+
+    def measured(self, seed):
+        """The rows' velocities and densities, the means of a seed."""
+        lattice = fhpgas.gas(self.filling, size=self.size, gas=self.gas, chirality=self.chirality, seed=seed)
+        points = lattice.driven(self.last, self.every, force=self.force, seed=seed)
+        steady = (each for point in points if point.before.generation > self.settled for each in (point.before, point.after))
+        blocks = [each.blocks(self.size[0], 1) for each in steady]
+        total = sum(blocks[1:], blocks[0])
+        return total.east[:, 0], total.particles[:, 0] / len(blocks) / self.size[0]
+
+    def predicted(self):
+        """The rows' velocities and densities of the Boltzmann equation at its last turning."""
+        flow = boltzmann.Flow(self.gas, np.zeros((self.rows, 1)), self.chirality)
+        *_, last = flow.driven(flow.at(self.filling), 2 * self.settled // self.every, self.every, self.force)
+        return np.mean([flow.velocity(chances)[0, :, 0] for chances in last], 0), flow.density(last[0])[:, 0]
 
 
-def measured(asked, seed):
-    """The fits of a seed."""
-    rows, width = asked.height, asked.width
-    momenta, particles, number = [0.0] * rows, [0] * rows, 0
-    scene = fhpgas.gas(asked.density, size=(width, rows), gas=asked.gas, chirality=asked.chirality, seed=seed)
-    unit = fhpgas.gas_named(asked.gas).units[0]
-    for point in fhpgas.driven(scene, asked.generations, EVERY, force=asked.force, seed=seed):
-        for cells in (point.before, point.after) if point.before.generation > asked.settled else ():
-            table, number = cells.table(4096, 1), number + 1
-            momenta = [whole + unit * row[0] for whole, row in zip(momenta, table.px)]
-            particles = [whole + row[0] for whole, row in zip(particles, table.particles)]
-    return fits(asked, [p / n for p, n in zip(momenta, particles)], [n / number / width for n in particles])
+def draw(path, asked, channel, profiles, slips):
+    """The profile of a channel with its parabola, what this leaves, and the slip of all channels."""
+    with common.axes(path, 1, 3, (4, 3.6)) as (left, middle, right):
+        mean, error = (each[0] for each in fhpgas.mean(profiles))
+        line = np.poly1d(np.polyfit(channel.places**2, mean, 1))
+        fine = np.linspace(-1, 1, 200) * np.sqrt(line.roots[0])
+        left.plot(line(fine**2), fine, "C1", lw=1, label="parabola")
+        left.errorbar(mean, channel.places, xerr=error, fmt="C0.", label="measured")
+        for side in (-1, 1):
+            left.axhspan(side * channel.rows / 2, side * (fine[-1] + 1), color="0.8")
+        left.set(xlabel="velocity eastwards", ylabel="rows from the middle", title=f"{asked.gas} {asked.chirality}, d = {asked.filling}")
+        middle.errorbar(1e4 * (mean - line(channel.places**2)), channel.places, xerr=1e4 * error, fmt="C0.")
+        middle.axvline(0, color="C1", lw=1)
+        middle.set(xlabel="(velocity − parabola) × 10⁴", title=f"{channel.rows} rows, {asked.seeds} seeds")
+        right.errorbar(asked.height, *zip(*slips), fmt="C0o", ms=3, label="measured")
+        right.axhline(theory.slip(asked.gas, asked.filling, asked.chirality), color="C1", lw=1, label="formula")
+        right.set(xlabel="rows H", ylabel="zero² − H²/4, squared rows", ylim=(0, None), title="slip K")
+        left.legend(fontsize=8), right.legend(fontsize=8)
 
 
-def predicted(asked):
-    """The fits of the Boltzmann equation at its last turning."""
-    flow = boltzmann.Flow(asked.gas, [[False]] * asked.height, asked.chirality)
-    chances = flow.at(lambda x, y: (asked.density, 0, 0))
-    for t in range(asked.settled + 1):
-        kicked = flow.forced(chances, EVERY * asked.force) if t % EVERY == 0 else chances
-        before, chances = chances, flow.step(kicked)
-    pairs = [[(b[0] + a[0]) / 2 for b, a in zip(of(before), of(kicked))] for of in (lambda c: flow.velocity(c)[0], flow.density)]
-    return fits(asked, *pairs)
-
-
+@common.experiment
 def main():
-    reader = common.Options(__doc__, "fhp1", "fhp-rest")
-    reader.option("--chirality", str, "seeded", "seeded", "seeded, left or right", choices=theory.CHIRALITIES)
-    reader.option("--density", common.number(0.1, 0.6), 0.3, 0.3, "the filling d", metavar="D")
-    reader.option("--width", common.whole(64, 4096), 256, 256, "columns")
-    reader.option("--height", common.whole(8, 512), 32, 16, "rows")
-    reader.option("--force", common.number(1e-5, 0.01), 0.0008, 0.0016, "the momentum of a cell and generation", metavar="F")
-    reader.option("--settled", common.whole(0, 1_000_000), 0, 0, "generations before the first sample, in steps of 10; 0 is height^2 / viscosity")
-    reader.option("--generations", common.whole(0, 10_000_000), 0, 0, "in all, in steps of 10; 0 is four times height^2 / viscosity")
+    reader = common.Options(__doc__, "fhp1", "fhp-rest", figure="the profile with its parabola, what this leaves, and the slip")
+    reader.option("--chirality", str, "seeded", "seeded", "seeded, left or right", choices=("seeded", "left", "right"))
+    reader.option("--filling", common.number(0.1, 0.6), 0.3, 0.3, "the filling d", metavar="D")
+    reader.option("--height", common.whole(4, 128), [8, 16, 32], [8], "rows, one or more", nargs="+", metavar="ROWS")
+    reader.option("--cells", common.whole(4096, 4_000_000), 131_072, 16_384, "of the channel, so columns are cells / rows")
+    reader.option("--speed", common.number(0.01, 0.2), 0.08, 0.08, "in the middle, as theory says", metavar="U")
+    reader.option("--spans", common.whole(1, 1000), 2, 3, f"time of the samples, each {SPAN} times the time in which a flow relaxes")
     reader.option("--seeds", common.whole(2, 1000), 8, 4, "how many")
-    asked = reader.parse_args()
-    settled = EVERY * math.ceil(asked.height**2 / theory.viscosity(asked.gas, asked.density) / EVERY)
-    asked.settled, asked.generations = asked.settled or settled, asked.generations or 4 * settled
-    asked.settled -= asked.settled % EVERY
-    if asked.generations <= asked.settled:
-        raise fhpgas.Fault(f"there are {asked.generations} generations, and the first sample is after {asked.settled}")
-    runs = fhpgas.side_by_side(lambda seed: measured(asked, seed), range(1, asked.seeds + 1))
-    names = "viscosity", "zero past the walls, in rows", "odd viscosity"
-    for name, values, value in zip(names, zip(*runs), predicted(asked)):
-        common.compare(name, values, value)
-    print(f"published for an infinite gas: {theory.viscosity(asked.gas, asked.density, asked.chirality):.3f}, odd",
-          f"{round(theory.odd_viscosity(asked.gas, asked.density, asked.chirality), 3) + 0.0:.3f}")
-
-
-if __name__ == "__main__":
-    common.experiment(main)
+    asked, slips = reader.parse_args(), []
+    for channel in (Channel(asked, rows) for rows in asked.height):
+        profiles = fhpgas.side_by_side(channel.measured, range(1, asked.seeds + 1))
+        fits, expected = zip(*(channel.fits(*each) for each in profiles)), channel.fits(*channel.predicted())
+        names = "viscosity", "slip K", "odd viscosity"
+        slips.append([common.compare(f"{channel.rows} rows: {name}", *each) for name, *each in zip(names, fits, expected)][1])
+    names = theory.viscosity, theory.slip, theory.odd_viscosity
+    formulas = (round(of(asked.gas, asked.filling, asked.chirality), 3) + 0.0 for of in names)
+    print("formula: viscosity {:.3f}, K {:.3f}, odd viscosity {:.3f}".format(*formulas))
+    if asked.picture:
+        draw(asked.picture, asked, channel, profiles, slips)

@@ -1,57 +1,69 @@
 #!/usr/bin/env python3
 """A standing sound wave between the walls: its speed and its damping.
 
-At the start the filling of a row is d (1 + a cos k y), k = pi / height, and the gas is at rest. The amplitude of this cosine in the density
-swings and dies away: exp(-D k^2 t) (A cos(c k t) + B sin(c k t)) is fitted to it. Theory: the same fit to the noise-free Boltzmann equation
-of the same channel. In hpp a second standing wave is along the diagonals, on which every particle of two directions keeps its place in the
-wave: sound is as fast there, without noise or damping. Published for a long wave: c = 1 / sqrt 2, in fhp-rest sqrt(3/7), and
-D = (viscosity + bulk viscosity) / 2 (Frisch and others, Complex Systems 1 (1987) 649).
+At the start the filling of a row is d (1 + a cos k y), k = pi / height, and the gas is at rest. exp(-D k^2 t) (A cos(c k t) + B sin(c k t))
+is fitted to the amplitude of this cosine in the density. Theory: the same fit to the noise-free Boltzmann equation of the same channel. In
+hpp a second wave is along the diagonals, on which every particle of two directions keeps its place in the wave: no noise, no damping.
+Published for a long wave: c = 1 / sqrt 2, in fhp-rest sqrt(3/7), and D = (viscosity + bulk viscosity) / 2 (Frisch 1987).
 """
-import math
-
 import common
 import fhpgas
+import numpy as np
 from fhpgas import boltzmann
+from scipy.optimize import curve_fit
 
 AMPLITUDE, STEP, SAMPLES = 0.1, 8, 64
+TIMES = STEP * np.arange(SAMPLES + 1)
 
 
 def wave(asked, is_diagonal):
-    """The wave number, and the shape of the wave in the cells [y][x], or in the rows if it does not vary along x."""
-    rows, distance = asked.height, fhpgas.gas_named(asked.gas).row_distance
-    upwards = [math.cos(math.pi * (y + 0.5) / rows) for y in range(rows)]
-    along = [math.cos(math.pi * x / rows) for x in range(2 * rows)] if is_diagonal else [1.0]
-    return math.pi / rows / distance * (math.sqrt(2) if is_diagonal else 1), [[up * on for on in along] for up in upwards]
+    """The wave number, and the shape of the wave in the cells [y, x], or in the rows [y, 1] if it does not vary along x."""
+    rows = asked.height
+    k, shape = np.pi / rows / fhpgas.gas_named(asked.gas).row_distance, np.cos(np.pi * (np.arange(rows)[:, None] + 0.5) / rows)
+    return (np.sqrt(2) * k, shape * np.cos(np.pi * np.arange(2 * rows) / rows)) if is_diagonal else (k, shape)
 
 
-def amplitude(shape, density):
-    """The share of a shape in a density, both [y][x]."""
-    return sum(s * n for rows in zip(shape, density) for s, n in zip(*rows)) / sum(s * s for row in shape for s in row)
+def swing(t, frequency, rate, a, b):
+    return np.exp(-rate * t) * (a * np.cos(frequency * t) + b * np.sin(frequency * t))
+
+
+def fit(values, k):
+    """The frequency, the rate and the two amplitudes that fit best."""
+    return curve_fit(swing, TIMES, values, (0.7 * k, 0.2 * k * k, values[0], 0))[0]
 
 
 def measured(asked, shape, seed):
     """The amplitude after every STEP generations."""
-    filling = [[asked.density * (1 + AMPLITUDE * s) for s in row] for row in shape]
-    is_flat = len(shape[0]) == 1
-    width, block = (asked.width, 4096) if is_flat else (len(shape[0]), 1)
-    scene = fhpgas.gas([row[0] for row in filling] if is_flat else filling, size=(width, len(shape)), gas=asked.gas, seed=seed)
-    tables = (cells.table(block, 1).particles for cells, _ in fhpgas.series(scene, [STEP] * SAMPLES))
-    return [amplitude(shape, [[sum(row)] if is_flat else row for row in rows]) for rows in tables]
+    width = asked.width if shape.shape[1] == 1 else shape.shape[1]
+    lattice = fhpgas.gas(asked.filling * (1 + AMPLITUDE * shape), size=(width, len(shape)), gas=asked.gas, seed=seed)
+    blocks = (later.blocks(width // shape.shape[1], 1) for later in lattice.every(STEP, SAMPLES))
+    return [(shape * each.density).sum() / (shape**2).sum() for each in blocks]
 
 
 def predicted(asked, shape):
-    flow = boltzmann.Flow(asked.gas, [[False] * len(row) for row in shape])
-    chances, found = flow.at(lambda x, y: (asked.density * (1 + AMPLITUDE * shape[y][x]), 0, 0)), []
-    for t in range(SAMPLES * STEP + 1):
-        if t % STEP == 0:
-            found.append(amplitude(shape, flow.density(chances)))
-        chances = flow.step(chances)
-    return found
+    flow = boltzmann.Flow(asked.gas, np.zeros(shape.shape))
+    states = flow.every(flow.at(asked.filling * (1 + AMPLITUDE * shape)), STEP, SAMPLES)
+    return [(shape * flow.density(chances)).sum() / (shape**2).sum() for chances in states]
 
 
+def draw(path, mean, error, k, name):
+    """The swinging amplitude with its fit, and what the fit leaves."""
+    fine, best = np.linspace(0, TIMES[-1], 1000), fit(mean, k)
+    with common.axes(path, 2, 1, (7, 2.4), sharex=True) as (above, below):
+        above.plot(fine, swing(fine, *best), "C1", lw=1, label=f"fit: c = {best[0] / k:.4f}, D = {best[1] / k**2:.3f}")
+        above.plot(fine, np.exp(-best[1] * fine) * np.hypot(*best[2:]), "C1:", lw=1)
+        above.plot(TIMES, mean, "C0.", label="measured")
+        above.set(ylabel="amplitude of the density", title=f"standing sound wave, {name}")
+        above.legend()
+        below.errorbar(TIMES, mean - swing(TIMES, *best), error, fmt="C0.", lw=0.7)
+        below.axhline(0, color="C1", lw=1)
+        below.set(xlabel="generations", ylabel="measured − fit")
+
+
+@common.experiment
 def main():
-    reader = common.Options(__doc__, "fhp1", "fhp-rest", "hpp")
-    reader.option("--density", common.number(0.05, 0.9), 0.3, 0.3, "the filling d", metavar="D")
+    reader = common.Options(__doc__, "fhp1", "fhp-rest", "hpp", figure="the swinging amplitude with its fit")
+    reader.option("--filling", common.number(0.05, 0.9), 0.3, 0.3, "the filling d", metavar="D")
     reader.option("--height", common.whole(16, 512), 128, 32, "rows")
     reader.option("--width", common.whole(256, 65536), 2048, 2048, "columns")
     reader.option("--seeds", common.whole(2, 1000), 8, 4, "how many")
@@ -59,11 +71,8 @@ def main():
     for is_diagonal in (False, True) if asked.gas == "hpp" else (False,):
         k, shape = wave(asked, is_diagonal)
         runs = fhpgas.side_by_side(lambda seed: measured(asked, shape, seed), range(1, asked.seeds + 1))
-        name, guess = "diagonal" if is_diagonal else "upwards", (0.7 * k, 0.2 * k * k)
-        fits, theory = [common.wave(STEP, values, *guess) for values in runs], common.wave(STEP, predicted(asked, shape), *guess)
-        common.compare(f"speed of sound {name}", [speed / k for speed, _ in fits], theory[0] / k, 4)
-        common.compare(f"damping D {name}", [rate / k**2 for _, rate in fits], theory[1] / k**2)
-
-
-if __name__ == "__main__":
-    common.experiment(main)
+        name, fits, theory = "diagonal" if is_diagonal else "upwards", [fit(values, k) for values in runs], fit(predicted(asked, shape), k)
+        common.compare(f"speed of sound {name}", [each[0] / k for each in fits], theory[0] / k, 4)
+        common.compare(f"damping D {name}", [each[1] / k**2 for each in fits], theory[1] / k**2)
+        if asked.picture and not is_diagonal:
+            draw(asked.picture, *fhpgas.mean(runs), k, f"{asked.gas}, d = {asked.filling}, {asked.height} rows, {asked.seeds} seeds")

@@ -1,70 +1,119 @@
 #!/usr/bin/env python3
 """A vortex street behind a cylinder: its Strouhal number, and a picture of its vorticity.
 
-The gas fhp-rest, d = 0.18, flows past a disc of diameter D in a channel 20 D long and 5.5 D high. Its mean speed u is kept by turning
-particles (`fhpgas.driven`). The flow across is measured one to two D behind the disc. Half a period is the time from one change of its sign
-to the next, in the last two thirds of the run. Its error is the standard error over these times. With the period T,
-St = D / (T g u) and Re = g u D / viscosity, because a flow is carried along by g u. A free cylinder has St = 0.212 (1 - 21.2 / Re)
-(A. Roshko, NACA Report 1191, 1954) and sheds vortices from Re = 47 on. The walls of a channel raise St.
+The gas flows past a disc of diameter D in a channel that is periodic after `--length` D. Its mean speed is kept by turning particles. A
+gust to the north starts the street. In the last two thirds of the run are measured: the mean speed, the speed u that meets the disc (over
+its height, one to two D ahead of it), the flow across in the wake (one to two D behind the disc's middle), whose changes of sign are half
+a period T / 2 apart, and the heights of the vortices. St = D / (T g u), Re = g u D / viscosity, with g of a slow flow or of a flow across the
+wind u. Each half period is taken with the speed during it, and errors are over the half periods. A free cylinder has St = 0.212 (1 - 21.2 /
+Re) (A. Roshko, NACA Report 1191, 1954) and sheds vortices from about Re = 47 on.
 """
 import common
 import fhpgas
+import numpy as np
+from fhpgas import theory
 
-GAS, DENSITY, FIRST = "fhp-rest", 0.18, 47
-
-
-def options():
-    reader = common.Options(__doc__)
-    reader.option("--radius", common.whole(8, 400), 80, 16, "of the disc, in cells")
-    reader.option("--flow", common.number(0.02, 0.35), 0.3, 0.15, "the mean speed u", metavar="U")
-    reader.option("--parts", common.whole(6, 10_000), 60, 10, "number of parts, each from one turning of particles to the next")
-    reader.option("--part", common.whole(10, 10_000), 1000, 50, "generations of a part")
-    reader.option("--seed", common.whole(0, 2**31), 1, 1, "of the gas")
-    reader.picture("the vorticity at the end")
-    return reader
+GAS, FILLING, FIRST, BLOCK = "fhp-rest", 0.18, 47, (8, 9)
+BEHIND = 1, 2, 4, 6, 8, 10, 12  # diameters
 
 
-def across(cells, column, row, radius):
-    """The mean velocity northwards one to two diameters behind the middle of the disc."""
-    rows = cells.rows[row - radius // 2 : row + radius // 2]
-    behind = tuple(line[column + 2 * radius : column + 4 * radius] for line in rows)
-    return fhpgas.Cells(0, 0, behind, cells.gas).table(4096, 4096).velocity()[1][0][0]
+class Street:
+    """The channel, and what was measured in it over time. Places are in diameters from the middle of the disc."""
+
+    def __init__(self, asked):
+        self.radius, self.across, self.part = asked.radius, 2 * asked.radius, asked.part
+        self.size = round(asked.length * self.across), 2 * round(asked.height * self.radius / fhpgas.gas_named(GAS).row_distance)
+        column, row = round(2.5 * self.across), self.size[1] // 2
+        X, Y = fhpgas.positions(self.size, GAS)
+        self.places = lambda x, y: ((x - X[row, column]) / self.across, (y - Y[row, 0]) / self.across)
+        x, y = self.places(X, Y)
+        gust, solid = asked.flow / 2 * np.exp(-((x - 2) ** 2) - y**2), fhpgas.disc(self.size, column, row, self.radius, GAS)
+        lattice = fhpgas.gas(FILLING, asked.flow, gust, solid=solid, gas=GAS, seed=asked.seed)
+        samples, self.fields = [], 0.0
+        for point in lattice.driven(asked.generations, asked.part, flow=asked.flow, seed=asked.seed):
+            if 3 * point.before.generation >= asked.generations:
+                samples.append((point.before.generation, point.velocity, *self.sampled(point.before.blocks(*BLOCK))))
+        self.last, (self.times, self.speeds, self.incoming, self.sides) = point.before, np.array(samples).T
+
+    def sampled(self, blocks):
+        """The speed that meets the disc and the flow across in the wake. Adds to the fields: the speed, the squared vorticity by sign."""
+        self.x, self.y = self.places(*blocks.positions)
+        curl = np.nan_to_num(blocks.smooth(2).vorticity)
+        self.fields = self.fields + np.array([blocks.east, np.maximum(0, -curl) ** 2, np.maximum(0, curl) ** 2])
+        wake = blocks.north[abs(self.y) < 0.25][:, (self.x > 1) & (self.x < 2)].mean()
+        return blocks.east[abs(self.y) < 0.5][:, (self.x > -2.5) & (self.x < -1.5)].mean(), wake
+
+    def crossings(self):
+        """The times at which the flow across changes its sign, on straight lines between the samples."""
+        side = self.sides - self.sides.mean()
+        n = np.flatnonzero(side[:-1] * side[1:] < 0)
+        return self.times[0] + self.part * (n + side[n] / (side[n] - side[n + 1]))
+
+    def heights(self, behind):
+        """The mean heights, in radii, of the clockwise and the counter-clockwise vortices so far behind the disc."""
+        inner, near = abs(self.y) < 1.5, abs(self.x - behind) < 0.25
+        return [2 * np.average(self.y[inner], weights=field[inner][:, near].sum(1)) for field in self.fields[1:]]
 
 
-def crossings(step, values):
-    """The times at which a series changes its sign, on straight lines between its points."""
-    pairs = enumerate(zip(values, values[1:]))
-    return [step * (n + a / (a - b)) for n, (a, b) in pairs if a * b < 0]
+def report(street, times):
+    """Prints the numbers of the flow with the mean speed and with the speed that meets the disc, and of the street if there is one."""
+    halves, scale = np.diff(times), street.across / theory.viscosity(GAS, FILLING)
+    is_fast = street.incoming.mean() * theory.galilean_factor(GAS, FILLING) * scale >= FIRST
+    is_street = is_fast and len(halves) > 2
+    if is_street:
+        print("half a period, mean of {}: {:.0f} +- {:.0f} generations".format(len(halves), *fhpgas.mean(halves)))
+    for name, speeds in (("mean", street.speeds), ("incoming", street.incoming)):
+        u, (first, *_, last) = speeds.mean(), (part.mean() for part in np.array_split(speeds, 4))
+        print(f"{name} speed {u:.3f}, first {first:.3f}, at last {last:.3f}, Mach {u / theory.sound_speed(GAS):.2f}")
+        for wind in (0, u):
+            g = theory.galilean_factor(GAS, FILLING, wind)
+            name, reynolds, end = "flow across this wind" if wind else "slow flow", g * u * scale, "\n" * (not is_street)
+            print(f"    g of a {name} {g:.3f}: Reynolds {reynolds:.0f}", end=end)
+            if is_street:
+                during = [speeds[(street.times >= a) & (street.times <= b)].mean() for a, b in zip(times, times[1:])]
+                numbers = *fhpgas.mean(street.radius / (halves * g * during)), 0.212 * (1 - 21.2 / reynolds)
+                print(", Strouhal {:.3f} +- {:.3f}, a free cylinder's {:.3f}".format(*numbers))
+    if not is_street:
+        return print("no vortex street yet" if is_fast else f"no vortex street is expected below Reynolds {FIRST}")
+    print("heights of the vortices, in radii: clockwise, counter-clockwise")
+    for behind in BEHIND:
+        print("{:3} D behind {:+6.2f} {:+6.2f}".format(behind, *street.heights(behind)))
 
 
+def draw(path, street, times):
+    """The vorticity, the flow across in the wake over time, and the profile that meets the disc."""
+    with common.axes(path, 3, 1, (9, 2.6), height_ratios=(1.4, 1, 1)) as (field, wake, ahead):
+        most = 3 * street.incoming.mean() / street.across
+        street.last.plot("vorticity", field, block=BLOCK, smooth=2, vmin=-most, vmax=most)
+        field.set_title(f"{GAS}, d = {FILLING}, disc of {street.across} cells, generation {street.last.generation}")
+        wake.plot(street.times, street.sides, "C0", lw=1)
+        wake.plot(times, np.full(len(times), street.sides.mean()), "C1.", label="changes of sign")
+        wake.set(xlabel="generations", ylabel="flow across\nin the wake")
+        profile = street.fields[0][:, (street.x > -2.5) & (street.x < -1.5)].mean(1) / len(street.times)
+        ahead.plot(street.y, profile, "C0", lw=1, label="1 to 2 D ahead of the disc")
+        ahead.axhline(street.speeds.mean(), color="0.5", lw=1, label="mean of the channel"), ahead.axvspan(-0.5, 0.5, color="0.9")
+        ahead.set(xlabel="height from the disc's middle, D", ylabel="speed eastwards")
+        wake.legend(fontsize=8), ahead.legend(fontsize=8)
+
+
+@common.experiment
 def main():
-    asked = options().parse_args()
-    radius, width, rows = asked.radius, 40 * asked.radius, 2 * round(5.5 * asked.radius / fhpgas.gas_named(GAS).row_distance)
-    column, row = 5 * radius, rows // 2 + radius // 20
-    scene = fhpgas.gas(DENSITY, asked.flow, solid=fhpgas.Obstacles(width, rows, GAS).disc(column, row, radius), gas=GAS, seed=asked.seed)
-    sides, speeds, last = [], [], None
-    for point in fhpgas.driven(scene, asked.parts * asked.part, asked.part, flow=asked.flow, seed=asked.seed):
-        sides.append(across(point.before, column, row, radius))
-        speeds.append(point.velocity)
-        last = point.before
-    settled = asked.parts // 3
-    u = sum(speeds[settled:]) / len(speeds[settled:])
-    numbers = fhpgas.numbers(GAS, DENSITY, u, 2 * radius)
-    print(f"{GAS}, d = {DENSITY}, {width} x {rows} cells, {asked.parts * asked.part} generations, disc {2 * radius} cells across")
-    print(f"mean speed {u:.3f}, Mach {numbers.mach:.2f}, Reynolds {numbers.reynolds:.0f}")
-    times = crossings(asked.part, sides[settled:])
-    if numbers.reynolds < FIRST or len(times) < 4:
-        print(f"no vortex street is expected below Reynolds {FIRST}" if numbers.reynolds < FIRST else "no vortex street yet")
-    else:
-        half, error = fhpgas.mean([b - a for a, b in zip(times, times[1:])])
-        strouhal = radius / (half * numbers.galilean_factor * u)
-        print(f"half a period, mean of {len(times) - 1}: {half:.0f} +- {error:.0f} generations")
-        free = 0.212 * (1 - 21.2 / numbers.reynolds)
-        print(f"Strouhal number {strouhal:.3f} +- {strouhal * error / half:.3f}, a free cylinder's {free:.3f}")
+    reader = common.Options(__doc__, figure="the vorticity at the end, the flow across in the wake, and the profile that meets the disc")
+    reader.option("--radius", common.whole(8, 400), 80, 16, "of the disc, in cells")
+    reader.option("--height", common.number(2, 50), 5.5, 5.5, "of the channel, in diameters")
+    reader.option("--length", common.number(6, 100), 20, 20, "of the channel, in diameters")
+    reader.option("--flow", common.number(0.02, 0.35), 0.3, 0.15, "the mean speed", metavar="U")
+    reader.option("--generations", common.whole(100, 10_000_000), 60_000, 1500, "in all, a multiple of the part")
+    reader.option("--part", common.whole(10, 10_000), 200, 50, "generations from one turning of particles to the next")
+    reader.option("--seed", common.whole(0, 2**31), 1, 1, "of the gas")
+    reader.add_argument("--scene", type=common.writable, metavar="FILE", help="keep the last lattice as a scene")
+    asked = reader.parse_args()
+    street = Street(asked)
+    print(f"{GAS}, d = {FILLING}, {street.size[0]} x {street.size[1]} cells, {asked.generations} generations, seed {asked.seed},",
+          f"disc {street.across} cells across, {1 / asked.height:.0%} of the channel")
+    times = street.crossings()
+    report(street, times)
+    if asked.scene:
+        street.last.save(asked.scene)
     if asked.picture:
-        most = 3 * asked.flow / radius / 2
-        fhpgas.picture(asked.picture, "vorticity", fhpgas.smooth(last.table(8, 9), 8), low=-most, high=most, scale=3)
-
-
-if __name__ == "__main__":
-    common.experiment(main)
+        draw(asked.picture, street, times)

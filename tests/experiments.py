@@ -1,19 +1,24 @@
 #!/usr/bin/env python3
 """Runs the small form of every experiment, whose seeds are fixed: what it measures must be what theory says within its error, and far from
-what theory says of another gas. Compares the Boltzmann solution with published formulas, and checks that a wrong use is refused in one
-line. Ends with the counts."""
+what theory says of another gas. Every figure must show something. Compares theory, the Boltzmann solution and published formulas, and
+checks that a wrong use is refused in one line. Ends with the counts."""
 
 import concurrent.futures
-import math
 import os
+import pathlib
 import re
 import subprocess
 import sys
+import tempfile
 
 import needs
+import numpy as np
+from PIL import Image
 
 os.environ["FHPGAS"] = str(needs.built_program())
+sys.path.insert(0, str(needs.ROOT / "experiments"))
 
+import street as street_script
 from fhpgas import Fault, boltzmann, theory
 
 LINE = re.compile(r"^(.*?) +measured +(\S+) \+- (\S+)  theory +(\S+)$", re.M)
@@ -25,10 +30,10 @@ FORMULAS = {  # published viscosities
     ("fhp-rest", "seeded"): lambda d: 1 / (28 * d * (1 - d) ** 3 * (1 - 4 * d / 7)) - 1 / 8,
 }
 REFUSED = [
-    "viscosity.py --gas hpp", "viscosity.py --density 2", "viscosity.py --seeds 1", "viscosity.py --colour", "viscosity.py --chirality up",
-    "galilean.py --gas hpp", "galilean.py --width 200", "invariants.py --size 33", "street.py --radius 0", "sound.py --density 0.2 0.3",
-    "poiseuille.py --small --force 0.01 --density 0.1 --width 64", "porous.py --small --percent 71", "equilibrium.py --size few",
-    "reversal.py --small --picture /none/there.png", "collisions.py --gas fhp3", "porous.py --settled 9000", "poiseuille.py --settled 9000",
+    "viscosity.py --gas hpp", "viscosity.py --filling 2", "viscosity.py --seeds 1", "viscosity.py --colour", "viscosity.py --chirality up",
+    "galilean.py --gas hpp", "galilean.py --width 200", "galilean.py --wave 100", "invariants.py --size 33", "street.py --radius 0",
+    "sound.py --filling 0.2 0.3", "sound.py --filling nan", "porous.py --small --share 0.71", "equilibrium.py --size few",
+    "reversal.py --small --picture /none/there.png", "collisions.py --gas fhp3", "porous.py --settled 9000", "poiseuille.py --spans 0",
 ]
 
 
@@ -40,29 +45,67 @@ def ran(words):
 
 
 def printed(words):
-    status, output, fault = ran(words)
-    assert status == 0 and not fault, f"status {status}: {fault}"
+    """The output of an experiment that draws its figure, which must have some ink and not be all ink."""
+    with tempfile.TemporaryDirectory() as folder:
+        picture = pathlib.Path(folder, "figure.png")
+        status, output, fault = ran(f"{words} --picture {picture}")
+        assert status == 0 and not fault, f"status {status}: {fault}"
+        shades = np.asarray(Image.open(picture).convert("L"))
+    ink = np.mean(shades < 200)
+    assert min(shades.shape) >= 200 and 0.005 < ink < 0.9, f"a figure of {shades.shape} with {ink:.3f} ink"
     return output
 
 
 def are_as_in_theory(words, names, most_error=0.1):
-    """The measurements whose names begin with one of these are within their errors, which are at most a part of the largest number."""
+    """The measurements whose names begin with one of these are within their errors, which are small beside what is expected, or where that
+    is 0 beside the smallest other number."""
     found = [(name, *map(float, numbers)) for name, *numbers in LINE.findall(printed(words)) if name.startswith(tuple(names))]
     assert len(found) >= len(names), f"{len(found)} measurements"
-    largest = max(abs(expected) for _, _, _, expected in found)
+    smallest = min(abs(expected) for *_, expected in found if abs(expected) > 0.01)
     for name, measured, error, expected in found:
         assert abs(measured - expected) <= ERRORS * error + 0.001, f"{name}: {measured} +- {error}, theory {expected}"
-        assert error <= most_error * largest, f"{name}: the error {error} is too large to tell anything"
+        assert error <= most_error * max(abs(expected), smallest), f"{name}: the error {error} is too large to tell anything"
+    return {name: (measured, error) for name, measured, error, _ in found}
+
+
+def slips(gas, chirality, filling, others):
+    """The slip and the odd viscosity of a channel are those of theory, with their signs, and not those of other gases or of no slip."""
+    words = f"poiseuille.py --small --gas {gas} --chirality {chirality} --filling {filling}"
+    found = are_as_in_theory(words, ["8 rows: viscosity", "8 rows: slip K", "8 rows: odd viscosity"])
+    (slip, error), (odd, odd_error) = (found[f"8 rows: {name}"] for name in ("slip K", "odd viscosity"))
+    assert all(abs(slip - theory.slip(*other)) > 5 * error for other in others) and slip > 5 * error, (slip, error)
+    assert abs(odd - theory.odd_viscosity(gas, filling, chirality)) <= ERRORS * odd_error + 0.01, (odd, odd_error)
+    sign = {"seeded": 0, "left": -1, "right": 1}[chirality]
+    assert sign * odd > 5 * odd_error or not sign, (odd, odd_error)
+
+
+def slips_exactly(gas, filling, chirality):
+    """The stationary solution of the Boltzmann equation under a weak force is a parabola in every row, whose place and bend `slip` and
+    `viscosity` have: 1/m of the staggered mode from its published rates."""
+    rows, force = 12, 1e-6
+    flow, places = boltzmann.Flow(gas, np.zeros((rows, 1)), chirality), (rows - 1) / 2 - np.arange(rows)
+    slip, viscosity, mass = theory.slip(gas, filling, chirality), theory.viscosity(gas, filling, chirality), flow.gas.directions * filling
+    chances, steps = flow.at(filling), int(40 * (rows**2 / 4 + slip) / viscosity / np.pi**2 * 3)
+    for _ in range(steps):
+        kicked = flow.forced(chances, force)
+        before, chances = chances, flow.step(kicked)
+    speed = (flow.velocity(before) + flow.velocity(kicked))[0, :, 0] / 2
+    bend, middle = np.polyfit(places**2, speed, 1)
+    assert abs(speed - bend * places**2 - middle).max() < 1e-4 * middle, "no parabola"
+    assert abs(-middle / bend - rows**2 / 4 - slip) < 1e-3 * (rows**2 / 4 + slip), (-middle / bend - rows**2 / 4, slip)
+    assert abs(-force * flow.gas.row_distance**2 / 2 / bend / mass - viscosity) < 1e-3 * viscosity
+    share = 6 * filling**2 * (1 - filling) ** 2 + (9 * filling * (1 - filling) ** 4 if gas == "fhp-rest" else 0)
+    assert abs(slip - (8 * viscosity * (1 / share - 2 / 3) - 1 / 4)) < 1e-9
 
 
 def is_viscous(gas, chirality):
     """The viscosity is between Boltzmann's in this channel and a little above, unlike the viscosities of the other gases."""
     row = printed(f"viscosity.py --small --gas {gas} --chirality {chirality}").splitlines()[-1].replace("+-", "").split()
-    density, _, measured, error, channel, published = map(float, row)
-    assert abs(published - FORMULAS[gas, chirality](density)) < 1e-4
+    filling, _, measured, error, channel, published = map(float, row)
+    assert abs(published - FORMULAS[gas, chirality](filling)) < 1e-4
     fits = lambda value: value - ERRORS * error <= measured <= value * (1 + CORRELATIONS) + ERRORS * error
     assert fits(channel), f"{measured} +- {error}, Boltzmann's {channel}"
-    others = [key for key, formula in FORMULAS.items() if fits(formula(density))]
+    others = [key for key, formula in FORMULAS.items() if fits(formula(filling))]
     assert others == [(gas, chirality)], f"{measured} +- {error} could be of {others}"
 
 
@@ -93,22 +136,27 @@ def keeps():
 
 
 def decays_as_published(gas, chirality):
-    """A long slow shear wave of the Boltzmann equation decays with the published viscosity, and its particles stay."""
-    k, d = 2 * math.pi / 64, 0.2
-    flow = boltzmann.Flow(gas, [[False] * 64] * 2, chirality, has_walls=False)
-    chances = flow.at(lambda x, y: (d, 0, 0.001 * math.sin(k * x)))
-    particles, sizes = sum(map(sum, flow.density(chances))), []
+    """A long slow shear wave of the Boltzmann equation decays with the published viscosity, its particles stay, and a wind carries it with
+    the Galilean factor of that wind, and not with that of a slow one."""
+    length, d, wind = 256, 0.2, 0.25
+    k, x = 2 * np.pi / length, np.arange(length)
+    flow, shape = boltzmann.Flow(gas, np.zeros((2, length)), chirality, has_walls=False), np.sin(k * x)
+    at_rest, carried = flow.at(d, 0, 0.001 * shape), flow.at(d, wind, 0.001 * shape)
+    particles, sizes, turns = flow.density(at_rest).sum(), [], np.exp(-1j * k * x)
     for _ in range(80):
-        chances = flow.step(chances)
-        sizes.append(sum(v * math.sin(k * x) for x, v in enumerate(flow.velocity(chances)[1][0])))
-    found, wanted = math.log(sizes[39] / sizes[79]) / 40 / k**2, FORMULAS[gas, chirality](d)
+        at_rest, carried = flow.step(at_rest), flow.step(carried)
+        sizes.append(((flow.velocity(at_rest)[1, 0] * shape).sum(), np.angle((flow.momentum(carried)[1, 0] * turns).sum())))
+    (early, turned), (late, further) = sizes[39], sizes[79]
+    found, wanted = np.log(early / late) / 40 / k**2, FORMULAS[gas, chirality](d)
     assert abs(found - wanted) < 0.02 * wanted and abs(wanted - theory.viscosity(gas, d, chirality)) < 1e-9, (found, wanted)
-    assert abs(sum(map(sum, flow.density(chances))) - particles) < 1e-9
+    assert abs(flow.density(at_rest).sum() - particles) < 1e-9
+    factor, slow, fast = (turned - further) / 40 / k / wind, theory.galilean_factor(gas, d), theory.galilean_factor(gas, d, wind)
+    assert abs(factor - fast) < 0.02 * fast < abs(factor - slow), (factor, slow, fast)
 
 
 def is_refused(words):
     status, output, fault = ran(words)
-    assert status == 1 and not output and fault.count("\n") == 1 and fault.startswith(words.split()[0]), (status, output, fault)
+    assert status in (1, 2) and not output and fault.count("\n") == 1 and fault.startswith(words.split()[0]), (status, output, fault)
 
 
 def solves_no(*words):
@@ -120,19 +168,40 @@ def solves_no(*words):
 
 
 def street():
-    assert "no vortex street is expected below Reynolds 47" in printed("street.py --small")
+    output = printed("street.py --small")
+    assert "no vortex street is expected below Reynolds 47" in output and "Strouhal" not in output, output
+
+
+def finds_periods():
+    """The changes of sign of a wave that is sampled every 200 generations, about a mean that is not 0."""
+    wave = object.__new__(street_script.Street)
+    wave.part, wave.times = 200, 20_000 + 200 * np.arange(200)
+    wave.sides = 0.03 + 0.2 * np.sin(np.pi * (wave.times - 20_100) / 2_345)
+    halves = np.diff(wave.crossings())
+    assert len(halves) == 16 and abs(halves.mean() - 2345) < 5, halves
+
+
+def takes_arrays():
+    """Theory of an array is an array of the theory of its numbers."""
+    fillings = np.array([[0.1, 0.3], [0.5, 0.7]])
+    for name, gas, *more in (("viscosity", "fhp-rest", "left"), ("odd_viscosity", "fhp1", "right"), ("slip", "fhp1"), ("bulk_viscosity", "fhp-rest"),
+                             ("noise", "hpp", 9), ("galilean_factor", "fhp1", 0.2), ("galilean_factor", "fhp-rest")):
+        of = lambda d: getattr(theory, name)(gas, d, *more)
+        assert np.allclose(of(fillings), [[of(float(d)) for d in row] for row in fillings], rtol=1e-12)
 
 
 CASES = [
     *((collides, gas, *numbers) for gas, *numbers in (("fhp1", 5, 64), ("fhp-rest", 22, 128), ("hpp", 2, 16))),
-    *((returns, gas) for gas in ("fhp1", "fhp-rest", "hpp")), (keeps,), (street,),
+    *((returns, gas) for gas in ("fhp1", "fhp-rest", "hpp")), (keeps,), (street,), (finds_periods,), (takes_arrays,),
     *((is_viscous, *key) for key in FORMULAS), *((decays_as_published, *key) for key in FORMULAS),
     *((are_as_in_theory, f"equilibrium.py --small --gas {gas}", ["direction"], 0.05) for gas in ("fhp1", "fhp-rest")),
     *((are_as_in_theory, f"sound.py --small --gas {gas}", ["speed of sound", "damping"]) for gas in ("fhp1", "fhp-rest")),
     (are_as_in_theory, "sound.py --small --gas hpp", ["speed of sound diagonal", "damping D diagonal"]),
     *((are_as_in_theory, f"galilean.py --small --gas {gas}", [gas]) for gas in ("fhp1", "fhp-rest")),
-    *((are_as_in_theory, f"poiseuille.py --small --chirality {side}", ["viscosity", "odd"]) for side in ("seeded", "left")),
-    (solves_no, "fhp1", [[0]] * 3, "seeded", False), (solves_no, "fhp1", [[0]], "up"),
+    (slips, "fhp1", "seeded", 0.3, [("fhp1", 0.3, "left"), ("fhp-rest", 0.3)]), (slips, "fhp1", "left", 0.3, [("fhp1", 0.3)]),
+    (slips, "fhp1", "right", 0.3, [("fhp1", 0.3)]),
+    *((slips_exactly, *key) for key in (("fhp1", 0.3, "seeded"), ("fhp1", 0.1, "seeded"), ("fhp1", 0.3, "left"), ("fhp-rest", 0.2, "seeded"))),
+    (solves_no, "fhp1", np.zeros((3, 1)), "seeded", False), (solves_no, "fhp1", [[0]], "up"), (solves_no, "fhp1", [0]),
     (are_as_in_theory, "porous.py --small", ["force"]), *((is_refused, words) for words in REFUSED),
 ]
 
