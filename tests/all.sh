@@ -12,9 +12,10 @@ if grep 'only because a proof file names what the edit took away' "$room/gate"; 
     echo 'tests: these edits say little of a contract: let them change a value and keep the names'
     exit 1
 fi
-for name in command_line.py oracle.py golly.py reference.py terminal.py documents.py library.py archive.sh python_package.py \
-    package_commands.py notebook.py experiments.py large_scenes.py scale.py refusals.py; do
+for name in command_line.py oracle.py golly.py reference.py terminal.py documents.py library.py archive.sh \
+    python_package.py package_commands.py notebook.py experiments.py large_scenes.py scale.py refusals.py; do
     part tests/$name
 done
+for name in package_commands.py notebook.py; do part tests/$name; done
 part tests/mutated_scenes.py 5000
 tell

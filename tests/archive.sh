@@ -17,7 +17,15 @@ needs_libc() {
 # draws: the package makes a PNG of what the program prints
 draws() {
     alone ./fhpgas coarse --generations 12 --block-width 8 --block-height 4 < "$folder/scenes/wind.toml" > "$room/table" &&
-        alone python3 -m fhpgas picture speed "$room/wind.png" "$room/table" > "$room/told" && [ "$(head -c 4 "$room/wind.png")" = $'\x89PNG' ]
+        alone python3 -m fhpgas picture speed "$room/wind.png" "$room/table" --scene scenes/wind.toml --block 8 4 > "$room/told" &&
+        [ "$(head -c 4 "$room/wind.png")" = $'\x89PNG' ]
+}
+
+# installs: pip makes commands from the wheel, without the network
+installs() {
+    (cd "$folder" && /usr/bin/python3 -m pip install -q --no-deps --no-index --target "$room/site" fhpgas-*.whl) > "$room/told" 2>&1 &&
+        env -i PATH=/usr/bin PYTHONPATH="$room/site" "$room/site/bin/fhpgas-tools" --version > "$room/version" &&
+        grep -qx "fhpgas-tools $(sed -n 's/^version = "\(.*\)"/\1/p' python/pyproject.toml)" "$room/version" && [ -e "$room/site/fhpgas/py.typed" ]
 }
 
 mkdir "$room/other place"
@@ -36,9 +44,10 @@ try 'so it does for the scene that comes with it' prints "$room/wanted" "$folder
 try 'a scene of no text is refused' refuses
 try 'it needs the C library alone' needs_libc
 
-path=$(dirname "$(python3 -c 'import sys; print(sys.executable)')")
+path=/usr/bin # of the system's Python, to which Debian's packages belong
 try 'the Python package says what it can do' alone python3 -m fhpgas --help > "$room/help"
 try 'and draws what the program computed' draws
+if /usr/bin/python3 -c 'import pip, wheel'; then try 'pip installs its command' installs; fi
 
 try 'README names the level' grep -qE 'built for x86-64-v[23]$' "$folder/README"
 try 'README says that there is no proof in hand' grep -q 'holds no proof' "$folder/README"

@@ -1,6 +1,6 @@
 #!/bin/bash
-# Packs the built fhpgas into FILE, a .tar.gz, for machines without the kit: with the Python package, the experiments, the scenes, the
-# documents, and the licences of all that is in it. `make archive FILE=F` builds the program first.
+# Packs the built fhpgas into FILE, a .tar.gz, for machines without the kit: with the Python package, also as a wheel, the notebooks, the
+# experiments, the scenes, the documents, and the licences of all that is in it. `make archive FILE=F` builds the program first.
 set -euo pipefail
 shopt -s extglob nullglob
 if [ -z "${1-}" ]; then echo 'usage: make archive FILE=NAME.tar.gz' >&2; exit 2; fi
@@ -15,9 +15,14 @@ trap 'rm -rf "$room" "$file.new"' EXIT
 name=${version% (*}
 folder=$room/${name/ /-}-$level
 mkdir -p "$folder/licences/core"
-cp $program LICENSE-MIT LICENSE-APACHE "$folder"
-cp -r @(docs|experiments|python|scenes) "$folder"
-find "$folder" \( -name __pycache__ -o -name out \) -prune -exec rm -r {} +
+cp $program LICENSE-MIT LICENSE-APACHE README.md CHANGELOG.md CITATION.cff CONTRIBUTING.md "$folder"
+cp -rL @(docs|experiments|notebooks|page|python|scenes) "$folder"
+find "$folder" \( -name __pycache__ -o -name out -o -name .mypy_cache -o -name build -o -name '*.egg-info' \) -prune -exec rm -r {} +
+
+# pip needs no network for a wheel
+cp -r "$folder/python" "$room/python"
+/usr/bin/python3 -m pip wheel -q --no-deps --no-index --no-build-isolation -w "$folder" "$room/python" ||
+    echo 'the archive has no wheel: apt-get install python3-pip python3-wheel' >&2
 
 # the notices of the kit's libraries in the program, and of Unicode's data, of which core has tables
 parts=(fhpgas std)
@@ -39,9 +44,11 @@ $version, built for $level
     ./fhpgas run --generations 1 < scenes/head_on.toml
     ./fhpgas --help
     PYTHONPATH=python python3 -m fhpgas --help
+    jupyter notebook notebooks/first_class.ipynb
 
 The program needs Linux on x86-64, a processor of that level, and the C library glibc, version
-$(grep -aoP 'GLIBC_\K2[.0-9]+' $program | sort -V | tail -n 1) or later. The Python package needs Python 3.11. Begin with docs/GUIDE.md.
+$(grep -aoP 'GLIBC_\K2[.0-9]+' $program | sort -V | tail -n 1) or later. The Python package needs Python 3.11 and numpy, its pictures matplotlib, its fits scipy. pip installs it from the .whl file
+without a network. Begin with docs/GUIDE.md.
 
 This program is taken on the word of who made it. A build from the sources of Luqembisho proves each part of it first, and
 makes nothing if a proof fails; but a program by itself holds no proof, and nothing here shows that this one came from such
