@@ -1,6 +1,6 @@
 #!/usr/bin/env python3
-"""Compares the lattices, blocks, fields, shapes and driven flows of the package in python/ with values made by hand, exact laws, plain second
-implementations, or the program itself. Dask is tried if it is there. Ends with the counts."""
+"""Compares the lattices, blocks, fields, shapes and driven flows of the package in python/ with values made by hand, exact laws, plain
+second implementations, or the program itself. Ends with the counts."""
 
 import concurrent.futures
 import copy
@@ -22,16 +22,14 @@ import unittest.mock
 
 import needs
 
+needs.libraries(distributed="distributed")
 PROGRAM = needs.built_program()
 os.environ["PYTHONPATH"] = str(needs.ROOT / "python")
+import distributed  # noqa: E402
 import fhpgas  # noqa: E402 - finds the program by the lines above
 import numpy as np  # noqa: E402
-from fhpgas import drive, program, refusals  # noqa: E402
-
-try:
-    import distributed
-except ImportError:
-    distributed = None
+from fhpgas import drive, program  # noqa: E402
+from PIL import Image  # noqa: E402
 
 GASES, CHIRALITIES, SIZES = ("fhp1", "hpp", "fhp-rest"), ("seeded", "left", "right"), ((64, 47), (65, 33), (1, 5), (7, 1))
 ROOT3, FACTOR = math.sqrt(3), 0x2360ED051FC65DA44385DF649FCCF645
@@ -49,27 +47,75 @@ DRAWN = {
     "hpp": "f86c3a00bb0e3235335ed0c6fadd6909084ec35bac006ae3c5a0471e3bb83888",
     "fhp-rest": "f72bed5b400caa7a56c33da10ee0ca53aff8a85ee8b383c9aba6c20e799a746f",
 }
-EXPLAINED = [
-    ('gas = "fhp1"\ncells = ["01"\n"01"]\n', "scene: not TOML", "line 3, column 1: Unclosed array"),
-    *((f'gas = "{name}"\ncells = [".."]\n', "scene: out of range", f'`gas` is "{name}"; its name here is `{gas}`') for name, gas in
-      (("FHP-II", "fhp-rest"), ("fhp2", "fhp-rest"), ("FHP2", "fhp-rest"), ("fhp-2", "fhp-rest"), ("FHP-I", "fhp1"), ("HPP", "hpp"))),
-    ('gas = "FHP-III"\ncells = [".."]\n', "scene: out of range", "there is none here, only `fhp1`"),
-    ("gas = \u201chpp\u201d\n", "scene: not TOML", "line 1, column 7: Invalid value: the quotes are curly"),
-    ('gas = "hpp"\nparticles = [[0, 0, 3f]]\n', "scene: not TOML", "a hexadecimal state is 0x3f"),
-    (CELLS, "scene: not TOML", "the text is what `run` prints"),
-    ('gas = "fhp1"\ncells = [".."]\nseed = 9223372036854775808\n', "scene: not TOML", "line 3, column 1: 9223372036854775808 is no integer of 64 bits"),
-    (f'gas = "fhp1"\nseed = {"9" * 9999}\n', "scene: not TOML", "line 2: an integer of thousands of digits"),
-    (f'gas = "fhp1"\nseed = 0x{"9" * 9999}\n', "scene: not TOML", "line 2, column 1: one of 39996 bits is no integer of 64 bits"),
-    ('# a\n[scene]\ngas = "fhp1"\n', "scene: unknown key", "line 2, column 2: \"scene\" is no key of a scene, and all keys stand at the top level"),
-    ('gas = "fhp1"\ncells = [".."]\n  width = 3\n', "scene: both forms", "line 3, column 3: `width` is a key of an area"),
-    ('gas = "fhp1"\nwidth = 3\n', "scene: missing key", "`height` is missing"),
-    ('gas = "fhp1"\nwidth = 3\nheight = 3\nsolid = [[0, 0, 1, 1],\n  [1, 1, 1]]\n', "scene: wrong type", "line 5, column 3: entry 1 of `solid`"),
-    ('gas = "fhp1"\nwidth = 3\nheight = 3\nsolid = [0, 0, 1, 1]\n', "scene: wrong type", "must be a list of entries: [[0, 0, 1, 1]]"),
-    ('gas = "fhp1"\nwidth = 5000\nheight = 3\n', "scene: out of range", "must be 1 to 4096 (with `version = 2` to 65536)"),
-    ('gas = "hpp"\nwidth = 4\nheight = 3\nparticles = [[1, 1, 16]]\n', "scene: out of range", "has state 16, and those of hpp are 0 to 15"),
-    ('gas = "fhp1"\ncells = ["..", "....", "...."]\n', "scene: row 1 has a wrong length", "so row 0 may be the wrong one"),
-    ('gas = "fhp1"\ncells = [\n  "0101",\n  "013F",\n]\n', "scene: row 1 cell 1 is not a cell", "line 4, column 6: `3F` has a capital digit"),
-]
+# Calls that do not fit, and a part of the line that says why. `start` is the lattice of AREA, `solid` a mask of 64 x 47 cells.
+FAULTS = """
+Lattice([[0, 64]])                              a state of fhp1 is an integer from 0 to 63, and row 0 column 1 has 64
+Lattice([[0], [-1]])                            row 1 column 0 has -1
+Lattice([[0.5]])                                of the type float64
+Lattice([1])                                    arrays [y, x] of one shape, 1 to 65536 each way, not (1,) and (1,)
+Lattice([[1, 2]], [[0]])                        not (1, 2) and (1, 1)
+Lattice([[1]], [[1]])                           row 0 column 0 is solid and contains a particle
+Lattice([[1]], [[0.5]])                         solid cells are an array of truth values
+Lattice([[0]], gas="fhp2")                      a gas is one of fhp1, hpp, fhp-rest, not 'fhp2'
+Lattice([[0]], chirality="up")                  a chirality is one of seeded, left, right, not 'up'
+Lattice([[0]], seed=-1)                         a seed is an integer from 0 to 9223372036854775807, not -1
+start.replace(seed=1.0)                         not 1.0
+start.run(-1)                                   the number of generations is an integer from 0 to 1000000, not -1
+run(AREA, 1e3)                                  not 1000.0
+start.run(1, stages=65)                         the number of stages is an integer from 1 to 64, not 65
+start.coarse(1, 4097)                           the width of a block is an integer from 1 to 4096, not 4097
+start.blocks(0)                                 the width of a block is an integer from 1, not 0
+next(start.every(-1, 2))                        a step is an integer from 0 to 1000000, not -1
+start.save("/no/such/a.toml")                   No such file
+Lattice(np.zeros((8200, 4096), int)).run(1)     the scene has 67240082 bytes, and the program reads 67108864
+run("no/such.toml", 1)                          no/such.toml: No such file
+check(AREA.encode())                            not as bytes
+Lattice.load(AREA + "colour = 1")               scene: unknown key (`explain` says where)
+with_seed(start.scene(), 1)                     leave `cells` as they are
+with_seed(AREA + "particles = [[0, 0, 1]]", 1)  leave `particles` as they are
+with_seed(AREA.replace("300", "0"), 1)          `rate` is 0
+read_cells(CELLS, "fhp1", (3, 4))               the cells are 4 x 3 (columns x rows), and not 3 x 4
+read_cells(CELLS, "hpp", (4, 3))                from 0 to 15
+read_table(TABLE, "hpp", (2, 2), (6, 3))        no whole table of `coarse` with 3 columns and 2 rows of blocks
+start.blocks() + start.blocks(9, 9)             only blocks of one gas, one size and one lattice's size
+replace(start.blocks(), size=(66, 10))          66 x 10 cells have 9 x 2 blocks of 8 x 9
+start.blocks().smooth(-1)                       sigma is a number from 0
+start.blocks().smooth().text()                  smoothed sums have fractions
+start.reverse()                                 chirality "seeded" cannot be reversed
+GASES["hpp"].collisions("seeded")               left or right, not 'seeded'
+equilibrium("fhp1", 0.2, 1.0)                   no fhp1 of filling 0.2 has the velocity 1, 0
+equilibrium("fhp1", [0.2, 0.9], 0.3)            no fhp1 of filling 0.9 has the velocity 0.3, 0
+equilibrium("hpp", 0.5, nan)                    the field `east` has a value that is not finite
+equilibrium("fhp1", 1.2)                        a filling is the chance per direction, 0 to 1, not 1.2 (particles per cell are a density)
+gas(0.2)                                        the size is not known
+gas(0.2, 0.1 * np.ones((47, 1)))                the size is not known
+gas(lambda X, Y: 0.2)                           the size is not known
+gas(0.2, size=64)                               a size is two integers, columns and rows, not 64
+gas(0.2, size=(64.0, 64))                       the number of columns is an integer from 1, not 64.0
+gas(0.2, size=(70000, 1))                       1 to 65536 each way
+gas(np.ones((3, 4)), size=(4, 4))               the field `filling` has the shape (3, 4), and the lattice 4 rows and 4 columns
+gas(0.2, size=(9, 9), solid=solid)              the field `solid` has the shape (47, 64)
+gas(np.ones((4, 5)), np.ones((2, 3)))           which do not fit together
+gas(0.2, None, size=(4, 4))                     the field `east` is numbers or a function of the place, not None
+disc((64, 24), 64, 0, 1)                        the column of a disc is an integer from 0 to 63, not 64
+disc((64, 24), 0, 0, nan)                       the radius of a disc is a number from 0 to inf, not nan
+polygon((9, 9), [(1, 2), (3, 4)])               a polygon has three corners (column, row) or more
+polygon((9, 9), [1, 2, 3])                      not [1, 2, 3]
+polygon((9, 9), [(0, 0), (1, inf), (1, 1)])     a corner's row is a number
+porous((9, 9), 30, 1)                           the share of solid cells is a number from 0 to 1, not 30
+porous((9, 9), 0.3, 1, np.random.default_rng()) a seed is an integer
+nozzle((64, 24), 6, 65)                         the length of a nozzle is an integer from 1 to 64
+bitmap((64, 40), solid, 1)                      the picture leaves the channel of 64 x 40 cells
+bitmap((64, 48), solid, 1e308)                  a number from 1e-09 to 65536, not 1e+308
+bitmap((64, 40), "no.png")                      no.png: No such file
+bitmap((64, 40), [1, 2, 3])                     not of the shape (3,)
+bitmap((64, 48), solid, 0)                      the width of a pixel is a number
+next(start.driven(20))                          either by a force or towards a mean flow
+next(start.driven(20, 7, force=1))              20 generations are not a multiple of 7
+next(start.driven(20, force=nan))               a force is a number from -2 to 2, not nan
+next(start.driven(20, force=2))                 particles to turn
+gas(0, size=(4, 4)).driven(20, force=1)         no particle that could be turned
+"""
 
 
 def particles_of(seed):
@@ -79,7 +125,8 @@ def particles_of(seed):
 
 def printed(lattice, *words):
     """What the program prints for a scene that is written here by docs/FORMATS.md."""
-    rows = ('"' + "".join("##" if wall else f"{state:02x}" for state, wall in zip(*pair)) + '"' for pair in zip(lattice.states, lattice.solid))
+    pairs = zip(lattice.states, lattice.solid)
+    rows = ('"' + "".join("##" if wall else f"{state:02x}" for state, wall in zip(*pair)) + '"' for pair in pairs)
     scene = (f'version = 2\ngas = "{lattice.gas.name}"\nchirality = "{lattice.chirality}"\nseed = {lattice.seed}\n'
              f'generation = {lattice.generation}\ncells = [{", ".join(rows)}]\n')
     return subprocess.run([PROGRAM, *map(str, words)], input=scene, capture_output=True, text=True, check=True).stdout
@@ -92,7 +139,7 @@ def wind(size, gas="fhp1", chirality="seeded", solid=None):
 
 
 def raw_bits(seed):
-    """The words of 64 bits of PCG64(seed) by plain integers: M. E. O'Neill's XSL RR 128/64, with the state that NumPy's SeedSequence mixes."""
+    """The words of 64 bits of PCG64(seed) by plain integers: M. E. O'Neill's XSL RR 128/64, from the state that SeedSequence mixes."""
     def hashed(value):
         nonlocal constant
         value = (value ^ constant) & 0xFFFFFFFF
@@ -117,7 +164,7 @@ def raw_bits(seed):
         yield (folded >> turn | folded << 64 - turn) & (1 << 64) - 1
 
 
-def plainly_drawn(gas, chances, columns, rows, seed):
+def plainly_drawn(chances, columns, rows, seed):
     """The states by the rule of `fhpgas.fields.drawn`, cell by cell, for the chances [direction][row]."""
     words, states = raw_bits(seed), np.zeros((rows, columns), np.uint8)
     for y, i in itertools.product(range(rows), range(len(chances))):
@@ -132,10 +179,10 @@ class Package(unittest.TestCase):
         self.room = pathlib.Path(tempfile.mkdtemp())
         self.addCleanup(shutil.rmtree, self.room)
 
-    def fault(self, part, function, *words, **options):
+    def fault(self, part, function, *words):
         """The call has a Fault of one line with this part."""
         with self.assertRaises(fhpgas.Fault) as caught:
-            function(*words, **options)
+            function(*words)
         self.assertIsInstance(caught.exception, ValueError)
         self.assertIn(part, str(caught.exception))
         self.assertNotIn("\n", str(caught.exception))
@@ -144,33 +191,31 @@ class Package(unittest.TestCase):
         """Both are arrays of one shape whose numbers are close, with nan where the other has it."""
         np.testing.assert_allclose(np.asarray(found, float), np.asarray(wanted, float), rtol=0, atol=10.0**-places)
 
+    def test_what_does_not_fit_is_a_fault(self):
+        names = globals() | vars(fhpgas) | {"nan": math.nan, "inf": math.inf, "replace": dataclasses.replace}
+        names |= {"start": fhpgas.Lattice.load(AREA), "solid": wind((64, 47)).solid}
+        for line in FAULTS.strip().splitlines():
+            self.fault(line[48:], lambda: eval(line[:48], names))
+
     # -- lattices
 
     def test_a_lattice_does_not_change_and_is_equal_by_value(self):
         states = np.array([[0, 0, 2, 0], [0] * 4, [0, 16, 0, 0]])
-        lattice = fhpgas.Lattice(states, states < 0, seed=5, generation=7)
+        lattice, kept = fhpgas.Lattice(states, states < 0, seed=5, generation=7), states.tolist()
         states[:] = 9
-        self.assertEqual((lattice.states.tolist(), lattice.size, lattice.particles, lattice.fluid), ([[0, 0, 2, 0], [0] * 4, [0, 16, 0, 0]], (4, 3), 2, 12))
+        self.assertEqual((lattice.states.tolist(), lattice.size, lattice.particles, lattice.fluid), (kept, (4, 3), 2, 12))
         self.assertEqual(repr(lattice), "<Lattice fhp1 seeded 4 x 3, generation 7, 2 particles>")
-        for kept in (lattice, pickle.loads(pickle.dumps(lattice)), copy.deepcopy(lattice), lattice.replace(), lattice.blocks(2, 2),
-                     pickle.loads(pickle.dumps(lattice.blocks(2, 2)))):
-            arrays = [value for name, value in vars(kept).items() if isinstance(value, np.ndarray)]
-            self.assertTrue(arrays and not any(array.flags.writeable for array in arrays))
-            self.assertTrue((kept, hash(kept)) in [(each, hash(each)) for each in (lattice, lattice.blocks(2, 2))])
-            self.assertRaises(dataclasses.FrozenInstanceError, setattr, kept, "generation", 8)
-        other = np.zeros((3, 4), bool)
-        other[1, 1] = True
-        for change in ({"seed": 6}, {"generation": 8}, {"chirality": "left"}, {"gas": "fhp-rest"}, {"solid": other}, {"states": np.zeros((3, 4), int)}):
-            self.assertNotEqual(lattice.replace(**change), lattice)
-        self.assertNotEqual(lattice, 5)
-
-    def test_what_no_lattice_can_be_is_refused(self):
-        for part, *words in (("integer from 0 to 63, and row 0 column 1 has 64", [[0, 64]]), ("row 1 column 0 has -1", [[0], [-1]]), ("type float64", [[0.5]]), ("[y, x]", [1]),
-                             ("(1, 2) and (1, 1)", [[1, 2]], [[0]]), ("(0,)", []), ("row 0 column 0 is solid and contains a particle", [[1]], [[1]]),
-                             ("truth values", [[1]], [[0.5]]), ("one of fhp1, hpp, fhp-rest, not 'fhp2'", [[0]], None, "fhp2"), ("not 3", [[0]], None, 3),
-                             ("one of seeded, left, right, not 'up'", [[0]], None, "hpp", "up"), ("a seed is an integer from 0 to 9223372036854775807, not -1", [[0]], None, "hpp", "left", -1),
-                             ("not 1.0", [[0]], None, "hpp", "left", 1.0), ("a generation is an integer", [[0]], None, "hpp", "left", 0, -1)):
-            self.fault(part, fhpgas.Lattice, *words)
+        for one, others in ((lattice, [lattice.replace()]), (blocks := lattice.blocks(2, 2), [lattice.blocks(2, 2)])):
+            for other in (*others, pickle.loads(pickle.dumps(one)), copy.deepcopy(one)):
+                arrays = [value for value in vars(other).values() if isinstance(value, np.ndarray)]
+                self.assertTrue(arrays and not any(array.flags.writeable for array in arrays))
+                self.assertEqual((other, hash(other)), (one, hash(one)))
+                self.assertRaises(dataclasses.FrozenInstanceError, setattr, other, "generation", 8)
+        walls = np.arange(12).reshape(3, 4) == 5
+        changes = {"seed": 6, "generation": 8, "chirality": "left", "gas": "fhp-rest", "solid": walls, "states": 0 * states}
+        for name, value in changes.items():
+            self.assertNotEqual(lattice.replace(**{name: value}), lattice, name)
+        self.assertNotEqual(dataclasses.replace(blocks, generation=8), blocks)
 
     def test_runs_equal_the_program(self):
         """Its bytes for a scene written by hand: also in parts, from a file, and in blocks."""
@@ -179,8 +224,7 @@ class Package(unittest.TestCase):
             late = start.run(7, stages=3, capacity=2)
             self.assertEqual(late.text(), printed(start, "run", "--generations", 7))
             self.assertEqual(fhpgas.read_cells(late.text(), gas, size, chirality, 3), late)
-            self.assertEqual(start.run(3).run(4), late)
-            self.assertEqual([*start.run(3).every(2, 2)], [start.run(3), start.run(5), late])
+            self.assertEqual([*start.run(3).every(2, 2)], [start.run(3), start.run(3).run(2), late])
             start.save(self.room / "start.toml")
             self.assertEqual((fhpgas.Lattice.load(self.room / "start.toml"), fhpgas.Lattice.load(late.scene())), (start, late))
             for block in ((7, 5), (64, 47), (1, 1)):
@@ -188,70 +232,55 @@ class Package(unittest.TestCase):
                 self.assertEqual((start.coarse(7, *block), fhpgas.read_table(text, gas, block, size, 7)), (late.blocks(*block),) * 2)
                 self.assertEqual(late.blocks(*block).text(), text)
 
-    def test_cells_are_read_as_printed_or_not_at_all(self):
+    def test_printed_texts_are_read_whole_or_not_at_all(self):
         cells = fhpgas.read_cells(CELLS, "fhp1", (4, 3))
-        self.assertEqual((cells.generation, cells.states.tolist(), cells.solid.tolist()[2]), (1, [[0, 0, 2, 0], [0] * 4, [0, 16, 0, 0]], [True, False, False, False]))
-        for end in range(len(CELLS)):
-            self.fault("", fhpgas.read_cells, CELLS[:end], "fhp1", (4, 3))
-        for text in (CELLS + "........\n", CELLS.replace("........\n", ""), CELLS + "\n", TABLE, *(CELLS.replace("02", pair) for pair in ("0g", "0A", "80", "#.", "2", " 2", "03"))):
+        self.assertEqual((cells.generation, cells.states.tolist(), np.argwhere(cells.solid).tolist()),
+                         (1, [[0, 0, 2, 0], [0] * 4, [0, 16, 0, 0]], [[2, 0]]))
+        wrong = [CELLS.replace("02", pair) for pair in ("0g", "0A", "80", "#.", "2", " 2", "03")]
+        wrong += [CELLS + "........\n", CELLS.replace("........\n", ""), CELLS + "\n", TABLE]
+        for text in (*(CELLS[:end] for end in range(len(CELLS))), *wrong):
             self.fault("cells", fhpgas.read_cells, text, "fhp1", (4, 3))
-        self.fault("the cells are 4 x 3 (columns x rows), and not 3 x 4", fhpgas.read_cells, CELLS, "fhp1", (3, 4))
-        self.fault("from 0 to 15", fhpgas.read_cells, CELLS, "hpp", (4, 3))
-        self.fault("not 'x'", fhpgas.read_cells, CELLS, "fhp1", ("x", 3))
+        wrong = [TABLE.replace(*pair) for pair in (("8", "x"), ("    1     0", "    2     0"), ("3          1", "3        1.0"))]
+        for text in (*(TABLE[:end] for end in range(len(TABLE))), TABLE + "\n", *wrong, CELLS):
+            self.fault("this is no whole table of `coarse` with 3 columns and 1 rows", fhpgas.read_table, text, "hpp", (2, 2), (6, 2))
 
     def test_a_scene_is_passed_as_its_text_or_its_path(self):
         (self.room / "a.toml").write_text(AREA)
         start = fhpgas.Lattice.load(AREA)
-        self.assertEqual((start.gas.name, start.chirality, start.seed, start.generation, start.size, start.solid.sum()), ("fhp1", "seeded", 7, 0, (66, 9), 12))
+        self.assertEqual((start.gas.name, start.chirality, start.seed, start.generation, start.solid.sum()), ("fhp1", "seeded", 7, 0, 12))
         for scene in (AREA, self.room / "a.toml", str(self.room / "a.toml"), start.scene()):
             self.assertEqual(fhpgas.check(scene), fhpgas.Summary("fhp1", 66, 9, 12, start.particles))
             self.assertEqual((fhpgas.run(scene, 5), fhpgas.coarse(scene, 5, 11, 4)), (start.run(5), start.run(5).blocks(11, 4)))
-        map_with_marks = 'version = 2\ngas = "hpp" # cells = ["##"]\ncells = [\n  "##01", # a ] mark\n  "0100",\n] \nchirality = "left"\nseed = 4\ngeneration = 9\n'
-        self.assertEqual(fhpgas.Lattice.load(map_with_marks), fhpgas.Lattice([[0, 1], [1, 0]], [[1, 0], [0, 0]], "hpp", "left", 4, 9))
-        vast = fhpgas.coarse('version = 2\ngas = "fhp1"\nwidth = 65536\nheight = 1024\nrate = 1000\ngeneration = 3\n', 1, 4096, 512)  # as a map it is too long
-        self.assertEqual((vast.fluid.shape, vast.generation, {*vast.particles.ravel().tolist()}), ((2, 16), 4, {6 * 4096 * 512}))
+        text = 'version = 2\ngas = "hpp" # cells = ["##"]\ncells = [\n  "##01", # a ] mark\n  "0100",\n]\nchirality = "left"\nseed = 4\n'
+        wanted = fhpgas.Lattice([[0, 1], [1, 0]], [[1, 0], [0, 0]], "hpp", "left", 4, 9)
+        self.assertEqual(fhpgas.Lattice.load(text + "generation = 9"), wanted)
+        vast = 'version = 2\ngas = "fhp1"\nwidth = 65536\nheight = 1024\nrate = 1000\ngeneration = 3\n'  # too long as a map
+        found = fhpgas.coarse(vast, 1, 4096, 512)
+        self.assertEqual((found.fluid.shape, found.generation, {*found.particles.ravel().tolist()}), ((2, 16), 4, {6 * 4096 * 512}))
         self.assertEqual(fhpgas.Lattice.load(fhpgas.with_seed(AREA, 8)), fhpgas.Lattice.load(AREA.replace("seed = 7", "seed = 8")))
-        for part, function, *words in (("no/such.toml: No such file", fhpgas.run, "no/such.toml", 1), ("not as bytes", fhpgas.check, AREA.encode()),
-                                       ("scene: unknown key (`explain` says where)", fhpgas.Lattice.load, AREA + "colour = 1"), ("`cells`", fhpgas.with_seed, start.scene(), 1),
-                                       ("`particles`", fhpgas.with_seed, AREA + "particles = [[0, 0, 1]]\n", 1), ("`rate` is 0", fhpgas.with_seed, AREA.replace("300", "0"), 1),
-                                       ("from 0 to 1000000, not -1", start.run, -1), ("not 1000.0", fhpgas.run, AREA, 1e3), ("not 1000001", start.coarse, 1_000_001),
-                                       ("stages is an integer from 1 to 64, not 65", start.run, 1, 65), ("capacity is an integer from 1 to 1024", start.run, 1, 1, 0),
-                                       ("width of a block is an integer from 1 to 4096", start.coarse, 1, 4097), ("width of a block is an integer from 1, not 0", start.blocks, 0),
-                                       ("height of a block", start.blocks, 8, 1.5), ("No such file", start.save, "/no/such/a.toml"), ("a step", lambda: next(start.every(-1, 2))),
-                                       ("the scene has 67240082 bytes, and the program reads 67108864", fhpgas.Lattice(np.zeros((8200, 4096), int)).run, 1)):
-            self.fault(part, function, *words)
         self.assertEqual([*self.room.iterdir()], [self.room / "a.toml"])
 
     def test_frames_cost_as_many_generations_as_they_show(self):
-        start, steps = fhpgas.Lattice.load(AREA), []
-
-        def counted(*words, **options):
-            steps.extend(int(words[k + 1]) for k, word in enumerate(words) if word == "--generations")
-            return call(*words, **options)
-
-        call = program.call
-        with unittest.mock.patch.object(program, "call", counted):
-            self.assertEqual([each.generation for each in start.every(5, 20)], [*range(0, 101, 5)])
-            [*start.driven(100, 5, flow=0.1)]
-        self.assertEqual(sum(steps), 200)
-
-    def test_a_run_is_resumed_from_printed_cells(self):
         start = fhpgas.Lattice.load(AREA)
+        with unittest.mock.patch.object(program, "call", wraps=program.call) as call:
+            self.assertEqual([each.generation for each in start.every(5, 20)], [*range(0, 101, 5)])
+            self.assertEqual([point.after.generation for point in start.driven(100, 5, flow=0.1)], [*range(0, 101, 5)])
+        self.assertEqual([each.args[3] for each in call.call_args_list], [5] * 40)
+
+    def test_a_run_is_resumed_from_what_is_kept(self):
+        start, kept = fhpgas.Lattice.load(AREA), self.room / "kept.toml"
         later = start.run(3)
         self.assertEqual(start.resume(later.text()).run(4), start.run(7))
-        for part, other in (("they are 66 x 9, and it has 64 x 9", AREA.replace("66", "64")), ("other cells are solid", AREA.replace("20,", "21,")),
-                            ("particles, and it has", AREA.replace("seed = 7", "seed = 8")), ("begins at generation 4", "version = 2\ngeneration = 4\n" + AREA),
-                            ("of its own generation, 3", "version = 2\ngeneration = 3\n" + AREA)):
-            other = fhpgas.Lattice.load(other)
-            self.fault(part, other._before, later.replace(seed=other.seed))
-        self.fault("the cells are 66 x 9", fhpgas.Lattice.load(AREA.replace("66", "64")).resume, later.text())
-
-    def test_a_long_run_goes_on_where_it_was_ended(self):
-        start, kept = fhpgas.Lattice.load(AREA), self.room / "kept.toml"
+        self.fault("66 x 9 (columns x rows), and not 64 x 9", fhpgas.Lattice.load(AREA.replace("66", "64")).resume, later.text())
         self.assertEqual(next(start.long_run(10, 4, kept)), start.run(4))
         self.assertEqual([*start.long_run(10, 4, kept)], [start.run(8), start.run(10)])
         self.assertEqual(([*start.long_run(10, 4, kept)], fhpgas.Lattice.load(kept)), ([], start.run(10)))
-        self.fault("the cells are not of this lattice", fhpgas.Lattice.load(AREA.replace("300", "301")).long_run, 10, 4, kept)
+        later.save(kept)
+        for old, new, part in (("66", "64", "they are 66 x 9, and it has 64 x 9"), ("20,", "21,", "other cells are solid"),
+                               ("300", "301", "particles, and it has"), ("seed = 7", "seed = 8", "another gas, chirality or seed"),
+                               ("gas", "version = 2\ngeneration = 4\ngas", "it begins at generation 4, and they are of 3"),
+                               ("gas", "version = 2\ngeneration = 3\ngas", "of its own generation, 3, and not its cells")):
+            self.fault(part, fhpgas.Lattice.load(AREA.replace(old, new)).long_run, 10, 4, kept)
         with unittest.mock.patch.object(program, "call", side_effect=AssertionError("it computes before it tries its file")):
             self.fault("No such file", start.long_run, 10, 4, "/no/such/kept.toml")
 
@@ -259,75 +288,65 @@ class Package(unittest.TestCase):
 
     def test_blocks_have_the_fields_of_their_sums(self):
         """Eight particles in three cells, an empty block and a solid one."""
-        speed = math.sqrt(12) / 16
-        for gas, east, north, filling, pressure in (("fhp1", 3 / 16, ROOT3 / 16, 4 / 9, 4 / 3 * (1 - 0.1 * speed**2)), ("hpp", 3 / 8, 1 / 8, 2 / 3, 4 / 3),
-                                                    ("fhp-rest", 3 / 16, ROOT3 / 16, 8 / 21, 8 / 7 * (1 - 5 / 6 * 35 / 156 * speed**2))):
-            blocks, nan = fhpgas.read_table(TABLE, gas, (2, 2), (6, 2)), math.nan
-            self.assertEqual([getattr(blocks, name).tolist() for name in ("fluid", "particles", "px", "py")], [[[3, 4, 0]], [[8, 0, 0]], [[3, 0, 0]], [[1, 0, 0]]])
-            for name, wanted in (("density", [8 / 3, 0, nan]), ("filling", [filling, 0, nan]), ("east", [east, nan, nan]), ("north", [north, nan, nan]),
-                                 ("speed", [math.hypot(east, north), nan, nan]), ("pressure", [pressure, 0, nan])):
+        nan, u = math.nan, math.sqrt(12) / 16
+        for gas, east, north, filling, pressure in (
+                ("fhp1", 3 / 16, ROOT3 / 16, 4 / 9, 4 / 3 * (1 - 0.1 * u**2)), ("hpp", 3 / 8, 1 / 8, 2 / 3, 4 / 3),
+                ("fhp-rest", 3 / 16, ROOT3 / 16, 8 / 21, 8 / 7 * (1 - 5 / 6 * 35 / 156 * u**2))):
+            blocks = fhpgas.read_table(TABLE, gas, (2, 2), (6, 2))
+            for name, wanted in (("fluid", [3, 4, 0]), ("particles", [8, 0, 0]), ("px", [3, 0, 0]), ("py", [1, 0, 0]),
+                                 ("density", [8 / 3, 0, nan]), ("filling", [filling, 0, nan]), ("pressure", [pressure, 0, nan]),
+                                 ("east", [east, nan, nan]), ("north", [north, nan, nan]), ("speed", [math.hypot(east, north), nan, nan])):
                 self.same(getattr(blocks, name), [wanted])
             self.same(blocks.velocity, [[[east, nan, nan]], [[north, nan, nan]]])
             self.assertEqual((repr(blocks), (blocks + blocks).particles.tolist(), sum([blocks] * 3).px.tolist(), blocks.text()),
                              (f"<Blocks 3 x 1 of 2 x 2 cells of {gas}, generation 0>", [[16, 0, 0]], [[9, 0, 0]], TABLE))
         full = fhpgas.gas(1, size=(4, 4)).blocks(2, 2)
         self.same((full.density, full.pressure, full.speed), [[[6] * 2] * 2, [[3] * 2] * 2, [[0] * 2] * 2])
-        self.fault("only blocks of one gas", blocks.__add__, full)
-        self.fault("6 x 3 cells have 3 x 2 blocks of 2 x 2", dataclasses.replace, blocks, size=(6, 3))
-        for end in range(len(TABLE)):
-            self.fault("this is no whole table of `coarse` with 3 columns and 1 rows", fhpgas.read_table, TABLE[:end], "hpp", (2, 2), (6, 2))
-        for text in (TABLE + "\n", TABLE.replace("8", "x"), TABLE.replace("    1     0", "    2     0"), TABLE.replace("3          1", "3        1.0"), CELLS):
-            self.fault("no whole table", fhpgas.read_table, text, "hpp", (2, 2), (6, 2))
-        self.fault("no whole table", fhpgas.read_table, TABLE, "hpp", (2, 2), (6, 3))
 
     def test_sums_by_direction_are_counted(self):
         for gas in GASES:
             lattice = wind((65, 33), gas).run(2)
-            counts = [[[sum(int(state) >> i & 1 for state in lattice.states[top : top + 20, left : left + 30].ravel()) for left in (0, 30, 60)]
-                       for top in (0, 20)] for i in range(lattice.gas.directions)]
+            parts = [[lattice.states[top : top + 20, left : left + 30].ravel().tolist() for left in (0, 30, 60)] for top in (0, 20)]
+            counts = [[[sum(state >> i & 1 for state in part) for part in row] for row in parts] for i in range(lattice.gas.directions)]
             self.assertEqual((lattice.counts(30, 20).tolist(), lattice.counts().tolist()), (counts, np.sum(counts, (1, 2)).tolist()))
             self.same(lattice.momentum, np.sum(counts, (1, 2)) @ lattice.gas.velocities)
-            self.same(lattice.momentum, [sum(sums) * unit for sums, unit in zip((lattice.blocks().px.ravel(), lattice.blocks().py.ravel()), lattice.gas.units)], 6)
+            self.same(lattice.momentum, lattice.gas.units * [lattice.blocks().px.sum(), lattice.blocks().py.sum()], 9)
 
     def test_blocks_lie_where_their_cells_are(self):
         X, Y = fhpgas.positions((5, 5))
-        self.same((X[0], X[1], Y[:, 0]), ([0, 1, 2, 3, 4], [0.5, 1.5, 2.5, 3.5, 4.5], np.array([4.5, 3.5, 2.5, 1.5, 0.5]) * ROOT3 / 2))
+        self.same((X[0], X[1], 2 * Y[:, 0] / ROOT3), ([0, 1, 2, 3, 4], [0.5, 1.5, 2.5, 3.5, 4.5], [4.5, 3.5, 2.5, 1.5, 0.5]))
         self.same(fhpgas.positions((3, 9), "hpp", slice(2, 4))[0], [[0, 1, 2]] * 2)
-        blocks = fhpgas.gas(0.2, size=(5, 5)).blocks(2, 3)
-        for found, wanted in zip((*blocks.edges, *blocks.positions), ([-0.25, 1.75, 3.75, 4.75], [5, 2, 0], [0.75, 2.75, 4.25], [3.5, 1])):
-            self.same(found, np.array(wanted) * (ROOT3 / 2 if wanted[0] > 3 else 1))
+        (left, top), (x, y) = (getattr(fhpgas.gas(0.2, size=(5, 5)).blocks(2, 3), name) for name in ("edges", "positions"))
+        self.same([*left, *x], [-0.25, 1.75, 3.75, 4.75, 0.75, 2.75, 4.25])
+        self.same(2 * np.array([*top, *y]) / ROOT3, [5, 2, 0, 3.5, 1])
         X, Y = fhpgas.positions((64, 48))
         x, y = fhpgas.gas(0, size=(64, 48)).blocks(8, 6).positions
         self.same((x, y), (X.reshape(8, 6, 8, 8).mean((0, 1, 3)), Y.reshape(8, 6).mean(1)))
 
     def test_vorticity_is_that_of_a_rotation(self):
-        """u = -w y, v = w x has the vorticity 2 w, also in the last rows, which are smaller, and next to a solid block. u = y^2 has -2 y."""
+        """u = -w y, v = w x has the vorticity 2 w, also in the last rows, which are smaller, and beside a solid block. u = y^2 has -2 y."""
         def of(east, north, fluid=1):
             fluid = np.full((6, 5), 72) * fluid
-            particles = 4.0 * fluid
-            return fhpgas.Blocks(fluid, particles, 2 * particles * east, 2 / ROOT3 * particles * north, fhpgas.GASES["fhp1"], (8, 9), (40, 49))
+            return fhpgas.Blocks(fluid, 4.0 * fluid, 8.0 * fluid * east, 8 / ROOT3 * fluid * north, fhpgas.GASES["fhp1"], (8, 9), (40, 49))
 
-        x, y = of(0, 0).positions
         holed = np.ones((6, 5), int)
         holed[2, 2] = 0
-        for fluid in (1, holed):
-            self.same(of(-0.01 * y[:, None], 0.01 * x, fluid).vorticity[:, 1:4], np.where(fluid * np.ones((6, 5)), 0.02, math.nan)[:, 1:4])
-        self.same(of(y[:, None] ** 2, 0 * x).vorticity[1:5], -2 * y[1:5, None] * np.ones(5))
+        x, y = of(0, 0).positions
+        y = y[:, None]
+        for fluid in (1 + 0 * holed, holed):
+            self.same(of(-0.01 * y, 0.01 * x, fluid).vorticity[:, 1:4], np.where(fluid, 0.02, math.nan)[:, 1:4])
+        self.same(of(y**2, 0 * x).vorticity[1:5], -2 * y[1:5] * np.ones(5))
         north = np.cos(2 * math.pi * x / 40)
-        self.same(of(0 * y[:, None], north).vorticity, [(np.roll(north, -1) - np.roll(north, 1)) / 16] * 6)
-        alone = of(-0.01 * y[:, None], 0.01 * x, np.eye(6, 5, dtype=int))  # no neighbour is known
-        self.same(np.diag(alone.vorticity), [0] * 5)
+        self.same(of(0 * y, north).vorticity, [(np.roll(north, -1) - np.roll(north, 1)) / 16] * 6)
+        self.same(np.diag(of(-0.01 * y, 0.01 * x, np.eye(6, 5, dtype=int)).vorticity), [0] * 5)  # no neighbour is known
 
     def test_smoothing_spreads_sums_by_a_gaussian_past_the_end(self):
-        sums = np.zeros((1, 16), int)
+        sums, weights = np.zeros((1, 16), int), np.exp(-np.arange(-4, 5) ** 2 / 2)
         sums[0, 0] = 1000
         blocks = fhpgas.Blocks(np.full((1, 16), 9), sums, 2 * sums // 5, 0 * sums, fhpgas.GASES["hpp"], (3, 3), (48, 3))
-        weights = np.exp(-np.arange(-4, 5) ** 2 / 2)
-        wanted = np.roll(np.pad(1000 * weights / weights.sum(), (0, 7)), -4)
-        self.same(blocks.smooth(1).particles, [wanted], 9)
+        self.same(blocks.smooth(1).particles, [np.roll(np.pad(1000 * weights / weights.sum(), (0, 7)), -4)], 9)
         self.same(blocks.smooth(1).east[0, [0, 1, 4, -4]], [0.4] * 4)
         self.assertTrue(np.isnan(dataclasses.replace(blocks, fluid=blocks.fluid * (np.arange(16) != 1)).smooth(1).density[0, 1]))
-        self.fault("sigma is a number from 0 to inf, not -1", blocks.smooth, -1)
 
     # -- drawing
 
@@ -341,58 +360,37 @@ class Package(unittest.TestCase):
             states = slice(1 << gas.directions)
             self.same(gas.bits[states] @ odds, gas.bits[gas.collisions("left")[states]] @ odds, 10)
         self.same(fhpgas.equilibrium("hpp", 0.2), [0.2] * 4)
-        for part, *words in (("no fhp1 of filling 0.2 has the velocity 1, 0", "fhp1", 0.2, 1.0), ("velocity 0.3, 0", "fhp1", [0.2, 0.9], 0.3), ("velocity 0.1, 0", "fhp1", 1, 0.1),
-                             ("not finite", "hpp", 0.5, math.nan), ("chance per direction, 0 to 1, not 1.2", "fhp1", 1.2)):
-            self.fault(part, fhpgas.equilibrium, *words)
 
     def test_a_gas_is_drawn_from_the_raw_bits_of_pcg64(self):
         """As plain integers give it, with or without vector instructions, row by row or at once."""
-        def fields(rows):
-            return 0.2, 0.3 * np.cos(np.arange(rows) / 9)[:, None], 0.0
-
+        seed, shear = (1 << 40) + 5, (0.2, 0.3 * np.cos(np.arange(500) / 9)[:, None], 0.0)
         for name in GASES:
-            gas, seed = fhpgas.gas_named(name), (1 << 40) + 5
-            found = fhpgas.gas(*fields(11), size=(37, 11), gas=name, seed=seed).states
-            self.assertEqual(found.tolist(), plainly_drawn(gas, fhpgas.equilibrium(gas, *fields(11))[..., 0], 37, 11, seed).tolist())
+            gas = fhpgas.gas_named(name)
+            found = fhpgas.gas(0.2, shear[1][:11], size=(37, 11), gas=name, seed=seed).states
+            self.assertEqual(found.tolist(), plainly_drawn(fhpgas.equilibrium(gas, 0.2, shear[1][:11])[..., 0], 37, 11, seed).tolist())
             self.assertEqual(hashlib.sha256(found.tobytes()).hexdigest(), DRAWN[name])
-            values = [np.array(field) for field in fields(500)]
+            values = [np.array(field) for field in shear]
             whole = fhpgas.fields.drawn(gas, values, (500, 130), 9)
             for first, last in ((0, 1), (1, 300), (300, 500), (499, 500)):
                 part = [value[first:last] if value.ndim else value for value in values]
                 self.assertEqual(fhpgas.fields.drawn(gas, part, (last - first, 130), 9, first).tolist(), whole[first:last].tolist())
-        script = ("import fhpgas, hashlib, numpy as np; east = 0.3 * np.cos(np.arange(11) / 9)[:, None]\n"
-                  "for gas in fhpgas.GASES: print(hashlib.sha256(fhpgas.gas(0.2, east, size=(37, 11), gas=gas, seed=(1 << 40) + 5).states).hexdigest())")
+        script = ("import fhpgas, hashlib, numpy as np; east = 0.3 * np.cos(np.arange(11) / 9)[:, None]\nfor gas in fhpgas.GASES:\n"
+                  f"    print(hashlib.sha256(fhpgas.gas(0.2, east, size=(37, 11), gas=gas, seed={seed}).states).hexdigest())")
         core = getattr(np, "_core", None) or np.core
         plain = os.environ | {"NPY_DISABLE_CPU_FEATURES": " ".join(core._multiarray_umath.__cpu_dispatch__)}
         done = subprocess.run([sys.executable, "-c", script], env=plain, capture_output=True, text=True, check=True)
         self.assertEqual(done.stdout.split(), [DRAWN[gas] for gas in fhpgas.GASES])
 
-    def test_a_gas_has_the_chances_of_its_fields(self):
-        """Up to five standard deviations: in halves at two fillings. A sine between the walls has its means over quarters."""
-        for gas in GASES:
-            drawn = fhpgas.gas(lambda X, Y: np.where(X < 127.9, 0.1, 0.4), 0.15, -0.1, size=(256, 96), gas=gas, seed=3).counts(128, 96)
-            chances = fhpgas.equilibrium(gas, np.array([0.1, 0.4]), 0.15, -0.1)
-            self.assertTrue((abs(drawn[:, 0] - 128 * 96 * chances) < 5 * np.sqrt(128 * 96 * chances * (1 - chances)) + 48).all(), gas)
-        shear = fhpgas.gas(0.3, lambda X, Y: 0.2 * np.sin(math.pi * Y / (32 * ROOT3)), size=(512, 64), seed=1).blocks(512, 16)
-        self.same(shear.east[:, 0], [0.8 / math.pi * (1 - math.sqrt(0.5), math.sqrt(0.5))[part] for part in (0, 1, 1, 0)], 2)
-
     def test_the_same_fields_draw_the_same_gas(self):
         X, Y = fhpgas.positions((64, 47))
         disc = fhpgas.disc((64, 47), 20, 20, 8)
-        one = fhpgas.gas(0.3, solid=disc, seed=2)
-        for fields in ([[[0.3]] * 47], [np.full((47, 64), 0.3)], [lambda X, Y: 0.3 + 0 * Y], [0.3, 0 * X, lambda X, Y: 0.0]):
+        one = fhpgas.gas(0.3, X / 200, solid=disc, seed=2)
+        for fields in ([[[0.3]] * 47, X / 200], [0.3 + 0 * X, lambda X, Y: X / 200], [lambda X, Y: 0.3 + 0 * Y, X / 200, 0 * Y[0]]):
             self.assertEqual(fhpgas.gas(*fields, size=(64, 47), solid=disc, seed=2), one)
-        self.assertEqual((fhpgas.gas(0.3 + 0 * X, seed=2).states[~disc].tolist(), one.solid.tolist()), (one.states[~disc].tolist(), disc.tolist()))
-        self.assertNotEqual(fhpgas.gas(0.3, solid=disc, seed=3), one)
+        self.assertEqual(one, fhpgas.Lattice(np.where(disc, 0, fhpgas.gas(0.3, X / 200, seed=2).states), disc, seed=2))
+        self.assertNotEqual(fhpgas.gas(0.3, X / 200, solid=disc, seed=3), one)
+        self.assertGreater(*one.blocks(32, 47).east[0, ::-1])
         self.assertEqual(fhpgas.gas(1, size=(5, 4)).particles, 120)
-        for part, words, options in (("the size is not known", [0.2], {}), ("size is not known", [0.2, 0 * Y], {}), ("size is not known", [lambda X, Y: 0.2], {}),
-                                     ("two integers, columns and rows, not 64", [0.2], {"size": 64}), ("columns is an integer from 1, not 64.0", [0.2], {"size": (64.0, 64)}),
-                                     ("the field `filling` has the shape (3, 4), and the lattice 4 rows and 4 columns", [np.ones((3, 4))], {"size": (4, 4)}),
-                                     ("the field `solid` has the shape (47, 64)", [0.2], {"size": (9, 9), "solid": disc}), ("do not fit together", [0 * X, np.ones((2, 3))], {}),
-                                     ("the field `east` is numbers or a function of the place, not None", [0.2, None], {"size": (4, 4)}), ("not 'a'", ["a"], {"size": (4, 4)}),
-                                     ("up", [0.2], {"size": (4, 4), "chirality": "up"}), ("not 1.5", [0.2], {"size": (4, 4), "seed": 1.5}), ("has the velocity", [0.2, 0.95], {"size": (4, 4)}),
-                                     ("1 to 65536 each way", [0.2], {"size": (70_000, 1)})):
-            self.fault(part, fhpgas.gas, *words, **options)
 
     # -- shapes
 
@@ -403,9 +401,7 @@ class Package(unittest.TestCase):
         for gas, (row, radius) in itertools.product(("fhp1", "hpp"), ((0, 5.5), (7, 11), (22, 7 * ROOT3), (23, 60), (12, math.sqrt(43)))):
             X, Y = fhpgas.positions((40, 24), gas)
             apart = [np.hypot(X - X[row, 33] + turn, Y - Y[row]) for turn in (-80, -40, 0, 40, 80)]
-            self.assertEqual(fhpgas.disc((40, 24), 33, row, radius, gas).tolist(), (np.min(apart, 0) <= radius + 1e-9).tolist(), (gas, row, radius))
-        disc = fhpgas.disc((80, 64), 40, 31, 16)
-        self.assertEqual((disc[31].sum(), disc.any(1).sum(), disc.dtype), (33, 37, bool))
+            self.same(fhpgas.disc((40, 24), 33, row, radius, gas), np.min(apart, 0) <= radius + 1e-9)
 
     def test_shapes_have_their_cells(self):
         corners = [(5, 5), (60, 12), (30, 55)]
@@ -421,48 +417,36 @@ class Package(unittest.TestCase):
         self.assertTrue(600 <= porous.sum() < 619)
         self.assertEqual((porous.tolist(), fhpgas.porous((6, 5), 1, 0).all()), (fhpgas.porous((60, 40), 0.25, 2, 5).tolist(), True))
         openings = (31 - nozzle.sum(0)).tolist()
-        self.assertTrue(min(openings) == openings[32] == 7 and {31} == {*openings[:12], *openings[52:]} and openings[:33] == sorted(openings[:33])[::-1])
-        both = nozzle | fhpgas.disc((64, 31), 0, 15, 3)
-        for solid in (porous, both, box, ~box):
+        self.assertTrue(min(openings) == openings[32] == 7 and {31} == {*openings[:12], *openings[52:]})
+        self.assertEqual(openings[:33], sorted(openings[:33])[::-1])
+        for solid in (porous, nozzle | fhpgas.disc((64, 31), 0, 15, 3), box, ~box):
             again = np.zeros_like(solid, int)
             for x, y, w, h in fhpgas.shapes.rectangles(solid):
                 again[y : y + h, x : x + w] += 1
             self.assertEqual(again.tolist(), solid.astype(int).tolist())
-        self.assertEqual((fhpgas.shapes.rectangles(box), fhpgas.shapes.rectangles(~box)), ([[3, 2, 4, 3]], [[0, 0, 12, 2], [0, 2, 3, 3], [7, 2, 5, 3], [0, 5, 12, 4]]))
-        for part, function, *words in (("column of a disc is an integer from 0 to 63, not 64", fhpgas.disc, (64, 24), 64, 0, 1), ("radius of a disc is a number from 0", fhpgas.disc, (64, 24), 0, 0, -1),
-                                       ("radius", fhpgas.disc, (64, 24), 0, 0, math.nan), ("three corners", fhpgas.polygon, (9, 9), [(1, 2), (3, 4)]), ("not [1, 2, 3]", fhpgas.polygon, (9, 9), [1, 2, 3]),
-                                       ("corner's row is a number", fhpgas.polygon, (9, 9), [(0, 0), (1, math.inf), (1, 1)]), ("share of solid cells is a number from 0 to 1", fhpgas.porous, (9, 9), 30, 1),
-                                       ("a seed is an integer", fhpgas.porous, (9, 9), 0.3, 1, np.random.default_rng(1)), ("length of a nozzle is an integer from 1 to 64", fhpgas.nozzle, (64, 24), 6, 65),
-                                       ("throat", fhpgas.nozzle, (64, 24), 25, 5), ("a size is two integers", fhpgas.disc, 64, 0, 0, 1)):
-            self.fault(part, function, *words)
+        self.assertEqual(fhpgas.shapes.rectangles(~box), [[0, 0, 12, 2], [0, 2, 3, 3], [7, 2, 5, 3], [0, 5, 12, 4]])
 
     def test_a_picture_is_a_mask(self):
         """The same letter as PBM, in both kinds, as PNG in grey, of 16 bits, in colours, of a palette and transparent, and as an array."""
-        from PIL import Image
-
         dark = np.array([[pixel == "#" for pixel in row] for row in ("###.", "#..#", "###.", "#.#.", "#..#")])
         grey = Image.fromarray(np.where(dark, 90, 200).astype(np.uint8))
         clear = Image.merge("RGBA", [Image.new("L", (4, 5), 30)] * 3 + [Image.fromarray(dark.astype(np.uint8) * 255)])
         deep = Image.fromarray(np.where(dark, 0x3000, 0xC000).astype(np.int32)).convert("I;16")
         (self.room / "plain.pbm").write_text("P1 # letter\n4 5\n" + "\n".join(" ".join("01"[d] for d in row) for row in dark.tolist()))
-        for name, image in (("bits.pbm", grey.convert("1", dither=Image.Dither.NONE)), ("grey.png", grey), ("colours.png", grey.convert("RGB")), ("few.png", grey.convert("P")),
-                            ("clear.png", clear), ("deep.png", deep)):
-            image.save(self.room / name)
-        wanted = np.zeros((9, 12), bool)
-        wanted[3:8, 2:6] = dark
+        grey.convert("1", dither=Image.Dither.NONE).save(self.room / "bits.pbm")
+        for k, image in enumerate((grey, grey.convert("P"), grey.convert("RGB"), clear, deep)):
+            image.save(self.room / f"{k}.png")
         for picture in (*self.room.iterdir(), dark, dark.tolist()):
-            self.assertEqual(fhpgas.bitmap((12, 9), picture, 1, 2, 3, "hpp").tolist(), wanted.tolist(), picture)
+            found = fhpgas.bitmap((12, 9), picture, 1, 2, 3, "hpp")
+            self.assertEqual((found[3:8, 2:6].tolist(), found.sum()), (dark.tolist(), dark.sum()), picture)
         drawn = fhpgas.bitmap((64, 40), dark, 6, 10, 4)
         self.assertEqual([drawn[y][x] for y, x in ((5, 12), (30, 12), (25, 24), (5, 30), (3, 12), (15, 20))], [1, 1, 1, 0, 0, 0])
         self.assertAlmostEqual(drawn.sum(), dark.sum() * 36 / (ROOT3 / 2), delta=40)
         for column, row in ((41, 4), (10, 6), (-1, 4), (10, -1)):
             self.fault("the picture leaves the channel of 64 x 40 cells", fhpgas.bitmap, (64, 40), dark, 6, column, row)
-        for data, part in ((b"GIF", "no picture that Pillow reads"), ((self.room / "grey.png").read_bytes()[:50], "damaged"), (b"P1\n4", "no picture")):
+        for data in (b"GIF", (self.room / "0.png").read_bytes()[:50], b"P1\n4"):
             (self.room / "letter").write_bytes(data)
-            self.fault(part, fhpgas.bitmap, (64, 40), self.room / "letter")
-        self.fault("no.png: No such file", fhpgas.bitmap, (64, 40), "no.png")
-        self.fault("not of the shape (3,)", fhpgas.bitmap, (64, 40), [1, 2, 3])
-        self.fault("pixel is a number from 1e-09", fhpgas.bitmap, (64, 40), dark, 0)
+            self.fault(f"{self.room / 'letter'}: ", fhpgas.bitmap, (64, 40), self.room / "letter")
 
     # -- flows
 
@@ -474,16 +458,13 @@ class Package(unittest.TestCase):
             after = fhpgas.Lattice(states, None, gas, side).run(1).states
             found = sum(np.roll(after[1 + dy], -1 - dx)[::3] & 1 << i for i, (dx, dy) in enumerate(gas.steps[1]))
             self.assertEqual(found.tolist(), gas.collisions(side)[: 1 << gas.directions].tolist(), (gas, side))
-        self.fault("left or right, not 'seeded'", gas.collisions, "seeded")
 
     def test_a_reversed_run_comes_back_bit_for_bit(self):
         for gas, side in (("fhp1", "left"), ("fhp1", "right"), ("fhp-rest", "left"), ("fhp-rest", "right"), ("hpp", "seeded")):
             start = wind((64, 47), gas, side)
             late = start.run(100)
-            back = late.reverse().run(100).reverse()
-            self.assertEqual(back, start.replace(generation=200))
+            self.assertEqual(late.reverse().run(100).reverse(), start.replace(generation=200))
             self.assertGreater(np.count_nonzero(late.states != start.states), 1000)
-        self.fault('chirality "seeded" cannot be reversed', wind((64, 47)).reverse)
 
     def test_a_driven_run_is_repeatable_and_tells_its_force(self):
         for gas in GASES:
@@ -491,40 +472,31 @@ class Package(unittest.TestCase):
             points = [*start.driven(60, 10, force=0.001, seed=4)]
             self.assertEqual(points, [*fhpgas.driven(start, 60, 10, force=0.001, seed=4)])
             self.assertNotEqual(points, [*start.driven(60, 10, force=0.001, seed=5)])
-            for point, later in zip(points, points[1:]):
-                self.assertEqual((later.before, point.after.particles), (point.after.run(10), start.particles))
+            self.assertEqual([point.before for point in points], [start, *(point.after.run(10) for point in points[:-1])])
             for point in points:
                 given = point.after.momentum - point.before.momentum
                 self.same(given, (2 * point.turned, 0), 9)
+                self.assertEqual(point.after.particles, start.particles)
                 self.assertAlmostEqual(point.force, given[0] / 10 / start.fluid)
                 self.assertAlmostEqual(point.velocity, (point.before.momentum + point.after.momentum)[0] / 2 / start.particles)
             self.assertAlmostEqual(sum(point.force for point in points) / 7, 0.001, delta=47 * 2 / 70 / start.fluid)
-        for flow in (0.1, -0.1):
-            after = [*fhpgas.gas(0.3, solid=start.solid, gas=gas).driven(20, 10, flow=flow)][-1].after
-            self.assertAlmostEqual(after.momentum[0] / after.particles, flow, delta=47 / after.particles)
-        for options, part in (({}, "either by a force"), ({"force": 2}, "particles to turn"), ({"force": 1, "every": 7}, "multiple of 7"), ({"force": math.nan}, "a force is a number from -2 to 2, not nan"),
-                              ({"flow": 3}, "not 3"), ({"flow": 0, "every": 0}, "integer from 1, not 0"), ({"flow": 0, "seed": -1}, "a seed")):
-            self.fault(part, lambda: next(start.driven(20, **options)))
-        self.fault("no particle", fhpgas.gas(0, size=(4, 4)).driven, 10, force=1)
+            for flow in (0.05, -0.05):
+                after = [*fhpgas.gas(0.3, solid=start.solid, gas=gas).driven(20, 10, flow=flow)][-1].after
+                self.assertAlmostEqual(after.momentum[0] / after.particles, flow, delta=47 / after.particles)
 
     def test_particles_are_turned_evenly_along_a_row(self):
         """From random fluid cells the next free one, one after the other, and over many draws each as often, up to five deviations."""
-        gas, lots, plain = fhpgas.GASES["fhp1"], np.random.PCG64(3), np.random.default_rng(4)
+        gas, plain, counts, lots = fhpgas.GASES["fhp1"], np.random.default_rng(4), np.zeros(16, int), np.random.PCG64(4)
         for _ in range(300):
-            row = plain.integers(0, 64, plain.integers(1, 40)).astype(np.uint8)
+            row = plain.integers(0, 64, plain.integers(9, 40)).astype(np.uint8)
             fluid = np.flatnonzero(plain.random(len(row)) < 0.8)
             row[np.setdiff1d(np.arange(len(row)), fluid)] = 0
-            free = np.flatnonzero((row & 9) == 8)
-            if len(free):
-                number = int(plain.integers(1, len(free) + 1))
-                starts = [fluid[int((lot >> 11) * 2.0**-53 * len(fluid))] for lot in np.random.PCG64(3).advance(0).random_raw(number).tolist()]
-                wanted, lots = row.copy(), np.random.PCG64(3)
-                for start in starts:
-                    ahead = [x for x in (*range(start, len(row)), *range(start)) if (wanted[x] & 9) == 8]
-                    wanted[ahead[0]] ^= 9
-                drive._turn(row, fluid, number, gas, lots, 0)
-                self.assertEqual(row.tolist(), wanted.tolist())
-        counts = np.zeros(16, int)
+            wanted, number = row.copy(), int(plain.integers(0, np.count_nonzero((row & 9) == 8) + 1))
+            for lot in np.random.PCG64(3).random_raw(number).tolist():
+                start = fluid[int((lot >> 11) * 2.0**-53 * len(fluid))]
+                wanted[next(x for x in (*range(start, len(row)), *range(start)) if (wanted[x] & 9) == 8)] ^= 9
+            drive._turn(row, fluid, number, gas, np.random.PCG64(3), 0)
+            self.assertEqual(row.tolist(), wanted.tolist())
         for _ in range(1600):
             row = np.full(16, 8, np.uint8)
             drive._turn(row, np.arange(16), 3, gas, lots, 0)
@@ -541,16 +513,18 @@ class Package(unittest.TestCase):
 
         def ran(**more):
             environment = {"PYTHONPATH": f"{self.room}/python", "PATH": "/nowhere"} | more
-            return subprocess.run(words, capture_output=True, text=True, env=environment, cwd="/")
+            done = subprocess.run(words, capture_output=True, text=True, env=environment, cwd="/")
+            return done.stdout or done.stderr
 
-        self.assertEqual(ran().stdout, "generation 1 particles 1\n..01\n")
-        self.assertIn("/no/such is missing", ran(FHPGAS="/no/such").stderr)
-        for other in ("/bin/false", "/bin/ls"):
-            self.assertIn(f"{other} does not start, or is another program", ran(FHPGAS=other).stderr)
+        self.assertEqual(ran(), "generation 1 particles 1\n..01\n")
+        for other, part in (("/no/such", "is missing"), ("/bin/false", "does not start"), ("/bin/ls", "or is another program")):
+            self.assertRegex(ran(FHPGAS=other), f"{other} .*{part}")
         (self.room / "bin").mkdir()
         (self.room / "fhpgas").rename(self.room / "bin/fhpgas")
-        self.assertIn("the program fhpgas is not found", ran().stderr)
-        self.assertEqual(ran(PATH=f"{self.room}/bin").stdout, ran(FHPGAS=f"{self.room}/bin/fhpgas").stdout)
+        self.assertIn("the program fhpgas is not found", ran())
+        self.assertEqual((ran(PATH=f"{self.room}/bin"), ran(FHPGAS=f"{self.room}/bin/fhpgas")), ("generation 1 particles 1\n..01\n",) * 2)
+        words[2] = "import fhpgas, sys; print({'numpy', 'matplotlib', 'scipy', 'PIL', 'distributed'} & {*sys.modules})"
+        self.assertEqual(ran(), "{'numpy'}\n")
 
     def test_a_plan_is_chosen_from_the_cores_of_the_process(self):
         self.assertEqual([fhpgas.plan(1024, 1000, cores) for cores in (1, 4, 8, 64)], [(4, 128), (16, 128), (32, 128), (64, 128)])
@@ -559,23 +533,20 @@ class Package(unittest.TestCase):
             self.assertEqual(fhpgas.plan(1024, 1000), (8, 128))
 
     def test_runs_go_side_by_side_in_order(self):
+        """In processes that are forked, by executors, and on a Dask cluster."""
         alone = [particles_of(seed) for seed in range(5)]
         self.assertEqual(fhpgas.side_by_side(lambda seed: particles_of(seed), range(5)), alone)
         for pool in (concurrent.futures.ThreadPoolExecutor, concurrent.futures.ProcessPoolExecutor):
             with pool(2) as executor:
                 self.assertEqual(fhpgas.side_by_side(particles_of, range(5), executor), alone)
         self.fault("scene: missing key", fhpgas.side_by_side, lambda seed: fhpgas.with_seed("", seed), [1, 2])
-
-    @unittest.skipUnless(distributed, "distributed")
-    def test_runs_go_side_by_side_on_a_dask_cluster(self):
-        with distributed.LocalCluster(n_workers=2, threads_per_worker=1, dashboard_address=None) as cluster, distributed.Client(cluster) as client:
-            with client.get_executor() as executor:
-                self.assertEqual(fhpgas.side_by_side(particles_of, range(3), executor), [particles_of(seed) for seed in range(3)])
+        with distributed.Client(n_workers=2, threads_per_worker=1, dashboard_address=":0") as client, client.get_executor() as executor:
+            self.assertEqual(fhpgas.side_by_side(particles_of, range(5), executor), alone)
 
     def test_an_interrupt_ends_the_programs_too(self):
-        """Of a process that is interrupted alone, as a notebook's is: it ends with the traceback of KeyboardInterrupt, and no run goes on."""
+        """Of a process that is interrupted alone, as a notebook's is: it raises a KeyboardInterrupt, and no run goes on."""
         for call in ("long(0)", "fhpgas.side_by_side(long, range(2))"):
-            script = f"import fhpgas\nlong = lambda seed: fhpgas.gas(0.2, size=(4096, 64), seed=seed).run(1_000_000)\nprint({call})"
+            script = f"import fhpgas\nlong = lambda seed: fhpgas.gas(0.2, size=(4096, 64), seed=seed).run(10**6)\nprint({call})"
             with subprocess.Popen([sys.executable, "-c", script], stderr=subprocess.PIPE, text=True, start_new_session=True) as process:
                 while not (runs := programs_of(process.pid)):
                     time.sleep(0.01)
@@ -583,34 +554,16 @@ class Package(unittest.TestCase):
                 self.assertIn("KeyboardInterrupt", process.communicate(timeout=60)[1])
             while runs & programs_of(process.pid):
                 time.sleep(0.01)
-            self.assertNotEqual(process.returncode, 0)
-
-    # -- explanations
-
-    def test_refused_scenes_are_explained_without_numpy(self):
-        for text, line, reason in EXPLAINED:
-            told = fhpgas.explain(text)
-            self.assertTrue(told.startswith(f"{line}\n  ") and reason in told.split("\nand then")[0], (text, told))
-            self.fault(line, fhpgas.check, text)
-        script = "import sys; sys.path.insert(0, sys.argv[1]); import fhpgas; print(fhpgas.explain('gas = \"FHP1\"\\nrate = 1\\n'), 'numpy' in sys.modules); fhpgas.gas"
-        done = subprocess.run([sys.executable, "-I", "-S", "-c", script, needs.ROOT / "python"], capture_output=True, text=True)
-        self.assertIn("`cells` is missing", done.stdout)
-        self.assertIn("fhpgas.gas needs numpy", done.stderr)
-        for path in sorted((needs.ROOT / "scenes").glob("*.toml")):
-            self.assertEqual(refusals.explanation(path.read_bytes()), refusals.NOT_REFUSED, path)
-        loaded = subprocess.run([sys.executable, "-c", "import fhpgas, sys; print(*sys.modules)"], capture_output=True, text=True).stdout.split()
-        self.assertEqual({"matplotlib", "scipy", "PIL", "distributed"} & {*loaded}, set())
 
 
-def programs_of(group):
-    """The processes of the program in the session of a process."""
-    found = subprocess.run(["ps", "-s", str(group), "-o", "pid=,comm="], capture_output=True, text=True).stdout.split()
+def programs_of(session):
+    """The processes of the program in a session."""
+    found = subprocess.run(["ps", "-s", str(session), "-o", "pid=,comm="], capture_output=True, text=True).stdout.split()
     return {pid for pid, name in zip(found[::2], found[1::2]) if name == "fhpgas"}
 
 
 if __name__ == "__main__":
     ran = unittest.main(exit=False, verbosity=0).result
     failed = len(ran.failures) + len(ran.errors)
-    hint = " (Dask: Debian's python3-distributed)" if ran.skipped else ""
-    print(f"{ran.testsRun - failed - len(ran.skipped)} passed, {failed} failed, {len(ran.skipped)} not tried{hint}")
+    print(f"{ran.testsRun - failed} passed, {failed} failed")
     sys.exit(1 if failed else 0)

@@ -97,7 +97,7 @@ def bitmap(size: tuple[int, int], picture: Any, pixel: float = 1.0, column: int 
     """The dark pixels of a picture, `pixel` cells' widths wide and high. Its upper left corner is at a cell. `picture` is the path of a
     file that Pillow reads, or an array [y, x] of truth values. A picture that leaves the channel raises a Fault."""
     (columns, rows), named = size_checked(size), gas_named(gas)
-    dark, pixel = _dark(picture), real("the width of a pixel", pixel, 1e-9)
+    dark, pixel = _dark(picture), real("the width of a pixel", pixel, 1e-9, 65536)
     y, x = np.ogrid[:rows, :columns]
     right = np.floor((x - column + named.shift * (y % 2)) / pixel + 1e-9).astype(int)
     down = np.floor((y - row + 0.5) * named.row_distance / pixel).astype(int)
