@@ -13,7 +13,8 @@ if grep 'only because a proof file names what the edit took away' "$room/gate"; 
     exit 1
 fi
 for name in command_line.py oracle.py golly.py reference.py terminal.py documents.py library.py archive.sh \
-    python_package.py package_commands.py notebook.py experiments.py large_scenes.py scale.py refusals.py; do
+    python_package.py package_commands.py notebook.py experiments.py large_scenes.py scale.py refusals.py \
+    explanations.py; do
     part tests/$name
 done
 for name in package_commands.py notebook.py; do part tests/$name; done

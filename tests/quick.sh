@@ -23,6 +23,7 @@ part tests/edges.py
 if tools/is_built; then
     part tests/command_line.py
     part tests/mutated_scenes.py 300
+    part tests/explanations.py
     part tests/documents.py
 else
     part examples check_rectangles head_on_left obstacle_1 seeded_pairs filling coarse_uneven replay_done
