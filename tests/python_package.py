@@ -65,7 +65,7 @@ run(AREA, 1e3)                                  not 1000.0
 start.run(1, stages=65)                         the number of stages is an integer from 1 to 64, not 65
 start.coarse(1, 4097)                           the width of a block is an integer from 1 to 4096, not 4097
 start.blocks(0)                                 the width of a block is an integer from 1, not 0
-next(start.every(-1, 2))                        a step is an integer from 0 to 1000000, not -1
+start.every(-1, 2)                              a step is an integer from 1 to 1000000, not -1
 start.save("/no/such/a.toml")                   No such file
 Lattice(np.zeros((8200, 4096), int)).run(1)     the scene has 67240082 bytes, and the program reads 67108864
 run("no/such.toml", 1)                          no/such.toml: No such file
@@ -100,8 +100,8 @@ gas(0.2, None, size=(4, 4))                     the field `east` is numbers or a
 disc((64, 24), 64, 0, 1)                        the column of a disc is an integer from 0 to 63, not 64
 disc((64, 24), 0, 0, nan)                       the radius of a disc is a number from 0 to inf, not nan
 polygon((9, 9), [(1, 2), (3, 4)])               a polygon has three corners (column, row) or more
-polygon((9, 9), [1, 2, 3])                      not [1, 2, 3]
-polygon((9, 9), [(0, 0), (1, inf), (1, 1)])     a corner's row is a number
+polygon((9, 9), [1, 2, 3, 4, 5, 6])             a polygon has three corners (column, row) or more
+polygon((9, 9), [(0, 0), (1, inf), (1, 1)])     at most 1e+06 away, not [(0, 0), (1, inf), (1, 1)]
 porous((9, 9), 30, 1)                           the share of solid cells is a number from 0 to 1, not 30
 porous((9, 9), 0.3, 1, np.random.default_rng()) a seed is an integer
 nozzle((64, 24), 6, 65)                         the length of a nozzle is an integer from 1 to 64
@@ -276,11 +276,14 @@ class Package(unittest.TestCase):
         self.assertEqual([*start.long_run(10, 4, kept)], [start.run(8), start.run(10)])
         self.assertEqual(([*start.long_run(10, 4, kept)], fhpgas.Lattice.load(kept)), ([], start.run(10)))
         later.save(kept)
-        for old, new, part in (("66", "64", "they are 66 x 9, and it has 64 x 9"), ("20,", "21,", "other cells are solid"),
-                               ("300", "301", "particles, and it has"), ("seed = 7", "seed = 8", "another gas, chirality or seed"),
-                               ("gas", "version = 2\ngeneration = 4\ngas", "it begins at generation 4, and they are of 3"),
-                               ("gas", "version = 2\ngeneration = 3\ngas", "of its own generation, 3, and not its cells")):
+        for old, new, part in (("66", "64", "size is (66, 9), and not (64, 9)"), ("3, 4]", "3, 3]", "fluid is 582, and not 585"),
+                               ("300", "301", f"particles is {start.particles}, and not"), ("= 7", "= 8", "seed is 7, and not 8"),
+                               ("fhp1", "fhp-rest", "gas is fhp1"), ("seed", "chirality = 'left'\nseed", "chirality is seeded, and not left"),
+                               ("gas", "version = 2\ngeneration = 4\ngas", "they are of generation 3, and it is of 4"),
+                               ("gas", "version = 2\ngeneration = 3\ngas", "they are of generation 3, and it is of 3, with other cells")):
             self.fault(part, fhpgas.Lattice.load(AREA.replace(old, new)).long_run, 10, 4, kept)
+        empty = start.replace(states=0 * start.states)
+        self.fault("other cells are solid", empty.replace(solid=np.roll(start.solid, 1, 0)).resume, empty.run(1).text())
         with unittest.mock.patch.object(program, "call", side_effect=AssertionError("it computes before it tries its file")):
             self.fault("No such file", start.long_run, 10, 4, "/no/such/kept.toml")
 

@@ -35,8 +35,35 @@ def block_sums(states: Array, weights: Array, width: int, height: int) -> Array:
     return np.stack(found)
 
 
+class Value:
+    """What is equal by value, shows itself as a picture, and is again what it was after pickling: the base of dataclasses with arrays."""
+
+    def _values(self) -> tuple[Any, ...]:
+        return tuple(getattr(self, field.name) for field in dataclasses.fields(self))
+
+    def __reduce__(self) -> tuple[Any, ...]:
+        return type(self), self._values()
+
+    def __eq__(self, other: object) -> bool:
+        return isinstance(other, Value) and type(self) is type(other) and all(map(np.array_equal, self._values(), other._values()))
+
+    def __hash__(self) -> int:
+        return hash(tuple(value.tobytes() if isinstance(value, np.ndarray) else value for value in self._values()))
+
+    def plot(self, what: Any = None, ax: Any = None, **options: Any) -> Any:
+        """Shows a field on Axes of matplotlib, or the particles of a small lattice as arrows: see `fhpgas.plot`."""
+        from . import pictures
+
+        return pictures.plot(self, what, ax, **options)  # type: ignore[arg-type]
+
+    def _repr_png_(self) -> bytes:
+        from . import pictures
+
+        return pictures.png(self)  # type: ignore[arg-type]
+
+
 @dataclasses.dataclass(frozen=True, eq=False, repr=False)
-class Blocks:
+class Blocks(Value):
     """Sums over blocks of cells as read-only arrays [row, column], row 0 at the top: the numbers of `fluid` cells and of `particles`, and
     the momenta eastwards and northwards, `px` and `py`, in the gas's units, as `fhpgas coarse` prints them.
 
@@ -62,29 +89,16 @@ class Blocks:
         sums = {name: read_only(array) for name, array in sums.items()}
         self.__dict__.update(sums, gas=gas_named(self.gas), block=(width, height), size=(columns, rows))
 
-    def __reduce__(self) -> tuple[Any, ...]:
-        return Blocks, tuple(getattr(self, field.name) for field in dataclasses.fields(self))
-
     def __repr__(self) -> str:
         rows, columns = self.fluid.shape
         return f"<Blocks {columns} x {rows} of {self.block[0]} x {self.block[1]} cells of {self.gas}, generation {self.generation}>"
-
-    def __eq__(self, other: object) -> bool:
-        return isinstance(other, Blocks) and self._kept() == other._kept() and self.generation == other.generation and all(
-            np.array_equal(getattr(self, name), getattr(other, name)) for name in SUMS)
-
-    def __hash__(self) -> int:
-        return hash((self._kept(), self.generation, *(getattr(self, name).tobytes() for name in SUMS)))
-
-    def _kept(self) -> tuple[object, ...]:
-        return self.gas.name, self.block, self.size
 
     def __add__(self, other: "Blocks") -> "Blocks":
         """The sums of two lattices of the same blocks, with the generation of the second. `sum(many)` works, and its velocities are means
         over all particles."""
         if not isinstance(other, Blocks):
             return NotImplemented
-        if self._kept() != other._kept():
+        if (self.gas, self.block, self.size) != (other.gas, other.block, other.size):
             raise Fault(f"only blocks of one gas, one size and one lattice's size can be added, and these are {self} and {other}")
         return dataclasses.replace(other, **{name: getattr(self, name) + getattr(other, name) for name in SUMS})
 
@@ -169,8 +183,6 @@ class Blocks:
         spread = {name: gaussian_filter(getattr(self, name).astype(float), sigma, mode=("nearest", "wrap")) for name in SUMS}
         return dataclasses.replace(self, **{name: np.where(self.fluid > 0, sums, 0) for name, sums in spread.items()})
 
-    # -- texts and pictures
-
     def text(self) -> str:
         """The table as `fhpgas coarse` prints it."""
         rows, columns = np.indices(self.fluid.shape)
@@ -178,17 +190,6 @@ class Blocks:
             raise Fault("a table has whole numbers, and smoothed sums have fractions")
         table = np.stack([columns, rows, *(getattr(self, name) for name in SUMS)], -1).reshape(-1, 6).tolist()
         return "\n".join([HEADER, *("%5d %5d %8d %9d %10d %10d" % tuple(line) for line in table)]) + "\n"
-
-    def plot(self, what: Any = "speed", ax: Any = None, **options: Any) -> Any:
-        """Shows a field on Axes of matplotlib: see `fhpgas.plot`."""
-        from . import pictures
-
-        return pictures.plot(self, what, ax, **options)
-
-    def _repr_png_(self) -> bytes:
-        from . import pictures
-
-        return pictures.png(self)
 
 
 def _ratio(above: Array, below: Array) -> Array:

@@ -1,6 +1,7 @@
 """The lattice of a gas: its cells as numpy arrays, its runs, its pictures and its files."""
 import dataclasses
 import functools
+import itertools
 import os
 import pathlib
 import re
@@ -10,7 +11,7 @@ from typing import TYPE_CHECKING, Any
 import numpy as np
 
 from . import fields, program
-from .blocks import Blocks, block_sums, read_table
+from .blocks import Blocks, Value, block_sums, read_table
 from .fault import Fault, integer
 from .gases import Array, Gas, chirality_named, gas_named, read_only
 from .program import Scene
@@ -31,7 +32,7 @@ OTHER = {"left": "right", "right": "left", "seeded": "seeded"}
 
 
 @dataclasses.dataclass(frozen=True, init=False, eq=False, repr=False)
-class Lattice:
+class Lattice(Value):
     """The cells of a gas at a generation. A lattice does not change: `run` and its like return another.
 
     `states` (uint8) and `solid` (bool) are read-only arrays [y, x], 1 to 65536 cells each way. Row 0 is the top, and north is up. Bit i of
@@ -63,9 +64,6 @@ class Lattice:
         if (both := self.solid & (self.states > 0)).any():
             y, x = np.argwhere(both)[0]
             raise Fault(f"row {y} column {x} is solid and contains a particle: numpy.where(solid, 0, states) clears such cells")
-
-    def __reduce__(self) -> tuple[Any, ...]:
-        return Lattice, tuple(getattr(self, field.name) for field in dataclasses.fields(self))
 
     # -- making one
 
@@ -116,23 +114,14 @@ class Lattice:
         """The numbers of particles by direction: [b] of all cells, or [b, row, column] of blocks of so many columns and rows."""
         if width is None and height is None:
             return np.bincount(self.states.ravel(), minlength=128) @ self.gas.bits.astype(int)
-        return block_sums(self.states, self.gas.bits.T, width or self.size[0], height or self.size[1])
+        columns, rows = self.size
+        return block_sums(self.states, self.gas.bits.T, columns if width is None else width, rows if height is None else height)
 
     def blocks(self, width: int = 8, height: int = 9) -> Blocks:
         """Sums over blocks of so many columns and rows. Blocks of 8 x 9 cells of the triangular lattice are nearly square."""
         (fluid,) = block_sums(self.solid.view(np.uint8), np.array([[1, 0]]), width, height)
         particles, px, py = block_sums(self.states, np.stack([self.gas.number, self.gas.px, self.gas.py]), width, height)
         return Blocks(fluid, particles, px, py, self.gas, (width, height), self.size, self.generation)
-
-    def __eq__(self, other: object) -> bool:
-        return (isinstance(other, Lattice) and self._kept() == other._kept() and np.array_equal(self.states, other.states)
-                and np.array_equal(self.solid, other.solid))
-
-    def __hash__(self) -> int:
-        return hash((self._kept(), self.states.tobytes(), self.solid.tobytes()))
-
-    def _kept(self) -> tuple[object, ...]:
-        return self.gas.name, self.chirality, self.seed, self.generation
 
     def __repr__(self) -> str:
         columns, rows = self.size
@@ -173,14 +162,16 @@ class Lattice:
 
     def every(self, step: int, count: int, **plan: Any) -> Iterator["Lattice"]:
         """Yields this lattice, and then `count` times the lattice `step` generations later."""
-        steps = [0] + [integer("a step", step, 0, program.MOST_GENERATIONS)] * integer("the number of steps", count)
-        return self._after(steps, plan)
+        step = integer("a step", step, 1, program.MOST_GENERATIONS)
+        last = self.generation + step * integer("the number of steps", count)
+        return itertools.chain([self], self._parts(last, step, plan))
 
-    def _after(self, steps: list[int], plan: dict[str, Any]) -> Iterator["Lattice"]:
+    def _parts(self, last: int, step: int, plan: dict[str, Any]) -> Iterator["Lattice"]:
+        """The lattices after every step, and at the last generation."""
         lattice = self
-        for done, step in enumerate(steps):
-            program.show_progress(f"{done} of {len(steps)} parts")
-            lattice = lattice.run(step, **plan) if step else lattice
+        while lattice.generation < last:
+            program.show_progress(f"generation {lattice.generation} of {last}")
+            lattice = lattice.run(min(step, last - lattice.generation), **plan)
             program.show_progress("")
             yield lattice
 
@@ -210,25 +201,18 @@ class Lattice:
         """The lattice of cells that `fhpgas run` printed in a run that began with this lattice. Cells that cannot come from it raise a
         Fault: they have another size, other solid cells, another number of particles, an earlier generation, or the same generation and
         other cells. Cells do not show whether another chirality or seed was used."""
-        return self._before(read_cells(text, self.gas, self.size, self.chirality, self.seed))
+        return self._continued(read_cells(text, self.gas, self.size, self.chirality, self.seed))
 
-    def _before(self, later: "Lattice") -> "Lattice":
-        """A later lattice of a run of this one, or a Fault."""
-        why = None
-        if later.size != self.size:
-            why = f"they are {later.size[0]} x {later.size[1]}, and it has {self.size[0]} x {self.size[1]}"
-        elif later._kept()[:3] != self._kept()[:3]:
-            why = "they have another gas, chirality or seed"
-        elif not np.array_equal(later.solid, self.solid):
-            why = "other cells are solid"
-        elif later.particles != self.particles:
-            why = f"they contain {later.particles} particles, and it has {self.particles}"
-        elif later.generation < self.generation:
-            why = f"it begins at generation {self.generation}, and they are of {later.generation}"
-        elif later.generation == self.generation and later != self:
-            why = f"they are of its own generation, {self.generation}, and not its cells"
-        if why:
-            raise Fault(f"the cells are not of this lattice: {why}")
+    def _continued(self, later: "Lattice") -> "Lattice":
+        """A later lattice of a run of this one. Another raises a Fault."""
+        why = "the cells are not of this lattice: "
+        for name in ("size", "gas", "chirality", "seed", "fluid", "particles"):
+            if (theirs := getattr(later, name)) != (own := getattr(self, name)):
+                raise Fault(f"{why}{name} is {theirs}, and not {own}")
+        if not np.array_equal(later.solid, self.solid):
+            raise Fault(why + "other cells are solid")
+        if later.generation < self.generation or later.generation == self.generation and later != self:
+            raise Fault(f"{why}they are of generation {later.generation}, and it is of {self.generation}, with other cells")
         return later
 
     def long_run(self, generations: int, step: int, kept: str | os.PathLike[str], **plan: Any) -> Iterator["Lattice"]:
@@ -236,26 +220,14 @@ class Lattice:
         scene that continues, so the same call continues a run that a time limit or a failure ended. The file is tried first."""
         last = self.generation + integer("the number of generations", generations)
         step = integer("a step", step, 1, program.MOST_GENERATIONS)
-        here = self._before(Lattice.load(pathlib.Path(kept))) if os.path.exists(kept) else self
+        here = self._continued(Lattice.load(pathlib.Path(kept))) if os.path.exists(kept) else self
         here.save(kept)
-        left = last - here.generation
-        parts = here._after([0] + [step] * (left // step) + [left % step] * (left % step > 0), plan)
-        next(parts)
-        return _kept(parts, kept)
 
-    # -- pictures
+        def save(lattice: "Lattice") -> "Lattice":
+            lattice.save(kept)
+            return lattice
 
-    def plot(self, what: str | None = None, ax: Any = None, **options: Any) -> Any:
-        """Shows a field of its blocks on Axes of matplotlib, or its particles as arrows if it is small and no field is named: see
-        `fhpgas.plot`."""
-        from . import pictures
-
-        return pictures.plot(self, what, ax, **options)
-
-    def _repr_png_(self) -> bytes:
-        from . import pictures
-
-        return pictures.png(self)
+        return map(save, here._parts(last, step, plan))
 
 
 def _wrong_state(gas: Gas, states: Array) -> str:
@@ -265,12 +237,6 @@ def _wrong_state(gas: Gas, states: Array) -> str:
         return f"{allowed}, and these are of the type {states.dtype}"
     y, x = np.argwhere((states < 0) | (states >> gas.directions > 0))[0]
     return f"{allowed}, and row {y} column {x} has {states[y, x]}"
-
-
-def _kept(parts: Iterator[Lattice], kept: str | os.PathLike[str]) -> Iterator[Lattice]:
-    for lattice in parts:
-        lattice.save(kept)
-        yield lattice
 
 
 def lines_of(codes: Array, before: bytes = b"", after: bytes = b"\n") -> bytes:
@@ -365,6 +331,6 @@ def coarse(scene: Scene, generations: int, width: int = 8, height: int = 9, **pl
     """The blocks of a scene, the path of its file or its text, after some generations, summed by the program. The lattice may be larger
     than the memory of Python: an area of 65536 x 65536 cells is a text of five lines."""
     text = program.scene_bytes(scene)
-    size = program.check(scene)
-    table = _coarse(text, size.height, generations, width, height, plan)
-    return read_table(table, size.gas, (width, height), (size.width, size.height), keys_of(text).get("generation", 0) + generations)
+    of = program.summary(text)
+    table = _coarse(text, of.height, generations, width, height, plan)
+    return read_table(table, of.gas, (width, height), (of.width, of.height), keys_of(text).get("generation", 0) + generations)

@@ -94,7 +94,12 @@ class Summary(NamedTuple):
 
 def check(scene: Scene) -> Summary:
     """The summary of a scene, its text or its path. A refused scene raises a Fault with the program's line."""
-    words = call(scene_bytes(scene), "check").decode().split()
+    return summary(scene_bytes(scene))
+
+
+def summary(scene: bytes) -> Summary:
+    """The summary of the bytes of a scene."""
+    words = call(scene, "check").decode().split()
     return Summary(words[1], *map(int, words[3::2]))
 
 

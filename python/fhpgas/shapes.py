@@ -15,6 +15,8 @@ from .fault import Fault, integer, real
 from .fields import size_checked
 from .gases import Array, Gas, gas_named
 
+FAR = 1e6  # cells, of a corner of a polygon
+
 
 def disc(size: tuple[int, int], column: int, row: int, radius: float, gas: str | Gas = "fhp1") -> Array:
     """The cells whose middles are at most `radius` from the middle of a cell. It continues past the last column and is cut at the walls."""
@@ -46,7 +48,12 @@ def polygon(size: tuple[int, int], corners: Iterable[Sequence[float]], gas: str 
     first cell. It continues past the last column and is cut at the walls. Of a polygon that crosses itself, what lies inside an odd number
     of times. A cell on an upper or left edge belongs to it, on a lower or right edge not."""
     (columns, rows), named = size_checked(size), gas_named(gas)
-    places_of = np.array(_pairs(corners))
+    try:
+        places_of = np.array([*corners], float)
+    except (TypeError, ValueError):
+        places_of = np.empty(0)
+    if places_of.ndim != 2 or len(places_of) < 3 or places_of.shape[1] != 2 or not (np.abs(places_of) <= FAR).all():
+        raise Fault(f"a polygon has three corners (column, row) or more, at most {FAR:g} away, not {reprlib.repr(corners)}")
     left, right = math.floor(places_of[:, 0].min()) - 1, math.ceil(places_of[:, 0].max()) + 1
     y, x = np.ogrid[:rows, left : right + 1]
     places, inside = x + named.shift * (y % 2), np.zeros((rows, right + 1 - left), bool)
@@ -56,20 +63,6 @@ def polygon(size: tuple[int, int], corners: Iterable[Sequence[float]], gas: str 
     solid, (down, across) = np.zeros((rows, columns), bool), np.nonzero(inside)
     solid[down, (left + across) % columns] = True
     return solid
-
-
-def _pairs(corners: Iterable[Sequence[float]]) -> list[tuple[float, float]]:
-    try:
-        found = [(real("a corner's column", column), real("a corner's row", row)) for column, row in corners]
-    except TypeError:
-        found = []
-    except ValueError as fault:
-        if isinstance(fault, Fault):
-            raise
-        found = []
-    if len(found) < 3:
-        raise Fault(f"a polygon has three corners (column, row) or more, not {reprlib.repr(corners)}")
-    return found
 
 
 def nozzle(size: tuple[int, int], throat: int, length: int) -> Array:
