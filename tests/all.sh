@@ -17,6 +17,5 @@ for name in command_line.py oracle.py golly.py reference.py terminal.py document
     explanations.py; do
     part tests/$name
 done
-for name in package_commands.py notebook.py; do part tests/$name; done
 part tests/mutated_scenes.py 5000
 tell
