@@ -1,22 +1,29 @@
 #!/usr/bin/env python3
-"""Says which definitions a reader of the public contracts must believe, and compares them with docs/DEFINITIONS.md.
+"""Says which definitions a reader of the public contracts must believe, and makes the list of them in docs/DEFINITIONS.md from the comments in
+specs/.
 
 A definition is an item of a crate's specs/. It must be believed if the contract of a public call names it, or another that must be believed
 does. A reader also meets the code's types that these definitions name, and the ghost members of public traits that public contracts name.
 
-Fails if DEFINITIONS.md leaves out one of them, in a section that names its crate, or has a row for one that is gone, if a definition to be
-believed names a type that is not public, if one, or a clause of a public call, cites a constant of the code instead of the number, and if a
-file of specs/ has a definition that need not be believed without saying in its first line that its words are inner ones. Prints how many
-lines there are to believe. With --list it prints the definitions instead.
+Fails if that list is not the one that the comments make (--write writes it), if the page does not name one of these types and members, if a
+definition to be believed names a type that is not public, if one, or a clause of a public call, cites a constant of the code instead of the
+number, and if a file of specs/ has a definition that need not be believed without saying in its first line that its words are inner ones.
+Prints how many lines there are to believe. With --list it prints the definitions instead.
 """
 import collections
 import re
 import sys
+import textwrap
 
 import needs
 
 CRATES = needs.ROOT / "crates"
+DOCUMENT = needs.ROOT / "docs/DEFINITIONS.md"
 INNER = "-- Inner words"
+MADE = "<!-- From here on `tests/definitions.py --write` makes this page of the comments in specs/. -->\n"
+# They relate a state of the code and the rows that may have led to it. The first call establishes them for empty lists, and every step
+# preserves them.
+REPRESENTATION = {"MayHaveBeenFed", "HoldsLast", "MayHaveDone", "MayHaveFed"}
 NAME = re.compile(r"[A-Za-z_ℕℤ⊤⊥][\w'⊤⊥ℕℤ-]*")
 HEAD = re.compile(r"^(?:(?:pub|abbrev|unfoldable|record|data) )+([\w'-]+)", re.M)
 USE = re.compile(r"^\s*(?:ghost )?use Rattle\.(\w+)\.specs\.([\w.]+)\.\{([^}]*)\}", re.M)
@@ -154,31 +161,47 @@ def closure(cited, known):
     return believed
 
 
-def told_in(document, crates):
-    """The definitions that DEFINITIONS.md has, with their crates, and the ones that calls establish and preserve."""
-    told, kept = set(), set()
-    for section in re.split(r"^## ", document, flags=re.M)[1:]:
-        names = re.findall(r"`([\w'-]+)`", section)
-        found = {(crate, name) for crate in crates if re.search(rf"\b{crate}\b", section) for name in names}
-        told |= found
-        kept |= found if section.startswith("Representation invariants") else set()
-    return told, kept
+def listed(crate, file, believed):
+    """The lines about the definitions of a file that must be believed: their names with the comment before them, and below it the names that
+    have no comment of their own."""
+    title, *blocks = re.split(r"\n\s*\n", (CRATES / crate / "specs" / f"{file.replace('.', '/')}.antt").read_text())
+    entries = []
+    for block in blocks:
+        names = [f"`{name}`" for name in HEAD.findall(block) if (crate, file, name) in believed]
+        if names and (comment := comment_of(block)) or not entries:
+            entries.append((names, comment if names else ""))
+        else:
+            entries[-1][0].extend(names)
+    yield f"\n## `{crate}/specs/{file.replace('.', '/')}.antt`\n"
+    yield textwrap.fill(comment_of(title), 140) + "\n"
+    for names, comment in entries:
+        if names:
+            text = f"- {', '.join(names)}: {comment}" if comment else f"- {', '.join(names)}"
+            yield textwrap.fill(text, 140, subsequent_indent="  ", break_on_hyphens=False, break_long_words=False)
+
+
+def comment_of(block):
+    """The comment at the head of a block, in one line."""
+    return " ".join(line.removeprefix("--").strip() for line in re.match(r"(?:--[^\n]*\n)*", block + "\n")[0].splitlines())
+
+
+def catalogue(believed, known):
+    """The made part of docs/DEFINITIONS.md: the files in the order of crates.txt."""
+    crates = re.findall(r"^(\w+):", (needs.ROOT / "crates.txt").read_text(), re.M)
+    files = sorted({key[:2] for key in believed if known[key].lines}, key=lambda key: (crates.index(key[0]), key[1]))
+    return "\n".join(line for crate, file in files for line in listed(crate, file, believed)) + "\n"
 
 
 def complaints(believed, known, inner, members, public, document):
     """What the files and DEFINITIONS.md do not agree on."""
-    told, _ = told_in(document, public)
     for key in sorted(known):
         where = f"{key[0]}/specs/{key[1].replace('.', '/')}.antt: {key[2]}"
         if key not in believed and key[:2] not in inner:
             yield f"{where} is cited by no public contract, and its file does not say that it holds inner words"
         if key in believed and key[:2] in inner:
             yield f"{where} is cited by a public contract, and its file says that it holds inner words"
-        if key in believed and known[key].lines and (key[0], key[2]) not in told:
-            yield f"{where} must be believed, and docs/DEFINITIONS.md leaves it out"
-    names = {key[2] for key in known}
-    for row in re.findall(r"^\| (`[^|]*) \|.*`[\w/]+\.antt`", document, re.M):
-        yield from (f"docs/DEFINITIONS.md names {name}, which is gone" for name in re.findall(r"`([\w'-]+)`", row) if name not in names)
+    if document.partition(MADE)[2] != catalogue(believed, known):
+        yield "docs/DEFINITIONS.md is not what the comments in specs/ make of it: tests/definitions.py --write"
     types = {kind for key in believed for kind in known[key].types}
     for crate, kind in sorted(types):
         if not any(re.search(rf"^pub (?:struct|enum) {kind}\b", text, re.M) for text in public[crate]):
@@ -206,16 +229,18 @@ def main():
         for crate, file, name in sorted(key for key in believed if known[key].lines):
             print(f"{crate}/specs/{file.replace('.', '/')}.antt: {name}")
         return
-    document = (needs.ROOT / "docs/DEFINITIONS.md").read_text()
+    document = DOCUMENT.read_text()
+    if sys.argv[1:] == ["--write"]:
+        DOCUMENT.write_text(document.partition(MADE)[0] + MADE + catalogue(believed, known))
+        return
     wrong += complaints(believed, known, inner, asked & words, public, document)
     wrong += [f"{key[2]} of {key[0]} must be believed, and cites {name}, a constant of the code"
               for key in sorted(believed) for name in sorted(known[key].words & limits)]
     for line in wrong:
         print(f"FAILED: {line}")
-    _, kept = told_in(document, public)
     lines = collections.Counter()
     for key in believed:
-        lines["relations that calls give and keep" if (key[0], key[2]) in kept else key[0]] += known[key].lines
+        lines["relations that calls establish and preserve" if key[2] in REPRESENTATION else key[0]] += known[key].lines
     for name in sorted(lines):
         print(f"{lines[name]:5} lines of {name}")
     print(f"{sum(lines.values()):5} lines of {len(believed)} definitions to believe, comments left out")
