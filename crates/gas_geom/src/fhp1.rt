@@ -29,10 +29,6 @@ impl Gas for Fhp1 {
 
     ghost ignores = { uses-chirality fhp1 };
 
-    fn name() -> &'static str {
-        "fhp1"
-    }
-
     fn opposite(i: u32) -> u32 {
         (i + 3) % 6
     }

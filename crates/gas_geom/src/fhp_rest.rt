@@ -33,10 +33,6 @@ impl Gas for FhpRest {
 
     ghost ignores = { uses-chirality fhp_rest };
 
-    fn name() -> &'static str {
-        "fhp-rest"
-    }
-
     fn opposite(i: u32) -> u32 {
         if i == 6 { 6 } else { (i + 3) % 6 }
     }

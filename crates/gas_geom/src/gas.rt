@@ -20,10 +20,6 @@ pub trait Gas {
     /// Whether a collision looks at its random bit. If not, a stage draws none.
     const USES_CHIRALITY: bool;
 
-    /// The name.
-    fn name() -> &'static str
-        ensures name { result.now ≡ rules.name };
-
     /// The direction that leads back.
     fn opposite(i: u32) -> u32
         requires direction { i < rules.dirs }

@@ -28,10 +28,6 @@ impl Gas for Hpp {
 
     ghost ignores = { λ _ s chi chi'. refl };
 
-    fn name() -> &'static str {
-        "hpp"
-    }
-
     fn opposite(i: u32) -> u32 {
         (i + 2) % 4
     }

@@ -62,14 +62,25 @@ impl KnownGas {
     pub fn named(name: &str) -> Option<KnownGas>
         ensures known { result ≡ gas_named name.now }
     {
-        if name == Fhp1::name() {
+        if name == KnownGas::Fhp1.name() {
             Some(KnownGas::Fhp1)
-        } else if name == Hpp::name() {
+        } else if name == KnownGas::Hpp.name() {
             Some(KnownGas::Hpp)
-        } else if name == FhpRest::name() {
+        } else if name == KnownGas::FhpRest.name() {
             Some(KnownGas::FhpRest)
         } else {
             None
+        }
+    }
+
+    /// The name of the gas.
+    pub fn name(self) -> &'static str
+        ensures name { result.now ≡ (rules_of self).name }
+    {
+        match self {
+            KnownGas::Fhp1 => "fhp1",
+            KnownGas::Hpp => "hpp",
+            KnownGas::FhpRest => "fhp-rest",
         }
     }
 
@@ -81,6 +92,22 @@ impl KnownGas {
             KnownGas::Fhp1 => states::<Fhp1>(),
             KnownGas::Hpp => states::<Hpp>(),
             KnownGas::FhpRest => states::<FhpRest>(),
+        }
+    }
+}
+
+impl AnyLattice {
+    ghost use Rattle.std.specs.Prelude.{◌≡◌};
+    ghost use Rattle.gas_scene.specs.Catalog.{gas_lattice};
+
+    /// The gas of the lattice.
+    pub fn gas(&self) -> KnownGas
+        ensures gas { result ≡ (gas_lattice self.now).gas }
+    {
+        match self {
+            AnyLattice::Fhp1(_) => KnownGas::Fhp1,
+            AnyLattice::Hpp(_) => KnownGas::Hpp,
+            AnyLattice::FhpRest(_) => KnownGas::FhpRest,
         }
     }
 }

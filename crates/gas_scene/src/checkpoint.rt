@@ -11,9 +11,9 @@ ghost use Rattle.gas_scene.specs.Catalog.{rules_of, name_and_seed, gas_lattice};
 ghost use Rattle.gas_scene.specs.declared.error.SceneError.TheVariants.{Memory, Range};
 ghost use Rattle.gas_scene.specs.Scene.{scene_of_text};
 ghost use Rattle.gas_scene.specs.Checkpoint.{can_be_stated, checkpoint_table};
-ghost use Rattle.gas_scene.specs.Inner.Printing.{row_values, gas_with, insert_member, insert_seed, insert_all};
+ghost use Rattle.gas_scene.specs.Inner.Printing.{row_values, insert_member, insert_seed, insert_all};
 
-use crate::catalog::AnyLattice;
+use crate::catalog::{AnyLattice, KnownGas};
 use crate::common_values::LAST_GENERATION;
 use crate::error::SceneError;
 use crate::with_lattice;
@@ -131,22 +131,23 @@ fn build_table(
 
 fn build_text<G: Gas>(
     alloc: Global,
+    gas: KnownGas,
     lattice: &Lattice<G>,
     chirality: Chirality,
     generation: u64,
 ) -> Result<String, AllocError>
     requires stated { can_be_stated chirality generation ≡ true }
-    requires known { rules_of (gas_with G.rules) ≡ G.rules }
+    requires known { rules_of gas ≡ G.rules }
     ensures scene { IfOk result (λ s. scene_of_text (string_bytes s) ≡ Ok (record {
-      lattice = record { gas = gas_with G.rules; lattice = lattice.now };
+      lattice = record { gas = gas; lattice = lattice.now };
       chirality = chirality;
       generation = generation;
     })) }
     ensures table { IfOk result (λ s. parse_document (string_bytes s) ≡ Some (checkpoint_table
-        (record { gas = gas_with G.rules; lattice = lattice.now }) chirality generation)) }
+        (record { gas = gas; lattice = lattice.now }) chirality generation)) }
 {
     let cells = row_values(alloc, lattice)?;
-    let table = build_table(alloc, G::name(), cells, chirality, generation)?;
+    let table = build_table(alloc, gas.name(), cells, chirality, generation)?;
     match toml::table_to_string_pretty(alloc, &table) {
         Ok(text) => Ok(text),
         Err(_) => Err(AllocError),
@@ -191,7 +192,7 @@ pub fn checkpoint(
     }
     let text = with_lattice!(
         lattice,
-        lattice => build_text(alloc, lattice, chirality, generation)
+        typed => build_text(alloc, lattice.gas(), typed, chirality, generation)
     )?;
     Ok(text)
 }

@@ -30,7 +30,7 @@ unless_refused refusal accepted = option_map_or (λ error. Err (Plan error)) ref
 -- The outcome of a request on a lattice of generation `first`: the refusal of its plan, or the text of its answer. A replay that needs more
 -- than one pass is a fault.
 abbrev pub gas_outcome : Rules → LatticeModel → Chirality → ℕ → Request → Result (List ℕ) ToolError
-gas_outcome gas lattice chirality first Check = Ok (check_text gas lattice)
+gas_outcome gas lattice chirality first Check = Ok (check_text gas.name gas lattice)
 gas_outcome gas lattice chirality first (Run stages capacity generations) = unless_refused (plan_refusal stages capacity generations)
     (Ok (cells_text gas (lattice_after gas chirality first lattice generations) (first + generations)))
 gas_outcome gas lattice chirality first (Coarse stages capacity generations width height) =

@@ -2,6 +2,7 @@
 
 ghost use Rattle.std.specs.Prelude.{◌≡◌, IfOk, IfErr};
 ghost use Rattle.gas_stage.specs.Evolution.{lattice_after};
+ghost use Rattle.gas_scene.specs.Catalog.{rules_of};
 ghost use Rattle.gas_tool_cli.specs.Requests.{IsAllowed};
 ghost use Rattle.gas_tool_cli.specs.declared.request.Request.TheVariants as request_of;
 ghost use Rattle.gas_tool.specs.Outcome.{Performs, gas_outcome, outcome};
@@ -63,12 +64,13 @@ fn perform_on<G: Gas + Send, W: Write, H: Gate + Sync, R: Threads + Wait + Sync>
     out: &mut W,
 ) -> Result<(), ToolError>
     requires allowed { IsAllowed request.now }
+    requires gas { rules_of scene.now.lattice.gas ≡ G.rules }
     ensures { Performs
         (gas_outcome G.rules lattice.now scene.now.chirality scene.now.generation request.now)
         (W.contents out.old) (W.contents out.new) result }
 {
     match request {
-        Request::Check => Ok(write_summary(lattice, out)?),
+        Request::Check => Ok(write_summary(scene.lattice().gas().name(), lattice, out)?),
         Request::Run {
             stages,
             capacity,

@@ -16,8 +16,8 @@ cells_text gas lattice generation =
     codes "generation " ++ decimal generation ++ codes " particles " ++ decimal (count gas lattice.rows) ++ line_feed
     ++ flat_map (λ y. row_cells lattice.channel lattice.rows y ++ line_feed) (range_with_len 0 lattice.channel.height)
 
--- the summary of a scene: its gas, its size, and the numbers of its solid cells and of its particles
-unfoldable pub check_text : Rules → LatticeModel → List ℕ
-check_text gas lattice =
-    codes "gas " ++ gas.name ++ codes " width " ++ decimal lattice.channel.width ++ codes " height " ++ decimal lattice.channel.height
+-- the summary of a scene: the name of its gas, its size, and the numbers of its solid cells and of its particles
+unfoldable pub check_text : List ℕ → Rules → LatticeModel → List ℕ
+check_text name gas lattice =
+    codes "gas " ++ name ++ codes " width " ++ decimal lattice.channel.width ++ codes " height " ++ decimal lattice.channel.height
     ++ codes " solid " ++ decimal (solid_cells lattice.channel) ++ codes " particles " ++ decimal (count gas lattice.rows) ++ line_feed

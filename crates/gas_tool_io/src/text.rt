@@ -103,30 +103,39 @@ fn put_summary_line<W: Write>(
 }
 
 #[tactic(auto, unfolding(crate::specs::Text::check_text))]
-fn put_summary<G: Gas, W: Write>(sink: &mut Sink, out: &mut W, lattice: &Lattice<G>)
+fn put_summary<G: Gas, W: Write>(
+    sink: &mut Sink,
+    out: &mut W,
+    gas: &str,
+    lattice: &Lattice<G>,
+)
     ensures { Adds (W.contents out.old) (W.contents out.new) sink.old sink.new
-        (check_text G.rules lattice.now) }
+        (check_text gas.now G.rules lattice.now) }
 {
     let channel = lattice.channel();
     let size = channel.size();
     put_summary_line(
         sink,
         out,
-        G::name(),
+        gas,
         (size.width(), size.height()),
         channel.count_solid(),
         lattice.count(),
     );
 }
 
-/// Writes the summary of a lattice, a line. It has the name of the gas, the width and the height in
+/// Writes the summary of a lattice, a line. It has the given name of the gas, the width and the height in
 /// cells, and the numbers of solid cells and of particles. Then the writer is flushed once. The
 /// faults are as in `write_cells`. It takes no memory.
-pub fn write_summary<G: Gas, W: Write>(lattice: &Lattice<G>, out: &mut W) -> Result<(), WriteFault>
+pub fn write_summary<G: Gas, W: Write>(
+    gas: &str,
+    lattice: &Lattice<G>,
+    out: &mut W,
+) -> Result<(), WriteFault>
     ensures written { Writes (W.contents out.old) (W.contents out.new)
-        (check_text G.rules lattice.now) result }
+        (check_text gas.now G.rules lattice.now) result }
 {
     let mut sink = Sink::new();
-    put_summary(&mut sink, out, lattice);
+    put_summary(&mut sink, out, gas, lattice);
     sink.finish(out)
 }

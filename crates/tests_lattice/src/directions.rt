@@ -59,7 +59,6 @@ fn directions(rt: HostRuntime) {
     has_directions::<FhpRest>(&rt, 0, &FHP1);
     has_directions::<FhpRest>(&rt, 6, &REST);
     assert!(rt; (Fhp1::DIRS, Hpp::DIRS, FhpRest::DIRS) == (6, 4, 7));
-    assert!(rt; (Fhp1::name(), Hpp::name(), FhpRest::name()) == ("fhp1", "hpp", "fhp-rest"));
 }
 
 #[test]

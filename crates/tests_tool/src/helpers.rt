@@ -159,10 +159,10 @@ fn push_cell<G: Gas>(text: &mut String, lattice: &Lattice<G>, x: u32, y: u32) ->
 }
 
 // The name of the gas, and then the cells as two characters each, a line per row.
-fn lattice_text<G: Gas>(alloc: Global, lattice: &Lattice<G>) -> Result<String, Fail> {
+fn lattice_text<G: Gas>(alloc: Global, name: &str, lattice: &Lattice<G>) -> Result<String, Fail> {
     let size = lattice.channel().size();
     let mut text = String::new(alloc);
-    text.push_str(G::name())?;
+    text.push_str(name)?;
     for y in 0..size.height() {
         text.push_str("\n")?;
         for x in 0..size.width() {
@@ -173,7 +173,8 @@ fn lattice_text<G: Gas>(alloc: Global, lattice: &Lattice<G>) -> Result<String, F
 }
 
 fn scene_cells(alloc: Global, scene: &Scene) -> Result<String, Fail> {
-    with_lattice!(scene.lattice(), lattice => lattice_text(alloc, lattice))
+    let name = scene.lattice().gas().name();
+    with_lattice!(scene.lattice(), lattice => lattice_text(alloc, name, lattice))
 }
 
 // The scene of a text, as one text: its chirality, its generation, the name of its gas, and its

@@ -3,25 +3,18 @@
 use Rattle.std.specs.Prelude.{ℕ, List, map, Option, codes, pos}
 use Rattle.std.specs.Cmp.Lexicographic.{slice_cmp}
 use Rattle.std.specs.List.{range_with_len}
-use Rattle.std.specs.Option.{option_map_or, unwrap_or}
+use Rattle.std.specs.Option.{option_map_or}
 use Rattle.std.specs.Ordering.{nat_cmp, match_ordering}
 use Rattle.toml.specs.Data.{Data, string, integer, array, Members, no_members, member}
 use Rattle.toml.specs.View.{items_of}
-use Rattle.gas_geom.specs.Gas.{Rules}
 use Rattle.gas_geom.specs.Lattice.{LatticeModel}
 use Rattle.gas_rows.specs.declared.chirality.Chirality.{Chirality}
 use Rattle.gas_cells.specs.Cells.{row_cells}
-use Rattle.gas_scene.specs.declared.catalog.KnownGas.{KnownGas}
-use Rattle.gas_scene.specs.declared.catalog.KnownGas.TheVariants.{Fhp1}
-use Rattle.gas_scene.specs.Catalog.{gas_named, name_and_seed}
+use Rattle.gas_scene.specs.Catalog.{name_and_seed}
 
 -- the texts of the rows, from the top
 abbrev pub row_values : LatticeModel → List Data
 row_values l = map (λ y. string (row_cells l.channel l.rows y)) (range_with_len 0 l.channel.height)
-
--- the gas with the name of these rules
-abbrev pub gas_with : Rules → KnownGas
-gas_with rules = unwrap_or (gas_named rules.name) Fhp1
 
 -- a table of ascending keys with one more value at a key
 abbrev pub insert_member : List ℕ → Data → Members → Members
