@@ -4,7 +4,8 @@ use Rattle.std.proofs.Common.{◌≡◌, ℕ, ◌+◌, ◌-◌, ◌*◌, ◌%◌
 use Rattle.std.proofs.lemmas.Bool.Decides.{nat_tests}
 use Rattle.std.proofs.Math.Nat.{mod-eq_of_lt}
 use Rattle.gas_geom.specs.Laws.Steps.{whole_turn}
-use Rattle.gas_geom.specs.Moves.{Back, On, column_after}
+use Rattle.gas_geom.specs.declared.moves.Move.TheVariants.{Back, On}
+use Rattle.gas_geom.specs.Moves.{column_after}
 
 module _ (at word moved : ℕ → Bool) (width j : ℕ) (here : (b : ℕ) → b < 64 → word b ≡ at (64 * j + b)) where
   -- `before` is the cell to the west of the first one

@@ -2,12 +2,8 @@
 //! of all directions of a gas. Nothing here knows rows or masks as values.
 #![tactic(auto)]
 
-pub mod incoming;
-pub mod load;
 pub mod plane;
 pub mod planes;
-mod side;
-pub mod span;
 pub mod states;
 pub mod stream;
 pub mod word;

@@ -1,18 +1,60 @@
 //! The streaming of one direction into the words of a row.
-ghost use Rattle.std.specs.Prelude.{◌≡◌, ◌≢◌, ◌/◌, ℕ, ◌-◌, ◌+◌, ◌*◌, ◌<◌, ◌≤◌, true, false, length};
-ghost use Rattle.gas_geom.specs.Moves.{Move, Stay, amount};
+ghost use Rattle.std.specs.Prelude.{◌≡◌, ◌≢◌, ◌/◌, ℕ, ◌-◌, ◌+◌, ◌*◌, ◌<◌, ◌≤◌, false, length};
+ghost use Rattle.gas_geom.specs.declared.moves.Move.{Move};
+ghost use Rattle.gas_geom.specs.declared.moves.Move.TheVariants.{Back, Stay, On};
 ghost use Rattle.gas_bits.specs.Words.{words_in};
 ghost use Rattle.gas_bits.specs.Planes.{has};
 ghost use Rattle.gas_bits.specs.Shift.{streamed_cell};
-ghost use Rattle.gas_bits.specs.Inner.Streamed.{AreBeside, IsStreamedWord, AreStreamed, words_apart};
+ghost use Rattle.gas_bits.specs.Inner.Streamed.{AreBeside, IsStreamedWord, AreStreamed};
 
-use crate::incoming::Incoming;
-use crate::plane::clear_past;
-use crate::side::{East, Side, West};
-use crate::word::words_for;
+use crate::plane::{Incoming, clear_past};
+use crate::word::{from_east, from_west, with_last_bit_on_top, words_for};
+use gas_geom::moves::Move;
 
-// Returns what the cells of word `j` hold after streaming: what arrives, but the opposite direction
-// if the cell that it would come from is solid (`blocked`: bounce-back), and nothing at solid cells.
+// The western neighbours of the cells of word `j`, which is not the first.
+#[inline(always)]
+fn west_of(words: &[u64], j: usize) -> u64
+    requires after_first { 1 ≤ j }
+    requires within { j < length words.now }
+    ensures { (width : ℕ) → length words.now ≡ words_in width →
+        AreBeside words.now width Back j result }
+{
+    from_west(words[j - 1], words[j])
+}
+
+// The western neighbours of the cells of the first word.
+#[inline(always)]
+fn west_of_first(words: &[u64], width: u32) -> u64
+    requires some_cells { 1 ≤ width }
+    requires long { length words.now ≡ words_in width }
+    ensures { AreBeside words.now width Back 0 result }
+{
+    let last = words[words.len() - 1];
+    from_west(with_last_bit_on_top(last, (width - 1) % 64), words[0])
+}
+
+// The eastern neighbours of the cells of word `j`, which is not the last.
+#[inline(always)]
+fn east_of(words: &[u64], j: usize) -> u64
+    requires before_last { j + 1 < length words.now }
+    ensures { (width : ℕ) → length words.now ≡ words_in width →
+        AreBeside words.now width On j result }
+{
+    from_east(words[j], 63, words[j + 1])
+}
+
+// The eastern neighbours of the cells of the last word.
+#[inline(always)]
+fn east_of_last(words: &[u64], width: u32) -> u64
+    requires some_cells { 1 ≤ width }
+    requires long { length words.now ≡ words_in width }
+    ensures { AreBeside words.now width On (length words.now - 1) result }
+{
+    from_east(words[words.len() - 1], (width - 1) % 64, words[0])
+}
+
+// What the cells of word `j` hold after streaming: what arrives, but the opposite direction if the
+// cell that it would come from is solid (`blocked`: bounce-back), and nothing at solid cells.
 #[inline(always)]
 fn stream_word<'a>(incoming: &Incoming<'a>, j: usize, arriving: u64, blocked: u64) -> u64
     requires within { 64 * j < incoming.now.width }
@@ -26,94 +68,174 @@ fn stream_word<'a>(incoming: &Incoming<'a>, j: usize, arriving: u64, blocked: u6
     ((arriving & !blocked) | (blocked & incoming.opposite_here[j])) & !incoming.solid_here[j]
 }
 
-// Returns word `j` of the streamed direction, not at the end at which the row closes.
+// Word `j` after streaming from the west. It is not the first.
 #[inline(always)]
-fn inner_word<'a, S: Side>(incoming: &Incoming<'a>, j: usize) -> u64
-    requires within { 64 * j < incoming.now.width }
-    requires after_first { S.CLOSES_LAST ≡ false → 1 ≤ j }
-    requires before_last { S.CLOSES_LAST ≡ true → 64 * (j + 1) < incoming.now.width }
-    ensures { IsStreamedWord incoming.now S.side j result }
+fn word_from_west<'a>(incoming: &Incoming<'a>, j: usize) -> u64
+    requires after_first { 1 ≤ j }
+    requires within { j < words_in incoming.now.width }
+    ensures { IsStreamedWord incoming.now Back j result }
 {
-    let arriving = S::inner(incoming.plane, j, incoming.width);
-    let blocked = S::inner(incoming.solid_there, j, incoming.width);
+    let arriving = west_of(incoming.plane, j);
+    let blocked = west_of(incoming.solid_there, j);
     stream_word(incoming, j, arriving, blocked)
 }
 
-// Returns word `j` of the streamed direction, at the end at which the row closes.
+// Word `j` after streaming from the east. It is not the last.
 #[inline(always)]
-fn closing_word<'a, S: Side>(incoming: &Incoming<'a>, j: usize) -> u64
-    requires within { 64 * j < incoming.now.width }
-    requires first { S.CLOSES_LAST ≡ false → j ≡ 0 }
-    requires last { S.CLOSES_LAST ≡ true → j + 1 ≡ words_in incoming.now.width }
-    ensures { IsStreamedWord incoming.now S.side j result }
+fn word_from_east<'a>(incoming: &Incoming<'a>, j: usize) -> u64
+    requires before_last { j + 1 < words_in incoming.now.width }
+    ensures { IsStreamedWord incoming.now On j result }
 {
-    let arriving = S::closing(incoming.plane, j, incoming.width);
-    let blocked = S::closing(incoming.solid_there, j, incoming.width);
+    let arriving = east_of(incoming.plane, j);
+    let blocked = east_of(incoming.solid_there, j);
     stream_word(incoming, j, arriving, blocked)
 }
 
-// Streams into the words from `from` to `to - 1`, none of them at the end at which the row closes.
+// The first word after streaming from the west.
 #[inline(always)]
-#[tactic(auto, using(crate::proofs::Words::word_writes))]
-fn stream_inner<'a, S: Side>(incoming: &Incoming<'a>, from: usize, to: usize, out: &mut [u64])
-    requires out { length out.old ≡ words_in incoming.now.width }
-    requires order { from ≤ to }
-    requires after_first { S.CLOSES_LAST ≡ false → 1 ≤ from }
-    requires within { to ≤ length out.old }
-    requires before_last { S.CLOSES_LAST ≡ true → to < length out.old }
-    ensures { AreStreamed incoming.now S.side from out.old →
-        AreStreamed incoming.now S.side to out.new }
+fn first_from_west<'a>(incoming: &Incoming<'a>) -> u64
+    ensures { IsStreamedWord incoming.now Back 0 result }
 {
-    for j in from..to {
-        out[j] = inner_word::<S>(incoming, j);
-    }
+    let arriving = west_of_first(incoming.plane, incoming.width);
+    let blocked = west_of_first(incoming.solid_there, incoming.width);
+    stream_word(incoming, 0, arriving, blocked)
 }
 
-// Streams into word `at`, at which the row closes, and, if the row has four words, into three beside
-// it, from `rest` on. All are computed before one is written, so that the compiler can compute them
-// at once.
+// The last word after streaming from the east.
+#[inline(always)]
+fn last_from_east<'a>(incoming: &Incoming<'a>) -> u64
+    ensures { IsStreamedWord incoming.now On (words_in incoming.now.width - 1) result }
+{
+    let arriving = east_of_last(incoming.plane, incoming.width);
+    let blocked = east_of_last(incoming.solid_there, incoming.width);
+    stream_word(incoming, incoming.plane.len() - 1, arriving, blocked)
+}
+
+// Streams from the west into the words at which the row closes, and returns how many: the first alone
+// in a row of fewer than four words, else the first four, and up to twelve more by four. Four words
+// are computed before one is written, so that the compiler computes them at once.
 #[inline(always)]
 #[tactic(auto, using(crate::proofs::Words::word_writes))]
-fn stream_end<'a, S: Side>(incoming: &Incoming<'a>, at: usize, rest: usize, out: &mut [u64])
+fn end_from_west<'a>(incoming: &Incoming<'a>, out: &mut [u64]) -> usize
     requires out { length out.old ≡ words_in incoming.now.width }
-    requires first { S.CLOSES_LAST ≡ false → (at ≡ 0) × (rest ≡ 1) }
-    requires last { S.CLOSES_LAST ≡ true → (at + 1 ≡ length out.old)
-        × (4 ≤ length out.old → rest + 4 ≡ length out.old) }
-    ensures first { S.CLOSES_LAST ≡ false →
-        AreStreamed incoming.now S.side (words_apart (length out.old)) out.new }
-    ensures last { S.CLOSES_LAST ≡ true →
-        AreStreamed incoming.now S.side (length out.old - words_apart (length out.old)) out.old →
-        AreStreamed incoming.now S.side (length out.old) out.new }
+    ensures some { 1 ≤ result }
+    ensures within { result ≤ length out.new }
+    ensures streamed { AreStreamed incoming.now Back 0 result out.new }
 {
-    let closing = closing_word::<S>(incoming, at);
+    let first = first_from_west(incoming);
     if out.len() < 4 {
-        out[at] = closing;
-        return;
+        out[0] = first;
+        return 1;
     }
-    let first = inner_word::<S>(incoming, rest);
-    let second = inner_word::<S>(incoming, rest + 1);
-    let third = inner_word::<S>(incoming, rest + 2);
-    out[at] = closing;
-    out[rest] = first;
-    out[rest + 1] = second;
-    out[rest + 2] = third;
+    let second = word_from_west(incoming, 1);
+    let third = word_from_west(incoming, 2);
+    let fourth = word_from_west(incoming, 3);
+    out[0] = first;
+    out[1] = second;
+    out[2] = third;
+    out[3] = fourth;
+    for k in 1..4 {
+        if out.len() < 4 * k + 4 {
+            return 4 * k;
+        }
+        four_from_west(incoming, 4 * k, out);
+    }
+    16
 }
 
-// Streams into all words from one side. Bits past the width are left open. The words at the end at
-// which the row closes are computed apart, so that the loop over the others needs no test.
+// Streams from the west into words `at` to `at + 3`, after those before.
 #[inline(always)]
-fn stream_words<'a, S: Side>(incoming: &Incoming<'a>, out: &mut [u64])
+#[tactic(auto, using(crate::proofs::Words::word_writes))]
+fn four_from_west<'a>(incoming: &Incoming<'a>, at: usize, out: &mut [u64])
     requires out { length out.old ≡ words_in incoming.now.width }
-    ensures { AreStreamed incoming.now S.side (length out.new) out.new }
+    requires after_first { 1 ≤ at }
+    requires within { at + 4 ≤ length out.old }
+    ensures { AreStreamed incoming.now Back 0 at out.old →
+        AreStreamed incoming.now Back 0 (at + 4) out.new }
+{
+    let first = word_from_west(incoming, at);
+    let second = word_from_west(incoming, at + 1);
+    let third = word_from_west(incoming, at + 2);
+    let fourth = word_from_west(incoming, at + 3);
+    out[at] = first;
+    out[at + 1] = second;
+    out[at + 2] = third;
+    out[at + 3] = fourth;
+}
+
+// Streams from the east into the words at which the row closes, as from the west, and returns the first
+// of them.
+#[inline(always)]
+#[tactic(auto, using(crate::proofs::Words::word_writes))]
+fn end_from_east<'a>(incoming: &Incoming<'a>, out: &mut [u64]) -> usize
+    requires out { length out.old ≡ words_in incoming.now.width }
+    ensures before_last { result < length out.new }
+    ensures streamed { AreStreamed incoming.now On result (length out.new) out.new }
 {
     let all = out.len();
-    let apart = if all < 4 { 1 } else { 4 };
-    if S::CLOSES_LAST {
-        stream_inner::<S>(incoming, 0, all - apart, out);
-        stream_end::<S>(incoming, all - 1, all - apart, out);
-    } else {
-        stream_end::<S>(incoming, 0, 1, out);
-        stream_inner::<S>(incoming, apart, all, out);
+    let fourth = last_from_east(incoming);
+    if all < 4 {
+        out[all - 1] = fourth;
+        return all - 1;
+    }
+    let first = word_from_east(incoming, all - 4);
+    let second = word_from_east(incoming, all - 3);
+    let third = word_from_east(incoming, all - 2);
+    out[all - 4] = first;
+    out[all - 3] = second;
+    out[all - 2] = third;
+    out[all - 1] = fourth;
+    for k in 1..4 {
+        if all < 4 * k + 4 {
+            return all - 4 * k;
+        }
+        four_from_east(incoming, all - 4 * k - 4, out);
+    }
+    all - 16
+}
+
+// Streams from the east into words `at` to `at + 3`, after those behind.
+#[inline(always)]
+#[tactic(auto, using(crate::proofs::Words::word_writes))]
+fn four_from_east<'a>(incoming: &Incoming<'a>, at: usize, out: &mut [u64])
+    requires out { length out.old ≡ words_in incoming.now.width }
+    requires before_last { at + 4 < length out.old }
+    ensures { AreStreamed incoming.now On (at + 4) (length out.old) out.old →
+        AreStreamed incoming.now On at (length out.old) out.new }
+{
+    let first = word_from_east(incoming, at);
+    let second = word_from_east(incoming, at + 1);
+    let third = word_from_east(incoming, at + 2);
+    let fourth = word_from_east(incoming, at + 3);
+    out[at] = first;
+    out[at + 1] = second;
+    out[at + 2] = third;
+    out[at + 3] = fourth;
+}
+
+// Streams into all words from the west. Bits past the width are left open.
+#[inline(always)]
+#[tactic(auto, using(crate::proofs::Words::word_writes))]
+fn stream_from_west<'a>(incoming: &Incoming<'a>, out: &mut [u64])
+    requires out { length out.old ≡ words_in incoming.now.width }
+    ensures { AreStreamed incoming.now Back 0 (length out.new) out.new }
+{
+    let from = end_from_west(incoming, out);
+    for j in from..out.len() {
+        out[j] = word_from_west(incoming, j);
+    }
+}
+
+// Streams into all words from the east. Bits past the width are left open.
+#[inline(always)]
+#[tactic(auto, using(crate::proofs::Words::word_writes))]
+fn stream_from_east<'a>(incoming: &Incoming<'a>, out: &mut [u64])
+    requires out { length out.old ≡ words_in incoming.now.width }
+    ensures { AreStreamed incoming.now On 0 (length out.new) out.new }
+{
+    let end = end_from_east(incoming, out);
+    for j in 0..end {
+        out[j] = word_from_east(incoming, j);
     }
 }
 
@@ -121,7 +243,7 @@ fn stream_words<'a, S: Side>(incoming: &Incoming<'a>, out: &mut [u64])
 #[inline(always)]
 fn stream_from_here<'a>(incoming: &Incoming<'a>, out: &mut [u64])
     requires out { length out.old ≡ words_in incoming.now.width }
-    ensures { AreStreamed incoming.now Stay (length out.new) out.new }
+    ensures { AreStreamed incoming.now Stay 0 (length out.new) out.new }
 {
     if incoming.all_fluid {
         out.copy_from_slice(incoming.plane);
@@ -132,31 +254,27 @@ fn stream_from_here<'a>(incoming: &Incoming<'a>, out: &mut [u64])
     }
 }
 
-// Streams into all words from the west, from the same column or from the east. Bits past the width are
-// left open.
+// Streams into all words. Bits past the width are left open.
 #[inline(always)]
-fn stream_along<'a>(along: i32, incoming: &Incoming<'a>, out: &mut [u64])
+fn stream_along<'a>(along: Move, incoming: &Incoming<'a>, out: &mut [u64])
     requires out { length out.old ≡ words_in incoming.now.width }
-    ensures { (m : Move) → along ≡ amount m →
-        AreStreamed incoming.now m (length out.new) out.new }
+    ensures { AreStreamed incoming.now along 0 (length out.new) out.new }
 {
-    if along < 0 {
-        stream_words::<West>(incoming, out);
-    } else if along > 0 {
-        stream_words::<East>(incoming, out);
-    } else {
-        stream_from_here(incoming, out);
+    match along {
+        Move::Back => stream_from_west(incoming, out),
+        Move::Stay => stream_from_here(incoming, out),
+        Move::On => stream_from_east(incoming, out),
     }
 }
 
-/// Streams direction `i` into the words of a row. `along` is -1, 0 or 1: the particles come from the
-/// west, from this column, or from the east.
+/// Streams direction `i` into the words of a row. The move leads along the row to where the particles
+/// come from.
 #[inline(always)]
-pub fn stream_direction<'a>(words: &mut [u64], i: usize, along: i32, incoming: &Incoming<'a>)
+pub fn stream_plane<'a>(words: &mut [u64], i: usize, along: Move, incoming: &Incoming<'a>)
     requires direction { i < 8 }
     requires within { i * words_in incoming.now.width + words_in incoming.now.width ≤ length words.old }
-    ensures streamed { (m : Move) → along ≡ amount m → (x : ℕ) → x < incoming.now.width →
-        has words.new (words_in incoming.now.width) i x ≡ streamed_cell incoming.now m x }
+    ensures streamed { (x : ℕ) → x < incoming.now.width →
+        has words.new (words_in incoming.now.width) i x ≡ streamed_cell incoming.now along x }
     ensures clear { (x : ℕ) → incoming.now.width ≤ x → x < 64 * words_in incoming.now.width →
         has words.new (words_in incoming.now.width) i x ≡ false }
     ensures others { (k x : ℕ) → k ≢ i → x / 64 < words_in incoming.now.width →

@@ -106,3 +106,32 @@ pub(crate) fn clear_bits(word: u64, mask: u64) -> u64
 {
     word & !mask
 }
+
+/// The western neighbours of the cells of a word. That of the first cell is bit 63 of `before`.
+#[inline(always)]
+pub(crate) fn from_west(before: u64, word: u64) -> u64
+    ensures { (b : ℕ) → b < 64 → holds result b
+        ≡ (if b == 0 then holds before 63 else holds word (b - 1)) }
+{
+    (word << 1) | (before >> 63)
+}
+
+/// The eastern neighbours of the cells of a word up to bit `last`. That of the last one is bit 0 of
+/// `after`.
+#[inline(always)]
+pub(crate) fn from_east(word: u64, last: u32, after: u64) -> u64
+    requires { last < 64 }
+    ensures { (b : ℕ) → b ≤ last → holds result b
+        ≡ (if b == last then holds after 0 else holds word (b + 1)) }
+{
+    (clear_above(word, last) >> 1) | (after << last)
+}
+
+/// A word whose bit 63 is bit `last`.
+#[inline(always)]
+pub(crate) fn with_last_bit_on_top(word: u64, last: u32) -> u64
+    requires { last < 64 }
+    ensures { holds result 63 ≡ holds word last }
+{
+    word << (63 - last)
+}

@@ -1,7 +1,8 @@
 -- FHP-I, the gas of U. Frisch, B. Hasslacher and Y. Pomeau, "Lattice-gas automata for the Navier-Stokes equation",
 -- Physical Review Letters 56 (1986) 1505: six directions on the triangular lattice, no particle at rest.
 use Rattle.std.specs.Prelude.{◌+◌, ◌%◌, if◌then◌else◌, ◌==◌, List, [], ◌∷◌, slice_index_or, codes, ℤ, pos, negsuc}
-use Rattle.gas_geom.specs.Moves.{Move, Back, Stay, On}
+use Rattle.gas_geom.specs.declared.moves.Move.{Move}
+use Rattle.gas_geom.specs.declared.moves.Move.TheVariants.{Back, Stay, On}
 use Rattle.gas_geom.specs.Gas.{Rules}
 
 -- the steps of E, NE, NW, W, SW and SE from an even row

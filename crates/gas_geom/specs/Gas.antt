@@ -2,7 +2,8 @@
 use Rattle.std.specs.Prelude.{◌≡◌, ℕ, ◌%◌, ◌^◌, ◌<◌, ◌≤◌, ◌==◌, Bool, List, length, filter, fold, Option, Some, option_map, ℤ, pos, ◌+ℤ◌, unsigned_abs}
 use Rattle.std.specs.Int.{bit_at}
 use Rattle.std.specs.List.{range_with_len}
-use Rattle.gas_geom.specs.Moves.{Move, column_after, row_after}
+use Rattle.gas_geom.specs.declared.moves.Move.{Move}
+use Rattle.gas_geom.specs.Moves.{column_after, row_after}
 
 -- A set of directions is a number: it holds direction `i` if bit `i` is 1.
 -- The rules of a gas: its directions are the numbers below `dirs`, and its sets those below `2 ^ dirs`.

@@ -1,7 +1,8 @@
 -- HPP, the gas of J. Hardy, Y. Pomeau and O. de Pazzis, "Time evolution of a two-dimensional model system",
 -- Journal of Mathematical Physics 14 (1973) 1746: four directions on the square lattice.
 use Rattle.std.specs.Prelude.{◌+◌, ◌%◌, if◌then◌else◌, ◌==◌, List, [], ◌∷◌, slice_index_or, codes, ℤ, pos, negsuc}
-use Rattle.gas_geom.specs.Moves.{Move, Back, Stay, On}
+use Rattle.gas_geom.specs.declared.moves.Move.{Move}
+use Rattle.gas_geom.specs.declared.moves.Move.TheVariants.{Back, Stay, On}
 use Rattle.gas_geom.specs.Gas.{Rules}
 
 -- the steps of E, N, W and S

@@ -1,11 +1,7 @@
 -- Moves along one axis, and where they lead in a channel: the columns are periodic, the top and the bottom are walls.
 use Rattle.std.specs.Prelude.{ℕ, ◌+◌, ◌-◌, ◌%◌, if◌then◌else◌, ◌==◌, nat_lt, Option, Some, None, ℤ, pos, negsuc}
-
--- a step along one axis
-pub data Move : Type 0 where
-  Back : Move
-  Stay : Move
-  On : Move
+use Rattle.gas_geom.specs.declared.moves.Move.{Move}
+use Rattle.gas_geom.specs.declared.moves.Move.TheVariants.{Back, Stay, On}
 
 -- a move as a number
 abbrev pub amount : Move → ℤ

@@ -1,12 +1,12 @@
 //! Channels: their size and their solid cells.
 ghost use Rattle.std.specs.Prelude.{◌≡◌, ◌<◌, ℕ, [], false, length, slice_index_or, slice_set, IfOk};
 ghost use Rattle.gas_geom.specs.Size.{SizeModel};
-ghost use Rattle.gas_geom.specs.Moves.{Move, amount};
 ghost use Rattle.gas_geom.specs.Channel.{ChannelModel, IsChannel, is_solid, solid_cells, free_channel, with_solid};
 ghost use Rattle.gas_rows.specs.Beside.{is_solid_beside};
 
 use crate::mask::Mask;
-use gas_geom::size::{Size, row_after};
+use gas_geom::moves::{Move, row_after};
+use gas_geom::size::Size;
 use std::alloc::{AllocError, Global};
 use std::marker::Model;
 
@@ -89,14 +89,14 @@ impl Channel {
         &self.masks[y as usize]
     }
 
-    /// Returns the solid cells of the row above row `y`, of row `y` itself, or of the row below it:
-    /// `down` is -1, 0 or 1. Past the top row and past the bottom one all cells are solid.
+    /// The solid cells of the row that a move leads to from row `y`. Past the top row and past the
+    /// bottom one all cells are solid.
     #[inline(always)]
-    pub fn mask_beside(&self, y: u32, down: i32) -> &Mask
+    pub fn mask_beside(&self, y: u32, down: Move) -> &Mask
         requires row { y < self.now.height }
         ensures wide { length result.now ≡ self.now.width }
-        ensures cells { (m : Move) → down ≡ amount m → (x : ℕ) → x < self.now.width →
-            slice_index_or result.now x false ≡ is_solid_beside self.now x y m }
+        ensures cells { (x : ℕ) → x < self.now.width →
+            slice_index_or result.now x false ≡ is_solid_beside self.now x y down }
     {
         match row_after(self.size.height(), y, down) {
             Some(v) => self.mask(v),

@@ -6,7 +6,6 @@ ghost use Rattle.gas_bits.specs.Words.{words_in, bit};
 ghost use Rattle.gas_bits.specs.Planes.{state};
 ghost use Rattle.gas_rows.specs.Inner.Collision.{collided_state};
 
-use crate::directions::directions;
 use gas_bits::planes::{planes_at, write_four_at, write_planes_at};
 use gas_geom::gas::Gas;
 
@@ -35,54 +34,40 @@ pub(crate) fn collide<'a, G: Gas>(words: &mut [u64], collision: &Collision<'a>)
         state words.new collision.now.words_each G.rules.dirs y
         ≡ collided_state G.rules words.old collision.now.words_each collision.now.solid.now collision.now.chi.now y }
 {
-    // Two calls, so that the compiler leaves out the solid cells of a row that has none.
-    let Collision {
-        words_each,
-        solid,
-        chi,
-        all_fluid,
-    } = *collision;
-    if all_fluid {
-        collide_words::<G>(
-            words,
-            &Collision {
-                words_each,
-                solid,
-                chi,
-                all_fluid: true,
-            },
-        );
+    // A parameter of the type, so that the compiler leaves out the solid cells of a row that has none,
+    // and a copy, so that it knows that no store through `words` changes it.
+    let collision = *collision;
+    if collision.all_fluid {
+        collide_words::<G, true>(words, &collision);
     } else {
-        collide_words::<G>(
-            words,
-            &Collision {
-                words_each,
-                solid,
-                chi,
-                all_fluid: false,
-            },
-        );
+        collide_words::<G, false>(words, &collision);
     }
 }
 
 #[inline(always)]
-fn collide_words<'a, G: Gas>(words: &mut [u64], collision: &Collision<'a>)
+fn collide_words<'a, G: Gas, const ALL_FLUID: bool>(words: &mut [u64], collision: &Collision<'a>)
     requires long { length words.old ≡ G.rules.dirs * collision.now.words_each }
+    requires fluid { IsTrue ALL_FLUID → IsTrue collision.now.all_fluid }
     ensures { (y : ℕ) → y / 64 < collision.now.words_each →
         state words.new collision.now.words_each G.rules.dirs y
         ≡ collided_state G.rules words.old collision.now.words_each collision.now.solid.now collision.now.chi.now y }
 {
     let fours = collision.words_each / 4;
     for k in 0..fours {
-        collide_four::<G>(words, 4 * k, collision);
+        collide_four::<G, ALL_FLUID>(words, 4 * k, collision);
     }
-    collide_rest::<G>(words, 4 * fours, collision);
+    collide_rest::<G, ALL_FLUID>(words, 4 * fours, collision);
 }
 
 // Collides the cells of the words from `first` on, one at a time.
 #[inline(always)]
-fn collide_rest<'a, G: Gas>(words: &mut [u64], first: usize, collision: &Collision<'a>)
+fn collide_rest<'a, G: Gas, const ALL_FLUID: bool>(
+    words: &mut [u64],
+    first: usize,
+    collision: &Collision<'a>,
+)
     requires long { length words.old ≡ G.rules.dirs * collision.now.words_each }
+    requires fluid { IsTrue ALL_FLUID → IsTrue collision.now.all_fluid }
     ensures collided { (y : ℕ) → first ≤ y / 64 → y / 64 < collision.now.words_each →
         state words.new collision.now.words_each G.rules.dirs y
         ≡ collided_state G.rules words.old collision.now.words_each collision.now.solid.now collision.now.chi.now y }
@@ -91,28 +76,30 @@ fn collide_rest<'a, G: Gas>(words: &mut [u64], first: usize, collision: &Collisi
         ≡ state words.old collision.now.words_each G.rules.dirs y }
 {
     for j in first..collision.words_each {
-        collide_word::<G>(words, j, collision);
+        collide_word::<G, ALL_FLUID>(words, j, collision);
     }
 }
 
-// Returns the solid cells of word j.
+// The solid cells of word j.
 #[inline(always)]
-fn solid_word<'a>(collision: &Collision<'a>, j: usize) -> u64
+fn solid_word<'a, const ALL_FLUID: bool>(collision: &Collision<'a>, j: usize) -> u64
     requires within { j < collision.now.words_each }
+    requires fluid { IsTrue ALL_FLUID → IsTrue collision.now.all_fluid }
     ensures { (b : ℕ) → b < 64 → holds result b ≡ holds (slice_index collision.now.solid.now j) b }
 {
-    if collision.all_fluid {
-        0
-    } else {
-        collision.solid[j]
-    }
+    if ALL_FLUID { 0 } else { collision.solid[j] }
 }
 
 // Collides the cells of words j to j + 3. All are read before one is written, so that a compiler can
 // vectorise.
 #[inline(always)]
-fn collide_four<'a, G: Gas>(words: &mut [u64], j: usize, collision: &Collision<'a>)
+fn collide_four<'a, G: Gas, const ALL_FLUID: bool>(
+    words: &mut [u64],
+    j: usize,
+    collision: &Collision<'a>,
+)
     requires long { length words.old ≡ G.rules.dirs * collision.now.words_each }
+    requires fluid { IsTrue ALL_FLUID → IsTrue collision.now.all_fluid }
     requires within { j + 3 < collision.now.words_each }
     ensures collided { (y : ℕ) → j ≤ y / 64 → y / 64 < j + 4 →
         state words.new collision.now.words_each G.rules.dirs y
@@ -122,20 +109,17 @@ fn collide_four<'a, G: Gas>(words: &mut [u64], j: usize, collision: &Collision<'
         ≡ state words.old collision.now.words_each G.rules.dirs y }
 {
     let dirs = directions::<G>();
-    let Collision {
-        words_each,
-        chi,
-        ..
-    } = *collision;
+    let words_each = collision.words_each;
+    let chi = collision.chi;
     let first = planes_at(words, words_each, dirs, j);
     let second = planes_at(words, words_each, dirs, j + 1);
     let third = planes_at(words, words_each, dirs, j + 2);
     let fourth = planes_at(words, words_each, dirs, j + 3);
     let solid = [
-        solid_word(collision, j),
-        solid_word(collision, j + 1),
-        solid_word(collision, j + 2),
-        solid_word(collision, j + 3),
+        solid_word::<ALL_FLUID>(collision, j),
+        solid_word::<ALL_FLUID>(collision, j + 1),
+        solid_word::<ALL_FLUID>(collision, j + 2),
+        solid_word::<ALL_FLUID>(collision, j + 3),
     ];
     let first = G::collide64(first, chi[j]);
     let second = G::collide64(second, chi[j + 1]);
@@ -148,8 +132,13 @@ fn collide_four<'a, G: Gas>(words: &mut [u64], j: usize, collision: &Collision<'
 
 // Collides the cells of word j.
 #[inline(always)]
-fn collide_word<'a, G: Gas>(words: &mut [u64], j: usize, collision: &Collision<'a>)
+fn collide_word<'a, G: Gas, const ALL_FLUID: bool>(
+    words: &mut [u64],
+    j: usize,
+    collision: &Collision<'a>,
+)
     requires long { length words.old ≡ G.rules.dirs * collision.now.words_each }
+    requires fluid { IsTrue ALL_FLUID → IsTrue collision.now.all_fluid }
     requires within { j < collision.now.words_each }
     ensures collided { (y : ℕ) → y / 64 ≡ j →
         state words.new collision.now.words_each G.rules.dirs y
@@ -162,6 +151,16 @@ fn collide_word<'a, G: Gas>(words: &mut [u64], j: usize, collision: &Collision<'
     let words_each = collision.words_each;
     let planes = planes_at(words, words_each, dirs, j);
     let after = G::collide64(planes, collision.chi[j]);
-    let solid = solid_word(collision, j);
+    let solid = solid_word::<ALL_FLUID>(collision, j);
     write_planes_at(words, words_each, dirs, j, after, solid);
+}
+
+/// The number of directions, 1 to 8.
+#[inline(always)]
+pub(crate) fn directions<G: Gas>() -> usize
+    ensures value { result ≡ G.rules.dirs }
+    ensures some { 1 ≤ result }
+    ensures few { result ≤ 8 }
+{
+    G::DIRS as usize
 }

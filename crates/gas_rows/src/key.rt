@@ -1,8 +1,13 @@
-//! The key stream of a seed, by the cipher ChaCha20.
-ghost use Rattle.std.specs.Prelude.{◌≡◌, ℕ, ◌+◌, ◌<◌, ◌^◌, length, slice_index, EachIndex};
+//! The key stream of a seed, by the cipher ChaCha20, and its bits as the words of a mask.
+ghost use Rattle.std.specs.Prelude.{◌≡◌, ◌<◌, ◌≤◌, ◌*◌, ◌/◌, ◌%◌, ◌^◌, ◌+◌, ◌&&◌, ℕ, nat_lt, length, slice_index, EachIndex};
+ghost use Rattle.gas_geom.specs.Gas.{holds};
+ghost use Rattle.gas_bits.specs.Words.{words_in, bit};
 ghost use Rattle.rand_chacha.specs.ChaCha.{key_of};
 ghost use Rattle.gas_rows.specs.Key.{key_word, key_bytes};
+ghost use Rattle.gas_rows.specs.Inner.Key.{drawn_bit};
 
+use gas_bits::plane::clear_past;
+use gas_bits::word::join_halves;
 use rand_chacha::ChaCha20Rng;
 use rand_core::SeedableRng;
 use rand_core::utils::NextWord;
@@ -18,6 +23,7 @@ pub(crate) fn generator_of(seed: u64) -> ChaCha20Rng
 }
 
 /// Sets a generator to a position of a stream. If it is there already, it keeps its buffered block.
+#[inline(always)]
 pub(crate) fn seek(generator: &mut ChaCha20Rng, stream: u64, position: u64)
     ensures { generator.new ≡ record generator.old { stream = stream; word_pos = position } }
 {
@@ -41,4 +47,38 @@ pub fn key_words(seed: u64, stream: u64, first: u64, out: &mut [u32])
     for word in out.iter_mut() {
         *word = generator.next_word();
     }
+}
+
+// Writes words whose halves are the next key words of a generator. A high half that lies past the
+// width is 0 and is not drawn.
+fn draw_words(words: &mut [u64], width: u32, generator: &mut ChaCha20Rng)
+    requires some_cells { 1 ≤ width }
+    requires long { length words.old ≡ words_in width }
+    requires places { generator.old.word_pos + 2 * length words.old < 2 ^ 68 }
+    ensures key { generator.new.key ≡ generator.old.key }
+    ensures bits { (x : ℕ) → x < width →
+        bit words.new x ≡ drawn_bit generator.old x }
+{
+    let halves = width.div_ceil(32) as usize;
+    for (j, word) in words.iter_mut().enumerate() {
+        let low = generator.next_word();
+        let high = if 2 * j + 1 < halves {
+            generator.next_word()
+        } else {
+            0
+        };
+        *word = join_halves(low, high);
+    }
+}
+
+/// Writes a bit for each cell of a row from the next key words of a generator, 32 cells each.
+pub(crate) fn draw(words: &mut [u64], width: u32, generator: &mut ChaCha20Rng)
+    requires some_cells { 1 ≤ width }
+    requires long { length words.old ≡ words_in width }
+    requires places { generator.old.word_pos + 2 * length words.old < 2 ^ 68 }
+    ensures key { generator.new.key ≡ generator.old.key }
+    ensures bits { (x : ℕ) → bit words.new x ≡ (nat_lt x width && drawn_bit generator.old x) }
+{
+    draw_words(words, width, generator);
+    clear_past(words, width);
 }

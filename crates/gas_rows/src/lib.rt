@@ -4,9 +4,7 @@
 pub mod channel;
 pub mod chirality;
 mod collision;
-mod directions;
 pub mod key;
-mod key_bits;
 pub mod lattice;
 pub mod mask;
 pub mod random_bits;

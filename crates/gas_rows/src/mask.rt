@@ -5,9 +5,9 @@ ghost use Rattle.gas_geom.specs.Gas.{holds};
 ghost use Rattle.gas_rows.specs.Inner.Key.{drawn_bit};
 ghost use Rattle.gas_bits.specs.Words.{words_in, bit};
 
-use crate::key_bits;
+use crate::key;
 use gas_bits::plane;
-use gas_bits::span::count_in;
+use gas_bits::plane::count_in;
 use gas_bits::word::{has_bit, with_bit, words_for};
 use rand_chacha::ChaCha20Rng;
 use std::alloc::{AllocError, Global};
@@ -138,7 +138,7 @@ impl Mask {
         ensures cells { self.new
             ≡ map (drawn_bit generator.old) (range_with_len 0 (length self.old)) }
     {
-        key_bits::draw(&mut self.words, self.width, generator);
+        key::draw(&mut self.words, self.width, generator);
         self.blank = false;
     }
 

@@ -1,24 +1,23 @@
 //! Rows: a state for each cell, held as bit planes.
 ghost use Rattle.std.specs.Prelude.{◌≡◌, ◌≢◌, ◌⊎◌, ◌+◌, ◌-◌, ◌*◌, ◌/◌, ◌<◌, ◌≤◌, ◌^◌, ℕ, List, length, replicate, slice_index, slice_index_or, slice_set, false, IsTrue, count_by, sum_by, if◌then◌else◌, vec_len, IfOk};
 ghost use Rattle.std.specs.List.{range_with_len};
-ghost use Rattle.gas_geom.specs.Moves.{Move, amount};
 ghost use Rattle.gas_geom.specs.Gas.{holds, particles};
 ghost use Rattle.gas_geom.specs.Lattice.{row_of, collided_set};
 ghost use Rattle.gas_bits.specs.Shift.{streamed_cell};
 ghost use Rattle.gas_bits.specs.Words.{words_in, bit};
 ghost use Rattle.gas_rows.specs.Planes.{AreWordsOf, cells_of};
 
-use crate::collision::{Collision, collide};
-use crate::directions::directions;
+use crate::collision::{Collision, collide, directions};
 use crate::mask::Mask;
-use gas_bits::incoming::Incoming;
-use gas_bits::load::{clear_planes_past, load_states, load_words};
-use gas_bits::planes::{empty_solid, planes_at, read_cell, write_cell};
-use gas_bits::span::count_in;
+use gas_bits::plane::{Incoming, count_in};
+use gas_bits::planes::{
+    clear_planes_past, empty_solid, load_states, load_words, planes_at, read_cell, write_cell,
+};
 use gas_bits::states::states_of;
-use gas_bits::stream::stream_direction;
+use gas_bits::stream::stream_plane;
 use gas_bits::word::{clear_past_width, words_for};
 use gas_geom::gas::Gas;
+use gas_geom::moves::Move;
 use std::alloc::{AllocError, Global};
 use std::marker::{Model, PhantomData};
 use std::mem;
@@ -237,20 +236,20 @@ impl<G: Gas> Row<G> {
         }
     }
 
-    /// Streams direction `i` into this row. `along` is -1, 0 or 1: the particles come from the west,
-    /// from this column, or from the east.
+    /// Streams direction `i` into this row. The move leads along the row to where the particles come
+    /// from.
     #[inline(always)]
-    pub fn stream_plane<'a>(&mut self, i: u32, along: i32, incoming: &Incoming<'a>)
+    pub fn stream<'a>(&mut self, i: u32, along: Move, incoming: &Incoming<'a>)
         requires direction { i < G.rules.dirs }
         requires wide { incoming.now.width ≡ length self.old }
         ensures wide { length self.new ≡ length self.old }
         ensures states { (x : ℕ) → slice_index self.new x < 2 ^ G.rules.dirs }
-        ensures streamed { (m : Move) → along ≡ amount m → (x : ℕ) → x < length self.old →
-            holds (slice_index self.new x) i ≡ streamed_cell incoming.now m x }
+        ensures streamed { (x : ℕ) → x < length self.old →
+            holds (slice_index self.new x) i ≡ streamed_cell incoming.now along x }
         ensures others { (x k : ℕ) → k ≢ i → holds (slice_index self.new x) k
             ≡ holds (slice_index self.old x) k }
     {
-        stream_direction(&mut self.words, i as usize, along, incoming);
+        stream_plane(&mut self.words, i as usize, along, incoming);
     }
 }
 

@@ -7,7 +7,9 @@ use Rattle.std.proofs.lemmas.Bool.Decides.{nat_tests}
 use Rattle.std.proofs.lemmas.List.FromFn.{fill_by_all}
 use Rattle.std.proofs.lemmas.Nat.{pow_pos}
 use Rattle.gas_geom.specs.Gas.{Rules, holds}
-use Rattle.gas_geom.specs.Moves.{Move, Back, Stay, On, row_after, column_after}
+use Rattle.gas_geom.specs.declared.moves.Move.{Move}
+use Rattle.gas_geom.specs.declared.moves.Move.TheVariants.{Back, Stay, On}
+use Rattle.gas_geom.specs.Moves.{row_after, column_after}
 use Rattle.gas_geom.specs.Laws.Steps.{is_odd, column_after-lt}
 use Rattle.gas_geom.specs.Channel.{ChannelModel, is_solid}
 use Rattle.gas_geom.specs.Lattice.{arriving, streamed, set_of, row_of}

@@ -6,7 +6,9 @@ use Rattle.std.proofs.lemmas.List.{get_or_append_left, get_or-append-add}
 use Rattle.std.proofs.lemmas.List.FromFn.{length-map-range_with_len, take-map-range_with_len, map-range_with_len_more}
 use Rattle.std.proofs.lemmas.Bool.Decides.{nat_tests}
 use Rattle.gas_geom.specs.Gas.{Rules, holds}
-use Rattle.gas_geom.specs.Moves.{Move, Back, Stay, On, row_after}
+use Rattle.gas_geom.specs.declared.moves.Move.{Move}
+use Rattle.gas_geom.specs.declared.moves.Move.TheVariants.{Back, Stay, On}
+use Rattle.gas_geom.specs.Moves.{row_after}
 use Rattle.gas_geom.specs.Laws.Steps.{is_odd, neighbour-parts}
 use Rattle.gas_geom.specs.Channel.{ChannelModel, is_solid}
 use Rattle.gas_geom.specs.Lattice.{cell, row_of, arriving, collided, streamed, next}

@@ -1,11 +1,11 @@
 //! A row of a channel between the rows beside it, and its streaming: every particle moves along its
 //! link, or is sent back if the link ends at a solid cell or the wall.
 ghost use Rattle.std.specs.Prelude.{◌≡◌, ◌+◌, ◌<◌, ◌^◌, ℕ, IsTrue, length, slice_index};
-ghost use Rattle.gas_geom.specs.Moves.{Move, amount};
 ghost use Rattle.gas_stage.specs.Inner.Neighbourhood.{AreRowsOf, AreStreamed, HasOnlyFluidAround, row_beside, streamed_row};
 
-use gas_bits::incoming::Incoming;
+use gas_bits::plane::Incoming;
 use gas_geom::gas::Gas;
+use gas_geom::moves::{Move, moves};
 use gas_rows::channel::Channel;
 use gas_rows::row::Row;
 use std::marker::Model;
@@ -44,19 +44,16 @@ impl<'a, G: Gas> Model for Neighbourhood<'a, G> {
 }
 
 impl<'a, G: Gas> Neighbourhood<'a, G> {
-    // The row above, the middle row or the row below: `down` is -1, 0 or 1.
+    // The row that a move leads to from the middle row.
     #[inline(always)]
-    fn row_beside(&self, down: i32) -> &'a Row<G>
+    fn row_beside(&self, down: Move) -> &'a Row<G>
         ensures wide { length result.now ≡ self.now.channel.width }
-        ensures row { (m : Move) → down ≡ amount m →
-            result.now ≡ row_beside m self.now.above self.now.middle self.now.below }
+        ensures row { result.now ≡ row_beside down self.now.above self.now.middle self.now.below }
     {
-        if down < 0 {
-            self.above
-        } else if down > 0 {
-            self.below
-        } else {
-            self.middle
+        match down {
+            Move::Back => self.above,
+            Move::Stay => self.middle,
+            Move::On => self.below,
         }
     }
 
@@ -77,7 +74,7 @@ impl<'a, G: Gas> Neighbourhood<'a, G> {
             return;
         }
         let opposite = G::opposite(i);
-        let (along, down) = G::step(opposite, self.y % 2 == 1);
+        let (along, down) = moves::<G>(opposite, self.y % 2 == 1);
         let solid_there = self.channel.mask_beside(self.y, down).words();
         let solid_here = self.channel.mask(self.y).words();
         // All rows have this width, and the compiler has it in a register.
@@ -90,7 +87,7 @@ impl<'a, G: Gas> Neighbourhood<'a, G> {
             width,
             all_fluid,
         };
-        out.stream_plane(i, along, &incoming);
+        out.stream(i, along, &incoming);
     }
 
     // Writes the row after streaming. If `ALL_FLUID`, no cell is solid in it or in the rows beside it;
@@ -119,8 +116,8 @@ impl<'a, G: Gas> Neighbourhood<'a, G> {
         ensures fluid { IsTrue result → HasOnlyFluidAround self.now.channel self.now.y }
     {
         self.channel.mask(self.y).is_blank()
-            && self.channel.mask_beside(self.y, -1).is_blank()
-            && self.channel.mask_beside(self.y, 1).is_blank()
+            && self.channel.mask_beside(self.y, Move::Back).is_blank()
+            && self.channel.mask_beside(self.y, Move::On).is_blank()
     }
 
     /// Writes the row after streaming.
@@ -138,7 +135,7 @@ impl<'a, G: Gas> Neighbourhood<'a, G> {
         }
     }
 
-    /// Returns the row after streaming, in the memory of `out`. By value, so that the compiler knows
+    /// The row after streaming, in the memory of `out`. By value, so that the compiler knows
     /// that no store changes the row's pointer.
     #[inline(never)]
     pub(crate) fn stream(self, mut out: Row<G>) -> Row<G>

@@ -4,7 +4,9 @@ use Rattle.std.proofs.Math.Nat.{mod-eq_of_lt, mod-add-mod, add-mod_right}
 use Rattle.std.specs.Prelude.{◌==◌}
 use Rattle.std.proofs.lemmas.Bool.Decides.{nat_tests}
 use Rattle.std.proofs.lemmas.Option.{some_pair_parts}
-use Rattle.gas_geom.specs.Moves.{Move, Back, Stay, On, column_after, row_after}
+use Rattle.gas_geom.specs.declared.moves.Move.{Move}
+use Rattle.gas_geom.specs.declared.moves.Move.TheVariants.{Back, Stay, On}
+use Rattle.gas_geom.specs.Moves.{column_after, row_after}
 use Rattle.gas_geom.specs.Gas.{Rules, neighbour_of}
 
 -- the move that undoes a move

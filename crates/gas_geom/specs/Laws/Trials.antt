@@ -5,7 +5,9 @@ use Rattle.std.specs.Prelude.{◌==◌, nat_lt, unsigned_abs}
 use Rattle.std.specs.Ordering.{int_eq}
 use Rattle.std.proofs.lemmas.Bool.{agree_below, agree_below_at, and_parts}
 use Rattle.std.proofs.lemmas.Bool.Decides.{Decides-int_eq, nat_tests}
-use Rattle.gas_geom.specs.Moves.{Move, Back, Stay, On, amount}
+use Rattle.gas_geom.specs.declared.moves.Move.{Move}
+use Rattle.gas_geom.specs.declared.moves.Move.TheVariants.{Back, Stay, On}
+use Rattle.gas_geom.specs.Moves.{amount}
 use Rattle.gas_geom.specs.Gas.{Rules, IsGas, IgnoresChirality, particles, momentum_of}
 use Rattle.gas_geom.specs.Laws.Steps.{reversed, odd_after, neighbour-back}
 

@@ -2,7 +2,8 @@
 -- Here: a row between the rows beside it.
 use Rattle.std.specs.Prelude.{◌≡◌, ℕ, ◌<◌, false, List, slice_index}
 use Rattle.gas_geom.specs.Gas.{Rules, holds}
-use Rattle.gas_geom.specs.Moves.{Move, Back, Stay, On}
+use Rattle.gas_geom.specs.declared.moves.Move.{Move}
+use Rattle.gas_geom.specs.declared.moves.Move.TheVariants.{Back, Stay, On}
 use Rattle.gas_geom.specs.Channel.{ChannelModel}
 use Rattle.gas_geom.specs.Lattice.{streamed, row_of}
 use Rattle.gas_rows.specs.Beside.{is_solid_beside}

@@ -1,7 +1,7 @@
-use Rattle.gas_geom.specs.Moves.{Stay}
+use Rattle.gas_geom.specs.declared.moves.Move.TheVariants.{Stay}
 use Rattle.gas_bits.specs.Inner.Streamed.{AreStreamed}
 use Rattle.gas_bits.proofs.stream.stream_from_here.Given as goal
 
 -- the words before j are streamed
 abbrev pub invariant-loop-j : goal.invariant-loop-j
-invariant-loop-j l = AreStreamed l.incoming Stay l.j l.out
+invariant-loop-j l = AreStreamed l.incoming Stay 0 l.j l.out

@@ -1,10 +1,12 @@
-use Rattle.std.proofs.Common.{◌≡◌, ◌<◌, ◌+◌, ℕ, inl, inr, arith, Bool, true, false, List, get_or, ap, ◌∙◌, sym, subst, rules, w32, FitsSigned}
+use Rattle.std.proofs.Common.{◌≡◌, ◌<◌, ◌+◌, ℕ, inl, inr, arith, Bool, true, false, List, get_or, ap, ap₂, ◌∙◌, sym, subst}
 use Rattle.std.proofs.lemmas.Bool.{cases_eq}
-use Rattle.std.proofs.lemmas.Int.{to_z-of_z}
-use Rattle.gas_geom.specs.Moves.{Move, Stay, amount, column_after}
+use Rattle.gas_geom.specs.declared.moves.Move.{Move}
+use Rattle.gas_geom.specs.declared.moves.Move.TheVariants.{Stay}
+use Rattle.gas_geom.specs.Moves.{column_after}
 use Rattle.gas_geom.specs.Gas.{holds}
 use Rattle.gas_geom.specs.Lattice.{streamed}
 use Rattle.gas_geom.specs.Laws.Steps.{is_odd, column_after-lt}
+use Rattle.gas_rows.specs.Beside.{is_solid_beside}
 use Rattle.gas_bits.specs.Words.{words_in, bit}
 use Rattle.gas_bits.proofs.ShiftedBits.{streamed_bit}
 use Rattle.gas_stage.specs.Inner.Neighbourhood.{NeighbourhoodModel, AreRowsOf, AreStreamed, HasOnlyFluidAround, row_beside}
@@ -23,9 +25,6 @@ invariant_of-incoming g c =
     let gas = g.G.Gas.rules in
     let near = c.self.inside in
     let width : ℕ = near.channel.now.width in
-    let m : Move × Move = gas.step (gas.opposite c.args.i) (is_odd near.y) in
-    let fits : FitsSigned w32 c.step-along.result.1 = search rules in
-    let down = to_z-of_z w32 c.step-along.result.1 fits ∙ c.step-along.ensures.down ∙ ap (λ k. amount (gas.step k (is_odd near.y)).1) c.opposite-opposite.ensures.value in
     let beside_wide = c.row_beside.ensures.wide ∙ ap (λ (n : NeighbourhoodModel). n.channel.width) (sym c.self.view_is) in
     let far : c.args.all_fluid ≡ true → HasOnlyFluidAround near.channel.now near.y =
     λ all. subst (λ (n : NeighbourhoodModel). HasOnlyFluidAround n.channel n.y) (sym c.self.view_is) (c.requires.fluid all) in
@@ -38,7 +37,7 @@ invariant_of-incoming g c =
       opposite_long = c.plane_of_width-2.ensures.long ∙ ap words_in (c.self.invariant.middle_wide ∙ sym same);
       here_long = c.words-solid_here.ensures.long ∙ ap words_in (c.mask.ensures.wide ∙ sym same);
       fluid_there = λ all. none_solid c.words-solid_there.result.now c.mask_beside.result.now width c.words-solid_there.ensures.bits c.mask_beside.ensures.wide
-          (λ x h. c.mask_beside.ensures.cells m.1 down x h ∙ far all x m.1 h);
+          (λ x h. c.mask_beside.ensures.cells x h ∙ far all x c.moves-along.result.1 h);
       fluid_here = λ all. none_solid c.words-solid_here.result.now c.mask.result.now width c.words-solid_here.ensures.bits c.mask.ensures.wide
           (λ x h. ap (λ (mask : List Bool). get_or mask x false) c.mask.ensures.row ∙ far all x Stay h);
     }
@@ -52,23 +51,21 @@ returns-clause-streamed g c =
     let m : Move × Move = gas.step (gas.opposite i) (is_odd near.y) in
     let opposite : c.opposite-opposite.result ≡ gas.opposite i = c.opposite-opposite.ensures.value in
     let direction : i < gas.dirs = omega (arith, c.DIRS.ensures, g.met.G.Gas.dirs_are) in
-    let across_fits : FitsSigned w32 c.step-along.result.0 = search rules in
-    let down_fits : FitsSigned w32 c.step-along.result.1 = search rules in
-    let across = to_z-of_z w32 c.step-along.result.0 across_fits ∙ c.step-along.ensures.across ∙ ap (λ k. amount (gas.step k (is_odd near.y)).0) opposite in
-    let down = to_z-of_z w32 c.step-along.result.1 down_fits ∙ c.step-along.ensures.down ∙ ap (λ k. amount (gas.step k (is_odd near.y)).1) opposite in
+    let along = c.moves-along.ensures.along ∙ ap (λ k. (gas.step k (is_odd near.y)).0) opposite in
+    let down = c.moves-along.ensures.down ∙ ap (λ k. (gas.step k (is_odd near.y)).1) opposite in
     let wide = c.requires.wide ∙ ap (λ (n : NeighbourhoodModel). n.channel.width) (sym c.self.view_is) in
-    let beside = c.row_beside.ensures.row m.1 down ∙ ap (λ (n : NeighbourhoodModel). row_beside m.1 n.above n.middle n.below) (sym c.self.view_is) in
+    let beside = c.row_beside.ensures.row ∙ ap₂ (λ (n : NeighbourhoodModel) (d : Move). row_beside d n.above n.middle n.below) (sym c.self.view_is) down in
     λ at.
-    subst (λ (n : NeighbourhoodModel). AreRowsOf n at → AreStreamed gas n at i c.args.out.now → AreStreamed gas n at (i + 1) c.stream_plane.new.self) c.self.view_is
+    subst (λ (n : NeighbourhoodModel). AreRowsOf n at → AreStreamed gas n at i c.args.out.now → AreStreamed gas n at (i + 1) c.stream.new.self) c.self.view_is
     (λ rows before k x lt in_gas h. elim (cases_eq k i) [
-      | inl e ↦ subst (λ j. holds (get_or c.stream_plane.new.self x 0) j ≡ holds (streamed gas near.channel.now at x near.y) j) (sym e)
+      | inl e ↦ subst (λ j. holds (get_or c.stream.new.self x 0) j ≡ holds (streamed gas near.channel.now at x near.y) j) (sym e)
           (let u : ℕ = column_after width x m.0 in
-          c.stream_plane.ensures.streamed m.0 across x (subst (λ w. x < w) (sym wide) h)
-          ∙ ap (λ (w : ℕ). streamed_bit (bit c.plane_of_width.result.now (column_after w x m.0)) (bit c.words-solid_there.result.now (column_after w x m.0)) (bit c.plane_of_width-2.result.now x) (bit c.words-solid_here.result.now x)) (c.width-width.ensures.value ∙ wide)
+          c.stream.ensures.streamed x (subst (λ w. x < w) (sym wide) h)
+          ∙ ap₂ (λ (w : ℕ) (a : Move). streamed_bit (bit c.plane_of_width.result.now (column_after w x a)) (bit c.words-solid_there.result.now (column_after w x a)) (bit c.plane_of_width-2.result.now x) (bit c.words-solid_here.result.now x)) (c.width-width.ensures.value ∙ wide) along
           ∙ streamed_there gas near.channel.now at x near.y i near.above.now near.middle.now near.below.now _ _ _ _ direction h rows
           (c.plane_of_width.ensures.bits u ∙ ap (λ (r : List ℕ). holds (get_or r u 0) i) beside)
-          (c.words-solid_there.ensures.bits u ∙ c.mask_beside.ensures.cells m.1 down u (column_after-lt width x m.0 h))
+          (c.words-solid_there.ensures.bits u ∙ c.mask_beside.ensures.cells u (column_after-lt width x m.0 h) ∙ ap (is_solid_beside near.channel.now u near.y) down)
           (λ fluid. c.plane_of_width-2.ensures.bits x ∙ ap (holds (get_or near.middle.now x 0)) opposite ∙ ap (λ s. holds s (gas.opposite i)) (rows.mid_is x h fluid))
           (c.words-solid_here.ensures.bits x ∙ ap (λ (mask : List Bool). get_or mask x false) c.mask.ensures.row))
-      | inr ne ↦ c.stream_plane.ensures.others x k ne ∙ before k x (omega (arith, lt, ne)) in_gas h
+      | inr ne ↦ c.stream.ensures.others x k ne ∙ before k x (omega (arith, lt, ne)) in_gas h
     ])

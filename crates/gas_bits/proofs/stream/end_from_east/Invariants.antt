@@ -1,0 +1,11 @@
+use Rattle.std.proofs.Common.{◌≡◌, ◌-◌, ◌*◌, ◌≤◌, length}
+use Rattle.gas_geom.specs.declared.moves.Move.TheVariants.{On}
+use Rattle.gas_bits.specs.Inner.Streamed.{AreStreamed}
+use Rattle.gas_bits.proofs.stream.end_from_east.Given as goal
+
+-- the last k fours of words are streamed
+abbrev pub invariant-loop-k : goal.invariant-loop-k
+invariant-loop-k l = record {
+  within : 4 * l.k ≤ length l.out;
+  streamed : AreStreamed l.incoming On (length l.out - 4 * l.k) (length l.out) l.out;
+}
