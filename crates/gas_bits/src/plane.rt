@@ -3,7 +3,6 @@
 ghost use Rattle.std.specs.Prelude.{◌≡◌, ◌<◌, ◌≤◌, ◌*◌, ◌%◌, ◌+◌, ◌-◌, ◌&&◌, ℕ, IsTrue, false, nat_lt, length, slice_index_or, count_by};
 ghost use Rattle.std.specs.List.{All, range_with_len};
 ghost use Rattle.gas_geom.specs.Gas.{holds};
-ghost use Rattle.gas_geom.specs.declared.size.TheConstants.{MOST_SIDE};
 ghost use Rattle.gas_bits.specs.Words.{words_in, bit};
 
 use crate::word::{clear_above, fill_word, pack_word};
@@ -25,7 +24,7 @@ pub struct Incoming<'a> {
     /// True only if no cell of the two rows is solid.
     pub all_fluid: bool,
     ghost some_cells: { 1 ≤ width },
-    ghost few_cells: { width ≤ MOST_SIDE },
+    ghost few_cells: { width ≤ 65536 },
     ghost plane_long: { length plane.now ≡ words_in width },
     ghost there_long: { length solid_there.now ≡ words_in width },
     ghost opposite_long: { length opposite_here.now ≡ words_in width },

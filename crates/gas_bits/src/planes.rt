@@ -3,7 +3,6 @@
 ghost use Rattle.std.specs.Prelude.{◌≡◌, ◌+◌, ◌*◌, ◌/◌, ◌<◌, ◌≤◌, ◌==◌, ◌&&◌, ◌⊎◌, ℕ, ◌%◌, not, nat_lt, if◌then◌else◌, length, slice_index};
 ghost use Rattle.gas_geom.specs.Gas.{holds};
 ghost use Rattle.gas_geom.specs.Planes.{ZeroFrom};
-ghost use Rattle.gas_geom.specs.declared.size.TheConstants.{MOST_SIDE};
 ghost use Rattle.gas_bits.specs.Words.{words_in, bit};
 ghost use Rattle.gas_bits.specs.Planes.{has, state};
 
@@ -13,7 +12,7 @@ use crate::word::{clear_above, clear_bits, has_bit, with_bit, words_for};
 /// Returns the set of the directions that cell `x` holds.
 #[inline(always)]
 pub fn read_cell(words: &[u64], words_each: usize, dirs: usize, x: u32) -> u8
-    requires few_words { words_each ≤ words_in MOST_SIDE }
+    requires few_words { words_each ≤ words_in 65536 }
     requires few_dirs { dirs ≤ 8 }
     requires long { length words.now ≡ dirs * words_each }
     requires within { x / 64 < words_each }
@@ -26,7 +25,7 @@ pub fn read_cell(words: &[u64], words_each: usize, dirs: usize, x: u32) -> u8
 /// Sets the directions that cell `x` holds.
 #[inline(always)]
 pub fn write_cell(words: &mut [u64], words_each: usize, dirs: usize, x: u32, set: u8)
-    requires few_words { words_each ≤ words_in MOST_SIDE }
+    requires few_words { words_each ≤ words_in 65536 }
     requires few_dirs { dirs ≤ 8 }
     requires long { length words.old ≡ dirs * words_each }
     requires within { x / 64 < words_each }
@@ -42,7 +41,7 @@ pub fn write_cell(words: &mut [u64], words_each: usize, dirs: usize, x: u32, set
 /// Returns word `j` of each direction, and 0 for those past `dirs`.
 #[inline(always)]
 pub fn planes_at(words: &[u64], words_each: usize, dirs: usize, j: usize) -> [u64; 8]
-    requires few_words { words_each ≤ words_in MOST_SIDE }
+    requires few_words { words_each ≤ words_in 65536 }
     requires few_dirs { dirs ≤ 8 }
     requires long { length words.now ≡ dirs * words_each }
     requires within { j < words_each }
@@ -67,7 +66,7 @@ pub fn write_planes_at(
     planes: [u64; 8],
     solid: u64,
 )
-    requires few_words { words_each ≤ words_in MOST_SIDE }
+    requires few_words { words_each ≤ words_in 65536 }
     requires few_dirs { dirs ≤ 8 }
     requires long { length words.old ≡ dirs * words_each }
     requires within { j < words_each }
@@ -95,7 +94,7 @@ pub fn write_four_at(
     fourth: [u64; 8],
     solid: [u64; 4],
 )
-    requires few_words { words_each ≤ words_in MOST_SIDE }
+    requires few_words { words_each ≤ words_in 65536 }
     requires few_dirs { dirs ≤ 8 }
     requires long { length words.old ≡ dirs * words_each }
     requires within { j + 3 < words_each }
@@ -124,7 +123,7 @@ pub fn write_four_at(
 
 /// Clears the bits of solid cells in each direction.
 pub fn empty_solid(words: &mut [u64], words_each: usize, dirs: usize, solid: &[u64])
-    requires few_words { words_each ≤ words_in MOST_SIDE }
+    requires few_words { words_each ≤ words_in 65536 }
     requires few_dirs { dirs ≤ 8 }
     requires long { length words.old ≡ dirs * words_each }
     requires solid { length solid.now ≡ words_each }
@@ -140,7 +139,7 @@ pub fn empty_solid(words: &mut [u64], words_each: usize, dirs: usize, solid: &[u
 
 /// Writes the states of all cells, and clears the bits past the width.
 pub fn load_states(words: &mut [u64], words_each: usize, dirs: usize, states: &[u8])
-    requires few_words { words_each ≤ words_in MOST_SIDE }
+    requires few_words { words_each ≤ words_in 65536 }
     requires few_dirs { dirs ≤ 8 }
     requires long { length words.old ≡ dirs * words_each }
     requires wide { words_in (length states.now) ≡ words_each }
@@ -157,7 +156,7 @@ pub fn load_states(words: &mut [u64], words_each: usize, dirs: usize, states: &[
 /// Copies the words of a row, and clears the bits past its width.
 pub fn load_words(words: &mut [u64], given: &[u64], dirs: usize, width: u32)
     requires some_cells { 1 ≤ width }
-    requires few_cells { width ≤ MOST_SIDE }
+    requires few_cells { width ≤ 65536 }
     requires few_dirs { dirs ≤ 8 }
     requires long { length words.old ≡ dirs * words_in width }
     requires given { length given.now ≡ dirs * words_in width }
@@ -172,7 +171,7 @@ pub fn load_words(words: &mut [u64], given: &[u64], dirs: usize, width: u32)
 /// Clears the bits past the width in each direction.
 pub fn clear_planes_past(words: &mut [u64], dirs: usize, width: u32)
     requires some_cells { 1 ≤ width }
-    requires few_cells { width ≤ MOST_SIDE }
+    requires few_cells { width ≤ 65536 }
     requires few_dirs { dirs ≤ 8 }
     requires long { length words.old ≡ dirs * words_in width }
     ensures cleared { (i y : ℕ) → i < dirs → y / 64 < words_in width →

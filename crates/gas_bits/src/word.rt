@@ -3,13 +3,12 @@
 
 ghost use Rattle.std.specs.Prelude.{◌≡◌, ◌+◌, ◌-◌, ◌*◌, ◌<◌, ◌≤◌, ◌==◌, ◌&&◌, ◌||◌, ℕ, not, nat_le, nat_lt, if◌then◌else◌, false, length, slice_index_or};
 ghost use Rattle.gas_geom.specs.Gas.{holds};
-ghost use Rattle.gas_geom.specs.declared.size.TheConstants.{MOST_SIDE};
 ghost use Rattle.gas_bits.specs.Words.{words_in};
 
 /// Returns the number of words of a row of 0 to 65536 cells.
 #[inline(always)]
 pub fn words_for(width: u32) -> usize
-    requires few_cells { width ≤ MOST_SIDE }
+    requires few_cells { width ≤ 65536 }
     ensures value { result ≡ words_in width }
 {
     (width as usize).div_ceil(64)
@@ -88,7 +87,7 @@ pub(crate) fn clear_above(word: u64, last: u32) -> u64
 #[inline(always)]
 pub fn clear_past_width(word: u64, j: u32, width: u32) -> u64
     requires some_cells { 1 ≤ width }
-    requires few_cells { width ≤ MOST_SIDE }
+    requires few_cells { width ≤ 65536 }
     requires within { j < words_in width }
     ensures bits { (b : ℕ) → b < 64 → holds result b ≡ (nat_lt (64 * j + b) width && holds word b) }
 {
