@@ -11,6 +11,7 @@ use Rattle.gas_tool_cli.specs.declared.request.Request.{Request}
 use Rattle.gas_tool_cli.specs.declared.words.UsageFault.TheVariants as usage
 use Rattle.gas_tool_io.specs.declared.faults.InputFault.TheVariants as input
 
+-- the exit status of a fault
 abbrev pub exit_status : Fault → ℕ
 exit_status (Usage (usage.Help text)) = 0
 exit_status (Usage (usage.Usage text)) = 2
@@ -22,7 +23,7 @@ exit_status (Tool (tool.Scene scene.Memory)) = 3
 exit_status (Tool (tool.Write written)) = 4
 exit_status (Tool refused) = 1
 
--- The words ask for a request, and the whole input, which is known for a reader that names its bytes, is a text. A call of
+-- There are a request that the words ask for, and a text, which is the whole input if the reader names its bytes. A call of
 -- `perform` with these returns this result, and what was written goes from `old` to `new`.
 pub record Answers (words : Words) (bytes old new : Option (List ℕ)) (result : Result ⊤ ToolError) : Type 0 where
   pub request : Request

@@ -24,17 +24,17 @@ IsNumber bits text n = ParsesUnsigned {E = ParseIntError} bits 10 text (Ok n)
 abbrev pub IsNumberAt : ℕ → List Row → Text → ℕ → Type 0
 IsNumberAt bits rows option n = IsSomeAnd (one_of option rows) (λ text. IsNumber bits text n)
 
--- and these numbers of a plan
+-- the rows contain these numbers of a plan
 pub record IsPlanAt (rows : List Row) (stages capacity generations : ℕ) : Type 0 where
   pub stages_at : IsNumberAt 32 rows (codes "stages") stages
   pub capacity_at : IsNumberAt 32 rows (codes "capacity") capacity
   pub generations_at : IsNumberAt 64 rows (codes "generations") generations
 
--- and, for an option, this width or height of blocks
+-- the rows contain, for an option, this width or height of blocks
 abbrev pub IsSideAt : List Row → Text → ℕ → Type 0
 IsSideAt rows option n = IsNumberAt 32 rows option n × (1 ≤ n) × (n ≤ 4096)
 
--- and these turns, in order; none if there are no such words
+-- the rows contain these turns, in order; none if there are no such words
 abbrev pub AreTurnsAt : List Row → List ℕ → Type 0
 AreTurnsAt rows turns = AllZip (IsNumber 32) (unwrap_or (all_of (codes "turns") rows) []) turns
 
@@ -62,7 +62,7 @@ IsFaultOf kinds fault.Memory = ⊤
 IsFaultOf kinds (fault.Help text) = IsAmong DisplayHelp kinds ⊎ IsAmong DisplayVersion kinds
 IsFaultOf kinds (fault.Usage text) = (kinds ≢ DisplayHelp ∷ []) × (kinds ≢ DisplayVersion ∷ [])
 
--- the program's words, or why they could not be had
+-- what `env::args` returns: the program's words, or why they could not be had
 abbrev pub Words : Type 0
 Words = Result (IntoIter (String Global) Global) Error
 

@@ -12,15 +12,15 @@ abbrev pub option_rule : Text → ValueParser → Rule
 option_rule name values =
     record (new_rule name) { long = Some name; value_names = 1; action = Some Set; parser = Some values }
 
--- a required one
+-- such an option that must be given
 abbrev pub required_rule : Text → ValueParser → Rule
 required_rule name values = record (option_rule name values) { required = true }
 
--- one with a default, whose value is a number of 32 bits
+-- such an option with a default, whose value is a number of 32 bits
 abbrev pub default_rule : Text → Text → Rule
 default_rule name value = record (option_rule name (Signed (pos 0) (pos 4294967295))) { defaults = value ∷ [] }
 
--- --generations G [--stages N] [--capacity C]
+-- the options of a plan: --generations G [--stages N] [--capacity C]
 abbrev pub plan_rules : List Rule
 plan_rules =
     required_rule (codes "generations") (Unsigned 0 18446744073709551615)
@@ -31,7 +31,7 @@ plan_rules =
 abbrev pub side_rule : Text → Rule
 side_rule name = required_rule name (Signed (pos 1) (pos 4096))
 
--- [TURN]...: any number of words, each a number of 32 bits
+-- the turns, [TURN]...: any number of words, each a number of 32 bits
 abbrev pub turns_rule : Rule
 turns_rule = record (new_rule (codes "turns")) {
   action = Some Append;
@@ -44,10 +44,8 @@ turns_rule = record (new_rule (codes "turns")) {
 abbrev pub subcommand : Text → List Rule → Shape
 subcommand name rules = record (new_shape name) { rules = rules }
 
--- fhpgas check
--- fhpgas run --generations G [--stages N] [--capacity C]
--- fhpgas coarse --generations G [--stages N] [--capacity C] --block-width BW --block-height BH
--- fhpgas replay --generations G [--stages N] [--capacity C] [TURN]...
+-- The program's commands: `check`, `run` with the options of a plan, `coarse` with these and two sides of blocks, and `replay`
+-- with these and turns.
 abbrev pub program_app : App
 program_app = record {
   top = record (new_shape (codes "fhpgas")) { is_leaf = false; subcommand_required = true; has_version = true };
