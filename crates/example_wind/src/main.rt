@@ -13,7 +13,7 @@ use anyhow::Result;
 use gas_geom::fhp1::Fhp1;
 use gas_geom::size::Size;
 use gas_layout::drawing::Drawing;
-use gas_layout::rectangle::Rectangle;
+use gas_layout::area::Rectangle;
 use gas_pipe::{NoGate, Plan, Run, RunError, run};
 use gas_rows::channel::Channel;
 use gas_rows::chirality::Chirality;

@@ -5,10 +5,10 @@ use Rattle.std.proofs.lemmas.Bool.Decides.{nat_tests}
 use Rattle.std.proofs.lemmas.Int.{ints}
 use Rattle.std.proofs.lemmas.List.Folds.{list_any-append}
 use Rattle.gas_geom.specs.Channel.{ChannelModel}
-use Rattle.gas_layout.specs.declared.rectangle.Rectangle.{Rectangle}
-use Rattle.gas_layout.specs.declared.strip.Strip.{Strip}
+use Rattle.gas_layout.specs.declared.area.Rectangle.{Rectangle}
+use Rattle.gas_layout.specs.declared.skyline.Strip.{Strip}
 use Rattle.gas_layout.specs.Layout.{covers, is_covered, fits, channel_of, drawn}
-use Rattle.gas_layout.specs.Inner.Inside.{IsInside}
+use Rattle.gas_layout.specs.Inner.Strips.{IsInside}
 use Rattle.gas_layout.specs.Inner.Strips.{strip_of, first_row, reaches, is_reached, is_drawn, IsStrip, AreStrips}
 use Rattle.gas_layout.proofs.Grids.{rows_of-same, value-rows_of}
 use Rattle.gas_layout.proofs.Strips.{with_strip, AreStrips-more, is_reached-more}

@@ -4,7 +4,7 @@ use mathlib.Core.Bool.{and-false}
 use Rattle.std.specs.Prelude.{nat_abs}
 use Rattle.std.specs.Ordering.{int_eq}
 use Rattle.std.proofs.lemmas.Bool.Decides.{Decides-int_eq}
-use Rattle.gas_layout.specs.declared.placement.Placement.{Placement}
+use Rattle.gas_layout.specs.declared.area.Placement.{Placement}
 
 pub natural-pos : (n : ℕ) (z : ℤ) → pos n ≡ z → n ≡ nat_abs z
 natural-pos n z e = ap nat_abs e

@@ -7,8 +7,8 @@ use Rattle.gas_geom.specs.Gas.{Rules}
 use Rattle.gas_geom.specs.Channel.{ChannelModel}
 use Rattle.gas_geom.specs.Lattice.{LatticeModel, rows_of, set_of}
 use Rattle.gas_rows.specs.Key.{key_word}
-use Rattle.gas_layout.specs.declared.rectangle.Rectangle.{Rectangle}
-use Rattle.gas_layout.specs.declared.placement.Placement.{Placement}
+use Rattle.gas_layout.specs.declared.area.Rectangle.{Rectangle}
+use Rattle.gas_layout.specs.declared.area.Placement.{Placement}
 
 -- whether a number is low to high, and whether it is at least 0 and below a limit
 abbrev pub between : ℤ → ℤ → ℤ → Bool

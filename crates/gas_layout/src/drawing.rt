@@ -2,11 +2,10 @@
 
 ghost use Rattle.std.specs.Prelude.{◌≡◌, [], ◌∷◌, ◌++◌, ℕ, true, List, IfOk, OnOk, OnErr};
 ghost use Rattle.gas_layout.specs.Layout.{drawn, fits};
-ghost use Rattle.gas_layout.specs.declared.rectangle.Rectangle.{Rectangle};
+ghost use Rattle.gas_layout.specs.declared.area.Rectangle.{Rectangle};
 
-use crate::rectangle::Rectangle;
-use crate::skyline::Skyline;
-use crate::strip::Strip;
+use crate::area::Rectangle;
+use crate::skyline::{Skyline, Strip};
 use gas_geom::size::Size;
 use gas_rows::channel::Channel;
 use std::alloc::{AllocError, Global};
@@ -36,7 +35,7 @@ impl Model for Drawing {
 }
 
 impl Drawing {
-    /// Returns a drawing with no rectangles.
+    /// A drawing with no rectangles.
     pub fn new(alloc: Global, size: Size) -> Result<Drawing, AllocError>
         ensures blank { IfOk result (λ d. d ≡ drawn size.width size.height []) }
     {
@@ -61,7 +60,7 @@ impl Drawing {
         Ok(())
     }
 
-    /// Returns the channel. A cell is solid if a rectangle covers it.
+    /// The channel of the drawing. A cell is solid if a rectangle covers it.
     pub fn channel(&self, alloc: Global) -> Result<Channel, AllocError>
         ensures drawn { IfOk result (λ c. c ≡ self.now) }
     {

@@ -1,11 +1,9 @@
 //! Filling: random particles in the fluid cells of a lattice, from the key stream of a seed.
 
-ghost use Rattle.std.specs.Prelude.{◌≡◌, ℕ, ◌+◌, ◌*◌, ◌%◌, ◌<◌, ◌≤◌, ◌^◌, Bool, length, slice_index, OnOk, OnErr, nat_lt, if◌then◌else◌};
+ghost use Rattle.std.specs.Prelude.{◌≡◌, ℕ, ◌%◌, ◌<◌, ◌≤◌, ◌^◌, Bool, OnOk, OnErr, nat_lt, if◌then◌else◌};
 ghost use Rattle.gas_geom.specs.Size.{IsSize};
-ghost use Rattle.gas_geom.specs.declared.size.TheConstants.{MOST_SIDE};
 ghost use Rattle.gas_geom.specs.Lattice.{empty_lattice};
-ghost use Rattle.gas_layout.specs.Layout.{channel_of, lattice_of, filled, filling};
-ghost use Rattle.gas_layout.specs.Inner.Steps.{filled_before};
+ghost use Rattle.gas_layout.specs.Layout.{channel_of, lattice_of, filling};
 
 use gas_geom::gas::Gas;
 use gas_rows::key::key_words;
@@ -15,8 +13,8 @@ use std::alloc::{AllocError, Global};
 // The number of the key stream that fills direction 0.
 const FIRST_STREAM: u64 = 1 << 63;
 
-// Returns the bit of direction `i` if the word is a particle at the rate, else 0. It has no branch,
-// because a processor mispredicts branches on random words.
+// The bit of direction `i` if the word is a particle at the rate, else 0. It has no branch, because
+// a processor mispredicts branches on random words.
 fn particle(word: u32, rate: u32, i: u32) -> u8
     requires { i < 8 }
     ensures { result ≡ (if nat_lt (word % 1000) rate then 2 ^ i else 0) }
@@ -24,53 +22,49 @@ fn particle(word: u32, rate: u32, i: u32) -> u8
     u8::from(word % 1000 < rate) << i
 }
 
-// Adds the particles of direction `i` to the states of row `y`. `words` is a buffer for a row.
-fn add_direction(
-    states: &mut [u8],
-    words: &mut [u32],
-    width: u32,
+// A filling at a rate in thousandths.
+#[derive(Clone, Copy)]
+struct Filling {
     seed: u64,
     rate: u32,
-    y: u32,
-    i: u32,
-)
-    requires wide { length states.old ≡ width }
-    requires as_wide { length words.old ≡ width }
-    requires few { width ≤ MOST_SIDE }
-    requires row { y < MOST_SIDE }
-    requires direction { i < 8 }
-    requires below { (x : ℕ) → x < width → slice_index states.old x < 2 ^ i }
-    ensures { (x : ℕ) → x < width
-        → slice_index states.new x
-        ≡ slice_index states.old x + (if filled seed rate width x y i then 2 ^ i else 0) }
-{
-    let first = u64::from(y) * u64::from(width);
-    key_words(seed, FIRST_STREAM + u64::from(i), first, words);
-    for x in 0..width as usize {
-        states[x] += particle(words[x], rate, i);
-    }
 }
 
-// Computes the states of row `y`. `words` is a buffer for a row.
-#[tactic(auto, unfolding(crate::specs::Layout::filling))]
-fn fill_states<G: Gas>(
-    states: &mut [u8],
-    words: &mut [u32],
-    width: u32,
-    seed: u64,
-    rate: u32,
-    y: u32,
-)
-    requires wide { length states.old ≡ width }
-    requires as_wide { length words.old ≡ width }
-    requires few { width ≤ MOST_SIDE }
-    requires row { y < MOST_SIDE }
-    ensures { (x : ℕ) → x < width
-        → slice_index states.new x ≡ filling G.rules seed rate width x y }
-{
-    states.fill(0);
-    for i in 0..G::DIRS {
-        add_direction(states, words, width, seed, rate, y, i);
+impl Filling {
+    ghost use Rattle.std.specs.Prelude.{◌≡◌, ℕ, ◌+◌, ◌<◌, ◌≤◌, ◌^◌, length, slice_index, if◌then◌else◌};
+    ghost use Rattle.gas_geom.specs.declared.size.TheConstants.{MOST_SIDE};
+    ghost use Rattle.gas_layout.specs.Layout.{filled, filling};
+
+    // Adds the particles of direction `i` to the states of row `y`. `words` is a buffer for a row.
+    fn add_direction(self, states: &mut [u8], words: &mut [u32], y: u32, i: u32)
+        requires as_wide { length words.old ≡ length states.old }
+        requires few { length states.old ≤ MOST_SIDE }
+        requires row { y < MOST_SIDE }
+        requires direction { i < 8 }
+        requires below { (x : ℕ) → x < length states.old → slice_index states.old x < 2 ^ i }
+        ensures { (x : ℕ) → x < length states.old
+            → slice_index states.new x ≡ slice_index states.old x
+            + (if filled self.seed self.rate (length states.old) x y i then 2 ^ i else 0) }
+    {
+        let first = u64::from(y) * states.len() as u64;
+        key_words(self.seed, FIRST_STREAM + u64::from(i), first, words);
+        for x in 0..states.len() {
+            states[x] += particle(words[x], self.rate, i);
+        }
+    }
+
+    // Computes the states of row `y`. `words` is a buffer for a row.
+    #[tactic(auto, unfolding(crate::specs::Layout::filling))]
+    fn fill_row<G: Gas>(self, states: &mut [u8], words: &mut [u32], y: u32)
+        requires as_wide { length words.old ≡ length states.old }
+        requires few { length states.old ≤ MOST_SIDE }
+        requires row { y < MOST_SIDE }
+        ensures { (x : ℕ) → x < length states.old → slice_index states.new x
+            ≡ filling G.rules self.seed self.rate (length states.old) x y }
+    {
+        states.fill(0);
+        for i in 0..G::DIRS {
+            self.add_direction(states, words, y, i);
+        }
     }
 }
 
@@ -99,18 +93,12 @@ pub fn fill<G: Gas>(
         return Ok(());
     }
     let size = lattice.channel().size();
-    let width = size.width();
-    let mut states = vec![in alloc; 0u8; width as usize]?;
-    let mut words = vec![in alloc; 0u32; width as usize]?;
+    let width = size.width() as usize;
+    let filling = Filling { seed, rate };
+    let mut states = vec![in alloc; 0u8; width]?;
+    let mut words = vec![in alloc; 0u32; width]?;
     for y in 0..size.height() {
-        fill_states::<G>(
-            states.as_mut_slice(),
-            words.as_mut_slice(),
-            width,
-            seed,
-            rate,
-            y,
-        );
+        filling.fill_row::<G>(states.as_mut_slice(), words.as_mut_slice(), y);
         lattice.set_states(y, states.as_slice());
     }
     Ok(())

@@ -1,4 +1,5 @@
-//! How far down each column of a channel is solid, as strips are added from the top.
+//! Rectangles as strips of columns that are solid from their first row on, and how far down each
+//! column of a channel is solid, as strips are added from the top.
 //!
 //! A strip sets one number for each whole block of 256 columns in it, and one for each column
 //! before and after these blocks. Each of the three parts has at most 256 numbers.
@@ -7,9 +8,49 @@ ghost use Rattle.std.specs.Prelude.{◌≡◌, ℕ, ◌+◌, ◌*◌, ◌/◌, �
 ghost use Rattle.std.specs.List.{list_any};
 ghost use Rattle.gas_geom.specs.declared.size.TheConstants.{MOST_SIDE};
 ghost use Rattle.gas_layout.specs.Inner.Strips.{reaches, IsStrip};
+ghost use Rattle.gas_layout.specs.Inner.Strips.{IsInside};
 
-use crate::strip::Strip;
+use crate::area::Rectangle;
 use std::alloc::{AllocError, Global};
+
+/// The columns `start..end`, solid from some row down to the row above `bottom`.
+#[derive(Clone, Copy)]
+pub struct Strip {
+    pub start: u32,
+    pub end: u32,
+    pub bottom: u32,
+}
+
+impl Strip {
+    ghost use Rattle.gas_layout.specs.Inner.Strips.{strip_of, first_row};
+
+    /// The strip of a rectangle.
+    pub(crate) fn of(rectangle: Rectangle) -> Strip
+        requires { IsInside MOST_SIDE MOST_SIDE rectangle }
+        ensures { result ≡ strip_of rectangle }
+    {
+        Strip {
+            start: rectangle.x as u32,
+            end: (rectangle.x + rectangle.width) as u32,
+            bottom: (rectangle.y + rectangle.height) as u32,
+        }
+    }
+
+    /// The strip of the columns `start..end` that is as deep.
+    pub(crate) fn with_columns(self, start: u32, end: u32) -> Strip
+        ensures { result ≡ record self { start = start; end = end } }
+    {
+        Strip { start, end, ..self }
+    }
+
+    /// The first row of a rectangle.
+    pub(crate) fn first_row(rectangle: Rectangle) -> u32
+        requires { IsInside MOST_SIDE MOST_SIDE rectangle }
+        ensures { result ≡ first_row rectangle }
+    {
+        rectangle.y as u32
+    }
+}
 
 // Extends the columns of a strip down to its bottom. It sets at most 256 numbers.
 fn extend(depths: &mut [u32], strip: Strip)
@@ -23,7 +64,7 @@ fn extend(depths: &mut [u32], strip: Strip)
     }
 }
 
-// Extends the columns of a strip before and after its whole blocks of 256 columns. Returns the
+// Extends the columns of a strip before and after its whole blocks of 256 columns. The result is the
 // whole blocks as a strip of blocks, which is empty if there is none.
 fn extend_ends(depths: &mut [u32], strip: Strip) -> Strip
     requires columns { IsStrip (length depths.old) strip }
@@ -69,7 +110,7 @@ pub struct Skyline {
 impl Skyline {
     ghost use Rattle.gas_layout.specs.Inner.Strips.{IsSkyline, passes};
 
-    /// Returns a skyline of `width` columns, none of them solid.
+    /// A skyline of `width` columns, none of them solid.
     pub(crate) fn flat(alloc: Global, width: usize) -> Result<Skyline, AllocError>
         requires { width ≤ MOST_SIDE }
         ensures sized { IfOk result (λ s. IsSkyline width s) }

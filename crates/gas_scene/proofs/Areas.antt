@@ -12,8 +12,8 @@ use Rattle.toml.specs.declared.value.Value.{Value}
 use Rattle.gas_geom.specs.Channel.{ChannelModel}
 use Rattle.gas_geom.specs.Gas.{Rules}
 use Rattle.gas_geom.specs.Size.{SizeModel}
-use Rattle.gas_layout.specs.declared.rectangle.Rectangle.{Rectangle}
-use Rattle.gas_layout.specs.declared.placement.Placement.{Placement}
+use Rattle.gas_layout.specs.declared.area.Rectangle.{Rectangle}
+use Rattle.gas_layout.specs.declared.area.Placement.{Placement}
 use Rattle.gas_layout.specs.Layout.{between, is_covered, fits, is_index, can_place, drawn, lattice_of, filling, placed}
 use Rattle.gas_layout.proofs.Grids.{value-rows_of}
 use Rattle.gas_scene.specs.declared.error.SceneError.TheVariants.{Range}

@@ -2,8 +2,8 @@
 use Rattle.std.specs.Prelude.{ℕ, List, [], ◌∷◌, map, Option, option_map, slice_get, ℤ, pos, codes}
 use Rattle.std.specs.Option.{option_and_then, option_map_or, unwrap_or}
 use Rattle.toml.specs.Data.{Data, Items, no_items, item, Members, get_member, as_str, as_integer, as_array}
-use Rattle.gas_layout.specs.declared.rectangle.Rectangle.{Rectangle}
-use Rattle.gas_layout.specs.declared.placement.Placement.{Placement}
+use Rattle.gas_layout.specs.declared.area.Rectangle.{Rectangle}
+use Rattle.gas_layout.specs.declared.area.Placement.{Placement}
 
 -- a value as a text and as elements; of another type it is the empty text and no element
 abbrev pub text_of : Data → List ℕ

@@ -20,7 +20,7 @@ use gas_geom::gas::Gas;
 use gas_geom::size::Size;
 use gas_layout::drawing::Drawing;
 use gas_layout::filling::fill;
-use gas_layout::sides::{is_between, size_within};
+use gas_layout::area::{is_between, size_within};
 use gas_rows::channel::Channel;
 use gas_rows::lattice::Lattice;
 use std::alloc::{AllocError, Global};

@@ -7,7 +7,7 @@ ghost use Rattle.gas_scene.specs.Refusals.{most_side};
 use crate::catalog::KnownGas;
 use crate::scene_table::SceneTable;
 use gas_geom::size::MOST_SIDE;
-use gas_layout::sides::is_between;
+use gas_layout::area::is_between;
 use gas_rows::chirality::Chirality;
 
 /// The last generation that a scene can have.

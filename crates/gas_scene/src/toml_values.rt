@@ -9,8 +9,7 @@ ghost use Rattle.gas_scene.specs.Table.{text_of, elements_of, number, rectangle_
 ghost use Rattle.gas_scene.specs.Keys.{has_type, is_array_of, is_tuple};
 
 use crate::keys::value_at;
-use gas_layout::placement::Placement;
-use gas_layout::rectangle::Rectangle;
+use gas_layout::area::{Placement, Rectangle};
 use toml::{Table, Value};
 
 /// Returns the integer at a key, `otherwise` if the key is absent, or None for another type.

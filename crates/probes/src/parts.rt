@@ -6,7 +6,7 @@ use gas_geom::fhp1::Fhp1;
 use gas_geom::size::Size;
 use gas_layout::drawing::Drawing;
 use gas_layout::filling::fill;
-use gas_layout::rectangle::Rectangle;
+use gas_layout::area::Rectangle;
 use gas_pipe::feeder::Feeder;
 use gas_pipe::plain_belt::PlainBelt;
 use gas_pipe::worker::Worker;

@@ -1,12 +1,21 @@
 -- Inner words: what functions of this crate promise one another. No public contract cites them.
--- Here: rectangles by their first rows.
+-- Here: rectangles that fit, and rectangles by their first rows.
 use Rattle.std.specs.Global.{Global}
-use Rattle.std.specs.Prelude.{◌≡◌, ℕ, zero, suc, ◌+◌, ◌*◌, ◌/◌, ◌≤◌, ◌&&◌, ◌||◌, Bool, false, List, [], All, length, map, Vec, nat_le, nat_lt, nat_abs, slice_index, slice_index_or, ◌+ℤ◌}
+use Rattle.std.specs.Prelude.{◌≡◌, ℕ, zero, suc, ◌+◌, ◌*◌, ◌/◌, ◌≤◌, ◌&&◌, ◌||◌, Bool, false, List, [], All, length, map, Vec, nat_le, nat_lt, nat_abs, slice_index, slice_index_or, pos, ◌+ℤ◌, ◌≤ℤ◌}
 use Rattle.std.specs.List.{list_any}
 use Rattle.gas_geom.specs.declared.size.TheConstants.{MOST_SIDE}
-use Rattle.gas_layout.specs.declared.rectangle.Rectangle.{Rectangle}
-use Rattle.gas_layout.specs.declared.strip.Strip.{Strip}
+use Rattle.gas_layout.specs.declared.area.Rectangle.{Rectangle}
+use Rattle.gas_layout.specs.declared.skyline.Strip.{Strip}
 use Rattle.gas_layout.specs.declared.skyline.Skyline.{Skyline}
+
+-- a rectangle with cells, all of them in an area of this size
+pub record IsInside (width height : ℕ) (r : Rectangle) : Type 0 where
+  pub left : pos 0 ≤ℤ r.x
+  pub wide : pos 1 ≤ℤ r.width
+  pub right : (r.x +ℤ r.width) ≤ℤ pos width
+  pub top : pos 0 ≤ℤ r.y
+  pub high : pos 1 ≤ℤ r.height
+  pub bottom : (r.y +ℤ r.height) ≤ℤ pos height
 
 -- columns of a row of this width
 pub record IsStrip (width : ℕ) (s : Strip) : Type 0 where

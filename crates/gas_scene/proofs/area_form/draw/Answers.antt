@@ -3,7 +3,7 @@ use Rattle.std.specs.Prelude.{IfOk}
 use Rattle.std.proofs.lemmas.List.{take_all}
 use Rattle.toml.specs.View.{view}
 use Rattle.gas_geom.specs.Channel.{ChannelModel}
-use Rattle.gas_layout.specs.declared.rectangle.Rectangle.{Rectangle}
+use Rattle.gas_layout.specs.declared.area.Rectangle.{Rectangle}
 use Rattle.gas_layout.specs.Layout.{fits, drawn}
 use Rattle.gas_scene.specs.Table.{rectangle_of}
 use Rattle.gas_scene.proofs.Areas.{read_more, passes_at}

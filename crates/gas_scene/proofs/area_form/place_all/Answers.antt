@@ -1,7 +1,7 @@
 use Rattle.std.proofs.Common.{ℕ, ◌+◌, ◌++◌, [], ◌∷◌, List, map, take, ap, ◌∙◌, refl}
 use Rattle.std.proofs.lemmas.List.{take_all}
 use Rattle.toml.specs.View.{view}
-use Rattle.gas_layout.specs.declared.placement.Placement.{Placement}
+use Rattle.gas_layout.specs.declared.area.Placement.{Placement}
 use Rattle.gas_layout.specs.Layout.{lattice_of, placed}
 use Rattle.gas_layout.proofs.Grids.{lattice_of-same}
 use Rattle.gas_scene.specs.Table.{placement_of}

@@ -3,7 +3,7 @@ use Rattle.std.proofs.lemmas.Int.{ints}
 use Rattle.gas_geom.specs.Lattice.{LatticeModel, with_cell}
 use Rattle.gas_layout.proofs.Grids.{lattice_of-state}
 use Rattle.gas_layout.proofs.Placed.{is_at, natural-pos, is_at-here, is_at-other}
-use Rattle.gas_layout.proofs.placement.Placement.put.Goals as goal
+use Rattle.gas_layout.proofs.area.Placement.put.Goals as goal
 
 pub returns-clause-cells : goal.returns-clause-cells
 returns-clause-cells g c = λ w h solid at e.
