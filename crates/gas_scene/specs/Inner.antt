@@ -1,7 +1,5 @@
 -- Inner words: what functions of this crate promise one another. No public contract cites them.
-pub mod Keys
 pub mod Models
 pub mod Areas
 pub mod Maps
-pub mod Results
 pub mod Printing

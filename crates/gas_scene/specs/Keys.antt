@@ -18,13 +18,17 @@ is_array_of test d = is_some (as_array d) && list_all test (elements_of d)
 abbrev pub is_tuple : ℕ → Data → Bool
 is_tuple n d = (length (elements_of d) == n) && is_array_of (has_type as_integer) d
 
--- the keys, each with the test of its type
+-- the keys of an area, and all keys, each with the test of its type
+abbrev pub area_keys : List (List ℕ × (Data → Bool))
+area_keys =
+    (codes "width", has_type as_integer) ∷ (codes "height", has_type as_integer) ∷ (codes "rate", has_type as_integer)
+    ∷ (codes "solid", is_array_of (is_tuple 4)) ∷ (codes "particles", is_array_of (is_tuple 3)) ∷ []
+
 abbrev pub keys : List (List ℕ × (Data → Bool))
 keys =
     (codes "version", has_type as_integer) ∷ (codes "generation", has_type as_integer) ∷ (codes "seed", has_type as_integer)
     ∷ (codes "gas", has_type as_str) ∷ (codes "chirality", has_type as_str) ∷ (codes "cells", is_array_of (has_type as_str))
-    ∷ (codes "width", has_type as_integer) ∷ (codes "height", has_type as_integer) ∷ (codes "rate", has_type as_integer)
-    ∷ (codes "solid", is_array_of (is_tuple 4)) ∷ (codes "particles", is_array_of (is_tuple 3)) ∷ []
+    ∷ area_keys
 
 -- whether the keys of a table are keys of a scene
 abbrev pub are_known : Members → Bool

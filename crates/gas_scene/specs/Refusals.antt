@@ -10,23 +10,18 @@ use Rattle.gas_scene.specs.Catalog.{rules_of, gas_named, chirality_named}
 use Rattle.gas_layout.specs.Layout.{between, is_covered, fits, can_place}
 use Rattle.gas_scene.specs.declared.error.SceneError.{SceneError}
 use Rattle.gas_scene.specs.declared.error.SceneError.TheVariants.{UnknownKey, Missing, WrongType, Range, BothForms, RowLength, BadCell}
-use Rattle.gas_cells.specs.declared.cells.TheConstants.{CHARACTERS}
 use Rattle.gas_cells.specs.Reading.{cells_in, bad_column}
 use Rattle.gas_scene.specs.Table.{TableModel, table_of}
-use Rattle.gas_scene.specs.Keys.{are_known, is_typed}
+use Rattle.gas_scene.specs.Keys.{area_keys, are_known, is_typed}
 
 abbrev pub has : List ℕ → Members → Bool
 has key ms = is_some (get_member key ms)
-
--- whether there is a key of an area
-abbrev pub has_area : Members → Bool
-has_area ms = list_any (λ key. has key ms) (codes "width" ∷ codes "height" ∷ codes "rate" ∷ codes "solid" ∷ codes "particles" ∷ [])
 
 -- the first fault of the keys of a table and the types of its values; only version 2 has the generation
 unfoldable pub table_refusal : Members → Option SceneError
 table_refusal ms =
     if not (are_known ms && (int_eq (table_of ms).version (pos 2) || not (has (codes "generation") ms))) then Some UnknownKey
-    else if has (codes "cells") ms && has_area ms then Some BothForms
+    else if has (codes "cells") ms && list_any (λ k. has k.0 ms) area_keys then Some BothForms
     else if not (has (codes "gas") ms && (has (codes "cells") ms || (has (codes "width") ms && has (codes "height") ms))) then Some Missing
     else if not (is_typed ms) then Some WrongType
     else None
@@ -56,7 +51,7 @@ area_refusal most states t =
 -- whether a row's length is wrong: it must be the length of 1 to `most` whole cells, and equal to the first row's
 abbrev pub has_wrong_length : ℕ → ℕ → List ℕ → Bool
 has_wrong_length most first row =
-    not ((length row % CHARACTERS == 0) && (between (pos 1) (pos most) (pos (cells_in row)) && (length row == first)))
+    not ((length row % 2 == 0) && (between (pos 1) (pos most) (pos (cells_in row)) && (length row == first)))
 
 -- the first row of a wrong length
 abbrev pub row_length : ℕ → List (List ℕ) → Option SceneError

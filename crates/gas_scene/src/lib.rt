@@ -6,7 +6,6 @@ pub mod catalog;
 pub mod checkpoint;
 mod common_values;
 pub mod error;
-mod keys;
 mod map_form;
 pub mod scene;
 mod scene_table;

@@ -4,7 +4,6 @@ ghost use Rattle.std.specs.Prelude.{◌≡◌, ◌⊎◌, Err};
 ghost use Rattle.toml.specs.View.{table_view};
 ghost use Rattle.gas_scene.specs.declared.error.SceneError.TheVariants.{Memory};
 ghost use Rattle.gas_scene.specs.Scene.{table_answer, scene_of_text};
-ghost use Rattle.gas_scene.specs.Inner.Results.{ReturnsOrMemory};
 
 use crate::catalog::AnyLattice;
 use crate::common_values::CommonValues;
@@ -46,21 +45,21 @@ impl Scene {
     ghost use Rattle.std.specs.Prelude.{◌≡◌, ◌≤◌};
     ghost use Rattle.gas_scene.specs.Catalog.{gas_lattice};
 
-    /// Returns the lattice.
+    /// The lattice.
     pub fn lattice(&self) -> &AnyLattice
         ensures value { gas_lattice result.now ≡ self.now.lattice }
     {
         &self.lattice
     }
 
-    /// Returns the source of the random bits of its collisions.
+    /// The source of the random bits of its collisions.
     pub fn chirality(&self) -> Chirality
         ensures value { result ≡ self.now.chirality }
     {
         self.chirality
     }
 
-    /// Returns the generation of the lattice, 0 to 1,000,000,000,000.
+    /// The generation of the lattice, 0 to 1,000,000,000,000.
     pub fn generation(&self) -> u64
         ensures value { result ≡ self.now.generation }
         ensures few { result ≤ 1000000000000 }
@@ -77,7 +76,7 @@ impl SceneTable<'_> {
     ghost use Rattle.gas_scene.specs.Refusals.{gas_of, is_common_in_range, most_side, value_refusal};
     ghost use Rattle.gas_scene.specs.Inner.Models.{table_model};
 
-    // Returns the lattice of the map or of the area, or the first fault of its values.
+    // The lattice of the map or of the area, or the first fault of its values.
     #[tactic(auto, unfolding(crate::specs::Refusals::value_refusal))]
     fn lattice(&self, alloc: Global, common: CommonValues) -> Result<AnyLattice, SceneError>
         requires common { is_common_in_range (table_model self.now) ≡ true }
@@ -95,7 +94,7 @@ impl SceneTable<'_> {
         }
     }
 
-    // Returns the scene, or the first fault of the values.
+    // The scene, or the first fault of the values.
     #[tactic(auto, unfolding(crate::specs::Refusals::value_refusal))]
     fn scene(&self, alloc: Global) -> Result<Scene, SceneError>
         ensures refused { IfErr result (λ e.
@@ -114,10 +113,10 @@ impl SceneTable<'_> {
     }
 }
 
-// Returns the scene of a table, or its first fault.
+// The scene of a table, or its first fault.
 #[tactic(auto, unfolding(crate::specs::Scene::table_answer))]
 fn read_table(alloc: Global, table: &Table) -> Result<Scene, SceneError>
-    ensures { ReturnsOrMemory result (table_answer (table_view table.now)) }
+    ensures { (result ≡ table_answer (table_view table.now)) ⊎ (result ≡ Err Memory) }
 {
     let table = SceneTable::of(table)?;
     table.scene(alloc)

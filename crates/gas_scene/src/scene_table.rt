@@ -2,18 +2,24 @@
 
 ghost use Rattle.std.specs.Prelude.{◌≡◌, ◌&&◌, ◌||◌, not, pos, codes, string_bytes};
 ghost use Rattle.std.specs.BTreeMap.{keys as map_keys};
-ghost use Rattle.std.specs.List.{list_all};
+ghost use Rattle.std.specs.List.{list_all, list_any};
 ghost use Rattle.std.specs.Ordering.{int_eq};
+ghost use Rattle.std.specs.Str.{bytes_eq};
 ghost use Rattle.toml.specs.View.{table_view};
-ghost use Rattle.gas_scene.specs.Keys.{are_known};
+ghost use Rattle.gas_scene.specs.Keys.{are_known, area_keys};
 ghost use Rattle.gas_scene.specs.Table.{table_of};
-ghost use Rattle.gas_scene.specs.Refusals.{has, has_area};
-ghost use Rattle.gas_scene.specs.Inner.Keys.{is_known};
+ghost use Rattle.gas_scene.specs.Refusals.{has};
+ghost use Rattle.gas_scene.specs.Inner.Models.{is_known};
 
 use crate::error::SceneError;
-use crate::keys::{has, is_known, value_at};
-use crate::toml_values::{integer_at, text_at, texts_at, tuples_at};
+use crate::toml_values::{integer_at, text_at, texts_at, tuples_at, value_at};
 use toml::{Table, Value};
+
+// The keys of both forms, and the one of a map.
+const KEYS: [&str; 6] = ["version", "generation", "seed", "gas", "chirality", "cells"];
+
+// The keys of an area.
+const AREA_KEYS: [&str; 5] = ["width", "height", "rate", "solid", "particles"];
 
 /// The table of a scene: the rows of a map, from the top, or none and an area. An absent key has
 /// its default. The values have their types, but their ranges are not checked yet.
@@ -32,7 +38,7 @@ pub struct SceneTable<'a> {
     pub particles: &'a [Value],
 }
 
-// Returns the version. A value that is no integer counts as an absent one.
+// The version. A value that is no integer counts as an absent one.
 fn version(table: &Table) -> i64
     ensures { result ≡ (table_of (table_view table.now)).version }
 {
@@ -42,14 +48,42 @@ fn version(table: &Table) -> i64
     }
 }
 
-// Returns whether the keys of the table are keys of a scene.
+// Whether there is a value at the key.
+fn has(table: &Table, key: &str) -> bool
+    ensures { result ≡ has key.now (table_view table.now) }
+{
+    value_at(table, key).is_some()
+}
+
+// Whether there is a key of an area.
+fn has_area(table: &Table) -> bool
+    ensures { result ≡ list_any (λ k. has k.0 (table_view table.now)) area_keys }
+{
+    AREA_KEYS.iter().any(|key| has(table, key))
+}
+
+// Whether a key is in a list.
+fn is_among(key: &str, keys: &[&str]) -> bool
+    ensures { result ≡ list_any (λ k. bytes_eq key.now k.now) keys.now }
+{
+    keys.iter().any(|known| key == *known)
+}
+
+// Whether a scene can have the key.
+fn is_known(key: &str) -> bool
+    ensures { result ≡ is_known key.now }
+{
+    is_among(key, &KEYS) || is_among(key, &AREA_KEYS)
+}
+
+// Whether the keys of the table are keys of a scene.
 fn are_known(table: &Table) -> bool
     ensures { result ≡ list_all (λ k. is_known (string_bytes k)) (map_keys table.now) }
 {
     table.keys().all(|key| is_known(key.as_str()))
 }
 
-// Returns whether scenes of the table's version have each of its keys.
+// Whether scenes of the table's version have each of its keys.
 fn has_known_keys(table: &Table) -> bool
     ensures { result ≡ (are_known (table_view table.now)
         && (int_eq (table_of (table_view table.now)).version (pos 2)
@@ -58,18 +92,7 @@ fn has_known_keys(table: &Table) -> bool
     are_known(table) && (version(table) == 2 || !has(table, "generation"))
 }
 
-// Returns whether there is a key of an area.
-fn has_area(table: &Table) -> bool
-    ensures { result ≡ has_area (table_view table.now) }
-{
-    has(table, "width")
-        || has(table, "height")
-        || has(table, "rate")
-        || has(table, "solid")
-        || has(table, "particles")
-}
-
-// Returns whether there is a gas, and a map or the size of an area.
+// Whether there is a gas, and a map or the size of an area.
 fn is_complete(table: &Table) -> bool
     ensures { result ≡ (has (codes "gas") (table_view table.now)
         && (has (codes "cells") (table_view table.now)
@@ -79,20 +102,22 @@ fn is_complete(table: &Table) -> bool
 }
 
 impl<'a> SceneTable<'a> {
-    ghost use Rattle.std.specs.Prelude.{◌≡◌, Some, None, is_some, IfSome, IfErr, IfOk};
+    ghost use Rattle.std.specs.Prelude.{◌≡◌, Some, None, is_ok, IfErr, IfOk};
     ghost use Rattle.toml.specs.View.{table_view};
     ghost use Rattle.gas_scene.specs.Keys.{is_typed};
     ghost use Rattle.gas_scene.specs.Table.{table_of};
     ghost use Rattle.gas_scene.specs.Refusals.{table_refusal};
     ghost use Rattle.gas_scene.specs.Inner.Models.{table_model};
+    ghost use Rattle.gas_scene.specs.declared.error.SceneError.TheVariants.{WrongType};
 
-    // Returns the scene's table, or None if a value has another type than its key.
+    // The scene's table. The error is `WrongType` if a value has another type than its key.
     #[tactic(auto, unfolding(crate::specs::Keys::is_typed))]
-    fn typed(table: &'a Table) -> Option<SceneTable<'a>>
-        ensures typed { is_some result ≡ is_typed (table_view table.now) }
-        ensures value { IfSome result (λ t. table_model t ≡ table_of (table_view table.now)) }
+    fn typed(table: &'a Table) -> Result<SceneTable<'a>, SceneError>
+        ensures typed { is_ok result ≡ is_typed (table_view table.now) }
+        ensures wrong { IfErr result (λ e. e ≡ WrongType) }
+        ensures value { IfOk result (λ t. table_model t ≡ table_of (table_view table.now)) }
     {
-        Some(SceneTable {
+        Ok(SceneTable {
             version: integer_at(table, "version", 1)?,
             generation: integer_at(table, "generation", 0)?,
             seed: integer_at(table, "seed", 0)?,
@@ -107,7 +132,7 @@ impl<'a> SceneTable<'a> {
         })
     }
 
-    /// Returns the scene's table, or the first fault of the keys and the types.
+    /// The scene's table, or the first fault of the keys and the types.
     #[tactic(auto, unfolding(crate::specs::Refusals::table_refusal))]
     pub(crate) fn of(table: &'a Table) -> Result<SceneTable<'a>, SceneError>
         ensures refused { IfErr result (λ e. table_refusal (table_view table.now) ≡ Some e) }
@@ -123,9 +148,6 @@ impl<'a> SceneTable<'a> {
         if !is_complete(table) {
             return Err(SceneError::Missing);
         }
-        match SceneTable::typed(table) {
-            Some(table) => Ok(table),
-            None => Err(SceneError::WrongType),
-        }
+        SceneTable::typed(table)
     }
 }

@@ -1,44 +1,58 @@
 //! Values read as the types of their keys.
 
-ghost use Rattle.std.specs.Prelude.{◌≡◌, true, [], is_some, map, option_map, IfSome};
+ghost use Rattle.std.specs.Prelude.{◌≡◌, true, [], is_ok, map, option_map, IfOk, IfErr};
 ghost use Rattle.std.specs.List.{list_all};
 ghost use Rattle.std.specs.Option.{option_map_or};
 ghost use Rattle.toml.specs.Data.{get_member, as_str, as_integer};
 ghost use Rattle.toml.specs.View.{view, table_view};
 ghost use Rattle.gas_scene.specs.Table.{text_of, elements_of, number, rectangle_of, placement_of, value_at};
 ghost use Rattle.gas_scene.specs.Keys.{has_type, is_array_of, is_tuple};
+ghost use Rattle.gas_scene.specs.declared.error.SceneError.TheVariants.{WrongType};
 
-use crate::keys::value_at;
+use crate::error::SceneError;
 use gas_layout::area::{Placement, Rectangle};
 use toml::{Table, Value};
 
-/// Returns the integer at a key, `otherwise` if the key is absent, or None for another type.
-pub(crate) fn integer_at(table: &Table, key: &str, otherwise: i64) -> Option<i64>
-    ensures typed { is_some result
+/// The value at a key.
+pub(crate) fn value_at<'a>(table: &'a Table, key: &str) -> Option<&'a Value>
+    ensures { option_map (λ v. view v.now) result ≡ get_member key.now (table_view table.now) }
+{
+    table.get(key)
+}
+
+/// The integer at a key, or `otherwise` if the key is absent. The error is `WrongType`.
+pub(crate) fn integer_at(table: &Table, key: &str, otherwise: i64) -> Result<i64, SceneError>
+    ensures typed { is_ok result
         ≡ option_map_or (has_type as_integer) (get_member key.now (table_view table.now)) true }
-    ensures value { IfSome result (λ z.
+    ensures wrong { IfErr result (λ e. e ≡ WrongType) }
+    ensures value { IfOk result (λ z.
         z ≡ value_at as_integer key.now otherwise (table_view table.now)) }
 {
     match value_at(table, key) {
-        Some(value) => value.as_integer(),
-        None => Some(otherwise),
+        Some(value) => value.as_integer().ok_or(SceneError::WrongType),
+        None => Ok(otherwise),
     }
 }
 
-/// Returns the text at a key, `otherwise` if the key is absent, or None for another type.
-pub(crate) fn text_at<'a>(table: &'a Table, key: &str, otherwise: &'a str) -> Option<&'a str>
-    ensures typed { is_some result
+/// The text at a key, or `otherwise` if the key is absent. The error is `WrongType`.
+pub(crate) fn text_at<'a>(
+    table: &'a Table,
+    key: &str,
+    otherwise: &'a str,
+) -> Result<&'a str, SceneError>
+    ensures typed { is_ok result
         ≡ option_map_or (has_type as_str) (get_member key.now (table_view table.now)) true }
-    ensures value { IfSome result (λ s.
+    ensures wrong { IfErr result (λ e. e ≡ WrongType) }
+    ensures value { IfOk result (λ s.
         s.now ≡ value_at as_str key.now otherwise.now (table_view table.now)) }
 {
     match value_at(table, key) {
-        Some(value) => value.as_str(),
-        None => Some(otherwise),
+        Some(value) => value.as_str().ok_or(SceneError::WrongType),
+        None => Ok(otherwise),
     }
 }
 
-// Returns the elements of an array, and no element for another type.
+// The elements of an array, and no element for another type.
 fn elements(value: &Value) -> &[Value]
     ensures { map view result.now ≡ elements_of (view value.now) }
 {
@@ -48,21 +62,21 @@ fn elements(value: &Value) -> &[Value]
     }
 }
 
-// Returns whether each value is a text.
+// Whether each value is a text.
 fn are_texts(values: &[Value]) -> bool
     ensures { result ≡ list_all (λ v. has_type as_str (view v)) values.now }
 {
     values.iter().all(|value| value.is_str())
 }
 
-// Returns whether each value is an integer.
+// Whether each value is an integer.
 fn are_integers(values: &[Value]) -> bool
     ensures { result ≡ list_all (λ v. has_type as_integer (view v)) values.now }
 {
     values.iter().all(|value| value.is_integer())
 }
 
-// Returns whether the value is an array of `n` integers.
+// Whether the value is an array of `n` integers.
 fn is_tuple(value: &Value, n: usize) -> bool
     ensures { result ≡ is_tuple n (view value.now) }
 {
@@ -70,64 +84,70 @@ fn is_tuple(value: &Value, n: usize) -> bool
     numbers.len() == n && (value.is_array() && are_integers(numbers))
 }
 
-// Returns whether each value is an array of `n` integers.
+// Whether each value is an array of `n` integers.
 fn are_tuples(values: &[Value], n: usize) -> bool
     ensures { result ≡ list_all (λ v. is_tuple n (view v)) values.now }
 {
     values.iter().all(|value| is_tuple(value, n))
 }
 
-// Returns whether the value is an array of texts.
+// Whether the value is an array of texts.
 fn is_array_of_texts(value: &Value) -> bool
     ensures { result ≡ is_array_of (has_type as_str) (view value.now) }
 {
     value.is_array() && are_texts(elements(value))
 }
 
-// Returns whether the value is an array of arrays of `n` integers.
+// Whether the value is an array of arrays of `n` integers.
 fn is_array_of_tuples(value: &Value, n: usize) -> bool
     ensures { result ≡ is_array_of (is_tuple n) (view value.now) }
 {
     value.is_array() && are_tuples(elements(value), n)
 }
 
-/// Returns the elements of the array of texts at a key, if there is one, or None for another type.
-pub(crate) fn texts_at<'a>(table: &'a Table, key: &str) -> Option<Option<&'a [Value]>>
-    ensures typed { is_some result ≡ option_map_or (is_array_of (has_type as_str))
+/// The elements of the array of texts at a key, if there is one. The error is `WrongType`.
+pub(crate) fn texts_at<'a>(table: &'a Table, key: &str) -> Result<Option<&'a [Value]>, SceneError>
+    ensures typed { is_ok result ≡ option_map_or (is_array_of (has_type as_str))
         (get_member key.now (table_view table.now)) true }
-    ensures value { IfSome result (λ o. option_map (λ vs. map text_of (map view vs.now)) o
+    ensures wrong { IfErr result (λ e. e ≡ WrongType) }
+    ensures value { IfOk result (λ o. option_map (λ vs. map text_of (map view vs.now)) o
         ≡ option_map (λ d. map text_of (elements_of d)) (get_member key.now (table_view table.now))) }
 {
     match value_at(table, key) {
-        Some(value) if is_array_of_texts(value) => Some(Some(elements(value))),
-        Some(_) => None,
-        None => Some(None),
+        Some(value) if is_array_of_texts(value) => Ok(Some(elements(value))),
+        Some(_) => Err(SceneError::WrongType),
+        None => Ok(None),
     }
 }
 
-/// Returns the elements of the array of arrays of `n` integers at a key, no element if the key is
-/// absent, or None for another type.
-pub(crate) fn tuples_at<'a>(table: &'a Table, key: &str, n: usize) -> Option<&'a [Value]>
-    ensures typed { is_some result ≡ option_map_or (is_array_of (is_tuple n))
+/// The elements of the array of arrays of `n` integers at a key, or no element if the key is
+/// absent. The error is `WrongType`.
+pub(crate) fn tuples_at<'a>(
+    table: &'a Table,
+    key: &str,
+    n: usize,
+) -> Result<&'a [Value], SceneError>
+    ensures typed { is_ok result ≡ option_map_or (is_array_of (is_tuple n))
         (get_member key.now (table_view table.now)) true }
-    ensures value { IfSome result (λ vs. map view vs.now
+    ensures wrong { IfErr result (λ e. e ≡ WrongType) }
+    ensures value { IfOk result (λ vs. map view vs.now
         ≡ option_map_or elements_of (get_member key.now (table_view table.now)) []) }
 {
     match value_at(table, key) {
-        Some(value) if is_array_of_tuples(value, n) => Some(elements(value)),
-        Some(_) => None,
-        None => Some(&[]),
+        Some(value) if is_array_of_tuples(value, n) => Ok(elements(value)),
+        Some(_) => Err(SceneError::WrongType),
+        None => Ok(&[]),
     }
 }
 
-/// Returns a text, or the empty text for another type.
+/// A text, or the empty text for another type.
 pub(crate) fn text_of(value: &Value) -> &str
     ensures { result.now ≡ text_of (view value.now) }
 {
     value.as_str().unwrap_or("")
 }
 
-// Returns integer `k` of an array, or 0.
+// Integer `k` of an array, or 0.
 fn number(value: &Value, k: usize) -> i64
     ensures { result ≡ number k (view value.now) }
 {
@@ -137,7 +157,7 @@ fn number(value: &Value, k: usize) -> i64
     }
 }
 
-/// Returns the rectangle of `[x, y, w, h]`.
+/// The rectangle of `[x, y, w, h]`.
 pub(crate) fn rectangle(value: &Value) -> Rectangle
     ensures { result ≡ rectangle_of (view value.now) }
 {
@@ -149,7 +169,7 @@ pub(crate) fn rectangle(value: &Value) -> Rectangle
     }
 }
 
-/// Returns the placement of `[x, y, state]`.
+/// The placement of `[x, y, state]`.
 pub(crate) fn placement(value: &Value) -> Placement
     ensures { result ≡ placement_of (view value.now) }
 {

@@ -1,12 +1,15 @@
-use Rattle.std.proofs.Common.{sym, subst, inl}
-use Rattle.gas_scene.specs.Inner.Results.{ReturnsOrMemory}
+use Rattle.std.proofs.Common.{◌≡◌, ◌⊎◌, sym, subst, inl}
+use Rattle.std.specs.Prelude.{Result, Err}
+use Rattle.gas_scene.specs.declared.error.SceneError.{SceneError}
+use Rattle.gas_scene.specs.declared.error.SceneError.TheVariants.{Memory}
+use Rattle.gas_scene.specs.Scene.{SceneModel}
 use Rattle.gas_scene.proofs.Documents.{scene_of_text-document, scene_of_text-none}
 use Rattle.gas_scene.proofs.scene.read.Goals as goal
 
 pub returns-in-Ok : goal.returns-in-Ok
 returns-in-Ok c =
     record {
-      answer = subst (ReturnsOrMemory c.read_table.result) (sym (scene_of_text-document c.args.text.now _ c.in-Ok.ensures.ok.0 c.in-Ok.ensures.ok.1)) c.read_table.ensures;
+      answer = subst (λ (said : Result SceneModel SceneError). (c.read_table.result ≡ said) ⊎ (c.read_table.result ≡ Err Memory)) (sym (scene_of_text-document c.args.text.now _ c.in-Ok.ensures.ok.0 c.in-Ok.ensures.ok.1)) c.read_table.ensures;
     }
 
 pub returns-in-Err-2 : goal.returns-in-Err-2
