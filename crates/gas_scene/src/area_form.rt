@@ -18,15 +18,23 @@ use crate::scene_table::SceneTable;
 use crate::toml_values::{placement, rectangle};
 use gas_geom::gas::Gas;
 use gas_geom::size::Size;
+use gas_layout::area::{is_between, size_within};
 use gas_layout::drawing::Drawing;
 use gas_layout::filling::fill;
-use gas_layout::area::{is_between, size_within};
 use gas_rows::channel::Channel;
 use gas_rows::lattice::Lattice;
 use std::alloc::{AllocError, Global};
 use toml::Value;
 
-// Returns whether each rectangle has cells, all of them in the area.
+/// An area whose values are in their ranges: the channel of its rectangles, and the rate of its
+/// filling in thousandths.
+#[derive(Drop)]
+pub struct DrawnArea {
+    pub channel: Channel,
+    pub rate: u32,
+}
+
+// Whether each rectangle has cells, all of them in the area.
 fn are_rectangles(values: &[Value], size: Size) -> bool
     ensures { result
         ≡ list_all (λ v. fits size.width size.height (rectangle_of (view v))) values.now }
@@ -34,7 +42,7 @@ fn are_rectangles(values: &[Value], size: Size) -> bool
     values.iter().all(|value| rectangle(value).fits(size))
 }
 
-// Returns whether each placement is at a fluid cell of the channel, with a state of the gas.
+// Whether each placement is at a fluid cell of the channel, with a state of the gas.
 fn are_placements(values: &[Value], channel: &Channel, states: u16) -> bool
     ensures { result ≡ can_stand states channel.now values.now }
 {
@@ -43,7 +51,7 @@ fn are_placements(values: &[Value], channel: &Channel, states: u16) -> bool
         .all(|value| placement(value).can_stand(channel, states))
 }
 
-// Returns the channel in which a cell is solid if a rectangle covers it.
+// The channel in which a cell is solid if a rectangle covers it.
 fn draw(alloc: Global, size: Size, solid: &[Value]) -> Result<Channel, AllocError>
     requires { list_all (λ v. fits size.width size.height (rectangle_of (view v))) solid.now
         ≡ true }
@@ -70,19 +78,19 @@ fn place_all<G: Gas>(lattice: &mut Lattice<G>, particles: &[Value])
     }
 }
 
-// Returns the lattice of an area that is drawn in a channel.
+// The lattice of an area that is drawn.
 fn area_lattice<G: Gas>(
     alloc: Global,
     table: &SceneTable,
-    channel: Channel,
+    area: DrawnArea,
     seed: u64,
 ) -> Result<Lattice<G>, AllocError>
-    requires drawn { IsDrawn (2 ^ G.rules.dirs) table.now channel }
+    requires drawn { IsDrawn (2 ^ G.rules.dirs) table.now area }
     requires seed { seed ≡ nat_abs table.now.seed }
     ensures { IfOk result (λ l. l ≡ area_lattice G.rules (table_model table.now)) }
 {
-    let mut lattice = Lattice::blank(alloc, channel)?;
-    fill(alloc, &mut lattice, seed, table.rate as u32)?;
+    let mut lattice = Lattice::blank(alloc, area.channel)?;
+    fill(alloc, &mut lattice, seed, area.rate)?;
     place_all(&mut lattice, table.particles);
     Ok(lattice)
 }
@@ -98,7 +106,7 @@ impl SceneTable<'_> {
     ghost use Rattle.gas_scene.specs.Inner.Models.{table_model};
     ghost use Rattle.gas_scene.specs.Inner.Areas.{IsDrawn};
 
-    // Returns the size of the area if its sides and its rate are in their ranges.
+    // The size of the area if its sides and its rate are in their ranges.
     fn size(&self, most: u32) -> Option<Size>
         requires { most ≤ MOST_SIDE }
         ensures within { is_some result ≡ (between (pos 1) (pos most) self.now.width
@@ -116,12 +124,12 @@ impl SceneTable<'_> {
     }
 
     // Draws the area, or refuses it if a value is out of its range.
-    fn draw_area(&self, alloc: Global, most: u32, states: u16) -> Result<Channel, SceneError>
+    fn draw_area(&self, alloc: Global, most: u32, states: u16) -> Result<DrawnArea, SceneError>
         requires { most ≤ MOST_SIDE }
         ensures refused { IfErr result (λ e.
             (area_refusal most states (table_model self.now) ≡ Some e) ⊎ (e ≡ Memory)) }
-        ensures accepted { IfOk result (λ c. area_refusal most states (table_model self.now) ≡ None) }
-        ensures drawn { IfOk result (λ c. IsDrawn states self.now c) }
+        ensures accepted { IfOk result (λ a. area_refusal most states (table_model self.now) ≡ None) }
+        ensures drawn { IfOk result (λ a. IsDrawn states self.now a) }
     {
         let Some(size) = self.size(most) else {
             return Err(SceneError::Range);
@@ -133,10 +141,13 @@ impl SceneTable<'_> {
         if !are_placements(self.particles, &channel, states) {
             return Err(SceneError::Range);
         }
-        Ok(channel)
+        Ok(DrawnArea {
+            channel,
+            rate: self.rate as u32,
+        })
     }
 
-    /// Returns the lattice of the area. The error is `Range` if a value is out of its range.
+    /// The lattice of the area. The error is `Range` if a value is out of its range.
     pub(crate) fn area_lattice(
         &self,
         alloc: Global,
@@ -155,7 +166,7 @@ impl SceneTable<'_> {
           lattice = area_lattice (rules_of common.gas) (table_model self.now);
         }) }
     {
-        let channel = self.draw_area(alloc, common.most_side, common.gas.states())?;
-        Ok(any_lattice!(common.gas, area_lattice(alloc, self, channel, common.seed)?))
+        let area = self.draw_area(alloc, common.most_side, common.gas.states())?;
+        Ok(any_lattice!(common.gas, area_lattice(alloc, self, area, common.seed)?))
     }
 }

@@ -38,7 +38,7 @@ fn row_bytes<G: Gas>(alloc: Global, lattice: &Lattice<G>, y: u32) -> Result<Vec<
     Ok(text)
 }
 
-// Returns the text of row `y`. Its characters are ASCII.
+// The text of row `y`. Its characters are ASCII.
 fn row_text<G: Gas>(alloc: Global, lattice: &Lattice<G>, y: u32) -> Result<String, AllocError>
     requires { y < lattice.now.channel.height }
     ensures { IfOk result (λ s.
@@ -50,7 +50,7 @@ fn row_text<G: Gas>(alloc: Global, lattice: &Lattice<G>, y: u32) -> Result<Strin
     }
 }
 
-// Returns the rows from the top, as values of a table.
+// The rows from the top, as values of a table.
 fn row_values<G: Gas>(alloc: Global, lattice: &Lattice<G>) -> Result<Vec<Value>, AllocError>
     ensures rows { IfOk result (λ rows. map view rows.items ≡ row_values lattice.now) }
     ensures lattice { IsLattice G.rules lattice.now.channel lattice.now.rows }
@@ -76,7 +76,7 @@ fn insert(alloc: Global, table: &mut Table, key: &str, value: Value) -> Result<(
     }
 }
 
-// Returns the name of a chirality, and its seed, if it has one.
+// The name of a chirality, and its seed, if it has one.
 fn name_and_seed(chirality: Chirality) -> (&'static str, Option<u64>)
     ensures name { result.0.now ≡ (name_and_seed chirality).0 }
     ensures seed { result.1 ≡ (name_and_seed chirality).1 }
@@ -154,7 +154,7 @@ fn build_text<G: Gas>(
     }
 }
 
-// Returns whether a scene can state this chirality and this generation.
+// Whether a scene can state this chirality and this generation.
 fn can_be_stated(chirality: Chirality, generation: u64) -> bool
     ensures { result ≡ can_be_stated chirality generation }
 {
@@ -162,7 +162,7 @@ fn can_be_stated(chirality: Chirality, generation: u64) -> bool
     seed.is_none_or(|seed| seed < 1 << 63) && generation <= LAST_GENERATION
 }
 
-/// Returns the text of a scene of version 2 with a lattice, its chirality and its generation.
+/// The text of a scene of version 2 with a lattice, its chirality and its generation.
 /// `scene::read` returns the same three, so a run from the text goes on as from the lattice.
 ///
 /// The text is a TOML document with the keys `cells`, `chirality`, `gas`, `generation` and

@@ -27,6 +27,7 @@ pub struct CommonValues {
     pub most_side: u32,
 }
 
+// The most columns of a scene of a version, and the most rows.
 fn most_side(version: i64) -> u32
     ensures { result ≡ most_side version }
 {
@@ -37,7 +38,7 @@ fn most_side(version: i64) -> u32
     }
 }
 
-// Returns the chirality of this name. A seeded one has this seed.
+// The chirality of this name. A seeded one has this seed.
 fn chirality(name: &str, seed: u64) -> Option<Chirality>
     ensures { result ≡ chirality_named name.now seed }
 {
@@ -57,7 +58,7 @@ impl SceneTable<'_> {
     ghost use Rattle.gas_scene.specs.Scene.{scene_of};
     ghost use Rattle.gas_scene.specs.Inner.Models.{table_model};
 
-    // Returns whether the numbers are in their ranges.
+    // Whether the numbers are in their ranges.
     fn has_common_numbers(&self) -> bool
         ensures { result ≡ (between (pos 1) (pos 2) self.now.version
             && (int_le (pos 0) self.now.seed
@@ -68,7 +69,7 @@ impl SceneTable<'_> {
             && is_between(0, LAST_GENERATION as i64, self.generation)
     }
 
-    /// Returns the values that maps and areas share, or None if one is out of its range.
+    /// The values that maps and areas share, or None if one is out of its range.
     pub(crate) fn common_values(&self) -> Option<CommonValues>
         ensures within { is_some result ≡ is_common_in_range (table_model self.now) }
         ensures gas { IfSome result (λ c. c.gas ≡ gas_of (table_model self.now)) }

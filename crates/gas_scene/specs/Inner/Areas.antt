@@ -1,12 +1,13 @@
 -- Inner words: what functions of this crate promise one another. No public contract cites them.
 -- Here: placements in a channel, and areas that are drawn.
-use Rattle.std.specs.Prelude.{◌≡◌, ℕ, ℤ, Bool, true, List, pos, nat_abs}
+use Rattle.std.specs.Prelude.{◌≡◌, ◌≤◌, ℕ, ℤ, Bool, true, List, nat_abs}
 use Rattle.std.specs.List.{list_all}
 use Rattle.toml.specs.View.{view}
 use Rattle.toml.specs.declared.value.Value.{Value}
 use Rattle.gas_geom.specs.Channel.{ChannelModel, is_solid}
 use Rattle.gas_geom.specs.Size.{IsSize}
-use Rattle.gas_layout.specs.Layout.{between, can_place, drawn}
+use Rattle.gas_layout.specs.Layout.{can_place, drawn}
+use Rattle.gas_scene.specs.declared.area_form.DrawnArea.{DrawnArea}
 use Rattle.gas_scene.specs.declared.scene_table.SceneTable.{SceneTable}
 use Rattle.gas_scene.specs.Table.{placement_of}
 use Rattle.gas_scene.specs.Inner.Models.{table_model}
@@ -20,9 +21,10 @@ abbrev pub can_stand : ℕ → ChannelModel → List Value → Bool
 can_stand states channel values =
     list_all (λ v. can_place states channel.width channel.height (solid_in channel) (placement_of (view v))) values
 
--- an area whose values are in their ranges, and the channel of its rectangles
-pub record IsDrawn (states : ℕ) (t : SceneTable) (drawing : ChannelModel) : Type 0 where
+-- an area whose values are in their ranges, and its drawing
+pub record IsDrawn (states : ℕ) (t : SceneTable) (area : DrawnArea) : Type 0 where
   pub size : IsSize (nat_abs t.width) (nat_abs t.height)
-  pub channel : drawing ≡ drawn (nat_abs t.width) (nat_abs t.height) (table_model t).solid
-  pub can : can_stand states drawing t.particles.now ≡ true
-  pub rate : between (pos 0) (pos 1000) t.rate ≡ true
+  pub channel : area.channel ≡ drawn (nat_abs t.width) (nat_abs t.height) (table_model t).solid
+  pub can : can_stand states area.channel t.particles.now ≡ true
+  pub rate : area.rate ≡ nat_abs t.rate
+  pub few : area.rate ≤ 1000

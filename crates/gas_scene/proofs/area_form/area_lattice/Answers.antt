@@ -1,5 +1,4 @@
-use Rattle.std.proofs.Common.{◌≡◌, ℕ, Bool, pos, nat_abs, ap, ◌∙◌, arith}
-use Rattle.std.proofs.lemmas.Int.{ints}
+use Rattle.std.proofs.Common.{◌≡◌, ℕ, Bool, pos, nat_abs, ap, ◌∙◌}
 use Rattle.gas_geom.specs.Lattice.{LatticeModel}
 use Rattle.gas_layout.specs.Layout.{is_covered, channel_of}
 use Rattle.gas_scene.specs.Inner.Models.{table_model}
@@ -16,4 +15,4 @@ returns g c =
     let made : c.in_ok-lattice.lattice.channel ≡ channel_of w h solid =
     ap (λ (l : LatticeModel). l.channel) c.in_ok-lattice.ensures.value ∙ c.requires.drawn.channel in
     c.place_all.ensures w h solid _ (c.in_ok-fill.ensures.cells w h solid made)
-    ∙ area_lattice-is gas c.args.seed _ t c.requires.seed (grind (arith, ints, c.requires.drawn.rate))
+    ∙ area_lattice-is gas c.args.seed _ t c.requires.seed c.requires.drawn.rate

@@ -29,4 +29,5 @@ returns-clause-drawn c = record {
   channel = c.in_ok-channel.ensures ∙ ap (λ (s : SizeModel). drawn s.width s.height (table_model c.args.self.now).solid) c.in-Some.ensures.made;
   can = sym c.are_placements.ensures ∙ c.if-not-are_placements.false;
   rate = grind (arith, ints, c.in-Some.ensures.within);
+  few = grind (arith, ints, c.in-Some.ensures.within);
 }
