@@ -1,9 +1,8 @@
 -- Reading cells: the cell of two characters, and the cells of a row.
 use Rattle.std.specs.Prelude.{ℕ, ◌+◌, ◌*◌, ◌/◌, true, false, List, [], ◌∷◌, Option, Some, None, if◌then◌else◌, nat_lt, nat_eq, slice_index, length, position, codes}
-use Rattle.std.specs.Option.{is_none}
+use Rattle.std.specs.Option.{is_none, unwrap_or}
 use Rattle.std.specs.List.{find, range_with_len}
 use Rattle.std.specs.Str.{bytes_eq}
-use Rattle.gas_cells.specs.declared.cells.TheConstants.{CHARACTERS}
 use Rattle.gas_cells.specs.declared.reading.Cell.{Cell}
 
 -- the value of a lower-case hexadecimal digit
@@ -25,11 +24,15 @@ cell_of states a b =
 
 -- the number of cells in the characters of a row
 abbrev pub cells_in : List ℕ → ℕ
-cells_in row = length row / CHARACTERS
+cells_in row = length row / 2
 
 -- the cell in column c of a row
 abbrev pub cell_at : ℕ → List ℕ → ℕ → Option Cell
-cell_at states row c = cell_of states (slice_index row (CHARACTERS * c)) (slice_index row (CHARACTERS * c + 1))
+cell_at states row c = cell_of states (slice_index row (2 * c)) (slice_index row (2 * c + 1))
+
+-- the same, with a fluid and empty cell for a column that has none
+abbrev pub cell_or_empty : ℕ → List ℕ → ℕ → Cell
+cell_or_empty states row c = unwrap_or (cell_at states row c) (record { solid = false; state = 0 })
 
 -- the first column with no cell
 abbrev pub bad_column : ℕ → List ℕ → Option ℕ

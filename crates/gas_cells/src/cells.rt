@@ -25,7 +25,7 @@ fn hex_digit(digit: u8) -> u8
     }
 }
 
-/// Returns the two characters of a cell.
+/// The two characters of a cell.
 pub fn cell_pair(solid: bool, state: u8) -> [u8; CHARACTERS]
     ensures text { result ≡ cell_text solid state }
 {
@@ -38,7 +38,7 @@ pub fn cell_pair(solid: bool, state: u8) -> [u8; CHARACTERS]
     }
 }
 
-// Returns the characters of 64 cells, from their bits in a mask and their states.
+// The characters of 64 cells, from their bits in a mask and their states.
 fn cell_pairs(solid: u64, states: [u8; 64]) -> [u8; CHARACTERS * 64]
     ensures { (cells : ℕ) → cells ≤ 64 → take (CHARACTERS * cells) result
         ≡ flat_map (λ b. cell_text (holds solid b) (slice_index states b))
@@ -72,7 +72,7 @@ impl Model for RowBlock {
 }
 
 impl RowBlock {
-    /// Returns the characters of the block, two per cell.
+    /// The characters of the block, two per cell.
     pub fn as_bytes(&self) -> &[u8]
         ensures value { result.now ≡ self.now }
         ensures short { length result.now ≤ 128 }
@@ -81,7 +81,7 @@ impl RowBlock {
     }
 }
 
-/// Returns the number of blocks in a row of a lattice.
+/// The number of blocks in a row of a lattice.
 pub fn row_blocks<G: Gas>(lattice: &Lattice<G>) -> u32
     ensures blocks { result ≡ words_in lattice.now.channel.width }
     ensures all { (y : ℕ) →
@@ -90,7 +90,7 @@ pub fn row_blocks<G: Gas>(lattice: &Lattice<G>) -> u32
     lattice.channel().size().width().div_ceil(64)
 }
 
-/// Returns block `j` of row `y` of a lattice: the characters from `128 * j` on, at most 128.
+/// Block `j` of row `y` of a lattice: the characters from `128 * j` on, at most 128.
 pub fn row_block<G: Gas>(lattice: &Lattice<G>, y: u32, j: u32) -> RowBlock
     requires row { y < lattice.now.channel.height }
     requires block { j < words_in lattice.now.channel.width }

@@ -1,9 +1,8 @@
 //! Reading cells from their two characters.
 
-ghost use Rattle.std.specs.Prelude.{◌≡◌, ℕ, ◌+◌, ◌*◌, ◌<◌, [], ◌∷◌, false, length, slice_index, slice_index_or, is_some, IfSome};
-ghost use Rattle.std.specs.Option.{unwrap_or, is_none};
-ghost use Rattle.std.specs.Str.{bytes_eq};
-ghost use Rattle.gas_cells.specs.Reading.{digit_of, state_of, cell_of, cells_in, cell_at, bad_column};
+ghost use Rattle.std.specs.Prelude.{◌≡◌, ℕ, ◌<◌, false, length, slice_index, slice_index_or, IfSome};
+ghost use Rattle.std.specs.Option.{unwrap_or};
+ghost use Rattle.gas_cells.specs.Reading.{digit_of, cell_of, cells_in, cell_or_empty, bad_column};
 
 use crate::cells::CHARACTERS;
 
@@ -20,7 +19,12 @@ pub struct Cell {
     pub state: u8,
 }
 
-// Returns the value of a lower-case hexadecimal digit, or 16 for any other character.
+const EMPTY: Cell = Cell {
+    solid: false,
+    state: 0,
+};
+
+// The value of a lower-case hexadecimal digit, or 16 for any other character.
 #[tactic(auto, using(crate::proofs::Digits::digits))]
 fn digit(byte: u8) -> u8
     ensures { result ≡ unwrap_or (digit_of byte) 16 }
@@ -32,97 +36,71 @@ fn digit(byte: u8) -> u8
     }
 }
 
-// Returns whether both characters are the mark.
-fn is_marked(mark: u8, first: u8, second: u8) -> bool
-    ensures { result ≡ bytes_eq (first ∷ second ∷ []) (mark ∷ mark ∷ []) }
+// The cell of two characters, if they are one, with a state below `states`. The tests have no
+// branch (`&`, `|`), so that the loop over the cells of a row vectorises.
+#[tactic(auto, using(crate::proofs::Digits::digits), unfolding(crate::specs::Reading::cell_of))]
+fn cell_of(first: u8, second: u8, states: u16) -> Option<Cell>
+    ensures { result ≡ cell_of states first second }
 {
-    (first == mark) & (second == mark)
-}
-
-// Returns whether two characters are the digits of a state below `states`.
-#[tactic(auto, using(crate::proofs::Digits::digits))]
-fn is_state(first: u8, second: u8, states: u16) -> bool
-    ensures { result ≡ is_some (state_of states (digit_of first) (digit_of second)) }
-{
-    let high = digit(first);
-    let low = digit(second);
-    (high < 16) & (low < 16) & (u16::from(high) * 16 + u16::from(low) < states)
-}
-
-// Returns whether two characters are a cell. It has no branch (`&`, `|`), so that the loop over
-// cells vectorises.
-#[tactic(auto, unfolding(crate::specs::Reading::cell_of))]
-fn is_cell(first: u8, second: u8, states: u16) -> bool
-    ensures { result ≡ is_some (cell_of states first second) }
-{
-    is_marked(SOLID_MARK, first, second)
-        | is_marked(EMPTY_MARK, first, second)
-        | is_state(first, second, states)
-}
-
-// Returns the number of two digits. Any other character counts as 0.
-#[tactic(auto, using(crate::proofs::Digits::digits))]
-fn two_digits(first: u8, second: u8) -> u8
-    ensures { result ≡ unwrap_or (digit_of first) 0 * 16 + unwrap_or (digit_of second) 0 }
-{
-    digit(first) % 16 * 16 + digit(second) % 16
-}
-
-// Returns the cell of two characters, if they are one.
-fn read(first: u8, second: u8) -> Cell
-    ensures { (states : ℕ) → IfSome (cell_of states first second) (λ cell. result ≡ cell) }
-{
-    Cell {
-        solid: first == SOLID_MARK,
-        state: two_digits(first, second),
+    let solid = (first == SOLID_MARK) & (second == SOLID_MARK);
+    let empty = (first == EMPTY_MARK) & (second == EMPTY_MARK);
+    let (high, low) = (digit(first), digit(second));
+    let state = high % 16 * 16 + low % 16;
+    let is_state = (high < 16) & (low < 16) & (u16::from(state) < states);
+    if solid | empty | is_state {
+        Some(Cell {
+            solid,
+            state: if is_state { state } else { 0 },
+        })
+    } else {
+        None
     }
 }
 
-// Returns whether each column of a row has a cell.
-fn are_cells(row: &[u8], states: u16) -> bool
-    ensures { result ≡ is_none (bad_column states row.now) }
-{
-    let mut all = true;
-    for c in 0..row.len() / CHARACTERS {
-        all &= is_cell(row[CHARACTERS * c], row[CHARACTERS * c + 1], states);
-    }
-    all
-}
-
-/// Returns the first column of a row that has no cell. States must be below `states`.
+/// The first column of a row that has no cell. States must be below `states`.
 pub fn bad_column(row: &[u8], states: u16) -> Option<usize>
     ensures value { result ≡ bad_column states row.now }
     ensures within { IfSome result (λ c. c < cells_in row.now) }
 {
-    // Only a row with such a column is read a second time.
-    if are_cells(row, states) {
-        return None;
-    }
     for c in 0..row.len() / CHARACTERS {
-        if !is_cell(row[CHARACTERS * c], row[CHARACTERS * c + 1], states) {
+        if cell_of(row[CHARACTERS * c], row[CHARACTERS * c + 1], states).is_none() {
             return Some(c);
         }
     }
     None
 }
 
-/// Reads the cells of a row: which of them are solid, and their states. It promises nothing about a
-/// column that has no cell.
-pub fn read_row(row: &[u8], solid: &mut [bool], state_of: &mut [u8])
+/// Reads the cells of a row: which of them are solid, and their states. Returns the first column
+/// that has no cell with a state below `states`. Such a column counts as fluid and empty.
+pub fn read_row(
+    row: &[u8],
+    states: u16,
+    solid: &mut [bool],
+    state_of: &mut [u8],
+) -> Option<usize>
     requires wide { length solid.old ≡ cells_in row.now }
     requires as_wide { length state_of.old ≡ cells_in row.now }
+    ensures bad { result ≡ bad_column states row.now }
+    ensures within { IfSome result (λ c. c < cells_in row.now) }
     ensures wide { length solid.new ≡ cells_in row.now }
     ensures as_wide { length state_of.new ≡ cells_in row.now }
-    ensures solid { (states x : ℕ) → x < cells_in row.now
-        → IfSome (cell_at states row.now x)
-        (λ cell. slice_index_or solid.new x false ≡ cell.solid) }
-    ensures states { (states x : ℕ) → x < cells_in row.now
-        → IfSome (cell_at states row.now x)
-        (λ cell. slice_index state_of.new x ≡ cell.state) }
+    ensures solid { (x : ℕ) → x < cells_in row.now
+        → slice_index_or solid.new x false ≡ (cell_or_empty states row.now x).solid }
+    ensures states { (x : ℕ) → x < cells_in row.now
+        → slice_index state_of.new x ≡ (cell_or_empty states row.now x).state }
 {
+    let mut are_cells = true;
     for x in 0..solid.len() {
-        let cell = read(row[CHARACTERS * x], row[CHARACTERS * x + 1]);
+        let cell = cell_of(row[CHARACTERS * x], row[CHARACTERS * x + 1], states);
+        are_cells &= cell.is_some();
+        let cell = cell.unwrap_or(EMPTY);
         solid[x] = cell.solid;
         state_of[x] = cell.state;
+    }
+    // The loop has no exit, so that it vectorises.
+    if are_cells {
+        None
+    } else {
+        bad_column(row, states)
     }
 }

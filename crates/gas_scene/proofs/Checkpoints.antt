@@ -6,7 +6,6 @@ use Rattle.std.specs.Option.{option_or, option_map_or, unwrap_or}
 use Rattle.std.proofs.lemmas.Bool.{and_from, and_parts, leb-true}
 use Rattle.std.proofs.lemmas.Bool.Decides.{nat_tests}
 use Rattle.std.proofs.lemmas.Int.{ints}
-use Rattle.std.proofs.lemmas.List.Sums.{position_or_len_is}
 use Rattle.std.proofs.lemmas.List.FromFn.{fill_by_all, length-map-range_with_len, get_or-map-range_with_len}
 use Rattle.gas_geom.specs.Channel.{IsChannel, is_solid}
 use Rattle.gas_geom.specs.Lattice.{LatticeModel, IsLattice, cell, rows_of}
@@ -27,16 +26,11 @@ use Rattle.gas_scene.specs.declared.common_values.TheConstants.{LAST_GENERATION}
 use Rattle.gas_scene.specs.declared.error.SceneError.TheVariants.{Range, RowLength, BadCell}
 use Rattle.gas_scene.specs.Table.{TableModel, table_of}
 use Rattle.gas_scene.specs.Refusals.{gas_of, has_wrong_length, row_length, bad_cell, map_refusal, is_common_in_range, table_refusal, value_refusal}
-use Rattle.gas_scene.specs.Scene.{map_cell, map_lattice, scene_of, table_answer}
+use Rattle.gas_scene.specs.Scene.{map_lattice, scene_of, table_answer}
 use Rattle.gas_scene.specs.Checkpoint.{can_be_stated, checkpoint_table}
-use Rattle.gas_scene.specs.Inner.Maps.{row_at}
+use Rattle.gas_scene.specs.Inner.Maps.{row_at, map_cell}
+use Rattle.gas_scene.proofs.Firsts.{no_position}
 use Rattle.gas_scene.proofs.Tables.{texts, with_rows, table_of-checkpoint, table_refusal-checkpoint}
-
--- if none passes, none is first
-no_position : {A : Type 0} (p : A → Bool) (xs : List A) (d : A) → ((k : ℕ) → k < length xs → p (get_or xs k d) ≡ false) → position p xs ≡ None
-no_position p xs d each =
-    ap (λ n. cond (nat_lt n (length xs)) (Some n) None) (position_or_len_is p xs (length xs) d (omega arith) each (λ past. absurd (omega (arith, past))))
-    ∙ ap (λ (b : Bool). cond b (Some (length xs)) None) (let e : nat_lt (length xs) (length xs) ≡ false = grind (arith, nat_tests) in e)
 
 -- rows by their items
 rows_of-whole : {A : Type 0} (w h : ℕ) (rows : List (List A)) (d : A) → length rows ≡ h → ((y : ℕ) → y < h → length (get_or rows y []) ≡ w)

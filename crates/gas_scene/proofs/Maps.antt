@@ -1,7 +1,7 @@
 -- The lattice of a map, row by row, and lemmas about rows that are not refused.
 use Rattle.std.proofs.Common.{◌≡◌, inl, inr, subst, ℕ, ◌+◌, ◌*◌, ◌/◌, ◌%◌, ◌==◌, ◌<◌, ◌≤◌, Bool, true, false, not, List, [], ◌∷◌, map, length, get_or, set, Option, Some, None, pos, codes, nat_lt, ap, ap₂, sym, ◌∙◌, refl, arith, if◌then◌else◌}
-use Rattle.std.specs.Prelude.{is_some, option_map, IsSome, IfSome, Ok, Err}
-use Rattle.std.specs.Option.{option_or, unwrap_or, is_none}
+use Rattle.std.specs.Prelude.{is_some, option_map, Ok, Err}
+use Rattle.std.specs.Option.{option_or, unwrap_or}
 use Rattle.std.specs.Str.{bytes_eq}
 use Rattle.std.proofs.lemmas.Bool.{and_parts, cases_lt, ltb-true, false≢true}
 use Rattle.std.proofs.lemmas.Bool.Decides.{nat_tests}
@@ -13,17 +13,17 @@ use Rattle.gas_geom.specs.Channel.{free_channel}
 use Rattle.gas_geom.specs.Lattice.{LatticeModel, empty_lattice}
 use Rattle.gas_geom.specs.declared.size.TheConstants.{MOST_SIDE}
 use Rattle.gas_cells.specs.declared.reading.Cell.{Cell}
-use Rattle.gas_cells.specs.Reading.{digit_of, state_of, cell_of, cells_in, cell_at, bad_column}
+use Rattle.gas_cells.specs.Reading.{digit_of, state_of, cell_of, cells_in, cell_at, cell_or_empty, bad_column}
 use Rattle.gas_layout.specs.Layout.{between}
 use Rattle.gas_layout.proofs.Grids.{rows_of-set_row, rows_of-replicate, lattice_of-same, if_same}
 use Rattle.gas_layout.proofs.Steps.{before-here, before-other, before-none, before-all}
 use Rattle.gas_scene.specs.declared.error.SceneError.{SceneError}
-use Rattle.gas_scene.specs.declared.error.SceneError.TheVariants.{Range, RowLength}
+use Rattle.gas_scene.specs.declared.error.SceneError.TheVariants.{Range, RowLength, BadCell}
 use Rattle.gas_scene.specs.Table.{text_of}
 use Rattle.gas_scene.specs.Refusals.{has_wrong_length, row_length, bad_cell, map_refusal}
-use Rattle.gas_scene.specs.Scene.{map_cell, map_lattice}
-use Rattle.gas_scene.specs.Inner.Maps.{as_result, map_width, map_before, AreShort, IsMap, row_at}
-use Rattle.gas_scene.proofs.Firsts.{none_passes, find-none, not_some}
+use Rattle.gas_scene.specs.Scene.{map_lattice}
+use Rattle.gas_scene.specs.Inner.Maps.{as_result, map_cell, map_width, map_before, shape_refusal, AreShort, IsMap, row_at}
+use Rattle.gas_scene.proofs.Firsts.{none_passes, position-at, no_position}
 
 -- row r, by its value
 pub row_at-view : (vs : List Value) (r : ℕ) (v : Value) → r < length vs → v ≡ get_or vs r v → row_at (map text_of (map view vs)) r ≡ text_of (view v)
@@ -35,11 +35,6 @@ length-rows vs = length-map (map view vs) text_of ∙ length-map vs view
 
 abbrev pub empty : Cell
 empty = record { solid = false; state = 0 }
-
--- what is true of a cell
-pub cell_is : {A : Type 0} (o : Option Cell) (f : Cell → A) (v : A) → IsSome o → IfSome o (λ c. v ≡ f c) → v ≡ f (unwrap_or o empty)
-cell_is None f v some is = absurd (cc)
-cell_is (Some c) f v some is = is
 
 -- the state of a cell, if there is one, is below the number of states, and 0 at a solid cell
 below : (states n : ℕ) (b : Bool) → 0 < states → nat_lt n states ≡ b
@@ -94,19 +89,17 @@ pub record IsRow (states : ℕ) (rows : List (List ℕ)) (y : ℕ) (mask : List 
   pub state : (x : ℕ) → x < map_width rows → get_or sets x 0 ≡ (map_cell states rows x y).state
 
 -- a mask and states that were read from the characters of a row
-pub IsRow-read : (states : ℕ) (rows : List (List ℕ)) (y : ℕ) (row : List ℕ) (mask : List Bool) (sets : List ℕ) → IsMap states rows → y < length rows
+pub IsRow-read : (states : ℕ) (rows : List (List ℕ)) (y : ℕ) (row : List ℕ) (mask : List Bool) (sets : List ℕ) → IsMap rows → y < length rows
     → row ≡ row_at rows y → length mask ≡ cells_in row → length sets ≡ cells_in row
-    → ((n x : ℕ) → x < cells_in row → IfSome (cell_at n row x) (λ c. get_or mask x false ≡ c.solid))
-    → ((n x : ℕ) → x < cells_in row → IfSome (cell_at n row x) (λ c. get_or sets x 0 ≡ c.state)) → IsRow states rows y mask sets
+    → ((x : ℕ) → x < cells_in row → get_or mask x false ≡ (cell_or_empty states row x).solid)
+    → ((x : ℕ) → x < cells_in row → get_or sets x 0 ≡ (cell_or_empty states row x).state) → IsRow states rows y mask sets
 IsRow-read states rows y row mask sets map in_rows here wide as_wide solid state =
     let width : cells_in row ≡ map_width rows = ap cells_in here ∙ map.wide y in_rows in
     record {
       wide = wide ∙ width;
       as_wide = as_wide ∙ width;
-      solid = λ x lt. cell_is (cell_at states (row_at rows y) x) (λ c. c.solid) _ (map.cells x y lt in_rows)
-          (subst (λ r. IfSome (cell_at states r x) (λ c. get_or mask x false ≡ c.solid)) here (solid states x (omega (arith, lt, width))));
-      state = λ x lt. cell_is (cell_at states (row_at rows y) x) (λ c. c.state) _ (map.cells x y lt in_rows)
-          (subst (λ r. IfSome (cell_at states r x) (λ c. get_or sets x 0 ≡ c.state)) here (state states x (omega (arith, lt, width))));
+      solid = λ x lt. solid x (omega (arith, lt, width)) ∙ ap (λ r. (cell_or_empty states r x).solid) here;
+      state = λ x lt. state x (omega (arith, lt, width)) ∙ ap (λ r. (cell_or_empty states r x).state) here;
     }
 
 pub IsRow-within : (states : ℕ) (rows : List (List ℕ)) (y : ℕ) (mask : List Bool) (sets : List ℕ) → IsRow states rows y mask sets → 0 < states
@@ -181,11 +174,40 @@ pub as_result-some : (o : Option SceneError) (e : SceneError) → as_result o �
 as_result-some None e refused = absurd (cc)
 as_result-some (Some f) e refused = cc
 
-pub map_refusal-values : (most states : ℕ) (vs : List Value) (b : Bool) → b ≡ between (pos 1) (pos most) (pos (length vs))
-    → map_refusal most states (map text_of (map view vs))
-    ≡ (if not b then Some Range else option_or (row_length most (map text_of (map view vs))) (bad_cell states (map text_of (map view vs))))
+-- the fault of a map, by its shape and its cells
+map_refusal-parts : (most states : ℕ) (rows : List (List ℕ)) → map_refusal most states rows ≡ option_or (shape_refusal most rows) (bad_cell states rows)
 unfolding map_refusal
-map_refusal-values most states vs b is = rw (is, length-rows vs) refl
+map_refusal-parts most states rows = by (between (pos 1) (pos most) (pos (length rows)))
+  where
+    by : (b : Bool) → (if not b then Some Range else option_or (row_length most rows) (bad_cell states rows)) ≡ option_or (if not b then Some Range else row_length most rows) (bad_cell states rows)
+    by true = refl
+    by false = refl
+
+pub map_refusal-shape : (most states : ℕ) (rows : List (List ℕ)) (e : SceneError) → shape_refusal most rows ≡ Some e → map_refusal most states rows ≡ Some e
+map_refusal-shape most states rows e is = map_refusal-parts most states rows ∙ ap (λ o. option_or o (bad_cell states rows)) is
+
+pub map_refusal-cells : (most states : ℕ) (rows : List (List ℕ)) → shape_refusal most rows ≡ None → map_refusal most states rows ≡ bad_cell states rows
+map_refusal-cells most states rows none = map_refusal-parts most states rows ∙ ap (λ o. option_or o (bad_cell states rows)) none
+
+-- the first row with a bad cell, after rows with none
+pub bad_cell-at : (states : ℕ) (rows : List (List ℕ)) (r c : ℕ) → r < length rows → ((k : ℕ) → k < r → is_some (bad_column states (row_at rows k)) ≡ false)
+    → bad_column states (row_at rows r) ≡ Some c → bad_cell states rows ≡ Some (BadCell r c)
+bad_cell-at states rows r c within before here =
+    ap (option_map (λ r. BadCell r (unwrap_or (bad_column states (row_at rows r)) 0))) (position-at (λ row. is_some (bad_column states row)) rows [] r within before (ap is_some here))
+    ∙ ap (λ o. Some (BadCell r (unwrap_or o 0))) here
+
+pub bad_cell-none : (states : ℕ) (rows : List (List ℕ)) → ((k : ℕ) → k < length rows → is_some (bad_column states (row_at rows k)) ≡ false) → bad_cell states rows ≡ None
+bad_cell-none states rows each =
+    ap (option_map (λ r. BadCell r (unwrap_or (bad_column states (row_at rows r)) 0))) (no_position (λ row. is_some (bad_column states row)) rows [] each)
+
+pub row_length-at : (most : ℕ) (rows : List (List ℕ)) (r : ℕ) → r < length rows → ((k : ℕ) → k < r → has_wrong_length most (length (row_at rows 0)) (row_at rows k) ≡ false)
+    → has_wrong_length most (length (row_at rows 0)) (row_at rows r) ≡ true → row_length most rows ≡ Some (RowLength r)
+row_length-at most rows r within before here =
+    ap (option_map (λ r. RowLength r)) (position-at (has_wrong_length most (length (row_at rows 0))) rows [] r within before here)
+
+pub row_length-none : (most : ℕ) (rows : List (List ℕ)) → ((k : ℕ) → k < length rows → has_wrong_length most (length (row_at rows 0)) (row_at rows k) ≡ false) → row_length most rows ≡ None
+row_length-none most rows each =
+    ap (option_map (λ r. RowLength r)) (no_position (has_wrong_length most (length (row_at rows 0))) rows [] each)
 
 mapped_none : {A : Type 0} (f : ℕ → A) (o : Option ℕ) → option_map f o ≡ None → o ≡ None
 mapped_none f None e = refl
@@ -211,17 +233,8 @@ module _ (most : ℕ) (rows : List (List ℕ)) (few : most ≤ MOST_SIDE) (lengt
     wide = λ r within. let short = (fits r within).1.0 in omega (arith, short, few);
   }
 
-  no_bad : (states : ℕ) → bad_cell states rows ≡ None → (x y : ℕ) → y < length rows → x < length (row_at rows y) / 2 → IsSome (cell_at states (row_at rows y) x)
-  no_bad states cells x y in_rows in_row =
-      let none = none_passes (λ row. is_some (bad_column states row)) rows (mapped_none _ _ cells) y [] in_rows in
-      some_if (cell_at states (row_at rows y) x) (find-none (λ c. is_none (cell_at states (row_at rows y) c)) 0 _ (not_some _ none) x (omega arith) (omega (arith, in_row)))
-    where
-      some_if : (o : Option Cell) → is_none o ≡ false → IsSome o
-      some_if None e = absurd (cc)
-      some_if (Some c) e = refl
-
-  pub IsMap-accepted : (states : ℕ) → between (pos 1) (pos most) (pos (length rows)) ≡ true → bad_cell states rows ≡ None → IsMap states rows
-  IsMap-accepted states high cells =
+  pub IsMap-accepted : between (pos 1) (pos most) (pos (length rows)) ≡ true → IsMap rows
+  IsMap-accepted high =
       let some_rows : 1 ≤ length rows = grind (arith, ints, high) in
       let few_rows : length rows ≤ most = grind (arith, ints, high) in
       let first = fits 0 some_rows in
@@ -232,17 +245,12 @@ module _ (most : ℕ) (rows : List (List ℕ)) (few : most ≤ MOST_SIDE) (lengt
         some_cells = first.0;
         few_cells = omega (arith, first_short, few);
         wide = λ y within. ap (λ n. n / 2) (fits y within).1.1;
-        cells = λ x y in_columns in_rows. no_bad states cells x y in_rows (let same = (fits y in_rows).1.1 in omega (arith, in_columns, same));
       }
 
--- the parts of a map that is not refused
-pub map_parts : (most states : ℕ) (rows : List (List ℕ)) → map_refusal most states rows ≡ None
-    → (between (pos 1) (pos most) (pos (length rows)) ≡ true) × ((row_length most rows ≡ None) × (bad_cell states rows ≡ None))
-unfolding map_refusal
-map_parts most states rows none = by (between (pos 1) (pos most) (pos (length rows))) (row_length most rows) (bad_cell states rows) none
+-- a map of an accepted shape
+pub shape_parts : (most : ℕ) (rows : List (List ℕ)) → shape_refusal most rows ≡ None → (between (pos 1) (pos most) (pos (length rows)) ≡ true) × (row_length most rows ≡ None)
+shape_parts most rows none = by (between (pos 1) (pos most) (pos (length rows))) (row_length most rows) none
   where
-    by : (b : Bool) (o p : Option SceneError) → (if not b then Some Range else option_or o p) ≡ None → (b ≡ true) × ((o ≡ None) × (p ≡ None))
-    by true None None e = (refl, (refl, refl))
-    by true None (Some f) e = absurd (cc)
-    by true (Some f) p e = absurd (cc)
-    by false o p e = absurd (cc)
+    by : (b : Bool) (o : Option SceneError) → (if not b then Some Range else o) ≡ None → (b ≡ true) × (o ≡ None)
+    by true o e = (refl, e)
+    by false o e = absurd (cc)

@@ -1,5 +1,5 @@
 -- The scene of a text.
-use Rattle.std.specs.Prelude.{ℕ, ◌^◌, Bool, false, List, [], slice_index_or, Result, Ok, Err, if◌then◌else◌, length, pos, nat_abs}
+use Rattle.std.specs.Prelude.{ℕ, ◌^◌, Bool, List, [], slice_index_or, Result, Ok, Err, if◌then◌else◌, length, pos, nat_abs}
 use Rattle.std.specs.Option.{option_map_or, option_or, unwrap_or}
 use Rattle.std.specs.Str.{is_utf8}
 use Rattle.toml.specs.Data.{Members}
@@ -8,8 +8,7 @@ use Rattle.gas_geom.specs.Gas.{Rules}
 use Rattle.gas_geom.specs.Lattice.{LatticeModel}
 use Rattle.gas_rows.specs.declared.chirality.Chirality.{Chirality}
 use Rattle.gas_rows.specs.declared.chirality.Chirality.TheVariants.{Left}
-use Rattle.gas_cells.specs.declared.reading.Cell.{Cell}
-use Rattle.gas_cells.specs.Reading.{cells_in, cell_at}
+use Rattle.gas_cells.specs.Reading.{cells_in, cell_or_empty}
 use Rattle.gas_scene.specs.Catalog.{rules_of, chirality_named, GasLattice}
 use Rattle.gas_layout.specs.Layout.{is_covered, lattice_of, filling, placed}
 use Rattle.gas_scene.specs.declared.error.SceneError.{SceneError}
@@ -23,15 +22,11 @@ pub record SceneModel : Type 0 where
   pub chirality : Chirality
   pub generation : ℕ
 
--- the cell in column x of row y of a map
-abbrev pub map_cell : ℕ → List (List ℕ) → ℕ → ℕ → Cell
-map_cell states rows x y = unwrap_or (cell_at states (slice_index_or rows y []) x) (record { solid = false; state = 0 })
-
 -- the lattice of a map
 unfoldable pub map_lattice : ℕ → List (List ℕ) → LatticeModel
 map_lattice states rows =
     lattice_of (cells_in (slice_index_or rows 0 [])) (length rows)
-    (λ x y. (map_cell states rows x y).solid) (λ x y. (map_cell states rows x y).state)
+    (λ x y. (cell_or_empty states (slice_index_or rows y []) x).solid) (λ x y. (cell_or_empty states (slice_index_or rows y []) x).state)
 
 -- the lattice of an area: its rectangles are solid, and its fluid cells are filled at the rate with the seed. Then each
 -- placement in order sets the state of its cell.

@@ -10,8 +10,7 @@ ghost use Rattle.gas_scene.specs.Scene.{area_lattice};
 ghost use Rattle.gas_scene.specs.Inner.Models.{table_model};
 ghost use Rattle.gas_scene.specs.Inner.Areas.{can_stand, IsDrawn};
 
-use crate::any_lattice;
-use crate::catalog::AnyLattice;
+use crate::catalog::{AnyLattice, any_lattice};
 use crate::common_values::CommonValues;
 use crate::error::SceneError;
 use crate::scene_table::SceneTable;

@@ -24,8 +24,7 @@ pub enum AnyLattice {
     FhpRest(Lattice<FhpRest>),
 }
 
-/// Makes a lattice of a gas from one expression, which is a `Lattice<G>` for each gas.
-#[macro_export]
+// Makes a lattice of a gas from one expression, which is a `Lattice<G>` for each gas.
 macro_rules! any_lattice {
     ($gas:expr, $lattice:expr) => {
         match $gas {
@@ -35,6 +34,8 @@ macro_rules! any_lattice {
         }
     };
 }
+
+pub(crate) use any_lattice;
 
 /// Evaluates an expression at a lattice of any gas.
 #[macro_export]
@@ -48,7 +49,8 @@ macro_rules! with_lattice {
     };
 }
 
-fn states<G: Gas>() -> u16
+// The number of states of a cell.
+pub(crate) fn states<G: Gas>() -> u16
     ensures { result ≡ 2 ^ G.rules.dirs }
 {
     1 << G::DIRS
@@ -58,7 +60,7 @@ impl KnownGas {
     ghost use Rattle.std.specs.Prelude.{◌≡◌, ◌^◌};
     ghost use Rattle.gas_scene.specs.Catalog.{gas_named, rules_of};
 
-    /// Returns the gas of this name.
+    /// The gas of this name.
     pub fn named(name: &str) -> Option<KnownGas>
         ensures known { result ≡ gas_named name.now }
     {
@@ -84,7 +86,7 @@ impl KnownGas {
         }
     }
 
-    /// Returns the number of states of a cell: 2 to the power of the number of directions.
+    /// The number of states of a cell: 2 to the power of the number of directions.
     pub fn states(self) -> u16
         ensures number { result ≡ 2 ^ (rules_of self).dirs }
     {

@@ -1,24 +1,19 @@
-use Rattle.std.proofs.Common.{sym, ◌∙◌, ap, length, map}
-use Rattle.std.specs.Prelude.{option_map}
-use Rattle.std.specs.List.{position}
-use Rattle.toml.specs.View.{view}
-use Rattle.gas_scene.specs.declared.error.SceneError.TheVariants.{RowLength}
-use Rattle.gas_scene.specs.Table.{text_of}
+use Rattle.std.proofs.Common.{◌<◌, ℕ, List, length, sym, ap, ap₂, ◌∙◌, arith}
 use Rattle.gas_scene.specs.Refusals.{has_wrong_length}
+use Rattle.gas_scene.specs.Inner.Models.{texts_of}
 use Rattle.gas_scene.specs.Inner.Maps.{as_result}
-use Rattle.gas_scene.proofs.Firsts.{position-rows}
+use Rattle.gas_scene.proofs.Maps.{length-rows, row_length-at, row_length-none}
 use Rattle.gas_scene.proofs.map_form.check_lengths.Goals as goal
 
-pub returns-in-Some : goal.returns-in-Some
-returns-in-Some c =
-    let rows = map text_of (map view c.args.rows.now) in
-    sym (ap (λ o. as_result (option_map (λ r. RowLength r) o))
-    (ap (λ n. position (has_wrong_length c.args.most n) rows) (ap length (sym c.row.ensures)) ∙ position-rows (has_wrong_length c.args.most _) c.args.rows.now
-    ∙ sym c.first_of_wrong_length.ensures ∙ c.in-Some.is))
+pub returns-then-has_wrong_length : goal.returns-then-has_wrong_length
+returns-then-has_wrong_length c =
+    let rows = texts_of c.args.rows.now in
+    let within : c.loop-r.r < length rows = omega (arith, c.loop-r-test.true, length-rows c.args.rows.now) in
+    sym (ap as_result (row_length-at c.args.most rows c.loop-r.r within c.loop-r.invariant
+    (ap₂ (λ (n : ℕ) (r : List ℕ). has_wrong_length c.args.most n r) (ap (λ (r : List ℕ). length r) (sym c.row-first.ensures)) (sym c.row.ensures)
+    ∙ sym c.has_wrong_length.ensures ∙ c.if-has_wrong_length.true)))
 
-pub returns-in-None : goal.returns-in-None
-returns-in-None c =
-    let rows = map text_of (map view c.args.rows.now) in
-    sym (ap (λ o. as_result (option_map (λ r. RowLength r) o))
-    (ap (λ n. position (has_wrong_length c.args.most n) rows) (ap length (sym c.row.ensures)) ∙ position-rows (has_wrong_length c.args.most _) c.args.rows.now
-    ∙ sym c.first_of_wrong_length.ensures ∙ c.in-None.is))
+pub returns : goal.returns
+returns c =
+    sym (ap as_result (row_length-none c.args.most (texts_of c.args.rows.now)
+    (λ k h. c.loop-r.invariant k (omega (arith, h, c.loop-r-test.false, length-rows c.args.rows.now)))))
