@@ -63,19 +63,6 @@ part-range n size k m some begins e =
     ∙ filter-append p _ _ ∙ ap (λ xs. xs ++ filter p (range_with_len (k * size + m) rest)) middle
     ∙ ap (λ xs. range_with_len (k * size) m ++ xs) back ∙ append-nil _
 
--- a loop that writes over each item has not yet written the next
-pub over_item : {X : Type 0} (f : X → X) (xs ys : List X) (i : ℕ) (d : X) → i < length xs → ys ≡ map f (take i xs) ++ drop i xs → get_or ys i d ≡ get_or xs i d
-over_item f xs ys i d lt e =
-    let front : length (map f (take i xs)) ≡ i = length-map (take i xs) f ∙ length-take-le i xs (omega arith) in
-    ap (λ zs. get_or zs i d) e ∙ get_or-append_right (map f (take i xs)) (drop i xs) i i d front (omega arith)
-    ∙ get_or-drop i xs (i - i) d ∙ ap (λ k. get_or xs k d) (omega arith)
-
--- a loop that writes over each item, one more
-pub over_more : {X : Type 0} (f : X → X) (xs ys : List X) (i : ℕ) (d r : X) → i < length xs → length ys ≡ length xs → ys ≡ map f (take i xs) ++ drop i xs
-    → r ≡ f (get_or ys i d) → set ys i r ≡ map f (take (i + 1) xs) ++ drop (i + 1) xs
-over_more f xs ys i d r lt long e is =
-    ap (set ys i) is ∙ map_over_more f xs ys i (get_or ys i d) lt e (get_or_default ys i d (get_or ys i d) (omega arith))
-
 pub part-short : (p : ℕ → Bool) (xs : List ℕ) → length (filter p xs) ≤ length xs
 part-short p [] = omega arith
 part-short p (x ∷ xs) = by_test (p x) (part-short p xs)
@@ -98,22 +85,8 @@ pushed f old now more n x so_far push is =
     ∙ ap (λ ys. old ++ ys) (sym (map-range_with_len_more f 0 n n (zero-add n)))
 
 -- one more list of a function's values at the numbers from 0 on
-pub strips-more : {X : Type 0} (f : ℕ → List X) (now more : List X) (n : ℕ) → now ≡ flat_map f (range_with_len 0 n) → more ≡ now ++ f n
+pub rows-more : {X : Type 0} (f : ℕ → List X) (now more : List X) (n : ℕ) → now ≡ flat_map f (range_with_len 0 n) → more ≡ now ++ f n
     → more ≡ flat_map f (range_with_len 0 (n + 1))
-strips-more f now more n so_far is =
+rows-more f now more n so_far is =
     is ∙ ap (λ ys. ys ++ f n) so_far ∙ ap (λ ys. flat_map f (range_with_len 0 n) ++ ys) (sym (append-nil (f n)) ∙ ap (λ k. f k ++ []) (sym (zero-add n)))
     ∙ sym (flat_map-append f (range_with_len 0 n) (range_with_len (0 + n) 1)) ∙ ap (flat_map f) (sym (range-append 0 n 1))
-
--- the end of a list, after the appended items were written over
-pub tail_written : {X : Type 0} (old added all front back new : List X) (start len : ℕ) → all ≡ old ++ added → start ≡ length old → front ≡ take start all
-    → length back + start ≡ length all → length new ≡ length back → len ≡ length all
-    → take len ((front ++ new) ++ drop (length (front ++ new)) all) ≡ old ++ new
-tail_written old added all front back new start len is begins first last same whole =
-    let kept : front ≡ old = first ∙ ap₂ take begins is ∙ take-append_seam old added in
-    let long : length (front ++ new) ≡ length all = omega (arith, length-append front new, ap length kept, same, last, begins) in
-    ap (λ ys. take len ((front ++ new) ++ ys)) (drop_all _ all (omega (arith, long)))
-    ∙ ap (take len) (append-nil (front ++ new)) ∙ take_all len (front ++ new) (omega (arith, long, whole)) ∙ ap (λ ys. ys ++ new) kept
-
--- the items after the old list are the appended ones
-pub tail_is : {X : Type 0} (old added all back : List X) (start : ℕ) → all ≡ old ++ added → start ≡ length old → back ≡ drop start all → back ≡ added
-tail_is old added all back start is begins last = last ∙ ap₂ drop begins is ∙ drop-append_seam old added

@@ -19,9 +19,9 @@ use Rattle.gas_geom.specs.Lattice.{LatticeModel, cell}
 use Rattle.gas_bits.proofs.Counting.{bits-le}
 use Rattle.gas_bits.proofs.Ones.{range-append}
 use Rattle.gas_tool_io.specs.Blocks.{cells_of, block_of_cells}
-use Rattle.gas_tool_io.specs.Inner.Tally.{HasRoom, empty_block, most_cells, part, plus_cell, plus_cell_of, plus_row, strip_of}
+use Rattle.gas_tool_io.specs.Inner.Tally.{HasRoom, block_at, empty_block, most_cells, part, plus_cell, plus_cell_of}
 use Rattle.gas_tool_io.specs.declared.blocks.Block.{Block}
-use Rattle.gas_tool_io.proofs.Ranges.{part-range, part-short, begins-within}
+use Rattle.gas_tool_io.proofs.Ranges.{part-range, part-short}
 
 -- a number from -m to m
 pub record Within (m : ℕ) (z : ℤ) : Type 0 where
@@ -88,15 +88,6 @@ HasRoom-le b m n le h = record {
   north = omega (arith, ints, h.north);
 }
 
--- the cells of a row that are in a block's column of blocks are a range
-pub row_is : (gas : Rules) (width : ℕ) (solid : List Bool) (row : List ℕ) (b r : Block) (m : ℕ) → 1 ≤ width → b.col * width < length row
-    → m ≡ min width (length row - b.col * width) → r ≡ fold (plus_cell_of gas solid row) b (range_with_len (b.col * width) (b.col * width + m - b.col * width))
-    → r ≡ plus_row gas width solid row b
-row_is gas width solid row b r m some begins e is =
-    let long : b.col * width + m - b.col * width ≡ m = omega arith in
-    is ∙ ap (λ n. fold (plus_cell_of gas solid row) b (range_with_len (b.col * width) n)) long
-    ∙ ap (fold (plus_cell_of gas solid row) b) (sym (part-range (length row) width b.col m some begins e))
-
 -- a block with the cell of a lattice at a place
 abbrev pub plus_place : Rules → LatticeModel → Block → ℕ × ℕ → Block
 plus_place gas lattice b c = plus_cell gas b (is_solid lattice.channel c.0 c.1) (cell lattice.rows c.0 c.1)
@@ -123,7 +114,7 @@ folded gas lattice [] b = refl
 folded gas lattice (c ∷ cells) b = folded gas lattice cells (plus_place gas lattice b c)
 
 -- the block of cells, one added after the other
-pub block_folded : (gas : Rules) (lattice : LatticeModel) (col row : ℕ) (cells : List (ℕ × ℕ))
+block_folded : (gas : Rules) (lattice : LatticeModel) (col row : ℕ) (cells : List (ℕ × ℕ))
     → fold (plus_place gas lattice) (empty_block col row) cells ≡ block_of_cells gas lattice col row cells
 block_folded gas lattice col row cells = folded gas lattice cells (empty_block col row)
 
@@ -161,63 +152,25 @@ block_from-room gas laws lattice width row from n col wide few =
     HasRoom-le _ (0 + length cells) (most_cells - MOST_SIDE) (omega (arith, cells_few lattice width col from n, most)) (HasRoom-fold gas laws lattice cells (empty_block col row) 0 none)
 
 -- a block with the cells of one more row
-block_from-more : (gas : Rules) (lattice : LatticeModel) (width row from n y col : ℕ) → from + n ≡ y → length (slice_index_or lattice.rows y []) ≡ lattice.channel.width
-    → plus_row gas width (slice_index_or lattice.channel.solid y []) (slice_index_or lattice.rows y []) (block_from gas lattice width row from n col) ≡ block_from gas lattice width row from (n + 1) col
-block_from-more gas lattice width row from n y col e wide =
+pub block_from-more : (gas : Rules) (lattice : LatticeModel) (width row from n y col m : ℕ) (r : Block) → 1 ≤ width → col * width < lattice.channel.width
+    → m ≡ min width (lattice.channel.width - col * width) → from + n ≡ y
+    → r ≡ fold (plus_cell_of gas (slice_index_or lattice.channel.solid y []) (slice_index_or lattice.rows y [])) (block_from gas lattice width row from n col) (range_with_len (col * width) m)
+    → r ≡ block_from gas lattice width row from (n + 1) col
+block_from-more gas lattice width row from n y col m r some begins long e is =
     let now : Block = block_from gas lattice width row from n col in
     let f = plus_cell_of gas (slice_index_or lattice.channel.solid y []) (slice_index_or lattice.rows y []) in
-    let at : now.col ≡ col = ap (λ (b : Block). b.col) (folded gas lattice (cells_from lattice width col from n) (empty_block col row)) in
     let g : ℕ → List (ℕ × ℕ) = λ z. map (λ x. (x, z)) (part lattice.channel.width width col) in
     let cells : cells_from lattice width col from (n + 1) ≡ cells_from lattice width col from n ++ g y =
     ap (flat_map g) (range-append from n 1) ∙ flat_map-append g (range_with_len from n) _ ∙ ap (λ z. cells_from lattice width col from n ++ (g z ++ [])) e
     ∙ ap (λ zs. cells_from lattice width col from n ++ zs) (append-nil (g y)) in
-    ap₂ (λ w k. fold f now (part w width k)) wide at
+    is ∙ ap (fold f now) (sym (part-range lattice.channel.width width col m some begins long))
     ∙ sym (fold-map (plus_place gas lattice) (λ x. (x, y)) now (part lattice.channel.width width col))
     ∙ sym (fold-append (plus_place gas lattice) (empty_block col row) (cells_from lattice width col from n) (g y))
     ∙ ap (fold (plus_place gas lattice) (empty_block col row)) (sym cells)
 
-map-map : {X Y Z : Type 0} (f : Y → Z) (g : X → Y) (h : X → Z) (xs : List X) → ((x : X) → f (g x) ≡ h x) → map f (map g xs) ≡ map h xs
-map-map f g h [] e = refl
-map-map f g h (x ∷ xs) e = ap₂ (λ y ys. y ∷ ys) (e x) (map-map f g h xs e)
-
--- a strip with the cells of one more row
-pub strip-more : (gas : Rules) (lattice : LatticeModel) (width row from n y : ℕ) (cols : List ℕ) (strip more : List Block) → from + n ≡ y
-    → length (slice_index_or lattice.rows y []) ≡ lattice.channel.width → strip ≡ map (block_from gas lattice width row from n) cols
-    → more ≡ map (plus_row gas width (slice_index_or lattice.channel.solid y []) (slice_index_or lattice.rows y [])) strip
-    → more ≡ map (block_from gas lattice width row from (n + 1)) cols
-strip-more gas lattice width row from n y cols strip more e wide is added =
-    added ∙ ap (map _) is ∙ map-map _ _ _ cols (λ col. block_from-more gas lattice width row from n y col e wide)
-
--- what is true of the block of each column is true of each block of a strip
-pub strip-all : (P : Block → Type 0) (f : ℕ → Block) (n : ℕ) (strip : List Block) → strip ≡ map f (range_with_len 0 n) → ((col : ℕ) → col < n → P (f col)) → All P strip
-strip-all P f n strip is each =
-    subst (All P) (sym is) (All-from_get_or P (map f (range_with_len 0 n)) (empty_block 0 0) (λ i lt.
-    let below : i < n = omega (arith, length-map-range_with_len f 0 n, lt) in
-    subst P (sym (get_or-map-range_with_len f 0 n i i (empty_block 0 0) below (zero-add i))) (each i below)))
-
--- and each block of a strip is at its place
-pub strip-begins : (gas : Rules) (lattice : LatticeModel) (width row from n : ℕ) (strip : List Block) (cells : ℕ) → 1 ≤ width → cells ≡ lattice.channel.width
-    → strip ≡ map (block_from gas lattice width row from n) (range_with_len 0 (div_ceil lattice.channel.width width)) → All (λ b. b.col * width < cells) strip
-strip-begins gas lattice width row from n strip cells some wide is =
-    strip-all (λ b. b.col * width < cells) (block_from gas lattice width row from n) _ strip is (λ col lt.
-    let at = ap (λ (b : Block). b.col * width) (folded gas lattice (cells_from lattice width col from n) (empty_block col row)) in
-    let within : col * width < cells = subst (λ k. col * width < k) (sym wide) (begins-within lattice.channel.width width col some lt) in
-    subst (λ k. k < cells) (sym at) within)
-
-pub strip-room : (gas : Rules) → IsGas gas → (lattice : LatticeModel) (width row from n : ℕ) (strip : List Block) → lattice.channel.width ≤ MOST_SIDE → n < MOST_SIDE
-    → strip ≡ map (block_from gas lattice width row from n) (range_with_len 0 (div_ceil lattice.channel.width width)) → All (λ b. HasRoom b (most_cells - MOST_SIDE)) strip
-strip-room gas laws lattice width row from n strip wide few is =
-    strip-all (λ b. HasRoom b (most_cells - MOST_SIDE)) (block_from gas lattice width row from n) _ strip is (λ col lt. block_from-room gas laws lattice width row from n col wide few)
-
--- a strip with all of its rows
-pub strip-whole : (gas : Rules) (lattice : LatticeModel) (width height row n : ℕ) (strip : List Block) → 1 ≤ height → row * height < lattice.channel.height
-    → n ≡ min height (lattice.channel.height - row * height)
-    → strip ≡ map (block_from gas lattice width row (row * height) n) (range_with_len 0 (div_ceil lattice.channel.width width)) → strip ≡ strip_of gas lattice width height row
-strip-whole gas lattice width height row n strip some begins long is =
-    is ∙ map_same _ _ _ (λ col.
+-- a block with all of its rows
+pub block_from-whole : (gas : Rules) (lattice : LatticeModel) (width height row n col : ℕ) → 1 ≤ height → row * height < lattice.channel.height
+    → n ≡ min height (lattice.channel.height - row * height) → block_from gas lattice width row (row * height) n col ≡ block_at gas lattice width height row col
+block_from-whole gas lattice width height row n col some begins long =
     ap (λ ys. fold (plus_place gas lattice) (empty_block col row) (flat_map (λ y. map (λ x. (x, y)) (part lattice.channel.width width col)) ys)) (sym (part-range lattice.channel.height height row n some begins long))
-    ∙ block_folded gas lattice col row (cells_of lattice.channel width height col row))
-  where
-    map_same : (f g : ℕ → Block) (xs : List ℕ) → ((x : ℕ) → f x ≡ g x) → map f xs ≡ map g xs
-    map_same f g [] e = refl
-    map_same f g (x ∷ xs) e = ap₂ (λ y ys. y ∷ ys) (e x) (map_same f g xs e)
+    ∙ block_folded gas lattice col row (cells_of lattice.channel width height col row)

@@ -1,12 +1,10 @@
 //! Coarse tables of a lattice: density and momentum by blocks of cells.
 
-ghost use Rattle.std.specs.Prelude.{◌≡◌, ◌≤◌, ◌<◌, ◌-◌, ◌+◌, ◌++◌, ◌*◌, ◌^◌, All, IfOk, OnOk, fold, length, map, pos, ◌==◌, not, if◌then◌else◌};
-ghost use Rattle.std.specs.Int.{div_ceil};
+ghost use Rattle.std.specs.Prelude.{◌≡◌, ◌≤◌, ◌<◌, ◌-◌, ◌++◌, ◌*◌, IfOk, OnOk, fold, length};
 ghost use Rattle.std.specs.List.{range_with_len};
-ghost use Rattle.gas_geom.specs.Gas.{holds};
 ghost use Rattle.gas_geom.specs.declared.size.TheConstants.{MOST_SIDE};
 ghost use Rattle.gas_tool_io.specs.Blocks.{blocks_of};
-ghost use Rattle.gas_tool_io.specs.Inner.Tally.{HasRoom, empty_block, most_cells, part, plus_cell_of, plus_particles, plus_row, strip_of};
+ghost use Rattle.gas_tool_io.specs.Inner.Tally.{HasRoom, block_at, empty_block, most_cells, plus_cell_of, plus_particles, row_of_blocks};
 
 use gas_geom::gas::Gas;
 use gas_rows::lattice::Lattice;
@@ -29,6 +27,7 @@ pub struct Block {
 }
 
 impl Block {
+    // The block of no cell.
     fn empty(col: u32, row: u32) -> Block
         ensures { result ≡ empty_block col row }
     {
@@ -42,7 +41,7 @@ impl Block {
         }
     }
 
-    // Returns the block with `count` more particles of direction `i`.
+    // The block with `count` more particles of direction `i`.
     fn plus_particles<G: Gas>(self, i: u32, count: u32) -> Block
         requires direction { i < G.rules.dirs }
         requires room { HasRoom self most_cells }
@@ -58,7 +57,7 @@ impl Block {
         }
     }
 
-    // Returns the block with the cells of columns `from..to` of a row.
+    // The block with the cells of columns `from..to` of a row.
     fn plus_cells<G: Gas>(self, row: &Row<G>, solid: &Mask, from: u32, to: u32) -> Block
         requires order { from ≤ to }
         requires within { to ≤ length row.now }
@@ -78,65 +77,30 @@ impl Block {
         block
     }
 
-    // Returns the block with its cells of a row. Blocks are `width` columns wide.
-    fn plus_row<G: Gas>(self, row: &Row<G>, solid: &Mask, width: u32) -> Block
+    // The block in column `col` and row `row` of the blocks of a lattice.
+    fn of<G: Gas>(lattice: &Lattice<G>, col: u32, row: u32, width: u32, height: u32) -> Block
         requires some_columns { 1 ≤ width }
-        requires same { length solid.now ≡ length row.now }
-        requires begins { self.col * width < length row.now }
-        requires room { HasRoom self (most_cells - MOST_SIDE) }
-        ensures { result ≡ plus_row G.rules width solid.now row.now self }
+        requires some_rows { 1 ≤ height }
+        requires left { col * width < lattice.now.channel.width }
+        requires top { row * height < lattice.now.channel.height }
+        ensures { result ≡ block_at G.rules lattice.now width height row col }
     {
-        let cells = row.width();
-        let from = self.col * width;
-        let to = from + width.min(cells - from);
-        self.plus_cells(row, solid, from, to)
+        let size = lattice.channel().size();
+        let left = col * width;
+        let right = left + width.min(size.width() - left);
+        let top = row * height;
+        let bottom = top + height.min(size.height() - top);
+        let mut block = Block::empty(col, row);
+        for y in top..bottom {
+            let solid = lattice.channel().mask(y);
+            block = block.plus_cells(lattice.row(y), solid, left, right);
+        }
+        block
     }
-}
-
-// Adds a row of the lattice to the blocks of a strip. Blocks are `width` columns wide.
-fn add_row<G: Gas>(strip: &mut [Block], row: &Row<G>, solid: &Mask, width: u32)
-    requires some_columns { 1 ≤ width }
-    requires same { length solid.now ≡ length row.now }
-    requires blocks { All (λ b. b.col * width < length row.now) strip.old }
-    requires room { All (λ b. HasRoom b (most_cells - MOST_SIDE)) strip.old }
-    ensures { strip.new ≡ map (plus_row G.rules width solid.now row.now) strip.old }
-{
-    for block in strip.iter_mut() {
-        *block = block.plus_row(row, solid, width);
-    }
-}
-
-// Adds the lattice's rows to a strip, the empty blocks of row `row` of the blocks.
-fn fill_strip<G: Gas>(strip: &mut [Block], lattice: &Lattice<G>, row: u32, width: u32, height: u32)
-    requires some_columns { 1 ≤ width }
-    requires some_rows { 1 ≤ height }
-    requires begins { row * height < lattice.now.channel.height }
-    requires empty { strip.old ≡ map (λ col. empty_block col row)
-        (range_with_len 0 (div_ceil lattice.now.channel.width width)) }
-    ensures { strip.new ≡ strip_of G.rules lattice.now width height row }
-{
-    let rows = lattice.channel().size().height();
-    let from = row * height;
-    let to = from + height.min(rows - from);
-    for y in from..to {
-        add_row(strip, lattice.row(y), lattice.channel().mask(y), width);
-    }
-}
-
-// Appends `columns` empty blocks, the first ones of row `row` of the blocks.
-#[tactic(auto, using(crate::proofs::Ranges::pushed))]
-fn push_empty(blocks: &mut Vec<Block>, columns: u32, row: u32) -> Result<(), AllocError>
-    ensures { OnOk result (blocks.new.items
-        ≡ blocks.old.items ++ map (λ col. empty_block col row) (range_with_len 0 columns)) }
-{
-    for col in 0..columns {
-        blocks.push(Block::empty(col, row))?;
-    }
-    Ok(())
 }
 
 // Appends row `row` of the blocks.
-fn push_strip<G: Gas>(
+fn push_row<G: Gas>(
     blocks: &mut Vec<Block>,
     lattice: &Lattice<G>,
     row: u32,
@@ -145,21 +109,18 @@ fn push_strip<G: Gas>(
 ) -> Result<(), AllocError>
     requires some_columns { 1 ≤ width }
     requires some_rows { 1 ≤ height }
-    requires begins { row * height < lattice.now.channel.height }
+    requires top { row * height < lattice.now.channel.height }
     ensures { OnOk result (blocks.new.items
-        ≡ blocks.old.items ++ strip_of G.rules lattice.now width height row) }
+        ≡ blocks.old.items ++ row_of_blocks G.rules lattice.now width height row) }
 {
-    let columns = lattice.channel().size().width().div_ceil(width);
-    let start = blocks.len();
-    push_empty(blocks, columns, row)?;
-    let (_, strip) = blocks.as_mut_slice().split_at_mut(start);
-    fill_strip(strip, lattice, row, width, height);
+    for col in 0..lattice.channel().size().width().div_ceil(width) {
+        blocks.push(Block::of(lattice, col, row, width, height))?;
+    }
     Ok(())
 }
 
-/// Returns the blocks of a lattice, by rows of blocks from the top, each from the left. A block has
-/// `width` columns and `height` rows, and fewer at the right and at the bottom if the lattice ends
-/// there. The lattice is read once, row by row.
+/// The blocks of a lattice, by rows of blocks from the top, each from the left. A block has `width`
+/// columns and `height` rows, and fewer at the right and at the bottom if the lattice ends there.
 pub fn coarse<G: Gas>(
     alloc: Global,
     lattice: &Lattice<G>,
@@ -175,7 +136,7 @@ pub fn coarse<G: Gas>(
     let rows = size.height().div_ceil(height);
     let mut blocks = Vec::with_capacity(alloc, columns as usize * rows as usize)?;
     for row in 0..rows {
-        push_strip(&mut blocks, lattice, row, width, height)?;
+        push_row(&mut blocks, lattice, row, width, height)?;
     }
     Ok(blocks)
 }

@@ -1,6 +1,6 @@
 -- Inner words: what functions of this crate promise one another. No public contract cites them.
 -- Here: how a block's numbers add up, by cells, directions and rows.
-use Rattle.std.specs.Prelude.{ℕ, ◌+◌, ◌*◌, ◌/◌, ◌==◌, ◌≤◌, Bool, false, not, if◌then◌else◌, List, filter, map, fold, length, slice_index, slice_index_or, pos, neg_ℤ, ◌+ℤ◌, ◌*ℤ◌, ◌≤ℤ◌}
+use Rattle.std.specs.Prelude.{ℕ, ◌+◌, ◌*◌, ◌/◌, ◌==◌, ◌≤◌, Bool, false, not, if◌then◌else◌, List, filter, map, slice_index, slice_index_or, pos, neg_ℤ, ◌+ℤ◌, ◌*ℤ◌, ◌≤ℤ◌}
 use Rattle.std.specs.Int.{div_ceil}
 use Rattle.std.specs.List.{range_with_len}
 use Rattle.gas_geom.specs.Gas.{Rules, particles, momentum_of}
@@ -13,11 +13,13 @@ use Rattle.gas_tool_io.specs.declared.blocks.Block.{Block}
 abbrev pub part : ℕ → ℕ → ℕ → List ℕ
 part n size k = filter (λ i. i / size == k) (range_with_len 0 n)
 
--- a row of the blocks, from the left
-abbrev pub strip_of : Rules → LatticeModel → ℕ → ℕ → ℕ → List Block
-strip_of gas lattice width height row =
-    map (λ col. block_of_cells gas lattice col row (cells_of lattice.channel width height col row))
-    (range_with_len 0 (div_ceil lattice.channel.width width))
+-- the block in a row and a column of the blocks, and a row of them, from the left
+abbrev pub block_at : Rules → LatticeModel → ℕ → ℕ → ℕ → ℕ → Block
+block_at gas lattice width height row col = block_of_cells gas lattice col row (cells_of lattice.channel width height col row)
+
+abbrev pub row_of_blocks : Rules → LatticeModel → ℕ → ℕ → ℕ → List Block
+row_of_blocks gas lattice width height row =
+    map (block_at gas lattice width height row) (range_with_len 0 (div_ceil lattice.channel.width width))
 
 abbrev pub empty_block : ℕ → ℕ → Block
 empty_block col row = record { col = col; row = row; fluid = 0; particles = 0; px = pos 0; py = pos 0 }
@@ -36,10 +38,6 @@ plus_cell gas b solid state = record {
 -- with the cell of column x of a row
 abbrev pub plus_cell_of : Rules → List Bool → List ℕ → Block → ℕ → Block
 plus_cell_of gas solid row b x = plus_cell gas b (slice_index_or solid x false) (slice_index row x)
-
--- with the cells of a row that are in the block's column of blocks
-abbrev pub plus_row : Rules → ℕ → List Bool → List ℕ → Block → Block
-plus_row gas width solid row b = fold (plus_cell_of gas solid row) b (part (length row) width b.col)
 
 -- a block with `count` more particles of direction i
 abbrev pub plus_particles : Rules → Block → ℕ → ℕ → Block
