@@ -12,6 +12,7 @@ use crate::faults::WriteFault;
 use crate::output::{Sink, put_line};
 use gas_cells::cells::{row_block, row_blocks};
 use gas_geom::gas::Gas;
+use gas_geom::size::Size;
 use gas_rows::lattice::Lattice;
 use std::io::Write;
 
@@ -84,17 +85,18 @@ fn put_summary_line<W: Write>(
     sink: &mut Sink,
     out: &mut W,
     gas: &str,
-    size: (u32, u32),
+    size: Size,
     solid: u64,
     particles: u64,
 )
     ensures { Adds (W.contents out.old) (W.contents out.new) sink.old sink.new
         (codes "gas " ++ gas.now
-        ++ codes " width " ++ decimal size.0 ++ codes " height " ++ decimal size.1
+        ++ codes " width " ++ decimal size.width ++ codes " height " ++ decimal size.height
         ++ codes " solid " ++ decimal solid ++ codes " particles " ++ decimal particles
         ++ line_feed) }
 {
-    let (width, height) = size;
+    let width = size.width();
+    let height = size.height();
     put_line(
         sink,
         out,
@@ -118,7 +120,7 @@ fn put_summary<G: Gas, W: Write>(
         sink,
         out,
         gas,
-        (size.width(), size.height()),
+        size,
         channel.count_solid(),
         lattice.count(),
     );
