@@ -16,8 +16,8 @@
 #ifndef PLACES
 #define PLACES 2
 #endif
-#ifndef BATCH
-#define BATCH 2
+#ifndef ENOUGH
+#define ENOUGH 2
 #endif
 #define MEMBERS (WORKERS + 1)
 #define BEFORE(m) ((m + MEMBERS - 1) % MEMBERS)
@@ -34,7 +34,7 @@ inline wake(who) {
     fi
 }
 
-inline publish(m) {
+inline show_rows(m) {
     d_step { shown[m] = shown[m] + gathered[m]; gathered[m] = 0 };
     wake(BEHIND(m))
 }
@@ -49,7 +49,7 @@ inline end_wait(m) {
 /* A turn in which nothing could be done. */
 inline wait(m) {
     if
-    :: gathered[m] > 0 -> publish(m)
+    :: gathered[m] > 0 -> show_rows(m)
     :: else ->
         if
         :: !announced -> parking[m] = true; announced = true
@@ -65,12 +65,12 @@ inline wait(m) {
 
 #define HAS_ROOM(m) (shown[m] + gathered[m] < PLACES)
 
-/* A row is put. It is shown with the rows that gathered if they are a batch. */
+/* A row is put. It is shown with the rows that gathered if they are enough. */
 inline put(m) {
     gathered[m]++;
     end_wait(m);
     if
-    :: gathered[m] >= BATCH -> publish(m)
+    :: gathered[m] >= ENOUGH -> show_rows(m)
     :: else
     fi
 }
@@ -110,7 +110,7 @@ proctype Worker(byte m) {
         :: sent == ROWS ->
             fed = 0; sent = 0; pass++;
             if
-            :: gathered[m] > 0 -> publish(m)
+            :: gathered[m] > 0 -> show_rows(m)
             :: else
             fi
         :: sent < ROWS && OWES && HAS_ROOM(m) -> sent++; put(m)

@@ -20,11 +20,11 @@ loses() {
 }
 
 try 'rows gather, two places' searches "$model"
-try 'no row gathers, one place' searches "$model" -DPLACES=1 -DBATCH=1
-try 'rows gather, four places, one pass of four rows' searches "$model" -DPLACES=4 -DBATCH=2 -DROWS=4 -DPASSES=1
+try 'no row gathers, one place' searches "$model" -DPLACES=1 -DENOUGH=1
+try 'rows gather, four places, one pass of four rows' searches "$model" -DPLACES=4 -DENOUGH=2 -DROWS=4 -DPASSES=1
 try 'one worker, three passes' searches "$model" -DWORKERS=1 -DPASSES=3
 try 'a member that does not look again before it parks' loses ':: !announced -> parking[m] = true; announced = true' \
     ':: !announced -> parking[m] = true; asleep[m] = true; !asleep[m]'
-try 'rows that gathered and are not shown before a wait' loses ':: gathered[m] > 0 -> publish(m)' ':: false -> skip'
+try 'rows that gathered and are not shown before a wait' loses ':: gathered[m] > 0 -> show_rows(m)' ':: false -> skip'
 try 'a wake that looks whether the member sleeps already' loses ':: parking[who] ->' ':: asleep[who] ->'
 tell

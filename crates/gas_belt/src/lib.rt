@@ -1,7 +1,7 @@
 //! Belts: rows go from one thread to one other, in order and each once.
 //!
 //! A belt is a *ring* of the *words* of its rows, with *places* for a number of rows. Short rows
-//! are batched before they are pushed. The cells of a *spare* row may be overwritten.
+//! *gather* before the other end is *shown* them. The cells of a *spare* row may be overwritten.
 #![tactic(auto)]
 
 pub mod carried;

@@ -10,7 +10,7 @@ use gas_rows::row::Row;
 use rtrb::RingBuffer;
 use std::alloc::{AllocError, Global};
 
-// A batch has 4 to 16 rows and at most 1,024 words (measured: bench/LOG.md).
+// 4 to 16 rows gather, and at most 1,024 words (measured: bench/LOG.md).
 const FEWEST_ROWS: usize = 4;
 
 const MOST_ROWS: usize = 16;
@@ -19,7 +19,7 @@ const MOST_WORDS: usize = 1024;
 
 // The number of words that gather before they are pushed: those of half the places, so that the
 // other end has work meanwhile, or none if these are few rows.
-fn batch_words(places: usize, row_words: usize) -> usize
+fn words_to_gather(places: usize, row_words: usize) -> usize
     requires some_words { 0 < row_words }
 {
     let rows = (places / 2).min(MOST_ROWS).min(MOST_WORDS / row_words);
@@ -50,7 +50,7 @@ pub fn belt<G: Gas>(alloc: Global, capacity: u32, width: u32) -> Result<(Tx<G>, 
     let row = Row::<G>::blank(alloc, width)?;
     let places = capacity as usize;
     let words = vec![in alloc; 0; row.as_words().len()]?;
-    let batch = vec![in alloc; 0; batch_words(places, words.len())]?;
+    let gathered = vec![in alloc; 0; words_to_gather(places, words.len())]?;
     let (producer, consumer) = RingBuffer::new(alloc, places * words.len())?;
     let pop_end = PopEnd {
         ring: consumer,
@@ -61,8 +61,8 @@ pub fn belt<G: Gas>(alloc: Global, capacity: u32, width: u32) -> Result<(Tx<G>, 
     rx.give(Row::blank(alloc, width)?);
     let push_end = PushEnd {
         ring: producer,
-        batch,
-        waiting: 0,
+        gathered,
+        words_gathered: 0,
     };
     Ok((Tx::new(push_end, width), rx))
 }

@@ -91,12 +91,12 @@ impl<G: Gas> Tx<G> {
         ensures no_more { length self.old.put ≡ u64.MAX → IsErr result }
     {
         let tried = self.try_gather(row);
-        self.publish();
+        self.show();
         tried
     }
 
     /// Puts a row as `try_put` does. On a belt with 8 places or more a short row may gather before
-    /// the other end is shown it, at the latest by `publish` or `close`.
+    /// the other end is shown it, at the latest by `show` or `close`.
     #[inline(always)]
     #[tactic(auto, using(crate::proofs::Parts::parts_length, crate::proofs::Parts::parts_row))]
     pub fn try_gather(&mut self, row: Row<G>) -> Result<(), Row<G>>
@@ -117,12 +117,17 @@ impl<G: Gas> Tx<G> {
         Ok(())
     }
 
+    /// Whether rows that were put have gathered, so that the other end is not shown them yet.
+    pub fn has_gathered(&self) -> bool {
+        self.end.words_gathered > 0
+    }
+
     /// Shows the other end all rows that were put. Returns whether some had gathered. It takes no
     /// memory and never waits.
-    pub fn publish(&mut self) -> bool
+    pub fn show(&mut self) -> bool
         ensures unchanged { self.new ≡ self.old }
     {
-        self.end.publish()
+        self.end.show()
     }
 
     /// Hands out the row of the newest put, for reuse. None if it was already handed out.
@@ -139,7 +144,7 @@ impl<G: Gas> Tx<G> {
         ensures spent { result ≡ record self { spare = None } }
     {
         let mut end = self.end;
-        end.publish();
+        end.show();
         Spent {
             ring: end.ring,
             count: self.count,

@@ -35,12 +35,12 @@ pub(crate) fn run_feeder<G: Gas, H, R: Wait>(
         match feeder.turn(tx, rx) {
             Turned::Done => return true,
             Turned::Idle => {
-                if !waiter.publish_or_wait(shared.rt, tx) {
+                if !waiter.show_or_wait(shared.rt, tx) {
                     return false;
                 }
             }
             Turned::Took => waiter.wake_before(),
-            Turned::Put => waiter.wake_behind(),
+            Turned::Put => waiter.wake_behind(tx),
             Turned::Stray => unreachable!(),
         }
     }

@@ -57,19 +57,22 @@ impl<'a> Waiter<'a> {
         }
     }
 
-    /// A row was put, so the wait is over. Wakes the member behind, which may wait for the row.
-    pub(crate) fn wake_behind(&mut self) {
+    /// A row was put, so the wait is over. Wakes the member behind, which may wait for the row, once
+    /// it is shown the row.
+    pub(crate) fn wake_behind<G: Gas>(&mut self, tx: &Tx<G>) {
         self.end_wait();
-        self.wake_ups.wake(self.behind);
+        if !tx.has_gathered() {
+            self.wake_ups.wake(self.behind);
+        }
     }
 
     /// Shows the member behind the rows that gathered on the belt. Returns whether there were any.
-    pub(crate) fn publish<G: Gas>(&mut self, tx: &mut Tx<G>) -> bool
+    pub(crate) fn show<G: Gas>(&mut self, tx: &mut Tx<G>) -> bool
         ensures { tx.new ≡ tx.old }
     {
-        let any = tx.publish();
+        let any = tx.show();
         if any {
-            self.wake_behind();
+            self.wake_behind(tx);
         }
         any
     }
@@ -77,10 +80,10 @@ impl<'a> Waiter<'a> {
     /// After a turn in which nothing could be done. Rows that gathered are shown first, because the
     /// member behind may wait for them. If there are none, the member waits a little. Returns
     /// whether to go on: not if the stop flag is raised.
-    pub(crate) fn publish_or_wait<G: Gas, R: Wait>(&mut self, rt: &R, tx: &mut Tx<G>) -> bool
+    pub(crate) fn show_or_wait<G: Gas, R: Wait>(&mut self, rt: &R, tx: &mut Tx<G>) -> bool
         ensures { tx.new ≡ tx.old }
     {
-        if self.publish(tx) {
+        if self.show(tx) {
             !self.wake_ups.is_stopped()
         } else {
             self.wait(rt)

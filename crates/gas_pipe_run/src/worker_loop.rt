@@ -38,16 +38,16 @@ fn make_pass<G: Gas, H, R: Wait>(
     for _ in shared.rt.forever() {
         match worker.turn(rx, tx) {
             Turned::Done => {
-                waiter.publish(tx);
+                waiter.show(tx);
                 return true;
             }
             Turned::Idle => {
-                if !waiter.publish_or_wait(shared.rt, tx) {
+                if !waiter.show_or_wait(shared.rt, tx) {
                     return false;
                 }
             }
             Turned::Took => waiter.wake_before(),
-            Turned::Put => waiter.wake_behind(),
+            Turned::Put => waiter.wake_behind(tx),
             Turned::Stray => unreachable!(),
         }
     }

@@ -21,9 +21,9 @@ abbrev pub belt_of : ℕ → ℕ → End ℕ Global AnyItems → Belt
 belt_of dirs width e =
     record { width = width; capacity = capacity_of e / row_words dirs width; ring = (e.words, e.slots, e.names, e.heap) }
 
--- all words that were put: those that were pushed, and then those that wait in the batch
+-- all words that were put: those that were pushed, and then those that gathered
 abbrev pub put_words : PushEnd → List ℕ
-put_words e = sent e.ring ++ take e.waiting e.batch.items
+put_words e = sent e.ring ++ take e.words_gathered e.gathered.items
 
 -- the first n parts of `size` words each, as `read` reads them
 unfoldable pub rows_of_words : (List ℕ → RowModel) → ℕ → ℕ → List ℕ → List RowModel

@@ -247,7 +247,7 @@ impl Belt {
 
     // Takes all rows that are under way.
     fn empty(&mut self, rt: &impl Abort) {
-        self.tx.publish();
+        self.tx.show();
         self.drain(rt, self.put.wrapping_sub(self.taken));
         assert!(rt; is_over(&mut self.rx));
     }
@@ -293,7 +293,7 @@ fn make_any(
     (choice, takes): (u32, u32),
 ) -> Result<(), AllocError> {
     if choice == 0 {
-        belt.tx.publish();
+        belt.tx.show();
     } else if choice < takes {
         belt.take_one();
     } else {

@@ -2,11 +2,11 @@ use Rattle.std.proofs.Common.{ap, ◌∙◌}
 use Rattle.gas_pipe_run.proofs.Passes.{run_took, run_put, run_rests, run_wide}
 use Rattle.gas_pipe_run.proofs.worker_loop.make_pass.Goals as goal
 
-pub loop-preserved-else-not-publish_or_wait : goal.loop-preserved-else-not-publish_or_wait
-loop-preserved-else-not-publish_or_wait g c =
+pub loop-preserved-else-not-show_or_wait : goal.loop-preserved-else-not-show_or_wait
+loop-preserved-else-not-show_or_wait g c =
     let h = c.turn.ensures.idle c.in-Idle.is in
-    run_rests g.G.Gas.rules c.args.generation c.args.worker.now c.args.rx.now c.args.tx.now c.loop.worker c.turn.new.self c.loop.rx c.turn.new.take c.loop.tx c.publish_or_wait.new.tx
-    c.loop.invariant c.turn.ensures.channel c.turn.ensures.chirality h.0 (ap (λ t. t.belt) c.publish_or_wait.ensures ∙ h.1.0, ap (λ t. t.put) c.publish_or_wait.ensures ∙ h.1.1) h.2
+    run_rests g.G.Gas.rules c.args.generation c.args.worker.now c.args.rx.now c.args.tx.now c.loop.worker c.turn.new.self c.loop.rx c.turn.new.take c.loop.tx c.show_or_wait.new.tx
+    c.loop.invariant c.turn.ensures.channel c.turn.ensures.chirality h.0 (ap (λ t. t.belt) c.show_or_wait.ensures ∙ h.1.0, ap (λ t. t.put) c.show_or_wait.ensures ∙ h.1.1) h.2
 
 pub loop-preserved-in-Took : goal.loop-preserved-in-Took
 loop-preserved-in-Took g c =
