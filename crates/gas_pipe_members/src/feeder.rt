@@ -5,8 +5,7 @@ ghost use Rattle.gas_rows.specs.Row.{RowModel};
 ghost use mathlib.Core.List.{IsPrefix};
 ghost use Rattle.gas_pipe_members.specs.Feeder.{FeederModel, MayHaveFed, Feeds, emptied_row, emptied_from};
 
-use crate::ends::{PutEnd, TakeEnd, Turned};
-use crate::spares::{give_spare, keep_spare};
+use crate::ends::{PutEnd, TakeEnd, Turned, give_spare, keep_spare};
 use gas_geom::gas::Gas;
 use gas_rows::channel::Channel;
 use gas_rows::lattice::Lattice;

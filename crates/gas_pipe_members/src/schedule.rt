@@ -1,10 +1,13 @@
-//! Which generation each worker of a plan computes in which pass.
-
+//! What is computed: a plan over a lattice, and which generation each worker computes in which pass.
 ghost use Rattle.std.specs.Prelude.{◌≡◌, ◌≤◌, ◌<◌, ◌+◌, ◌*◌, ◌^◌};
 ghost use Rattle.std.specs.Int.{div_ceil};
 ghost use Rattle.gas_pipe_model.specs.Pass.{computes_from};
 
 use crate::plan::Plan;
+use gas_geom::gas::Gas;
+use gas_rows::chirality::Chirality;
+use gas_rows::lattice::Lattice;
+use std::marker::Model;
 
 /// A plan over a lattice of generation `first`.
 #[derive(Clone, Copy)]
@@ -38,4 +41,25 @@ impl Schedule {
             None
         }
     }
+}
+
+/// The input of a run: a lattice, its chirality, its generation, and the plan to carry out.
+#[derive(Drop)]
+pub struct RunInput<'a, G: Gas> {
+    pub lattice: &'a Lattice<G>,
+    pub chirality: Chirality,
+    pub schedule: Schedule,
+}
+
+impl<'a, G: Gas> Model for RunInput<'a, G> {
+    ghost use Rattle.gas_pipe_model.specs.Pass.{RunInputModel};
+
+    ghost Value = { RunInputModel };
+
+    ghost view = { λ input. record {
+      chirality = input.chirality;
+      first = input.schedule.first;
+      lattice = input.lattice.now;
+      plan = input.schedule.plan;
+    } };
 }

@@ -6,8 +6,7 @@ ghost use mathlib.Core.List.{IsPrefix};
 ghost use Rattle.gas_pipe_members.specs.Worker.{WorkerModel, IsClosed, MayHaveDone, Does, owes, HasDoneAll, HasMoreToTake};
 ghost use Rattle.gas_pipe_members.specs.Inner.Steps.{AfterTake, AfterPut, AfterNone};
 
-use crate::ends::{PutEnd, TakeEnd, Turned};
-use crate::spares::return_spare;
+use crate::ends::{PutEnd, TakeEnd, Turned, return_spare};
 use gas_geom::gas::Gas;
 use gas_rows::channel::Channel;
 use gas_rows::chirality::Chirality;

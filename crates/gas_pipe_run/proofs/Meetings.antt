@@ -6,7 +6,7 @@ use Rattle.std.specs.Int.{div_ceil}
 use Rattle.gas_geom.specs.Gas.{Rules}
 use Rattle.gas_geom.specs.Channel.{ChannelModel}
 use Rattle.gas_belt.specs.Belt.{Belt, Sender, Receiver, CarriedModel}
-use Rattle.gas_pipe_run.specs.declared.work.WorkPromise.{WorkPromise}
+use Rattle.gas_pipe_run.specs.declared.job.JobPromise.{JobPromise}
 use Rattle.gas_rows.specs.Row.{RowModel}
 use Rattle.gas_pipe_model.specs.Plan.{PlanModel}
 use Rattle.gas_pipe_model.specs.Pass.{RunInputModel, IsRunInput, rows_on}
@@ -17,7 +17,7 @@ use Rattle.gas_pipe_model.proofs.Circle.{on_high, on_next}
 use Rattle.gas_pipe_model.proofs.PlanCircle.{is_circle}
 
 abbrev pub Handle : Type 0
-Handle = PromisedHandle (Option (Receiver × Sender)) (WorkPromise JobModel)
+Handle = PromisedHandle (Option (Receiver × Sender)) (JobPromise JobModel)
 
 -- how many rows go over each belt
 abbrev pub all_rows : RunInputModel → ℕ

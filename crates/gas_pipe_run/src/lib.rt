@@ -3,18 +3,13 @@
 
 pub mod answer;
 pub mod backoff;
-mod feeder_loop;
 pub mod gate;
 mod job;
-mod join;
 mod line;
-mod shared;
-mod start;
-pub mod trials;
+mod threads;
+mod turns;
 mod waiter;
 pub mod wake_ups;
-mod work;
-mod worker_loop;
 
 ghost use Rattle.std.specs.Prelude.{◌≡◌, ◌+◌, ◌-◌, ◌*◌, ◌≤◌, ◌<◌, ◌^◌, ◌∷◌, ◌++◌, ℕ, List, [], length, map, take, drop, IfOk, IfErr};
 ghost use Rattle.std.specs.Int.{div_ceil};
@@ -29,9 +24,8 @@ use crate::line::run_line;
 use gas_geom::gas::Gas;
 use gas_pipe_members::error::RunError;
 use gas_pipe_members::feeder::Feeder;
-use gas_pipe_members::input::RunInput;
 use gas_pipe_members::plan::Plan;
-use gas_pipe_members::schedule::Schedule;
+use gas_pipe_members::schedule::{RunInput, Schedule};
 use gas_rows::chirality::Chirality;
 use gas_rows::lattice::Lattice;
 use std::alloc::Global;

@@ -3,8 +3,7 @@
 //! Parks and wakes have no contracts, because what they do depends on the other threads.
 ghost use Rattle.std.specs.Prelude.{◌≡◌, ◌+◌, IfOk};
 
-use crate::backoff::LONGEST_PARK_MILLIS;
-use crate::trials::YieldBan;
+use crate::backoff::{LONGEST_PARK_MILLIS, YieldBan};
 use crossbeam_utils::CachePadded;
 use std::alloc::{AllocError, Global};
 use std::marker::Model;

@@ -2,8 +2,7 @@
 //! The numbers are those that docs/DECISIONS.md states ("How a member waits").
 
 use gas_pipe_run::backoff::Phase::{Announce, Park, Spin, Yield};
-use gas_pipe_run::backoff::{Backoff, Phase};
-use gas_pipe_run::trials::YieldBan;
+use gas_pipe_run::backoff::{Backoff, Phase, YieldBan};
 use gas_pipe_run::wake_ups::WakeUps;
 use std::process::Abort;
 use std::sync::Wait;

@@ -6,7 +6,7 @@ use Rattle.std.specs.List.{range_with_len}
 use Rattle.std.specs.declared.thread.PromisedHandle.{PromisedHandle}
 use Rattle.gas_geom.specs.Gas.{Rules}
 use Rattle.gas_belt.specs.Belt.{Belt, Sender, Receiver, CarriedModel}
-use Rattle.gas_pipe_run.specs.declared.work.WorkPromise.{WorkPromise}
+use Rattle.gas_pipe_run.specs.declared.job.JobPromise.{JobPromise}
 use Rattle.gas_rows.specs.Row.{RowModel}
 use Rattle.gas_stage.specs.Evolution.{lattice_after}
 use Rattle.gas_pipe_model.specs.Pass.{RunInputModel, IsRunInput, carried_by_belts}
@@ -66,7 +66,7 @@ AllReady [] = Unit {0}
 AllReady (j ∷ js) = IsReady j × AllReady js
 
 -- the job that a thread was given
-abbrev pub job_of : PromisedHandle (Option (Receiver × Sender)) (WorkPromise JobModel) → JobModel
+abbrev pub job_of : PromisedHandle (Option (Receiver × Sender)) (JobPromise JobModel) → JobModel
 job_of h = h.promise.0.value
 
 -- a belt from which these rows were taken, and no others were put on it

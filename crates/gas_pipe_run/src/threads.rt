@@ -1,18 +1,63 @@
-//! Joining the workers' threads, and bringing the two ends of each belt together.
+//! Starting the workers' threads, joining them, and bringing the two ends of each belt together.
 ghost use Rattle.std.specs.Prelude.{◌≡◌, ◌*◌, [], length, map, IfSome, vec_len};
 ghost use Rattle.std.specs.Int.{div_ceil};
 ghost use Rattle.gas_pipe_model.specs.Pass.{IsRunInput};
-ghost use Rattle.gas_pipe_run.specs.Inner.Links.{Linked, IsLinked, MayHaveFedInput, HaveMetUpTo, IsRunOf, job_of, last_belt};
+ghost use Rattle.gas_pipe_run.specs.Inner.Links.{Linked, IsLinked, AllReady, MayHaveFedInput, HaveMetUpTo, IsRunOf, job_of, last_belt};
 
 use crate::answer::Run;
-use crate::start::WorkerThread;
+use crate::gate::Gate;
+use crate::job::{Ended, Job, JobPromise, Shared, start_job};
 use gas_belt::carried::{Carried, meet};
 use gas_belt::rx::Rx;
 use gas_belt::tx::{Spent, Tx};
 use gas_geom::gas::Gas;
 use gas_pipe_members::feeder::Feeder;
-use gas_pipe_members::input::RunInput;
-use std::thread::Threads;
+use gas_pipe_members::schedule::RunInput;
+use std::alloc::Global;
+use std::sync::Wait;
+use std::thread::{PromisedHandle, Scope, Threads};
+
+/// A worker's thread.
+pub type WorkerThread<'e, G> = PromisedHandle<Option<Ended<G>>, JobPromise<Job<'e, G>>>;
+
+/// Raises the stop flag, and joins the threads.
+pub(crate) fn give_up<G: Gas, H: Gate, R: Threads + Wait>(
+    shared: &Shared<'_, H, R>,
+    threads: Vec<WorkerThread<'_, G>>,
+) {
+    shared.wake_ups.stop();
+    for thread in threads {
+        drop(thread.join(shared.rt));
+    }
+}
+
+/// Starts a thread for each job. None if memory or a start was refused. The threads that were
+/// started are then joined.
+pub(crate) fn start_workers<
+    's,
+    'e: 's,
+    G: Gas + Send + 'e,
+    H: Gate + Sync,
+    R: Threads + Wait + Sync,
+>(
+    scope: &'s Scope<'s, &'e ()>,
+    alloc: Global,
+    shared: &'e Shared<'e, H, R>,
+    jobs: Vec<Job<'e, G>>,
+) -> Option<Vec<WorkerThread<'e, G>>>
+    requires { AllReady jobs.items }
+    ensures { IfSome result (λ threads. map job_of threads.items ≡ jobs.entry.items) }
+{
+    let mut threads = Vec::with_capacity(alloc, jobs.len()).ok()?;
+    for job in jobs {
+        let Some(thread) = start_job(scope, shared, job) else {
+            give_up(shared, threads);
+            return None;
+        };
+        threads.push_reserved(thread);
+    }
+    Some(threads)
+}
 
 // Joins the threads in order, and lets the two ends of the belt before each worker meet: `belts`
 // gets what it carried. Returns the closed end that the last worker put on. None if a worker

@@ -7,7 +7,7 @@ use Rattle.gas_pipe_model.proofs.Circle.{owed_none}
 use Rattle.gas_pipe_members.specs.Worker.{IsClosed}
 use Rattle.gas_pipe_run.specs.Inner.Job.{JobModel, OnePass}
 use Rattle.gas_pipe_run.proofs.Passes.{one_pass_more}
-use Rattle.gas_pipe_run.proofs.worker_loop.make_passes.Goals as goal
+use Rattle.gas_pipe_run.proofs.turns.make_passes.Goals as goal
 
 pub loop-pass-init : goal.loop-pass-init
 loop-pass-init g c =

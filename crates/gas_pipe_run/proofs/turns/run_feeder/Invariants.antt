@@ -1,7 +1,7 @@
 use Rattle.std.proofs.Common.{◌≡◌, ℕ, List}
 use Rattle.gas_rows.specs.Row.{RowModel}
 use Rattle.gas_pipe_members.specs.Feeder.{MayHaveFed}
-use Rattle.gas_pipe_run.proofs.feeder_loop.run_feeder.Given as goal
+use Rattle.gas_pipe_run.proofs.turns.run_feeder.Given as goal
 
 abbrev pub invariant-loop : goal.invariant-loop
 invariant-loop g l = record {

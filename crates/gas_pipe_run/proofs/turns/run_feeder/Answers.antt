@@ -1,7 +1,7 @@
 use Rattle.std.proofs.Common.{◌∙◌, append-nil, ap, sym}
 use Rattle.gas_geom.specs.Channel.{ChannelModel}
 use Rattle.gas_belt.specs.Belt.{Belt}
-use Rattle.gas_pipe_run.proofs.feeder_loop.run_feeder.Goals as goal
+use Rattle.gas_pipe_run.proofs.turns.run_feeder.Goals as goal
 
 pub loop-preserved-in-Took : goal.loop-preserved-in-Took
 loop-preserved-in-Took g c =

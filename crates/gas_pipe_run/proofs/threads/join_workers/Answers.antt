@@ -6,7 +6,7 @@ use Rattle.gas_belt.specs.Belt.{CarriedModel}
 use Rattle.gas_pipe_model.specs.Inner.Circle.{owes_in}
 use Rattle.gas_pipe_model.proofs.Circle.{on_first}
 use Rattle.gas_pipe_run.proofs.Meetings.{meets_all, goes}
-use Rattle.gas_pipe_run.proofs.join.join_workers.Goals as goal
+use Rattle.gas_pipe_run.proofs.threads.join_workers.Goals as goal
 
 pub loop-thread-init : goal.loop-thread-init
 loop-thread-init g c =

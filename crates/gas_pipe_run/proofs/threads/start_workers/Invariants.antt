@@ -1,7 +1,7 @@
 use Rattle.std.proofs.Common.{◌≡◌, ◌+◌, ◌≤◌, ◌++◌, vec_len, vec_capacity, map}
 use Rattle.std.specs.Vec.Iter.{into_iter_items, into_iter_len}
 use Rattle.gas_pipe_run.specs.Inner.Links.{AllReady, job_of}
-use Rattle.gas_pipe_run.proofs.start.start_workers.Given as goal
+use Rattle.gas_pipe_run.proofs.threads.start_workers.Given as goal
 
 abbrev pub invariant-loop-job : goal.invariant-loop-job
 invariant-loop-job g l = record {

@@ -1,19 +1,55 @@
-//! What a worker's thread does.
-ghost use Rattle.std.specs.Prelude.{◌≡◌, IsTrue, IfSome};
+//! The turns of a member on its thread, until its passes are over.
+ghost use Rattle.std.specs.Prelude.{◌≡◌, ℕ, List, IsTrue, IfSome};
+ghost use Rattle.gas_rows.specs.Row.{RowModel};
+ghost use Rattle.gas_pipe_members.specs.Feeder.{MayHaveFed};
 ghost use Rattle.gas_pipe_members.specs.Worker.{IsClosed};
 ghost use Rattle.gas_pipe_run.specs.Inner.Job.{OnePass, IsReady, HasFinished};
 
 use crate::gate::Gate;
-use crate::job::{Ended, Job};
-use crate::shared::Shared;
+use crate::job::{Ended, Job, Shared, ThreadJob};
 use crate::waiter::Waiter;
-use crate::work::Work;
 use gas_belt::rx::Rx;
 use gas_belt::tx::Tx;
 use gas_geom::gas::Gas;
 use gas_pipe_members::ends::Turned;
+use gas_pipe_members::feeder::Feeder;
 use gas_pipe_members::worker::Worker;
 use std::sync::Wait;
+
+/// Makes the feeder's turns until its passes are over. False if the stop flag was raised before.
+pub(crate) fn run_feeder<G: Gas, H, R: Wait>(
+    shared: &Shared<'_, H, R>,
+    feeder: &mut Feeder<G>,
+    rx: &mut Rx<G>,
+    tx: &mut Tx<G>,
+) -> bool
+    requires wide { rx.old.belt.width ≡ feeder.old.channel.width }
+    requires begun { (passes : ℕ) × (rows : List RowModel)
+        × MayHaveFed feeder.old passes rows tx.old.put rx.old.taken }
+    ensures rx { rx.new.belt ≡ rx.old.belt }
+    ensures tx { tx.new.belt ≡ tx.old.belt }
+    ensures channel { feeder.new.channel ≡ feeder.old.channel }
+    ensures closed { IsTrue result → feeder.new.to_take ≡ 0 }
+    ensures fed { IsTrue result → (passes : ℕ) (rows : List RowModel) →
+        MayHaveFed feeder.old passes rows tx.old.put rx.old.taken →
+        MayHaveFed feeder.new passes rows tx.new.put rx.new.taken }
+{
+    let mut waiter = Waiter::new(shared.wake_ups, 0);
+    for _ in shared.rt.forever() {
+        match feeder.turn(tx, rx) {
+            Turned::Done => return true,
+            Turned::Idle => {
+                if !waiter.show_or_wait(shared.rt, tx) {
+                    return false;
+                }
+            }
+            Turned::Took => waiter.wake_before(),
+            Turned::Put => waiter.wake_behind(tx),
+            Turned::Stray => unreachable!(),
+        }
+    }
+    unreachable!()
+}
 
 // Makes one pass of a worker. False if the stop flag was raised before the pass was over.
 fn make_pass<G: Gas, H, R: Wait>(
@@ -88,12 +124,12 @@ fn make_passes<G: Gas, H: Gate, R: Wait>(
     Some((rx, tx.close()))
 }
 
-impl<'a, G: Gas> Work<Ended<G>> for Job<'a, G> {
+impl<'a, G: Gas> ThreadJob<Ended<G>> for Job<'a, G> {
     ghost fresh = { λ j. IsReady j };
 
     ghost kept = { λ j e. HasFinished G.rules j e.0 e.1 };
 
-    fn do_work<H: Gate, R: Wait>(self, shared: &Shared<'_, H, R>) -> Option<Ended<G>> {
+    fn make<H: Gate, R: Wait>(self, shared: &Shared<'_, H, R>) -> Option<Ended<G>> {
         let who = self.who;
         let ended = make_passes(self, shared);
         shared.gate.leave(who);

@@ -1,7 +1,7 @@
 use Rattle.std.proofs.Common.{◌≡◌, ◌*◌, length}
 use Rattle.gas_pipe_members.specs.Worker.{IsClosed}
 use Rattle.gas_pipe_run.specs.Inner.Job.{owes_until}
-use Rattle.gas_pipe_run.proofs.worker_loop.make_passes.Given as goal
+use Rattle.gas_pipe_run.proofs.turns.make_passes.Given as goal
 
 abbrev pub invariant-loop-pass : goal.invariant-loop-pass
 invariant-loop-pass g l = record {

@@ -2,7 +2,7 @@ use Rattle.std.proofs.Common.{map}
 use Rattle.std.specs.Vec.Iter.{into_iter_items, into_iter_len}
 use Rattle.gas_pipe_run.specs.Inner.Links.{last_belt, job_of}
 use Rattle.gas_pipe_run.proofs.Meetings.{Ahead}
-use Rattle.gas_pipe_run.proofs.join.join_workers.Given as goal
+use Rattle.gas_pipe_run.proofs.threads.join_workers.Given as goal
 
 abbrev pub invariant-loop-thread : goal.invariant-loop-thread
 invariant-loop-thread g l =

@@ -7,7 +7,7 @@ use Rattle.gas_pipe_model.specs.Pass.{RunInputModel}
 use Rattle.gas_pipe_members.specs.Feeder.{MayHaveFed}
 use Rattle.gas_pipe_run.specs.Inner.Links.{job_of}
 use Rattle.gas_pipe_run.proofs.Settled.{last_on, last_whole, all_belts, long, taken_long, belts_are, lattice_is}
-use Rattle.gas_pipe_run.proofs.join.join_and_meet.Goals as goal
+use Rattle.gas_pipe_run.proofs.threads.join_and_meet.Goals as goal
 
 pub unreachable-requires : goal.unreachable-requires
 unreachable-requires g c =

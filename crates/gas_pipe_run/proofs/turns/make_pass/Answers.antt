@@ -1,6 +1,6 @@
 use Rattle.std.proofs.Common.{ap, ◌∙◌}
 use Rattle.gas_pipe_run.proofs.Passes.{run_took, run_put, run_rests, run_wide}
-use Rattle.gas_pipe_run.proofs.worker_loop.make_pass.Goals as goal
+use Rattle.gas_pipe_run.proofs.turns.make_pass.Goals as goal
 
 pub loop-preserved-else-not-show_or_wait : goal.loop-preserved-else-not-show_or_wait
 loop-preserved-else-not-show_or_wait g c =
