@@ -11,6 +11,11 @@ pub record WorkerModel : Type 0 where
   pub waiting : Option RowModel
   pub stray : Bool
 
+-- it computes for the same channel and by the same chirality
+pub record SameWorker (old new : WorkerModel) : Type 0 where
+  pub channel : new.stage.channel ≡ old.stage.channel
+  pub chirality : new.stage.chirality ≡ old.stage.chirality
+
 -- no pass is open: the stage's is closed, and no row is left to put
 pub record IsClosed (w : WorkerModel) : Type 0 where
   pub stage : w.stage.pass ≡ None

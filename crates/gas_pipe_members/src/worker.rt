@@ -3,7 +3,7 @@ ghost use Rattle.std.specs.Prelude.{◌≡◌, ◌≢◌, ◌<◌, ◌≤◌, �
 ghost use Rattle.gas_geom.specs.Gas.{Rules};
 ghost use Rattle.gas_rows.specs.Row.{RowModel};
 ghost use mathlib.Core.List.{IsPrefix};
-ghost use Rattle.gas_pipe_members.specs.Worker.{WorkerModel, IsClosed, MayHaveDone, Does, owes, HasDoneAll, HasMoreToTake};
+ghost use Rattle.gas_pipe_members.specs.Worker.{WorkerModel, SameWorker, IsClosed, MayHaveDone, Does, owes, HasDoneAll, HasMoreToTake};
 ghost use Rattle.gas_pipe_members.specs.Inner.Steps.{AfterTake, AfterPut, AfterNone};
 
 use crate::ends::{PutEnd, TakeEnd, Turned, return_spare};
@@ -61,8 +61,7 @@ impl<'a, G: Gas> Worker<'a, G> {
     /// Opens a pass that computes the step from a generation. With None it hands rows on unchanged.
     pub fn begin(&mut self, generation: Option<u64>)
         requires closed { IsClosed self.old }
-        ensures channel { self.new.stage.channel ≡ self.old.stage.channel }
-        ensures chirality { self.new.stage.chirality ≡ self.old.stage.chirality }
+        ensures same { SameWorker self.old self.new }
         ensures nothing_done { MayHaveDone G.rules self.new generation [] [] }
     {
         self.stage.begin(generation);
@@ -86,8 +85,7 @@ impl<'a, G: Gas> Worker<'a, G> {
     // last row of its stage. That closes the stage's pass.
     fn next_row(&mut self) -> Option<Row<G>>
         requires no_stray { self.old.stray ≡ false }
-        ensures channel { self.new.stage.channel ≡ self.old.stage.channel }
-        ensures chirality { self.new.stage.chirality ≡ self.old.stage.chirality }
+        ensures same { SameWorker self.old self.new }
         ensures no_stray { self.new.stray ≡ false }
         ensures none_waits { self.new.waiting ≡ None }
         ensures put { IfSome result (λ row. AfterPut G.rules self.old row self.new) }
@@ -146,8 +144,7 @@ impl<'a, G: Gas> Worker<'a, G> {
         requires open { IsSome self.old.stage.pass }
         requires room { self.old.stage.fed < self.old.stage.channel.height }
         requires wide { length row ≡ self.old.stage.channel.width }
-        ensures channel { self.new.stage.channel ≡ self.old.stage.channel }
-        ensures chirality { self.new.stage.chirality ≡ self.old.stage.chirality }
+        ensures same { SameWorker self.old self.new }
         ensures stray { self.new.stray ≡ self.old.stray }
         ensures took { AfterTake G.rules self.old row self.new }
     {
@@ -164,8 +161,7 @@ impl<'a, G: Gas> Worker<'a, G> {
         take: &mut T,
         put: &mut P,
     ) -> Turned
-        ensures channel { self.new.stage.channel ≡ self.old.stage.channel }
-        ensures chirality { self.new.stage.chirality ≡ self.old.stage.chirality }
+        ensures same { SameWorker self.old self.new }
         ensures took { result ≡ Turned.Took →
             (row : RowModel) × T.takes take.old row take.new × P.rests put.old put.new
             × Does G.rules self.old (row ∷ []) [] self.new }

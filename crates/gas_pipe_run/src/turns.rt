@@ -2,7 +2,7 @@
 ghost use Rattle.std.specs.Prelude.{◌≡◌, ℕ, List, IsTrue, IfSome};
 ghost use Rattle.gas_rows.specs.Row.{RowModel};
 ghost use Rattle.gas_pipe_members.specs.Feeder.{MayHaveFed};
-ghost use Rattle.gas_pipe_members.specs.Worker.{IsClosed};
+ghost use Rattle.gas_pipe_members.specs.Worker.{SameWorker, IsClosed};
 ghost use Rattle.gas_pipe_run.specs.Inner.Job.{OnePass, IsReady, HasFinished};
 
 use crate::gate::Gate;
@@ -64,8 +64,7 @@ fn make_pass<G: Gas, H, R: Wait>(
     requires wide { rx.old.belt.width ≡ worker.old.stage.channel.width }
     ensures rx { rx.new.belt ≡ rx.old.belt }
     ensures tx { tx.new.belt ≡ tx.old.belt }
-    ensures channel { worker.new.stage.channel ≡ worker.old.stage.channel }
-    ensures chirality { worker.new.stage.chirality ≡ worker.old.stage.chirality }
+    ensures same { SameWorker worker.old worker.new }
     ensures closed { IsTrue result → IsClosed worker.new }
     ensures whole { IsTrue result →
         OnePass G.rules worker.old generation rx.old.taken tx.old.put rx.new.taken tx.new.put }

@@ -7,7 +7,7 @@ pub loop-k-preserved : goal.loop-k-preserved
 loop-k-preserved g c =
     rw c.in_ok-push.ensures.items
     (begun_more g.G.Gas.rules c.args.input.now c.loop-k.workers.items c.loop-k.k c.begin.new.self c.generation.result c.loop-k.invariant
-    (c.begin.ensures.channel ∙ c.in_ok-worker.ensures.channel ∙ c.channel.ensures.channel ∙ ap (λ (input : RunInputModel). input.lattice.channel) c.input.view_is)
-    (c.begin.ensures.chirality ∙ c.in_ok-worker.ensures.chirality ∙ ap (λ (input : RunInputModel). input.chirality) c.input.view_is)
+    (c.begin.ensures.same.channel ∙ c.in_ok-worker.ensures.channel ∙ c.channel.ensures.channel ∙ ap (λ (input : RunInputModel). input.lattice.channel) c.input.view_is)
+    (c.begin.ensures.same.chirality ∙ c.in_ok-worker.ensures.chirality ∙ ap (λ (input : RunInputModel). input.chirality) c.input.view_is)
     (c.generation.ensures.value ∙ ap (λ (input : RunInputModel). computes_from input.first input.plan 0 (c.loop-k.k + 1)) c.input.view_is)
     c.begin.ensures.nothing_done)

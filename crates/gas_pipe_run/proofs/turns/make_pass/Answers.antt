@@ -6,19 +6,19 @@ pub loop-preserved-else-not-show_or_wait : goal.loop-preserved-else-not-show_or_
 loop-preserved-else-not-show_or_wait g c =
     let h = c.turn.ensures.idle c.in-Idle.is in
     run_rests g.G.Gas.rules c.args.generation c.args.worker.now c.args.rx.now c.args.tx.now c.loop.worker c.turn.new.self c.loop.rx c.turn.new.take c.loop.tx c.show_or_wait.new.tx
-    c.loop.invariant c.turn.ensures.channel c.turn.ensures.chirality h.0 (ap (λ t. t.belt) c.show_or_wait.ensures ∙ h.1.0, ap (λ t. t.put) c.show_or_wait.ensures ∙ h.1.1) h.2
+    c.loop.invariant c.turn.ensures.same.channel c.turn.ensures.same.chirality h.0 (ap (λ t. t.belt) c.show_or_wait.ensures ∙ h.1.0, ap (λ t. t.put) c.show_or_wait.ensures ∙ h.1.1) h.2
 
 pub loop-preserved-in-Took : goal.loop-preserved-in-Took
 loop-preserved-in-Took g c =
     let h = c.turn.ensures.took c.in-Took.is in
     run_took g.G.Gas.rules c.args.generation c.args.worker.now c.args.rx.now c.args.tx.now c.loop.worker c.turn.new.self c.loop.rx c.turn.new.take c.loop.tx c.turn.new.put
-    c.loop.invariant c.turn.ensures.channel c.turn.ensures.chirality h.0 h.1 h.2 h.3
+    c.loop.invariant c.turn.ensures.same.channel c.turn.ensures.same.chirality h.0 h.1 h.2 h.3
 
 pub loop-preserved : goal.loop-preserved
 loop-preserved g c =
     let h = c.turn.ensures.put c.in-Put.is in
     run_put g.G.Gas.rules c.args.generation c.args.worker.now c.args.rx.now c.args.tx.now c.loop.worker c.turn.new.self c.loop.rx c.turn.new.take c.loop.tx c.turn.new.put
-    c.loop.invariant c.turn.ensures.channel c.turn.ensures.chirality h.0 h.1 h.2 h.3
+    c.loop.invariant c.turn.ensures.same.channel c.turn.ensures.same.chirality h.0 h.1 h.2 h.3
 
 pub unreachable-requires : goal.unreachable-requires
 unreachable-requires g c =

@@ -44,8 +44,8 @@ loop-pass-preserved g c =
     was.channel was.chirality was.whole was.owes pass in
     record {
       closed = c.if-not-make_pass.ensures.closed refl;
-      channel = now.ensures.channel ∙ was.channel;
-      chirality = now.ensures.chirality ∙ was.chirality;
+      channel = now.ensures.same.channel ∙ was.channel;
+      chirality = now.ensures.same.chirality ∙ was.chirality;
       rx = now.ensures.rx ∙ was.rx;
       tx = now.ensures.tx ∙ was.tx;
       whole = more.0;
