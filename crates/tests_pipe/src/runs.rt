@@ -28,14 +28,15 @@ pub(super) type Cell = (u32, u32, u8);
 
 const SOLID: u8 = 0xff;
 
-// A lattice of this size in which all but the given cells are empty, and numbers of generations,
-// each with the cells that are not empty after it, row by row.
-struct Example {
-    size: (u32, u32),
-    chirality: Chirality,
-    before: &'static [Cell],
-    after: &'static [(u64, &'static [Cell])],
-}
+// The width and the height of a lattice, its chirality, its cells that are not empty, and numbers of
+// generations, each with the cells that are not empty after it, row by row.
+struct Example(
+    u32,
+    u32,
+    Chirality,
+    &'static [Cell],
+    &'static [(u64, &'static [Cell])],
+);
 
 // Sets a cell or makes it solid, if the lattice has it and it is not solid.
 fn set<G: Gas>(lattice: &mut Lattice<G>, (x, y, cell): Cell) {
@@ -172,8 +173,8 @@ fn plays_on<G: Gas + Send, R: Abort + Threads + Wait + Sync>(
     lattice: &Lattice<G>,
     example: &Example,
 ) -> Result<(), Fail> {
-    for after in example.after {
-        comes_to(rt, alloc, lattice, example.chirality, line, *after)?;
+    for after in example.4 {
+        comes_to(rt, alloc, lattice, example.2, line, *after)?;
     }
     Ok(())
 }
@@ -184,8 +185,8 @@ fn plays<G: Gas + Send, R: Abort + Threads + Wait + Sync>(
     line: (u32, u64),
     example: &Example,
 ) -> Result<(), Fail> {
-    let size = Size::new(example.size.0, example.size.1).ok_or("a size")?;
-    let lattice = lattice::<G>(alloc, size, example.before)?;
+    let size = Size::new(example.0, example.1).ok_or("a size")?;
+    let lattice = lattice::<G>(alloc, size, example.3)?;
     plays_on(rt, alloc, line, &lattice, example)
 }
 
@@ -202,137 +203,96 @@ fn play<G: Gas + Send, R: Abort + Threads + Wait + Sync>(
 
 const FHP1: [Example; 19] = [
     // From the last column to the first, or back.
-    Example {
-        size: (4, 3),
-        chirality: Left,
-        before: &[(3, 1, 0x01)],
-        after: &[(1, &[(0, 1, 0x01)])],
-    },
-    Example {
-        size: (63, 1),
-        chirality: Left,
-        before: &[(62, 0, 0x01)],
-        after: &[(1, &[(0, 0, 0x01)])],
-    },
-    Example {
-        size: (64, 1),
-        chirality: Left,
-        before: &[(63, 0, 0x01)],
-        after: &[(1, &[(0, 0, 0x01)])],
-    },
-    Example {
-        size: (65, 1),
-        chirality: Left,
-        before: &[(64, 0, 0x01)],
-        after: &[(1, &[(0, 0, 0x01)])],
-    },
-    Example {
-        size: (65, 1),
-        chirality: Left,
-        before: &[(0, 0, 0x08)],
-        after: &[(1, &[(64, 0, 0x08)])],
-    },
-    Example {
-        size: (64, 2),
-        chirality: Left,
-        before: &[(63, 1, 0x02)],
-        after: &[(1, &[(0, 0, 0x02)])],
-    },
-    Example {
-        size: (65, 2),
-        chirality: Left,
-        before: &[(0, 0, 0x10)],
-        after: &[(1, &[(64, 1, 0x10)])],
-    },
-    Example {
-        size: (65536, 1),
-        chirality: Left,
-        before: &[(65535, 0, 0x01)],
-        after: &[(1, &[(0, 0, 0x01)])],
-    },
+    Example(4, 3, Left, &[(3, 1, 0x01)], &[(1, &[(0, 1, 0x01)])]),
+    Example(63, 1, Left, &[(62, 0, 0x01)], &[(1, &[(0, 0, 0x01)])]),
+    Example(64, 1, Left, &[(63, 0, 0x01)], &[(1, &[(0, 0, 0x01)])]),
+    Example(65, 1, Left, &[(64, 0, 0x01)], &[(1, &[(0, 0, 0x01)])]),
+    Example(65, 1, Left, &[(0, 0, 0x08)], &[(1, &[(64, 0, 0x08)])]),
+    Example(64, 2, Left, &[(63, 1, 0x02)], &[(1, &[(0, 0, 0x02)])]),
+    Example(65, 2, Left, &[(0, 0, 0x10)], &[(1, &[(64, 1, 0x10)])]),
+    Example(65536, 1, Left, &[(65535, 0, 0x01)], &[(1, &[(0, 0, 0x01)])]),
     // No step in no generation, and five columns east in five.
-    Example {
-        size: (4, 3),
-        chirality: Left,
-        before: &[(1, 1, 0x09)],
-        after: &[(0, &[(1, 1, 0x09)])],
-    },
-    Example {
-        size: (7, 3),
-        chirality: Left,
-        before: &[(0, 1, 0x01)],
-        after: &[(5, &[(5, 1, 0x01)])],
-    },
+    Example(4, 3, Left, &[(1, 1, 0x09)], &[(0, &[(1, 1, 0x09)])]),
+    Example(7, 3, Left, &[(0, 1, 0x01)], &[(5, &[(5, 1, 0x01)])]),
     // Up to the wall and back, between both walls of one cell, and back from an obstacle.
-    Example {
-        size: (4, 3),
-        chirality: Left,
-        before: &[(0, 2, 0x02)],
-        after: &[
+    Example(
+        4,
+        3,
+        Left,
+        &[(0, 2, 0x02)],
+        &[
             (1, &[(0, 1, 0x02)]),
             (2, &[(1, 0, 0x02)]),
             (3, &[(1, 0, 0x10)]),
             (4, &[(0, 1, 0x10)]),
             (5, &[(0, 2, 0x10)]),
         ],
-    },
-    Example {
-        size: (1, 1),
-        chirality: Left,
-        before: &[(0, 0, 0x12)],
-        after: &[
+    ),
+    Example(
+        1,
+        1,
+        Left,
+        &[(0, 0, 0x12)],
+        &[
             (1, &[(0, 0, 0x24)]),
             (2, &[(0, 0, 0x09)]),
             (3, &[(0, 0, 0x12)]),
         ],
-    },
-    Example {
-        size: (4, 1),
-        chirality: Left,
-        before: &[(0, 0, 0x01), (1, 0, SOLID)],
-        after: &[
+    ),
+    Example(
+        4,
+        1,
+        Left,
+        &[(0, 0, 0x01), (1, 0, SOLID)],
+        &[
             (1, &[(0, 0, 0x08), (1, 0, SOLID)]),
             (2, &[(1, 0, SOLID), (3, 0, 0x08)]),
         ],
-    },
+    ),
     // Pairs turned by either bit or by those of a seed, a triple, and a pair that a spectator keeps
     // from turning.
-    Example {
-        size: (4, 3),
-        chirality: Left,
-        before: &[(1, 1, 0x09)],
-        after: &[(1, &[(2, 0, 0x02), (1, 2, 0x10)])],
-    },
-    Example {
-        size: (4, 3),
-        chirality: Right,
-        before: &[(1, 1, 0x09)],
-        after: &[(1, &[(1, 0, 0x04), (2, 2, 0x20)])],
-    },
-    Example {
-        size: (8, 3),
-        chirality: Seeded(0),
-        before: &[(1, 1, 0x09), (5, 1, 0x09)],
-        after: &[(1, &[(1, 0, 0x04), (6, 0, 0x02), (2, 2, 0x20), (5, 2, 0x10)])],
-    },
-    Example {
-        size: (33, 2),
-        chirality: Seeded(0),
-        before: &[(32, 1, 0x09)],
-        after: &[(1, &[(0, 0, 0x02), (32, 1, 0x02)])],
-    },
-    Example {
-        size: (4, 3),
-        chirality: Left,
-        before: &[(1, 1, 0x15)],
-        after: &[(1, &[(2, 0, 0x02), (0, 1, 0x08), (2, 2, 0x20)])],
-    },
-    Example {
-        size: (4, 3),
-        chirality: Left,
-        before: &[(1, 1, 0x0b)],
-        after: &[(1, &[(2, 0, 0x02), (0, 1, 0x08), (2, 1, 0x01)])],
-    },
+    Example(
+        4,
+        3,
+        Left,
+        &[(1, 1, 0x09)],
+        &[(1, &[(2, 0, 0x02), (1, 2, 0x10)])],
+    ),
+    Example(
+        4,
+        3,
+        Right,
+        &[(1, 1, 0x09)],
+        &[(1, &[(1, 0, 0x04), (2, 2, 0x20)])],
+    ),
+    Example(
+        8,
+        3,
+        Seeded(0),
+        &[(1, 1, 0x09), (5, 1, 0x09)],
+        &[(1, &[(1, 0, 0x04), (6, 0, 0x02), (2, 2, 0x20), (5, 2, 0x10)])],
+    ),
+    Example(
+        33,
+        2,
+        Seeded(0),
+        &[(32, 1, 0x09)],
+        &[(1, &[(0, 0, 0x02), (32, 1, 0x02)])],
+    ),
+    Example(
+        4,
+        3,
+        Left,
+        &[(1, 1, 0x15)],
+        &[(1, &[(2, 0, 0x02), (0, 1, 0x08), (2, 2, 0x20)])],
+    ),
+    Example(
+        4,
+        3,
+        Left,
+        &[(1, 1, 0x0b)],
+        &[(1, &[(2, 0, 0x02), (0, 1, 0x08), (2, 1, 0x01)])],
+    ),
 ];
 
 #[test]
@@ -342,24 +302,27 @@ fn of_fhp1(rt: HostRuntime) -> Result<(), Fail> {
 
 // A pair, a particle that the top wall sends back, and a triple, which passes.
 const HPP: [Example; 3] = [
-    Example {
-        size: (4, 3),
-        chirality: Left,
-        before: &[(1, 1, 0x05)],
-        after: &[(1, &[(1, 0, 0x02), (1, 2, 0x08)])],
-    },
-    Example {
-        size: (4, 3),
-        chirality: Left,
-        before: &[(0, 0, 0x02)],
-        after: &[(1, &[(0, 0, 0x08)]), (2, &[(0, 1, 0x08)])],
-    },
-    Example {
-        size: (4, 3),
-        chirality: Left,
-        before: &[(1, 1, 0x07)],
-        after: &[(1, &[(1, 0, 0x02), (0, 1, 0x04), (2, 1, 0x01)])],
-    },
+    Example(
+        4,
+        3,
+        Left,
+        &[(1, 1, 0x05)],
+        &[(1, &[(1, 0, 0x02), (1, 2, 0x08)])],
+    ),
+    Example(
+        4,
+        3,
+        Left,
+        &[(0, 0, 0x02)],
+        &[(1, &[(0, 0, 0x08)]), (2, &[(0, 1, 0x08)])],
+    ),
+    Example(
+        4,
+        3,
+        Left,
+        &[(1, 1, 0x07)],
+        &[(1, &[(1, 0, 0x02), (0, 1, 0x04), (2, 1, 0x01)])],
+    ),
 ];
 
 #[test]
@@ -370,29 +333,32 @@ fn of_hpp(rt: HostRuntime) -> Result<(), Fail> {
 // A particle meets one at rest and later another particle, and a pair turns beside one at rest by
 // either bit.
 const FHP_REST: [Example; 3] = [
-    Example {
-        size: (4, 3),
-        chirality: Left,
-        before: &[(1, 1, 0x41)],
-        after: &[
+    Example(
+        4,
+        3,
+        Left,
+        &[(1, 1, 0x41)],
+        &[
             (1, &[(2, 0, 0x02), (2, 2, 0x20)]),
             (2, &[(2, 0, 0x10), (2, 2, 0x04)]),
             (3, &[(1, 1, 0x14)]),
             (4, &[(0, 1, 0x08), (1, 1, 0x40)]),
         ],
-    },
-    Example {
-        size: (4, 3),
-        chirality: Left,
-        before: &[(1, 1, 0x49)],
-        after: &[(1, &[(2, 0, 0x02), (1, 1, 0x40), (1, 2, 0x10)])],
-    },
-    Example {
-        size: (4, 3),
-        chirality: Right,
-        before: &[(1, 1, 0x49)],
-        after: &[(1, &[(1, 0, 0x04), (1, 1, 0x40), (2, 2, 0x20)])],
-    },
+    ),
+    Example(
+        4,
+        3,
+        Left,
+        &[(1, 1, 0x49)],
+        &[(1, &[(2, 0, 0x02), (1, 1, 0x40), (1, 2, 0x10)])],
+    ),
+    Example(
+        4,
+        3,
+        Right,
+        &[(1, 1, 0x49)],
+        &[(1, &[(1, 0, 0x04), (1, 1, 0x40), (2, 2, 0x20)])],
+    ),
 ];
 
 #[test]
@@ -401,20 +367,16 @@ fn of_fhp_rest(rt: HostRuntime) -> Result<(), Fail> {
 }
 
 // A line of 64 workers: in the last of two passes 36 compute, and 28 pass rows on.
-const ONE_CELL: Example = Example {
-    size: (1, 1),
-    chirality: Left,
-    before: &[(0, 0, 0x12)],
-    after: &[(64, &[(0, 0, 0x24)]), (100, &[(0, 0, 0x24)])],
-};
+const ONE_CELL: Example = Example(
+    1,
+    1,
+    Left,
+    &[(0, 0, 0x12)],
+    &[(64, &[(0, 0, 0x24)]), (100, &[(0, 0, 0x24)])],
+);
 
 // A line of two workers that starts from generation 10.
-const DRIFT: Example = Example {
-    size: (4, 3),
-    chirality: Left,
-    before: &[(3, 1, 0x01)],
-    after: &[(1, &[(0, 1, 0x01)])],
-};
+const DRIFT: Example = Example(4, 3, Left, &[(3, 1, 0x01)], &[(1, &[(0, 1, 0x01)])]);
 
 #[test]
 fn of_other_lines(rt: HostRuntime) -> Result<(), Fail> {
