@@ -6,9 +6,9 @@ A definition is an item of a crate's specs/. It must be believed if the contract
 does. A reader also meets the code's types that these definitions name, and the ghost members of public traits that public contracts name.
 
 Fails if that list is not the one that the comments make (--write writes it), if the page does not name one of these types and members, if a
-definition to be believed names a type that is not public, if one, or a clause of a public call, cites a constant of the code instead of the
-number, and if a file of specs/ has a definition that need not be believed without saying in its first line that its words are inner ones.
-Prints how many lines there are to believe. With --list it prints the definitions instead.
+definition to be believed names a type that is not public, if one, or what a public call promises, cites a constant of the code instead of
+the number, and if a file of specs/ has a definition that need not be believed without saying in its first line that its words are inner
+ones. Prints how many lines there are to believe. With --list it prints the definitions instead.
 """
 import collections
 import re
@@ -127,27 +127,28 @@ def traits(text):
     return [braced(text, trait.end() - 1)[0] for trait in re.finditer(r"^pub trait [^{]*\{", text, re.M)]
 
 
-def contracts(text):
+def contracts(text, kinds="requires|ensures"):
     """The clauses of public functions and traits, and the types as which callers see public values."""
     text = re.sub(r";\s*\w+\]", "]", re.sub(r"//[^\n]*", "", text))  # an array's length does not end a signature
     private = set(re.findall(r"^(?:struct|enum) (\w+)", text, re.M))
     for body in traits(text):
-        yield from clauses(body, r"^    fn \w+")
+        yield from clauses(body, r"^    fn \w+", kinds)
         yield from re.findall(r"ghost \w+: (\{[^\n]*\});", body)
     for model in re.finditer(r"^impl(?:<[^{]*?>)? Model for (\w+)[^{]*\{", text, re.M):
         if model.group(1) not in private:
             yield from re.findall(r"ghost Value = (\{[^\n]*\});", braced(text, model.end() - 1)[0])
     yield from re.findall(r"ghost from_gives = (\{[^\n]*\});", text)
-    yield from clauses(text, r"^ *pub fn \w+")
+    yield from clauses(text, r"^ *pub fn \w+", kinds)
 
 
-def clauses(text, head):
-    rest = re.compile(r"\b(?:requires|ensures)(?: \w+)?\s*\{|[{;]")
+def clauses(text, head, kinds):
+    rest = re.compile(r"\b(requires|ensures)(?: \w+)?\s*\{|[{;]")
     for function in re.finditer(head, text, re.M):
         place = function.end()
         while (found := rest.search(text, place)) and found.group() not in "{;":
             clause, place = braced(text, found.end() - 1)
-            yield clause
+            if found.group(1) in kinds:
+                yield clause
 
 
 def closure(cited, known):
@@ -221,7 +222,8 @@ def main():
         for text in texts:
             brought, named = imports(text), set().union(*(names_in(clause, "//") for clause in contracts(text)))
             cited |= {brought[word] for word in named & brought.keys()}
-            wrong += [f"a clause of a public call of {crate} cites {name}, a constant of the code" for name in sorted(named & limits)]
+            promised = set().union(*(names_in(clause, "//") for clause in contracts(text, "ensures")))
+            wrong += [f"a promise of a public call of {crate} cites {name}, a constant of the code" for name in sorted(promised & limits)]
             words |= {part for clause in contracts(text) for part in re.findall(r"\w+", clause)}
             asked |= {name for body in traits(text) for name in re.findall(r"^    ghost (\w+):", body, re.M)}
     believed = closure(cited, known)
