@@ -1,7 +1,8 @@
 #!/usr/bin/env python3
 """Looks up the links of the Markdown files that lead into the repository: the file must exist, and the anchor must be a heading's, by the
 rule of hosts such as GitHub. Links to other places are not tried. The table in docs/ARCHITECTURE.md must have the crates of crates.txt, and
-only these. Ends with the counts."""
+only these, and its last table names only files, folders and crates that exist. The help of the program must have the commands and the
+columns of docs/FORMATS.md. Ends with the counts."""
 
 import collections
 import pathlib
@@ -60,11 +61,45 @@ def crates():
     return listed, {name for row in table.split("\n") if row.startswith("| `") for name in re.findall(r"`(\w+)`", row.split("|")[1])}
 
 
+def absent_places():
+    """What the last table of docs/ARCHITECTURE.md names and is not there. A file without a folder is in the folder that was named last."""
+    for row in re.findall(r"^\|.*\|$", (ROOT / "docs/ARCHITECTURE.md").read_text().split("## Where to put a change")[1], re.M):
+        for cell in row.split("|"):
+            folder = ROOT
+            for name in re.findall(r"`([\w./-]+)`", cell):
+                is_path = "/" in name or pathlib.Path(name).suffix in (".rt", ".antt", ".py", ".c", ".h", ".md")
+                if not is_path and not re.fullmatch(r"(gas|tests)_\w+", name) or "NAME" in name:
+                    continue
+                places = [base / name.removeprefix("C/") for base in (ROOT, ROOT / "crates", folder)]
+                there = next((place for place in places if place.exists()), None)
+                if not there:
+                    yield name
+                elif is_path:
+                    folder = there if there.is_dir() else there.parent
+
+
+def help_and_formats():
+    """The commands and the columns of the program's help, and the ones of docs/FORMATS.md, in order."""
+    help_text, formats = (ROOT / "crates/gas_tool_cli/src/help.rt").read_text(), (ROOT / "docs/FORMATS.md").read_text()
+    table = formats.split("| column |")[1].split("\n\n")[0]
+    columns = [name for row in re.findall(r"^\| (`.*?) \|", table, re.M) for name in re.findall(r"`(\w+)`", row)]
+    told = [name for names in re.findall(r"^  (\w+(?:, \w+)*)  +", help_text, re.M) for name in names.split(", ")]
+    commands = re.findall(r"^\| `(\w+)` \|", formats.split("## The command line")[1].split("\n\n## ")[0], re.M)
+    return (re.findall(r'usage: "fhpgas ([a-z]+)', help_text), commands), (told, columns)
+
+
 def main():
     passed = failed = 0
     for name in sorted(set.symmetric_difference(*crates())):
         failed += 1
         print(f"FAILED: {name} stands in crates.txt or in the table of docs/ARCHITECTURE.md, and not in both")
+    for name in absent_places():
+        failed += 1
+        print(f"FAILED: docs/ARCHITECTURE.md, 'Where to put a change': {name} is not there")
+    for told, written in help_and_formats():
+        failed += told != written or not told
+        if told != written:
+            print(f"FAILED: the program's help has {told}, docs/FORMATS.md {written}")
     for document in documents():
         for link, line in links(document.read_text()):
             if ELSEWHERE.match(link):
