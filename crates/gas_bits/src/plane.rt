@@ -5,7 +5,8 @@ ghost use Rattle.std.specs.List.{All, range_with_len};
 ghost use Rattle.gas_geom.specs.Gas.{holds};
 ghost use Rattle.gas_bits.specs.Words.{words_in, bit};
 
-use crate::word::{clear_above, fill_word, pack_word};
+use crate::states::pack_word;
+use crate::word::{clear_above, fill_word};
 
 /// What decides which particles arrive in one direction of a row. Each plane has a word for every
 /// 64 cells.

@@ -1,9 +1,10 @@
 //! The states of 64 cells, from a word for each direction and back.
-ghost use Rattle.std.specs.Prelude.{◌≡◌, ◌<◌, ◌≤◌, ◌==◌, ◌&&◌, ◌||◌, ℕ, length, slice_index};
+ghost use Rattle.std.specs.Prelude.{◌≡◌, ◌<◌, ◌≤◌, ℕ, false, length, slice_index, slice_index_or};
 ghost use Rattle.gas_geom.specs.Gas.{holds};
 ghost use Rattle.gas_geom.specs.Planes.{set_at};
 
-use crate::word::{add_bit, has_bit};
+use crate::word::has_bit;
+use std::simd::prelude::*;
 
 /// Returns the state of cell `b`, 0 to 63, from a word for each direction.
 #[inline(always)]
@@ -34,17 +35,15 @@ pub fn states_of(planes: [u64; 8], dirs: usize) -> [u8; 64]
     states
 }
 
-// Adds the directions that cell `b`, 0 to 63, holds.
+// The word of direction `i`, from the states of 64 cells.
 #[inline(always)]
-fn add_state(planes: &mut [u64; 8], dirs: usize, b: u32, state: u8)
-    requires few_dirs { dirs ≤ 8 }
-    requires within { b < 64 }
-    ensures { (i c : ℕ) → i < dirs → c < 64 → holds (slice_index planes.new i) c
-        ≡ (((c == b) && holds state i) || holds (slice_index planes.old i) c) }
+fn plane_of(states: u8x64, i: u32) -> u64
+    requires { i < 8 }
+    ensures { (b : ℕ) → b < 64 → holds result b ≡ holds (slice_index states b) i }
 {
-    for i in 0..dirs {
-        planes[i] = add_bit(planes[i], b, has_bit(u64::from(state), i as u32));
-    }
+    (states & u8x64::splat(1 << i))
+        .simd_ne(u8x64::splat(0))
+        .to_bitmask()
 }
 
 /// Returns a word for each direction, from the states of at most 64 cells. Bits past them are 0.
@@ -55,9 +54,26 @@ pub fn planes_of(states: &[u8], dirs: usize) -> [u64; 8]
     ensures planes { (i b : ℕ) → i < dirs → b < 64 → holds (slice_index result i) b
         ≡ holds (slice_index states.now b) i }
 {
-    let mut planes = [0; 8];
+    let mut cells = [0; 64];
     for b in 0..states.len() {
-        add_state(&mut planes, dirs, b as u32, states[b]);
+        cells[b] = states[b];
+    }
+    let cells = u8x64::from_array(cells);
+    let mut planes = [0; 8];
+    for i in 0..dirs {
+        planes[i] = plane_of(cells, i as u32);
     }
     planes
+}
+
+/// The word of at most 64 cells, the first in the least bit, with 0 for the others.
+pub(crate) fn pack_word(cells: &[bool]) -> u64
+    requires { length cells.now ≤ 64 }
+    ensures { (b : ℕ) → holds result b ≡ slice_index_or cells.now b false }
+{
+    let mut states = [0; 64];
+    for b in 0..cells.len() {
+        states[b] = u8::from(cells[b]);
+    }
+    plane_of(u8x64::from_array(states), 0)
 }

@@ -36,15 +36,6 @@ pub fn with_bit(word: u64, bit: u32, value: bool) -> u64
     }
 }
 
-/// Returns the word with bit `bit`, 0 to 63, set if the value is true.
-#[inline(always)]
-pub fn add_bit(word: u64, bit: u32, value: bool) -> u64
-    requires within { bit < 64 }
-    ensures bits { (b : ℕ) → holds result b ≡ (((b == bit) && value) || holds word b) }
-{
-    if value { word | (1 << bit) } else { word }
-}
-
 /// Returns the word whose 64 bits have this value.
 #[inline(always)]
 pub(crate) fn fill_word(value: bool) -> u64
@@ -60,18 +51,6 @@ pub fn join_halves(low: u32, high: u32) -> u64
         ≡ (if nat_lt b 32 then holds low b else holds high (b - 32)) }
 {
     u64::from(low) | (u64::from(high) << 32)
-}
-
-/// Returns the word of at most 64 cells, the first in the least bit, with 0 for the others.
-pub(crate) fn pack_word(cells: &[bool]) -> u64
-    requires { length cells.now ≤ 64 }
-    ensures { (b : ℕ) → holds result b ≡ slice_index_or cells.now b false }
-{
-    let mut word = 0;
-    for (b, cell) in cells.iter().enumerate() {
-        word = add_bit(word, b as u32, *cell);
-    }
-    word
 }
 
 /// Returns the word with the bits above `last`, 0 to 63, cleared.
