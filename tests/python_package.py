@@ -278,7 +278,7 @@ class Package(unittest.TestCase):
         later.save(kept)
         for old, new, part in (("66", "64", "size is (66, 9), and not (64, 9)"), ("3, 4]", "3, 3]", "fluid is 582, and not 585"),
                                ("300", "301", f"particles is {start.particles}, and not"), ("= 7", "= 8", "seed is 7, and not 8"),
-                               ("fhp1", "fhp-rest", "gas is fhp1"), ("seed", "chirality = 'left'\nseed", "chirality is seeded, and not left"),
+                               ("fhp1", "fhp-rest", "gas is fhp1"), ("seed", "chirality = 'left'\nseed", "chirality is seeded"),
                                ("gas", "version = 2\ngeneration = 4\ngas", "they are of generation 3, and it is of 4"),
                                ("gas", "version = 2\ngeneration = 3\ngas", "they are of generation 3, and it is of 3, with other cells")):
             self.fault(part, fhpgas.Lattice.load(AREA.replace(old, new)).long_run, 10, 4, kept)
@@ -312,6 +312,8 @@ class Package(unittest.TestCase):
             parts = [[lattice.states[top : top + 20, left : left + 30].ravel().tolist() for left in (0, 30, 60)] for top in (0, 20)]
             counts = [[[sum(state >> i & 1 for state in part) for part in row] for row in parts] for i in range(lattice.gas.directions)]
             self.assertEqual((lattice.counts(30, 20).tolist(), lattice.counts().tolist()), (counts, np.sum(counts, (1, 2)).tolist()))
+            self.same(lattice.counts(None, 20), np.sum(counts, 2, keepdims=True))
+            self.assertEqual(lattice.blocks(None, 9), lattice.blocks(65, 9))
             self.same(lattice.momentum, np.sum(counts, (1, 2)) @ lattice.gas.velocities)
             self.same(lattice.momentum, lattice.gas.units * [lattice.blocks().px.sum(), lattice.blocks().py.sum()], 9)
 

@@ -76,8 +76,8 @@ def _turn(row: Array, fluid: Array, number: int, gas: Gas, lots: np.random.PCG64
     both = 1 | 1 << int(gas.opposite[0])
     free, number = np.flatnonzero(row & both == (both ^ 1 if number > 0 else 1)), abs(number)
     if number > len(free):
-        raise Fault(f"row {y} has {len(free)} particles to turn, and {number} must be: the flow is too fast, the force too large, or the gas"
-                    " too thin")
+        raise Fault(f"row {y} has {len(free)} particles to turn, and {number} must be: the flow is too fast, the force too large, or the"
+                    " gas too thin")
     starts = np.sort(fluid[(_uniform(lots, number) * len(fluid)).astype(int)])
     places, order = np.searchsorted(free, starts), np.arange(number)
     taken = np.maximum.accumulate(places - order) + order

@@ -114,14 +114,18 @@ class Lattice(Value):
         """The numbers of particles by direction: [b] of all cells, or [b, row, column] of blocks of so many columns and rows."""
         if width is None and height is None:
             return np.bincount(self.states.ravel(), minlength=128) @ self.gas.bits.astype(int)
-        columns, rows = self.size
-        return block_sums(self.states, self.gas.bits.T, columns if width is None else width, rows if height is None else height)
+        return block_sums(self.states, self.gas.bits.T, *self._block(width, height))
 
-    def blocks(self, width: int = 8, height: int = 9) -> Blocks:
-        """Sums over blocks of so many columns and rows. Blocks of 8 x 9 cells of the triangular lattice are nearly square."""
+    def blocks(self, width: int | None = 8, height: int | None = 9) -> Blocks:
+        """Sums over blocks of so many columns and rows, None for all: `blocks(None, 1)` is a profile across the channel. Blocks of 8 x 9
+        cells of the triangular lattice are nearly square."""
+        width, height = self._block(width, height)
         (fluid,) = block_sums(self.solid.view(np.uint8), np.array([[1, 0]]), width, height)
         particles, px, py = block_sums(self.states, np.stack([self.gas.number, self.gas.px, self.gas.py]), width, height)
         return Blocks(fluid, particles, px, py, self.gas, (width, height), self.size, self.generation)
+
+    def _block(self, width: int | None, height: int | None) -> tuple[int, int]:
+        return self.size[0] if width is None else width, self.size[1] if height is None else height
 
     def __repr__(self) -> str:
         columns, rows = self.size

@@ -1,6 +1,7 @@
 """Finds and runs the program on the text of a scene: `check`, calls, plans, and runs side by side. It needs the standard library only."""
 import concurrent.futures
 import contextlib
+import contextvars
 import functools
 import multiprocessing
 import os
@@ -18,7 +19,7 @@ from .fault import Fault, integer
 ABOVE = pathlib.Path(__file__).resolve().parents[2]  # the repository, or the unpacked archive
 HEIGHT = re.compile(rb"^[ \t]*height[ \t]*=[ \t]*(\d+)", re.M)
 MOST_BYTES, MOST_GENERATIONS, MOST_STAGES, CAPACITY = 67_108_864, 1_000_000, 64, 128
-_cores = 0  # of the runs of a worker of `side_by_side`, 0 in other processes
+_cores = contextvars.ContextVar("cores", default=0)  # of a run of `side_by_side`, 0 for any other
 
 Scene = str | os.PathLike[str]  # the text of a scene, or a path
 
@@ -65,7 +66,7 @@ def call(scene: bytes, *words: object, is_checked: bool = False) -> bytes:
     because pipes take longer than the program. On a terminal the program itself reports its progress, so the scene is checked first."""
     if len(scene) > MOST_BYTES:
         raise Fault(f"the scene has {len(scene)} bytes, and the program reads {MOST_BYTES}: an area describes a large lattice in few lines")
-    shows = not _cores and words[0] != "check" and sys.stderr.isatty()
+    shows = not _cores.get() and words[0] != "check" and sys.stderr.isatty()
     if shows and not is_checked:
         call(scene, "check")
     with os.fdopen(os.memfd_create("scene"), "w+b", 0) as given, os.fdopen(os.memfd_create("answer"), "w+b", 0) as answer:
@@ -106,7 +107,7 @@ def summary(scene: bytes) -> Summary:
 def plan(rows: int, generations: int, cores: int | None = None) -> tuple[int, int]:
     """Good numbers of stages and rows per belt (docs/PERFORMANCE.md): four workers per core, at most one per 16 rows or per generation.
     `cores` are by default those that this process may use, in a run of `side_by_side` its share of them."""
-    cores = cores or _cores or len(os.sched_getaffinity(0))
+    cores = cores or _cores.get() or len(os.sched_getaffinity(0))
     return max(1, min(4 * cores, rows // 16, generations, MOST_STAGES)), CAPACITY
 
 
@@ -126,8 +127,9 @@ def height_of(scene: bytes) -> int:
 
 
 def show_progress(text: str) -> None:
-    """Shows a line on the terminal instead of the one before, if standard error is a terminal. An empty text wipes it."""
-    if sys.stderr.isatty():
+    """Shows a line on the terminal instead of the one before, if standard error is a terminal. An empty text wipes it. A run of
+    `side_by_side` shows nothing."""
+    if sys.stderr.isatty() and not _cores.get():
         print(f"\r\033[K{text}", end="", file=sys.stderr, flush=True)
 
 
@@ -154,8 +156,9 @@ def side_by_side(function: Callable[[Any], Any], values: Iterable[Any], executor
 
 
 def _take(function: Callable[[Any], Any], cores: int) -> None:
-    global _function, _cores
-    _function, _cores = function, cores
+    global _function
+    _function = function
+    _cores.set(cores)
     signal.signal(signal.SIGINT, _pass)
 
 
@@ -169,12 +172,11 @@ def _taken(value: Any) -> Any:
 
 def _alone(function: Callable[[Any], Any], value: Any) -> Any:
     """A call in the worker of an executor: it has one core."""
-    global _cores
-    before, _cores = _cores, 1
+    token = _cores.set(1)
     try:
         return function(value)
     finally:
-        _cores = before
+        _cores.reset(token)
 
 
 @contextlib.contextmanager
