@@ -143,8 +143,8 @@ class Commands(unittest.TestCase):
         self.assertEqual([ax.get_title() for ax in figure.axes[:4]], [f"generation {20 * k}" for k in range(4)])
         for ax in figure.axes[:4]:
             self.assertTrue(np.allclose(ax.images[0].get_clim(), (-most, most)))
-            self.assertTrue((ax.images[1].get_array()[..., 3].astype(bool) == disc).all())
-        self.assertEqual(len(fhpgas.strip(start.replace(states=start.states).every(0, 2), columns=1).axes), 4)
+            self.assertTrue((np.ma.getmaskarray(ax.images[1].get_array()) != disc).all())
+        self.assertEqual(len(fhpgas.strip(start.every(1, 2), columns=1).axes), 4)  # and the bar
         for suffix in ("gif", "webp", "apng", *(["mp4"] if shutil.which("ffmpeg") else [])):
             path = self.room / f"film.{suffix}"
             fhpgas.film(path, (lattice for lattice in many), "vorticity", smooth=1, dpi=50)
@@ -154,7 +154,7 @@ class Commands(unittest.TestCase):
                 self.assertEqual((len(frames), frames[0].shape[1]), (4, 350))
                 self.assertTrue(all((a != b).any() for a, b in itertools.combinations(frames, 2)), suffix)
         fhpgas.film(self.room / "few.gif", self.start.replace(states=self.start.states).every(1, 2))
-        for call, part in ((lambda: fhpgas.film(self.room / "a.gif", []), "a frame or more"), (lambda: fhpgas.film("a.avi", many), "a.avi: a film is written as"),
+        for call, part in ((lambda: fhpgas.film(self.room / "a.gif", []), "a state or more"), (lambda: fhpgas.film("a.avi", many), "a.avi: a film is written as"),
                            (lambda: fhpgas.strip([]), "a state or more"), (lambda: fhpgas.film("a.gif", many, fps=0), "frames per second")):
             with self.assertRaisesRegex(fhpgas.Fault, part):
                 call()
@@ -179,6 +179,7 @@ class Commands(unittest.TestCase):
         self.assertFalse((self.room / "a.gif").exists())
 
     def test_the_parser_knows_the_names_of_the_package(self):
+        self.assertIn(f"\n## {fhpgas.__version__}\n", (needs.ROOT / "CHANGELOG.md").read_text())
         self.assertEqual((set(drawing.GASES), __main__.FIELDS, __main__.FILMS), (set(fhpgas.GASES), tuple(pictures.FIELDS), pictures.PILLOW + pictures.FFMPEG))
 
     def test_refused_scenes_are_explained_without_numpy(self):

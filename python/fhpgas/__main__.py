@@ -101,8 +101,8 @@ def looks(asked: argparse.Namespace) -> dict[str, Any]:
     """The options of a picture."""
     if asked.low is not None and asked.high is not None and asked.low >= asked.high:
         raise Usage(f"--low {asked.low:g} is not below --high {asked.high:g}")
-    limits = {"vmin": asked.low, "vmax": asked.high}
-    return {"block": asked.block or (8, 9), "smooth": asked.smooth} | {name: limit for name, limit in limits.items() if limit is not None}
+    limits = {name: limit for name, limit in (("vmin", asked.low), ("vmax", asked.high)) if limit is not None}
+    return {"block": asked.block or (8, 9), "smooth": asked.smooth} | limits
 
 
 def picture(asked: argparse.Namespace) -> None:

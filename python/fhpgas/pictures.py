@@ -20,12 +20,10 @@ from .gases import Array
 if TYPE_CHECKING:
     from matplotlib.axes import Axes
     from matplotlib.figure import Figure
-    from matplotlib.image import AxesImage
 
     from .lattice import Lattice
 
-PLAIN, SIGNED = "viridis", "RdBu_r"
-VELOCITY = "cells per generation"
+PLAIN, SIGNED, VELOCITY = "viridis", "RdBu_r", "cells per generation"
 FIELDS = {  # the unit and the colours of what is shown
     "speed": (VELOCITY, PLAIN), "east": (VELOCITY, SIGNED), "north": (VELOCITY, SIGNED), "vorticity": ("1 per generation", SIGNED),
     "density": ("particles per cell", PLAIN), "filling": ("particles per direction", PLAIN), "pressure": ("per cell", PLAIN),
@@ -42,19 +40,19 @@ class Shown(NamedTuple):
     blocks: Blocks
     solid: Array | None
 
+    @property
+    def generation(self) -> int:
+        return self.blocks.generation
+
 
 def chosen(source: Lattice | Blocks, what: Any) -> Any:
-    """What is shown of a lattice or of blocks if this is asked for, PARTICLES if it is particles."""
-    is_lattice = not isinstance(source, Blocks)
+    """What is shown of a lattice or of blocks if this is asked for: an array, the name of a field, or PARTICLES."""
+    can = [*FIELDS] if isinstance(source, Blocks) else [*FIELDS, PARTICLES]
     if what is None:
         return PARTICLES if not isinstance(source, Blocks) and source.states.size <= SMALL else "speed"
-    if not isinstance(what, str):
-        return np.asarray(what)
-    if what == PARTICLES and is_lattice:
-        return PARTICLES
-    if what not in FIELDS:
-        raise Fault(f"there is no picture of {what!r}: {', '.join([*FIELDS, PARTICLES] if is_lattice else FIELDS)}")
-    return what
+    if isinstance(what, str) and what not in can:
+        raise Fault(f"there is no picture of {what!r}: {', '.join(can)}")
+    return (PARTICLES if what == PARTICLES else what) if isinstance(what, str) else np.asarray(what)
 
 
 def field(source: Lattice | Blocks, what: Any, block: Sequence[int], smooth: float) -> Shown:
@@ -68,43 +66,47 @@ def field(source: Lattice | Blocks, what: Any, block: Sequence[int], smooth: flo
     return Shown(np.ma.masked_where(~np.isfinite(values) | (2 * blocks.fluid < cells - 0.5), values), blocks, solid)
 
 
-def colours(fields: list[Shown], what: Any, options: dict[str, Any]) -> dict[str, Any]:
-    """The options of images with one range of values for all fields, which is symmetric about 0 if the field has a sign."""
+def prepared(sources: Iterable[Lattice | Blocks], what: Any, block: Sequence[int], smooth: float, options: dict[str, Any]) -> tuple[
+        Any, list[Any], dict[str, Any]]:
+    """What is shown, the fields (or lattices, if their particles are shown), and the options of their images: all have one range of values,
+    which is symmetric about 0 if the field has a sign."""
+    many = list[Any]()
+    for source in sources:
+        what = chosen(source, what)
+        many.append(source if what is PARTICLES else field(source, what, block, smooth))
+    if not many:
+        raise Fault("a picture has a state or more")
+    if what is PARTICLES:
+        return what, many, {}
     from matplotlib import colormaps
 
-    known = np.concatenate([shown.values.compressed() for shown in fields])
+    known, name = np.concatenate([shown.values.compressed() for shown in many]), FIELDS[what][1] if isinstance(what, str) else PLAIN
     least, most = (float(known.min()), float(known.max())) if known.size else (0.0, 1.0)
-    name = FIELDS[what][1] if isinstance(what, str) else PLAIN
     if name == SIGNED:
         least, most = min(least, -most), max(most, -least)
     shades = options.get("cmap", name)
     shades = (colormaps[shades] if isinstance(shades, str) else shades).copy()
-    shades.set_bad(GREY if fields[0].solid is None else PALE)
-    return {"interpolation": "nearest"} | ({} if "norm" in options else {"vmin": least, "vmax": most}) | options | {"cmap": shades}
+    shades.set_bad(GREY if many[0].solid is None else PALE)
+    limits = {} if "norm" in options else {"vmin": least, "vmax": most}
+    return what, many, {"interpolation": "nearest"} | limits | options | {"cmap": shades}
 
 
-def paint(ax: Axes, shown: Shown, options: dict[str, Any]) -> AxesImage:
-    """The image of a field on Axes in cells' widths, and the solid cells over it."""
+def draw(shown: Any, ax: Axes, options: dict[str, Any]) -> Any:
+    """A field as an image on Axes in cells' widths, with the solid cells over it, or the particles of a lattice."""
+    if not isinstance(shown, Shown):
+        return particles(shown, ax)
     blocks = shown.blocks
     (x, y), (rows, columns), (width, height) = blocks.edges, blocks.fluid.shape, blocks.block
     full = x[0], x[0] + columns * width, y[0] - rows * height * blocks.gas.row_distance, y[0]  # as if the last blocks were not smaller
     image = ax.imshow(shown.values, extent=full, **options)
-    if shown.solid is not None and shown.solid.any():
-        over = np.zeros((*shown.solid.shape, 4))
-        over[shown.solid] = (*[float(GREY)] * 3, 1)
-        ax.imshow(over, extent=(x[0], x[-1], y[-1], y[0]))
+    if shown.solid is not None:
+        ax.imshow(np.where(shown.solid, float(GREY), np.nan), cmap="gray", vmin=0, vmax=1, extent=(x[0], x[-1], y[-1], y[0]))
     ax.set(xlim=(x[0], x[-1]), ylim=(y[-1], y[0]), xlabel="x (cells)", ylabel="y (cells)")
     return image
 
 
-def bar(image: AxesImage, what: Any, ax: Axes) -> None:
-    """The bar of an image's colours, beside its Axes and as high as they are."""
-    label = f"{what}\n({FIELDS[what][0]})" if isinstance(what, str) else None
-    ax.figure.colorbar(image, cax=ax.inset_axes((1.02, 0, 0.025, 1)), label=label)
-
-
-def particles(lattice: Any, ax: Axes) -> Axes:
-    """A small lattice: moving particles as arrows, particles at rest as dots, solid cells grey, and the walls as lines."""
+def particles(lattice: Lattice, ax: Axes) -> Axes:
+    """Moving particles as arrows, particles at rest as dots, solid cells grey, and the walls as lines."""
     from matplotlib.collections import EllipseCollection, PolyCollection
 
     gas, (X, Y) = lattice.gas, np.broadcast_arrays(*lattice.positions)
@@ -127,8 +129,15 @@ def particles(lattice: Any, ax: Axes) -> Axes:
     return ax
 
 
+def bar(image: Any, what: Any, ax: Axes) -> None:
+    """The bar of an image's colours, beside its Axes and as high as they are. Arrows have none."""
+    if what is not PARTICLES:
+        label = f"{what}\n({FIELDS[what][0]})" if isinstance(what, str) else None
+        ax.figure.colorbar(image, cax=ax.inset_axes((1.02, 0, 0.025, 1)), label=label)
+
+
 def plot(source: Lattice | Blocks, what: Any = None, ax: Axes | None = None, *, block: Sequence[int] = (8, 9), smooth: float = 0.0,
-         colorbar: bool = True, **options: Any) -> AxesImage | Axes:
+         colorbar: bool = True, **options: Any) -> Any:
     """Shows a lattice or blocks on Axes of matplotlib (None: pyplot's), and returns the image.
 
     `what` is "speed", "east", "north", "vorticity", "density", "filling" or "pressure", an array [row, column] of the blocks, or "particles"
@@ -139,10 +148,8 @@ def plot(source: Lattice | Blocks, what: Any = None, ax: Axes | None = None, *, 
         from matplotlib import pyplot
 
         ax = pyplot.gca()
-    if (what := chosen(source, what)) is PARTICLES:
-        return particles(source, ax)
-    shown = field(source, what, block, smooth)
-    image = paint(ax, shown, colours([shown], what, options))
+    what, (shown,), options = prepared([source], what, block, smooth, options)
+    image = draw(shown, ax, options)
     if colorbar:
         bar(image, what, ax)
     return image
@@ -150,30 +157,25 @@ def plot(source: Lattice | Blocks, what: Any = None, ax: Axes | None = None, *, 
 
 def strip(sources: Iterable[Lattice | Blocks], what: Any = None, *, block: Sequence[int] = (8, 9), smooth: float = 0.0,
           columns: int | None = None, **options: Any) -> Figure:
-    """A figure of pyplot with several states of a lattice, which have one range of colours. `columns` is how many stand beside one another.
-    All else is as in `plot`."""
+    """A figure of pyplot with several states of a lattice, which have one range of colours. `columns` is how many stand beside one another,
+    by default as many as make the figure about three times as wide as high. All else is as in `plot`."""
     from matplotlib import pyplot
 
-    many = list(sources)
-    if not many:
-        raise Fault("a strip has a state or more")
-    n, aspect = len(many), many[0].size[1] * many[0].gas.row_distance / many[0].size[0]
+    sources = list(sources)
+    what, many, options = prepared(sources, what, block, smooth, options)
+    n, aspect = len(many), sources[0].size[1] * sources[0].gas.row_distance / sources[0].size[0]
     across = integer("the number of columns", columns, 1, n) if columns is not None else min(
-        (k for k in range(1, n + 1) if n % k == 0), key=lambda k: abs(np.log(k * k / n / aspect / 3)))  # about three times as wide as high
+        (k for k in range(1, n + 1) if n % k == 0), key=lambda k: abs(np.log(k * k / n / aspect / 3)))
     down = -(-n // across)
     figure, grid = pyplot.subplots(down, across, figsize=(9, down * (7.6 / across * aspect + 0.4) + 0.5), layout="constrained", squeeze=False,
                                    sharex=True, sharey=True)
-    what = chosen(many[0], what)
-    fields = [] if what is PARTICLES else [field(source, what, block, smooth) for source in many]
-    options = colours(fields, what, options) if fields else {}
-    for k, ax in enumerate(grid.flat):
-        if k < n:
-            image = paint(ax, fields[k], options) if fields else particles(many[k], ax)
-            ax.set_title(f"generation {many[k].generation}", fontsize="medium")
-            ax.label_outer()
-        else:
-            ax.remove()
-    if fields:
+    for shown, ax in zip(many, grid.flat):
+        image = draw(shown, ax, options)
+        ax.set_title(f"generation {shown.generation}", fontsize="medium")
+        ax.label_outer()
+    for ax in grid.flat[n:]:
+        ax.remove()
+    if what is not PARTICLES:
         figure.colorbar(image, ax=grid, label=f"{what} ({FIELDS[what][0]})" if isinstance(what, str) else None, aspect=30)
     return figure
 
@@ -199,33 +201,24 @@ def film(path: str | os.PathLike[str], sources: Iterable[Lattice | Blocks], what
          smooth: float = 0.0, fps: float = 10.0, dpi: int = 100, **options: Any) -> None:
     """Writes a film of lattices or blocks, which may come one by one, as .gif, .webp, .apng, or if there is ffmpeg as .mp4. All frames have
     one range of colours. `fps` is the frames per second, and with 100 `dpi` a frame is 700 pixels wide. All else is as in `plot`."""
-    writer, dpi, figure = film_writer(path, fps), integer("the dots per inch", dpi, 10, 1000), None
-    frames, fields = list[Any](), list[Shown]()
-    for source in sources:
-        figure, what = figure or figure_of(source), chosen(source, what)
-        frames.append(source if what is PARTICLES else source.generation)
-        fields += [] if what is PARTICLES else [field(source, what, block, smooth)]
-    if figure is None:
-        raise Fault("a film has a frame or more")
+    writer, dpi = film_writer(path, real("the frames per second", fps, 0.1, 100)), integer("the dots per inch", dpi, 10, 1000)
+    what, many, options = prepared(sources, what, block, smooth, options)
+    figure = figure_of(many[0] if what is PARTICLES else many[0].blocks)
     ax = figure.add_subplot(title="generation")
-    if fields:
-        image = paint(ax, fields[0], colours(fields, what, options))
-        bar(image, what, ax)
+    bar(draw(many[0], ax, options), what, ax)
     figure.draw_without_rendering()
-    figure.set_layout_engine("none")
+    figure.set_layout_engine("none")  # so that nothing moves
     with writer.saving(figure, os.fspath(path), dpi):
-        for k, frame in enumerate(frames):
-            if fields:
-                image.set_data(fields[k].values)
-            else:
-                ax.clear()
-                particles(frame, ax)
-            ax.set_title(f"generation {fields[k].blocks.generation if fields else frame.generation}")
+        for shown in many:
+            for artist in [*ax.images, *ax.collections]:
+                artist.remove()
+            draw(shown, ax, options)
+            ax.set_title(f"generation {shown.generation}")
             writer.grab_frame()
 
 
-def film_writer(path: str | os.PathLike[str], fps: float = 10.0) -> Any:
-    """The writer of matplotlib for a file's suffix. An unknown one raises a Fault."""
+def film_writer(path: str | os.PathLike[str], fps: float) -> Any:
+    """The writer of matplotlib for a file's suffix."""
     from matplotlib.animation import FFMpegWriter, PillowWriter
 
     class Pictures(PillowWriter):
@@ -233,8 +226,7 @@ def film_writer(path: str | os.PathLike[str], fps: float = 10.0) -> Any:
             super().grab_frame(**options)
             self._frames[-1] = self._frames[-1].convert("RGB")  # of frames that may be transparent a GIF has few colours
 
-    suffix, fps = pathlib.Path(path).suffix, real("the frames per second", fps, 0.1, 100)
-    if suffix not in PILLOW + FFMPEG:
+    if (suffix := pathlib.Path(path).suffix) not in PILLOW + FFMPEG:
         raise Fault(f"{path}: a film is written as {', '.join(PILLOW + FFMPEG)}")
     if suffix in FFMPEG and not FFMpegWriter.isAvailable():
         raise Fault(f"{path}: a film of this kind needs the program ffmpeg")
