@@ -550,10 +550,13 @@ class Package(unittest.TestCase):
 
     def test_an_interrupt_ends_the_programs_too(self):
         """Of a process that is interrupted alone, as a notebook's is: it raises a KeyboardInterrupt, and no run goes on."""
+        script = ("import fhpgas, signal\nsignal.signal(signal.SIGINT, signal.default_int_handler)  # in the background it is ignored\n"
+                  "long = lambda seed: fhpgas.gas(0.2, size=(4096, 64), seed=seed).run(10**6)\n")
         for call in ("long(0)", "fhpgas.side_by_side(long, range(2))"):
-            script = f"import fhpgas\nlong = lambda seed: fhpgas.gas(0.2, size=(4096, 64), seed=seed).run(10**6)\nprint({call})"
-            with subprocess.Popen([sys.executable, "-c", script], stderr=subprocess.PIPE, text=True, start_new_session=True) as process:
+            words = [sys.executable, "-c", script + call]
+            with subprocess.Popen(words, stderr=subprocess.PIPE, text=True, start_new_session=True) as process:
                 while not (runs := programs_of(process.pid)):
+                    self.assertIsNone(process.poll())
                     time.sleep(0.01)
                 process.send_signal(signal.SIGINT)
                 self.assertIn("KeyboardInterrupt", process.communicate(timeout=60)[1])
