@@ -9,7 +9,6 @@ import fhpgas
 import numpy as np
 from fhpgas import theory
 
-FILLINGS = np.array([0.1, 0.2, 0.3, 0.4, 0.5])
 VISCOSITIES = {
     "fhp1": lambda d: 1 / (12 * d * (1 - d) ** 3) - 1 / 8,
     "fhp-rest": lambda d: 1 / (28 * d * (1 - d) ** 3 * (1 - 4 * d / 7)) - 1 / 8,
@@ -34,17 +33,12 @@ def summed_factor(gas, d, u=0.001):
 
 def in_a_channel(gas):
     """The numbers of particles that occur, and in how many generations walls and disc account for the change of the momentum."""
-    lattice = fhpgas.gas(0.2, 0.2, solid=fhpgas.disc((64, 24), 20, 12, 4, gas), gas=gas, seed=1)
-    numbers, balanced = {lattice.particles}, 0
-    for _ in range(100):
-        before, lattice = lattice.momentum, lattice.run(1)
-        numbers.add(lattice.particles)
-        balanced += bool(np.allclose(before - lattice.momentum, sum(fhpgas.forces(lattice).values()), atol=1e-6))
-    return " ".join(map(str, sorted(numbers))), balanced
+    lattices = [*fhpgas.gas(0.2, 0.2, solid=fhpgas.disc((64, 24), 20, 12, 4, gas), gas=gas, seed=1).every(1, 100)]
+    lost = [old.momentum - new.momentum - sum(fhpgas.forces(new).values()) for old, new in zip(lattices, lattices[1:])]
+    return " ".join(map(str, sorted({each.particles for each in lattices}))), sum(abs(each).max() < 1e-6 for each in lost)
 
 
 def draw(path, gas, changed, left, right):
-    """The colliding states with arrows, above what becomes of them to the left and to the right."""
     states = np.zeros((5, 2 * len(changed)), np.uint8)
     states[::2, ::2] = changed, left[changed], right[changed]
     with common.axes(path, size=(1 + 0.6 * len(changed), 2.4)) as ax:
@@ -57,20 +51,19 @@ def draw(path, gas, changed, left, right):
 def main():
     asked = common.Options(__doc__, "fhp1", "fhp-rest", "hpp", figure="the states that collide, before and after").parse_args()
     gas = fhpgas.gas_named(asked.gas)
-    left, right = (collided(gas, side) for side in ("left", "right"))
-    states = np.arange(len(left))
+    left, right, states = *(collided(gas, side) for side in ("left", "right")), np.arange(1 << gas.directions)
     rules = sum(np.array_equal(gas.collisions(side)[: len(states)], found) for side, found in (("left", left), ("right", right)))
     kept = sum(all(of[state] == of[left[state]] == of[right[state]] for of in (gas.number, gas.px, gas.py)) for state in states)
     changed = np.flatnonzero(left != states)
     print(f"{gas.name}: {len(changed)} of {len(states)} states collide\nstate   left  right")
     for state in changed:
         print(f"   {state:02x}     {left[state]:02x}     {right[state]:02x}")
-    print(f"tables that are those of the rules: {rules} of 2")
-    print(f"states that conserve particles and momentum: {kept} of {len(states)}")
+    print(f"tables that are those of the rules: {rules} of 2\nstates that conserve particles and momentum: {kept} of {len(states)}")
     print("past a disc: particles {}, momentum balanced in {} of 100 generations".format(*in_a_channel(gas)))
     if gas.name in VISCOSITIES:
         sums, formulas = (theory.viscosity, summed_factor), (lambda gas, d: VISCOSITIES[gas.name](d), theory.galilean_factor)
-        for row in zip(FILLINGS, *(of(gas, FILLINGS) for pair in zip(sums, formulas) for of in pair)):
+        fillings = np.arange(1, 6) / 10
+        for row in zip(fillings, *(of(gas, fillings) for pair in zip(sums, formulas) for of in pair)):
             print("d {}: viscosity, summed {:.4f} formula {:.4f}, g, summed {:.4f} formula {:.4f}".format(*row))
     if asked.picture:
         draw(asked.picture, gas, changed, left, right)

@@ -14,13 +14,15 @@ number, whole = fault.number, fault.whole  # types of options
 class Options(fault.Parser):
     """A command line whose faults are one line. `--small` chooses other defaults, with which the tests run the experiment."""
 
-    def __init__(self, text, *gases, figure):
+    def __init__(self, text, *gases, figure, seeds=None):
         super().__init__(description=text, allow_abbrev=False)
         self.is_small = "--small" in sys.argv[1:]
         self.add_argument("--small", action="store_true", help="other defaults: a run of some seconds")
         self.add_argument("--picture", type=writable, metavar="FILE", help=f"draw {figure}: .png, .pdf, .svg")
         if gases:
             self.add_argument("--gas", choices=gases, default=gases[0], help=f"default {gases[0]}")
+        if seeds:
+            self.option("--seeds", whole(2, 1000), *seeds, "how many")
 
     def option(self, name, kind, default, small, text, **more):
         value = small if self.is_small else default

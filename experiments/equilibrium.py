@@ -1,9 +1,8 @@
 #!/usr/bin/env python3
 """The approach to equilibrium: how fast collisions fill the directions of a gas as Fermi and Dirac say.
 
-At the start the directions are filled with chances far from equilibrium. Their particles are counted in the rows that the walls have not
-reached yet, and compared with the Boltzmann equation of a uniform gas and with 1 / (1 + exp(h + q.c)) of the same density and momentum. H
-is the sum of N ln N + (1 - N) ln (1 - N).
+The particles of the directions are counted in the rows that the walls have not reached yet, and compared with the Boltzmann equation of a
+uniform gas and with 1 / (1 + exp(h + q.c)) of the same density and momentum. H is the sum of N ln N + (1 - N) ln (1 - N).
 """
 import common
 import fhpgas
@@ -38,7 +37,6 @@ def h_of(chances):
 
 
 def draw(path, gas, means, errors, theory, names):
-    """The directions and H over time, beside Boltzmann's."""
     times = np.arange(len(theory))
     with common.axes(path, 1, 2) as (left, right):
         for i, name in enumerate(names):
@@ -53,23 +51,18 @@ def draw(path, gas, means, errors, theory, names):
 
 @common.experiment
 def main():
-    reader = common.Options(__doc__, *START, figure="the directions and H over time")
+    reader = common.Options(__doc__, *START, figure="the directions and H over time", seeds=(8, 8))
     reader.option("--size", common.whole(160, 4096), 1024, 192, "columns and rows")
-    reader.option("--seeds", common.whole(2, 1000), 8, 8, "how many")
     asked = reader.parse_args()
     gas, start = fhpgas.gas_named(asked.gas), np.array(START[asked.gas])
     runs = fhpgas.side_by_side(lambda seed: filled(asked, seed), range(1, asked.seeds + 1))
-    means, errors = fhpgas.mean(runs)
-    flow, theory = boltzmann.Flow(gas, [[False]]), [start]
-    while len(theory) <= GENERATIONS[-1]:
-        theory.append(flow.collided(theory[-1][:, None, None])[:, 0, 0])
-    theory = np.array(theory)
+    flow, (means, errors) = boltzmann.Flow(gas, np.zeros((2, 1)), has_walls=False), fhpgas.mean(runs)
+    theory = np.array([*flow.every(np.resize(start, (2, gas.directions)).T[..., None], 1, GENERATIONS[-1])])[..., 0, 0]
     names = ("E N W S" if gas.is_square else "E NE NW W SW SE rest").split()[: gas.directions]
     print("generation" + "".join(f"{name:>8}" for name in names) + "       H   H of Boltzmann")
     for generation, numbers in zip(GENERATIONS, means):
         print(f"{generation:10}" + "".join(f"{n:8.4f}" for n in numbers) + f"{h_of(numbers):9.4f}{h_of(theory[generation]):12.4f}")
-    equilibrium = fhpgas.equilibrium(gas, start.mean(), *(gas.velocities.T @ start / start.sum()))
-    for i, chance in enumerate(equilibrium):
+    for i, chance in enumerate(fhpgas.equilibrium(gas, start.mean(), *(gas.velocities.T @ start / start.sum()))):
         common.compare(f"direction {i} and Fermi-Dirac", [run[-1][i] for run in runs], chance, 4)
     common.compare("direction 0 after 2 and Boltzmann", [run[2][0] for run in runs], theory[2][0], 4)
     if asked.picture:

@@ -21,58 +21,49 @@ def places(asked, momenta):
     return (phases[0] - phases) * asked.wave / 2 / np.pi
 
 
-def factor(asked, found):
-    return np.polyfit(TIMES, found, 1)[0] / asked.wind
-
-
 def measured(asked, filling, seed):
-    """The places of the wave of a seed."""
     rows, edge = asked.height, min(128, asked.height // 4)
-    wave = np.resize(asked.across, asked.width)
-    lattice = fhpgas.gas(filling, asked.wind, wave, size=(asked.width, rows), gas=asked.gas, seed=seed)
+    lattice = fhpgas.gas(filling, asked.wind, np.resize(asked.across, asked.width), size=(asked.width, rows), gas=asked.gas, seed=seed)
     return places(asked, [later.blocks(BLOCK, 1).py[edge : rows - edge].sum(0) for later in lattice.every(STEP, PARTS)])
 
 
 def predicted(asked, filling):
-    """The places of the wave of the Boltzmann equation."""
     flow = boltzmann.Flow(asked.gas, np.zeros((2, asked.wave)), has_walls=False)
     states = flow.every(flow.at(filling, asked.wind, asked.across), STEP, PARTS)
     return places(asked, [flow.momentum(chances)[1].sum(0).reshape(-1, BLOCK).sum(1) for chances in states])
 
 
 def draw(path, asked, waves):
-    """The places of the waves over time with their lines, and the factors over the filling."""
+    d = np.linspace(0.05, 0.6, 100)
     with common.axes(path, 1, 2) as (left, right):
-        d, (fillings, *_) = np.linspace(0.05, 0.6, 100), zip(*waves)
-        for n, (filling, found, error, _) in enumerate(waves):
+        for n, (filling, found, error, factors) in enumerate(waves):
             left.errorbar(TIMES, found, error, fmt=f"C{n}o", ms=3, label=f"d = {filling}")
-            left.plot(TIMES, np.poly1d(np.polyfit(TIMES, found, 1))(TIMES), f"C{n}", lw=1)
+            left.plot(TIMES, np.polyval(np.polyfit(TIMES, found, 1), TIMES), f"C{n}", lw=1)
+            right.errorbar(filling, *fhpgas.mean(factors), fmt=f"C{n}o", ms=3)
         left.plot(TIMES, asked.wind * TIMES, "k:", lw=1, label="a fluid")
         left.set(xlabel="generations", ylabel="way of the wave, cells' widths", title=f"{asked.gas}, wind {asked.wind}, wave {asked.wave}")
         right.plot(d, theory.galilean_factor(asked.gas, d), "0.6", lw=1, label="published, slow wind")
         right.plot(d, theory.galilean_factor(asked.gas, d, asked.wind), "k", lw=1, label="Fermi and Dirac, this wind")
-        right.errorbar(fillings, *zip(*(fhpgas.mean(each[3]) for each in waves)), fmt="C0o", ms=3, label="measured")
         right.set(xlabel="filling d", ylabel="Galilean factor g")
         left.legend(fontsize=8), right.legend(fontsize=8)
 
 
 @common.experiment
 def main():
-    reader = common.Options(__doc__, "fhp1", "fhp-rest", figure="the way of the waves, and g over the filling")
+    reader = common.Options(__doc__, "fhp1", "fhp-rest", figure="the way of the waves, and g over the filling", seeds=(8, 4))
     reader.option("--filling", common.number(0.05, 0.6), [0.1, 0.2, 0.3, 0.4, 0.5], [0.2, 0.5], "fillings", nargs="+", metavar="D")
     reader.option("--wind", common.number(0.02, 0.3), 0.2, 0.2, "the speed of the wind", metavar="U")
     reader.option("--wave", common.whole(64, 4096), 128, 128, f"the length of the wave, a multiple of {BLOCK}")
     reader.option("--width", common.whole(64, 65536), 512, 512, "columns, a multiple of the wave")
     reader.option("--height", common.whole(256, 4096), 768, 256, "rows")
-    reader.option("--seeds", common.whole(2, 1000), 8, 4, "how many")
     asked, waves = reader.parse_args(), []
     if asked.wave % BLOCK or asked.width % asked.wave:
         raise fhpgas.Fault(f"the width is {asked.width}, and must be a multiple of the wave, {asked.wave}, and the wave of {BLOCK}")
     asked.across = ACROSS * np.sin(2 * np.pi * np.arange(asked.wave) / asked.wave)
     for filling in asked.filling:
         runs = fhpgas.side_by_side(lambda seed: measured(asked, filling, seed), range(1, asked.seeds + 1))
-        found = [factor(asked, run) for run in runs]
-        common.compare(f"{asked.gas} d {filling}: g", found, factor(asked, predicted(asked, filling)), 4)
+        *found, expected = (np.polyfit(TIMES, each, 1)[0] / asked.wind for each in (*runs, predicted(asked, filling)))
+        common.compare(f"{asked.gas} d {filling}: g", found, expected, 4)
         print(f"{'':34} published {theory.galilean_factor(asked.gas, filling):19.4f}")
         waves.append((filling, *fhpgas.mean(runs), found))
     if asked.picture:

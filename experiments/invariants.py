@@ -1,9 +1,8 @@
 #!/usr/bin/env python3
 """What these gases keep and a fluid does not (spurious invariants): three staggered momenta, and the momenta of the rows of HPP.
 
-A gas with a wind flows past a disc between walls. Its staggered momenta, (-1)^t times the sum over the lines along an axis of (-1)^line
-times the momentum across the line, stay to the last unit. In hpp a stream in one row of a gas at rest stays in its row. In fhp1 it spreads.
-These numbers are exact, so they have no errors.
+A staggered momentum is (-1)^t times the sum over the lines along an axis of (-1)^line times the momentum across the line. In hpp a stream
+in one row stays in its row. In fhp1 it spreads. These numbers are exact, so they have no errors.
 """
 import common
 import fhpgas
@@ -13,7 +12,6 @@ ROWS, MIDDLE = 17, 8
 
 
 def past_a_disc(gas, size, step):
-    """Prints momenta over time of a gas that flows past a disc, and returns the times, momenta and staggered momenta."""
     solid = fhpgas.disc((size, size), size // 3, size // 2, size // 8, gas)
     lattice, found = fhpgas.gas(0.3, 0.2, solid=solid, gas=gas, seed=1), []
     print(f"{gas} past a disc\ngeneration  eastwards  northwards  staggered")
@@ -24,7 +22,6 @@ def past_a_disc(gas, size, step):
 
 
 def stream(gas, size, step):
-    """Prints the momenta of the middle rows of a gas with a stream in one of them, and returns the momenta [time, row] of all."""
     east = np.where(np.arange(ROWS)[:, None] == MIDDLE, 0.3, 0)
     lattice, found = fhpgas.gas(0.2, east, size=(16 * size, ROWS), gas=gas, seed=1), []
     print(f"{gas}, a stream in one row: momentum eastwards of the rows {MIDDLE - 3} to {MIDDLE + 3}\ngeneration")
@@ -35,11 +32,9 @@ def stream(gas, size, step):
 
 
 def draw(path, momenta, streams, step):
-    """The momenta over time, and the streams' rows at five times."""
     with common.axes(path, 1, 3, (4, 3.4)) as panels:
-        for n, name in enumerate(("momentum eastwards", "northwards", "staggered, three axes", None, None)):
-            panels[0].plot(momenta[:, 0], momenta[:, 1 + n], f"C{min(n, 2)}o-", ms=3, lw=1, label=name)
-        panels[0].set(xlabel="generations", title="fhp1 past a disc")
+        panels[0].plot(momenta[:, 0], momenta[:, 1:], "o-", ms=3, lw=1, label=("eastwards", "northwards", "staggered", "same", "same"))
+        panels[0].set(xlabel="generations", ylabel="momentum", yscale="symlog", title="fhp1 past a disc")
         panels[0].legend(fontsize=8)
         for ax, (gas, found) in zip(panels[1:], streams.items()):
             for n, row in enumerate(found):
@@ -57,7 +52,7 @@ def main():
     if asked.size % 2:
         raise fhpgas.Fault(f"the size is {asked.size}: with an odd width the slanted lines close upon lines of the other sign")
     step = asked.generations // 4
-    momenta = [past_a_disc(gas, asked.size, step) for gas in ("fhp1", "fhp-rest")]
+    momenta, _ = (past_a_disc(gas, asked.size, step) for gas in ("fhp1", "fhp-rest"))
     streams = {gas: stream(gas, asked.size, step) for gas in ("hpp", "fhp1")}
     if asked.picture:
-        draw(asked.picture, momenta[0], streams, step)
+        draw(asked.picture, momenta, streams, step)

@@ -1,11 +1,10 @@
 #!/usr/bin/env python3
 """Poiseuille flow: a driven gas between two walls, its viscosity, its slip at the walls, and the odd viscosity of a chiral gas.
 
-`fhpgas.driven` turns particles from west to east in short intervals, a force F on every cell. The profile is the mean of the rows'
-velocities just before and just after the turnings, and u = F (zero^2 - y^2) / (2 b d viscosity) is fitted. Bounce-back makes walls with a
-slip of second order: in H rows the parabola ends at zero^2 = H^2 / 4 + K squared rows from the middle, with one K for every H. If the gas
-is chiral, a shear du/dy changes the density by -b d odd viscosity / c^2 du/dy. Theory: the same turnings, samples and fits with the
-noise-free Boltzmann equation. "Formula" is its stationary solution for a weak force in every generation (`fhpgas.theory.slip`).
+`fhpgas.driven` turns particles, a force F on every cell. To the mean of the rows' velocities before and after the turnings a parabola
+u = F (zero^2 - y^2) / (2 b d viscosity) is fitted. In H rows it ends at zero^2 = H^2 / 4 + K squared rows, with one slip K for every H. In
+a chiral gas a shear changes the density by -b d odd viscosity / c^2 du/dy. Theory: the same with the noise-free Boltzmann equation.
+"Formula" is its stationary solution for a weak force in every generation (`fhpgas.theory.slip`).
 """
 import common
 import fhpgas
@@ -37,7 +36,6 @@ class Channel:
         return -self.force / (2 * bent * self.mass), -middle / bend - self.rows**2 / 4, odd
 
     def measured(self, seed):
-        """The rows' velocities and densities, the means of a seed."""
         lattice = fhpgas.gas(self.filling, size=self.size, gas=self.gas, chirality=self.chirality, seed=seed)
         points = lattice.driven(self.last, self.every, force=self.force, seed=seed)
         steady = (each for point in points if point.before.generation > self.settled for each in (point.before, point.after))
@@ -46,14 +44,12 @@ class Channel:
         return total.east[:, 0], total.particles[:, 0] / len(blocks) / self.size[0]
 
     def predicted(self):
-        """The rows' velocities and densities of the Boltzmann equation at its last turning."""
         flow = boltzmann.Flow(self.gas, np.zeros((self.rows, 1)), self.chirality)
         *_, last = flow.driven(flow.at(self.filling), 2 * self.settled // self.every, self.every, self.force)
         return np.mean([flow.velocity(chances)[0, :, 0] for chances in last], 0), flow.density(last[0])[:, 0]
 
 
 def draw(path, asked, channel, profiles, slips):
-    """The profile of a channel with its parabola, what this leaves, and the slip of all channels."""
     with common.axes(path, 1, 3, (4, 3.6)) as (left, middle, right):
         mean, error = (each[0] for each in fhpgas.mean(profiles))
         line = np.poly1d(np.polyfit(channel.places**2, mean, 1))
@@ -74,22 +70,20 @@ def draw(path, asked, channel, profiles, slips):
 
 @common.experiment
 def main():
-    reader = common.Options(__doc__, "fhp1", "fhp-rest", figure="the profile with its parabola, what this leaves, and the slip")
+    reader = common.Options(__doc__, "fhp1", "fhp-rest", figure="the profile with its parabola, what is left, and the slip", seeds=(8, 4))
     reader.option("--chirality", str, "seeded", "seeded", "seeded, left or right", choices=("seeded", "left", "right"))
     reader.option("--filling", common.number(0.1, 0.6), 0.3, 0.3, "the filling d", metavar="D")
     reader.option("--height", common.whole(4, 128), [8, 16, 32], [8], "rows, one or more", nargs="+", metavar="ROWS")
     reader.option("--cells", common.whole(4096, 4_000_000), 131_072, 16_384, "of the channel, so columns are cells / rows")
     reader.option("--speed", common.number(0.01, 0.2), 0.08, 0.08, "in the middle, as theory says", metavar="U")
     reader.option("--spans", common.whole(1, 1000), 2, 3, f"time of the samples, each {SPAN} times the time in which a flow relaxes")
-    reader.option("--seeds", common.whole(2, 1000), 8, 4, "how many")
     asked, slips = reader.parse_args(), []
     for channel in (Channel(asked, rows) for rows in asked.height):
         profiles = fhpgas.side_by_side(channel.measured, range(1, asked.seeds + 1))
         fits, expected = zip(*(channel.fits(*each) for each in profiles)), channel.fits(*channel.predicted())
         names = "viscosity", "slip K", "odd viscosity"
         slips.append([common.compare(f"{channel.rows} rows: {name}", *each) for name, *each in zip(names, fits, expected)][1])
-    names = theory.viscosity, theory.slip, theory.odd_viscosity
-    formulas = (round(of(asked.gas, asked.filling, asked.chirality), 3) + 0.0 for of in names)
-    print("formula: viscosity {:.3f}, K {:.3f}, odd viscosity {:.3f}".format(*formulas))
+    for name, of in zip(names, (theory.viscosity, theory.slip, theory.odd_viscosity)):
+        print(f"formula: {name} {round(of(asked.gas, asked.filling, asked.chirality), 3) + 0.0:.3f}")
     if asked.picture:
         draw(asked.picture, asked, channel, profiles, slips)

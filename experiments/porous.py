@@ -1,10 +1,9 @@
 #!/usr/bin/env python3
 """Darcy's law: the flow through a porous medium, over the force that drives it, and the medium's permeability.
 
-`fhpgas.driven` drives the gas through discs at random places with a force F on every fluid cell. The flux is the mean velocity times the
-porosity once it is steady. Darcy: flux = permeability x F / (particles of a fluid cell x viscosity), so flux / F is the same for every F.
-The permeability, in squared cells' widths, is taken with Boltzmann's viscosity. Theory: the noise-free Boltzmann equation of the same
-medium and kicks. D. H. Rothman, Geophysics 53 (1988) 509, did such flows first.
+`fhpgas.driven` drives the gas through discs at random places with a force F on every fluid cell. Darcy: the flux, velocity x porosity, is
+permeability x F / (particles of a fluid cell x viscosity), here Boltzmann's. Theory: the noise-free Boltzmann equation of the same medium.
+D. H. Rothman, Geophysics 53 (1988) 509, did such flows first.
 """
 import common
 import fhpgas
@@ -15,23 +14,18 @@ EVERY = 10
 
 
 def measured(asked, solid, force, seed):
-    """The mean flux of a seed, and the blocks of its last lattice."""
     lattice = fhpgas.gas(asked.filling, solid=solid, gas=asked.gas, seed=seed)
-    found = []
-    for point in lattice.driven(asked.generations, EVERY, force=force, seed=seed):
-        found += [point.velocity] * (point.before.generation > asked.settled)
-    return np.mean(found) * np.mean(~solid), point.before.blocks(4, 4)
+    points = [*lattice.driven(EVERY * (asked.settled + asked.samples), EVERY, force=force, seed=seed)]
+    return np.mean([point.velocity for point in points[asked.settled + 1 :]]) * np.mean(~solid), points[-1].before.blocks(4, 4)
 
 
 def predicted(asked, solid, force):
-    """The flux of the Boltzmann equation at its last turning, the mean of before and after it."""
     flow = boltzmann.Flow(asked.gas, solid)
-    *_, last = flow.driven(flow.at(asked.filling), asked.settled // EVERY, EVERY, force)
+    *_, last = flow.driven(flow.at(asked.filling), asked.settled, EVERY, force)
     return flow.momentum(sum(last) / 2)[0].sum() / flow.density(last[0]).sum() * np.mean(~solid)
 
 
 def draw(path, asked, fluxes, slope, blocks):
-    """The flux over the force with Darcy's line, and the medium with the flow through it."""
     with common.axes(path, 1, 2, (4.6, 3.6)) as (left, right):
         left.plot((0, max(asked.force)), (0, slope * max(asked.force)), "C1", lw=1, label="Darcy, Boltzmann's permeability")
         left.errorbar(asked.force, *zip(*fluxes), fmt="C0o", ms=3, label="measured")
@@ -42,20 +36,16 @@ def draw(path, asked, fluxes, slope, blocks):
 
 @common.experiment
 def main():
-    reader = common.Options(__doc__, "fhp1", "fhp-rest", figure="the flux over the force, and the flow through the medium")
+    reader = common.Options(__doc__, "fhp1", "fhp-rest", figure="the flux over the force, and the flow through the medium", seeds=(8, 4))
     reader.option("--filling", common.number(0.1, 0.6), 0.3, 0.3, "the filling d", metavar="D")
     reader.option("--width", common.whole(16, 4096), 128, 80, "columns")
     reader.option("--height", common.whole(16, 4096), 96, 32, "rows")
     reader.option("--share", common.number(0, 0.7), 0.2, 0.2, "of solid cells, at least")
     reader.option("--radius", common.whole(1, 64), 6, 4, "of the discs")
     reader.option("--force", common.number(1e-5, 0.02), [0.001, 0.002, 0.004], [0.003], "on each fluid cell", nargs="+", metavar="F")
-    reader.option("--settled", common.whole(100, 100_000), 300, 150, "generations before the first sample, in steps of 10")
-    reader.option("--generations", common.whole(200, 1_000_000), 2300, 1000, "in all, in steps of 10")
-    reader.option("--seeds", common.whole(2, 1000), 8, 4, "how many")
+    reader.option("--settled", common.whole(10, 10_000), 30, 15, "turnings before the first sample, 10 generations apart")
+    reader.option("--samples", common.whole(2, 100_000), 200, 85, "how many, at the turnings after these")
     asked, fluxes = reader.parse_args(), []
-    asked.settled -= asked.settled % EVERY
-    if asked.generations <= asked.settled:
-        raise fhpgas.Fault(f"there are {asked.generations} generations, and the first sample is after {asked.settled}")
     solid = fhpgas.porous((asked.width, asked.height), asked.share, asked.radius, 1, asked.gas)
     print(f"porosity {np.mean(~solid):.3f}")
     unit = theory.viscosity(asked.gas, asked.filling) * fhpgas.gas_named(asked.gas).directions * asked.filling

@@ -1,10 +1,8 @@
 #!/usr/bin/env python3
-"""Reversal: a gas runs, all its particles are turned, and it comes back bit for bit. With one of them not turned it comes back blurred, or
-after more generations not at all.
+"""Reversal: a gas runs, all its particles are turned, and it comes back bit for bit. With one of them not turned it does not.
 
 A dense letter L in a thin gas spreads with chirality left, and runs back with chirality right (`Lattice.reverse`). In the table two gases
-that differ by one turned particle run forwards. A difference spreads by at most one cell per generation, so it is within 1 + 3 t (t + 1)
-cells after t, and in hpp within 1 + 2 t (t + 1). These numbers are exact, so they have no errors.
+that differ by one turned particle run forwards. After t generations at most 1 + 3 t (t + 1) cells differ, in hpp 1 + 2 t (t + 1).
 """
 import common
 import fhpgas
@@ -33,7 +31,6 @@ def differing(one, other):
 
 
 def draw(path, shown, growth):
-    """The density of the states, and the growth of a difference."""
     with common.axes(path, 1, 5, (3.2, 3.2)) as panels:
         for ax, lattice, title in zip(panels, shown, ("start", "before the way back", "back, all turned", "back, one not turned")):
             lattice.plot("density", ax, block=(2, 2), vmin=0, vmax=lattice.gas.directions / 2, colorbar=False)
@@ -51,8 +48,7 @@ def main():
     reader.option("--generations", common.whole(1, 10_000), 200, 60, "each way")
     asked = reader.parse_args()
     start = letter(asked.gas, asked.size)
-    late = start.run(asked.generations)
-    shown = [start, late]
+    shown = [start, late := start.run(asked.generations)]
     print(f"{start.particles} particles in {asked.size**2} cells; there and back {asked.generations} generations each")
     for name, lattice in (("all particles turned", late), ("and one of them not", turned(late))):
         shown.append(lattice.reverse().run(asked.generations).reverse())

@@ -2,9 +2,8 @@
 """A standing sound wave between the walls: its speed and its damping.
 
 At the start the filling of a row is d (1 + a cos k y), k = pi / height, and the gas is at rest. exp(-D k^2 t) (A cos(c k t) + B sin(c k t))
-is fitted to the amplitude of this cosine in the density. Theory: the same fit to the noise-free Boltzmann equation of the same channel. In
-hpp a second wave is along the diagonals, on which every particle of two directions keeps its place in the wave: no noise, no damping.
-Published for a long wave: c = 1 / sqrt 2, in fhp-rest sqrt(3/7), and D = (viscosity + bulk viscosity) / 2 (Frisch 1987).
+is fitted to the amplitude of this cosine in the density. Theory: the same fit to the noise-free Boltzmann equation. In hpp a second wave is
+along the diagonals. Published: c = 1 / sqrt 2, in fhp-rest sqrt(3/7), and D = (viscosity + bulk viscosity) / 2 (Frisch 1987).
 """
 import common
 import fhpgas
@@ -28,12 +27,10 @@ def swing(t, frequency, rate, a, b):
 
 
 def fit(values, k):
-    """The frequency, the rate and the two amplitudes that fit best."""
     return curve_fit(swing, TIMES, values, (0.7 * k, 0.2 * k * k, values[0], 0))[0]
 
 
 def measured(asked, shape, seed):
-    """The amplitude after every STEP generations."""
     width = asked.width if shape.shape[1] == 1 else shape.shape[1]
     lattice = fhpgas.gas(asked.filling * (1 + AMPLITUDE * shape), size=(width, len(shape)), gas=asked.gas, seed=seed)
     blocks = (later.blocks(width // shape.shape[1], 1) for later in lattice.every(STEP, SAMPLES))
@@ -47,7 +44,6 @@ def predicted(asked, shape):
 
 
 def draw(path, mean, error, k, name):
-    """The swinging amplitude with its fit, and what the fit leaves."""
     fine, best = np.linspace(0, TIMES[-1], 1000), fit(mean, k)
     with common.axes(path, 2, 1, (7, 2.4), sharex=True) as (above, below):
         above.plot(fine, swing(fine, *best), "C1", lw=1, label=f"fit: c = {best[0] / k:.4f}, D = {best[1] / k**2:.3f}")
@@ -62,11 +58,10 @@ def draw(path, mean, error, k, name):
 
 @common.experiment
 def main():
-    reader = common.Options(__doc__, "fhp1", "fhp-rest", "hpp", figure="the swinging amplitude with its fit")
+    reader = common.Options(__doc__, "fhp1", "fhp-rest", "hpp", figure="the swinging amplitude with its fit", seeds=(8, 4))
     reader.option("--filling", common.number(0.05, 0.9), 0.3, 0.3, "the filling d", metavar="D")
     reader.option("--height", common.whole(16, 512), 128, 32, "rows")
     reader.option("--width", common.whole(256, 65536), 2048, 2048, "columns")
-    reader.option("--seeds", common.whole(2, 1000), 8, 4, "how many")
     asked = reader.parse_args()
     for is_diagonal in (False, True) if asked.gas == "hpp" else (False,):
         k, shape = wave(asked, is_diagonal)

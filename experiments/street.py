@@ -3,10 +3,9 @@
 
 The gas flows past a disc of diameter D in a channel that is periodic after `--length` D. Its mean speed is kept by turning particles. A
 gust to the north starts the street. In the last two thirds of the run are measured: the mean speed, the speed u that meets the disc (over
-its height, one to two D ahead of it), the flow across in the wake (one to two D behind the disc's middle), whose changes of sign are half
-a period T / 2 apart, and the heights of the vortices. St = D / (T g u), Re = g u D / viscosity, with g of a slow flow or of a flow across the
-wind u. Each half period is taken with the speed during it, and errors are over the half periods. A free cylinder has St = 0.212 (1 - 21.2 /
-Re) (A. Roshko, NACA Report 1191, 1954) and sheds vortices from about Re = 47 on.
+its height, one to two D ahead of it), the changes of sign of the flow across in the wake (one to two D behind the disc), half a period
+apart, and the heights of the vortices. St = D / (T g u), Re = g u D / viscosity, for each half period with the speed during it. A free
+cylinder has St = 0.212 (1 - 21.2 / Re) (A. Roshko, NACA Report 1191, 1954) and sheds vortices from about Re = 47 on.
 """
 import common
 import fhpgas
@@ -14,7 +13,6 @@ import numpy as np
 from fhpgas import theory
 
 GAS, FILLING, FIRST, BLOCK = "fhp-rest", 0.18, 47, (8, 9)
-BEHIND = 1, 2, 4, 6, 8, 10, 12  # diameters
 
 
 class Street:
@@ -56,7 +54,6 @@ class Street:
 
 
 def report(street, times):
-    """Prints the numbers of the flow with the mean speed and with the speed that meets the disc, and of the street if there is one."""
     halves, scale = np.diff(times), street.across / theory.viscosity(GAS, FILLING)
     is_fast = street.incoming.mean() * theory.galilean_factor(GAS, FILLING) * scale >= FIRST
     is_street = is_fast and len(halves) > 2
@@ -76,12 +73,11 @@ def report(street, times):
     if not is_street:
         return print("no vortex street yet" if is_fast else f"no vortex street is expected below Reynolds {FIRST}")
     print("heights of the vortices, in radii: clockwise, counter-clockwise")
-    for behind in BEHIND:
+    for behind in (1, 2, 4, 6, 8, 10, 12):
         print("{:3} D behind {:+6.2f} {:+6.2f}".format(behind, *street.heights(behind)))
 
 
 def draw(path, street, times):
-    """The vorticity, the flow across in the wake over time, and the profile that meets the disc."""
     with common.axes(path, 3, 1, (9, 2.6), height_ratios=(1.4, 1, 1)) as (field, wake, ahead):
         most = 3 * street.incoming.mean() / street.across
         street.last.plot("vorticity", field, block=BLOCK, smooth=2, vmin=-most, vmax=most)
@@ -113,7 +109,7 @@ def main():
           f"disc {street.across} cells across, {1 / asked.height:.0%} of the channel")
     times = street.crossings()
     report(street, times)
-    if asked.scene:
-        street.last.save(asked.scene)
     if asked.picture:
         draw(asked.picture, street, times)
+    if asked.scene:
+        street.last.save(asked.scene)

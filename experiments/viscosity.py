@@ -1,10 +1,9 @@
 #!/usr/bin/env python3
 """The viscosity, from a shear wave between two walls that dies away: over filling, chirality and width.
 
-At the start row y flows east with u sin(k x distance from the wall), k = pi / height, at equilibrium. The sine's amplitude falls as
-exp(-viscosity k^2 t). A line is fitted to its logarithm at nine times, until theory expects 1/e. It is compared with the published value of
-an infinite gas in the Boltzmann approximation (U. Frisch and others, Complex Systems 1 (1987) 649) and the same fit to the noise-free
-Boltzmann equation of this very channel, whose walls take away some of the published value. What is left are correlations.
+At the start row y flows east with u sin(k x distance from the wall), k = pi / height. The sine's amplitude falls as exp(-viscosity k^2 t).
+A line is fitted to its logarithm at nine times, until theory expects 1/e. It is compared with Boltzmann's value of an infinite gas (Frisch
+1987) and with the same fit to the noise-free Boltzmann equation of this very channel.
 """
 import common
 import fhpgas
@@ -26,7 +25,6 @@ class Wave:
         self.times = k**2 * self.step * np.arange(PARTS + 1)
 
     def measured(self, seed):
-        """The logarithm of the amplitude over time, beginning with 0."""
         lattice = fhpgas.gas(self.filling, self.east, size=(CELLS // self.rows, self.rows), seed=seed, **self.flow)
         momenta = [later.blocks(CELLS // self.rows, 1).px for later in lattice.every(self.step, PARTS)]
         return self.logarithms(momenta, f"seed {seed}")
@@ -47,7 +45,6 @@ class Wave:
 
 
 def draw(path, waves, title):
-    """The decays on a logarithmic axis with their fits, and what these leave."""
     with common.axes(path, 2, 1, (6, 2.9), sharex=True) as (above, below):
         for n, (wave, runs) in enumerate(waves):
             mean, error = fhpgas.mean(runs)
@@ -63,12 +60,11 @@ def draw(path, waves, title):
 
 @common.experiment
 def main():
-    reader = common.Options(__doc__, "fhp1", "fhp-rest", figure="the decays on a logarithmic axis with their fits")
+    reader = common.Options(__doc__, "fhp1", "fhp-rest", figure="the decays on a logarithmic axis with their fits", seeds=(16, 4))
     reader.option("--chirality", str, "seeded", "seeded", "seeded, left or right", choices=("seeded", "left", "right"))
     reader.option("--filling", common.number(0.05, 0.6), [0.1, 0.2, 0.3, 0.4, 0.5], [0.2], "fillings", nargs="+", metavar="D")
     reader.option("--height", common.whole(8, 512), [64], [32], "rows, one or more", nargs="+", metavar="ROWS")
     reader.option("--speed", common.number(0.005, 0.3), 0.15, 0.15, "u, the speed in the middle", metavar="U")
-    reader.option("--seeds", common.whole(2, 1000), 16, 4, "how many")
     asked, waves = reader.parse_args(), []
     print(f"{asked.gas} {asked.chirality}\n   d  rows   measured        channel  published")
     for wave in (Wave(asked, filling, rows) for filling in asked.filling for rows in asked.height):

@@ -33,7 +33,7 @@ REFUSED = [
     "viscosity.py --gas hpp", "viscosity.py --filling 2", "viscosity.py --seeds 1", "viscosity.py --colour", "viscosity.py --chirality up",
     "galilean.py --gas hpp", "galilean.py --width 200", "galilean.py --wave 100", "invariants.py --size 33", "street.py --radius 0",
     "sound.py --filling 0.2 0.3", "sound.py --filling nan", "porous.py --small --share 0.71", "equilibrium.py --size few",
-    "reversal.py --small --picture /none/there.png", "collisions.py --gas fhp3", "porous.py --settled 9000", "poiseuille.py --spans 0",
+    "reversal.py --small --picture /none/there.png", "collisions.py --gas fhp3", "porous.py --settled 1", "poiseuille.py --spans 0",
 ]
 
 
