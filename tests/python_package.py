@@ -60,6 +60,7 @@ Lattice([[0]], gas="fhp2")                      a gas is one of fhp1, hpp, fhp-r
 Lattice([[0]], chirality="up")                  a chirality is one of seeded, left, right, not 'up'
 Lattice([[0]], seed=-1)                         a seed is an integer from 0 to 9223372036854775807, not -1
 start.replace(seed=1.0)                         not 1.0
+start.run(np.arange(2))                         not array([0, 1])
 start.run(-1)                                   the number of generations is an integer from 0 to 1000000, not -1
 run(AREA, 1e3)                                  not 1000.0
 start.run(1, stages=65)                         the number of stages is an integer from 1 to 64, not 65

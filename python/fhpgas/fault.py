@@ -24,8 +24,9 @@ class Usage(Fault):
 
 def integer(what: str, value: SupportsIndex, least: int = 0, most: int | None = None) -> int:
     """A value as an int from `least` to `most`. Anything else raises a Fault that begins with `what`."""
-    if hasattr(value, "__index__") and least <= (number := operator.index(value)) and (most is None or number <= most):
-        return number
+    with contextlib.suppress(TypeError):
+        if least <= (number := operator.index(value)) and (most is None or number <= most):
+            return number
     raise Fault(f"{what} is an integer from {least}{f' to {most}' if most is not None else ''}, not {reprlib.repr(value)}")
 
 

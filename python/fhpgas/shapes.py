@@ -112,7 +112,7 @@ def _dark(picture: Any) -> Array:
         with Image.open(picture) as image:
             grey = image.point(lambda shade: shade / 256).convert("L") if image.mode.startswith("I") else image
             shades = np.asarray(grey.convert("RGBA")).astype(int)
-    except (OSError, ValueError, SyntaxError) as fault:
+    except (OSError, ValueError, SyntaxError, Image.DecompressionBombError) as fault:
         raise Fault(f"{picture}: {getattr(fault, 'strerror', None) or fault}") from None
     return (shades[..., :3].sum(-1) * 2 < 3 * 255) & (shades[..., 3] > 127)
 
