@@ -186,7 +186,7 @@ class Commands(unittest.TestCase):
         """`-S` leaves out the packages of the system."""
         told = subprocess.run([sys.executable, "-S", "-m", "fhpgas", "explain", "-"], input="x = " + "9" * 10_000, capture_output=True, text=True)
         self.assertEqual((told.returncode, told.stderr, told.stdout.split("\n")[0]), (1, "", "scene: not TOML"))
-        for words, status, part in (("explain a.toml", 0, "not refused"), ("--version", 0, fhpgas.__version__), ("film a.toml a.gif --every 1 --until 1", 1, "is missing (Debian: python3-numpy)")):
+        for words, status, part in (("explain a.toml", 0, "not refused"), ("--version", 0, fhpgas.__version__), ("film a.toml a.gif --every 1 --until 1", 1, "lacks the package numpy")):
             done = subprocess.run([sys.executable, "-S", "-m", "fhpgas", *words.split()], capture_output=True, text=True)
             self.assertEqual((done.returncode, part in done.stdout + done.stderr), (status, True), done)
 

@@ -302,7 +302,8 @@ def main(words: list[str] | None = None) -> None:
         try:
             asked.function(asked)
         except ModuleNotFoundError as missing:
-            raise Fault(f"the Python package {missing.name} is missing (Debian: python3-{str(missing.name).lower()})") from None
+            name = str(missing.name).lower()
+            raise Fault(f"{sys.executable} lacks the package {name}: pip install {name}, or take the system's Python with python3-{name}") from None
         except OSError as fault:
             raise fault if isinstance(fault, BrokenPipeError) else Fault(f"{fault.filename or 'a file'}: {fault.strerror}") from None
 

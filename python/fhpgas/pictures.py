@@ -1,6 +1,6 @@
 """Pictures by matplotlib: fields of blocks in colours, small lattices as arrows, strips of several states, and films.
 
-Lengths are in cells' widths, so 512 rows of a triangular lattice are 443 high. Solid cells are grey, blocks without a value pale or grey.
+Lengths are in cells' widths, so 512 rows of a triangular lattice are 443 high. Solid cells and blocks without a value are grey.
 Fields with a sign are blue below 0 and red above it, the others run from dark to light. Colour-blind readers can tell both apart.
 """
 from __future__ import annotations
@@ -63,7 +63,7 @@ def field(source: Lattice | Blocks, what: Any, block: Sequence[int], smooth: flo
         raise Fault(f"what is shown are numbers [row, column] of {blocks.fluid.shape} blocks, not {values.dtype} of the shape {values.shape}")
     x, y = blocks.edges
     cells = np.diff(x) * np.diff(-y)[:, None] / blocks.gas.row_distance
-    return Shown(np.ma.masked_where(~np.isfinite(values) | (2 * blocks.fluid < cells - 0.5), values), blocks, solid)
+    return Shown(np.ma.masked_where(~np.isfinite(values) | (2 * smoothed.fluid < cells - 0.5), values), blocks, solid)
 
 
 def prepared(sources: Iterable[Lattice | Blocks], what: Any, block: Sequence[int], smooth: float, options: dict[str, Any]) -> tuple[
@@ -86,7 +86,7 @@ def prepared(sources: Iterable[Lattice | Blocks], what: Any, block: Sequence[int
         least, most = min(least, -most), max(most, -least)
     shades = options.get("cmap", name)
     shades = (colormaps[shades] if isinstance(shades, str) else shades).copy()
-    shades.set_bad(GREY if many[0].solid is None else PALE)
+    shades.set_bad(GREY)
     limits = {} if "norm" in options else {"vmin": least, "vmax": most}
     return what, many, {"interpolation": "nearest"} | limits | options | {"cmap": shades}
 
