@@ -246,10 +246,10 @@ class Package(unittest.TestCase):
             self.fault("this is no whole table of `coarse` with 3 columns and 1 rows", fhpgas.read_table, text, "hpp", (2, 2), (6, 2))
 
     def test_a_scene_is_passed_as_its_text_or_its_path(self):
-        (self.room / "a.toml").write_text(AREA)
+        (self.room / "d=0.3.toml").write_text(AREA)
         start = fhpgas.Lattice.load(AREA)
         self.assertEqual((start.gas.name, start.chirality, start.seed, start.generation, start.solid.sum()), ("fhp1", "seeded", 7, 0, 12))
-        for scene in (AREA, self.room / "a.toml", str(self.room / "a.toml"), start.scene()):
+        for scene in (AREA, self.room / "d=0.3.toml", str(self.room / "d=0.3.toml"), start.scene()):
             self.assertEqual(fhpgas.check(scene), fhpgas.Summary("fhp1", 66, 9, 12, start.particles))
             self.assertEqual((fhpgas.run(scene, 5), fhpgas.coarse(scene, 5, 11, 4)), (start.run(5), start.run(5).blocks(11, 4)))
         text = 'version = 2\ngas = "hpp" # cells = ["##"]\ncells = [\n  "##01", # a ] mark\n  "0100",\n]\nchirality = "left"\nseed = 4\n'
@@ -259,7 +259,7 @@ class Package(unittest.TestCase):
         found = fhpgas.coarse(vast, 1, 4096, 512)
         self.assertEqual((found.fluid.shape, found.generation, {*found.particles.ravel().tolist()}), ((2, 16), 4, {6 * 4096 * 512}))
         self.assertEqual(fhpgas.Lattice.load(fhpgas.with_seed(AREA, 8)), fhpgas.Lattice.load(AREA.replace("seed = 7", "seed = 8")))
-        self.assertEqual([*self.room.iterdir()], [self.room / "a.toml"])
+        self.assertEqual([*self.room.iterdir()], [self.room / "d=0.3.toml"])
 
     def test_frames_cost_as_many_generations_as_they_show(self):
         start = fhpgas.Lattice.load(AREA)

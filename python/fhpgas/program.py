@@ -53,8 +53,9 @@ def read_bytes(path: str | os.PathLike[str]) -> bytes:
 
 
 def scene_bytes(scene: Scene) -> bytes:
-    """The bytes of a scene that is passed as its text or as a path. A str is a text if it contains `=` or a line feed, or nothing."""
-    if isinstance(scene, str) and (not scene or "=" in scene or "\n" in scene):
+    """The bytes of a scene that is passed as its text or as a path. A str is a text if it is empty or contains a line feed, or contains `=`
+    and does not end with `.toml`. "-" is standard input."""
+    if isinstance(scene, str) and (not scene or "\n" in scene or "=" in scene and not scene.endswith(".toml")):
         return scene.encode()
     if not isinstance(scene, (str, os.PathLike)):
         raise Fault(f"a scene is passed as its text or as the path of its file, not as {type(scene).__name__}")
