@@ -64,8 +64,8 @@ def report(street, times):
         print(f"{name} speed {u:.3f}, first {first:.3f}, at last {last:.3f}, Mach {u / theory.sound_speed(GAS):.2f}")
         for wind in (0, u):
             g = theory.galilean_factor(GAS, FILLING, wind)
-            name, reynolds, end = "flow across this wind" if wind else "slow flow", g * u * scale, "\n" * (not is_street)
-            print(f"    g of a {name} {g:.3f}: Reynolds {reynolds:.0f}", end=end)
+            kind, reynolds, end = "flow across this wind" if wind else "slow flow", g * u * scale, "\n" * (not is_street)
+            print(f"    g of a {kind} {g:.3f}: Reynolds {reynolds:.0f}", end=end)
             if is_street:
                 during = [speeds[(street.times >= a) & (street.times <= b)].mean() for a, b in zip(times, times[1:])]
                 numbers = *fhpgas.mean(street.radius / (halves * g * during)), 0.212 * (1 - 21.2 / reynolds)
@@ -78,7 +78,8 @@ def report(street, times):
 
 
 def draw(path, street, times):
-    with common.axes(path, 3, 1, (9, 2.6), height_ratios=(1.4, 1, 1)) as (field, wake, ahead):
+    tall = 1 + 6.5 * street.size[1] / street.size[0]  # inches, for cells of the true shape
+    with common.axes(path, 3, 1, (9, (tall + 4) / 3), height_ratios=(tall, 2, 2)) as (field, wake, ahead):
         most = 3 * street.incoming.mean() / street.across
         street.last.plot("vorticity", field, block=BLOCK, smooth=2, vmin=-most, vmax=most)
         field.set_title(f"{GAS}, d = {FILLING}, disc of {street.across} cells, generation {street.last.generation}")
