@@ -155,7 +155,9 @@ class Commands(unittest.TestCase):
                 self.assertTrue(all((a != b).any() for a, b in itertools.combinations(frames, 2)), suffix)
         fhpgas.film(self.room / "few.gif", self.start.replace(states=self.start.states).every(1, 2))
         for call, part in ((lambda: fhpgas.film(self.room / "a.gif", []), "a state or more"), (lambda: fhpgas.film("a.avi", many), "a.avi: a film is written as"),
-                           (lambda: fhpgas.strip([]), "a state or more"), (lambda: fhpgas.film("a.gif", many, fps=0), "frames per second")):
+                           (lambda: fhpgas.strip([]), "a state or more"),
+                           (lambda: fhpgas.plot(AREA), "a Lattice or of Blocks, not of 'gas"), (lambda: fhpgas.film("a.gif", many, block=8), "two integers"),
+                           (lambda: fhpgas.plot(start, "particles"), "no picture of 'particles'"), (lambda: fhpgas.film("a.gif", many, fps=0), "frames per second")):
             with self.assertRaisesRegex(fhpgas.Fault, part):
                 call()
 
@@ -203,6 +205,7 @@ class Commands(unittest.TestCase):
         self.assertEqual(self.printed("draw blocks --width 65536 --height 65536 --filling 0").count("\n"), 7)
         patch = fhpgas.Lattice.load(self.printed("draw blocks --width 12 --height 8 --filling 0 --patch 2 3 4 2 0.6 --block 3 4 1 1"))
         self.assertTrue(14 < patch.particles < 40 and not patch.states[:3].any() and patch.solid.sum() == 1)
+        self.assertIn("faster than sound, Mach 1.13\n", self.command("draw blocks --filling 0.02 --wind 0.8")[2])
         drawn = fhpgas.Lattice.load(self.printed("draw discs --width 64 --height 47 --disc 20 20 8 --filling 0.3 --wind 0.2 0.1 --seed 5 --gas hpp"))
         self.assertEqual(drawn, fhpgas.gas(0.3, 0.2, 0.1, solid=fhpgas.disc((64, 47), 20, 20, 8, "hpp"), gas="hpp", seed=5))
 

@@ -86,6 +86,11 @@ def to_write(*suffixes: str) -> Callable[[str], str]:
 
 def draw(asked: argparse.Namespace) -> None:
     print(drawing.drawn(asked), end="")
+    if any(asked.wind):
+        from .theory import sound_speed
+
+        if (mach := sum(speed**2 for speed in asked.wind) ** 0.5 / sound_speed(asked.gas)) > 1:
+            print(f"fhpgas-tools: the wind is faster than sound, Mach {mach:.2f}", file=sys.stderr)
 
 
 def explain(asked: argparse.Namespace) -> None:

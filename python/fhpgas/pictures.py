@@ -8,27 +8,28 @@ from __future__ import annotations
 import io
 import os
 import pathlib
-from collections.abc import Iterable, Sequence
+import reprlib
+from collections.abc import Iterable
 from typing import TYPE_CHECKING, Any, NamedTuple
 
 import numpy as np
 
 from .blocks import Blocks
 from .fault import Fault, integer, real
+from .fields import size_checked
 from .gases import Array
+from .lattice import Lattice
 
 if TYPE_CHECKING:
     from matplotlib.axes import Axes
     from matplotlib.figure import Figure
-
-    from .lattice import Lattice
 
 PLAIN, SIGNED, VELOCITY = "viridis", "RdBu_r", "cells per generation"
 FIELDS = {  # the unit and the colours of what is shown
     "speed": (VELOCITY, PLAIN), "east": (VELOCITY, SIGNED), "north": (VELOCITY, SIGNED), "vorticity": ("1 per generation", SIGNED),
     "density": ("particles per cell", PLAIN), "filling": ("particles per direction", PLAIN), "pressure": ("per cell", PLAIN),
 }
-PARTICLES, SMALL = "particles", 2_000  # a lattice of at most so many cells shows its particles if no field is named
+PARTICLES, SMALL, MOST = "particles", 2_000, 20_000  # cells of a lattice that shows its particles if no field is named, and that can at all
 PILLOW, FFMPEG = (".gif", ".webp", ".apng"), (".mp4",)
 PALE, GREY, INK = "0.88", "0.55", "#1f4e79"
 
@@ -47,16 +48,19 @@ class Shown(NamedTuple):
 
 def chosen(source: Lattice | Blocks, what: Any) -> Any:
     """What is shown of a lattice or of blocks if this is asked for: an array, the name of a field, or PARTICLES."""
-    can = [*FIELDS] if isinstance(source, Blocks) else [*FIELDS, PARTICLES]
+    if not isinstance(source, (Lattice, Blocks)):
+        raise Fault(f"a picture is one of a Lattice or of Blocks, not of {reprlib.repr(source)}")
+    cells = source.states.size if isinstance(source, Lattice) else MOST + 1
+    can = [*FIELDS, PARTICLES] if cells <= MOST else [*FIELDS]
     if what is None:
-        return PARTICLES if not isinstance(source, Blocks) and source.states.size <= SMALL else "speed"
+        return PARTICLES if cells <= SMALL else "speed"
     if isinstance(what, str) and what not in can:
-        raise Fault(f"there is no picture of {what!r}: {', '.join(can)}")
+        raise Fault(f"there is no picture of {what!r} of {source!r}: {', '.join(can)}")
     return (PARTICLES if what == PARTICLES else what) if isinstance(what, str) else np.asarray(what)
 
 
-def field(source: Lattice | Blocks, what: Any, block: Sequence[int], smooth: float) -> Shown:
-    blocks, solid = (source, None) if isinstance(source, Blocks) else (source.blocks(*block), source.solid)
+def field(source: Lattice | Blocks, what: Any, block: tuple[int, int], smooth: float) -> Shown:
+    blocks, solid = (source, None) if isinstance(source, Blocks) else (source.blocks(*size_checked(block)), source.solid)
     smoothed = blocks.smooth(smooth) if smooth else blocks
     values = getattr(smoothed, what) if isinstance(what, str) else what
     if values.shape != blocks.fluid.shape or values.dtype.kind not in "biuf":
@@ -66,7 +70,7 @@ def field(source: Lattice | Blocks, what: Any, block: Sequence[int], smooth: flo
     return Shown(np.ma.masked_where(~np.isfinite(values) | (2 * smoothed.fluid < cells - 0.5), values), blocks, solid)
 
 
-def prepared(sources: Iterable[Lattice | Blocks], what: Any, block: Sequence[int], smooth: float, options: dict[str, Any]) -> tuple[
+def prepared(sources: Iterable[Lattice | Blocks], what: Any, block: tuple[int, int], smooth: float, options: dict[str, Any]) -> tuple[
         Any, list[Any], dict[str, Any]]:
     """What is shown, the fields (or lattices, if their particles are shown), and the options of their images: all have one range of values,
     which is symmetric about 0 if the field has a sign."""
@@ -136,7 +140,7 @@ def bar(image: Any, what: Any, ax: Axes) -> None:
         ax.figure.colorbar(image, cax=ax.inset_axes((1.02, 0, 0.025, 1)), label=label)
 
 
-def plot(source: Lattice | Blocks, what: Any = None, ax: Axes | None = None, *, block: Sequence[int] = (8, 9), smooth: float = 0.0,
+def plot(source: Lattice | Blocks, what: Any = None, ax: Axes | None = None, *, block: tuple[int, int] = (8, 9), smooth: float = 0.0,
          colorbar: bool = True, **options: Any) -> Any:
     """Shows a lattice or blocks on Axes of matplotlib (None: pyplot's), and returns the image.
 
@@ -155,7 +159,7 @@ def plot(source: Lattice | Blocks, what: Any = None, ax: Axes | None = None, *, 
     return image
 
 
-def strip(sources: Iterable[Lattice | Blocks], what: Any = None, *, block: Sequence[int] = (8, 9), smooth: float = 0.0,
+def strip(sources: Iterable[Lattice | Blocks], what: Any = None, *, block: tuple[int, int] = (8, 9), smooth: float = 0.0,
           columns: int | None = None, **options: Any) -> Figure:
     """A figure of pyplot with several states of a lattice, which have one range of colours. `columns` is how many stand beside one another,
     by default as many as make the figure about three times as wide as high. All else is as in `plot`."""
@@ -197,7 +201,7 @@ def png(source: Lattice | Blocks) -> bytes:
     return out.getvalue()
 
 
-def film(path: str | os.PathLike[str], sources: Iterable[Lattice | Blocks], what: Any = None, *, block: Sequence[int] = (8, 9),
+def film(path: str | os.PathLike[str], sources: Iterable[Lattice | Blocks], what: Any = None, *, block: tuple[int, int] = (8, 9),
          smooth: float = 0.0, fps: float = 10.0, dpi: int = 100, **options: Any) -> None:
     """Writes a film of lattices or blocks, which may come one by one, as .gif, .webp, .apng, or if there is ffmpeg as .mp4. All frames have
     one range of colours. `fps` is the frames per second, and with 100 `dpi` a frame is 700 pixels wide. All else is as in `plot`."""
