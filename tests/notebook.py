@@ -29,8 +29,8 @@ def shrink(cell):
     """Leaves few colours in the pictures of a cell, and joins what it printed."""
     for out in cell.get("outputs", []):
         if "image/png" in out.get("data", {}):
-            small = io.BytesIO()
-            Image.open(io.BytesIO(base64.b64decode(out["data"]["image/png"]))).convert("RGB").quantize(160).save(small, "png", optimize=True)
+            small, picture = io.BytesIO(), Image.open(io.BytesIO(base64.b64decode(out["data"]["image/png"])))
+            picture.convert("RGB").quantize(160).save(small, "png", optimize=True)
             out["data"]["image/png"] = base64.b64encode(small.getvalue()).decode()
 
 

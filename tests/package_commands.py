@@ -30,43 +30,92 @@ from PIL import Image, ImageSequence  # noqa: E402
 
 matplotlib.use("agg")
 AREA = 'gas = "fhp1"\nseed = 7\nwidth = 66\nheight = 9\nrate = 300\nsolid = [[20, 2, 3, 4]]\n'
-COMMANDS = "draw", "draw discs", "explain", "picture", "film", "how-long", "resume", "long-run", "over-time", "over-seeds", "drive", "numbers", ""
-NUMBERS = "--length 9 --filling 0.2 --speed 0.1"
-WRONG_WORDS = [  # that end with 2, and a part of what is said
-    *((f"{words} --colour", "fhpgas-tools: ") for words in COMMANDS),
-    *((f"numbers --length 9 {words}", part) for words, part in (
-        ("--filling 1e-300 --speed 0.1", "1e-300"), ("--filling 1 --speed 0.1", "0.9999"), ("--filling 0.2 --speed nan", "nan"), ("--filling 0.2 --speed -1", "-1"),
-        ("--filling 0.2 --speed 5", "5"), ("--filling 0.2", "--filling and --speed"), ("--table a.toml --speed 1", "or a --table"), ("--table table", "--scene"),
-        ("--table table --gas fhp1", "--size"), ("--table table --scene a.toml", "--block"), ("--table three", "--gas"))),
-    ("numbers --length 0 --filling 0.2 --speed 0.1", "--length"), ("numbers --filling 0.2 --speed 0.1 --length inf", "inf"),
-    *((f"picture {words}", part) for words, part in (
-        ("speed a.png a.toml --low nan", "nan"), ("speed a.png a.toml --low inf", "inf"), ("speed a.png a.toml --low 1 --high 0", "--low 1 is not below --high 0"),
-        ("speed a.jpg a.toml", "a.jpg is written as .png"), ("heat a.png a.toml", "heat"), ("speed no/a.png a.toml", "the folder of no/a.png"),
-        ("speed a.png a.toml --smooth -1", "-1"), ("speed a.png table", "table does not name its gas"), ("speed a.png three", "three does not name its gas"),
-        ("speed a.png table --gas fhp1 --size 66 9", "--block COLUMNS ROWS"), ("speed a.png a.toml --block 0 9", "0"))),
-    *((f"film a.toml {words}", part) for words, part in (
-        ("a.png --every 1 --until 2", ".gif"), ("a.gif --every 3 --until 10", "no multiple"), ("no/a.gif --every 1 --until 2", "the folder of no/a.gif"),
-        ("a.gif --every 0 --until 2", "0"), ("a.gif --every 1 --until 2 --flow 0.1 --force 0.1", "--force or --flow"), ("a.gif --every 1", "--until"))),
-    *((f"draw {words}", part) for words, part in (
-        ("", "SHAPE"), ("cubes", "cubes"), ("blocks --width 0", "0"), ("blocks --height 65537", "65537"), ("blocks --filling 1.001", "1.001"), ("blocks --seed -1", "-1"),
-        ("blocks --gas fhp2", "fhp2"), ("blocks --wind x", "x"), ("blocks --wind 0.1 0.2 0.3", "one northwards"), ("blocks --patch 0 0 1 1 1.1", "a filling of 0 to 1"),
-        ("blocks --patch 0.5 0 1 1 1", "whole columns"), ("discs --disc 0 0 -1", "-1"), ("porous --share 1.01", "1.01"), ("polygons --polygon nan 1 2 3 4 5", "nan"),
-        ("polygons --polygon inf 1 2 3 4 5", "inf"), ("polygons --polygon 1 2 3 4 5 6 7", "two numbers each"), ("bitmap a.png --pixel 1e308", "1e308"),
-        ("blocks --rate 200", "--rate"), ("nozzle --throat x", "x"))),
-    *((f"drive a.toml 10 {words}", part) for words, part in (
-        ("5 --force nan", "nan"), ("5 --flow nan", "nan"), ("5", "--force or --flow"), ("3 --flow 0.1", "no multiple"), ("0 --flow 0.1", "0"))),
-    ("over-time a.toml 10 3", "no multiple"), ("over-seeds a.toml --generations 1 --seeds 1", "1"), ("how-long a.toml -1", "-1"), ("how-long a.toml 1e3", "1e3"),
-    ("over-seeds --generations 1 --drawn discs --seed 2", "--seed"), ("long-run a.toml 10 0 kept", "0"),
-]
-WRONG_INPUT = [  # that ends with 1
-    ("explain no.toml", "no.toml: No such file"), ("how-long - 10", "scene: missing key"), ("resume a.toml no.txt", "no.txt"), ("film no.toml a.gif --every 1 --until 1", "no.toml"),
-    (f"numbers --gas hpp {NUMBERS}", "hpp has no viscosity"), ("numbers --table - --length 9 --scene a.toml --block 8 9", "scene: missing key"),
-    ("numbers --table cut --length 9 --scene a.toml --block 11 9", "cut: this is no whole table"), ("picture speed a.png less --scene a.toml", "less: "),
-    ("picture particles a.png table --scene a.toml --block 11 9", "no picture of 'particles'"), ("draw discs --disc 64 0 1", "0 to 63"), ("draw blocks --block 60 0 5 1", "a block leaves"),
-    ("draw nozzle --length 65", "65"), ("draw polygons --polygon 1 2 3 4", "three corners"), ("draw bitmap no.png", "no.png"), ("draw blocks --filling 0.8 --wind 0.25", "velocity"),
-    ("draw blocks --width 65536 --height 512 --wind 0.1", "67108864"), ("over-seeds --generations 1 --drawn discs --wind 0.95", "velocity"), ("over-seeds later.toml --generations 1", "`cells`"),
-    ("long-run a.toml 10 4 no/kept", "no/kept"), ("resume a.toml table", "printed cells"), ("drive a.toml 20 10 --force 2", "particles to turn"),
-]
+COMMANDS = ("", "draw", "draw discs", "explain", "picture", "film", "live", "how-long", "resume", "long-run", "over-time", "over-seeds", "drive",
+            "numbers")
+REFUSED = {2: """
+numbers --length 9 --filling 1e-300 --speed 0.1 | 1e-300
+numbers --length 9 --filling 1 --speed 0.1 | 0.9999
+numbers --length 9 --filling 0.2 --speed nan | nan
+numbers --length 9 --filling 0.2 --speed -1 | -1
+numbers --length 9 --filling 0.2 --speed 5 | 5
+numbers --length 9 --filling 0.2 | --filling and --speed
+numbers --length 9 --table a.toml --speed 1 | or a --table
+numbers --length 9 --table table | --scene
+numbers --length 9 --table table --gas fhp1 | --size
+numbers --length 9 --table table --scene a.toml | --block
+numbers --length 9 --table three | --gas
+numbers --length 0 --filling 0.2 --speed 0.1 | --length
+numbers --filling 0.2 --speed 0.1 --length inf | inf
+picture speed a.png a.toml --low nan | nan
+picture speed a.png a.toml --low inf | inf
+picture speed a.png a.toml --low 1 --high 0 | --low 1 is not below --high 0
+picture speed a.jpg a.toml | a.jpg is written as .png
+picture heat a.png a.toml | heat
+picture speed no/a.png a.toml | the folder of no/a.png
+picture speed a.png a.toml --smooth -1 | -1
+picture speed a.png table | table does not name its gas
+picture speed a.png three | three does not name its gas
+picture speed a.png table --gas fhp1 --size 66 9 | --block COLUMNS ROWS
+picture speed a.png a.toml --block 0 9 | 0
+film a.toml a.png --every 1 --until 2 | .gif
+film a.toml a.gif --every 3 --until 10 | no multiple
+film a.toml no/a.gif --every 1 --until 2 | the folder of no/a.gif
+film a.toml a.gif --every 0 --until 2 | 0
+film a.toml a.gif --every 1 --until 2 --flow 0.1 --force 0.1 | --force or --flow
+film a.toml a.gif --every 1 | --until
+draw  | SHAPE
+draw cubes | cubes
+draw blocks --width 0 | 0
+draw blocks --height 65537 | 65537
+draw blocks --filling 1.001 | 1.001
+draw blocks --seed -1 | -1
+draw blocks --gas fhp2 | fhp2
+draw blocks --wind x | x
+draw blocks --wind 0.1 0.2 0.3 | one northwards
+draw blocks --patch 0 0 1 1 1.1 | a filling of 0 to 1
+draw blocks --patch 0.5 0 1 1 1 | whole columns
+draw discs --disc 0 0 -1 | -1
+draw porous --share 1.01 | 1.01
+draw polygons --polygon nan 1 2 3 4 5 | nan
+draw polygons --polygon inf 1 2 3 4 5 | inf
+draw polygons --polygon 1 2 3 4 5 6 7 | two numbers each
+draw bitmap a.png --pixel 1e308 | 1e308
+draw blocks --rate 200 | --rate
+draw nozzle --throat x | x
+drive a.toml 10 5 --force nan | nan
+drive a.toml 10 5 --flow nan | nan
+drive a.toml 10 5 | --force or --flow
+drive a.toml 10 3 --flow 0.1 | no multiple
+drive a.toml 10 0 --flow 0.1 | 0
+over-time a.toml 10 3 | no multiple
+over-seeds a.toml --generations 1 --seeds 1 | 1
+how-long a.toml -1 | -1
+how-long a.toml 1e3 | 1e3
+over-seeds --generations 1 --drawn discs --seed 2 | --seed
+long-run a.toml 10 0 kept | 0
+""", 1: """
+explain no.toml | no.toml: No such file
+how-long - 10 | scene: missing key
+resume a.toml no.txt | no.txt
+film no.toml a.gif --every 1 --until 1 | no.toml
+numbers --gas hpp --length 9 --filling 0.2 --speed 0.1 | hpp has no viscosity
+numbers --table - --length 9 --scene a.toml --block 8 9 | scene: missing key
+numbers --table cut --length 9 --scene a.toml --block 11 9 | cut: this is no whole table
+picture speed a.png less --scene a.toml | less: 
+picture particles a.png table --scene a.toml --block 11 9 | no picture of 'particles'
+draw discs --disc 64 0 1 | 0 to 63
+draw blocks --block 60 0 5 1 | a block leaves
+draw nozzle --length 65 | 65
+draw polygons --polygon 1 2 3 4 | three corners
+draw bitmap no.png | no.png
+draw blocks --filling 0.8 --wind 0.25 | velocity
+draw blocks --width 65536 --height 512 --wind 0.1 | 67108864
+over-seeds --generations 1 --drawn discs --wind 0.95 | velocity
+over-seeds later.toml --generations 1 | `cells`
+long-run a.toml 10 4 no/kept | no/kept
+resume a.toml table | printed cells
+drive a.toml 20 10 --force 2 | particles to turn
+"""}  # commands by status, and a part of what is said
 
 
 class Commands(unittest.TestCase):
@@ -77,7 +126,8 @@ class Commands(unittest.TestCase):
         cls.start = fhpgas.Lattice.load(AREA)
         table = fhpgas.coarse(AREA, 3, 11, 9).text()
         cells = cls.start.run(3).text()
-        for name, text in {"a.toml": AREA, "three": cells, "less": cells[: cells.rindex("\n", 0, -1) + 1], "table": table, "cut": table[:-3],
+        less = cells[: cells.rindex("\n", 0, -1) + 1]
+        for name, text in {"a.toml": AREA, "three": cells, "less": less, "table": table, "cut": table[:-3],
                            "later.toml": cls.start.run(3).scene()}.items():
             (cls.room / name).write_text(text)
         os.chdir(cls.room)
@@ -102,13 +152,14 @@ class Commands(unittest.TestCase):
 
     def test_a_picture_shows_the_numbers_in_their_places(self):
         """Blocks of 8 x 9 cells of 30 x 20: the last column has 6 columns, the last row 2 rows. Less than half fluid is hidden."""
-        fluid = [[72, 36, 35, 54], [72, 72, 72, 54], [16, 16, 16, 12]]
-        blocks = fhpgas.Blocks(*(np.array(sums) for sums in (fluid, [[72] * 4] * 3, [[36] * 4] * 3, [[-9] * 4] * 3)), fhpgas.gas_named("fhp1"), (8, 9), (30, 20))
+        sums = [[72, 36, 35, 54], [72, 72, 72, 54], [16, 16, 16, 12]], [[72] * 4] * 3, [[36] * 4] * 3, [[-9] * 4] * 3
+        blocks = fhpgas.Blocks(*map(np.array, sums), fhpgas.gas_named("fhp1"), (8, 9), (30, 20))
         ax = Figure().add_subplot()
         image = blocks.plot("density", ax)
         self.assertEqual(image.get_array().mask.tolist(), [[False, False, True, False], [False] * 4, [False] * 4])
         self.assertEqual(image.get_array()[:, :2].tolist(), [[1, 2], [1, 1], [4.5, 4.5]])
-        self.assertEqual((image.get_clim(), image.get_cmap().name, ax.child_axes[0].get_ylabel()), ((1, 6), "viridis", "density\n(particles per cell)"))
+        self.assertEqual((image.get_clim(), image.get_cmap().name), ((1, 6), "viridis"))
+        self.assertEqual(ax.child_axes[0].get_ylabel(), "density\n(particles per cell)")
         left, right, bottom, top = image.get_extent()
         self.assertTrue(np.allclose((right - left, top - bottom, top), (32, 27 * np.sqrt(3) / 2, 20 * np.sqrt(3) / 2)))
         self.assertTrue(np.allclose((*np.subtract(ax.get_xlim(), left), *ax.get_ylim()), (0, 30, 0, top)))
@@ -116,7 +167,8 @@ class Commands(unittest.TestCase):
         image = blocks.plot("north", Figure().add_subplot(), colorbar=False, smooth=1)
         self.assertTrue(np.allclose(image.get_clim(), np.multiply((-1, 1), np.sqrt(3) / 16)))  # signed: py / particles = 1/8 of sqrt(3)/2
         self.assertEqual(blocks.plot(np.arange(12).reshape(3, 4), Figure().add_subplot(), vmin=3, cmap="magma").get_clim(), (3, 11))
-        for what, part in (("heat", "no picture of 'heat'"), ("particles", "no picture"), (np.zeros(3), "[row, column]"), (np.array([["a"] * 4] * 3), "[row, column]")):
+        for what, part in (("heat", "no picture of 'heat'"), ("particles", "no picture"), (np.zeros(3), "[row, column]"),
+                           (np.array([["a"] * 4] * 3), "[row, column]")):
             with self.assertRaisesRegex(fhpgas.Fault, re.escape(part)):
                 blocks.plot(what, Figure().add_subplot())
 
@@ -126,7 +178,7 @@ class Commands(unittest.TestCase):
         states[0, 1], states[1, 0], solid[1, 2] = 0b1001, 0b1000010, True
         ax = fhpgas.Lattice(states, solid, "fhp-rest").plot(ax=Figure().add_subplot())
         cells, *arrows, rest = [c for c in ax.collections if not isinstance(c, matplotlib.collections.LineCollection)]
-        found = {(round(float(x), 3), round(float(y), 3), round(float(u), 3), round(float(v), 3)) for a in arrows for (x, y), u, v in zip(a.get_offsets(), a.U, a.V)}
+        found = {tuple(np.round((*place, u, v), 3).tolist()) for each in arrows for place, u, v in zip(each.get_offsets(), each.U, each.V)}
         upper, lower = round(1.5 * np.sqrt(3) / 2, 3), round(0.5 * np.sqrt(3) / 2, 3)
         self.assertEqual(found, {(1, upper, 0.46, 0), (1, upper, -0.46, 0), (0.5, lower, 0.23, round(0.23 * np.sqrt(3), 3))})
         self.assertTrue(np.allclose(rest.get_offsets(), [[0.5, lower]], atol=1e-3))
@@ -154,10 +206,11 @@ class Commands(unittest.TestCase):
                 self.assertEqual((len(frames), frames[0].shape[1]), (4, 350))
                 self.assertTrue(all((a != b).any() for a, b in itertools.combinations(frames, 2)), suffix)
         fhpgas.film(self.room / "few.gif", self.start.replace(states=self.start.states).every(1, 2))
-        for call, part in ((lambda: fhpgas.film(self.room / "a.gif", []), "a state or more"), (lambda: fhpgas.film("a.avi", many), "a.avi: a film is written as"),
-                           (lambda: fhpgas.strip([]), "a state or more"),
-                           (lambda: fhpgas.plot(AREA), "a Lattice or of Blocks, not of 'gas"), (lambda: fhpgas.film("a.gif", many, block=8), "two integers"),
-                           (lambda: fhpgas.plot(start, "particles"), "no picture of 'particles'"), (lambda: fhpgas.film("a.gif", many, fps=0), "frames per second")):
+        for call, part in ((lambda: fhpgas.film("a.gif", []), "a state or more"), (lambda: fhpgas.film("a.avi", many), "a film is written as"),
+                           (lambda: fhpgas.strip([]), "a state or more"), (lambda: fhpgas.plot(AREA), "a Lattice or of Blocks, not of 'gas"),
+                           (lambda: fhpgas.film("a.gif", many, block=8), "two integers"),
+                           (lambda: fhpgas.plot(start, "particles"), "no picture of 'particles'"),
+                           (lambda: fhpgas.film("a.gif", many, fps=0), "frames per second")):
             with self.assertRaisesRegex(fhpgas.Fault, part):
                 call()
 
@@ -173,30 +226,34 @@ class Commands(unittest.TestCase):
             self.assertIn("usage: ", self.printed(words, "--help"))
         self.assertEqual(self.printed("--version"), f"fhpgas-tools {fhpgas.__version__}\n")
         (self.room / "a.gif").unlink(missing_ok=True)
-        for status, refused in ((2, WRONG_WORDS), (1, WRONG_INPUT)):
-            for words, part in refused:
-                ended, out, err = self.command(words)
-                self.assertEqual((ended, out, err.count("\n")), (status, "", 1), (words, out, err))
-                self.assertIn(part, err, words)
+        refused = [(2, f"{words} --colour", "fhpgas-tools: ") for words in COMMANDS]
+        refused += [(status, *line.split(" | ")) for status, lines in REFUSED.items() for line in lines.split("\n")[1:-1]]
+        for status, words, part in refused:
+            ended, out, err = self.command(words)
+            self.assertEqual((ended, out, err.count("\n")), (status, "", 1), (words, out, err))
+            self.assertIn(part, err, words)
         self.assertFalse((self.room / "a.gif").exists())
 
     def test_the_parser_knows_the_names_of_the_package(self):
         self.assertIn(f"\n## {fhpgas.__version__}\n", (needs.ROOT / "CHANGELOG.md").read_text())
-        self.assertEqual((set(drawing.GASES), __main__.FIELDS, __main__.FILMS), (set(fhpgas.GASES), tuple(pictures.FIELDS), pictures.PILLOW + pictures.FFMPEG))
+        self.assertEqual((set(drawing.GASES), __main__.FIELDS), (set(fhpgas.GASES), tuple(pictures.FIELDS)))
+        self.assertEqual(__main__.FILMS, pictures.PILLOW + pictures.FFMPEG)
 
     def test_refused_scenes_are_explained_without_numpy(self):
         """`-S` leaves out the packages of the system."""
-        told = subprocess.run([sys.executable, "-S", "-m", "fhpgas", "explain", "-"], input="x = " + "9" * 10_000, capture_output=True, text=True)
-        self.assertEqual((told.returncode, told.stderr, told.stdout.split("\n")[0]), (1, "", "scene: not TOML"))
-        for words, status, part in (("explain a.toml", 0, "not refused"), ("--version", 0, fhpgas.__version__), ("film a.toml a.gif --every 1 --until 1", 1, "lacks the package numpy")):
-            done = subprocess.run([sys.executable, "-S", "-m", "fhpgas", *words.split()], capture_output=True, text=True)
+        for words, status, part in (("explain -", 1, "scene: not TOML\n"), ("explain a.toml", 0, "not refused"), ("--version", 0, fhpgas.__version__),
+                                    ("film a.toml a.gif --every 1 --until 1", 1, "lacks the package numpy")):
+            words = [sys.executable, "-S", "-m", "fhpgas", *words.split()]
+            done = subprocess.run(words, input="x = " + "9" * 10_000, capture_output=True, text=True)
             self.assertEqual((done.returncode, part in done.stdout + done.stderr), (status, True), done)
 
     def test_drawn_scenes_are_as_asked(self):
         """The second reader counts the same cells as the program, and the scenes have what was asked for."""
-        for words, solid in (("blocks --width 20 --height 9 --block 3 2 4 5 --block 4 3 5 2", 24), ("blocks --width 12 --height 8 --closed --gas hpp", 8),
-                             ("discs --disc 10 8 1 --wind 0.3 -0.1", 7), ("nozzle --throat 24", 0), ("polygons --polygon 1.75 1.5 9.25 1.5 9.25 9.5 1.75 9.5", 60),
-                             ("blocks --width 4999 --height 2 --block 4998 0 1 2", 2), ("porous --share 1 --height 5 --wind 0.1", 320), ("blocks --filling 0.20005 --closed", 24)):
+        for words, solid in (
+                ("blocks --width 20 --height 9 --block 3 2 4 5 --block 4 3 5 2", 24), ("blocks --width 12 --height 8 --closed --gas hpp", 8),
+                ("discs --disc 10 8 1 --wind 0.3 -0.1", 7), ("nozzle --throat 24", 0),
+                ("polygons --polygon 1.75 1.5 9.25 1.5 9.25 9.5 1.75 9.5", 60), ("blocks --width 4999 --height 2 --block 4998 0 1 2", 2),
+                ("porous --share 1 --height 5 --wind 0.1", 320), ("blocks --filling 0.20005 --closed", 24)):
             text = self.printed("draw", words)
             summary = fhpgas.check(text)
             self.assertEqual((summary.solid, summary.particles), (solid, second_reader.read(text.encode(), 10_000).particles()), words)
@@ -206,7 +263,8 @@ class Commands(unittest.TestCase):
         patch = fhpgas.Lattice.load(self.printed("draw blocks --width 12 --height 8 --filling 0 --patch 2 3 4 2 0.6 --block 3 4 1 1"))
         self.assertTrue(14 < patch.particles < 40 and not patch.states[:3].any() and patch.solid.sum() == 1)
         self.assertIn("faster than sound, Mach 1.13\n", self.command("draw blocks --filling 0.02 --wind 0.8")[2])
-        drawn = fhpgas.Lattice.load(self.printed("draw discs --width 64 --height 47 --disc 20 20 8 --filling 0.3 --wind 0.2 0.1 --seed 5 --gas hpp"))
+        words = "draw discs --width 64 --height 47 --disc 20 20 8 --filling 0.3 --wind 0.2 0.1 --seed 5 --gas hpp"
+        drawn = fhpgas.Lattice.load(self.printed(words))
         self.assertEqual(drawn, fhpgas.gas(0.3, 0.2, 0.1, solid=fhpgas.disc((64, 47), 20, 20, 8, "hpp"), gas="hpp", seed=5))
 
     def test_commands_print_what_the_functions_return(self):
@@ -216,24 +274,28 @@ class Commands(unittest.TestCase):
         points = [*self.start.driven(20, 10, flow=0.1)]
         self.assertEqual([float(word) for word in self.printed("drive a.toml 20 10 --flow 0.1").split()[3:]],
                          [float(word) for p in points for word in (p.before.generation, f"{p.velocity:.5f}", f"{p.force:.3g}")])
-        self.assertRegex(self.printed("how-long a.toml 1000 --seconds 1"), r"^[\d,]+ MLUPS with 1 worker and 128 rows per belt\n1000 generations of 594 cells: about [\d.e-]+ seconds\n$")
+        wanted = r"^[\d,]+ MLUPS with 1 worker and 128 rows per belt\n1000 generations of 594 cells: about [\d.e-]+ seconds\n$"
+        self.assertRegex(self.printed("how-long a.toml 1000 --seconds 1"), wanted)
         line = self.printed("over-seeds --seeds 3 --generations 5 --block 66 9 a.toml").split("\n")[1].split()
         mean, error = fhpgas.mean(fhpgas.coarse(fhpgas.with_seed(AREA, seed), 5, 66, 9).east[0, 0] for seed in (1, 2, 3))
         self.assertTrue(np.allclose([float(word) for word in line[5:7]], (mean, error), rtol=0.1), (line, mean, error))
-        drawn = self.printed("over-seeds --seeds 2 --generations 5 --block 64 24 --drawn discs --disc 9 9 3 --wind 0.2").split("\n")[1].split()
+        words = "over-seeds --seeds 2 --generations 5 --block 64 24 --drawn discs --disc 9 9 3 --wind 0.2"
+        drawn = self.printed(words).split("\n")[1].split()
         speeds = [fhpgas.gas(0.2, 0.2, solid=fhpgas.disc((64, 24), 9, 9, 3), seed=seed).coarse(5, 64, 24).east[0, 0] for seed in (1, 2)]
         self.assertAlmostEqual(float(drawn[5]), np.mean(speeds), places=5)
 
     def test_a_long_run_goes_on_where_it_was_ended(self):
         self.assertEqual(self.printed("long-run a.toml 4 4 kept").count("\n"), 1)
-        self.assertEqual(self.printed("long-run a.toml 10 4 kept"), "".join(f"generation {g} particles {self.start.particles}\n" for g in (8, 10)))
+        wanted = "".join(f"generation {generation} particles {self.start.particles}\n" for generation in (8, 10))
+        self.assertEqual(self.printed("long-run a.toml 10 4 kept"), wanted)
         self.assertEqual(fhpgas.Lattice.load(self.room / "kept"), self.start.run(10))
 
     def test_numbers_of_a_table_are_those_of_its_filling_and_speed(self):
         told = self.printed("numbers --filling 0.2 --speed 0.3 --length 40")
         self.assertRegex(told, r"mach +0\.4243\nreynolds +6\.533\n")  # 0.3 sqrt(2), and (3/8) 0.3 40 / (1 / (12 0.2 0.8^3) - 1/8)
-        table = "  col   row    fluid particles         px         py\n 0 0 50 100 80 0\n 1 0 50 20 -8 0\n"  # 120 particles in 100 cells, 72 halves eastwards
-        self.assertEqual(self.printed("numbers --table - --length 40 --gas fhp1 --size 20 5 --block 10 5", text=table), f"{'filling':16}{0.2:12}\n{'speed':16}{0.3:12}\n{told}")
+        table = "  col   row    fluid particles         px         py\n 0 0 50 100 80 0\n 1 0 50 20 -8 0\n"
+        found = self.printed("numbers --table - --length 40 --gas fhp1 --size 20 5 --block 10 5", text=table)
+        self.assertEqual(found, f"{'filling':16}{0.2:12}\n{'speed':16}{0.3:12}\n{told}")  # 120 particles in 100 cells, 72 halves eastwards
         for words in ("three --scene a.toml", "table --scene a.toml --block 11 9", "later.toml"):
             self.assertIn(f"filling{self.start.particles / 6 / self.start.fluid:21.4g}", self.printed("numbers --length 9 --table", words))
 

@@ -1,4 +1,4 @@
-"""Lattice gases at the command line: draws scenes, pictures and films, explains refusals, and runs scenes over seeds, over time and in parts.
+"""Lattice gases at the command line: draws scenes, pictures and films, explains refusals, runs scenes over seeds, over time and in parts.
 
 SCENE is the file of a scene, and SOURCE one of a scene, of cells that `fhpgas run` printed, or of a table of `fhpgas coarse`: - is standard
 input. A fault is one line on standard error. The status is 2 if the words are wrong, and else 1.
@@ -242,61 +242,82 @@ def numbers(asked: argparse.Namespace) -> None:
 
 # -- their words
 
+Words = tuple[str, dict[str, Any]]
+
+
+def sides(most: int, about: str, **options: Any) -> dict[str, Any]:
+    return {"type": whole(1, most), "nargs": 2, "metavar": ("COLUMNS", "ROWS"), "help": about} | options
+
+
+def file(*suffixes: str) -> Words:
+    return "file", {"type": to_write(*suffixes), "metavar": "FILE", "help": ", ".join(suffixes)}
+
+
+SCENE: Words = ("scene", {"metavar": "SCENE"})
+FIELD: dict[str, Any] = {"choices": (*FIELDS, "particles")}
+GENERATIONS: dict[str, Any] = {"type": whole(0, 1_000_000), "metavar": "GENERATIONS"}
+STEP: dict[str, Any] = {"type": whole(1, 1_000_000), "metavar": "STEP"}
+BLOCK: Words = ("--block", sides(4096, "of a block; default 8 9", default=(8, 9)))
+RUN: tuple[Words, ...] = (
+    ("--scene", {"metavar": "SCENE", "help": "the scene of the run, for its gas and its size"}), ("--gas", {"choices": drawing.GASES}),
+    ("--size", sides(65536, "of the lattice")), ("--block", sides(4096, "of a block")))
+LOOK: tuple[Words, ...] = (
+    ("--low", {"type": number(-1e300, 1e300), "help": "the value of the first colour"}),
+    ("--high", {"type": number(-1e300, 1e300), "help": "and of the last"}),
+    ("--smooth", {"type": number(0, 100), "default": 0, "metavar": "BLOCKS", "help": "width of a Gaussian that smooths, in blocks"}),
+    ("--dpi", {"type": whole(10, 1000), "default": 100, "help": "dots per inch; default 100"}))
+FORCE: tuple[Words, ...] = (
+    ("--force", {"type": number(-2, 2), "help": "momentum per fluid cell and generation"}),
+    ("--flow", {"type": number(-1, 1), "help": "mean velocity"}),
+    ("--seed", {"type": whole(0, drawing.MOST_SEED), "default": 0, "help": "of the particles that are turned; default 0"}))
+COMMANDS: tuple[tuple[Callable[[argparse.Namespace], None], str, tuple[Words, ...]], ...] = (
+    (draw, "draw a scene", ()),
+    (explain, "say where and why a scene is refused", (SCENE,)),
+    (picture, "a figure of a scene, of cells or of a table, or of several", (
+        ("what", FIELD), file(*FIGURES, *FILMS), ("sources", {"metavar": "SOURCE", "nargs": "+"}), *RUN, *LOOK)),
+    (film, "run a scene and write a film", (
+        SCENE, file(*FILMS), ("--every", STEP | {"required": True, "help": "generations from frame to frame"}),
+        ("--until", GENERATIONS | {"required": True, "help": "generations in all"}),
+        ("--what", FIELD | {"help": "default speed, or particles if the lattice is small"}), BLOCK, *LOOK,
+        ("--fps", {"type": number(0.1, 100), "default": 10, "help": "frames per second; default 10"}), *FORCE)),
+    (live, "show a gas that moves on a page of the browser", (
+        ("scene", {"metavar": "SCENE", "nargs": "?"}), ("--no-browser", {"action": "store_true"}),
+        ("--port", {"type": whole(0, 65535), "default": 0, "help": "default any that is free"}))),
+    (how_long, "say how long a run will take", (
+        SCENE, ("generations", GENERATIONS), ("--stages", {"type": whole(1, 64)}), ("--capacity", {"type": whole(1, 1024)}),
+        ("--seconds", {"type": whole(1, 3600), "default": 2, "help": "the least that is timed; default 2"}))),
+    (resume, "print the scene that continues a run from printed cells", (SCENE, ("cells", {"metavar": "CELLS"}))),
+    (long_run, "run in parts, each kept in a file; the same command continues an ended run", (
+        SCENE, ("generations", GENERATIONS | {"type": whole(0, 10**12)}), ("step", STEP),
+        ("kept", {"metavar": "KEPT", "help": "the file, a scene"}))),
+    (drive, "run a scene under a force or towards a mean flow", (
+        SCENE, ("generations", GENERATIONS), ("every", STEP | {"metavar": "EVERY"}), *FORCE)),
+    (over_time, "tables every STEP generations up to LAST", (
+        SCENE, ("last", {"type": whole(0, 10**12), "metavar": "LAST"}), ("step", STEP), BLOCK)),
+    (over_seeds, "the mean over seeds of a table, with standard errors", (
+        ("--seeds", {"type": whole(2, 10**6), "default": 8}), ("--generations", GENERATIONS | {"required": True}), BLOCK,
+        ("scene", {"nargs": "?", "metavar": "SCENE", "help": "an area without particles"}),
+        ("--drawn", {"nargs": "...", "metavar": "WORD", "help": "words of `draw` to the end of the line, for every seed"}))),
+    (numbers, "Mach and Reynolds number of a flow, and the rest", (
+        ("--filling", {"type": number(1e-4, 0.9999)}), ("--speed", {"type": number(0, 1)}),
+        ("--length", {"type": number(1e-3, 1e9), "required": True}),
+        ("--table", {"metavar": "SOURCE", "help": "for its filling and mean speed"}),
+        ("--chirality", {"choices": drawing.CHIRALITIES, "default": "seeded"}), *RUN)),
+)
+
 
 def reader(name: str) -> Parser:
-    """The words of the command line."""
     top = Parser(name, description=__doc__)
     top.add_argument("--version", action="version", version=f"fhpgas-tools {__version__}")
     commands = top.add_subparsers(required=True, metavar="COMMAND")
-
-    def command(function: Callable[[argparse.Namespace], None], about: str, *words: tuple[str, dict[str, Any]]) -> Parser:
-        made = commands.add_parser(function.__name__.replace("_", "-"), help=about, description=function.__doc__ or about)
+    for function, about, words in COMMANDS:
+        more = drawing.__doc__ if function is draw else function.__doc__ or about
+        made = commands.add_parser(function.__name__.replace("_", "-"), help=about, description=more)
         made.set_defaults(function=function)
         for word, options in words:
             made.add_argument(word, **options)
-        return made
-
-    def two(most: int, about: str, **options: Any) -> dict[str, Any]:
-        return {"type": whole(1, most), "nargs": 2, "metavar": ("COLUMNS", "ROWS"), "help": about} | options
-
-    finite, most = number(-1e300, 1e300), 1_000_000
-    scene, what = ("scene", {"metavar": "SCENE"}), {"choices": (*FIELDS, "particles")}
-    generations, step = {"type": whole(0, most), "metavar": "GENERATIONS"}, {"type": whole(1, most), "metavar": "STEP"}
-    blocks = "--block", two(4096, "of a block; default 8 9", default=(8, 9))
-    run = (("--scene", {"metavar": "SCENE", "help": "the scene of the run, for its gas and its size"}), ("--gas", {"choices": drawing.GASES}),
-           ("--size", two(65536, "of the lattice")), ("--block", two(4096, "of a block")))
-    look = (("--low", {"type": finite, "help": "the value of the first colour"}), ("--high", {"type": finite, "help": "and of the last"}),
-            ("--smooth", {"type": number(0, 100), "default": 0, "metavar": "BLOCKS", "help": "width of a Gaussian that smooths, in blocks"}),
-            ("--dpi", {"type": whole(10, 1000), "default": 100, "help": "dots per inch; default 100"}))
-    force = (("--force", {"type": number(-2, 2), "help": "momentum per fluid cell and generation"}),
-             ("--flow", {"type": number(-1, 1), "help": "mean velocity"}),
-             ("--seed", {"type": whole(0, drawing.MOST_SEED), "default": 0, "help": "of the particles that are turned; default 0"}))
-    draw.__doc__ = drawing.__doc__
-    drawing.add_words(command(draw, "draw a scene"))
-    command(explain, "say where and why a scene is refused", scene)
-    command(picture, "a figure of a scene, of cells or of a table, or of several", ("what", what),
-            ("file", {"type": to_write(*FIGURES, *FILMS), "metavar": "FILE", "help": ", ".join(FIGURES + FILMS)}),
-            ("sources", {"metavar": "SOURCE", "nargs": "+"}), *run, *look)
-    command(film, "run a scene and write a film", scene, ("file", {"type": to_write(*FILMS), "metavar": "FILE", "help": ", ".join(FILMS)}),
-            ("--every", step | {"required": True, "help": "generations from frame to frame"}),
-            ("--until", generations | {"required": True, "help": "generations in all"}),
-            ("--what", what | {"help": "default speed, or particles if the lattice is small"}), blocks, *look,
-            ("--fps", {"type": number(0.1, 100), "default": 10, "help": "frames per second; default 10"}), *force)
-    command(live, "show a gas that moves on a page of the browser", ("scene", {"metavar": "SCENE", "nargs": "?"}),
-            ("--port", {"type": whole(0, 65535), "default": 0, "help": "default any that is free"}), ("--no-browser", {"action": "store_true"}))
-    command(how_long, "say how long a run will take", scene, ("generations", generations), ("--stages", {"type": whole(1, 64)}),
-            ("--capacity", {"type": whole(1, 1024)}), ("--seconds", {"type": whole(1, 3600), "default": 2, "help": "the least that is timed; default 2"}))
-    command(resume, "print the scene that continues a run from printed cells", scene, ("cells", {"metavar": "CELLS"}))
-    command(long_run, "run in parts, each kept in a file; the same command continues an ended run", scene,
-            ("generations", generations | {"type": whole(0, 10**12)}), ("step", step), ("kept", {"metavar": "KEPT", "help": "the file, a scene"}))
-    command(drive, "run a scene under a force or towards a mean flow", scene, ("generations", generations), ("every", step | {"metavar": "EVERY"}), *force)
-    command(over_time, "tables every STEP generations up to LAST", scene, ("last", {"type": whole(0, 10**12), "metavar": "LAST"}), ("step", step), blocks)
-    command(over_seeds, "the mean over seeds of a table, with standard errors", ("--seeds", {"type": whole(2, 10**6), "default": 8}),
-            ("--generations", generations | {"required": True}), blocks, ("scene", {"nargs": "?", "metavar": "SCENE", "help": "an area without particles"}),
-            ("--drawn", {"nargs": "...", "metavar": "WORD", "help": "words of `draw` to the end of the line: the scene is drawn for each seed"}))
-    command(numbers, "Mach and Reynolds number of a flow, and the rest", ("--filling", {"type": number(1e-4, 0.9999)}), ("--speed", {"type": number(0, 1)}),
-            ("--table", {"metavar": "SOURCE", "help": "for its filling and mean speed"}), ("--length", {"type": number(1e-3, 1e9), "required": True}),
-            ("--chirality", {"choices": drawing.CHIRALITIES, "default": "seeded"}), *run)
+        if function is draw:
+            drawing.add_words(made)
     return top
 
 
@@ -308,7 +329,7 @@ def main(words: list[str] | None = None) -> None:
             asked.function(asked)
         except ModuleNotFoundError as missing:
             name = str(missing.name).lower()
-            raise Fault(f"{sys.executable} lacks the package {name}: pip install {name}, or take the system's Python with python3-{name}") from None
+            raise Fault(f"{sys.executable} lacks the package {name}: pip install {name}, or Debian's python3-{name}") from None
         except OSError as fault:
             raise fault if isinstance(fault, BrokenPipeError) else Fault(f"{fault.filename or 'a file'}: {fault.strerror}") from None
 

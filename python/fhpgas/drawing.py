@@ -7,8 +7,8 @@
 
 A cell is named by its column and row from 0 at the top left. A filling is the chance that a direction of a cell has a particle, and speeds
 are in cells' widths per generation. The same words draw the same scene. Without a wind and patches it is an area, which the program fills,
-and any size fits. With them it is a map, drawn from the equilibrium, of at most about 33 million cells, and a sweep over seeds draws it again
-per seed.
+and any size fits. With them it is a map, drawn from the equilibrium, of at most about 33 million cells, and a sweep over seeds draws it
+again per seed.
 """
 import argparse
 from typing import Any
@@ -36,7 +36,8 @@ def add_words(reader: argparse.ArgumentParser) -> None:
     common.add_argument("--wind", type=number(-1, 1), nargs="+", default=[0.0], metavar="SPEED",
                         help="the mean velocity of the particles, eastwards and, if a second number is given, northwards; default 0")
     common.add_argument("--closed", action="store_true", help="make the first column solid, so that nothing passes the ends")
-    common.add_argument("--block", type=place, nargs=4, action="append", default=[], metavar=("X", "Y", "W", "H"), help="a solid rectangle; may be repeated")
+    common.add_argument("--block", type=place, nargs=4, action="append", default=[], metavar=("X", "Y", "W", "H"),
+                        help="a solid rectangle; may be repeated")
     kinds = reader.add_subparsers(dest="shape", required=True, metavar="SHAPE")
     kinds.add_parser("blocks", parents=[common], help="rectangles")
     discs = kinds.add_parser("discs", parents=[common], help="discs, round as the lattice lies")
@@ -48,7 +49,7 @@ def add_words(reader: argparse.ArgumentParser) -> None:
     bitmap = kinds.add_parser("bitmap", parents=[common], help="the dark pixels of a picture")
     bitmap.add_argument("picture", metavar="PICTURE", help="a PBM or PNG file, or another that Pillow reads")
     bitmap.add_argument("--pixel", type=number(0.01, MOST_SIDE), default=1, metavar="WIDTH", help="of a pixel in cells' widths; default 1")
-    bitmap.add_argument("--at", type=place, nargs=2, default=(0, 0), metavar=("X", "Y"), help="the cell of its upper left corner; default 0 0")
+    bitmap.add_argument("--at", type=place, nargs=2, default=(0, 0), metavar=("X", "Y"), help="the cell of its upper left; default 0 0")
     nozzle = kinds.add_parser("nozzle", parents=[common], help="the channel narrows to a throat and widens again")
     nozzle.add_argument("--throat", type=place, default=6, metavar="ROWS", help="open rows of the narrowest column; default 6")
     nozzle.add_argument("--length", type=place, default=40, metavar="COLUMNS", help="from full to full height; default 40")
@@ -70,8 +71,8 @@ def drawn(asked: argparse.Namespace, seed: int | None = None) -> str:
     solid, thousandths = shape(asked, size, seed), 1000 * asked.filling
     if any(asked.wind) or asked.patch or abs(thousandths - round(thousandths)) > 1e-9:
         return windy(asked, size, seed, blocks, solid)
-    keys = {"version": 2} if max(size) > 4096 else {}
-    keys |= {"gas": asked.gas, "chirality": asked.chirality, "seed": seed, "width": asked.width, "height": asked.height, "rate": round(thousandths)}
+    keys = ({"version": 2} if max(size) > 4096 else {}) | {"gas": asked.gas, "chirality": asked.chirality, "seed": seed}
+    keys |= {"width": asked.width, "height": asked.height, "rate": round(thousandths)}
     blocks += [] if solid is None else rectangles(solid)
     return text_of(keys | ({"solid": blocks} if blocks else {}))
 
@@ -115,4 +116,5 @@ def windy(asked: argparse.Namespace, size: tuple[int, int], seed: int, blocks: l
         if [x, y, w, h] != patch or chance > 1:
             raise Usage(f"a patch is whole columns and rows and a filling of 0 to 1, not {' '.join(f'{n:g}' for n in (*patch, chance))}")
         filling[y : y + h, x : x + w] = chance
-    return gas(filling if asked.patch else asked.filling, *asked.wind, size=size, solid=walls, gas=asked.gas, chirality=asked.chirality, seed=seed).scene()
+    drawn = filling if asked.patch else asked.filling
+    return gas(drawn, *asked.wind, size=size, solid=walls, gas=asked.gas, chirality=asked.chirality, seed=seed).scene()

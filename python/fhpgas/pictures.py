@@ -64,7 +64,7 @@ def field(source: Lattice | Blocks, what: Any, block: tuple[int, int], smooth: f
     smoothed = blocks.smooth(smooth) if smooth else blocks
     values = getattr(smoothed, what) if isinstance(what, str) else what
     if values.shape != blocks.fluid.shape or values.dtype.kind not in "biuf":
-        raise Fault(f"what is shown are numbers [row, column] of {blocks.fluid.shape} blocks, not {values.dtype} of the shape {values.shape}")
+        raise Fault(f"what is shown are numbers [row, column] of {blocks.fluid.shape} blocks, not {values.dtype} of shape {values.shape}")
     x, y = blocks.edges
     cells = np.diff(x) * np.diff(-y)[:, None] / blocks.gas.row_distance
     return Shown(np.ma.masked_where(~np.isfinite(values) | (2 * smoothed.fluid < cells - 0.5), values), blocks, solid)
@@ -144,10 +144,10 @@ def plot(source: Lattice | Blocks, what: Any = None, ax: Axes | None = None, *, 
          colorbar: bool = True, **options: Any) -> Any:
     """Shows a lattice or blocks on Axes of matplotlib (None: pyplot's), and returns the image.
 
-    `what` is "speed", "east", "north", "vorticity", "density", "filling" or "pressure", an array [row, column] of the blocks, or "particles"
-    for the arrows of single particles. By default it is the speed, and the particles of a lattice of at most 2000 cells. A lattice is shown in
-    blocks of `block` columns and rows. `smooth` is the width in blocks of a Gaussian that smooths. `options`, such as vmin, vmax, cmap and
-    interpolation, are those of `imshow`."""
+    `what` is "speed", "east", "north", "vorticity", "density", "filling" or "pressure", an array [row, column] of the blocks, or for the
+    arrows of at most 20,000 cells "particles". By default it is the speed, or if a lattice has at most 2000 cells its particles. A lattice
+    is shown in blocks of `block` columns and rows. `smooth` is the width in blocks of a Gaussian that smooths. `options`, such as vmin,
+    vmax, cmap and interpolation, are those of `imshow`."""
     if ax is None:
         from matplotlib import pyplot
 
@@ -171,8 +171,8 @@ def strip(sources: Iterable[Lattice | Blocks], what: Any = None, *, block: tuple
     across = integer("the number of columns", columns, 1, n) if columns is not None else min(
         (k for k in range(1, n + 1) if n % k == 0), key=lambda k: abs(np.log(k * k / n / aspect / 3)))
     down = -(-n // across)
-    figure, grid = pyplot.subplots(down, across, figsize=(9, down * (7.6 / across * aspect + 0.4) + 0.5), layout="constrained", squeeze=False,
-                                   sharex=True, sharey=True)
+    figure, grid = pyplot.subplots(down, across, figsize=(9, down * (7.6 / across * aspect + 0.4) + 0.5), layout="constrained",
+                                   squeeze=False, sharex=True, sharey=True)
     for shown, ax in zip(many, grid.flat):
         image = draw(shown, ax, options)
         ax.set_title(f"generation {shown.generation}", fontsize="medium")
@@ -188,7 +188,8 @@ def figure_of(source: Lattice | Blocks) -> Figure:
     """A figure beside pyplot, as high as the lattice asks."""
     from matplotlib.figure import Figure
 
-    return Figure(figsize=(7, max(1.5, min(9, 5.4 * source.size[1] * source.gas.row_distance / source.size[0] + 0.8))), layout="constrained")
+    aspect = source.size[1] * source.gas.row_distance / source.size[0]
+    return Figure(figsize=(7, max(1.5, min(9, 5.4 * aspect + 0.8))), layout="constrained")
 
 
 def png(source: Lattice | Blocks) -> bytes:
