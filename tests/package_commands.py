@@ -30,8 +30,8 @@ from PIL import Image, ImageSequence  # noqa: E402
 
 matplotlib.use("agg")
 AREA = 'gas = "fhp1"\nseed = 7\nwidth = 66\nheight = 9\nrate = 300\nsolid = [[20, 2, 3, 4]]\n'
-COMMANDS = ("", "draw", "draw discs", "explain", "picture", "film", "live", "how-long", "resume", "long-run", "over-time", "over-seeds", "drive",
-            "numbers")
+COMMANDS = ("", "draw", "draw discs", "explain", "picture", "film", "live", "how-long", "resume", "long-run", "drive", "over-time",
+            "over-seeds", "numbers")
 REFUSED = {2: """
 numbers --length 9 --filling 1e-300 --speed 0.1 | 1e-300
 numbers --length 9 --filling 1 --speed 0.1 | 0.9999
@@ -206,8 +206,9 @@ class Commands(unittest.TestCase):
                 self.assertEqual((len(frames), frames[0].shape[1]), (4, 350))
                 self.assertTrue(all((a != b).any() for a, b in itertools.combinations(frames, 2)), suffix)
         fhpgas.film(self.room / "few.gif", self.start.replace(states=self.start.states).every(1, 2))
-        for call, part in ((lambda: fhpgas.film("a.gif", []), "a state or more"), (lambda: fhpgas.film("a.avi", many), "a film is written as"),
-                           (lambda: fhpgas.strip([]), "a state or more"), (lambda: fhpgas.plot(AREA), "a Lattice or of Blocks, not of 'gas"),
+        for call, part in ((lambda: fhpgas.film("a.gif", []), "a state or more"), (lambda: fhpgas.strip([]), "a state or more"),
+                           (lambda: fhpgas.film("a.avi", many), "a film is written as"),
+                           (lambda: fhpgas.plot(AREA), "a Lattice or of Blocks"),
                            (lambda: fhpgas.film("a.gif", many, block=8), "two integers"),
                            (lambda: fhpgas.plot(start, "particles"), "no picture of 'particles'"),
                            (lambda: fhpgas.film("a.gif", many, fps=0), "frames per second")):
@@ -241,7 +242,8 @@ class Commands(unittest.TestCase):
 
     def test_refused_scenes_are_explained_without_numpy(self):
         """`-S` leaves out the packages of the system."""
-        for words, status, part in (("explain -", 1, "scene: not TOML\n"), ("explain a.toml", 0, "not refused"), ("--version", 0, fhpgas.__version__),
+        for words, status, part in (("explain -", 1, "scene: not TOML\n"), ("explain a.toml", 0, "not refused"),
+                                    ("--version", 0, fhpgas.__version__),
                                     ("film a.toml a.gif --every 1 --until 1", 1, "lacks the package numpy")):
             words = [sys.executable, "-S", "-m", "fhpgas", *words.split()]
             done = subprocess.run(words, input="x = " + "9" * 10_000, capture_output=True, text=True)
@@ -250,7 +252,8 @@ class Commands(unittest.TestCase):
     def test_drawn_scenes_are_as_asked(self):
         """The second reader counts the same cells as the program, and the scenes have what was asked for."""
         for words, solid in (
-                ("blocks --width 20 --height 9 --block 3 2 4 5 --block 4 3 5 2", 24), ("blocks --width 12 --height 8 --closed --gas hpp", 8),
+                ("blocks --width 20 --height 9 --block 3 2 4 5 --block 4 3 5 2", 24),
+                ("blocks --width 12 --height 8 --closed --gas hpp", 8),
                 ("discs --disc 10 8 1 --wind 0.3 -0.1", 7), ("nozzle --throat 24", 0),
                 ("polygons --polygon 1.75 1.5 9.25 1.5 9.25 9.5 1.75 9.5", 60), ("blocks --width 4999 --height 2 --block 4998 0 1 2", 2),
                 ("porous --share 1 --height 5 --wind 0.1", 320), ("blocks --filling 0.20005 --closed", 24)):

@@ -179,7 +179,7 @@ def long_run(asked: argparse.Namespace) -> None:
 def over_time(asked: argparse.Namespace) -> None:
     for later in lattice(asked.scene).every(asked.step, steps(asked.last, asked.step)):
         print(f"generation {later.generation} particles {later.particles}")
-        print(later.blocks(*asked.block).text(), end="", flush=True)
+        print(later.blocks(*asked.block or (8, 9)).text(), end="", flush=True)
 
 
 def drive(asked: argparse.Namespace) -> None:
@@ -205,7 +205,8 @@ def over_seeds(asked: argparse.Namespace) -> None:
         drawn = words.parse_args(asked.drawn)
 
     def columns(seed: int) -> Any:
-        blocks = coarse(with_seed(scene, seed) if asked.drawn is None else drawing.drawn(drawn, seed), asked.generations, *asked.block)
+        area = with_seed(scene, seed) if asked.drawn is None else drawing.drawn(drawn, seed)
+        blocks = coarse(area, asked.generations, *asked.block or (8, 9))
         return [blocks.fluid, blocks.particles, *blocks.velocity]
 
     (fluid, *means), (_, *errors) = mean(side_by_side(columns, range(1, asked.seeds + 1)))
@@ -242,67 +243,67 @@ def numbers(asked: argparse.Namespace) -> None:
 
 # -- their words
 
-Words = tuple[str, dict[str, Any]]
-
-
-def sides(most: int, about: str, **options: Any) -> dict[str, Any]:
-    return {"type": whole(1, most), "nargs": 2, "metavar": ("COLUMNS", "ROWS"), "help": about} | options
-
-
-def file(*suffixes: str) -> Words:
-    return "file", {"type": to_write(*suffixes), "metavar": "FILE", "help": ", ".join(suffixes)}
-
-
-SCENE: Words = ("scene", {"metavar": "SCENE"})
 FIELD: dict[str, Any] = {"choices": (*FIELDS, "particles")}
-GENERATIONS: dict[str, Any] = {"type": whole(0, 1_000_000), "metavar": "GENERATIONS"}
-STEP: dict[str, Any] = {"type": whole(1, 1_000_000), "metavar": "STEP"}
-BLOCK: Words = ("--block", sides(4096, "of a block; default 8 9", default=(8, 9)))
-RUN: tuple[Words, ...] = (
-    ("--scene", {"metavar": "SCENE", "help": "the scene of the run, for its gas and its size"}), ("--gas", {"choices": drawing.GASES}),
-    ("--size", sides(65536, "of the lattice")), ("--block", sides(4096, "of a block")))
-LOOK: tuple[Words, ...] = (
-    ("--low", {"type": number(-1e300, 1e300), "help": "the value of the first colour"}),
-    ("--high", {"type": number(-1e300, 1e300), "help": "and of the last"}),
-    ("--smooth", {"type": number(0, 100), "default": 0, "metavar": "BLOCKS", "help": "width of a Gaussian that smooths, in blocks"}),
-    ("--dpi", {"type": whole(10, 1000), "default": 100, "help": "dots per inch; default 100"}))
-FORCE: tuple[Words, ...] = (
-    ("--force", {"type": number(-2, 2), "help": "momentum per fluid cell and generation"}),
-    ("--flow", {"type": number(-1, 1), "help": "mean velocity"}),
-    ("--seed", {"type": whole(0, drawing.MOST_SEED), "default": 0, "help": "of the particles that are turned; default 0"}))
-COMMANDS: tuple[tuple[Callable[[argparse.Namespace], None], str, tuple[Words, ...]], ...] = (
-    (draw, "draw a scene", ()),
-    (explain, "say where and why a scene is refused", (SCENE,)),
-    (picture, "a figure of a scene, of cells or of a table, or of several", (
-        ("what", FIELD), file(*FIGURES, *FILMS), ("sources", {"metavar": "SOURCE", "nargs": "+"}), *RUN, *LOOK)),
-    (film, "run a scene and write a film", (
-        SCENE, file(*FILMS), ("--every", STEP | {"required": True, "help": "generations from frame to frame"}),
-        ("--until", GENERATIONS | {"required": True, "help": "generations in all"}),
-        ("--what", FIELD | {"help": "default speed, or particles if the lattice is small"}), BLOCK, *LOOK,
-        ("--fps", {"type": number(0.1, 100), "default": 10, "help": "frames per second; default 10"}), *FORCE)),
-    (live, "show a gas that moves on a page of the browser", (
-        ("scene", {"metavar": "SCENE", "nargs": "?"}), ("--no-browser", {"action": "store_true"}),
-        ("--port", {"type": whole(0, 65535), "default": 0, "help": "default any that is free"}))),
-    (how_long, "say how long a run will take", (
-        SCENE, ("generations", GENERATIONS), ("--stages", {"type": whole(1, 64)}), ("--capacity", {"type": whole(1, 1024)}),
-        ("--seconds", {"type": whole(1, 3600), "default": 2, "help": "the least that is timed; default 2"}))),
-    (resume, "print the scene that continues a run from printed cells", (SCENE, ("cells", {"metavar": "CELLS"}))),
-    (long_run, "run in parts, each kept in a file; the same command continues an ended run", (
-        SCENE, ("generations", GENERATIONS | {"type": whole(0, 10**12)}), ("step", STEP),
-        ("kept", {"metavar": "KEPT", "help": "the file, a scene"}))),
-    (drive, "run a scene under a force or towards a mean flow", (
-        SCENE, ("generations", GENERATIONS), ("every", STEP | {"metavar": "EVERY"}), *FORCE)),
-    (over_time, "tables every STEP generations up to LAST", (
-        SCENE, ("last", {"type": whole(0, 10**12), "metavar": "LAST"}), ("step", STEP), BLOCK)),
-    (over_seeds, "the mean over seeds of a table, with standard errors", (
-        ("--seeds", {"type": whole(2, 10**6), "default": 8}), ("--generations", GENERATIONS | {"required": True}), BLOCK,
-        ("scene", {"nargs": "?", "metavar": "SCENE", "help": "an area without particles"}),
-        ("--drawn", {"nargs": "...", "metavar": "WORD", "help": "words of `draw` to the end of the line, for every seed"}))),
-    (numbers, "Mach and Reynolds number of a flow, and the rest", (
-        ("--filling", {"type": number(1e-4, 0.9999)}), ("--speed", {"type": number(0, 1)}),
-        ("--length", {"type": number(1e-3, 1e9), "required": True}),
-        ("--table", {"metavar": "SOURCE", "help": "for its filling and mean speed"}),
-        ("--chirality", {"choices": drawing.CHIRALITIES, "default": "seeded"}), *RUN)),
+SIDES: dict[str, Any] = {"nargs": 2, "metavar": ("COLUMNS", "ROWS")}
+FINITE, MANY, STEP, COUNT = number(-1e300, 1e300), whole(0, 10**12), whole(1, 1_000_000), whole(0, 1_000_000)
+WORDS: dict[str, dict[str, Any]] = {
+    "scene": {"metavar": "SCENE"},
+    "scene:optional": {"metavar": "SCENE", "nargs": "?"},
+    "sources": {"metavar": "SOURCE", "nargs": "+"},
+    "cells": {"metavar": "CELLS"},
+    "kept": {"metavar": "KEPT", "help": "the file, a scene"},
+    "file:picture": {"metavar": "FILE", "type": to_write(*FIGURES, *FILMS), "help": ", ".join(FIGURES + FILMS)},
+    "file:film": {"metavar": "FILE", "type": to_write(*FILMS), "help": ", ".join(FILMS)},
+    "what": FIELD,
+    "generations": {"metavar": "GENERATIONS", "type": MANY},
+    "last": {"metavar": "LAST", "type": MANY},
+    "step": {"metavar": "STEP", "type": STEP},
+    "every": {"metavar": "EVERY", "type": STEP},
+    "--block": SIDES | {"type": whole(1, 4096), "help": "of a block; default 8 9, but a table needs its own"},
+    "--capacity": {"type": whole(1, 1024), "help": "rows per belt"},
+    "--chirality": {"choices": drawing.CHIRALITIES, "default": "seeded", "help": "default seeded"},
+    "--dpi": {"type": whole(10, 1000), "default": 100, "help": "dots per inch; default 100"},
+    "--drawn": {"metavar": "WORD", "nargs": "...", "help": "words of `draw` to the end of the line, for every seed"},
+    "--every": {"metavar": "STEP", "type": STEP, "required": True, "help": "generations from frame to frame"},
+    "--filling": {"type": number(1e-4, 0.9999), "help": "the chance per direction"},
+    "--flow": {"type": number(-1, 1), "help": "mean velocity"},
+    "--force": {"type": number(-2, 2), "help": "momentum per fluid cell and generation"},
+    "--fps": {"type": number(0.1, 100), "default": 10, "help": "frames per second; default 10"},
+    "--gas": {"choices": drawing.GASES},
+    "--generations": {"metavar": "GENERATIONS", "type": COUNT, "required": True},
+    "--high": {"type": FINITE, "help": "the value of the last colour"},
+    "--length": {"type": number(1e-3, 1e9), "required": True, "help": "in cells' widths"},
+    "--low": {"type": FINITE, "help": "the value of the first colour"},
+    "--no-browser": {"action": "store_true"},
+    "--port": {"type": whole(0, 65535), "default": 0, "help": "default any that is free"},
+    "--scene": {"metavar": "SCENE", "help": "the scene of the run, for its gas and its size"},
+    "--seconds": {"type": whole(1, 3600), "default": 2, "help": "the least that is timed; default 2"},
+    "--seed": {"type": whole(0, drawing.MOST_SEED), "default": 0, "help": "of the particles that are turned; default 0"},
+    "--seeds": {"type": whole(2, 10**6), "default": 8, "help": "default 8"},
+    "--size": SIDES | {"type": whole(1, 65536), "help": "of the lattice"},
+    "--smooth": {"metavar": "BLOCKS", "type": number(0, 100), "default": 0, "help": "width of a Gaussian that smooths, in blocks"},
+    "--speed": {"type": number(0, 1), "help": "in cells' widths per generation"},
+    "--stages": {"type": whole(1, 64), "help": "workers"},
+    "--table": {"metavar": "SOURCE", "help": "for its filling and mean speed"},
+    "--until": {"metavar": "GENERATIONS", "type": COUNT, "required": True, "help": "generations in all"},
+    "--what": FIELD | {"help": "default speed, or particles if the lattice is small"},
+}
+COMMANDS: tuple[tuple[Callable[[argparse.Namespace], None], str, str], ...] = (
+    (draw, "draw a scene", ""),
+    (explain, "say where and why a scene is refused", "scene"),
+    (picture, "a figure of a scene, of cells or of a table, or of several",
+        "what file:picture sources --scene --gas --size --block --low --high --smooth --dpi"),
+    (film, "run a scene and write a film",
+        "scene file:film --every --until --what --block --low --high --smooth --dpi --fps --force --flow --seed"),
+    (live, "show a gas that moves on a page of the browser", "scene:optional --port --no-browser"),
+    (how_long, "say how long a run will take", "scene generations --stages --capacity --seconds"),
+    (resume, "print the scene that continues a run from printed cells", "scene cells"),
+    (long_run, "run in parts, each kept in a file; the same command continues an ended run", "scene generations step kept"),
+    (drive, "run a scene under a force or towards a mean flow", "scene generations every --force --flow --seed"),
+    (over_time, "tables every STEP generations up to LAST", "scene last step --block"),
+    (over_seeds, "the mean over seeds of a table of an area, with standard errors", "scene:optional --seeds --generations --block --drawn"),
+    (numbers, "Mach and Reynolds number of a flow, and the rest",
+        "--filling --speed --length --chirality --gas --table --scene --size --block"),
 )
 
 
@@ -314,8 +315,8 @@ def reader(name: str) -> Parser:
         more = drawing.__doc__ if function is draw else function.__doc__ or about
         made = commands.add_parser(function.__name__.replace("_", "-"), help=about, description=more)
         made.set_defaults(function=function)
-        for word, options in words:
-            made.add_argument(word, **options)
+        for word in words.split():
+            made.add_argument(word.split(":")[0], **WORDS[word])
         if function is draw:
             drawing.add_words(made)
     return top
