@@ -45,6 +45,7 @@ $version, built for $level
     ./fhpgas --help
     PYTHONPATH=python python3 -m fhpgas --help
     jupyter notebook notebooks/first_class.ipynb
+$([ ! -d page ] || echo '    page/fhpgas.html, opened in a browser on any system, shows a gas that moves')
 
 The program needs Linux on x86-64, a processor of that level, and the C library glibc, version
 $(grep -aoP 'GLIBC_\K2[.0-9]+' $program | sort -V | tail -n 1) or later. The Python package needs Python 3.11 and numpy, its pictures matplotlib, its fits scipy. pip installs it from the .whl file
