@@ -159,7 +159,7 @@ class Commands(unittest.TestCase):
         self.assertEqual(image.get_array().mask.tolist(), [[False, False, True, False], [False] * 4, [False] * 4])
         self.assertEqual(image.get_array()[:, :2].tolist(), [[1, 2], [1, 1], [4.5, 4.5]])
         self.assertEqual((image.get_clim(), image.get_cmap().name), ((1, 6), "viridis"))
-        self.assertEqual(ax.child_axes[0].get_ylabel(), "density\n(particles per cell)")
+        self.assertEqual(image.colorbar.ax.get_ylabel(), "density\n(particles per cell)")
         left, right, bottom, top = image.get_extent()
         self.assertTrue(np.allclose((right - left, top - bottom, top), (32, 27 * np.sqrt(3) / 2, 20 * np.sqrt(3) / 2)))
         self.assertTrue(np.allclose((*np.subtract(ax.get_xlim(), left), *ax.get_ylim()), (0, 30, 0, top)))

@@ -134,10 +134,11 @@ def particles(lattice: Lattice, ax: Axes) -> Axes:
 
 
 def bar(image: Any, what: Any, ax: Axes) -> None:
-    """The bar of an image's colours, beside its Axes and as high as they are. Arrows have none."""
+    """The bar of an image's colours beside its Axes, about as high as the image will be. Arrows have none."""
     if what is not PARTICLES:
-        label = f"{what}\n({FIELDS[what][0]})" if isinstance(what, str) else None
-        ax.figure.colorbar(image, cax=ax.inset_axes((1.02, 0, 0.025, 1)), label=label)
+        room, label = ax.get_window_extent(), f"{what}\n({FIELDS[what][0]})" if isinstance(what, str) else None
+        share = min(1.0, 0.85 * ax.get_data_ratio() * room.width / room.height)
+        ax.figure.colorbar(image, ax=ax, label=label, shrink=share, aspect=max(5, 25 * share), pad=0.02)
 
 
 def plot(source: Lattice | Blocks, what: Any = None, ax: Axes | None = None, *, block: tuple[int, int] = (8, 9), smooth: float = 0.0,
@@ -189,7 +190,7 @@ def figure_of(source: Lattice | Blocks) -> Figure:
     from matplotlib.figure import Figure
 
     aspect = source.size[1] * source.gas.row_distance / source.size[0]
-    return Figure(figsize=(7, max(1.5, min(9, 5.4 * aspect + 0.8))), layout="constrained")
+    return Figure(figsize=(min(7, 8 / aspect + 2.5), max(1.5, min(9, 5.4 * aspect + 0.8))), layout="constrained")
 
 
 def png(source: Lattice | Blocks) -> bytes:
@@ -205,7 +206,7 @@ def png(source: Lattice | Blocks) -> bytes:
 def film(path: str | os.PathLike[str], sources: Iterable[Lattice | Blocks], what: Any = None, *, block: tuple[int, int] = (8, 9),
          smooth: float = 0.0, fps: float = 10.0, dpi: int = 100, **options: Any) -> None:
     """Writes a film of lattices or blocks, which may come one by one, as .gif, .webp, .apng, or if there is ffmpeg as .mp4. All frames have
-    one range of colours. `fps` is the frames per second, and with 100 `dpi` a frame is 700 pixels wide. All else is as in `plot`."""
+    one range of colours. `fps` is the frames per second, and with 100 `dpi` a frame is at most 700 x 900 pixels. All else is as in `plot`."""
     writer, dpi = film_writer(path, real("the frames per second", fps, 0.1, 100)), integer("the dots per inch", dpi, 10, 1000)
     what, many, options = prepared(sources, what, block, smooth, options)
     figure = figure_of(many[0] if what is PARTICLES else many[0].blocks)
