@@ -296,7 +296,7 @@ class Package(unittest.TestCase):
         for gas, east, north, filling, pressure in (
                 ("fhp1", 3 / 16, ROOT3 / 16, 4 / 9, 4 / 3 * (1 - 0.1 * u**2)), ("hpp", 3 / 8, 1 / 8, 2 / 3, 4 / 3),
                 ("fhp-rest", 3 / 16, ROOT3 / 16, 8 / 21, 8 / 7 * (1 - 5 / 6 * 35 / 156 * u**2))):
-            blocks = fhpgas.read_table(TABLE, gas, (2, 2), (6, 2))
+            blocks, late = (fhpgas.read_table(TABLE, gas, (2, 2), (6, 2), generation) for generation in (0, 5))
             for name, wanted in (("fluid", [3, 4, 0]), ("particles", [8, 0, 0]), ("px", [3, 0, 0]), ("py", [1, 0, 0]),
                                  ("density", [8 / 3, 0, nan]), ("filling", [filling, 0, nan]), ("pressure", [pressure, 0, nan]),
                                  ("east", [east, nan, nan]), ("north", [north, nan, nan]), ("speed", [math.hypot(east, north), nan, nan])):
@@ -304,6 +304,7 @@ class Package(unittest.TestCase):
             self.same(blocks.velocity, [[[east, nan, nan]], [[north, nan, nan]]])
             self.assertEqual((repr(blocks), (blocks + blocks).particles.tolist(), sum([blocks] * 3).px.tolist(), blocks.text()),
                              (f"<Blocks 3 x 1 of 2 x 2 cells of {gas}, generation 0>", [[16, 0, 0]], [[9, 0, 0]], TABLE))
+        self.assertEqual([(one + two).generation for one, two in ((blocks, late), (late, blocks))], [5, 0])
         full = fhpgas.gas(1, size=(4, 4)).blocks(2, 2)
         self.same((full.density, full.pressure, full.speed), [[[6] * 2] * 2, [[3] * 2] * 2, [[0] * 2] * 2])
 
@@ -397,6 +398,8 @@ class Package(unittest.TestCase):
         self.assertNotEqual(fhpgas.gas(0.3, X / 200, solid=disc, seed=3), one)
         self.assertGreater(*one.blocks(32, 47).east[0, ::-1])
         self.assertEqual(fhpgas.gas(1, size=(5, 4)).particles, 120)
+        sparse = [fhpgas.gas(part / 65536, size=(1024, 512)).particles for part in (0.4, 0.6)]  # of 48 numbers that are 0, as a mean
+        self.assertTrue(sparse[0] == 0 and abs(sparse[1] - 48) < 5 * math.sqrt(48), sparse)
 
     # -- shapes
 

@@ -216,8 +216,7 @@ def read_table(text: str | bytes, gas: str | Gas, block: tuple[int, int], size: 
     shape = -(-rows // height), -(-columns // width)
     first, _, body = (text.encode() if isinstance(text, str) else text).partition(b"\n")
     fault = Fault(f"this is no whole table of `coarse` with {shape[1]} columns and {shape[0]} rows of blocks")
-    is_whole = first == HEADER.encode() and body[-1:] == b"\n" and body.count(b"\n") == shape[0] * shape[1]
-    if not is_whole or body.translate(None, b"-0123456789 \n"):
+    if first != HEADER.encode() or body.count(b"\n") != shape[0] * shape[1] or body.translate(None, b"-0123456789 \n"):
         raise fault
     try:
         table = np.loadtxt(io.BytesIO(body), np.int64).reshape(*shape, 6)
