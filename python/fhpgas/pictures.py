@@ -24,6 +24,7 @@ if TYPE_CHECKING:
     from matplotlib.axes import Axes
     from matplotlib.figure import Figure
 
+__all__ = ["film", "plot", "strip"]
 PLAIN, SIGNED, VELOCITY = "viridis", "RdBu_r", "cells per generation"
 FIELDS = {  # the unit and the colours of what is shown
     "speed": (VELOCITY, PLAIN), "east": (VELOCITY, SIGNED), "north": (VELOCITY, SIGNED), "vorticity": ("1 per generation", SIGNED),
@@ -206,7 +207,8 @@ def png(source: Lattice | Blocks) -> bytes:
 def film(path: str | os.PathLike[str], sources: Iterable[Lattice | Blocks], what: Any = None, *, block: tuple[int, int] = (8, 9),
          smooth: float = 0.0, fps: float = 10.0, dpi: int = 100, **options: Any) -> None:
     """Writes a film of lattices or blocks, which may come one by one, as .gif, .webp, .apng, or if there is ffmpeg as .mp4. All frames have
-    one range of colours. `fps` is the frames per second, and with 100 `dpi` a frame is at most 700 x 900 pixels. All else is as in `plot`."""
+    one range of colours. `fps` is the frames per second. With a `dpi` of 100 a frame is at most 700 x 900 pixels. All else is as in
+    `plot`."""
     writer, dpi = film_writer(path, real("the frames per second", fps, 0.1, 100)), integer("the dots per inch", dpi, 10, 1000)
     what, many, options = prepared(sources, what, block, smooth, options)
     figure = figure_of(many[0] if what is PARTICLES else many[0].blocks)
