@@ -397,6 +397,8 @@ class Package(unittest.TestCase):
         self.assertEqual(one, fhpgas.Lattice(np.where(disc, 0, fhpgas.gas(0.3, X / 200, seed=2).states), disc, seed=2))
         self.assertNotEqual(fhpgas.gas(0.3, X / 200, solid=disc, seed=3), one)
         self.assertGreater(*one.blocks(32, 47).east[0, ::-1])
+        along, size = np.arange(64) / 200, (64, 47)  # a profile along the rows
+        self.assertEqual(fhpgas.gas(0.3, along, size=size, gas="hpp"), fhpgas.gas(0.3, lambda X, Y: X / 200 + 0 * Y, size=size, gas="hpp"))
         self.assertEqual(fhpgas.gas(1, size=(5, 4)).particles, 120)
         sparse = [fhpgas.gas(part / 65536, size=(1024, 512)).particles for part in (0.4, 0.6)]  # of 48 numbers that are 0, as a mean
         self.assertTrue(sparse[0] == 0 and abs(sparse[1] - 48) < 5 * math.sqrt(48), sparse)

@@ -109,13 +109,13 @@ def drawn(gas: Gas, fields: Iterable[Array], shape: tuple[int, int], seed: int, 
     rows, columns = shape
     words = gas.directions * -(-columns // 4)
     flat = [field.reshape((1,) * (2 - field.ndim) + field.shape) for field in fields]
-    is_profile, height = all(field.shape[1] == 1 for field in flat), max(1, CACHED // words)
-    chances = np.broadcast_to(equilibrium(gas, *flat), (gas.directions, rows, 1)) if is_profile else None
+    spread, height = np.broadcast_shapes(*(field.shape for field in flat)), max(1, CACHED // words)
+    profile = np.broadcast_to(equilibrium(gas, *flat), (gas.directions, rows, spread[1])) if 1 in spread else None
     source, states = np.random.PCG64(seed).advance(first * words), np.zeros(shape, np.uint8)
     for top in range(0, rows, height):
         part, strip = states[top : top + height], slice(top, top + height)
-        here = equilibrium(gas, *(field[strip] if len(field) > 1 else field for field in flat)) if chances is None else chances[:, strip]
-        limits = np.rint(65536 * here)
+        fields_here = (field[strip] if len(field) > 1 else field for field in flat)
+        limits = np.rint(65536 * (equilibrium(gas, *fields_here) if profile is None else profile[:, strip]))
         limits = limits.astype(np.uint16 if limits.max() < 65536 else np.int32)
         lots = source.random_raw(len(part) * words).astype("<u8", copy=False).view("<u2").reshape(len(part), gas.directions, -1)
         for i, limit in enumerate(limits):
