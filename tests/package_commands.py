@@ -100,6 +100,7 @@ resume a.toml no.txt | no.txt
 film no.toml a.gif --every 1 --until 1 | no.toml
 numbers --gas hpp --length 9 --filling 0.2 --speed 0.1 | hpp has no viscosity
 numbers --table - --length 9 --scene a.toml --block 8 9 | scene: missing key
+numbers --table empty.toml --length 9 | empty.toml has no particle
 numbers --table cut --length 9 --scene a.toml --block 11 9 | cut: this is no whole table
 picture speed a.png less --scene a.toml | less: 
 picture particles a.png table --scene a.toml --block 11 9 | no picture of 'particles'
@@ -128,6 +129,7 @@ class Commands(unittest.TestCase):
         cells = cls.start.run(3).text()
         less = cells[: cells.rindex("\n", 0, -1) + 1]
         for name, text in {"a.toml": AREA, "three": cells, "less": less, "table": table, "cut": table[:-3],
+                           "empty.toml": AREA.replace("300", "0"),
                            "later.toml": cls.start.run(3).scene()}.items():
             (cls.room / name).write_text(text)
         os.chdir(cls.room)

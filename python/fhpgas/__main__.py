@@ -29,9 +29,10 @@ UNITS = ("days", 86400), ("hours", 3600), ("minutes", 60), ("seconds", 1)
 # -- what is read
 
 
-def text(path: str) -> str:
+def text(path: str, found: bytes | None = None) -> str:
     """The text of a scene. It has a line feed, so it is never taken for a path."""
-    return read_bytes(path).decode(errors="replace") + "\n"
+    read = (read_bytes(path) if found is None else found).decode(errors="replace")
+    return read if "\n" in read else read + "\n"
 
 
 def lattice(path: str) -> Lattice:
@@ -48,7 +49,7 @@ def source(path: str, asked: argparse.Namespace) -> Lattice | Blocks:
     found = read_bytes(path)
     is_table = found.startswith(b"  col ")
     if not is_table and not found.startswith(b"generation "):
-        return Lattice.load(found.decode(errors="replace") + "\n")
+        return Lattice.load(text(path, found))
     if asked.scene is None and None in (asked.gas, asked.size):
         raise Usage(f"{path} does not name its gas and its size: --scene SCENE, or --gas GAS and --size COLUMNS ROWS")
     if is_table and asked.block is None:
@@ -131,14 +132,15 @@ def picture(asked: argparse.Namespace) -> None:
 
 def film(asked: argparse.Namespace) -> None:
     """Runs a scene, and shows it every so many generations, from its start on. A flow is kept at each frame by turning particles."""
-    count, options, how = steps(asked.until, asked.every), looks(asked), {"force": asked.force, "flow": asked.flow}
-    if None not in how.values():
+    count, options = steps(asked.until, asked.every), looks(asked)
+    how = {name: value for name, value in (("force", asked.force), ("flow", asked.flow)) if value is not None}
+    if len(how) > 1:
         raise Usage("a flow is driven by a force or towards a mean flow: --force or --flow")
     from . import pictures
 
     start = lattice(asked.scene)
-    frames = start.every(asked.every, count) if how == {"force": None, "flow": None} else (
-        point.before for point in start.driven(asked.until, asked.every, **how, seed=asked.seed))
+    points = start.driven(asked.until, asked.every, seed=asked.seed, **how) if how else ()
+    frames = (point.before for point in points) if how else start.every(asked.every, count)
     pictures.film(asked.file, frames, asked.what, fps=asked.fps, dpi=asked.dpi, **options)
     print(f"{asked.file}: {count + 1} frames, generations {start.generation} to {start.generation + asked.until}")
 
@@ -233,9 +235,11 @@ def numbers(asked: argparse.Namespace) -> None:
     if asked.table is not None:
         found = source(asked.table, asked)
         blocks = found if isinstance(found, Blocks) else found.blocks()
-        gas, particles = blocks.gas.name, max(1, blocks.particles.sum())
+        gas, particles = blocks.gas.name, blocks.particles.sum()
+        if not particles:
+            raise Fault(f"{asked.table} has no particle, so no flow")
         x, y = blocks.gas.units * (blocks.px.sum(), blocks.py.sum()) / particles
-        flow = {"filling": particles / blocks.gas.directions / max(1, blocks.fluid.sum()), "speed": (x**2 + y**2) ** 0.5}
+        flow = {"filling": particles / blocks.gas.directions / blocks.fluid.sum(), "speed": (x**2 + y**2) ** 0.5}
     told = theory.numbers(gas, **flow, length=asked.length, chirality=asked.chirality)._asdict()
     for name, value in (flow | told if asked.table else told).items():
         print(f"{name.replace('_', ' '):16}{value:12.4g}")
