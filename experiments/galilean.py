@@ -2,7 +2,7 @@
 """The Galilean factor: how fast a wind carries a wave of the flow across it, compared with g(d).
 
 In a wind u eastwards the gas moves north and south as v = 0.1 sin(k x). In a fluid the wave would move with u. Here it moves with g u. A
-line is fitted to its phase in the middle rows, far from the walls. Theory: the same fit to the noise-free Boltzmann equation of a gas
+line is fitted to its phase in the rows a wave's length from the walls. Theory: the same fit to the noise-free Boltzmann equation of a gas
 without walls. Published, for a slow wind and a long wave: g = (1 - 2d) / (2 (1 - d)) in fhp1 and 7/6 of it in fhp-rest (Frisch 1987).
 """
 import common
@@ -22,7 +22,7 @@ def places(asked, momenta):
 
 
 def measured(asked, filling, seed):
-    rows, edge = asked.height, min(128, asked.height // 4)
+    rows, edge = asked.height, asked.wave  # within a wave's length walls act on the pressure: exp(-k y) = 1/200 at its end
     lattice = fhpgas.gas(filling, asked.wind, np.resize(asked.across, asked.width), size=(asked.width, rows), gas=asked.gas, seed=seed)
     return places(asked, [later.blocks(BLOCK, 1).py[edge : rows - edge].sum(0) for later in lattice.every(STEP, PARTS)])
 
@@ -55,10 +55,10 @@ def main():
     reader.option("--wind", common.number(0.02, 0.3), 0.2, 0.2, "the speed of the wind", metavar="U")
     reader.option("--wave", common.whole(64, 4096), 128, 128, f"the length of the wave, a multiple of {BLOCK}")
     reader.option("--width", common.whole(64, 65536), 512, 512, "columns, a multiple of the wave")
-    reader.option("--height", common.whole(256, 4096), 768, 256, "rows")
+    reader.option("--height", common.whole(256, 4096), 768, 512, "rows, more than two waves")
     asked, waves = reader.parse_args(), []
-    if asked.wave % BLOCK or asked.width % asked.wave:
-        raise fhpgas.Fault(f"the width is {asked.width}, and must be a multiple of the wave, {asked.wave}, and the wave of {BLOCK}")
+    if asked.wave % BLOCK or asked.width % asked.wave or asked.height <= 2 * asked.wave:
+        raise fhpgas.Fault(f"the wave, {asked.wave}, is a multiple of {BLOCK} and a part of the width, and less than half of the height")
     asked.across = ACROSS * np.sin(2 * np.pi * np.arange(asked.wave) / asked.wave)
     for filling in asked.filling:
         runs = fhpgas.side_by_side(lambda seed: measured(asked, filling, seed), range(1, asked.seeds + 1))
