@@ -21,8 +21,9 @@ def measured(asked, solid, force, seed):
 
 def predicted(asked, solid, force):
     flow = boltzmann.Flow(asked.gas, solid)
-    *_, last = flow.driven(flow.at(asked.filling), asked.settled, EVERY, force)
-    return flow.momentum(sum(last) / 2)[0].sum() / flow.density(last[0]).sum() * np.mean(~solid)
+    pairs = flow.driven(flow.at(asked.filling), asked.settled + asked.samples, EVERY, force)
+    speeds = [flow.momentum(sum(pair) / 2)[0].sum() / flow.density(pair[0]).sum() for pair in pairs]
+    return np.mean(speeds[asked.settled + 1 :]) * np.mean(~solid)
 
 
 def draw(path, asked, fluxes, slope, blocks):
