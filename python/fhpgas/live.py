@@ -1,0 +1,172 @@
+"""Serves the page on which a lattice gas moves, and computes its cells by the program: `python3 -m fhpgas live`.
+
+The server knows one call: it takes a lattice and a number of generations, and returns the lattice after them. All else is in the page. It
+listens on the loopback address and answers one tab with the page that it served: the path has a random token, and Host and Origin must be
+its own. It writes no file.
+"""
+import asyncio
+import contextlib
+import hmac
+import json
+import os
+import pathlib
+import secrets
+import subprocess
+import webbrowser
+from typing import Any
+
+import numpy as np
+from aiohttp import WSMsgType, web
+
+from . import program
+from .fault import Fault, integer
+from .gases import Array, chirality_named, gas_named
+from .lattice import cells_of, lines_of
+from .scenes import MOST_SEED, keys_of
+
+PAGE = pathlib.Path(__file__).with_name("page.html")
+ENGINE = '<meta name="engine" content="">'  # in the page: the path of its engine, empty for its own kernel
+MOST_CELLS, MOST_MESSAGE, MOST_GENERATIONS = 1 << 22, 10_000_000, 1000
+BUSY = b"The gas is shown in another tab. Close that tab, then reload this one."
+HEADERS = {"Cache-Control": "no-store", "Referrer-Policy": "no-referrer", "X-Content-Type-Options": "nosniff",
+           "Cross-Origin-Resource-Policy": "same-origin", "Content-Security-Policy": "frame-ancestors 'none'"}
+
+
+def packed(head: dict[str, Any], cells: bytes = b"") -> bytes:
+    """A message: the length of its head in four bytes, the head as JSON, and cells, a byte each."""
+    text = json.dumps(head).encode()
+    return len(text).to_bytes(4, "little") + text + cells
+
+
+def scene_of(head: dict[str, Any], cells: bytes) -> bytes:
+    """The scene of the lattice of a message. What is not allowed raises a Fault."""
+    width, height = (integer(f"the {side}", head.get(side), 1, 65536) for side in ("width", "height"))
+    if width * height > MOST_CELLS or len(cells) != width * height:
+        raise Fault(f"{width} x {height} cells in {len(cells):,} bytes: this server takes a byte per cell, and at most {MOST_CELLS:,}")
+    seed, generation = integer("the seed", int(head["seed"]), 0, MOST_SEED), integer("the generation", head["generation"], 0, 10**12)
+    keys = f'version = 2\ngas = "{gas_named(head["gas"])}"\nchirality = "{chirality_named(head["chirality"])}"\n'
+    rows = lines_of(np.frombuffer(cells, np.uint8).reshape(height, width), b'    "', b'",\n')
+    return f"{keys}seed = {seed}\ngeneration = {generation}\ncells = [\n".encode() + rows + b"]\n"
+
+
+class Live:
+    """The server of one page."""
+
+    def __init__(self, port: int):
+        self.port, self.token, self.page = port, secrets.token_urlsafe(24), PAGE.read_text().replace(ENGINE, ENGINE.replace('""', '"talk"'))
+        self.socket: web.WebSocketResponse | None = None
+        self.process: asyncio.subprocess.Process | None = None
+        version = subprocess.run([program.program_path(), "--version"], stdout=subprocess.PIPE, check=True).stdout.decode()
+        self.hello = packed({"version": " ".join(version.split()[:2]), "most": MOST_CELLS})
+
+    async def after(self, scene: bytes, generations: int) -> tuple[Array, int]:
+        """The cells of a scene after some generations, by the program, and their generation. Input and output are files in memory."""
+        words = map(str, program.planned(program.height_of(scene), integer("the generations", generations, 0, MOST_GENERATIONS)))
+        with os.fdopen(os.memfd_create("scene"), "w+b") as given, os.fdopen(os.memfd_create("answer"), "w+b") as answer:
+            given.write(scene)
+            given.seek(0)
+            run = await asyncio.create_subprocess_exec(program.program_path(), "run", *words, stdin=given, stdout=answer, stderr=subprocess.PIPE)
+            self.process = run
+            try:
+                _, said = await run.communicate()
+            finally:
+                self.stop()
+            if run.returncode:
+                raise Fault(said.decode(errors="replace").split("\n")[0] or f"fhpgas ended with status {run.returncode}")
+            answer.seek(0)
+            return cells_of(answer.read())
+
+    def stop(self) -> None:
+        """Ends a run that is under way."""
+        if self.process and self.process.returncode is None:
+            with contextlib.suppress(ProcessLookupError):
+                self.process.kill()
+
+    async def opened(self, scene: bytes) -> bytes:
+        """The message of the lattice of a scene's text. A scene that is refused or too large raises a Fault."""
+        cells, generation = await self.after(scene, 0)
+        if cells.size > MOST_CELLS:
+            raise Fault(f"the scene has {cells.size:,} cells, and this server takes at most {MOST_CELLS:,}")
+        keys = {"chirality": "seeded", "seed": 0} | keys_of(scene)
+        head = {"gas": keys["gas"], "chirality": keys["chirality"], "seed": str(keys["seed"]), "generation": generation}
+        return packed(head | {"width": cells.shape[1], "height": cells.shape[0]}, cells.tobytes())
+
+    async def answer(self, message: bytes) -> bytes:
+        """The answer to a message: the cells, or the line of a Fault. A message that is none raises another error."""
+        end = 4 + int.from_bytes(message[:4], "little")
+        head, body = json.loads(message[4:end]), message[end:]
+        try:
+            if "scene" in head:
+                return await self.opened(body)
+            cells, generation = await self.after(scene_of(head, body), head["generations"])
+            return packed({"generation": generation}, cells.tobytes())
+        except Fault as fault:
+            return packed({"fault": str(fault)})
+
+    async def talk(self, request: web.Request) -> web.WebSocketResponse:
+        """Answers the messages of one tab, one after the other."""
+        socket = web.WebSocketResponse(max_msg_size=MOST_MESSAGE, compress=False)
+        await socket.prepare(request)
+        if self.socket is not None:
+            await socket.close(code=4000, message=BUSY)
+            return socket
+        self.socket = socket
+        try:
+            await socket.send_bytes(self.hello)
+            async for message in socket:
+                if message.type != WSMsgType.BINARY:
+                    break
+                await socket.send_bytes(await self.answer(message.data))
+        except (ValueError, LookupError, TypeError, ConnectionError):
+            pass
+        finally:
+            self.socket = None
+            await socket.close()
+        return socket
+
+    async def handle(self, request: web.Request) -> web.StreamResponse:
+        """Refuses other names of this computer, other paths, and requests of other pages."""
+        host, origin, is_talk = request.headers.get("Host"), request.headers.get("Origin"), request.match_info["name"] == "talk"
+        known = [f"http://127.0.0.1:{self.port}", f"http://localhost:{self.port}"]
+        if f"http://{host}" not in known or origin not in ([] if is_talk else [None]) + [f"http://{host}"]:
+            raise web.HTTPForbidden()
+        if not hmac.compare_digest(request.match_info["token"].encode(), self.token.encode()) or not is_talk and request.match_info["name"]:
+            raise web.HTTPNotFound()
+        if request.headers.get("Sec-Fetch-Site", "none") not in ("none", "same-origin"):
+            raise web.HTTPForbidden()
+        return await self.talk(request) if is_talk else web.Response(text=self.page, content_type="text/html", headers=HEADERS)
+
+    async def shut(self, _: web.Application) -> None:
+        self.stop()
+        if self.socket is not None:
+            await self.socket.close()
+
+    async def serve(self, scene: str | None, browser: bool) -> None:
+        if scene is not None:
+            self.hello = (await self.opened(scene.encode()))
+        application = web.Application()
+        application.on_shutdown.append(self.shut)
+        application.router.add_get("/{token}/{name:.*}", self.handle)
+        runner = web.AppRunner(application, access_log=None)
+        await runner.setup()
+        try:
+            await web.TCPSite(runner, "127.0.0.1", self.port).start()
+            self.port = runner.addresses[0][1]
+            address = f"http://127.0.0.1:{self.port}/{self.token}/"
+            print(address, flush=True)
+            if browser:
+                webbrowser.open(address)
+            await asyncio.Event().wait()
+        finally:
+            await runner.cleanup()
+
+
+def serve(scene: str | None = None, port: int = 0, browser: bool = True) -> None:
+    """Serves the page on a port of this computer, 0 for any free one, until it is interrupted. It begins with a scene's text, or with a flow
+    past a disc. The address is printed, and the browser opened if that is asked for. A port that is taken raises a Fault."""
+    try:
+        asyncio.run(Live(port).serve(scene, browser))
+    except OSError as fault:
+        raise Fault(f"port {port}: {fault.strerror}") from None
+    except KeyboardInterrupt:
+        pass

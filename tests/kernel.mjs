@@ -1,0 +1,120 @@
+// Takes the kernel out of the page and compares it with the program, bit for bit, and its key stream with RFC 8439.
+//   node tests/kernel.mjs        the program is FHPGAS, or ./fhpgas
+import { spawnSync } from "node:child_process";
+import { readFileSync } from "node:fs";
+
+const root = new URL("..", import.meta.url).pathname;
+const program = process.env.FHPGAS ?? `${root}fhpgas`;
+const page = readFileSync(`${root}page/fhpgas.html`, "utf8");
+const source = /<script id="kernel"[^>]*>\n(.*?)<\/script>/s.exec(page)[1];
+const { Kernel, GASES, SOLID, SLACK, block, fill } =
+  new Function(`${source}\nreturn { Kernel, GASES, SOLID, SLACK, block, fill };`)();
+const MAPS = 200, AREAS = 18;
+let passed = 0, failed = 0;
+
+function check(what, isSo) {
+  isSo ? passed++ : failed++;
+  if (!isSo) console.log(`FAILED: ${what}`);
+}
+
+// Numbers that are the same in every run: mulberry32.
+function lots(seed) {
+  const next = () => {
+    let t = (seed = (seed + 0x6d2b79f5) | 0);
+    t = Math.imul(t ^ (t >>> 15), t | 1);
+    t ^= t + Math.imul(t ^ (t >>> 7), t | 61);
+    return ((t ^ (t >>> 14)) >>> 0) / 2 ** 32;
+  };
+  return { chance: next, below: (n) => Math.floor(n * next()), of: (list) => list[Math.floor(list.length * next())] };
+}
+
+// The line that the program prints first, and its rows.
+function run(scene, generations) {
+  const words = ["run", "--generations", generations, "--stages", 4, "--capacity", 64].map(String);
+  const done = spawnSync(program, words, { input: scene, maxBuffer: 1 << 28 });
+  if (done.status !== 0) throw new Error(`${done.error ?? done.stderr}`);
+  return done.stdout.toString().trimEnd().split("\n");
+}
+
+const spelled = (state) => (state === SOLID ? "##" : state ? state.toString(16).padStart(2, "0") : "..");
+const rowsOf = (cells, width, height) =>
+  Array.from({ length: height }, (_, y) => Array.from(cells.subarray(y * width, (y + 1) * width), spelled).join(""));
+
+function drawn(random, gas, width, height) {
+  const cells = new Uint8Array(width * height + SLACK), rate = random.of([0.02, 0.1, 0.2, 0.35, 0.6]);
+  const singles = random.of([0, 0.001, 0.03]);
+  for (let at = 0; at < width * height; at++) {
+    for (let i = 0; i < gas.directions; i++) if (random.chance() < rate) cells[at] |= 1 << i;
+    if (random.chance() < singles) cells[at] = SOLID;
+  }
+  for (let n = random.below(5); n > 0; n--) {
+    const left = random.below(width), top = random.below(height), w = 1 + random.below(40), h = 1 + random.below(20);
+    for (let y = top; y < Math.min(height, top + h); y++) {
+      cells.fill(SOLID, y * width + left, y * width + Math.min(width, left + w));
+    }
+  }
+  return cells;
+}
+
+const WIDTHS = [1, 2, 3, 7, 31, 32, 33, 47, 63, 64, 65, 95, 96, 97, 128, 129, 161, 255, 257];
+const HEIGHTS = [1, 2, 3, 5, 8, 16, 33, 64];
+
+for (let number = 0; number < MAPS; number++) {
+  const random = lots(number), gas = Object.values(GASES)[number % 3];
+  const chirality = ["seeded", "left", "right"][Math.floor(number / 3) % 3];
+  const width = random.of(WIDTHS), height = random.of(HEIGHTS), generations = 100 + random.below(400);
+  const first = random.of([0, 1, 2 ** 32 - 100, 10 ** 12]);
+  const seed = random.of([0n, 1n, 2n ** 32n, 2n ** 63n - 1n, BigInt(random.below(2 ** 32)) << 20n]);
+  const cells = drawn(random, gas, width, height), kernel = new Kernel(gas, width, height);
+  const keys = { version: 2, gas: `"${gas.name}"`, chirality: `"${chirality}"`, seed, generation: first };
+  const head = Object.entries(keys).map(([key, value]) => `${key} = ${value}\n`).join("");
+  const [, ...theirs] = run(`${head}cells = ${JSON.stringify(rowsOf(cells, width, height))}\n`, generations);
+  kernel.load(cells);
+  kernel.advance(generations, first, chirality, seed);
+  kernel.store(cells);
+  const name = `map ${number}: ${gas.name}, ${chirality}, ${width} x ${height}, ${generations} generations`;
+  check(name, rowsOf(cells, width, height).join("\n") === theirs.join("\n"));
+}
+
+// the filling of areas
+for (let number = 0; number < AREAS; number++) {
+  const random = lots(1000 + number), gas = Object.values(GASES)[number % 3], width = random.of(WIDTHS), height = random.of(HEIGHTS);
+  const rate = random.of([0, 1, 200, 500, 999, 1000]), seed = random.of([0n, 7n, 2n ** 63n - 1n]);
+  const cells = new Uint8Array(width * height + SLACK);
+  cells[0] = SOLID;
+  fill(gas, cells, width * height, seed, Array(gas.directions).fill(rate));
+  const scene = `gas = "${gas.name}"\nwidth = ${width}\nheight = ${height}\nrate = ${rate}\nseed = ${seed}\nsolid = [[0, 0, 1, 1]]\n`;
+  const [, ...theirs] = run(scene, 0);
+  check(`area ${number}: ${gas.name}, ${width} x ${height}`, rowsOf(cells, width, height).join("\n") === theirs.join("\n"));
+}
+
+// RFC 8439: the block of 2.3.2, and the test vectors 1 to 5 of appendix A.1
+const hex = (text) => Uint8Array.from(text.replace(/\s/g, "").match(/../g), (two) => parseInt(two, 16));
+const zeros = (count) => "00".repeat(count);
+const VECTORS = [
+  ["00:01:02:03:04:05:06:07:08:09:0a:0b:0c:0d:0e:0f:10:11:12:13:14:15:16:17:18:19:1a:1b:1c:1d:1e:1f".replaceAll(":", ""), 1,
+    "000000090000004a00000000", `10f1e7e4d13b5915500fdd1fa32071c4c7d1f4c733c068030422aa9ac3d46c4ed2826446079faa0914c2d705d98b02a2
+    b5129cd1de164eb9cbd083e8a2503c4e`],
+  [zeros(32), 0, zeros(12), `76b8e0ada0f13d90405d6ae55386bd28bdd219b8a08ded1aa836efcc8b770dc7da41597c5157488d7724e03fb8d84a37
+    6a43b8f41518a11cc387b669b2ee6586`],
+  [zeros(32), 1, zeros(12), `9f07e7be5551387a98ba977c732d080dcb0f29a048e3656912c6533e32ee7aed29b721769ce64e43d57133b074d839d5
+    31ed1f28510afb45ace10a1f4b794d6f`],
+  [zeros(31) + "01", 1, zeros(12), `3aeb5224ecf849929b9d828db1ced4dd832025e8018b8160b82284f3c949aa5a8eca00bbb4a73bdad192b5c42f73f2fd
+    4e273644c8b36125a64addeb006c13a0`],
+  ["00ff" + zeros(30), 2, zeros(12), `72d54dfbf12ec44b362692df94137f328fea8da73990265ec1bbbea1ae9af0ca13b25aa26cb4a648cb9b9d1be65b2c09
+    24a66c54d545ec1b7374f4872e99f096`],
+  [zeros(32), 0, zeros(11) + "02", `c2c64d378cd536374ae204b9ef933fcd1a8b2288b3dfa49672ab765b54ee27c78a970e0e955c14f3a88e741b97c286f7
+    5f8fc299e8148362fa198a39531bed6d`],
+];
+for (const [key, counter, nonce, wanted] of VECTORS) {
+  const state = new Int32Array(16), bytes = new DataView(state.buffer), out = new Int32Array(16);
+  [0x61707865, 0x3320646e, 0x79622d32, 0x6b206574].forEach((word, i) => bytes.setUint32(4 * i, word, true));
+  hex(key).forEach((byte, i) => bytes.setUint8(16 + i, byte));
+  bytes.setUint32(48, counter, true);
+  hex(nonce).forEach((byte, i) => bytes.setUint8(52 + i, byte));
+  block(state, out, 0);
+  check(`RFC 8439, counter ${counter}`, Buffer.from(out.buffer).equals(Buffer.from(hex(wanted))));
+}
+
+console.log(`${passed} passed, ${failed} failed`);
+process.exit(failed || passed < MAPS ? 1 : 0);
