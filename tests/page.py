@@ -1,0 +1,245 @@
+#!/usr/bin/env python3
+"""Uses the page of page/fhpgas.html in Chromium, by real mouse and key events, from its file and on the program's server. Ends with the counts."""
+
+import contextlib
+import hashlib
+import json
+import os
+import pathlib
+import signal
+import subprocess
+import sys
+import tempfile
+import time
+import urllib.error
+import urllib.parse
+import urllib.request
+
+import needs
+
+PROGRAM = needs.built_program()
+needs.command("chromium", "apt-get install chromium chromium-driver")
+try:
+    import aiohttp  # noqa: F401
+    from selenium import webdriver
+    from selenium.webdriver.common.action_chains import ActionChains
+    from selenium.webdriver.common.by import By
+except ImportError as missing:
+    needs.stop(f"{missing.name} is missing: apt-get install python3-selenium python3-aiohttp")
+
+WORDS = ("--headless=new", "--no-sandbox", "--disable-dev-shm-usage", "--disable-gpu", "--no-first-run", "--disable-background-networking",
+         "--disable-component-update", "--disable-sync", "--window-size=1600,1000")
+PATIENCE = 300  # seconds: far more than anything takes, and nothing here depends on it
+KNOWN = 'gas = "fhp1"\nchirality = "left"\ncells = [\n    "01........##",\n    "..09......##",\n    "......04..##",\n    "..........##",\n]\n'
+counts = {True: 0, False: 0}
+
+
+def check(what, is_so, more=""):
+    counts[bool(is_so)] += 1
+    if not is_so:
+        print(f"FAILED: {what} {more}", flush=True)
+
+
+class Page:
+    """A tab of Chromium with the page."""
+
+    def __init__(self, address, room):
+        options = webdriver.ChromeOptions()
+        for word in WORDS:
+            options.add_argument(word)
+        options.add_experimental_option("prefs", {"download.default_directory": str(room)})
+        options.set_capability("goog:loggingPrefs", {"browser": "ALL", "performance": "ALL"})
+        self.driver, self.room = webdriver.Chrome(options=options), room
+        self.driver.get(address)
+        self.view = self.driver.find_element(By.ID, "view")
+        self.wait("live.frames > 2 || live.notes.length")
+
+    def js(self, text, *values):
+        return self.driver.execute_script(text, *values)
+
+    def wait(self, condition):
+        end = time.monotonic() + PATIENCE
+        while not (found := self.js(f"return {condition}")):
+            if time.monotonic() > end:
+                raise SystemExit(f"{condition} did not come: {self.js('return [live.notes, live.frames, live.head && live.head.generation]')}")
+            time.sleep(0.02)
+        return found
+
+    def choose(self, **values):
+        """Sets controls, as a hand does."""
+        for name, value in values.items():
+            self.js("const e = document.getElementById(arguments[0]), is = e.type === 'checkbox'; e[is ? 'checked' : 'value'] = arguments[1];"
+                    "e.dispatchEvent(new Event('input')); e.dispatchEvent(new Event('change'))", name, value)
+
+    def click(self, name):
+        self.driver.find_element(By.ID, name).click()
+
+    def start(self, **values):
+        """Begins a gas, and waits for it."""
+        self.choose(**values)
+        before = self.js("return serial")
+        self.click("start")
+        self.wait(f"serial > {before} && live.head.generation === head.generation")
+
+    def pause(self):
+        if self.js("return running"):
+            self.click("play")
+        self.js("live.hashes = []")
+        self.js("look()")
+        self.wait("live.hashes.length && !running")
+        return self.js("return [head.generation, live.hashes[0]]")
+
+    def drag(self, tool, *places):
+        """Draws a line over places of the lattice with a tool."""
+        self.driver.find_element(By.CSS_SELECTOR, f"[data-tool={tool}]").click()
+        chain, box = ActionChains(self.driver, duration=50), self.js("const b = view.getBoundingClientRect(); return [b.width / 2, b.height / 2]")
+        corner = self.js("const b = view.getBoundingClientRect(); return [b.left, b.top]")
+        for number, place in enumerate(places):
+            at = self.js("return live.at(...arguments)", *place)
+            chain.move_to_element_with_offset(self.view, *(round(at[k] - corner[k] - box[k]) for k in (0, 1)))
+            chain = chain if number else chain.click_and_hold()
+        notes = self.js("return live.notes.length")
+        chain.release().perform()
+        self.wait(f"live.notes.length > {notes}")
+
+    def saved(self, button, suffix):
+        """The file that a button saves."""
+        for old in self.room.glob(f"*{suffix}"):
+            old.unlink()
+        self.click(button)
+        end = time.monotonic() + PATIENCE
+        while not (found := [file for file in self.room.glob(f"*{suffix}") if file.stat().st_size]):
+            if time.monotonic() > end:
+                raise SystemExit(f"{button} saved nothing")
+            time.sleep(0.05)
+        return found[0].read_bytes()
+
+    def open(self, text):
+        file = self.room / "given.toml"
+        file.write_text(text)
+        self.driver.find_element(By.ID, "file").send_keys(str(file))
+
+    def pixel(self, x, y):
+        """The colour of a place of the lattice on the screen."""
+        return self.js("const [x, y] = live.at(...arguments), b = view.getBoundingClientRect(), r = devicePixelRatio;"
+                       "return [...view.getContext('2d').getImageData((x - b.left) * r, (y - b.top) * r, 1, 1).data].slice(0, 3)", x, y)
+
+    def strangers(self):
+        """The addresses of other hosts that were asked for."""
+        events = [json.loads(entry["message"])["message"] for entry in self.driver.get_log("performance")]
+        asked = [event["params"]["request"]["url"] for event in events if event["method"] == "Network.requestWillBeSent"]
+        return [url for url in asked if urllib.parse.urlparse(url).scheme not in ("file", "blob", "data") and
+                urllib.parse.urlparse(url).hostname != "127.0.0.1"]
+
+    def faults(self):
+        return [entry for entry in self.driver.get_log("browser") if entry["level"] == "SEVERE"]
+
+
+def printed(scene, generations):
+    words = [PROGRAM, "run", "--generations", str(generations)]
+    return subprocess.run(words, input=scene, stdout=subprocess.PIPE, check=True).stdout
+
+
+def tried(page, way):
+    """What the page can do, the same from its file and on the server."""
+    page.wait("head.generation > 20 && head.wind !== null && live.frames > 3")
+    check(f"{way}: a flow past a disc moves at once, and the wind is kept", abs(page.js("return head.u") - 0.3) < 0.02, page.js("return head.u"))
+    page.click("turn")
+    check(f"{way}: a seeded gas does not go back, and says why", "seeded" in page.js("return live.notes.at(-1)"))
+    page.start(gas="fhp1", chirality="left", size="256 x 128", radius=14, keep=False, pace="10")
+    particles, solid = page.js("return [head.particles, head.width * head.height - head.fluid]")
+    page.wait("head.generation > 100")
+    page.drag("draw", (120, 30), (150, 60), (170, 90))
+    drawn = page.wait(f"head.width * head.height - head.fluid > {solid} + 500 && [head.particles, head.width * head.height - head.fluid]")
+    check(f"{way}: an obstacle is drawn while it runs", "particles were beneath" in page.js("return live.notes.at(-1)"))
+    page.drag("erase", (150, 60), (160, 70))
+    erased = page.wait(f"head.width * head.height - head.fluid < {drawn[1]} && head.particles")
+    page.drag("dense", (200, 40))
+    check(f"{way}: particles stay as many", particles == drawn[0] == erased == page.js("return head.particles"), (particles, drawn, erased))
+    first, _ = page.pause()
+    scene = page.saved("save", ".toml")
+    page.choose(pace="50"), page.click("play")
+    page.wait(f"head.generation >= {max(1000, first + 100)}")
+    last, found = page.pause()
+    wanted = hashlib.sha256(printed(scene, last - first)).hexdigest()
+    check(f"{way}: the program continues the saved scene to the page's cells", found == wanted, (first, last))
+    check(f"{way}: the obstacle is in the saved scene", scene.count(b"##") + scene.count(b"\n") > 500)
+    page.click("turn")
+    check(f"{way}: {last} generations back, through all edits", page.wait("typeof head.found === 'number' && [head.found, head.generation]") == [0, 0])
+    page.click("play"), page.wait("head.generation >= 1000"), page.click("turn"), page.click("play")
+    page.drag("flip", (60, 60))
+    page.click("play")
+    check(f"{way}: with one particle turned it does not return", page.wait("typeof head.found === 'number' && head.found") > 100)
+    page.open(KNOWN)
+    page.wait("head.width === 6 && head.cells && !motion")
+    arrow, empty = page.js("return [[11, 60, 102], [209, 72, 15]]"), (page.pixel(1.5 + 0.28, 0.866), page.pixel(3.5 - 0.28, 0.866))
+    check(f"{way}: single cells show their particles", page.pixel(-0.28, 0) == arrow[0] and page.pixel(3 + 0.15, 2 * 0.866 + 0.25) == arrow[0])
+    check(f"{way}: colliding ones are orange, empty cells are empty", empty[0] == arrow[1] and min(empty[1]) > 200, empty)
+    check(f"{way}: solid cells are drawn where they are", page.pixel(5, 0) == page.pixel(5.5, 0.866) == [70, 78, 86])
+    page.click("half"), page.wait("phase === 1 && !isScheduled")
+    check(f"{way}: half a step shows the pair turned", page.pixel(1.5 + 0.15, 0.866 - 0.25) == arrow[1])
+    page.open(KNOWN.replace("01", "41"))
+    note = page.wait("live.notes.at(-1).match(/cell/) && live.notes.at(-1)")
+    check(f"{way}: a scene that is refused", note == ("scene: row 0 cell 0 is not a cell" if way == "engine" else "this page does not read cell 0 of row 0"), note)
+    picture = page.saved("picture", ".png")
+    check(f"{way}: a picture", picture[:8] == b"\x89PNG\r\n\x1a\n")
+    page.click("film"), page.wait("recorder.state === 'recording'"), page.click("step"), time.sleep(1)
+    check(f"{way}: a film", page.saved("film", ".webm")[:4] == b"\x1aE\xdf\xa3")
+    bare = page.js("return [...document.querySelectorAll('button, select, input')].filter((e) => e.id !== 'file' && !(e.dataset.key &&"
+                   " (e.tagName === 'BUTTON' ? e : e.closest('label')).textContent.trim())).map((e) => e.id)")
+    check(f"{way}: every control has a label and a key", not bare, bare)
+    check(f"{way}: no request leaves this computer", not (found := page.strangers()), found)
+    check(f"{way}: no error in the console", not (found := page.faults()), found)
+
+
+def asked(address, **headers):
+    """The status of an answer."""
+    try:
+        return urllib.request.urlopen(urllib.request.Request(address, headers=headers)).status
+    except urllib.error.HTTPError as refused:
+        return refused.code
+
+
+def strangers(page, address, room):
+    """What the server refuses."""
+    host, talk = urllib.parse.urlparse(address).netloc, address + "talk"
+    handshake = {"Connection": "Upgrade", "Upgrade": "websocket", "Sec-WebSocket-Version": "13", "Sec-WebSocket-Key": "dGhlIHNhbXBsZSBub25jZQ=="}
+    check("its own page", asked(address) == 200)
+    check("another Host", asked(address, Host="gas.example") == 403)
+    check("a wrong token", asked(f"http://{host}/wrong/") == 404 and asked(f"http://{host}/wrong/talk", Origin=f"http://{host}", **handshake) == 404)
+    check("a foreign Origin, or none", asked(talk, Origin="http://gas.example", **handshake) == 403 and asked(talk, **handshake) == 403)
+    check("another site", asked(address, **{"Sec-Fetch-Site": "cross-site"}) == 403)
+    with contextlib.closing(Page(address, room).driver) as other:
+        check("a second tab", other.execute_script("return live.notes[0]").startswith("The gas is shown in another tab."))
+    send = ("const done = arguments[0], s = new WebSocket(location.href.replace('http', 'ws') + 'talk'); worker.terminate();"
+            "s.onopen = () => s.send(new Uint8Array(2e7)); s.onclose = ({ code }) => done(code)")
+    page.driver.get(address)
+    page.wait("live.frames > 2")
+    page.js("worker.terminate()"), time.sleep(0.5)
+    page.driver.set_script_timeout(PATIENCE)
+    check("an oversized message", page.driver.execute_async_script(send) in (1006, 1009))
+
+
+def main():
+    with tempfile.TemporaryDirectory() as folder:
+        room = pathlib.Path(folder)
+        page = Page(f"file://{needs.ROOT / 'page/fhpgas.html'}", room)
+        with contextlib.closing(page.driver):
+            tried(page, "file")
+        environment = {**os.environ, "PYTHONPATH": str(needs.ROOT / "python")}
+        server = subprocess.Popen([sys.executable, "-B", "-m", "fhpgas", "live", "--no-browser"], stdout=subprocess.PIPE, text=True, env=environment)
+        try:
+            address = server.stdout.readline().strip()
+            page = Page(address, room)
+            with contextlib.closing(page.driver):
+                tried(page, "engine")
+                strangers(page, address, room)
+            server.send_signal(signal.SIGINT)
+            check("an interrupt ends the server", server.wait(PATIENCE) in (0, 130))
+        finally:
+            server.kill()
+    print(f"{counts[True]} passed, {counts[False]} failed")
+    return 1 if counts[False] or not counts[True] else 0
+
+
+sys.exit(main())
