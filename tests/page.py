@@ -29,7 +29,7 @@ except ImportError as missing:
 
 WORDS = ("--headless=new", "--no-sandbox", "--disable-dev-shm-usage", "--disable-gpu", "--no-first-run", "--disable-background-networking",
          "--disable-component-update", "--disable-sync", "--window-size=1600,1000")
-PATIENCE = 300  # seconds: far more than anything takes, and nothing here depends on it
+PATIENCE = 120  # seconds: far more than anything takes, and nothing here depends on it
 KNOWN = 'gas = "fhp1"\nchirality = "left"\ncells = [\n    "01........##",\n    "..09......##",\n    "......04..##",\n    "..........##",\n]\n'
 counts = {True: 0, False: 0}
 
@@ -65,11 +65,11 @@ class Page:
             time.sleep(0.02)
         return found
 
-    def choose(self, **values):
-        """Sets controls, as a hand does."""
+    def choose(self, *events, **values):
+        """Sets controls, with these events."""
         for name, value in values.items():
-            self.js("const e = document.getElementById(arguments[0]), is = e.type === 'checkbox'; e[is ? 'checked' : 'value'] = arguments[1];"
-                    "e.dispatchEvent(new Event('input')); e.dispatchEvent(new Event('change'))", name, value)
+            self.js("const e = $(arguments[0]); e[e.type === 'checkbox' ? 'checked' : 'value'] = arguments[1];"
+                    "for (const event of arguments[2]) e.dispatchEvent(new Event(event))", name, value, events)
 
     def click(self, name):
         self.driver.find_element(By.ID, name).click()
@@ -79,7 +79,7 @@ class Page:
         self.choose(**values)
         before = self.js("return serial")
         self.click("start")
-        self.wait(f"serial > {before} && live.head.generation === head.generation")
+        self.wait(f"serial > {before}")
 
     def pause(self):
         if self.js("return running"):
@@ -158,7 +158,7 @@ def tried(page, way):
     check(f"{way}: particles stay as many", particles == drawn[0] == erased == page.js("return head.particles"), (particles, drawn, erased))
     first, _ = page.pause()
     scene = page.saved("save", ".toml")
-    page.choose(pace="50"), page.click("play")
+    page.choose("change", pace="50"), page.click("play")
     page.wait(f"head.generation >= {max(1000, first + 100)}")
     last, found = page.pause()
     wanted = hashlib.sha256(printed(scene, last - first)).hexdigest()
