@@ -183,7 +183,7 @@ def tried(page, way):
     check(f"{way}: a scene that is refused", note == ("scene: row 0 cell 0 is not a cell" if way == "engine" else "this page does not read cell 0 of row 0"), note)
     picture = page.saved("picture", ".png")
     check(f"{way}: a picture", picture[:8] == b"\x89PNG\r\n\x1a\n")
-    page.click("film"), page.wait("recorder.state === 'recording'"), page.click("step"), time.sleep(1)
+    page.click("film"), page.click("play"), page.wait("recorder.state === 'recording' && head.generation > 20")
     check(f"{way}: a film", page.saved("film", ".webm")[:4] == b"\x1aE\xdf\xa3")
     bare = page.js("return [...document.querySelectorAll('button, select, input')].filter((e) => e.id !== 'file' && !(e.dataset.key &&"
                    " (e.tagName === 'BUTTON' ? e : e.closest('label')).textContent.trim())).map((e) => e.id)")
