@@ -40,7 +40,7 @@ def packed(head: dict[str, Any], cells: bytes = b"") -> bytes:
 
 def scene_of(head: dict[str, Any], cells: bytes) -> bytes:
     """The scene of the lattice of a message. What is not allowed raises a Fault."""
-    width, height = (integer(f"the {side}", head.get(side), 1, 65536) for side in ("width", "height"))
+    width, height = (integer(f"the {side}", head[side], 1, 65536) for side in ("width", "height"))
     if width * height > MOST_CELLS or len(cells) != width * height:
         raise Fault(f"{width} x {height} cells in {len(cells):,} bytes: this server takes a byte per cell, and at most {MOST_CELLS:,}")
     seed, generation = integer("the seed", int(head["seed"]), 0, MOST_SEED), integer("the generation", head["generation"], 0, 10**12)
@@ -53,34 +53,26 @@ class Live:
     """The server of one page."""
 
     def __init__(self, port: int):
-        self.port, self.token, self.page = port, secrets.token_urlsafe(24), PAGE.read_text().replace(ENGINE, ENGINE.replace('""', '"talk"'))
+        self.port, self.token = port, secrets.token_urlsafe(24)
+        self.page = PAGE.read_text().replace(ENGINE, ENGINE.replace('""', '"talk"'))
         self.socket: web.WebSocketResponse | None = None
         self.process: asyncio.subprocess.Process | None = None
         version = subprocess.run([program.program_path(), "--version"], stdout=subprocess.PIPE, check=True).stdout.decode()
-        self.hello = packed({"version": " ".join(version.split()[:2]), "most": MOST_CELLS})
+        self.hello, self.scene = {"version": " ".join(version.split()[:2]), "most": MOST_CELLS}, b""
 
     async def after(self, scene: bytes, generations: int) -> tuple[Array, int]:
         """The cells of a scene after some generations, by the program, and their generation. Input and output are files in memory."""
-        words = map(str, program.planned(program.height_of(scene), integer("the generations", generations, 0, MOST_GENERATIONS)))
+        words = program.planned(program.height_of(scene), integer("the generations", generations, 0, MOST_GENERATIONS))
         with os.fdopen(os.memfd_create("scene"), "w+b") as given, os.fdopen(os.memfd_create("answer"), "w+b") as answer:
             given.write(scene)
             given.seek(0)
-            run = await asyncio.create_subprocess_exec(program.program_path(), "run", *words, stdin=given, stdout=answer, stderr=subprocess.PIPE)
-            self.process = run
-            try:
-                _, said = await run.communicate()
-            finally:
-                self.stop()
-            if run.returncode:
-                raise Fault(said.decode(errors="replace").split("\n")[0] or f"fhpgas ended with status {run.returncode}")
+            self.process = await asyncio.create_subprocess_exec(program.program_path(), "run", *map(str, words), stdin=given, stdout=answer,
+                                                                stderr=subprocess.PIPE)
+            said = (await self.process.communicate())[1].decode(errors="replace")
+            if self.process.returncode:
+                raise Fault(said.split("\n")[0] or f"fhpgas ended with status {self.process.returncode}")
             answer.seek(0)
             return cells_of(answer.read())
-
-    def stop(self) -> None:
-        """Ends a run that is under way."""
-        if self.process and self.process.returncode is None:
-            with contextlib.suppress(ProcessLookupError):
-                self.process.kill()
 
     async def opened(self, scene: bytes) -> bytes:
         """The message of the lattice of a scene's text. A scene that is refused or too large raises a Fault."""
@@ -88,11 +80,11 @@ class Live:
         if cells.size > MOST_CELLS:
             raise Fault(f"the scene has {cells.size:,} cells, and this server takes at most {MOST_CELLS:,}")
         keys = {"chirality": "seeded", "seed": 0} | keys_of(scene)
-        head = {"gas": keys["gas"], "chirality": keys["chirality"], "seed": str(keys["seed"]), "generation": generation}
-        return packed(head | {"width": cells.shape[1], "height": cells.shape[0]}, cells.tobytes())
+        size = {"width": cells.shape[1], "height": cells.shape[0], "generation": generation}
+        return packed(self.hello | size | {"gas": keys["gas"], "chirality": keys["chirality"], "seed": str(keys["seed"])}, cells.tobytes())
 
     async def answer(self, message: bytes) -> bytes:
-        """The answer to a message: the cells, or the line of a Fault. A message that is none raises another error."""
+        """The answer to a message: a lattice, or the line of a Fault. A message that is none raises another error."""
         end = 4 + int.from_bytes(message[:4], "little")
         head, body = json.loads(message[4:end]), message[end:]
         try:
@@ -111,46 +103,37 @@ class Live:
             await socket.close(code=4000, message=BUSY)
             return socket
         self.socket = socket
-        try:
-            await socket.send_bytes(self.hello)
+        with contextlib.suppress(ValueError, LookupError, TypeError, ConnectionError):
+            await socket.send_bytes(await self.opened(self.scene) if self.scene else packed(self.hello))
             async for message in socket:
                 if message.type != WSMsgType.BINARY:
                     break
                 await socket.send_bytes(await self.answer(message.data))
-        except (ValueError, LookupError, TypeError, ConnectionError):
-            pass
-        finally:
-            self.socket = None
-            await socket.close()
+        self.socket = None
+        await socket.close()
         return socket
 
     async def handle(self, request: web.Request) -> web.StreamResponse:
         """Refuses other names of this computer, other paths, and requests of other pages."""
-        host, origin, is_talk = request.headers.get("Host"), request.headers.get("Origin"), request.match_info["name"] == "talk"
-        known = [f"http://127.0.0.1:{self.port}", f"http://localhost:{self.port}"]
-        if f"http://{host}" not in known or origin not in ([] if is_talk else [None]) + [f"http://{host}"]:
+        host, origin, name = request.headers.get("Host"), request.headers.get("Origin"), request.match_info["name"]
+        if host not in (f"127.0.0.1:{self.port}", f"localhost:{self.port}") or origin not in (f"http://{host}", None if not name else ""):
             raise web.HTTPForbidden()
-        if not hmac.compare_digest(request.match_info["token"].encode(), self.token.encode()) or not is_talk and request.match_info["name"]:
+        if not hmac.compare_digest(request.match_info["token"].encode(), self.token.encode()) or name not in ("", "talk"):
             raise web.HTTPNotFound()
         if request.headers.get("Sec-Fetch-Site", "none") not in ("none", "same-origin"):
             raise web.HTTPForbidden()
-        return await self.talk(request) if is_talk else web.Response(text=self.page, content_type="text/html", headers=HEADERS)
-
-    async def shut(self, _: web.Application) -> None:
-        self.stop()
-        if self.socket is not None:
-            await self.socket.close()
+        return await self.talk(request) if name else web.Response(text=self.page, content_type="text/html", headers=HEADERS)
 
     async def serve(self, scene: str | None, browser: bool) -> None:
         if scene is not None:
-            self.hello = (await self.opened(scene.encode()))
+            await self.opened(scene.encode())
+            self.scene = scene.encode()
         application = web.Application()
-        application.on_shutdown.append(self.shut)
         application.router.add_get("/{token}/{name:.*}", self.handle)
         runner = web.AppRunner(application, access_log=None)
         await runner.setup()
         try:
-            await web.TCPSite(runner, "127.0.0.1", self.port).start()
+            await web.TCPSite(runner, "127.0.0.1", self.port, shutdown_timeout=0.1).start()
             self.port = runner.addresses[0][1]
             address = f"http://127.0.0.1:{self.port}/{self.token}/"
             print(address, flush=True)
@@ -158,12 +141,14 @@ class Live:
                 webbrowser.open(address)
             await asyncio.Event().wait()
         finally:
+            if self.process and self.process.returncode is None:
+                self.process.kill()
             await runner.cleanup()
 
 
 def serve(scene: str | None = None, port: int = 0, browser: bool = True) -> None:
-    """Serves the page on a port of this computer, 0 for any free one, until it is interrupted. It begins with a scene's text, or with a flow
-    past a disc. The address is printed, and the browser opened if that is asked for. A port that is taken raises a Fault."""
+    """Serves the page on a port of this computer, 0 for any free one, until it is interrupted. It begins with a scene's text, or with a
+    flow past a disc. It prints the address, and opens it if `browser`. A port that is taken, and a scene that is refused, raise a Fault."""
     try:
         asyncio.run(Live(port).serve(scene, browser))
     except OSError as fault:
