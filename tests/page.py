@@ -178,8 +178,9 @@ def tried(page, way):
     check(f"{way}: solid cells are drawn where they are", page.pixel(5, 0) == page.pixel(5.5, 0.866) == [70, 78, 86])
     page.click("half"), page.wait("phase === 1 && !isScheduled")
     check(f"{way}: half a step shows the pair turned", page.pixel(1.5 + 0.15, 0.866 - 0.25) == arrow[1])
+    notes = page.js("return live.notes.length")
     page.open(KNOWN.replace("01", "41"))
-    note = page.wait("live.notes.at(-1).match(/cell/) && live.notes.at(-1)")
+    note = page.wait(f"live.notes.length > {notes} && live.notes.at(-1)")
     check(f"{way}: a scene that is refused", note == ("scene: row 0 cell 0 is not a cell" if way == "engine" else "this page does not read cell 0 of row 0"), note)
     picture = page.saved("picture", ".png")
     check(f"{way}: a picture", picture[:8] == b"\x89PNG\r\n\x1a\n")
@@ -211,11 +212,9 @@ def strangers(page, address, room):
     check("another site", asked(address, **{"Sec-Fetch-Site": "cross-site"}) == 403)
     with contextlib.closing(Page(address, room).driver) as other:
         check("a second tab", other.execute_script("return live.notes[0]").startswith("The gas is shown in another tab."))
-    send = ("const done = arguments[0], s = new WebSocket(location.href.replace('http', 'ws') + 'talk'); worker.terminate();"
-            "s.onopen = () => s.send(new Uint8Array(2e7)); s.onclose = ({ code }) => done(code)")
-    page.driver.get(address)
-    page.wait("live.frames > 2")
-    page.js("worker.terminate()"), time.sleep(0.5)
+    send = ("const done = arguments[0]; worker.terminate(); const again = () => {"
+            "const s = new WebSocket(location.href.replace('http', 'ws') + 'talk'); s.onmessage = () => s.send(new Uint8Array(2e7));"
+            "s.onclose = ({ code }) => code === 4000 ? again() : done(code); }; again()")
     page.driver.set_script_timeout(PATIENCE)
     check("an oversized message", page.driver.execute_async_script(send) in (1006, 1009))
 

@@ -1,8 +1,7 @@
 """Serves the page on which a lattice gas moves, and computes its cells by the program: `python3 -m fhpgas live`.
 
 The server knows one call: it takes a lattice and a number of generations, and returns the lattice after them. All else is in the page. It
-listens on the loopback address and answers one tab with the page that it served: the path has a random token, and Host and Origin must be
-its own. It writes no file.
+listens on the loopback address and answers one tab of its own page: the path has a random token, and Host and Origin must be its own.
 """
 import asyncio
 import contextlib
@@ -58,7 +57,7 @@ class Live:
         self.socket: web.WebSocketResponse | None = None
         self.process: asyncio.subprocess.Process | None = None
         version = subprocess.run([program.program_path(), "--version"], stdout=subprocess.PIPE, check=True).stdout.decode()
-        self.hello, self.scene = {"version": " ".join(version.split()[:2]), "most": MOST_CELLS}, b""
+        self.names, self.hello = {"version": " ".join(version.split()[:2]), "most": MOST_CELLS}, b""
 
     async def after(self, scene: bytes, generations: int) -> tuple[Array, int]:
         """The cells of a scene after some generations, by the program, and their generation. Input and output are files in memory."""
@@ -69,8 +68,8 @@ class Live:
             self.process = await asyncio.create_subprocess_exec(program.program_path(), "run", *map(str, words), stdin=given, stdout=answer,
                                                                 stderr=subprocess.PIPE)
             said = (await self.process.communicate())[1].decode(errors="replace")
-            if self.process.returncode:
-                raise Fault(said.split("\n")[0] or f"fhpgas ended with status {self.process.returncode}")
+            if status := self.process.returncode:
+                raise Fault(said.split("\n")[0] or f"fhpgas ended with status {status}")
             answer.seek(0)
             return cells_of(answer.read())
 
@@ -81,7 +80,7 @@ class Live:
             raise Fault(f"the scene has {cells.size:,} cells, and this server takes at most {MOST_CELLS:,}")
         keys = {"chirality": "seeded", "seed": 0} | keys_of(scene)
         size = {"width": cells.shape[1], "height": cells.shape[0], "generation": generation}
-        return packed(self.hello | size | {"gas": keys["gas"], "chirality": keys["chirality"], "seed": str(keys["seed"])}, cells.tobytes())
+        return packed(self.names | size | {"gas": keys["gas"], "chirality": keys["chirality"], "seed": str(keys["seed"])}, cells.tobytes())
 
     async def answer(self, message: bytes) -> bytes:
         """The answer to a message: a lattice, or the line of a Fault. A message that is none raises another error."""
@@ -99,12 +98,14 @@ class Live:
         """Answers the messages of one tab, one after the other."""
         socket = web.WebSocketResponse(max_msg_size=MOST_MESSAGE, compress=False)
         await socket.prepare(request)
+        for _ in range(20):  # a tab that is loaded again may still be leaving
+            await asyncio.sleep(0.1 if self.socket else 0)
         if self.socket is not None:
             await socket.close(code=4000, message=BUSY)
             return socket
         self.socket = socket
         with contextlib.suppress(ValueError, LookupError, TypeError, ConnectionError):
-            await socket.send_bytes(await self.opened(self.scene) if self.scene else packed(self.hello))
+            await socket.send_bytes(self.hello)
             async for message in socket:
                 if message.type != WSMsgType.BINARY:
                     break
@@ -125,9 +126,7 @@ class Live:
         return await self.talk(request) if name else web.Response(text=self.page, content_type="text/html", headers=HEADERS)
 
     async def serve(self, scene: str | None, browser: bool) -> None:
-        if scene is not None:
-            await self.opened(scene.encode())
-            self.scene = scene.encode()
+        self.hello = await self.opened(scene.encode()) if scene else packed(self.names)
         application = web.Application()
         application.router.add_get("/{token}/{name:.*}", self.handle)
         runner = web.AppRunner(application, access_log=None)
@@ -135,8 +134,7 @@ class Live:
         try:
             await web.TCPSite(runner, "127.0.0.1", self.port, shutdown_timeout=0.1).start()
             self.port = runner.addresses[0][1]
-            address = f"http://127.0.0.1:{self.port}/{self.token}/"
-            print(address, flush=True)
+            print(address := f"http://127.0.0.1:{self.port}/{self.token}/", flush=True)
             if browser:
                 webbrowser.open(address)
             await asyncio.Event().wait()
