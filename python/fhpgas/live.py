@@ -24,11 +24,10 @@ from .lattice import cells_of, lines_of
 from .scenes import MOST_SEED, keys_of
 
 PAGE = pathlib.Path(__file__).with_name("page.html")
-ENGINE = '<meta name="engine" content="">'  # in the page: the path of its engine, empty for its own kernel
+ENGINE = 'name="engine" content="'  # of the page: the path of its engine, empty for its own kernel
 MOST_CELLS, MOST_MESSAGE, MOST_GENERATIONS = 1 << 22, 10_000_000, 1000
 BUSY = b"The gas is shown in another tab. Close that tab, then reload this one."
-HEADERS = {"Cache-Control": "no-store", "Referrer-Policy": "no-referrer", "X-Content-Type-Options": "nosniff",
-           "Cross-Origin-Resource-Policy": "same-origin", "Content-Security-Policy": "frame-ancestors 'none'"}
+HEADERS = {"Cache-Control": "no-store", "Referrer-Policy": "no-referrer", "Content-Security-Policy": "frame-ancestors 'none'"}
 
 
 def packed(head: dict[str, Any], cells: bytes = b"") -> bytes:
@@ -52,8 +51,7 @@ class Live:
     """The server of one page."""
 
     def __init__(self, port: int):
-        self.port, self.token = port, secrets.token_urlsafe(24)
-        self.page = PAGE.read_text().replace(ENGINE, ENGINE.replace('""', '"talk"'))
+        self.port, self.token, self.page = port, secrets.token_urlsafe(24), PAGE.read_text("utf-8").replace(ENGINE, f"{ENGINE}talk")
         self.socket: web.WebSocketResponse | None = None
         self.process: asyncio.subprocess.Process | None = None
         version = subprocess.run([program.program_path(), "--version"], stdout=subprocess.PIPE, check=True).stdout.decode()
@@ -63,10 +61,9 @@ class Live:
         """The cells of a scene after some generations, by the program, and their generation. Input and output are files in memory."""
         words = program.planned(program.height_of(scene), integer("the generations", generations, 0, MOST_GENERATIONS))
         with os.fdopen(os.memfd_create("scene"), "w+b") as given, os.fdopen(os.memfd_create("answer"), "w+b") as answer:
-            given.write(scene)
-            given.seek(0)
-            self.process = await asyncio.create_subprocess_exec(program.program_path(), "run", *map(str, words), stdin=given, stdout=answer,
-                                                                stderr=subprocess.PIPE)
+            given.write(scene), given.seek(0)
+            command = map(str, (program.program_path(), "run", *words))
+            self.process = await asyncio.create_subprocess_exec(*command, stdin=given, stdout=answer, stderr=subprocess.PIPE)
             said = (await self.process.communicate())[1].decode(errors="replace")
             if status := self.process.returncode:
                 raise Fault(said.split("\n")[0] or f"fhpgas ended with status {status}")
@@ -79,8 +76,8 @@ class Live:
         if cells.size > MOST_CELLS:
             raise Fault(f"the scene has {cells.size:,} cells, and this server takes at most {MOST_CELLS:,}")
         keys = {"chirality": "seeded", "seed": 0} | keys_of(scene)
-        size = {"width": cells.shape[1], "height": cells.shape[0], "generation": generation}
-        return packed(self.names | size | {"gas": keys["gas"], "chirality": keys["chirality"], "seed": str(keys["seed"])}, cells.tobytes())
+        head = {"gas": keys["gas"], "chirality": keys["chirality"], "seed": str(keys["seed"]), "generation": generation}
+        return packed(self.names | head | {"width": cells.shape[1], "height": cells.shape[0]}, cells.tobytes())
 
     async def answer(self, message: bytes) -> bytes:
         """The answer to a message: a lattice, or the line of a Fault. A message that is none raises another error."""
@@ -95,7 +92,7 @@ class Live:
             return packed({"fault": str(fault)})
 
     async def talk(self, request: web.Request) -> web.WebSocketResponse:
-        """Answers the messages of one tab, one after the other."""
+        """Answers the messages of one tab."""
         socket = web.WebSocketResponse(max_msg_size=MOST_MESSAGE, compress=False)
         await socket.prepare(request)
         for _ in range(20):  # a tab that is loaded again may still be leaving
@@ -117,12 +114,11 @@ class Live:
     async def handle(self, request: web.Request) -> web.StreamResponse:
         """Refuses other names of this computer, other paths, and requests of other pages."""
         host, origin, name = request.headers.get("Host"), request.headers.get("Origin"), request.match_info["name"]
-        if host not in (f"127.0.0.1:{self.port}", f"localhost:{self.port}") or origin not in (f"http://{host}", None if not name else ""):
+        is_own = origin in (f"http://{host}", "" if name else None) and request.headers.get("Sec-Fetch-Site") in (None, "none", "same-origin")
+        if host not in (f"127.0.0.1:{self.port}", f"localhost:{self.port}") or not is_own:
             raise web.HTTPForbidden()
         if not hmac.compare_digest(request.match_info["token"].encode(), self.token.encode()) or name not in ("", "talk"):
             raise web.HTTPNotFound()
-        if request.headers.get("Sec-Fetch-Site", "none") not in ("none", "same-origin"):
-            raise web.HTTPForbidden()
         return await self.talk(request) if name else web.Response(text=self.page, content_type="text/html", headers=HEADERS)
 
     async def serve(self, scene: str | None, browser: bool) -> None:
@@ -148,8 +144,7 @@ def serve(scene: str | None = None, port: int = 0, browser: bool = True) -> None
     """Serves the page on a port of this computer, 0 for any free one, until it is interrupted. It begins with a scene's text, or with a
     flow past a disc. It prints the address, and opens it if `browser`. A port that is taken, and a scene that is refused, raise a Fault."""
     try:
-        asyncio.run(Live(port).serve(scene, browser))
+        with contextlib.suppress(KeyboardInterrupt):
+            asyncio.run(Live(port).serve(scene, browser))
     except OSError as fault:
-        raise Fault(f"port {port}: {fault.strerror}") from None
-    except KeyboardInterrupt:
-        pass
+        raise Fault(f"live: {fault.strerror}: {fault.filename or f'port {port}'}") from None
