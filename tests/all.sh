@@ -12,10 +12,10 @@ if grep 'only because a proof file names what the edit took away' "$room/gate"; 
     echo 'tests: these edits say little of a contract: let them change a value and keep the names'
     exit 1
 fi
-for name in command_line.py oracle.py golly.py reference.py terminal.py documents.py library.py archive.sh \
-    python_package.py package_commands.py notebook.py experiments.py large_scenes.py scale.py refusals.py \
-    explanations.py; do
+for name in command_line.py oracle.py golly.py reference.py terminal.py documents.py library.py archive.sh large_scenes.py scale.py \
+    refusals.py python_package.py package_commands.py explanations.py notebook.py experiments.py tiles.py page.py; do
     part tests/$name
 done
+FHPGAS=$PWD/crates/fhpgas/out/fhpgas part node tests/kernel.mjs
 part tests/mutated_scenes.py 5000
 tell
