@@ -72,12 +72,7 @@ pub fn bad_column(row: &[u8], states: u16) -> Option<usize>
 
 /// Reads the cells of a row: which of them are solid, and their states. Returns the first column
 /// that has no cell with a state below `states`. Such a column counts as fluid and empty.
-pub fn read_row(
-    row: &[u8],
-    states: u16,
-    solid: &mut [bool],
-    state_of: &mut [u8],
-) -> Option<usize>
+pub fn read_row(row: &[u8], states: u16, solid: &mut [bool], state_of: &mut [u8]) -> Option<usize>
     requires wide { length solid.old ≡ cells_in row.now }
     requires as_wide { length state_of.old ≡ cells_in row.now }
     ensures bad { result ≡ bad_column states row.now }

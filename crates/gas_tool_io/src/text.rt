@@ -105,28 +105,16 @@ fn put_summary_line<W: Write>(
 }
 
 #[tactic(auto, unfolding(crate::specs::Text::check_text))]
-fn put_summary<G: Gas, W: Write>(
-    sink: &mut Sink,
-    out: &mut W,
-    gas: &str,
-    lattice: &Lattice<G>,
-)
+fn put_summary<G: Gas, W: Write>(sink: &mut Sink, out: &mut W, gas: &str, lattice: &Lattice<G>)
     ensures { Adds (W.contents out.old) (W.contents out.new) sink.old sink.new
         (check_text gas.now G.rules lattice.now) }
 {
     let channel = lattice.channel();
     let size = channel.size();
-    put_summary_line(
-        sink,
-        out,
-        gas,
-        size,
-        channel.count_solid(),
-        lattice.count(),
-    );
+    put_summary_line(sink, out, gas, size, channel.count_solid(), lattice.count());
 }
 
-/// Writes the summary of a lattice, a line. It has the given name of the gas, the width and the height in
+/// Writes the summary of a lattice, a line. It has this name of its gas, the width and the height in
 /// cells, and the numbers of solid cells and of particles. Then the writer is flushed once. The
 /// faults are as in `write_cells`. It takes no memory.
 pub fn write_summary<G: Gas, W: Write>(
