@@ -16,7 +16,7 @@ name=${version% (*}
 folder=$room/${name/ /-}-$level
 mkdir -p "$folder/licences/core"
 cp $program LICENSE-MIT LICENSE-APACHE README.md CHANGELOG.md CITATION.cff CONTRIBUTING.md "$folder"
-cp -rL @(docs|experiments|notebooks|page|python|scenes) "$folder"
+cp -r @(docs|experiments|notebooks|page|python|scenes) "$folder"
 find "$folder" \( -name __pycache__ -o -name out -o -name .mypy_cache -o -name build -o -name '*.egg-info' \) -prune -exec rm -r {} +
 
 # pip needs no network for a wheel

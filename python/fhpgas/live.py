@@ -8,7 +8,6 @@ import contextlib
 import hmac
 import json
 import os
-import pathlib
 import secrets
 import subprocess
 import webbrowser
@@ -23,7 +22,7 @@ from .gases import Array, chirality_named, gas_named
 from .lattice import cells_of, lines_of
 from .scenes import MOST_SEED, keys_of
 
-PAGE = pathlib.Path(__file__).with_name("page.html")
+PAGE = program.ABOVE / "page/fhpgas.html"  # of the repository or the archive
 ENGINE = 'name="engine" content="'  # of the page: the path of its engine, empty for its own kernel
 MOST_CELLS, MOST_MESSAGE, MOST_GENERATIONS = 1 << 22, 10_000_000, 1000
 BUSY = b"The gas is shown in another tab. Close that tab, then reload this one."
