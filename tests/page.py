@@ -20,7 +20,6 @@ import needs
 PROGRAM = needs.built_program()
 needs.command("chromium", "apt-get install chromium chromium-driver")
 try:
-    import aiohttp
     from selenium import webdriver
     from selenium.webdriver.common.action_chains import ActionChains
     from selenium.webdriver.common.by import By

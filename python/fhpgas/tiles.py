@@ -71,14 +71,15 @@ class Tiles:
     def _step(self, steps: int) -> "Tiles":
         """The tiles after at most as many generations as the margin that they exchange."""
         (rows, columns), even = self.shape, steps + steps % 2
-        sides = (slice(-even, None), slice(None), slice(even)), (slice(-steps, None), slice(None), slice(steps))
-        parts = []
-        for y, x in itertools.product(range(rows), range(columns)):
-            around = [[None if not 0 <= y + down < rows or columns == 1 and across else
-                       self._submit((y + down) * columns + (x + across) % columns, _piece, sides[0][down + 1], sides[1][across + 1])
-                       for across in (-1, 0, 1)] for down in (-1, 0, 1)]
-            around[1][1] = None
-            parts.append(self._submit(y * columns + x, _advanced, around, steps))
+        down = {-1: slice(-even, None), 0: slice(None), 1: slice(even)}
+        across = {-1: slice(-steps, None), 0: slice(None), 1: slice(steps)}
+
+        def piece(y: int, x: int, dy: int, dx: int) -> Any:
+            is_there = 0 <= y + dy < rows and (dx == 0 or columns > 1) and (dy, dx) != (0, 0)
+            return self._submit((y + dy) * columns + (x + dx) % columns, _piece, down[dy], across[dx]) if is_there else None
+
+        parts = [self._submit(y * columns + x, _advanced, [[piece(y, x, dy, dx) for dx in across] for dy in down], steps)
+                 for y, x in itertools.product(range(rows), range(columns))]
         return dataclasses.replace(self, parts=tuple(parts), generation=self.generation + steps)
 
     def _submit(self, tile: int, function: Callable[..., Any], *words: Any) -> Any:
@@ -115,8 +116,8 @@ class Tiles:
         if any(side % block and length > side for length, side, block in zip(self.size, self.tile, (width, height))):
             raise Fault(f"tiles of {self.tile[0]} x {self.tile[1]} do not begin where blocks of {width} x {height} do")
         tiles = self._map(Lattice.blocks, width, height)
-        sums = (self._joined([getattr(blocks, name) for blocks in tiles]) for name in ("fluid", "particles", "px", "py"))
-        return Blocks(*sums, self.gas, (width, height), self.size, self.generation)
+        fluid, particles, px, py = (self._joined([getattr(each, name) for each in tiles]) for name in ("fluid", "particles", "px", "py"))
+        return Blocks(fluid, particles, px, py, self.gas, (width, height), self.size, self.generation)
 
     def _joined(self, arrays: list[Array]) -> Array:
         """Arrays [row, column] of the tiles as one."""
@@ -221,13 +222,11 @@ def _piece(tile: Lattice, rows: slice, columns: slice) -> Array:
 
 
 def _advanced(tile: Lattice, around: list[list[Array | None]], generations: int) -> Lattice:
-    """A tile after some generations, with the margins around it."""
+    """A tile after some generations, with the margins around it: the pieces of three rows of tiles, None where there is no neighbour."""
+    (_, above, _), (left, _, _), _ = around
     around[1][1] = _piece(tile, slice(None), slice(None))
-    columns = [across for across in range(3) if around[1][across] is not None]
-    rows = [[around[down][across] for across in columns] for down in range(3) if around[down][1] is not None]
-    cells = np.block(rows)
-    top = 0 if around[0][1] is None else len(around[0][1])
-    left = 0 if around[1][0] is None else around[1][0].shape[1]
+    cells: Array = np.block([present for row in around if (present := [piece for piece in row if piece is not None])])
     whole = tile.replace(states=cells & 0x7F, solid=cells >> 7)
     after = program._alone(lambda lattice: lattice.run(generations, stages=min(STAGES, generations)), whole)
-    return after.replace(states=after.states[top:, left:][: tile.size[1], : tile.size[0]], solid=tile.solid)
+    top, first = 0 if above is None else len(above), 0 if left is None else left.shape[1]
+    return after.replace(states=after.states[top:, first:][: tile.size[1], : tile.size[0]], solid=tile.solid)
