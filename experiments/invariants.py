@@ -34,8 +34,7 @@ def stream(gas, size, step):
 def draw(path, momenta, streams, step):
     with common.axes(path, 1, 3, (4, 3.4)) as panels:
         panels[0].plot(momenta[:, 0], momenta[:, 1:], "o-", ms=3, lw=1, label=("eastwards", "northwards", "staggered", "same", "same"))
-        panels[0].set(xlabel="generations", ylabel="momentum", yscale="symlog", title="fhp1 past a disc")
-        panels[0].legend(fontsize=8)
+        panels[0].set(xlabel="generations", ylabel="momentum", yscale="symlog", title="fhp1 past a disc"), panels[0].legend(fontsize=8)
         for ax, (gas, found) in zip(panels[1:], streams.items()):
             for n, row in enumerate(found):
                 ax.plot(row, np.arange(ROWS)[::-1], f"C{n}o-", ms=3, lw=1, label=f"{n * step} generations")

@@ -9,8 +9,9 @@ import common
 import fhpgas
 import numpy as np
 from fhpgas import boltzmann, theory
+from scipy.ndimage import label
 
-EVERY = 10
+EVERY = 9  # odd: particles in a pocket of one cell turn in every generation, and after an even number the kicks would add up
 
 
 def measured(asked, solid, force, seed):
@@ -44,10 +45,12 @@ def main():
     reader.option("--share", common.number(0, 0.7), 0.2, 0.2, "of solid cells, at least")
     reader.option("--radius", common.whole(1, 64), 6, 4, "of the discs")
     reader.option("--force", common.number(1e-5, 0.02), [0.001, 0.002, 0.004], [0.003], "on each fluid cell", nargs="+", metavar="F")
-    reader.option("--settled", common.whole(10, 10_000), 30, 15, "turnings before the first sample, 10 generations apart")
+    reader.option("--settled", common.whole(10, 10_000), 30, 15, f"turnings before the first sample, {EVERY} generations apart")
     reader.option("--samples", common.whole(2, 100_000), 200, 85, "how many, at the turnings after these")
     asked, fluxes = reader.parse_args(), []
     solid = fhpgas.porous((asked.width, asked.height), asked.share, asked.radius, 1, asked.gas)
+    pores, _ = label(~solid)
+    solid |= pores != np.bincount(pores[~solid]).argmax()  # in closed pores the force would act against nothing
     print(f"porosity {np.mean(~solid):.3f}")
     unit = theory.viscosity(asked.gas, asked.filling) * fhpgas.gas_named(asked.gas).directions * asked.filling
     theories = fhpgas.side_by_side(lambda force: predicted(asked, solid, force), asked.force)

@@ -53,9 +53,8 @@ def draw(path, waves, title):
             above.errorbar(wave.times, np.exp(mean), np.exp(mean) * error, fmt=f"C{n}o", ms=3, label=name)
             above.semilogy(wave.times, np.exp(line), f"C{n}", lw=1)
             below.errorbar(wave.times, mean - line, error, fmt=f"C{n}o-", ms=3, lw=0.7)
-        above.set(ylabel="amplitude / amplitude at 0", title=f"shear waves, {title}")
+        above.set(ylabel="amplitude / amplitude at 0", title=f"shear waves, {title}"), above.legend(fontsize=8)
         below.set(xlabel="k² × generations", ylabel="logarithm − line")
-        above.legend(fontsize=8)
 
 
 @common.experiment

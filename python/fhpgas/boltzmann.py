@@ -79,10 +79,14 @@ class Flow:
             *_, chances = self.every(kicked, every, 1)
 
     def forced(self, chances: Array, force: float) -> Array:
-        """The chances after a force that adds this momentum eastwards to every fluid cell, from west to east as `fhpgas.driven` does."""
+        """The chances after a force that adds this momentum eastwards to every fluid cell, from west to east as `fhpgas.driven` does. A cell
+        in which a chance would leave 0 to 1 raises a Fault."""
         after = chances.copy()
         after[0] += force / 2 * ~self.solid
         after[self.gas.opposite[0]] -= force / 2 * ~self.solid
+        if after.min() < 0 or after.max() > 1:
+            y, x = np.argwhere(((after < 0) | (after > 1)).any(0))[0]
+            raise Fault(f"row {y} column {x} has too few particles to turn: the flow is too fast, the force too large, or the gas too thin")
         return after
 
     def density(self, chances: Array) -> Array:
