@@ -180,7 +180,7 @@ def strip(sources: Iterable[Lattice | Blocks], what: Any = None, *, block: tuple
         ax.set_title(f"generation {shown.generation}", fontsize="medium")
         ax.label_outer()
     for ax in grid.flat[n:]:
-        ax.remove()
+        ax.axis("off")
     if what is not PARTICLES:
         figure.colorbar(image, ax=grid, label=f"{what} ({FIELDS[what][0]})" if isinstance(what, str) else None, aspect=30)
     return figure
