@@ -31,12 +31,13 @@ class Gas:
 
     `momenta` [b, 2] are the directions' momenta eastwards and northwards in the units of `px` and `py`, and `velocities` [b, 2] are
     `momenta` times these `units` [2]. `opposite` [b] are the directions turned back. `steps` [parity of the row, b, 2] are the columns and
-    rows to the neighbour. `row_distance` is the distance of rows. By state, for all 128: `bits` [128, b], the `number` of particles, `px`
-    and `py`, and the states with all particles `turned` back.
+    rows to the neighbour. Rows are `row_distance` apart, and odd ones lie `shift` to the east. `is_square` is true for `hpp`. By state, for
+    all 128: `bits` [128, b], the `number` of particles, `px` and `py`, and the states with all particles `turned` back.
     """
 
     def __init__(self, name: str, momenta: Pairs, units: tuple[float, float], even: Pairs, odd: Pairs, row_distance: float):
         self.name, self.directions, self.row_distance = name, len(momenta), row_distance
+        self.is_square, self.shift = even == odd, 0.0 if even == odd else 0.5
         self.momenta, self.units, self.steps = map(read_only, (np.array(momenta), np.array(units), np.array([even, odd])))
         self.velocities = read_only(self.momenta * self.units)
         self.opposite = read_only(np.array([momenta.index((-x, -y)) for x, y in momenta]))
@@ -49,16 +50,6 @@ class Gas:
 
     def __reduce__(self) -> tuple[Any, ...]:
         return gas_named, (self.name,)
-
-    @property
-    def is_square(self) -> bool:
-        """Whether the lattice is the square one."""
-        return self.directions == 4
-
-    @property
-    def shift(self) -> float:
-        """How far odd rows lie to the east."""
-        return 0.0 if self.is_square else 0.5
 
     @functools.cache
     def collisions(self, side: str) -> Array:

@@ -1,6 +1,5 @@
 """Finds and runs the program on the text of a scene: `check`, calls, plans, and runs side by side. It needs the standard library only."""
 import concurrent.futures
-import contextlib
 import contextvars
 import functools
 import multiprocessing
@@ -11,7 +10,7 @@ import shutil
 import signal
 import subprocess
 import sys
-from collections.abc import Callable, Iterable, Iterator
+from collections.abc import Callable, Iterable
 from typing import Any, NamedTuple
 
 from .fault import Fault, integer
@@ -134,41 +133,39 @@ def show_progress(text: str) -> None:
         print(f"\r\033[K{text}", end="", file=sys.stderr, flush=True)
 
 
-def _pass(*_: object) -> None:
-    """An interrupt between the calls of a worker, which ends when the process that asked does."""
-
-
-_function: Callable[[Any], Any] = _pass  # what a worker calls
-
-
 def side_by_side(function: Callable[[Any], Any], values: Iterable[Any], executor: concurrent.futures.Executor | None = None) -> list[Any]:
     """The results of the function for the values, in their order: in one local process per core, or by an executor of `concurrent.futures`
     (Dask's `Client.get_executor()`, mpi4py's `MPIPoolExecutor()`). An executor sends the function to its workers, so it must be at the top
-    of a module that they have, and they need this package and the program."""
+    of a module that they have, and they need this package and the program. An interrupt or a failure ends all runs."""
     values, cores = list(values), len(os.sched_getaffinity(0))
     if executor is not None:
         return _gathered([executor.submit(_alone, function, value) for value in values])
     program_path()
-    workers = max(1, min(len(values), cores))
+    workers, others = max(1, min(len(values), cores)), multiprocessing.active_children()
     # a forked worker has the function without pickling it, so it may be a lambda
     with concurrent.futures.ProcessPoolExecutor(workers, multiprocessing.get_context("fork"), _take, (function, cores // workers)) as pool:
-        with _interrupted_together():
+        try:
             return _gathered([pool.submit(_taken, value) for value in values])
+        except BaseException:
+            for worker in multiprocessing.active_children():
+                if worker not in others:
+                    worker.terminate()
+            raise
+
+
+_function: Callable[[Any], Any] = print  # what a worker calls
 
 
 def _take(function: Callable[[Any], Any], cores: int) -> None:
     global _function
     _function = function
     _cores.set(cores)
-    signal.signal(signal.SIGINT, _pass)
+    signal.signal(signal.SIGINT, signal.SIG_IGN)  # an interrupt comes to the process that asked, which ends its workers
+    signal.signal(signal.SIGTERM, lambda *_: sys.exit(1))  # and they end the programs that they run
 
 
 def _taken(value: Any) -> Any:
-    signal.signal(signal.SIGINT, signal.default_int_handler)
-    try:
-        return _function(value)
-    finally:
-        signal.signal(signal.SIGINT, _pass)
+    return _function(value)
 
 
 def _alone(function: Callable[[Any], Any], value: Any) -> Any:
@@ -178,19 +175,6 @@ def _alone(function: Callable[[Any], Any], value: Any) -> Any:
         return function(value)
     finally:
         _cores.reset(token)
-
-
-@contextlib.contextmanager
-def _interrupted_together() -> Iterator[None]:
-    """Interrupts the workers too, with the programs that they run, if this process is interrupted or a run fails."""
-    others = multiprocessing.active_children()
-    try:
-        yield
-    except BaseException:
-        for worker in multiprocessing.active_children():
-            if worker not in others and worker.pid:
-                os.kill(worker.pid, signal.SIGINT)
-        raise
 
 
 def _gathered(futures: list["concurrent.futures.Future[Any]"]) -> list[Any]:

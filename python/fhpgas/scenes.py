@@ -8,7 +8,6 @@ from typing import Any
 from .fault import Fault, integer
 from .program import Scene, call, scene_bytes
 
-INTEGERS = "version", "generation", "seed", "width", "height", "rate"
 ROWS = re.compile(r"^[ \t]*cells[ \t]*=[ \t]*\[[^\]#]*(?:##[^\]#]*)*\]", re.M)  # the key of a map, without comments
 MOST_SEED = 2**63 - 1
 
@@ -26,24 +25,17 @@ def keys_of(scene: bytes, with_cells: bool = False) -> dict[str, Any]:
 
 
 def text_of(keys: dict[str, Any]) -> str:
-    """The scene of a dictionary of keys and values, with a line per entry of a list. Values are texts, integers (also numpy's) and lists of
-    them. Others raise a Fault."""
+    """The scene of a dictionary of keys and values, texts, integers (also numpy's) and lists of them, with a line per entry of a list."""
+    def toml(value: Any) -> str:
+        return json.dumps(value, ensure_ascii=False, default=operator.index)
+
     lines = []
     for key, value in keys.items():
         if isinstance(value, (list, tuple)):
-            lines += [f"{key} = [", *(f"    {_value(key, entry)}," for entry in value), "]"]
+            lines += [f"{key} = [", *(f"    {toml(entry)}," for entry in value), "]"]
         else:
-            lines.append(f"{key} = {_value(key, value)}")
+            lines.append(f"{key} = {toml(value)}")
     return "\n".join(lines) + "\n"
-
-
-def _value(key: str, value: Any) -> str:
-    """A key's value, or an entry of its list, as TOML has it."""
-    try:
-        is_integer = key in INTEGERS or not isinstance(value, (str, list, tuple))
-        return json.dumps(operator.index(value) if is_integer else value, ensure_ascii=False, default=operator.index)
-    except TypeError:
-        raise Fault(f"`{key}` cannot be a value of type {type(value).__name__}") from None
 
 
 def with_seed(scene: Scene, seed: int) -> str:
