@@ -565,7 +565,7 @@ class Package(unittest.TestCase):
                     self.assertIsNone(process.poll())
                     time.sleep(0.01)
                 process.send_signal(signal.SIGINT)
-                self.assertIn("KeyboardInterrupt", process.communicate(timeout=60)[1])
+                self.assertIn("KeyboardInterrupt", process.communicate()[1])
             while runs & programs_of(process.pid):
                 time.sleep(0.01)
 
