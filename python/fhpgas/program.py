@@ -153,19 +153,18 @@ def side_by_side(function: Callable[[Any], Any], values: Iterable[Any], executor
             raise
 
 
-_function: Callable[[Any], Any] = print  # what a worker calls
+_called: list[Callable[[Any], Any]] = []  # of a forked worker: what it calls
 
 
 def _take(function: Callable[[Any], Any], cores: int) -> None:
-    global _function
-    _function = function
+    _called.append(function)
     _cores.set(cores)
     signal.signal(signal.SIGINT, signal.SIG_IGN)  # an interrupt comes to the process that asked, which ends its workers
     signal.signal(signal.SIGTERM, lambda *_: sys.exit(1))  # and they end the programs that they run
 
 
 def _taken(value: Any) -> Any:
-    return _function(value)
+    return _called[-1](value)
 
 
 def _alone(function: Callable[[Any], Any], value: Any) -> Any:
