@@ -134,12 +134,16 @@ def particles(lattice: Lattice, ax: Axes) -> Axes:
     return ax
 
 
+def label(what: Any) -> str | None:
+    return f"{what}\n({FIELDS[what][0]})" if isinstance(what, str) else None
+
+
 def bar(image: Any, what: Any, ax: Axes) -> None:
     """The bar of an image's colours beside its Axes, about as high as the image will be. Arrows have none."""
     if what is not PARTICLES:
-        room, label = ax.get_window_extent(), f"{what}\n({FIELDS[what][0]})" if isinstance(what, str) else None
+        room = ax.get_window_extent()
         share = min(1.0, 0.85 * ax.get_data_ratio() * room.width / room.height)
-        ax.figure.colorbar(image, ax=ax, label=label, shrink=share, aspect=max(5, 25 * share), pad=0.02)
+        ax.figure.colorbar(image, ax=ax, label=label(what), shrink=share, aspect=max(5, 25 * share), pad=0.02)
 
 
 def plot(source: Lattice | Blocks, what: Any = None, ax: Axes | None = None, *, block: tuple[int, int] = (8, 9), smooth: float = 0.0,
@@ -173,8 +177,8 @@ def strip(sources: Iterable[Lattice | Blocks], what: Any = None, *, block: tuple
     across = integer("the number of columns", columns, 1, n) if columns is not None else min(
         (k for k in range(1, n + 1) if n % k == 0), key=lambda k: abs(np.log(k * k / n / aspect / 3)))
     down = -(-n // across)
-    figure, grid = pyplot.subplots(down, across, figsize=(9, down * (7.6 / across * aspect + 0.4) + 0.5), layout="constrained",
-                                   squeeze=False, sharex=True, sharey=True)
+    high = max(2.2, down * (7.6 / across * aspect + 0.4) + 0.5)
+    figure, grid = pyplot.subplots(down, across, figsize=(9, high), layout="constrained", squeeze=False, sharex=True, sharey=True)
     for shown, ax in zip(many, grid.flat):
         image = draw(shown, ax, options)
         ax.set_title(f"generation {shown.generation}", fontsize="medium")
@@ -182,7 +186,7 @@ def strip(sources: Iterable[Lattice | Blocks], what: Any = None, *, block: tuple
     for ax in grid.flat[n:]:
         ax.axis("off")
     if what is not PARTICLES:
-        figure.colorbar(image, ax=grid, label=f"{what} ({FIELDS[what][0]})" if isinstance(what, str) else None, aspect=30)
+        figure.colorbar(image, ax=grid, label=label(what), aspect=30)
     return figure
 
 
