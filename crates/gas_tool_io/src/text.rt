@@ -12,7 +12,6 @@ use crate::faults::WriteFault;
 use crate::output::{Sink, put_line};
 use gas_cells::cells::{row_block, row_blocks};
 use gas_geom::gas::Gas;
-use gas_geom::size::Size;
 use gas_rows::lattice::Lattice;
 use std::io::Write;
 
@@ -85,18 +84,17 @@ fn put_summary_line<W: Write>(
     sink: &mut Sink,
     out: &mut W,
     gas: &str,
-    size: Size,
+    size: (u32, u32),
     solid: u64,
     particles: u64,
 )
     ensures { Adds (W.contents out.old) (W.contents out.new) sink.old sink.new
         (codes "gas " ++ gas.now
-        ++ codes " width " ++ decimal size.width ++ codes " height " ++ decimal size.height
+        ++ codes " width " ++ decimal size.0 ++ codes " height " ++ decimal size.1
         ++ codes " solid " ++ decimal solid ++ codes " particles " ++ decimal particles
         ++ line_feed) }
 {
-    let width = size.width();
-    let height = size.height();
+    let (width, height) = size;
     put_line(
         sink,
         out,
@@ -110,7 +108,7 @@ fn put_summary<G: Gas, W: Write>(sink: &mut Sink, out: &mut W, gas: &str, lattic
         (check_text gas.now G.rules lattice.now) }
 {
     let channel = lattice.channel();
-    let size = channel.size();
+    let size = (channel.size().width(), channel.size().height());
     put_summary_line(sink, out, gas, size, channel.count_solid(), lattice.count());
 }
 
