@@ -94,3 +94,28 @@ fn the_order_of_words(rt: HostRuntime) -> Result<(), Fail> {
     assert!(rt; (row.get(6), row.get(71)) == (0x08, 0x08));
     Ok(())
 }
+
+// A word of a direction is read and set apart from the others, and its bits past the width are dropped.
+#[test]
+fn a_word_of_a_direction(rt: HostRuntime) -> Result<(), Fail> {
+    let mut row = Row::<Hpp>::blank(rt.alloc(), 130)?;
+    row.load_words(&[1, 2, 1, 4, 8, 2, 16, 32, 3, 64, 128, 0]);
+    assert!(rt;
+        (
+            row.plane_word(0, 1),
+            row.plane_word(1, 0),
+            row.plane_word(3, 1)
+        ) == (2, 4, 128)
+    );
+    row.set_plane_word(1, 2, u64::MAX);
+    row.set_plane_word(3, 1, 1 << 63);
+    assert!(rt;
+        (
+            row.plane_word(1, 1),
+            row.plane_word(1, 2),
+            row.plane_word(2, 2)
+        ) == (8, 3, 3)
+    );
+    assert!(rt; (row.get(127), row.get(128), row.get(129)) == (0x08, 0x07, 0x06));
+    Ok(())
+}
