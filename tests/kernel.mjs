@@ -1,14 +1,14 @@
 // Takes the kernel out of the page and compares it with the program, bit for bit, and its key stream with RFC 8439.
 //   node tests/kernel.mjs        the program is FHPGAS, or ./fhpgas
 import { spawnSync } from "node:child_process";
-import { readFileSync } from "node:fs";
+import { readFileSync, readdirSync } from "node:fs";
 
 const root = new URL("..", import.meta.url).pathname;
 const program = process.env.FHPGAS ?? `${root}fhpgas`;
 const page = readFileSync(`${root}page/fhpgas.html`, "utf8");
-const source = /<script id="kernel"[^>]*>\n(.*?)<\/script>/s.exec(page)[1];
-const { Kernel, GASES, SOLID, SLACK, block, fill } =
-  new Function(`${source}\nreturn { Kernel, GASES, SOLID, SLACK, block, fill };`)();
+const [kernel, worker] = ["kernel", "worker"].map((id) => page.split(`<script id="${id}">`)[1].split("</script>")[0]);
+const names = "{ Kernel, GASES, SOLID, SLACK, block, fill, readScene }";
+const { Kernel, GASES, SOLID, SLACK, block, fill, readScene } = new Function(`${kernel}${worker}return ${names}`)();
 const MAPS = 200, AREAS = 18;
 let passed = 0, failed = 0;
 
@@ -37,8 +37,8 @@ function run(scene, generations) {
 }
 
 const spelled = (state) => (state === SOLID ? "##" : state ? state.toString(16).padStart(2, "0") : "..");
-const rowsOf = (cells, width, height) =>
-  Array.from({ length: height }, (_, y) => Array.from(cells.subarray(y * width, (y + 1) * width), spelled).join(""));
+const rowOf = (cells, y, width) => Array.from(cells.subarray(y * width, (y + 1) * width), spelled).join("");
+const rowsOf = (cells, width, height) => Array.from({ length: height }, (_, y) => rowOf(cells, y, width));
 
 function drawn(random, gas, width, height) {
   const cells = new Uint8Array(width * height + SLACK), rate = random.of([0.02, 0.1, 0.2, 0.35, 0.6]);
@@ -78,33 +78,40 @@ for (let number = 0; number < MAPS; number++) {
 
 // the filling of areas
 for (let number = 0; number < AREAS; number++) {
-  const random = lots(1000 + number), gas = Object.values(GASES)[number % 3], width = random.of(WIDTHS), height = random.of(HEIGHTS);
-  const rate = random.of([0, 1, 200, 500, 999, 1000]), seed = random.of([0n, 7n, 2n ** 63n - 1n]);
+  const random = lots(1000 + number), gas = Object.values(GASES)[number % 3];
+  const width = random.of(WIDTHS), height = random.of(HEIGHTS), rate = random.of([0, 1, 200, 500, 999, 1000]);
+  const seed = random.of([0n, 7n, 2n ** 63n - 1n]);
   const cells = new Uint8Array(width * height + SLACK);
   cells[0] = SOLID;
   fill(gas, cells, width * height, seed, Array(gas.directions).fill(rate));
-  const scene = `gas = "${gas.name}"\nwidth = ${width}\nheight = ${height}\nrate = ${rate}\nseed = ${seed}\nsolid = [[0, 0, 1, 1]]\n`;
+  const keys = { gas: `"${gas.name}"`, width, height, rate, seed, solid: "[[0, 0, 1, 1]]" };
+  const scene = Object.entries(keys).map(([key, value]) => `${key} = ${value}\n`).join("");
   const [, ...theirs] = run(scene, 0);
   check(`area ${number}: ${gas.name}, ${width} x ${height}`, rowsOf(cells, width, height).join("\n") === theirs.join("\n"));
 }
 
+// the scenes of the repository, as the page reads them
+for (const name of readdirSync(`${root}scenes`).filter((file) => file.endsWith(".toml"))) {
+  const text = readFileSync(`${root}scenes/${name}`, "utf8"), { cells, width, height } = readScene(text, 1 << 20);
+  check(`scenes/${name}`, rowsOf(cells, width, height).join("\n") === run(text, 0).slice(1).join("\n"));
+}
+
 // RFC 8439: the block of 2.3.2, and the test vectors 1 to 5 of appendix A.1
-const hex = (text) => Uint8Array.from(text.replace(/\s/g, "").match(/../g), (two) => parseInt(two, 16));
+const hex = (text) => Uint8Array.from(text.match(/../g), (two) => parseInt(two, 16));
 const zeros = (count) => "00".repeat(count);
 const VECTORS = [
-  ["00:01:02:03:04:05:06:07:08:09:0a:0b:0c:0d:0e:0f:10:11:12:13:14:15:16:17:18:19:1a:1b:1c:1d:1e:1f".replaceAll(":", ""), 1,
-    "000000090000004a00000000", `10f1e7e4d13b5915500fdd1fa32071c4c7d1f4c733c068030422aa9ac3d46c4ed2826446079faa0914c2d705d98b02a2
-    b5129cd1de164eb9cbd083e8a2503c4e`],
-  [zeros(32), 0, zeros(12), `76b8e0ada0f13d90405d6ae55386bd28bdd219b8a08ded1aa836efcc8b770dc7da41597c5157488d7724e03fb8d84a37
-    6a43b8f41518a11cc387b669b2ee6586`],
-  [zeros(32), 1, zeros(12), `9f07e7be5551387a98ba977c732d080dcb0f29a048e3656912c6533e32ee7aed29b721769ce64e43d57133b074d839d5
-    31ed1f28510afb45ace10a1f4b794d6f`],
-  [zeros(31) + "01", 1, zeros(12), `3aeb5224ecf849929b9d828db1ced4dd832025e8018b8160b82284f3c949aa5a8eca00bbb4a73bdad192b5c42f73f2fd
-    4e273644c8b36125a64addeb006c13a0`],
-  ["00ff" + zeros(30), 2, zeros(12), `72d54dfbf12ec44b362692df94137f328fea8da73990265ec1bbbea1ae9af0ca13b25aa26cb4a648cb9b9d1be65b2c09
-    24a66c54d545ec1b7374f4872e99f096`],
-  [zeros(32), 0, zeros(11) + "02", `c2c64d378cd536374ae204b9ef933fcd1a8b2288b3dfa49672ab765b54ee27c78a970e0e955c14f3a88e741b97c286f7
-    5f8fc299e8148362fa198a39531bed6d`],
+  ["000102030405060708090a0b0c0d0e0f101112131415161718191a1b1c1d1e1f", 1, "000000090000004a00000000",
+    "10f1e7e4d13b5915500fdd1fa32071c4c7d1f4c733c068030422aa9ac3d46c4ed2826446079faa0914c2d705d98b02a2b5129cd1de164eb9cbd083e8a2503c4e"],
+  [zeros(32), 0, zeros(12),
+    "76b8e0ada0f13d90405d6ae55386bd28bdd219b8a08ded1aa836efcc8b770dc7da41597c5157488d7724e03fb8d84a376a43b8f41518a11cc387b669b2ee6586"],
+  [zeros(32), 1, zeros(12),
+    "9f07e7be5551387a98ba977c732d080dcb0f29a048e3656912c6533e32ee7aed29b721769ce64e43d57133b074d839d531ed1f28510afb45ace10a1f4b794d6f"],
+  [zeros(31) + "01", 1, zeros(12),
+    "3aeb5224ecf849929b9d828db1ced4dd832025e8018b8160b82284f3c949aa5a8eca00bbb4a73bdad192b5c42f73f2fd4e273644c8b36125a64addeb006c13a0"],
+  ["00ff" + zeros(30), 2, zeros(12),
+    "72d54dfbf12ec44b362692df94137f328fea8da73990265ec1bbbea1ae9af0ca13b25aa26cb4a648cb9b9d1be65b2c0924a66c54d545ec1b7374f4872e99f096"],
+  [zeros(32), 0, zeros(11) + "02",
+    "c2c64d378cd536374ae204b9ef933fcd1a8b2288b3dfa49672ab765b54ee27c78a970e0e955c14f3a88e741b97c286f75f8fc299e8148362fa198a39531bed6d"],
 ];
 for (const [key, counter, nonce, wanted] of VECTORS) {
   const state = new Int32Array(16), bytes = new DataView(state.buffer), out = new Int32Array(16);

@@ -35,8 +35,7 @@ counts = {True: 0, False: 0}
 
 def check(what, is_so, more=""):
     counts[bool(is_so)] += 1
-    if not is_so:
-        print(f"FAILED: {what} {more}", flush=True)
+    print("" if is_so else f"FAILED: {what} {more}\n", end="", flush=True)
 
 
 class Page:
@@ -73,29 +72,20 @@ class Page:
     def click(self, name):
         self.driver.find_element(By.ID, name).click()
 
-    def start(self, **values):
-        """Begins a gas, and waits for it."""
-        self.choose(**values)
-        before = self.js("return serial")
-        self.click("start")
-        self.wait(f"serial > {before}")
-
     def pause(self):
         if self.js("return running"):
             self.click("play")
-        self.js("live.hashes = []")
-        self.js("look()")
-        self.wait("live.hashes.length && !running")
-        return self.js("return [head.generation, live.hashes[0]]")
+        self.js("live.hashes = []; look()")
+        return self.wait("live.hashes.length && !running && [head.generation, live.hashes[0]]")
 
     def drag(self, tool, *places):
         """Draws a line over places of the lattice with a tool."""
         self.driver.find_element(By.CSS_SELECTOR, f"[data-tool={tool}]").click()
-        chain, box = ActionChains(self.driver, duration=50), self.js("const b = view.getBoundingClientRect(); return [b.width / 2, b.height / 2]")
-        corner = self.js("const b = view.getBoundingClientRect(); return [b.left, b.top]")
+        chain = ActionChains(self.driver, duration=50)
         for number, place in enumerate(places):
-            at = self.js("return live.at(...arguments)", *place)
-            chain.move_to_element_with_offset(self.view, *(round(at[k] - corner[k] - box[k]) for k in (0, 1)))
+            at = self.js("const b = view.getBoundingClientRect(), [x, y] = live.at(...arguments); return"
+                         " [x - b.left - b.width / 2, y - b.top - b.height / 2].map(Math.round)", *place)
+            chain.move_to_element_with_offset(self.view, *at)
             chain = chain if number else chain.click_and_hold()
         notes = self.js("return live.notes.length")
         chain.release().perform()
@@ -106,12 +96,11 @@ class Page:
         for old in self.room.glob(f"*{suffix}"):
             old.unlink()
         self.click(button)
-        end = time.monotonic() + PATIENCE
-        while not (found := [file for file in self.room.glob(f"*{suffix}") if file.stat().st_size]):
-            if time.monotonic() > end:
-                raise SystemExit(f"{button} saved nothing")
+        for _ in range(20 * PATIENCE):
+            if found := [file for file in self.room.glob(f"*{suffix}") if file.stat().st_size]:
+                return found[0].read_bytes()
             time.sleep(0.05)
-        return found[0].read_bytes()
+        raise SystemExit(f"{button} saved nothing")
 
     def open(self, text):
         file = self.room / "given.toml"
@@ -127,8 +116,7 @@ class Page:
         """The addresses of other hosts that were asked for."""
         events = [json.loads(entry["message"])["message"] for entry in self.driver.get_log("performance")]
         asked = [event["params"]["request"]["url"] for event in events if event["method"] == "Network.requestWillBeSent"]
-        return [url for url in asked if urllib.parse.urlparse(url).scheme not in ("file", "blob", "data") and
-                urllib.parse.urlparse(url).hostname != "127.0.0.1"]
+        return [url for url in asked if not url.startswith(("file:", "blob:", "data:", "http://127.0.0.1:"))]
 
     def faults(self):
         return [entry for entry in self.driver.get_log("browser") if entry["level"] == "SEVERE"]
@@ -145,7 +133,8 @@ def tried(page, way):
     check(f"{way}: a flow past a disc moves at once, and the wind is kept", abs(page.js("return head.u") - 0.26) < 0.02)
     page.click("turn")
     check(f"{way}: a seeded gas does not go back, and says why", "seeded" in page.js("return live.notes.at(-1)"))
-    page.start(gas="fhp1", chirality="left", size="256 x 128", radius=14, keep=False, pace="10")
+    page.choose(gas="fhp1", chirality="left", size="256 x 128", radius=14, keep=False, pace="10"), page.click("start")
+    page.wait("head.width === 256")
     particles, solid = page.js("return [head.particles, head.width * head.height - head.fluid]")
     page.wait("head.generation > 100")
     page.drag("draw", (120, 30), (150, 60), (170, 90))
@@ -171,12 +160,12 @@ def tried(page, way):
     check(f"{way}: with one particle turned it does not return", page.wait("typeof head.found === 'number' && head.found") > 100)
     page.open(KNOWN)
     page.wait("head.width === 6 && head.cells && !motion")
-    arrow, empty = page.js("return [[11, 60, 102], [209, 72, 15]]"), (page.pixel(1.5 + 0.28, 0.866), page.pixel(3.5 - 0.28, 0.866))
-    check(f"{way}: single cells show their particles", page.pixel(-0.28, 0) == arrow[0] and page.pixel(3 + 0.15, 2 * 0.866 + 0.25) == arrow[0])
-    check(f"{way}: colliding ones are orange, empty cells are empty", empty[0] == arrow[1] and min(empty[1]) > 200, empty)
+    alone, meets, fluid = page.pixel(-0.28, 0), page.pixel(1.5 + 0.28, 0.866), page.pixel(3.5 - 0.28, 0.866)
+    check(f"{way}: single cells show their particles", alone == page.pixel(3 + 0.15, 2 * 0.866 + 0.25) == [11, 60, 102], alone)
+    check(f"{way}: colliding ones are orange, empty cells are empty", meets == [209, 72, 15] and min(fluid) > 200, (meets, fluid))
     check(f"{way}: solid cells are drawn where they are", page.pixel(5, 0) == page.pixel(5.5, 0.866) == [70, 78, 86])
     page.click("half"), page.wait("phase === 1 && !isScheduled")
-    check(f"{way}: half a step shows the pair turned", page.pixel(1.5 + 0.15, 0.866 - 0.25) == arrow[1])
+    check(f"{way}: half a step shows the pair turned", page.pixel(1.5 + 0.15, 0.866 - 0.25) == meets)
     notes = page.js("return live.notes.length")
     page.open(KNOWN.replace("01", "41"))
     note = page.wait(f"live.notes.length > {notes} && live.notes.at(-1)")
