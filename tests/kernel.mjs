@@ -12,10 +12,7 @@ const { Kernel, GASES, SOLID, SLACK, block, fill, readScene } = new Function(`${
 const MAPS = 200, AREAS = 18;
 let passed = 0, failed = 0;
 
-function check(what, isSo) {
-  isSo ? passed++ : failed++;
-  if (!isSo) console.log(`FAILED: ${what}`);
-}
+const check = (what, isSo) => (isSo ? passed++ : (failed++, console.log(`FAILED: ${what}`)));
 
 // Numbers that are the same in every run: mulberry32.
 function lots(seed) {
@@ -36,6 +33,7 @@ function run(scene, generations) {
   return done.stdout.toString().trimEnd().split("\n");
 }
 
+const textOf = (keys) => Object.entries(keys).map(([key, value]) => `${key} = ${value}\n`).join("");
 const spelled = (state) => (state === SOLID ? "##" : state ? state.toString(16).padStart(2, "0") : "..");
 const rowOf = (cells, y, width) => Array.from(cells.subarray(y * width, (y + 1) * width), spelled).join("");
 const rowsOf = (cells, width, height) => Array.from({ length: height }, (_, y) => rowOf(cells, y, width));
@@ -48,17 +46,15 @@ function drawn(random, gas, width, height) {
     if (random.chance() < singles) cells[at] = SOLID;
   }
   for (let n = random.below(5); n > 0; n--) {
-    const left = random.below(width), top = random.below(height), w = 1 + random.below(40), h = 1 + random.below(20);
-    for (let y = top; y < Math.min(height, top + h); y++) {
-      cells.fill(SOLID, y * width + left, y * width + Math.min(width, left + w));
+    const [left, top] = [width, height].map(random.below), [w, h] = [40, 20].map(random.below);
+    for (let y = top; y <= Math.min(height - 1, top + h); y++) {
+      cells.fill(SOLID, y * width + left, y * width + Math.min(width, left + w + 1));
     }
   }
   return cells;
 }
 
-const WIDTHS = [1, 2, 3, 7, 31, 32, 33, 47, 63, 64, 65, 95, 96, 97, 128, 129, 161, 255, 257];
-const HEIGHTS = [1, 2, 3, 5, 8, 16, 33, 64];
-
+const WIDTHS = [1, 2, 3, 7, 31, 32, 33, 47, 63, 64, 65, 95, 96, 97, 128, 129, 161, 255, 257], HEIGHTS = [1, 2, 3, 5, 8, 16, 33, 64];
 for (let number = 0; number < MAPS; number++) {
   const random = lots(number), gas = Object.values(GASES)[number % 3];
   const chirality = ["seeded", "left", "right"][Math.floor(number / 3) % 3];
@@ -67,8 +63,7 @@ for (let number = 0; number < MAPS; number++) {
   const seed = random.of([0n, 1n, 2n ** 32n, 2n ** 63n - 1n, BigInt(random.below(2 ** 32)) << 20n]);
   const cells = drawn(random, gas, width, height), kernel = new Kernel(gas, width, height);
   const keys = { version: 2, gas: `"${gas.name}"`, chirality: `"${chirality}"`, seed, generation: first };
-  const head = Object.entries(keys).map(([key, value]) => `${key} = ${value}\n`).join("");
-  const [, ...theirs] = run(`${head}cells = ${JSON.stringify(rowsOf(cells, width, height))}\n`, generations);
+  const [, ...theirs] = run(textOf({ ...keys, cells: JSON.stringify(rowsOf(cells, width, height)) }), generations);
   kernel.load(cells);
   kernel.advance(generations, first, chirality, seed);
   kernel.store(cells);
@@ -84,9 +79,7 @@ for (let number = 0; number < AREAS; number++) {
   const cells = new Uint8Array(width * height + SLACK);
   cells[0] = SOLID;
   fill(gas, cells, width * height, seed, Array(gas.directions).fill(rate));
-  const keys = { gas: `"${gas.name}"`, width, height, rate, seed, solid: "[[0, 0, 1, 1]]" };
-  const scene = Object.entries(keys).map(([key, value]) => `${key} = ${value}\n`).join("");
-  const [, ...theirs] = run(scene, 0);
+  const [, ...theirs] = run(textOf({ gas: `"${gas.name}"`, width, height, rate, seed, solid: "[[0, 0, 1, 1]]" }), 0);
   check(`area ${number}: ${gas.name}, ${width} x ${height}`, rowsOf(cells, width, height).join("\n") === theirs.join("\n"));
 }
 
