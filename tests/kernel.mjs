@@ -3,8 +3,7 @@
 import { spawnSync } from "node:child_process";
 import { readFileSync, readdirSync } from "node:fs";
 
-const root = new URL("..", import.meta.url).pathname;
-const program = process.env.FHPGAS ?? `${root}fhpgas`;
+const root = new URL("..", import.meta.url).pathname, program = process.env.FHPGAS ?? `${root}fhpgas`;
 const page = readFileSync(`${root}page/fhpgas.html`, "utf8");
 const [kernel, worker] = ["kernel", "worker"].map((id) => page.split(`<script id="${id}">`)[1].split("</script>")[0]);
 const names = "{ Kernel, GASES, SOLID, SLACK, block, fill, readScene }";
@@ -115,6 +114,5 @@ for (const [key, counter, nonce, wanted] of VECTORS) {
   block(state, out, 0);
   check(`RFC 8439, counter ${counter}`, Buffer.from(out.buffer).equals(Buffer.from(hex(wanted))));
 }
-
 console.log(`${passed} passed, ${failed} failed`);
 process.exit(failed || passed < MAPS ? 1 : 0);
