@@ -139,14 +139,19 @@ def side_by_side(function: Callable[[Any], Any], values: Iterable[Any], executor
     of a module that they have, and they need this package and the program. An interrupt or a failure ends all runs."""
     values, cores = list(values), len(os.sched_getaffinity(0))
     if executor is not None:
-        return _gathered([executor.submit(_alone, function, value) for value in values])
+        futures = [executor.submit(_alone, function, value) for value in values]
+        try:
+            return _gathered(futures)
+        finally:
+            for future in futures:
+                future.cancel()
     program_path()
     workers, others = max(1, min(len(values), cores)), multiprocessing.active_children()
     # a forked worker has the function without pickling it, so it may be a lambda
     with concurrent.futures.ProcessPoolExecutor(workers, multiprocessing.get_context("fork"), _take, (function, cores // workers)) as pool:
         try:
             return _gathered([pool.submit(_taken, value) for value in values])
-        except BaseException:
+        except BaseException:  # without a call to cancel, which a pool that loses its workers may trip over
             for worker in multiprocessing.active_children():
                 if worker not in others:
                     worker.terminate()
@@ -184,5 +189,3 @@ def _gathered(futures: list["concurrent.futures.Future[Any]"]) -> list[Any]:
         return [future.result() for future in futures]
     finally:
         show_progress("")
-        for future in futures:
-            future.cancel()
