@@ -64,7 +64,7 @@ class Tiles:
         sides = [min(side, length % side or side) for length, side in zip(self.size, self.tile) if length > side]
         if sides and margin + margin % 2 > min(sides):
             raise Fault(f"a margin of {margin}, made even, does not fit: the shortest side of a tile is {min(sides)}")
-        columns, rows = (min(side + 2 * (margin + margin % 2), length + 2 * margin) for length, side in zip(self.size, self.tile))
+        columns, rows = (side + 2 * (margin + margin % 2) if length > side else length for length, side in zip(self.size, self.tile))
         if max(columns, rows) > MOST_SIDE or rows * (2 * columns + 10) + 200 > program.MOST_BYTES:
             raise Fault(f"a tile with its margins, {columns} x {rows}, is too large for a scene, {program.MOST_BYTES} bytes")
 
