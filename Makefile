@@ -3,7 +3,7 @@
 #   make                  builds fhpgas for this machine (CPU=x86-64-v2: for that level), or make NAME a crate of crates.txt
 #   make quick            runs the tests that prove nothing
 #   make test             proves all from scratch, and runs every test
-#   make archive FILE=F   packs fhpgas, built for x86-64-v2, into F, a .tar.gz for machines without the kit
+#   make archive FILE=F   packs fhpgas, built apart for x86-64-v2, into F, a .tar.gz for machines without the kit
 #   make clean            removes all that was built
 #
 # A crate is proved again only if the content of what its proof reads changed: kit, line of crates.txt, files, libraries below it.
@@ -12,6 +12,7 @@ SHELL := /bin/bash
 .DEFAULT_GOAL := fhpgas
 .ONESHELL:
 CPU := $(if $(filter archive,$(MAKECMDGOALS)),x86-64-v2,$(shell tools/level))
+out := $(if $(filter archive,$(MAKECMDGOALS)),out/v2,out)
 kit := $(patsubst %/START-HERE.md,%,$(shell rt doc 2> /dev/null))
 processors := $(shell nproc)
 
@@ -21,11 +22,11 @@ MAKEFLAGS += --no-print-directory -j$(shell awk -v most=$$(($(processors) + 2)) 
 unexport MAKEFLAGS
 
 # The crates in the order in which they begin, with the seconds that one processor takes to prove each: first the ones for which the longest
-# chains of others wait. A crate that has several processors is proved sooner with a third more work, so the two that have time take one.
+# chains of others wait. A crate that has several processors is proved sooner with a third more work, so the one that has time takes one.
 costs := gas_geom:30 gas_bits:60 gas_rows:120 gas_tool_cli:120 gas_layout:55 gas_cells:20 gas_scene:175 gas_belt:90 gas_stage:65 \
-    gas_pipe_model:10 gas_pipe_members:115 gas_pipe_run:190 gas_pipe_replay:70 gas_tool_io:95 gas_tool:80 fhpgas:70
+    gas_pipe_model:10 gas_pipe_members:115 gas_pipe_replay:70 gas_pipe:190 gas_tool_io:95 gas_tool:80 fhpgas:70
 order := $(foreach c,$(costs),$(firstword $(subst :, ,$c)))
-jobs = $(if $(filter gas_tool_cli gas_scene,$@),1,$(processors))
+jobs = $(if $(filter gas_tool_cli,$@),1,$(processors))
 
 # From crates.txt, in which lower crates come first: uses_NAME is what the line of a crate names, own_NAME what of that is built here,
 # and below_NAME all built here that it needs.
@@ -45,19 +46,20 @@ flags = --crate-name $@ --links $@= --jobs $(jobs) -L dependency=$(kit)/rlibs \
 library = src/lib.rt --statements -o out/new/$@.rlib
 program = src/main.rt --cpu $(CPU) --toolchain $(kit)/toolchain -o out/new/$@.o
 link = $(kit)/bin/rattle-link --target x86_64-unknown-linux-gnu --toolchain $(kit)/toolchain -o out/new/$@ out/new/$@.o \
-    $(kit)/c/libos_c.a $(kit)/c/liblibc_c.a >> out/build.log 2>&1 && mv out/new/$@ out/$@ && rm -r out/new && echo $(CPU) > out/level
+    $(kit)/c/libos_c.a $(kit)/c/liblibc_c.a >> out/build.log 2>&1 && mv out/new/$@ $(out)/$@ && rm -r out/new && echo $(CPU) > $(out)/level
 
 # The file that represents a crate once it is made, and the sums of what it was made from. rt removes both with the library. A crate is
 # made in out/new and moved when it is whole, so an interrupted build leaves none half made.
-made = $(if $(is_program),out/$@,out/rlib/$@.rlib/format)
-sums = $(if $(is_program),out/sums,out/rlib/sums)
+made = $(if $(is_program),$(out)/$@,out/rlib/$@.rlib/format)
+sums = $(if $(is_program),$(out)/sums,out/rlib/sums)
 
 # The crates that are done, and when the first began: a program is as old as that, so that a source which is edited meanwhile is newer.
 tally := ../fhpgas/out/tally
 begun := ../fhpgas/out/begun
+told := ../fhpgas/out/told
 done = $(if $(is_program),touch -r $(begun) $(made);) echo $@ >> $(tally)
-$(if $(filter quick test clean help,$(MAKECMDGOALS)),,$(shell mkdir -p crates/fhpgas/out $(wanted:%=crates/%/out) && cd crates/fhpgas && \
-    : > $(tally) && touch $(begun)))
+$(if $(filter quick test clean help,$(MAKECMDGOALS)),,$(shell mkdir -p crates/fhpgas/$(out) $(wanted:%=crates/%/out) && cd crates/fhpgas && \
+    rm -rf $(told) && : > $(tally) && touch $(begun)))
 
 # While it is proved, a crate's folder has rt's lock, and the folders below a shared one.
 .PHONY: $(names) quick test archive clean help
@@ -82,6 +84,7 @@ $(names):
 	sum=$$(sum)
 	[ "$$(cat $(sums) 2>&1)" != "$$sum $$(sha256sum $(made) 2>&1)" ] || { $(done); exit; }
 	trap exit TERM INT HUP; trap 'kill $${!-} 2> /dev/null || :; rm -rf out/new' EXIT
+	mkdir $(told) 2> /dev/null && echo "$@ is proved now, and then what is above it" || :
 	rm -rf out/new $(if $(is_program),$(sums),out/rlib) && mkdir -p out/new
 	$(kit)/bin/rattle build $(if $(is_program),$(program),$(library)) $(flags) > out/build.log 2>&1 < /dev/null &
 	wait $$! || fail
@@ -96,6 +99,6 @@ $(names):
 
 quick: ; @tests/quick.sh
 test: ; @tests/all.sh
-archive: $(if $(FILE),fhpgas) ; @tools/archive.sh "$(FILE)"
-clean: ; rm -rf crates/*/out
+archive: $(if $(FILE),fhpgas) ; @tools/archive.sh "$(FILE)" crates/fhpgas/$(out)/fhpgas
+clean: ; rm -rf crates/*/out out
 help: ; @sed -n 's/^#   //p' Makefile

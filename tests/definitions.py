@@ -130,7 +130,7 @@ def traits(text):
 def contracts(text, kinds="requires|ensures"):
     """The clauses of public functions and traits, and the types as which callers see public values."""
     text = re.sub(r";\s*\w+\]", "]", re.sub(r"//[^\n]*", "", text))  # an array's length does not end a signature
-    private = set(re.findall(r"^(?:struct|enum) (\w+)", text, re.M))
+    private = set(re.findall(r"^(?:pub\(crate\) )?(?:struct|enum) (\w+)", text, re.M))
     for body in traits(text):
         yield from clauses(body, r"^    fn \w+", kinds)
         yield from re.findall(r"ghost \w+: (\{[^\n]*\});", body)

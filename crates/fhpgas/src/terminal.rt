@@ -1,6 +1,6 @@
 //! What the program says on a terminal: a prompt for the scene, and a line of progress.
 
-use gas_pipe_run::gate::Gate;
+use gas_pipe::Gate;
 use gas_tool::{Request, Watch};
 use std::fs;
 use std::os::unix::fs::{FileTypeExt, MetadataExt};

@@ -2,7 +2,7 @@
 ghost use Rattle.std.specs.Prelude.{◌≡◌, ◌++◌, ◌∷◌, [], length, OnOk, IfErr, OnErr, IsErr, Some, None};
 ghost use Rattle.gas_belt.specs.Inner.Ring.{belt_of, put_words};
 
-use crate::push_end::PushEnd;
+use crate::ring_ends::PushEnd;
 use gas_geom::gas::Gas;
 use gas_rows::row::Row;
 use rtrb::Producer;

@@ -6,7 +6,6 @@ use Rattle.std.proofs.lemmas.Bool.{cases_eq, cases_lt, eq-eqb, ne_eqb}
 use Rattle.std.proofs.lemmas.Bool.Decides.{nat_tests}
 use Rattle.std.proofs.Math.Dec.{eqb-suc-zero}
 use Rattle.gas_geom.specs.Gas.{holds}
-use Rattle.gas_geom.specs.Lattice.{bounce_back}
 use Rattle.gas_geom.proofs.Holds.{holds-and, holds-or, holds-not, holds-above}
 use Rattle.gas_bits.proofs.Bits.{holds-shl_high, holds-shl_low, holds-shr}
 
@@ -52,7 +51,7 @@ holds-from_east word cut after last b h le fits is =
 -- whether a cell holds a direction after streaming, from whether the neighbour held it, whether the neighbour is solid, whether the
 -- cell held the opposite direction, and whether it is solid
 abbrev pub streamed_bit : Bool → Bool → Bool → Bool → Bool
-streamed_bit came met back own = if own then false else bounce_back met back came
+streamed_bit came met back own = if own then false else if met then back else came
 
 -- `((came & !met) | (met & back)) & !own`
 pub holds-streamed : (came met back own b : ℕ) → met < 2 ^ 64 → own < 2 ^ 64 → b < 64

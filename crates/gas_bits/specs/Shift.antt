@@ -2,7 +2,6 @@
 use Rattle.std.specs.Prelude.{ℕ, Bool, false, if◌then◌else◌}
 use Rattle.gas_geom.specs.declared.moves.Move.{Move}
 use Rattle.gas_geom.specs.Moves.{column_after}
-use Rattle.gas_geom.specs.Lattice.{bounce_back}
 use Rattle.gas_bits.specs.Words.{bit}
 use Rattle.gas_bits.specs.declared.plane.Incoming.{Incoming}
 
@@ -11,4 +10,5 @@ abbrev pub streamed_cell : Incoming → Move → ℕ → Bool
 streamed_cell incoming m x =
     let neighbour = column_after incoming.width x m in
     if bit incoming.solid_here.now x then false
-    else bounce_back (bit incoming.solid_there.now neighbour) (bit incoming.opposite_here.now x) (bit incoming.plane.now neighbour)
+    else if bit incoming.solid_there.now neighbour then bit incoming.opposite_here.now x
+    else bit incoming.plane.now neighbour

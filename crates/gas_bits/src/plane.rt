@@ -34,7 +34,7 @@ pub struct Incoming<'a> {
     ghost fluid_here: { IsTrue all_fluid → (x : ℕ) → bit solid_here.now x ≡ false },
 }
 
-/// Returns true only if all words are 0.
+/// True only if all words are 0.
 pub fn are_zero(words: &[u64]) -> bool
     ensures zero { IsTrue result → All (λ w. w ≡ 0) words.now }
 {
@@ -72,7 +72,7 @@ pub fn clear_past(words: &mut [u64], width: u32)
     words[end] = clear_above(words[end], (width - 1) % 64);
 }
 
-// Returns the number of set bits from `from` to `to - 1`.
+// The number of set bits from `from` to `to - 1`.
 #[inline(always)]
 fn ones_in(word: u64, from: u32, to: u32) -> u32
     requires order { from ≤ to }
@@ -84,7 +84,7 @@ fn ones_in(word: u64, from: u32, to: u32) -> u32
     (clear_above(word, to - 1) >> from).count_ones()
 }
 
-/// Returns the number of cells in the columns from `from` to `to - 1` whose bit is set.
+/// The number of cells in the columns from `from` to `to - 1` whose bit is set.
 pub fn count_in(words: &[u64], from: u32, to: u32) -> u32
     requires order { from ≤ to }
     requires within { to ≤ 64 * length words.now }

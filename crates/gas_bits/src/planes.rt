@@ -9,7 +9,7 @@ ghost use Rattle.gas_bits.specs.Planes.{has, state};
 use crate::states::{planes_of, state_at};
 use crate::word::{clear_above, clear_bits, has_bit, with_bit, words_for};
 
-/// Returns the set of the directions that cell `x` holds.
+/// The set of the directions that cell `x` holds.
 #[inline(always)]
 pub fn read_cell(words: &[u64], words_each: usize, dirs: usize, x: u32) -> u8
     requires few_words { words_each ≤ words_in 65536 }
@@ -38,7 +38,7 @@ pub fn write_cell(words: &mut [u64], words_each: usize, dirs: usize, x: u32, set
     }
 }
 
-/// Returns word `j` of each direction, and 0 for those past `dirs`.
+/// Word `j` of each direction, and 0 for those past `dirs`.
 #[inline(always)]
 pub fn planes_at(words: &[u64], words_each: usize, dirs: usize, j: usize) -> [u64; 8]
     requires few_words { words_each ≤ words_in 65536 }

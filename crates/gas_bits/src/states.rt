@@ -6,7 +6,7 @@ ghost use Rattle.gas_geom.specs.Planes.{set_at};
 use crate::word::has_bit;
 use std::simd::prelude::*;
 
-/// Returns the state of cell `b`, 0 to 63, from a word for each direction.
+/// The state of cell `b`, 0 to 63, from a word for each direction.
 #[inline(always)]
 pub(crate) fn state_at(planes: [u64; 8], dirs: usize, b: u32) -> u8
     requires few_dirs { dirs ≤ 8 }
@@ -22,7 +22,7 @@ pub(crate) fn state_at(planes: [u64; 8], dirs: usize, b: u32) -> u8
     set
 }
 
-/// Returns the states of 64 cells, from a word for each direction.
+/// The states of 64 cells, from a word for each direction.
 #[inline(always)]
 pub fn states_of(planes: [u64; 8], dirs: usize) -> [u8; 64]
     requires { dirs ≤ 8 }
@@ -46,7 +46,7 @@ fn plane_of(states: u8x64, i: u32) -> u64
         .to_bitmask()
 }
 
-/// Returns a word for each direction, from the states of at most 64 cells. Bits past them are 0.
+/// A word for each direction, from the states of at most 64 cells. Bits past them are 0.
 #[inline(always)]
 pub fn planes_of(states: &[u8], dirs: usize) -> [u64; 8]
     requires few_cells { length states.now ≤ 64 }

@@ -5,7 +5,7 @@ ghost use Rattle.std.specs.Prelude.{◌≡◌, ◌+◌, ◌-◌, ◌*◌, ◌<�
 ghost use Rattle.gas_geom.specs.Gas.{holds};
 ghost use Rattle.gas_bits.specs.Words.{words_in};
 
-/// Returns the number of words of a row of 0 to 65536 cells.
+/// The number of words of a row of 0 to 65536 cells.
 #[inline(always)]
 pub fn words_for(width: u32) -> usize
     requires few_cells { width ≤ 65536 }
@@ -14,7 +14,7 @@ pub fn words_for(width: u32) -> usize
     (width as usize).div_ceil(64)
 }
 
-/// Returns whether bit `bit`, 0 to 63, is 1.
+/// Whether bit `bit`, 0 to 63, is 1.
 #[inline(always)]
 pub fn has_bit(word: u64, bit: u32) -> bool
     requires within { bit < 64 }
@@ -23,7 +23,7 @@ pub fn has_bit(word: u64, bit: u32) -> bool
     (word >> bit) & 1 == 1
 }
 
-/// Returns the word with bit `bit`, 0 to 63, set to a value.
+/// The word with bit `bit`, 0 to 63, set to a value.
 #[inline(always)]
 pub fn with_bit(word: u64, bit: u32, value: bool) -> u64
     requires within { bit < 64 }
@@ -36,7 +36,7 @@ pub fn with_bit(word: u64, bit: u32, value: bool) -> u64
     }
 }
 
-/// Returns the word whose 64 bits have this value.
+/// The word whose 64 bits have this value.
 #[inline(always)]
 pub(crate) fn fill_word(value: bool) -> u64
     ensures { (b : ℕ) → b < 64 → holds result b ≡ value }
@@ -44,7 +44,7 @@ pub(crate) fn fill_word(value: bool) -> u64
     if value { u64::MAX } else { 0 }
 }
 
-/// Returns the word with these halves of 32 bits.
+/// The word with these halves of 32 bits.
 #[inline(always)]
 pub fn join_halves(low: u32, high: u32) -> u64
     ensures bits { (b : ℕ) → b < 64 → holds result b
@@ -53,7 +53,7 @@ pub fn join_halves(low: u32, high: u32) -> u64
     u64::from(low) | (u64::from(high) << 32)
 }
 
-/// Returns the word with the bits above `last`, 0 to 63, cleared.
+/// The word with the bits above `last`, 0 to 63, cleared.
 #[inline(always)]
 pub(crate) fn clear_above(word: u64, last: u32) -> u64
     requires { last < 64 }
@@ -62,22 +62,7 @@ pub(crate) fn clear_above(word: u64, last: u32) -> u64
     word & (u64::MAX >> (63 - last))
 }
 
-/// Returns word `j` of a row with the bits past the width cleared.
-#[inline(always)]
-pub fn clear_past_width(word: u64, j: u32, width: u32) -> u64
-    requires some_cells { 1 ≤ width }
-    requires few_cells { width ≤ 65536 }
-    requires within { j < words_in width }
-    ensures bits { (b : ℕ) → b < 64 → holds result b ≡ (nat_lt (64 * j + b) width && holds word b) }
-{
-    if j == (width - 1) / 64 {
-        clear_above(word, (width - 1) % 64)
-    } else {
-        word
-    }
-}
-
-/// Returns the word with the bits of the mask cleared.
+/// The word with the bits of the mask cleared.
 #[inline(always)]
 pub(crate) fn clear_bits(word: u64, mask: u64) -> u64
     ensures { (b : ℕ) → b < 64 → holds result b ≡ (holds word b && not (holds mask b)) }

@@ -3,7 +3,6 @@ use Rattle.std.proofs.Common.{◌≡◌, ℕ, suc, ◌+◌, ◌-◌, ◌<◌, Bo
 use Rattle.std.specs.Prelude.{is_some}
 use Rattle.std.specs.List.{find, range_with_len}
 use Rattle.std.specs.Option.{option_or}
-use Rattle.std.proofs.lemmas.Bool.{false≢true}
 use Rattle.std.proofs.lemmas.List.Folds.{find-append}
 use Rattle.gas_bits.proofs.Ones.{range-append}
 
@@ -35,11 +34,6 @@ find-first p k n none here within =
 
 pub find-next : (p : ℕ → Bool) (n : ℕ) → find p (range_with_len 0 n) ≡ None → p n ≡ false → find p (range_with_len 0 (n + 1)) ≡ None
 find-next p n none here = find-split p n 1 ∙ rw (none, here) refl
-
--- a result that is None
-pub absent : (o : Option ℕ) → is_none o ≡ true → None ≡ o
-absent None e = refl
-absent (Some x) e = absurd (false≢true e)
 
 pub is_some-not : {A : Type 0} (o : Option A) → is_some o ≡ not (is_none o)
 is_some-not None = refl

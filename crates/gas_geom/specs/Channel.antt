@@ -1,5 +1,5 @@
 -- Channels: a width, a height and the solid cells, walls and obstacles alike.
-use Rattle.std.specs.Prelude.{ℕ, ◌<◌, ◌≡◌, Bool, true, false, List, [], length, replicate, slice_index_or, slice_set, sum_by, count_by}
+use Rattle.std.specs.Prelude.{ℕ, ◌<◌, ◌≡◌, Bool, false, List, [], length, replicate, slice_index_or, sum_by, count_by}
 use Rattle.gas_geom.specs.Size.{IsSize}
 
 -- the solid cells are a list of rows from the top, a truth value a cell
@@ -25,8 +25,3 @@ pub record IsChannel (channel : ChannelModel) : Type 0 where
 -- a channel whose cells are all fluid
 abbrev pub free_channel : ℕ → ℕ → ChannelModel
 free_channel width height = record { width = width; height = height; solid = replicate height (replicate width false) }
-
--- the channel with the cell (x, y) solid
-abbrev pub with_solid : ChannelModel → ℕ → ℕ → ChannelModel
-with_solid channel x y =
-    record channel { solid = slice_set channel.solid y (slice_set (slice_index_or channel.solid y []) x true) }

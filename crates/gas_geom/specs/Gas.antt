@@ -47,10 +47,6 @@ abbrev pub momentum_of : Rules → ℕ → ℤ × ℤ
 momentum_of gas s =
     (signed_sum_by (λ i. (gas.momentum i).0) (directions_of gas s), signed_sum_by (λ i. (gas.momentum i).1) (directions_of gas s))
 
--- no collision depends on its random bit
-abbrev pub IgnoresChirality : Rules → Type 0
-IgnoresChirality gas = (s : ℕ) (chi chi' : Bool) → gas.collide s chi ≡ gas.collide s chi'
-
 -- what makes rules a gas
 pub record IsGas (gas : Rules) : Type 0 where
   pub some_dirs : 1 ≤ gas.dirs

@@ -32,28 +32,21 @@ pub record IsLattice (gas : Rules) (channel : ChannelModel) (rows : List (List �
 abbrev pub empty_lattice : ChannelModel → LatticeModel
 empty_lattice channel = record { channel = channel; rows = replicate channel.height (replicate channel.width 0) }
 
--- the rows with another set at the cell (x, y)
-abbrev pub with_cell : List (List ℕ) → ℕ → ℕ → ℕ → List (List ℕ)
-with_cell rows x y state = slice_set rows y (slice_set (slice_index_or rows y []) x state)
+-- the rows with another value at the cell (x, y): a set, or whether it is solid
+abbrev pub with_cell : {A : Type 0} → List (List A) → ℕ → ℕ → A → List (List A)
+with_cell rows x y value = slice_set rows y (slice_set (slice_index_or rows y []) x value)
 
--- the set at a cell after a collision with a random bit: a solid cell is empty
-abbrev pub collided_set : Rules → Bool → Bool → ℕ → ℕ
-collided_set gas solid chi s = if solid then 0 else gas.collide s chi
-
--- the lattice after a collision in every cell, with `chi` as random bits
+-- the lattice after a collision in every cell, with `chi` as random bits: solid cells are empty
 abbrev pub collided : Rules → ChannelModel → (ℕ → ℕ → Bool) → (ℕ → ℕ → ℕ) → ℕ → ℕ → ℕ
-collided gas channel chi at x y = collided_set gas (is_solid channel x y) (chi x y) (at x y)
+collided gas channel chi at x y = if is_solid channel x y then 0 else gas.collide (at x y) (chi x y)
 
--- bounce-back: what comes along a link or, if the link is blocked, the cell's own that was sent back
-abbrev pub bounce_back : Bool → Bool → Bool → Bool
-bounce_back blocked sent_back comes = if blocked then sent_back else comes
-
--- whether a particle arrives at the fluid cell (x, y) in direction i: the wall or a solid cell at the other end blocks the link
+-- whether a particle arrives at the fluid cell (x, y) in direction i: from the cell behind it or, if the wall or a solid cell is there,
+-- by bounce-back, as the cell's own particle that was sent back
 abbrev pub arriving : Rules → ChannelModel → (ℕ → ℕ → ℕ) → ℕ → ℕ → ℕ → Bool
 arriving gas channel at x y i =
     let sent_back = holds (at x y) (gas.opposite i) in
     let behind = neighbour_of gas channel.width channel.height x y (gas.opposite i) in
-    option_map_or (λ u. bounce_back (is_solid channel u.0 u.1) sent_back (holds (at u.0 u.1) i)) behind sent_back
+    option_map_or (λ u. if is_solid channel u.0 u.1 then sent_back else holds (at u.0 u.1) i) behind sent_back
 
 -- the set of the directions i below n for which f holds
 abbrev pub set_of : ℕ → (ℕ → Bool) → ℕ

@@ -1,8 +1,11 @@
-//! What a lattice gas is: its directions, its collisions and its momenta.
+//! What a lattice gas is: its directions, its collisions and its momenta, and the number law: no step
+//! makes or loses a particle.
 
-ghost use Rattle.std.specs.Prelude.{◌≡◌, ◌<◌, ◌≤◌, ◌^◌, ℕ, Bool, false};
+ghost use Rattle.std.specs.Prelude.{◌≡◌, ◌<◌, ◌≤◌, ◌^◌, ℕ, List, Bool, false};
 ghost use Rattle.gas_geom.specs.Moves.{amount};
-ghost use Rattle.gas_geom.specs.Gas.{Rules, IsGas, IgnoresChirality, holds};
+ghost use Rattle.gas_geom.specs.Gas.{Rules, IsGas, holds};
+ghost use Rattle.gas_geom.specs.Channel.{ChannelModel};
+ghost use Rattle.gas_geom.specs.Lattice.{IsLattice, next, generation, count};
 ghost use Rattle.gas_geom.specs.Planes.{set_at, ZeroFrom};
 
 /// A lattice gas. A direction is a number below `DIRS`, and a cell's state is the set of the
@@ -56,5 +59,20 @@ pub trait Gas {
 
     ghost laws: { IsGas rules };
 
-    ghost ignores: { USES_CHIRALITY ≡ false → IgnoresChirality rules };
+    ghost ignores: { USES_CHIRALITY ≡ false →
+        (s : ℕ) (chi chi' : Bool) → rules.collide s chi ≡ rules.collide s chi' };
 }
+
+/// The next lattice has the same number of particles, for any random bits.
+pub fn number_law<G: Gas>()
+    ensures kept { (channel : ChannelModel) (chi : ℕ → ℕ → Bool)
+        (rows : List (List ℕ)) → IsLattice G.rules channel rows →
+        count G.rules (next G.rules channel chi rows) ≡ count G.rules rows }
+{}
+
+/// Every generation has the same number of particles, for any random bits.
+pub fn number_law_of_runs<G: Gas>()
+    ensures kept { (channel : ChannelModel) (chi : ℕ → ℕ → ℕ → Bool) (start : ℕ)
+        (rows : List (List ℕ)) → IsLattice G.rules channel rows → (n : ℕ) →
+        count G.rules (generation G.rules channel chi start rows n) ≡ count G.rules rows }
+{}

@@ -5,6 +5,5 @@ pub mod fhp1;
 pub mod fhp_rest;
 pub mod gas;
 pub mod hpp;
-pub mod law;
 pub mod moves;
 pub mod size;

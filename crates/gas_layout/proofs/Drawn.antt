@@ -6,7 +6,7 @@ use Rattle.std.proofs.lemmas.Int.{ints}
 use Rattle.std.proofs.lemmas.List.Folds.{list_any-append}
 use Rattle.gas_geom.specs.Channel.{ChannelModel}
 use Rattle.gas_layout.specs.declared.area.Rectangle.{Rectangle}
-use Rattle.gas_layout.specs.declared.skyline.Strip.{Strip}
+use Rattle.gas_layout.specs.declared.drawing.Strip.{Strip}
 use Rattle.gas_layout.specs.Layout.{covers, is_covered, fits, channel_of, drawn}
 use Rattle.gas_layout.specs.Inner.Strips.{IsInside}
 use Rattle.gas_layout.specs.Inner.Strips.{strip_of, first_row, reaches, is_reached, is_drawn, IsStrip, AreStrips}

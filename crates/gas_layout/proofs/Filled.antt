@@ -1,5 +1,5 @@
 -- Filling: the states, and a lattice whose first rows are filled.
-use Rattle.std.proofs.Common.{◌≡◌, ℕ, zero, suc, ◌+◌, ◌^◌, ◌<◌, Bool, true, false, List, length, get_or, set, nat_lt, ap, sym, subst, ◌∙◌, refl, arith, inl, inr, if◌then◌else◌}
+use Rattle.std.proofs.Common.{◌≡◌, ℕ, zero, suc, ◌+◌, ◌^◌, ◌<◌, Bool, true, false, List, length, get_or, set, ap, sym, subst, ◌∙◌, refl, arith, inl, inr, if◌then◌else◌}
 use Rattle.std.proofs.lemmas.Bool.{cases_lt}
 use Rattle.std.proofs.lemmas.Bool.Decides.{nat_tests}
 use Rattle.std.proofs.lemmas.List.{get_or_past}
@@ -11,8 +11,8 @@ use Rattle.gas_geom.proofs.Holds.{set_of-lt}
 use Rattle.gas_rows.proofs.Lattices.{fluid_state}
 use Rattle.gas_layout.specs.Layout.{channel_of, lattice_of, filled, filling}
 use Rattle.gas_layout.specs.Inner.Steps.{filled_before}
-use Rattle.gas_layout.proofs.Grids.{value-rows_of, rows_of-set_row, rows_of-replicate, lattice_of-same, if_same}
-use Rattle.gas_layout.proofs.Steps.{before-here, before-other, before-none, before-all}
+use Rattle.gas_layout.proofs.Grids.{value-rows_of, rows_of-replicate, lattice_of-same}
+use Rattle.gas_layout.proofs.Steps.{rows_above-next, rows_above-none, rows_above-all}
 
 pub set_of-filled-below : (n seed rate width x y : ℕ) → set_of n (filled seed rate width x y) < 2 ^ n
 set_of-filled-below n seed rate width x y = set_of-lt n (filled seed rate width x y)
@@ -61,33 +61,26 @@ module _ (gas : Rules) (seed rate w h : ℕ) (solid : ℕ → ℕ → Bool) wher
   abbrev state : ℕ → ℕ → ℕ
   state u v = if solid u v then 0 else filling gas seed rate w u v
 
-  abbrev at_before : ℕ → ℕ → ℕ → ℕ
-  at_before y u v = if nat_lt v y then state u v else 0
-
   pub set_states-filled_before : (y : ℕ) (states : List ℕ) → y < h
       → ((x : ℕ) → x < w → get_or states x 0 ≡ filling gas seed rate w x y)
       → with_states (filled_before gas seed rate w h solid y) y states ≡ filled_before gas seed rate w h solid (y + 1)
   unfolding filled_before
   set_states-filled_before y states in_rows same =
-      let l = lattice_of w h solid (at_before y) in
-      let row = row_of w (fluid_state l.channel y states) in
-      ap (λ rs. record l { rows = rs })
-      (rows_of-set_row w h (at_before y) (at_before (y + 1)) y row 0 in_rows (length-map-range_with_len (fluid_state l.channel y states) 0 w)
-      (λ u in_row. get_or-map-range_with_len (fluid_state l.channel y states) 0 w u u 0 in_row (omega arith)
+      let channel = channel_of w h solid in
+      ap (λ rs. record { channel = channel; rows = rs })
+      (rows_above-next w h state 0 y (row_of w (fluid_state channel y states)) in_rows (length-map-range_with_len (fluid_state channel y states) 0 w)
+      (λ u in_row. get_or-map-range_with_len (fluid_state channel y states) 0 w u u 0 in_row (omega arith)
       ∙ ap (λ (b : Bool). if b then 0 else get_or states u 0) (value-rows_of w h solid u y false in_row in_rows)
-      ∙ ap (λ s. if solid u y then 0 else s) (same u in_row)
-      ∙ sym (if_same (nat_lt y (y + 1)) true (state u y) 0 (before-here y)))
-      (λ u k other. if_same (nat_lt k y) (nat_lt k (y + 1)) (state u k) 0 (before-other y k other)))
+      ∙ ap (λ s. if solid u y then 0 else s) (same u in_row)))
 
   filled_before-none : lattice_of w h solid (λ _ _. 0) ≡ filled_before gas seed rate w h solid 0
   unfolding filled_before
-  filled_before-none = lattice_of-same w h solid solid (λ _ _. 0) (at_before 0) (λ u k _ _. refl)
-      (λ u k _ _. sym (if_same (nat_lt k 0) false (state u k) 0 (before-none k)))
+  filled_before-none = ap (λ rs. record { channel = channel_of w h solid; rows = rs })
+      (sym (rows_of-replicate w h (λ _ _. 0) 0 (λ _ _. refl)) ∙ rows_above-none w h state 0)
 
   filled_before-all : filled_before gas seed rate w h solid h ≡ lattice_of w h solid state
   unfolding filled_before
-  filled_before-all = lattice_of-same w h solid solid (at_before h) state (λ u k _ _. refl)
-      (λ u k _ in_column. if_same (nat_lt k h) true (state u k) 0 (before-all h k in_column))
+  filled_before-all = ap (λ rs. record { channel = channel_of w h solid; rows = rs }) (rows_above-all w h state 0)
 
   pub width-filled_before : (y : ℕ) → (filled_before gas seed rate w h solid y).channel.width ≡ w
   unfolding filled_before

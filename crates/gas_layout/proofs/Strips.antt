@@ -8,7 +8,7 @@ use Rattle.std.proofs.lemmas.Bool.Decides.{nat_tests}
 use Rattle.std.proofs.lemmas.List.{get_or-map, map-set, get_or-set_same, get_or-set_other, set-get_or}
 use Rattle.std.proofs.lemmas.List.Elements.{All-append, All-cons, All-nil}
 use Rattle.std.proofs.lemmas.List.Folds.{list_any-append}
-use Rattle.gas_layout.specs.declared.skyline.Strip.{Strip}
+use Rattle.gas_layout.specs.declared.drawing.Strip.{Strip}
 use Rattle.gas_layout.specs.Layout.{channel_of, drawn}
 use Rattle.gas_layout.specs.Inner.Strips.{reaches, is_reached, is_drawn, IsStrip, AreStrips, strips_of}
 use Rattle.gas_layout.proofs.Grids.{rows_of-same}

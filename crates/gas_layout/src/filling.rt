@@ -1,9 +1,10 @@
 //! Filling: random particles in the fluid cells of a lattice, from the key stream of a seed.
 
-ghost use Rattle.std.specs.Prelude.{◌≡◌, ℕ, ◌%◌, ◌<◌, ◌≤◌, ◌^◌, Bool, OnOk, OnErr, nat_lt, if◌then◌else◌};
+ghost use Rattle.std.specs.Prelude.{◌≡◌, ℕ, ◌%◌, ◌<◌, ◌≤◌, ◌^◌, Bool, OnOk, OnErr, nat_lt, if◌then◌else◌, ◌+◌, length, slice_index};
 ghost use Rattle.gas_geom.specs.Size.{IsSize};
 ghost use Rattle.gas_geom.specs.Lattice.{empty_lattice};
-ghost use Rattle.gas_layout.specs.Layout.{channel_of, lattice_of, filling};
+ghost use Rattle.gas_layout.specs.Layout.{channel_of, lattice_of, filling, filled};
+ghost use Rattle.gas_geom.specs.declared.size.TheConstants.{MOST_SIDE};
 
 use gas_geom::gas::Gas;
 use gas_rows::key::key_words;
@@ -30,10 +31,6 @@ struct Filling {
 }
 
 impl Filling {
-    ghost use Rattle.std.specs.Prelude.{◌≡◌, ℕ, ◌+◌, ◌<◌, ◌≤◌, ◌^◌, length, slice_index, if◌then◌else◌};
-    ghost use Rattle.gas_geom.specs.declared.size.TheConstants.{MOST_SIDE};
-    ghost use Rattle.gas_layout.specs.Layout.{filled, filling};
-
     // Adds the particles of direction `i` to the states of row `y`. `words` is a buffer for a row.
     fn add_direction(self, states: &mut [u8], words: &mut [u32], y: u32, i: u32)
         requires as_wide { length words.old ≡ length states.old }

@@ -4,4 +4,3 @@
 pub mod area;
 pub mod drawing;
 pub mod filling;
-mod skyline;

@@ -5,28 +5,115 @@
 //! from worker to worker over belts. What a run gives depends on neither the number of workers nor
 //! the room on a belt.
 //!
-//! ```
-//! let plan = Plan::new(4, 8, 12)?;
-//! run(rt, alloc, lattice, CHIRALITY, 0, plan, &NoGate)
-//! ```
-//!
-//! The crate gives names alone: an item promises what the contract in its own crate says, that of
-//! `run` first. The functions of `pass` do nothing: their contracts are the laws of a pass, for every
-//! schedule of its members. `docs/PROVED.md` says it in words, and `docs/LIBRARY.md` walks through an
-//! example.
+//! Runs are defined here. The other items are named here, and promise what the contracts in their
+//! own crates say. The functions of `pass` do nothing: their contracts are the laws of a pass, for
+//! every schedule of its members. `docs/PROVED.md` says it in words, and `docs/LIBRARY.md` takes a
+//! program apart that calls `run`.
 #![tactic(auto)]
 
-pub mod answers;
+mod answer;
+pub mod backoff;
+mod job;
+mod line;
+mod turns;
+mod waiter;
+pub mod wake_ups;
 
-pub use answers::{Counts, Replay, Run};
+ghost use Rattle.std.specs.Prelude.{◌≡◌, ◌+◌, ◌-◌, ◌*◌, ◌≤◌, ◌<◌, ◌^◌, ◌∷◌, ◌++◌, ℕ, List, [], length, map, take, drop, IfOk, IfErr};
+ghost use Rattle.std.specs.Int.{div_ceil};
+ghost use Rattle.gas_geom.specs.Lattice.{count};
+ghost use Rattle.gas_belt.specs.Belt.{CarriedModel};
+ghost use Rattle.gas_stage.specs.Evolution.{lattice_after};
+ghost use Rattle.gas_pipe_model.specs.Pass.{carried_by_belts};
+
+use crate::line::run_line;
+pub use answer::Run;
+use gas_geom::gas::Gas;
 pub use gas_pipe_members::ends::{PutEnd, TakeEnd, Turned};
-pub use gas_pipe_members::error::RunError;
 pub use gas_pipe_members::feeder::Feeder;
 pub use gas_pipe_members::plain_belt::PlainBelt;
-pub use gas_pipe_members::plan::{Plan, PlanError};
+pub use gas_pipe_members::plan::{Plan, PlanError, RunError};
+use gas_pipe_members::plan::{RunInput, Schedule};
 pub use gas_pipe_members::worker::Worker;
-pub use gas_pipe_members::{ends, error, feeder, plain_belt, plan, worker};
 pub use gas_pipe_model::pass;
+pub use gas_pipe_replay::answer::{Counts, Replay};
 pub use gas_pipe_replay::replay;
-pub use gas_pipe_run::gate::{Gate, NoGate};
-pub use gas_pipe_run::{gate, run};
+use gas_rows::chirality::Chirality;
+use gas_rows::lattice::Lattice;
+use std::alloc::Global;
+use std::sync::Wait;
+use std::thread::Threads;
+
+/// A gate that each worker's thread enters and leaves. It may wait.
+pub trait Gate {
+    /// Called by worker `who`, counted from 1, once before its first turn of each pass.
+    fn enter(&self, who: u32);
+
+    /// Called by worker `who` once, as the last act of its thread, even if it stops early.
+    fn leave(&self, who: u32);
+}
+
+/// No gate.
+#[derive(Clone, Copy)]
+pub struct NoGate;
+
+impl Gate for NoGate {
+    fn enter(&self, _who: u32) {}
+
+    fn leave(&self, _who: u32) {}
+}
+
+/// Advances a lattice of generation `first` by the generations of a plan. It blocks until all passes
+/// are over. It makes the belts, starts a thread for each worker, makes the feeder's turns on the
+/// caller's thread, and joins all threads. Each worker's thread enters the gate before each of its
+/// passes, and leaves it as its last act. The rows of a pass follow the rows of the pass before on
+/// the same belts. Each belt carries one list of rows: all that was put on it and all that was taken
+/// from it. No memory is taken between the last start of a thread and the first join. `Memory` if a
+/// request for memory, or the start of a thread, was refused.
+pub fn run<G: Gas + Send, H: Gate + Sync, R: Threads + Wait + Sync>(
+    rt: &R,
+    alloc: Global,
+    lattice: &Lattice<G>,
+    chirality: Chirality,
+    first: u64,
+    plan: Plan,
+    gate: &H,
+) -> Result<Run<G>, RunError>
+    requires room { first + plan.generations < 2 ^ 64 }
+    ensures put { IfOk result (λ r. map (λ b. b.put) r.belts ≡ carried_by_belts G.rules
+        (record { chirality = chirality; first = first; lattice = lattice.now; plan = plan })) }
+    ensures taken { IfOk result (λ r. map (λ b. b.taken) r.belts ≡ carried_by_belts G.rules
+        (record { chirality = chirality; first = first; lattice = lattice.now; plan = plan })) }
+    ensures rows_return { IfOk result (λ r.
+        (first_belt last_belt : CarriedModel) (between : List CarriedModel) →
+        r.belts ≡ first_belt ∷ (between ++ last_belt ∷ []) →
+        take ((r.passes - 1) * lattice.now.channel.height) last_belt.taken
+        ≡ drop lattice.now.channel.height first_belt.put) }
+    ensures belts_made { 0 < plan.generations → IfOk result (λ r. length r.belts ≡ r.stages + 1) }
+    ensures lattice { IfOk result (λ r.
+        r.lattice ≡ lattice_after G.rules chirality first lattice.now plan.generations) }
+    ensures number { IfOk result (λ _. (n : ℕ) → n ≤ plan.generations →
+        count G.rules (lattice_after G.rules chirality first lattice.now n).rows
+        ≡ count G.rules lattice.now.rows) }
+    ensures stages { IfOk result (λ r. r.stages ≡ plan.stages) }
+    ensures passes { IfOk result (λ r. r.passes ≡ div_ceil plan.generations plan.stages) }
+    ensures no_generation { plan.generations ≡ 0 →
+        IfOk result (λ r. (r.lattice ≡ lattice.now) × (r.belts ≡ [])) }
+    ensures refused { IfErr result (λ e. e ≡ RunError.Memory) }
+{
+    let mut feeder = Feeder::new(alloc, lattice)?;
+    if plan.generations() == 0 {
+        return Ok(Run {
+            lattice: feeder.finish(),
+            plan,
+            belts: Vec::new(alloc),
+        });
+    }
+    feeder.begin_ring(plan.passes());
+    let input = RunInput {
+        lattice,
+        chirality,
+        schedule: Schedule { first, plan },
+    };
+    Ok(run_line(rt, alloc, gate, &input, feeder)?)
+}

@@ -11,7 +11,7 @@ use Rattle.gas_rows.proofs.Rows.{row_of-same}
 use Rattle.gas_rows.specs.Row.{RowModel}
 use Rattle.gas_pipe_model.specs.Inner.Circle.{joined}
 use Rattle.gas_pipe_members.specs.Feeder.{emptied_row, emptied_from}
-use Rattle.gas_pipe_members.specs.Inner.Steps.{emptied}
+use Rattle.gas_pipe_members.specs.Inner.Queue.{emptied}
 
 row_same : (row : RowModel) → row_of (length row) (λ x. get_or row x 0) ≡ row
 row_same row = sym (fill_by_all (λ x. get_or row x 0) row (length row) 0 refl (λ _ _. refl))

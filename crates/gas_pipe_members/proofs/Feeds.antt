@@ -1,12 +1,12 @@
 -- The steps of a feeder.
-use Rattle.std.proofs.Common.{◌≡◌, ℕ, ◌+◌, ◌*◌, ◌%◌, ◌≤◌, ◌<◌, List, [], ◌∷◌, ◌++◌, length, ap, ◌∙◌, sym, subst, refl, take, drop, arith, add-one, append_assoc, append-nil}
+use Rattle.std.proofs.Common.{◌≡◌, ℕ, ◌+◌, ◌*◌, ◌%◌, ◌≤◌, ◌<◌, List, [], ◌∷◌, ◌++◌, length, ap, ◌∙◌, sym, subst, refl, take, drop, arith, add-one, append_assoc}
 use Rattle.std.proofs.lemmas.List.{length-append, take_at, drop_at, take-append-le, take-append-drop, drop-drop}
 use Rattle.std.proofs.Math.Nat.{mod-add-mod, suc-mul}
 use Rattle.gas_geom.specs.Channel.{ChannelModel}
 use Rattle.gas_rows.specs.Row.{RowModel}
 use mathlib.Core.List.{IsPrefix}
 use Rattle.gas_pipe_members.specs.Feeder.{FeederModel, MayHaveFed, emptied_row}
-use Rattle.gas_pipe_members.specs.Inner.Steps.{emptied}
+use Rattle.gas_pipe_members.specs.Inner.Queue.{emptied}
 use Rattle.gas_pipe_members.proofs.Emptied.{emptied_from-append, drop-emptied}
 
 emptied-snoc : (c : ChannelModel) (xs : List RowModel) (row : RowModel) → emptied c (xs ++ row ∷ []) ≡ emptied c xs ++ emptied_row c (length xs % c.height) row ∷ []
@@ -17,11 +17,11 @@ emptied-snoc c xs row =
 -- the next row came back
 pub fed_take : (a b : FeederModel) (row : RowModel) → b.channel ≡ a.channel → b.rows ≡ a.rows ++ emptied_row a.channel a.next row ∷ [] →
     b.to_put ≡ a.to_put → b.to_take + 1 ≡ a.to_take → b.next ≡ (a.next + 1) % a.channel.height → b.stray ≡ a.stray → a.to_put < a.to_take →
-    (passes : ℕ) (rows gave took : List RowModel) → MayHaveFed a passes rows gave took → MayHaveFed b passes rows (gave ++ []) (took ++ row ∷ [])
+    (passes : ℕ) (rows gave took : List RowModel) → MayHaveFed a passes rows gave took → MayHaveFed b passes rows gave (took ++ row ∷ [])
 fed_take a b row channel items put take next stray some passes rows gave took h =
     let high : b.channel.height ≡ a.channel.height = ap (λ (c : ChannelModel). c.height) channel in
     let longer : length (took ++ row ∷ []) ≡ length took + 1 = length-append took (row ∷ []) in
-    subst (λ (g : List RowModel). MayHaveFed b passes rows g (took ++ row ∷ [])) (sym (append-nil gave)) (record {
+    record {
       no_stray = stray ∙ h.no_stray;
       queue =
           ap (λ (l : List RowModel). gave ++ l) items
@@ -39,13 +39,13 @@ fed_take a b row channel items put take next stray some passes rows gave took h 
       next =
           next ∙ ap (λ (k : ℕ). (k + 1) % a.channel.height) h.next ∙ mod-add-mod (length took) a.channel.height 1
           ∙ ap (λ (k : ℕ). k % a.channel.height) (sym longer) ∙ ap (λ (n : ℕ). length (took ++ row ∷ []) % n) (sym high);
-    })
+    }
 
 -- the next row was put
 pub fed_put : (a b : FeederModel) (row : RowModel) → a ≡ record b { rows = row ∷ b.rows; to_put = b.to_put + 1 } →
-    (passes : ℕ) (rows gave took : List RowModel) → MayHaveFed a passes rows gave took → MayHaveFed b passes rows (gave ++ row ∷ []) (took ++ [])
+    (passes : ℕ) (rows gave took : List RowModel) → MayHaveFed a passes rows gave took → MayHaveFed b passes rows (gave ++ row ∷ []) took
 fed_put a b row is passes rows gave took was =
-    subst (λ (t : List RowModel). MayHaveFed b passes rows (gave ++ row ∷ []) t) (sym (append-nil took)) (by (subst (λ (f : FeederModel). MayHaveFed f passes rows gave took) is was))
+    by (subst (λ (f : FeederModel). MayHaveFed f passes rows gave took) is was)
   where
     by : MayHaveFed (record b { rows = row ∷ b.rows; to_put = b.to_put + 1 }) passes rows gave took → MayHaveFed b passes rows (gave ++ row ∷ []) took
     by h = record {

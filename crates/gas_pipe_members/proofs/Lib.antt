@@ -1,5 +1,4 @@
 pub mod Workers
 pub mod Emptied
 pub mod Feeds
-pub mod Steps
 pub mod Queues

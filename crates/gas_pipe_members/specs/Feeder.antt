@@ -1,8 +1,10 @@
 -- A feeder: its rows, and what it has done since it began.
-use Rattle.std.specs.Prelude.{◌≡◌, ℕ, ◌+◌, ◌*◌, ◌%◌, ◌≤◌, ◌++◌, Bool, false, if◌then◌else◌, List, [], ◌∷◌, length, slice_index}
+use Rattle.std.specs.Prelude.{◌≡◌, ◌≢◌, ℕ, ◌+◌, ◌*◌, ◌%◌, ◌<◌, ◌≤◌, ◌++◌, Bool, true, false, if◌then◌else◌, List, [], ◌∷◌, length, slice_index}
 use Rattle.gas_geom.specs.Channel.{ChannelModel, is_solid}
 use Rattle.gas_geom.specs.Lattice.{row_of}
 use Rattle.gas_rows.specs.Row.{RowModel}
+use Rattle.gas_pipe_members.specs.declared.ends.Turned.{Turned}
+use Rattle.gas_pipe_members.specs.declared.ends.Turned.TheVariants.{Took, Put, Idle, Done, Stray}
 
 -- A feeder as its callers see it: its rows, the next to be put first; how many it is still to put and to take; and which row of a lattice
 -- comes next.
@@ -34,7 +36,21 @@ pub record MayHaveFed (f : FeederModel) (passes : ℕ) (rows gave took : List Ro
   pub behind : length took ≤ length gave
   pub next : f.next ≡ length took % f.channel.height
 
--- by a step from one state to another the feeder puts the rows `puts` and takes the rows `takes`, after all that it did before
-abbrev pub Feeds : FeederModel → List RowModel → List RowModel → FeederModel → Type 0
+-- by a step from one state to another the list of the rows that the feeder put becomes `puts` of it, and that of the rows taken `takes` of it
+abbrev pub Feeds : FeederModel → (List RowModel → List RowModel) → (List RowModel → List RowModel) → FeederModel → Type 0
 Feeds old puts takes new =
-    (passes : ℕ) (rows gave took : List RowModel) → MayHaveFed old passes rows gave took → MayHaveFed new passes rows (gave ++ puts) (took ++ takes)
+    (passes : ℕ) (rows gave took : List RowModel) → MayHaveFed old passes rows gave took → MayHaveFed new passes rows (puts gave) (takes took)
+
+-- What a turn did that leads from one state to another, and why it did no more. Of an end it knows which rows a step puts or takes, that no
+-- step was made, and that a try succeeds.
+abbrev pub FeederTurned : FeederModel → FeederModel → (RowModel → Type 0) → Type 0 → Type 0 → (RowModel → Type 0) → Type 0 → Type 0 → Turned → Type 0
+FeederTurned old new puts no_put can_put takes no_take can_take Put = (row : RowModel) × puts row × no_take × Feeds old (λ l. l ++ row ∷ []) (λ l. l) new
+FeederTurned old new puts no_put can_put takes no_take can_take Took =
+    (row : RowModel) × takes row × no_put × Feeds old (λ l. l) (λ l. l ++ row ∷ []) new × (old.to_put < old.to_take)
+    × (0 < old.to_put → 0 < length old.rows → can_put → ⊥)
+FeederTurned old new puts no_put can_put takes no_take can_take Idle =
+    no_take × no_put × (new ≡ old) × (0 < old.to_put → 0 < length old.rows → can_put → ⊥) × (old.to_put < old.to_take → can_take → ⊥)
+FeederTurned old new puts no_put can_put takes no_take can_take Done = no_take × no_put × (new ≡ old) × (old.to_take ≡ 0)
+FeederTurned old new puts no_put can_put takes no_take can_take Stray =
+    (new.stray ≡ true) × (old.stray ≡ true → no_take × no_put × (new ≡ old))
+    × (old.stray ≡ false → (row : RowModel) × takes row × no_put × (length row ≢ old.channel.width))

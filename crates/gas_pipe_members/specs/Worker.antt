@@ -1,9 +1,11 @@
 -- A worker: what it owes and what it has done in its open pass.
-use Rattle.std.specs.Prelude.{◌≡◌, ℕ, ◌<◌, ◌≤◌, ◌++◌, Bool, false, Option, None, List, length, IsSome}
+use Rattle.std.specs.Prelude.{◌≡◌, ◌≢◌, ℕ, ◌<◌, ◌≤◌, ◌++◌, ◌∷◌, [], Bool, true, false, Option, None, List, length, IsSome}
 use Rattle.std.specs.Option.{option_to_list}
 use Rattle.gas_geom.specs.Gas.{Rules}
 use Rattle.gas_stage.specs.Stage.{StageModel, MayHaveBeenFed, owed, given}
 use Rattle.gas_rows.specs.Row.{RowModel}
+use Rattle.gas_pipe_members.specs.declared.ends.Turned.{Turned}
+use Rattle.gas_pipe_members.specs.declared.ends.Turned.TheVariants.{Took, Put, Idle, Done, Stray}
 
 -- a worker as its callers see it: its stage, the row that it must put next, and whether a row of another width came
 pub record WorkerModel : Type 0 where
@@ -37,9 +39,9 @@ pub record MayHaveDone (gas : Rules) (w : WorkerModel) (e : Option ℕ) (took ga
   pub took_all : w.stage.pass ≡ None → length took ≡ w.stage.channel.height
   pub put_all : w.stage.pass ≡ None → gave ++ option_to_list w.waiting ≡ owes gas w e took
 
--- by a step from one state to another the worker takes the rows `takes` and puts the rows `puts`, after all that it did before
-abbrev pub Does : Rules → WorkerModel → List RowModel → List RowModel → WorkerModel → Type 0
-Does gas old takes puts new = (e : Option ℕ) (took gave : List RowModel) → MayHaveDone gas old e took gave → MayHaveDone gas new e (took ++ takes) (gave ++ puts)
+-- by a step from one state to another the list of the rows that the worker took becomes `takes` of it, and that of the rows put `puts` of it
+abbrev pub Does : Rules → WorkerModel → (List RowModel → List RowModel) → (List RowModel → List RowModel) → WorkerModel → Type 0
+Does gas old takes puts new = (e : Option ℕ) (took gave : List RowModel) → MayHaveDone gas old e took gave → MayHaveDone gas new e (takes took) (puts gave)
 
 -- all rows were taken, and all that is owed for them was put
 abbrev pub HasDoneAll : Rules → WorkerModel → Type 0
@@ -48,3 +50,17 @@ HasDoneAll gas w = (e : Option ℕ) (took gave : List RowModel) → MayHaveDone 
 -- rows are still to come, and all that is owed for those that were taken was put
 abbrev pub HasMoreToTake : Rules → WorkerModel → Type 0
 HasMoreToTake gas w = (e : Option ℕ) (took gave : List RowModel) → MayHaveDone gas w e took gave → (length took < w.stage.channel.height) × (gave ≡ owes gas w e took)
+
+-- What a turn did that leads from one state to another, and why it did no more. Of an end it knows which rows a step takes or puts, that no
+-- step was made, and that a try succeeds.
+abbrev pub WorkerTurned : Rules → WorkerModel → WorkerModel → (RowModel → Type 0) → Type 0 → Type 0 → (RowModel → Type 0) → Type 0 → Type 0 → Turned → Type 0
+WorkerTurned gas old new takes no_take can_take puts no_put can_put Took =
+    (row : RowModel) × takes row × no_put × Does gas old (λ l. l ++ row ∷ []) (λ l. l) new × HasMoreToTake gas old
+WorkerTurned gas old new takes no_take can_take puts no_put can_put Put = (row : RowModel) × puts row × no_take × Does gas old (λ l. l) (λ l. l ++ row ∷ []) new
+WorkerTurned gas old new takes no_take can_take puts no_put can_put Idle =
+    no_take × no_put × Does gas old (λ l. l) (λ l. l) new × ((e : Option ℕ) (took gave : List RowModel) → MayHaveDone gas old e took gave →
+    (length gave < length (owes gas old e took) → can_put → ⊥) × (gave ≡ owes gas old e took → can_take → ⊥))
+WorkerTurned gas old new takes no_take can_take puts no_put can_put Done = no_take × no_put × Does gas old (λ l. l) (λ l. l) new × IsClosed new × HasDoneAll gas old
+WorkerTurned gas old new takes no_take can_take puts no_put can_put Stray =
+    (new.stray ≡ true) × HasMoreToTake gas old × (old.stray ≡ true → no_take × no_put × (new ≡ old))
+    × (old.stray ≡ false → (row : RowModel) × takes row × no_put × (length row ≢ old.stage.channel.width))

@@ -1,5 +1,11 @@
 //! The two ends of a belt, and how spare rows go from one end to another.
-ghost use Rattle.std.specs.Prelude.{ℕ, List, OnOk, IfErr, IfSome, IfNone, OnErr, IsOk, IsSome, ◌≡◌};
+ghost use Rattle.std.specs.Prelude.{◌≡◌, ◌++◌, ◌∷◌, ℕ, List, [], length, refl, OnOk, IfErr, IfSome, IfNone, OnErr, IsOk, IsSome};
+ghost use Rattle.std.proofs.Common.{◌∙◌};
+
+use gas_belt::rx::Rx;
+use gas_belt::tx::Tx;
+use gas_geom::gas::Gas;
+use gas_rows::row::Row;
 
 /// An end that rows are put on.
 pub trait PutEnd<T> {
@@ -54,6 +60,50 @@ pub trait TakeEnd<T> {
 
     ghost takes_and_rests: { (a : Self) (row : T) (b c : Self) → takes a row b → rests b c →
         takes a row c };
+}
+
+// The ends of a belt between threads. Whether a try succeeds depends on the other thread, so neither
+// is known to be ready.
+impl<G: Gas> PutEnd<Row<G>> for Tx<G> {
+    ghost puts = { λ old row new. (new.belt ≡ old.belt) × (new.put ≡ old.put ++ row ∷ []) };
+
+    ghost rests = { λ old new. (new.belt ≡ old.belt) × (new.put ≡ old.put) };
+
+    ghost ready = { λ _. ⊥ };
+
+    ghost rests_alone = { λ _. (refl, refl) };
+
+    ghost puts_and_rests = { λ a row b c step rests. (rests.0 ∙ step.0, rests.1 ∙ step.1) };
+
+    fn try_put(&mut self, row: Row<G>) -> Result<(), Row<G>> {
+        Tx::try_gather(self, row)
+    }
+
+    fn spare(&mut self) -> Option<Row<G>> {
+        Tx::spare(self)
+    }
+}
+
+impl<G: Gas> TakeEnd<Row<G>> for Rx<G> {
+    ghost takes = { λ old row new. (new.belt ≡ old.belt) × (new.taken ≡ old.taken ++ row ∷ [])
+        × (length row ≡ old.belt.width) };
+
+    ghost rests = { λ old new. (new.belt ≡ old.belt) × (new.taken ≡ old.taken) };
+
+    ghost ready = { λ _. ⊥ };
+
+    ghost rests_alone = { λ _. (refl, refl) };
+
+    ghost takes_and_rests = { λ a row b c step rests. (rests.0 ∙ step.0, rests.1 ∙ step.1, step.2) };
+
+    #[inline(always)]
+    fn try_take(&mut self) -> Option<Row<G>> {
+        Rx::try_take(self)
+    }
+
+    fn give(&mut self, row: Row<G>) {
+        Rx::give(self, row);
+    }
 }
 
 /// What a turn of a member of the line did.

@@ -1,9 +1,9 @@
 //! The feeder of the line, over any two ends.
-ghost use Rattle.std.specs.Prelude.{◌≡◌, ◌≢◌, ◌<◌, ◌≤◌, ◌↔◌, ◌+◌, ◌*◌, ◌%◌, ◌++◌, ◌∷◌, ◌^◌, ℕ, [], List, IfOk, IsTrue, IsFalse, true, false, length, slice_index, drop};
+ghost use Rattle.std.specs.Prelude.{◌≡◌, ◌<◌, ◌≤◌, ◌↔◌, ◌+◌, ◌*◌, ◌%◌, ◌++◌, ◌∷◌, ◌^◌, ℕ, [], List, IfOk, IsTrue, IsFalse, true, false, length, slice_index, drop};
 ghost use Rattle.gas_geom.specs.Lattice.{IsLattice};
 ghost use Rattle.gas_rows.specs.Row.{RowModel};
 ghost use mathlib.Core.List.{IsPrefix};
-ghost use Rattle.gas_pipe_members.specs.Feeder.{FeederModel, MayHaveFed, Feeds, emptied_row, emptied_from};
+ghost use Rattle.gas_pipe_members.specs.Feeder.{FeederModel, MayHaveFed, FeederTurned, emptied_row, emptied_from};
 
 use crate::ends::{PutEnd, TakeEnd, Turned, give_spare, keep_spare};
 use gas_geom::gas::Gas;
@@ -191,34 +191,13 @@ impl<G: Gas> Feeder<G> {
         take: &mut T,
     ) -> Turned
         ensures channel { self.new.channel ≡ self.old.channel }
-        ensures put { result ≡ Turned.Put →
-            (row : RowModel) × P.puts put.old row put.new × T.rests take.old take.new
-            × Feeds self.old (row ∷ []) [] self.new }
-        ensures took { result ≡ Turned.Took →
-            (row : RowModel) × T.takes take.old row take.new × P.rests put.old put.new
-            × Feeds self.old [] (row ∷ []) self.new }
-        ensures took_when { result ≡ Turned.Took → self.old.to_put < self.old.to_take }
+        ensures turned { FeederTurned self.old self.new
+            (λ row. P.puts put.old row put.new) (P.rests put.old put.new) (P.ready put.old)
+            (λ row. T.takes take.old row take.new) (T.rests take.old take.new) (T.ready take.old) result }
         ensures never_ahead { result ≡ Turned.Took → (passes : ℕ) (rows gave took : List RowModel) →
             MayHaveFed self.old passes rows gave took → length took < length gave }
-        ensures took_after_put { result ≡ Turned.Took → 0 < self.old.to_put →
-            0 < length self.old.rows → P.ready put.old → ⊥ }
-        ensures idle { result ≡ Turned.Idle → T.rests take.old take.new × P.rests put.old put.new
-            × (self.new ≡ self.old) }
-        ensures idle_putting { result ≡ Turned.Idle → 0 < self.old.to_put →
-            0 < length self.old.rows → P.ready put.old → ⊥ }
-        ensures idle_taking { result ≡ Turned.Idle → self.old.to_put < self.old.to_take →
-            T.ready take.old → ⊥ }
-        ensures done { result ≡ Turned.Done → T.rests take.old take.new × P.rests put.old put.new
-            × (self.new ≡ self.old) }
-        ensures done_when { result ≡ Turned.Done → self.old.to_take ≡ 0 }
         ensures done_if { self.old.to_take ≡ 0 → result ≡ Turned.Done }
-        ensures stray { result ≡ Turned.Stray → self.new.stray ≡ true }
-        ensures stray_at { result ≡ Turned.Stray → self.old.stray ≡ false →
-            (row : RowModel) × T.takes take.old row take.new × P.rests put.old put.new
-            × (length row ≢ self.old.channel.width) }
-        ensures stray_ever { self.old.stray ≡ true →
-            (result ≡ Turned.Stray) × T.rests take.old take.new × P.rests put.old put.new
-            × (self.new ≡ self.old) }
+        ensures stray_ever { self.old.stray ≡ true → result ≡ Turned.Stray }
         ensures whole { self.new.to_take ≡ 0 → IsLattice G.rules self.new.channel self.new.rows }
     {
         if self.stray {

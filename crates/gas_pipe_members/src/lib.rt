@@ -2,11 +2,8 @@
 //! they follow, and belts with both ends on one thread.
 #![tactic(auto)]
 
-mod belt_ends;
 pub mod ends;
-pub mod error;
 pub mod feeder;
 pub mod plain_belt;
 pub mod plan;
-pub mod schedule;
 pub mod worker;

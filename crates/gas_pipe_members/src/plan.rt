@@ -1,10 +1,16 @@
 //! The plan of a run: the stages of its line, the capacity of a belt, and the generations to
-//! compute.
+//! compute. Also what a run of a plan is given, and why it may end without a result.
 
-ghost use Rattle.std.specs.Prelude.{◌≡◌, ◌≤◌, ◌<◌, ◌*◌, IfOk, IfErr, None, Some};
+ghost use Rattle.std.specs.Prelude.{◌≡◌, ◌≤◌, ◌<◌, ◌+◌, ◌*◌, ◌^◌, IfOk, IfErr, None, Some};
 ghost use Rattle.std.specs.Int.{div_ceil};
+ghost use Rattle.gas_pipe_model.specs.Pass.{computes_from};
 ghost use Rattle.gas_pipe_members.specs.Plan.{plan_refusal};
+ghost use Rattle.gas_pipe_members.specs.declared.plan.RunError.TheVariants.{Memory};
 
+use gas_geom::gas::Gas;
+use gas_rows::chirality::Chirality;
+use gas_rows::lattice::Lattice;
+use std::alloc::AllocError;
 use std::marker::Model;
 use thiserror::Error;
 
@@ -17,6 +23,23 @@ pub enum PlanError {
     Capacity,
     #[error("plan: generations must be 0 to 1000000")]
     Generations,
+}
+
+/// Why a plan was not carried out.
+#[derive(Debug, Drop, Error, PartialEq, Eq)]
+pub enum RunError {
+    #[error("memory refused")]
+    Memory = 1,
+    #[error("replay: the plan needs more than one pass")]
+    MorePasses = 2,
+}
+
+impl From<AllocError> for RunError {
+    ghost from_gives = { λ _ error. error ≡ Memory };
+
+    fn from(_error: AllocError) -> RunError {
+        RunError::Memory
+    }
 }
 
 /// The number of stages, 1 to 64, the capacity of a belt, 1 to 1024 rows, and the number of
@@ -116,4 +139,51 @@ impl Plan {
     {
         self.generations.div_ceil(u64::from(self.stages))
     }
+}
+
+/// A plan over a lattice of generation `first`.
+#[derive(Clone, Copy)]
+pub struct Schedule {
+    pub first: u64,
+    pub plan: Plan,
+    ghost room: { first + plan.generations < 2 ^ 64 },
+}
+
+impl Schedule {
+    /// The generation from which worker `who`, counted from 1, computes the step in a pass, counted
+    /// from 0. None if it hands rows on unchanged.
+    pub fn generation(&self, pass: u64, who: u32) -> Option<u64>
+        requires pass { pass * self.now.plan.stages < self.now.plan.generations }
+        requires some { 1 ≤ who }
+        requires one_of { who ≤ self.now.plan.stages }
+        ensures value { result ≡ computes_from self.now.first self.now.plan pass who }
+    {
+        let before = pass * u64::from(self.plan.stages()) + u64::from(who - 1);
+        if before < self.plan.generations() {
+            Some(self.first + before)
+        } else {
+            None
+        }
+    }
+}
+
+/// The input of a run: a lattice, its chirality, its generation, and the plan to carry out.
+#[derive(Drop)]
+pub struct RunInput<'a, G: Gas> {
+    pub lattice: &'a Lattice<G>,
+    pub chirality: Chirality,
+    pub schedule: Schedule,
+}
+
+impl<'a, G: Gas> Model for RunInput<'a, G> {
+    ghost use Rattle.gas_pipe_model.specs.Pass.{RunInputModel};
+
+    ghost Value = { RunInputModel };
+
+    ghost view = { λ input. record {
+      chirality = input.chirality;
+      first = input.schedule.first;
+      lattice = input.lattice.now;
+      plan = input.schedule.plan;
+    } };
 }

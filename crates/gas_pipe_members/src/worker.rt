@@ -1,10 +1,9 @@
 //! A worker of the line, over any two ends.
-ghost use Rattle.std.specs.Prelude.{◌≡◌, ◌≢◌, ◌<◌, ◌≤◌, ◌++◌, ◌∷◌, ℕ, [], List, Option, None, Some, IfOk, IfSome, IsNone, IsSome, true, false, length};
+ghost use Rattle.std.specs.Prelude.{◌≡◌, ◌<◌, ◌≤◌, ◌++◌, ◌∷◌, ℕ, [], List, Option, None, Some, IfOk, IfSome, IsNone, IsSome, IsTrue, IsFalse, true, false, length};
 ghost use Rattle.gas_geom.specs.Gas.{Rules};
 ghost use Rattle.gas_rows.specs.Row.{RowModel};
 ghost use mathlib.Core.List.{IsPrefix};
-ghost use Rattle.gas_pipe_members.specs.Worker.{WorkerModel, SameWorker, IsClosed, MayHaveDone, Does, owes, HasDoneAll, HasMoreToTake};
-ghost use Rattle.gas_pipe_members.specs.Inner.Steps.{AfterTake, AfterPut, AfterNone};
+ghost use Rattle.gas_pipe_members.specs.Worker.{WorkerModel, SameWorker, IsClosed, MayHaveDone, Does, WorkerTurned, owes, HasDoneAll, HasMoreToTake};
 
 use crate::ends::{PutEnd, TakeEnd, Turned, return_spare};
 use gas_geom::gas::Gas;
@@ -88,12 +87,13 @@ impl<'a, G: Gas> Worker<'a, G> {
         ensures same { SameWorker self.old self.new }
         ensures no_stray { self.new.stray ≡ false }
         ensures none_waits { self.new.waiting ≡ None }
-        ensures put { IfSome result (λ row. AfterPut G.rules self.old row self.new) }
+        ensures put { IfSome result (λ row.
+            Does G.rules self.old (λ l. l) (λ l. l ++ row ∷ []) self.new) }
         ensures waits { IfSome result (λ row.
-            AfterNone G.rules self.old (record self.new { waiting = Some row })) }
+            Does G.rules self.old (λ l. l) (λ l. l) (record self.new { waiting = Some row })) }
         ensures owing { IsSome result → (e : Option ℕ) (took gave : List RowModel) →
             MayHaveDone G.rules self.old e took gave → gave ≡ owes G.rules self.old e took → ⊥ }
-        ensures none { IsNone result → AfterNone G.rules self.old self.new }
+        ensures none { IsNone result → Does G.rules self.old (λ l. l) (λ l. l) self.new }
         ensures done_all { IsNone result → self.new.stage.pass ≡ None →
             HasDoneAll G.rules self.old }
         ensures more { IsNone result → IsSome self.new.stage.pass →
@@ -111,28 +111,27 @@ impl<'a, G: Gas> Worker<'a, G> {
     }
 
     // Tries to put a row. If it is handed back, it waits. The row of a put goes to the other end as
-    // a spare row.
+    // a spare row. Returns whether it was put.
     fn offer<T: TakeEnd<Row<G>>, P: PutEnd<Row<G>>>(
         &mut self,
         row: Row<G>,
         take: &mut T,
         put: &mut P,
-    ) -> Turned
+    ) -> bool
         requires none { self.old.waiting ≡ None }
         ensures take { T.rests take.old take.new }
-        ensures put_or_idle { result ≢ Turned.Put → result ≡ Turned.Idle }
-        ensures put { result ≡ Turned.Put → P.puts put.old row put.new × (self.new ≡ self.old) }
-        ensures idle { result ≡ Turned.Idle → P.rests put.old put.new × (P.ready put.old → ⊥)
+        ensures put { IsTrue result → P.puts put.old row put.new × (self.new ≡ self.old) }
+        ensures idle { IsFalse result → P.rests put.old put.new × (P.ready put.old → ⊥)
             × (self.new ≡ record self.old { waiting = Some row }) }
     {
         match put.try_put(row) {
             Ok(()) => {
                 return_spare(put, take);
-                Turned::Put
+                true
             }
             Err(row) => {
                 self.waiting = Some(row);
-                Turned::Idle
+                false
             }
         }
     }
@@ -146,7 +145,7 @@ impl<'a, G: Gas> Worker<'a, G> {
         requires wide { length row ≡ self.old.stage.channel.width }
         ensures same { SameWorker self.old self.new }
         ensures stray { self.new.stray ≡ self.old.stray }
-        ensures took { AfterTake G.rules self.old row self.new }
+        ensures took { Does G.rules self.old (λ l. l ++ row ∷ []) (λ l. l) self.new }
     {
         self.waiting = self.stage.feed(row);
     }
@@ -155,52 +154,28 @@ impl<'a, G: Gas> Worker<'a, G> {
     /// take. Returns Done if no pass is open, or if all rows of the pass were taken and put before.
     /// A taken row of another width than the channel's is dropped. Then this turn and all later
     /// ones return Stray.
-    #[tactic(auto, using(crate::proofs::Steps::does))]
     pub fn turn<T: TakeEnd<Row<G>>, P: PutEnd<Row<G>>>(
         &mut self,
         take: &mut T,
         put: &mut P,
     ) -> Turned
         ensures same { SameWorker self.old self.new }
-        ensures took { result ≡ Turned.Took →
-            (row : RowModel) × T.takes take.old row take.new × P.rests put.old put.new
-            × Does G.rules self.old (row ∷ []) [] self.new }
-        ensures took_when { result ≡ Turned.Took → HasMoreToTake G.rules self.old }
-        ensures put { result ≡ Turned.Put →
-            (row : RowModel) × P.puts put.old row put.new × T.rests take.old take.new
-            × Does G.rules self.old [] (row ∷ []) self.new }
-        ensures idle { result ≡ Turned.Idle →
-            T.rests take.old take.new × P.rests put.old put.new
-            × Does G.rules self.old [] [] self.new }
-        ensures idle_owing { result ≡ Turned.Idle → (e : Option ℕ) (took gave : List RowModel) →
-            MayHaveDone G.rules self.old e took gave →
-            length gave < length (owes G.rules self.old e took) → P.ready put.old → ⊥ }
-        ensures idle_taking { result ≡ Turned.Idle → (e : Option ℕ) (took gave : List RowModel) →
-            MayHaveDone G.rules self.old e took gave → gave ≡ owes G.rules self.old e took →
-            T.ready take.old → ⊥ }
-        ensures done { result ≡ Turned.Done →
-            T.rests take.old take.new × P.rests put.old put.new
-            × Does G.rules self.old [] [] self.new × IsClosed self.new }
-        ensures done_when { result ≡ Turned.Done → HasDoneAll G.rules self.old }
+        ensures turned { WorkerTurned G.rules self.old self.new
+            (λ row. T.takes take.old row take.new) (T.rests take.old take.new) (T.ready take.old)
+            (λ row. P.puts put.old row put.new) (P.rests put.old put.new) (P.ready put.old) result }
         ensures done_if_closed { IsClosed self.old → result ≡ Turned.Done }
         ensures done_if_all { (e : Option ℕ) (took gave : List RowModel) →
             MayHaveDone G.rules self.old e took gave →
             length took ≡ self.old.stage.channel.height → gave ≡ owes G.rules self.old e took →
             result ≡ Turned.Done }
-        ensures stray { result ≡ Turned.Stray → self.new.stray ≡ true }
-        ensures stray_at { result ≡ Turned.Stray → self.old.stray ≡ false →
-            (row : RowModel) × T.takes take.old row take.new × P.rests put.old put.new
-            × (length row ≢ self.old.stage.channel.width) }
-        ensures stray_when { result ≡ Turned.Stray → HasMoreToTake G.rules self.old }
-        ensures stray_ever { self.old.stray ≡ true →
-            (result ≡ Turned.Stray) × T.rests take.old take.new × P.rests put.old put.new
-            × (self.new ≡ self.old) }
+        ensures stray_ever { self.old.stray ≡ true → result ≡ Turned.Stray }
     {
         if self.stray {
             return Turned::Stray;
         }
         if let Some(row) = self.next_row() {
-            return self.offer(row, take, put);
+            let is_put = self.offer(row, take, put);
+            return if is_put { Turned::Put } else { Turned::Idle };
         }
         if !self.stage.is_open() {
             return Turned::Done;

@@ -1,5 +1,5 @@
 -- A turn of the feeder brings a line to where the same turn brings its histories.
-use Rattle.std.proofs.Common.{◌≡◌, ◌≢◌, ℕ, zero, suc, ◌+◌, ◌≤◌, ◌<◌, inl, inr, true, false, List, [], ◌∷◌, ◌++◌, length, set, refl, ap, sym, ◌∙◌, subst, arith, length-append, append_assoc, length-set, append-nil}
+use Rattle.std.proofs.Common.{◌≡◌, ℕ, zero, suc, ◌+◌, ◌≤◌, ◌<◌, inl, inr, true, false, List, [], ◌∷◌, ◌++◌, length, set, refl, ap, sym, ◌∙◌, subst, arith, length-append, append_assoc, length-set}
 use Rattle.std.proofs.lemmas.Bool.{cases_lt, le-ltb}
 use Rattle.gas_geom.specs.Gas.{Rules, IsGas}
 use Rattle.gas_rows.specs.Row.{RowModel}
@@ -8,8 +8,8 @@ use Rattle.gas_pipe_model.specs.Inner.Line.{after_put, after_take, IsLine}
 use Rattle.gas_pipe_model.specs.Pass.{RunInputModel, line_of, rows_on}
 use Rattle.gas_pipe_members.specs.Belt.{BeltModel}
 use Rattle.gas_pipe_members.specs.Worker.{WorkerModel}
-use Rattle.gas_pipe_members.specs.Feeder.{FeederModel, MayHaveFed, Feeds}
-use Rattle.gas_pipe_members.specs.Inner.Steps.{emptied}
+use Rattle.gas_pipe_members.specs.Feeder.{FeederModel, MayHaveFed, FeederTurned}
+use Rattle.gas_pipe_members.specs.Inner.Queue.{emptied}
 use Rattle.gas_pipe_replay.specs.Inner.LocalLine.{belt, Shows}
 use Rattle.gas_pipe_members.specs.declared.ends.Turned.{Turned}
 use Rattle.gas_pipe_members.specs.declared.ends.Turned.TheVariants.{Took, Put, Idle, Done, Stray}
@@ -22,18 +22,10 @@ use Rattle.gas_pipe_model.proofs.Opens.{put_shut, put_opened, take_opened, take_
 use Rattle.gas_pipe_model.proofs.Wide.{under_way_is_wide}
 
 -- what a feeder's turn between two belts of one thread did
-pub record FeederTurned (r : Turned) (f v : FeederModel) (to to2 from from2 : BeltModel) : Type 0 where
-  pub channel : v.channel ≡ f.channel
-  pub gave : r ≡ Put → (row : RowModel) × ((length to.rows < to.capacity) × (to2 ≡ record to { rows = to.rows ++ row ∷ [] })) × (from2 ≡ from) × Feeds f (row ∷ []) [] v
-  pub took : r ≡ Took → (row : RowModel) × (from ≡ record from2 { rows = row ∷ from2.rows }) × (to2 ≡ to) × Feeds f [] (row ∷ []) v
-  pub took_when : r ≡ Took → f.to_put < f.to_take
-  pub took_after_put : r ≡ Took → 0 < f.to_put → 0 < length f.rows → length to.rows < to.capacity → ⊥
-  pub idle : r ≡ Idle → (from2 ≡ from) × (to2 ≡ to) × (v ≡ f)
-  pub idle_putting : r ≡ Idle → 0 < f.to_put → 0 < length f.rows → length to.rows < to.capacity → ⊥
-  pub idle_taking : r ≡ Idle → f.to_put < f.to_take → 0 < length from.rows → ⊥
-  pub done : r ≡ Done → (from2 ≡ from) × (to2 ≡ to) × (v ≡ f)
-  pub done_when : r ≡ Done → f.to_take ≡ 0
-  pub stray_at : r ≡ Stray → f.stray ≡ false → (row : RowModel) × (from ≡ record from2 { rows = row ∷ from2.rows }) × (to2 ≡ to) × (length row ≢ f.channel.width)
+abbrev pub TurnedBetween : FeederModel → FeederModel → BeltModel → BeltModel → BeltModel → BeltModel → Turned → Type 0
+TurnedBetween f v to to2 from from2 r = FeederTurned f v
+    (λ row. (length to.rows < to.capacity) × (to2 ≡ record to { rows = to.rows ++ row ∷ [] })) (to2 ≡ to) (length to.rows < to.capacity)
+    (λ row. from ≡ record from2 { rows = row ∷ from2.rows }) (from2 ≡ from) (0 < length from.rows) r
 
 -- no belt has more rows put on it than the first
 put_below : (l : Line) → IsLine l → (s : State) → Fits l s → (k : ℕ) → k ≤ l.workers → length (s.put k) ≤ length (s.put 0)
@@ -115,42 +107,6 @@ module _ (gas : Rules) (input : RunInputModel) (f v : FeederModel) (ws : List Wo
         | inr no_room ↦ omega (arith, no_room, length_to, cap_to)
       ])
 
-  gave_step : (row : RowModel) → q ≡ record (belt bs 0) { rows = (belt bs 0).rows ++ row ∷ [] } → length (belt bs 0).rows < (belt bs 0).capacity → t ≡ belt bs last →
-      v.channel ≡ f.channel → MayHaveFed v 1 (rows_on gas input 0 0) (s.put 0 ++ row ∷ []) (s.taken last) → Shown
-  gave_step row put room same same_channel fed =
-      let pre = one_pass_prefix v (rows_on gas input 0 0) (s.put 0 ++ row ∷ []) (s.taken last) fed (high ∙ ap (λ c. c.height) (sym same_channel)) in
-      let comes : s.put 0 ++ row ∷ pre.0 ≡ (rows_on gas input 0 0) = sym (append_assoc (s.put 0) (row ∷ []) pre.0) ∙ pre.1 in
-      let low = sh.some in
-      let opens : put_open line s 0 ≡ true = put_opened line s 0 (longer (s.put 0) row pre.0 (rows_on gas input 0 0) comes) (omega (arith, length_to, cap_to, room)) in
-      let e : turn line s 0 ≡ after_put line s 0 = (turn_put line s 0 (le-ltb last 0 (omega arith)) opens).1 in
-      let now : grown s.put 0 (rows_on gas input 0 0) 0 ≡ s.put 0 ++ row ∷ [] = grown_by s.put 0 row pre.0 (rows_on gas input 0 0) comes in
-      let behind : grown s.put 0 (rows_on gas input 0 0) last ≡ s.put last = grown_other s.put 0 (rows_on gas input 0 0) last (λ z. absurd (omega arith)) in
-      let rows : q.rows ≡ (belt bs 0).rows ++ row ∷ [] = ap (λ (b : BeltModel). b.rows) put in
-      subst (λ u. Shows gas input v ws (set (set bs 0 q) last t) u) (sym e)
-      (shows_feeder (after_put line s 0) (λ j ne. grown_other s.put 0 (rows_on gas input 0 0) j ne) (λ j ne. refl) same_channel
-      (rw now fed)
-      (rw (now, rows) (sym (append_assoc (s.taken 0) (belt bs 0).rows (row ∷ [])) ∙ ap (λ u. u ++ row ∷ []) holds_to))
-      (rw (behind, same) holds_from)
-      (ap (λ (b : BeltModel). b.capacity) put ∙ cap_to)
-      (ap (λ (b : BeltModel). b.capacity) same ∙ cap_from))
-
-  took_step : (row : RowModel) → belt bs last ≡ record t { rows = row ∷ t.rows } → q ≡ belt bs 0 → v.channel ≡ f.channel →
-      MayHaveFed v 1 (rows_on gas input 0 0) (s.put 0) (s.taken last ++ row ∷ []) → (0 < f.to_put → 0 < length f.rows → length (belt bs 0).rows < (belt bs 0).capacity → ⊥) → Shown
-  took_step row taken same same_channel fed full =
-      let holds_t : s.taken last ++ row ∷ t.rows ≡ s.put last = rw (ap (λ (b : BeltModel). b.rows) taken) at holds_from in
-      let low = sh.some in
-      let opens : take_open line s last ≡ true = take_opened line s last (longer (s.taken last) row t.rows (s.put last) holds_t) (inl refl) in
-      let e : turn line s 0 ≡ after_take s last = (turn_take line s 0 (le-ltb last 0 (omega arith)) (shut_put full) opens).1 in
-      let now : grown s.taken last (s.put last) last ≡ s.taken last ++ row ∷ [] = grown_by s.taken last row t.rows (s.put last) holds_t in
-      let first : grown s.taken last (s.put last) 0 ≡ s.taken 0 = grown_other s.taken last (s.put last) 0 (λ z. absurd (omega arith)) in
-      subst (λ u. Shows gas input v ws (set (set bs 0 q) last t) u) (sym e)
-      (shows_feeder (after_take s last) (λ j ne. refl) (λ j ne. grown_other s.taken last (s.put last) j ne) same_channel
-      (rw now fed)
-      (rw (first, same) holds_to)
-      (rw now (append_assoc (s.taken last) (row ∷ []) t.rows ∙ holds_t))
-      (ap (λ (b : BeltModel). b.capacity) same ∙ cap_to)
-      (sym (ap (λ (b : BeltModel). b.capacity) taken) ∙ cap_from))
-
   still_step : t ≡ belt bs last → q ≡ belt bs 0 → v ≡ f → (0 < f.to_put → 0 < length f.rows → length (belt bs 0).rows < (belt bs 0).capacity → ⊥) →
       (length (s.taken last) < length (s.put last) → ⊥) → Shown
   still_step same_t same_q same full none =
@@ -164,41 +120,55 @@ module _ (gas : Rules) (input : RunInputModel) (f v : FeederModel) (ws : List Wo
       (ap (λ (b : BeltModel). b.capacity) same_q ∙ cap_to)
       (ap (λ (b : BeltModel). b.capacity) same_t ∙ cap_from))
 
-  idle_step : t ≡ belt bs last → q ≡ belt bs 0 → v ≡ f → (0 < f.to_put → 0 < length f.rows → length (belt bs 0).rows < (belt bs 0).capacity → ⊥) →
-      (f.to_put < f.to_take → 0 < length (belt bs last).rows → ⊥) → Shown
-  idle_step same_t same_q same full none =
+  feeder_step : (r : Turned) → v.channel ≡ f.channel → TurnedBetween f v (belt bs 0) q (belt bs last) t r → Shown
+  feeder_step Took same c =
+      let row : RowModel = c.0 in
+      let holds_t : s.taken last ++ row ∷ t.rows ≡ s.put last = rw (ap (λ (b : BeltModel). b.rows) c.1) at holds_from in
+      let low = sh.some in
+      let opens : take_open line s last ≡ true = take_opened line s last (longer (s.taken last) row t.rows (s.put last) holds_t) (inl refl) in
+      let e : turn line s 0 ≡ after_take s last = (turn_take line s 0 (le-ltb last 0 (omega arith)) (shut_put c.5) opens).1 in
+      let now : grown s.taken last (s.put last) last ≡ s.taken last ++ row ∷ [] = grown_by s.taken last row t.rows (s.put last) holds_t in
+      let first : grown s.taken last (s.put last) 0 ≡ s.taken 0 = grown_other s.taken last (s.put last) 0 (λ z. absurd (omega arith)) in
+      subst (λ u. Shows gas input v ws (set (set bs 0 q) last t) u) (sym e)
+      (shows_feeder (after_take s last) (λ j ne. refl) (λ j ne. grown_other s.taken last (s.put last) j ne) same
+      (rw now (c.3 1 (rows_on gas input 0 0) (s.put 0) (s.taken last) sh.fed))
+      (rw (first, c.2) holds_to)
+      (rw now (append_assoc (s.taken last) (row ∷ []) t.rows ∙ holds_t))
+      (ap (λ (b : BeltModel). b.capacity) c.2 ∙ cap_to)
+      (sym (ap (λ (b : BeltModel). b.capacity) c.1) ∙ cap_from))
+  feeder_step Put same c =
+      let row : RowModel = c.0 in
+      let fed : MayHaveFed v 1 (rows_on gas input 0 0) (s.put 0 ++ row ∷ []) (s.taken last) = c.3 1 (rows_on gas input 0 0) (s.put 0) (s.taken last) sh.fed in
+      let pre = one_pass_prefix v (rows_on gas input 0 0) (s.put 0 ++ row ∷ []) (s.taken last) fed (high ∙ ap (λ c. c.height) (sym same)) in
+      let comes : s.put 0 ++ row ∷ pre.0 ≡ (rows_on gas input 0 0) = sym (append_assoc (s.put 0) (row ∷ []) pre.0) ∙ pre.1 in
+      let low = sh.some in
+      let room : length (belt bs 0).rows < (belt bs 0).capacity = c.1.0 in
+      let opens : put_open line s 0 ≡ true = put_opened line s 0 (longer (s.put 0) row pre.0 (rows_on gas input 0 0) comes) (omega (arith, length_to, cap_to, room)) in
+      let e : turn line s 0 ≡ after_put line s 0 = (turn_put line s 0 (le-ltb last 0 (omega arith)) opens).1 in
+      let now : grown s.put 0 (rows_on gas input 0 0) 0 ≡ s.put 0 ++ row ∷ [] = grown_by s.put 0 row pre.0 (rows_on gas input 0 0) comes in
+      let behind : grown s.put 0 (rows_on gas input 0 0) last ≡ s.put last = grown_other s.put 0 (rows_on gas input 0 0) last (λ z. absurd (omega arith)) in
+      let rows : q.rows ≡ (belt bs 0).rows ++ row ∷ [] = ap (λ (b : BeltModel). b.rows) c.1.1 in
+      subst (λ u. Shows gas input v ws (set (set bs 0 q) last t) u) (sym e)
+      (shows_feeder (after_put line s 0) (λ j ne. grown_other s.put 0 (rows_on gas input 0 0) j ne) (λ j ne. refl) same
+      (rw now fed)
+      (rw (now, rows) (sym (append_assoc (s.taken 0) (belt bs 0).rows (row ∷ [])) ∙ ap (λ u. u ++ row ∷ []) holds_to))
+      (rw (behind, c.2) holds_from)
+      (ap (λ (b : BeltModel). b.capacity) c.1.1 ∙ cap_to)
+      (ap (λ (b : BeltModel). b.capacity) c.2 ∙ cap_from))
+  feeder_step Idle same c =
       let below = put_below line is_line s fits last (omega arith) in
       let fed = sh.fed in
-      still_step same_t same_q same full (λ more. none (omega (arith, more, below, fed.puts, fed.takes)) (omega (arith, more, length_from)))
-
-  done_step : t ≡ belt bs last → q ≡ belt bs 0 → v ≡ f → f.to_take ≡ 0 → Shown
-  done_step same_t same_q same closed =
+      still_step c.0 c.1 c.2 c.3 (λ more. c.4 (omega (arith, more, below, fed.puts, fed.takes)) (omega (arith, more, length_from)))
+  feeder_step Done same c =
       let few = put_short line is_line s fits last (omega arith) in
       let fed = sh.fed in
-      still_step same_t same_q same (λ left held room. (absurd (omega (arith, left, closed, fed.puts, fed.takes, fed.behind))))
+      let closed : f.to_take ≡ 0 = c.3 in
+      still_step c.0 c.1 c.2 (λ left held room. (absurd (omega (arith, left, closed, fed.puts, fed.takes, fed.behind))))
       (λ more. absurd (omega (arith, more, few, closed, fed.takes, high)))
+  feeder_step Stray same c =
+      let came = c.2 sh.fed.no_stray in
+      let holds_t : s.taken last ++ came.0 ∷ t.rows ≡ s.put last = rw (ap (λ (b : BeltModel). b.rows) came.1) at holds_from in
+      absurd (came.3 (under_way_is_wide gas input laws sh.is_input 0 s fits last (omega arith) came.0 t.rows holds_t ∙ sym (ap (λ c. c.width) sh.channel)))
 
-  stray_step : (row : RowModel) → belt bs last ≡ record t { rows = row ∷ t.rows } → length row ≢ f.channel.width → ⊥
-  stray_step row taken ne =
-      let holds_t : s.taken last ++ row ∷ t.rows ≡ s.put last = rw (ap (λ (b : BeltModel). b.rows) taken) at holds_from in
-      ne (under_way_is_wide gas input laws sh.is_input 0 s fits last (omega arith) row t.rows holds_t ∙ sym (ap (λ c. c.width) sh.channel))
-
-  feeder_step : (r : Turned) → FeederTurned r f v (belt bs 0) q (belt bs last) t → Shown
-  feeder_step Took h =
-      let c = h.took refl in
-      took_step c.0 c.1 c.2 h.channel (rw (append-nil (s.put 0)) at (c.3 1 (rows_on gas input 0 0) (s.put 0) (s.taken last) sh.fed)) (h.took_after_put refl)
-  feeder_step Put h =
-      let c = h.gave refl in
-      gave_step c.0 c.1.1 c.1.0 c.2 h.channel (rw (append-nil (s.taken last)) at (c.3 1 (rows_on gas input 0 0) (s.put 0) (s.taken last) sh.fed))
-  feeder_step Idle h =
-      let c = h.idle refl in
-      idle_step c.0 c.1 c.2 (h.idle_putting refl) (h.idle_taking refl)
-  feeder_step Done h =
-      let c = h.done refl in
-      done_step c.0 c.1 c.2 (h.done_when refl)
-  feeder_step Stray h =
-      let c = h.stray_at refl sh.fed.no_stray in
-      absurd (stray_step c.0 c.1 c.3)
-
-  pub feeder_step_at : (r : Turned) (x y : BeltModel) → x ≡ belt bs 0 → y ≡ belt bs last → FeederTurned r f v x q y t → Shown
-  feeder_step_at r x y ex ey h = feeder_step r (rw (← ex, ← ey) h)
+  pub feeder_step_at : (r : Turned) (x y : BeltModel) → x ≡ belt bs 0 → y ≡ belt bs last → v.channel ≡ f.channel → TurnedBetween f v x q y t r → Shown
+  feeder_step_at r x y ex ey same c = feeder_step r same (rw (← ex, ← ey) c)

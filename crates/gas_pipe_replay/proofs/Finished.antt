@@ -14,7 +14,7 @@ use Rattle.gas_pipe_model.specs.Pass.{RunInputModel, line_of, after, rows_on}
 use Rattle.gas_pipe_members.specs.Belt.{BeltModel}
 use Rattle.gas_pipe_members.specs.Worker.{WorkerModel}
 use Rattle.gas_pipe_members.specs.Feeder.{FeederModel}
-use Rattle.gas_pipe_members.specs.Inner.Steps.{emptied}
+use Rattle.gas_pipe_members.specs.Inner.Queue.{emptied}
 use Rattle.gas_pipe_replay.specs.Replay.{ReplayModel, counts_of, replay_of}
 use Rattle.gas_pipe_replay.specs.declared.answer.Counts.{Counts}
 use Rattle.gas_pipe_replay.specs.Inner.LocalLine.{Shows}

@@ -1,5 +1,5 @@
 -- A turn of a worker brings a line to where the same turn brings its histories.
-use Rattle.std.proofs.Common.{◌≡◌, ◌≢◌, ℕ, suc, ◌+◌, ◌≤◌, ◌<◌, inl, inr, true, false, List, [], ◌∷◌, ◌++◌, length, get_or, set, refl, ap, sym, ◌∙◌, subst, arith, length-append, append_assoc, length-set, Option, append-nil}
+use Rattle.std.proofs.Common.{◌≡◌, ℕ, suc, ◌+◌, ◌≤◌, ◌<◌, inl, inr, true, false, List, [], ◌∷◌, ◌++◌, length, get_or, set, refl, ap, sym, ◌∙◌, subst, arith, length-append, append_assoc, length-set, Option}
 use Rattle.std.proofs.lemmas.Bool.{cases_lt, le-ltb}
 use Rattle.gas_geom.specs.Gas.{Rules, IsGas}
 use Rattle.gas_stage.specs.Stage.{owed as stage_owes}
@@ -8,7 +8,7 @@ use Rattle.gas_pipe_model.specs.Line.{Line, State, owed_on, grown, put_open, tak
 use Rattle.gas_pipe_model.specs.Inner.Line.{after_put, after_take, IsLine}
 use Rattle.gas_pipe_model.specs.Pass.{RunInputModel, computes_from, line_of, rows_on}
 use Rattle.gas_pipe_members.specs.Belt.{BeltModel}
-use Rattle.gas_pipe_members.specs.Worker.{WorkerModel, IsClosed, MayHaveDone, Does, owes, HasDoneAll, HasMoreToTake}
+use Rattle.gas_pipe_members.specs.Worker.{WorkerModel, SameWorker, MayHaveDone, WorkerTurned, owes}
 use Rattle.gas_pipe_members.specs.Feeder.{FeederModel}
 use Rattle.gas_pipe_replay.specs.Inner.LocalLine.{belt, IsAt, Shows}
 use Rattle.gas_pipe_members.specs.declared.ends.Turned.{Turned}
@@ -22,18 +22,10 @@ use Rattle.gas_pipe_model.proofs.Opens.{put_shut, put_opened, take_opened, take_
 use Rattle.gas_pipe_model.proofs.Wide.{under_way_is_wide}
 
 -- what a worker's turn between two belts of one thread did
-pub record WorkerTurned (gas : Rules) (r : Turned) (w v : WorkerModel) (from from2 to to2 : BeltModel) : Type 0 where
-  pub channel : v.stage.channel ≡ w.stage.channel
-  pub chirality : v.stage.chirality ≡ w.stage.chirality
-  pub took : r ≡ Took → (row : RowModel) × (from ≡ record from2 { rows = row ∷ from2.rows }) × (to2 ≡ to) × Does gas w (row ∷ []) [] v
-  pub took_when : r ≡ Took → HasMoreToTake gas w
-  pub gave : r ≡ Put → (row : RowModel) × ((length to.rows < to.capacity) × (to2 ≡ record to { rows = to.rows ++ row ∷ [] })) × (from2 ≡ from) × Does gas w [] (row ∷ []) v
-  pub idle : r ≡ Idle → (from2 ≡ from) × (to2 ≡ to) × Does gas w [] [] v
-  pub idle_owing : r ≡ Idle → (e : Option ℕ) (took gave : List RowModel) → MayHaveDone gas w e took gave → length gave < length (owes gas w e took) → length to.rows < to.capacity → ⊥
-  pub idle_taking : r ≡ Idle → (e : Option ℕ) (took gave : List RowModel) → MayHaveDone gas w e took gave → gave ≡ owes gas w e took → 0 < length from.rows → ⊥
-  pub done : r ≡ Done → (from2 ≡ from) × (to2 ≡ to) × Does gas w [] [] v × IsClosed v
-  pub done_when : r ≡ Done → HasDoneAll gas w
-  pub stray_at : r ≡ Stray → w.stray ≡ false → (row : RowModel) × (from ≡ record from2 { rows = row ∷ from2.rows }) × (to2 ≡ to) × (length row ≢ w.stage.channel.width)
+abbrev pub TurnedBetween : Rules → WorkerModel → WorkerModel → BeltModel → BeltModel → BeltModel → BeltModel → Turned → Type 0
+TurnedBetween gas w v from from2 to to2 r = WorkerTurned gas w v
+    (λ row. from ≡ record from2 { rows = row ∷ from2.rows }) (from2 ≡ from) (0 < length from.rows)
+    (λ row. (length to.rows < to.capacity) × (to2 ≡ record to { rows = to.rows ++ row ∷ [] })) (to2 ≡ to) (length to.rows < to.capacity) r
 
 module _ (gas : Rules) (input : RunInputModel) (f : FeederModel) (ws : List WorkerModel) (bs : List BeltModel) (s : State) (k : ℕ) (w v : WorkerModel) (t q : BeltModel)
     (laws : IsGas gas) (fits : Fits (line_of gas input 0) s) (in_line : k < input.plan.stages) (sh : Shows gas input f ws bs s) (is : (d : WorkerModel) → get_or ws k d ≡ w) where
@@ -107,111 +99,80 @@ module _ (gas : Rules) (input : RunInputModel) (f : FeederModel) (ws : List Work
   abbrev Shown : Type 0
   Shown = Shows gas input f (set ws k v) (set (set bs k t) (suc k) q) (turn line s (suc k))
 
-  took_step : (row : RowModel) → belt bs k ≡ record t { rows = row ∷ t.rows } → q ≡ belt bs (suc k) →
-      v.stage.channel ≡ w.stage.channel → v.stage.chirality ≡ w.stage.chirality →
-      MayHaveDone gas v from (s.taken k ++ row ∷ []) (s.put (suc k)) → s.put (suc k) ≡ owes gas w from (s.taken k) → Shown
-  took_step row taken same same_channel same_chirality done all =
-      let holds_k : s.taken k ++ row ∷ t.rows ≡ s.put k = rw (ap (λ (b : BeltModel). b.rows) taken) at holds_from in
-      let n : length (s.put (suc k)) ≡ length (owed_on line s (suc k)) = ap length (all ∙ owes_this) in
+  still_step : SameWorker w v → t ≡ belt bs k → q ≡ belt bs (suc k) → MayHaveDone gas v from (s.taken k) (s.put (suc k)) →
+      put_open line s (suc k) ≡ false → take_open line s k ≡ false → Shown
+  still_step same same_t same_q done shut no_take =
+      let e : turn line s (suc k) ≡ s = (turn_idle line s (suc k) (le-ltb input.plan.stages (suc k) (omega arith)) shut no_take).1 in
+      subst (λ u. Shows gas input f (set ws k v) (set (set bs k t) (suc k) q) u) (sym e)
+      (shows_worker s (λ j ne. refl) (λ j ne. refl) same.channel same.chirality done
+      (rw same_t holds_from)
+      (rw same_q holds_to)
+      (ap (λ (b : BeltModel). b.capacity) same_t ∙ cap_from)
+      (ap (λ (b : BeltModel). b.capacity) same_q ∙ cap_to))
+
+  worker_step : (r : Turned) → SameWorker w v → TurnedBetween gas w v (belt bs k) t (belt bs (suc k)) q r → Shown
+  worker_step Took same c =
+      let row : RowModel = c.0 in
+      let holds_k : s.taken k ++ row ∷ t.rows ≡ s.put k = rw (ap (λ (b : BeltModel). b.rows) c.1) at holds_from in
+      let n : length (s.put (suc k)) ≡ length (owed_on line s (suc k)) = ap length ((c.4 from (s.taken k) (s.put (suc k)) was.done).1 ∙ owes_this) in
       let shut : put_open line s (suc k) ≡ false = put_shut line s (suc k) (λ more. absurd (omega arith)) in
       let opens : take_open line s k ≡ true = take_opened line s k (longer (s.taken k) row t.rows (s.put k) holds_k) (inr n) in
       let e : turn line s (suc k) ≡ after_take s k = (turn_take line s (suc k) (le-ltb input.plan.stages (suc k) (omega arith)) shut opens).1 in
       let now : grown s.taken k (s.put k) k ≡ s.taken k ++ row ∷ [] = grown_by s.taken k row t.rows (s.put k) holds_k in
       let above : grown s.taken k (s.put k) (suc k) ≡ s.taken (suc k) = grown_other s.taken k (s.put k) (suc k) (λ z. absurd (omega arith)) in
       subst (λ u. Shows gas input f (set ws k v) (set (set bs k t) (suc k) q) u) (sym e)
-      (shows_worker (after_take s k) (λ j ne. refl) (λ j ne. grown_other s.taken k (s.put k) j ne) same_channel same_chirality
-      (rw now done)
+      (shows_worker (after_take s k) (λ j ne. refl) (λ j ne. grown_other s.taken k (s.put k) j ne) same.channel same.chirality
+      (rw now (c.3 from (s.taken k) (s.put (suc k)) was.done))
       (rw now (append_assoc (s.taken k) (row ∷ []) t.rows ∙ holds_k))
-      (rw (above, same) holds_to)
-      (sym (ap (λ (b : BeltModel). b.capacity) taken) ∙ cap_from)
-      (ap (λ (b : BeltModel). b.capacity) same ∙ cap_to))
-
-  gave_step : (row : RowModel) → q ≡ record (belt bs (suc k)) { rows = (belt bs (suc k)).rows ++ row ∷ [] } →
-      length (belt bs (suc k)).rows < (belt bs (suc k)).capacity → t ≡ belt bs k →
-      v.stage.channel ≡ w.stage.channel → v.stage.chirality ≡ w.stage.chirality →
-      MayHaveDone gas v from (s.taken k) (s.put (suc k) ++ row ∷ []) → Shown
-  gave_step row put room same same_channel same_chirality done =
+      (rw (above, c.2) holds_to)
+      (sym (ap (λ (b : BeltModel). b.capacity) c.1) ∙ cap_from)
+      (ap (λ (b : BeltModel). b.capacity) c.2 ∙ cap_to))
+  worker_step Put same c =
+      let row : RowModel = c.0 in
+      let done : MayHaveDone gas v from (s.taken k) (s.put (suc k) ++ row ∷ []) = c.3 from (s.taken k) (s.put (suc k)) was.done in
       let pre = done_prefix gas v from (s.taken k) (s.put (suc k) ++ row ∷ []) done in
       let owed_is : owes gas v from (s.taken k) ≡ owed_on line s (suc k) =
-      owes_line v (same_channel ∙ was.channel) (same_chirality ∙ was.chirality) (s.taken k) in
+      owes_line v (same.channel ∙ was.channel) (same.chirality ∙ was.chirality) (s.taken k) in
       let comes : s.put (suc k) ++ row ∷ pre.0 ≡ owed_on line s (suc k) = sym (append_assoc (s.put (suc k)) (row ∷ []) pre.0) ∙ pre.1 ∙ owed_is in
+      let room : length (belt bs (suc k)).rows < (belt bs (suc k)).capacity = c.1.0 in
       let opens : put_open line s (suc k) ≡ true =
       put_opened line s (suc k) (longer (s.put (suc k)) row pre.0 (owed_on line s (suc k)) comes) (omega (arith, length_to, cap_to, room)) in
       let e : turn line s (suc k) ≡ after_put line s (suc k) = (turn_put line s (suc k) (le-ltb input.plan.stages (suc k) (omega arith)) opens).1 in
       let now : grown s.put (suc k) (owed_on line s (suc k)) (suc k) ≡ s.put (suc k) ++ row ∷ [] = grown_by s.put (suc k) row pre.0 (owed_on line s (suc k)) comes in
       let below : grown s.put (suc k) (owed_on line s (suc k)) k ≡ s.put k = grown_other s.put (suc k) (owed_on line s (suc k)) k (λ z. absurd (omega arith)) in
-      let rows : q.rows ≡ (belt bs (suc k)).rows ++ row ∷ [] = ap (λ (b : BeltModel). b.rows) put in
+      let rows : q.rows ≡ (belt bs (suc k)).rows ++ row ∷ [] = ap (λ (b : BeltModel). b.rows) c.1.1 in
       subst (λ u. Shows gas input f (set ws k v) (set (set bs k t) (suc k) q) u) (sym e)
-      (shows_worker (after_put line s (suc k)) (λ j ne. grown_other s.put (suc k) (owed_on line s (suc k)) j ne) (λ j ne. refl) same_channel same_chirality
+      (shows_worker (after_put line s (suc k)) (λ j ne. grown_other s.put (suc k) (owed_on line s (suc k)) j ne) (λ j ne. refl) same.channel same.chirality
       (rw now done)
-      (rw (below, same) holds_from)
+      (rw (below, c.2) holds_from)
       (rw (now, rows) (sym (append_assoc (s.taken (suc k)) (belt bs (suc k)).rows (row ∷ [])) ∙ ap (λ u. u ++ row ∷ []) holds_to))
-      (ap (λ (b : BeltModel). b.capacity) same ∙ cap_from)
-      (ap (λ (b : BeltModel). b.capacity) put ∙ cap_to))
-
-  still_step : t ≡ belt bs k → q ≡ belt bs (suc k) → v.stage.channel ≡ w.stage.channel → v.stage.chirality ≡ w.stage.chirality →
-      MayHaveDone gas v from (s.taken k) (s.put (suc k)) → put_open line s (suc k) ≡ false → take_open line s k ≡ false → Shown
-  still_step same_t same_q same_channel same_chirality done shut no_take =
-      let e : turn line s (suc k) ≡ s = (turn_idle line s (suc k) (le-ltb input.plan.stages (suc k) (omega arith)) shut no_take).1 in
-      subst (λ u. Shows gas input f (set ws k v) (set (set bs k t) (suc k) q) u) (sym e)
-      (shows_worker s (λ j ne. refl) (λ j ne. refl) same_channel same_chirality done
-      (rw same_t holds_from)
-      (rw same_q holds_to)
-      (ap (λ (b : BeltModel). b.capacity) same_t ∙ cap_from)
-      (ap (λ (b : BeltModel). b.capacity) same_q ∙ cap_to))
-
-  idle_step : t ≡ belt bs k → q ≡ belt bs (suc k) → v.stage.channel ≡ w.stage.channel → v.stage.chirality ≡ w.stage.chirality →
-      MayHaveDone gas v from (s.taken k) (s.put (suc k)) →
-      (length (s.put (suc k)) < length (owes gas w from (s.taken k)) → length (belt bs (suc k)).rows < (belt bs (suc k)).capacity → ⊥) →
-      (s.put (suc k) ≡ owes gas w from (s.taken k) → 0 < length (belt bs k).rows → ⊥) → Shown
-  idle_step same_t same_q same_channel same_chirality done full none =
+      (ap (λ (b : BeltModel). b.capacity) c.2 ∙ cap_from)
+      (ap (λ (b : BeltModel). b.capacity) c.1.1 ∙ cap_to))
+  worker_step Idle same c =
+      let when = c.3 from (s.taken k) (s.put (suc k)) was.done in
       let nk : length (s.put k) ≡ length (s.taken k) + length (belt bs k).rows = sym (ap length holds_from) ∙ length-append (s.taken k) (belt bs k).rows in
       let m : length (owes gas w from (s.taken k)) ≡ length (owed_on line s (suc k)) = ap length owes_this in
-      still_step same_t same_q same_channel same_chirality done
+      still_step same c.0 c.1 (c.2 from (s.taken k) (s.put (suc k)) was.done)
       (put_shut line s (suc k) (λ more. elim (cases_lt (length (belt bs (suc k)).rows) (belt bs (suc k)).capacity) [
-        | inl room ↦ absurd (full (omega (arith, more, m)) room)
+        | inl room ↦ absurd (when.0 (omega (arith, more, m)) room)
         | inr no_room ↦ omega (arith, no_room, length_to, cap_to)
       ]))
       (take_shut line s k (λ more. (
         (λ e. absurd (omega arith)),
-        (λ same. none (prefix_all _ _ (fits.put (suc k) in_line) same ∙ sym owes_this) (omega (arith, more, nk))),
+        (λ same. when.1 (prefix_all _ _ (fits.put (suc k) in_line) same ∙ sym owes_this) (omega (arith, more, nk))),
       )))
-
-  done_step : t ≡ belt bs k → q ≡ belt bs (suc k) → v.stage.channel ≡ w.stage.channel → v.stage.chirality ≡ w.stage.chirality →
-      MayHaveDone gas v from (s.taken k) (s.put (suc k)) → s.put (suc k) ≡ owes gas w from (s.taken k) → length (s.taken k) ≡ w.stage.channel.height → Shown
-  done_step same_t same_q same_channel same_chirality done all whole =
-      let m : length (s.put (suc k)) ≡ length (owed_on line s (suc k)) = ap length (all ∙ owes_this) in
+  worker_step Done same c =
+      let all = c.4 from (s.taken k) (s.put (suc k)) was.done in
+      let m : length (s.put (suc k)) ≡ length (owed_on line s (suc k)) = ap length (all.1 ∙ owes_this) in
       let high : w.stage.channel.height ≡ length (rows_on gas input 0 0) = ap (λ c. c.height) was.channel ∙ sym (rows_high gas input sh.is_input 0 0) in
       let few = put_short line is_line s fits k low in
-      still_step same_t same_q same_channel same_chirality done
+      still_step same c.0 c.1 (c.2 from (s.taken k) (s.put (suc k)) was.done)
       (put_shut line s (suc k) (λ more. absurd (omega (arith, more, m))))
-      (take_shut line s k (λ more. absurd (omega (arith, more, few, high, whole))))
+      (take_shut line s k (λ more. absurd (omega (arith, more, few, high, all.0))))
+  worker_step Stray same c =
+      let came = c.3 was.done.no_stray in
+      let holds_k : s.taken k ++ came.0 ∷ t.rows ≡ s.put k = rw (ap (λ (b : BeltModel). b.rows) came.1) at holds_from in
+      absurd (came.3 (under_way_is_wide gas input laws sh.is_input 0 s fits k low came.0 t.rows holds_k ∙ sym (ap (λ c. c.width) was.channel)))
 
-  stray_step : (row : RowModel) → belt bs k ≡ record t { rows = row ∷ t.rows } → length row ≢ w.stage.channel.width → ⊥
-  stray_step row taken ne =
-      let holds_k : s.taken k ++ row ∷ t.rows ≡ s.put k = rw (ap (λ (b : BeltModel). b.rows) taken) at holds_from in
-      ne (under_way_is_wide gas input laws sh.is_input 0 s fits k low row t.rows holds_k ∙ sym (ap (λ c. c.width) was.channel))
-
-  worker_step : (r : Turned) → WorkerTurned gas r w v (belt bs k) t (belt bs (suc k)) q → Shown
-  worker_step Took h =
-      let c = h.took refl in
-      took_step c.0 c.1 c.2 h.channel h.chirality (rw (append-nil (s.put (suc k))) at (c.3 from (s.taken k) (s.put (suc k)) was.done))
-      (h.took_when refl from (s.taken k) (s.put (suc k)) was.done).1
-  worker_step Put h =
-      let c = h.gave refl in
-      gave_step c.0 c.1.1 c.1.0 c.2 h.channel h.chirality (rw (append-nil (s.taken k)) at (c.3 from (s.taken k) (s.put (suc k)) was.done))
-  worker_step Idle h =
-      let c = h.idle refl in
-      idle_step c.0 c.1 h.channel h.chirality (rw (append-nil (s.taken k), append-nil (s.put (suc k))) at (c.2 from (s.taken k) (s.put (suc k)) was.done))
-      (h.idle_owing refl from (s.taken k) (s.put (suc k)) was.done) (h.idle_taking refl from (s.taken k) (s.put (suc k)) was.done)
-  worker_step Done h =
-      let c = h.done refl in
-      let d = h.done_when refl from (s.taken k) (s.put (suc k)) was.done in
-      done_step c.0 c.1 h.channel h.chirality (rw (append-nil (s.taken k), append-nil (s.put (suc k))) at (c.2 from (s.taken k) (s.put (suc k)) was.done))
-      d.1 d.0
-  worker_step Stray h =
-      let c = h.stray_at refl was.done.no_stray in
-      absurd (stray_step c.0 c.1 c.3)
-
-  pub worker_step_at : (r : Turned) (x y : BeltModel) → x ≡ belt bs k → y ≡ belt bs (suc k) → WorkerTurned gas r w v x t y q → Shown
-  worker_step_at r x y ex ey h = worker_step r (rw (← ex, ← ey) h)
+  pub worker_step_at : (r : Turned) (x y : BeltModel) → x ≡ belt bs k → y ≡ belt bs (suc k) → SameWorker w v → TurnedBetween gas w v x t y q r → Shown
+  worker_step_at r x y ex ey same c = worker_step r same (rw (← ex, ← ey) c)

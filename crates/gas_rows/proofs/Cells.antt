@@ -1,9 +1,10 @@
 -- Rows as the cells that their words hold.
-use Rattle.std.proofs.Common.{◌≡◌, ℕ, ◌*◌, ◌/◌, ◌^◌, ◌<◌, ◌==◌, if◌then◌else◌, List, length, get_or, set, replicate, sym, ap, ◌∙◌, subst, arith, inl, inr, eq-eqb, ne_eqb}
+use Rattle.std.proofs.Common.{◌≡◌, ℕ, ◌*◌, ◌/◌, ◌^◌, ◌<◌, ◌==◌, if◌then◌else◌, List, length, get_or, set, replicate, sym, ap, ◌∙◌, subst, arith, inl, inr}
 use Rattle.std.proofs.lemmas.Bool.{cases_eq, cases_lt}
-use Rattle.std.proofs.lemmas.List.{get_or_past, get_or-replicate, length-replicate, get_or-set_same, get_or-set_other, length-set}
+use Rattle.std.proofs.lemmas.List.{get_or_past, get_or-replicate, length-replicate, length-set, places}
 use Rattle.std.proofs.lemmas.List.FromFn.{get_or-map-range_with_len, length-map-range_with_len}
-use Rattle.std.proofs.lemmas.Grind.{same_number_lists}
+use Rattle.std.proofs.lemmas.Bool.Decides.{nat_tests}
+use Rattle.std.proofs.lemmas.Grind.{same_number_lists, get_or-set_at}
 use Rattle.std.proofs.lemmas.Nat.{pow_pos}
 use Rattle.gas_geom.specs.Gas.{holds}
 use Rattle.gas_bits.specs.Words.{words_in}
@@ -52,11 +53,10 @@ holds-cells d width words i x hi hx =
 
 pub holds-cells_all : (d width : ℕ) (words : List ℕ) → IsClear d width words → (i x : ℕ) → i < d →
     x < 64 * words_in width → has words (words_in width) i x ≡ holds (get_or (cells_of d width words) x 0) i
-holds-cells_all d width words clear i x hi hx = elim (cases_lt x width) [
-  | inl lt ↦ sym (holds-cells d width words i x hi lt)
-  | inr le ↦ clear i x hi le hx ∙ sym (ap (λ s. holds s i) (get_or_past (cells_of d width words) x 0
-      (omega (arith, length-cells d width words))) ∙ holds-zero i)
-]
+holds-cells_all d width words clear i x hi hx =
+    let here = holds-cells d width words i x hi in
+    let past = clear i x hi in
+    grind (arith, places, length-cells, holds-zero)
 
 pub IsClear-blank : (d width k : ℕ) (words : List ℕ) → words ≡ replicate k 0 → IsClear d width words
 IsClear-blank d width k words e i x hi hw hx = ap (λ ws. has ws (words_in width) i x) e ∙ has-blank k (words_in width) i x
@@ -75,17 +75,13 @@ module _ (old words : List ℕ) (d width x s : ℕ) (hx : x < width) (hs : s < 2
   pub cells-written : cells_of d width words ≡ set (cells_of d width old) x s
   cells-written =
       cells-from d width words _ (length-set (cells_of d width old) x s ∙ length-cells d width old) (λ y hy.
+      let here = λ (i : ℕ) (hi : i < d). each i y hi (omega arith) in
       elim (cases_eq y x) [
-        | inl e ↦ state-from words (words_in width) d y s hs (λ i hi. each i y hi (omega arith)
-            ∙ ap (λ b. if b then holds s i else has old (words_in width) i y) (eq-eqb y x e))
-            ∙ sym (ap (λ k. get_or (set (cells_of d width old) x s) k 0) e
-            ∙ get_or-set_same (cells_of d width old) x s 0 (omega (arith, length-cells d width old)))
-        | inr ne ↦ state-same words old (words_in width) d y (λ i hi. each i y hi (omega arith)
-            ∙ ap (λ b. if b then holds s i else has old (words_in width) i y) (ne_eqb y x ne))
-            ∙ sym (get_or-set_other (cells_of d width old) x y s 0 ne ∙ get_or-cells d width old y hy)
+        | inl e ↦ let now = state-from words (words_in width) d y s hs (λ i hi. let w = here i hi in grind (arith, nat_tests)) in
+            grind (arith, places, get_or-set_at, length-cells)
+        | inr ne ↦ let now = state-same words old (words_in width) d y (λ i hi. let w = here i hi in grind (arith, nat_tests)) in
+            grind (arith, places, get_or-set_at, length-cells, get_or-cells)
       ])
 
   pub IsClear-written : IsClear d width old → IsClear d width words
-  IsClear-written clear i y hi hw hy =
-      each i y hi (omega arith) ∙ ap (λ b. if b then holds s i else has old (words_in width) i y) (ne_eqb y x (omega arith))
-      ∙ clear i y hi hw hy
+  IsClear-written clear i y hi hw hy = let here = each i y hi (omega arith) in let before = clear i y hi hw hy in grind (arith, nat_tests)

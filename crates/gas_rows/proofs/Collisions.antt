@@ -16,7 +16,7 @@ use Rattle.gas_rows.specs.Inner.Planes.{ArePlanes}
 use Rattle.gas_rows.specs.Planes.{cells_of}
 use Rattle.gas_bits.proofs.Cells.{state-from, holds-state}
 use Rattle.gas_rows.proofs.Cells.{cells-from}
-use Rattle.gas_rows.proofs.Rows.{wide, read, planes-other}
+use Rattle.gas_rows.proofs.Rows.{AreOf, wide, read, planes-other}
 
 -- ---- a row of which each cell was collided, the cells past the width too
 -- nothing collides to nothing
@@ -53,22 +53,21 @@ module _ (d : ℕ) (table : ℕ → Bool → ℕ) (none : (r : Bool) → table 0
   both_zero true = refl
   both_zero false = refl
 
-  pub planes-collided : ArePlanes d width new
-  planes-collided = planes-other d width words row inside view new same_long (λ i x hi le lt.
-      let blank : state words (words_in width) d x ≡ 0 =
-      state-from words (words_in width) d x 0 (pow_pos d) (λ k hk. inside.clear k x hk le lt ∙ sym (holds-zero k)) in
-      sym (holds-state new (words_in width) d x i hi)
-      ∙ ap (λ s. holds s i) (each_here x (omega arith)
-      ∙ ap (λ z. if bit solid x then 0 else z) (ap (λ z. table z (bit chi x)) blank ∙ none (bit chi x))
-      ∙ both_zero (bit solid x))
-      ∙ holds-zero i)
-
-  pub row-collided : cells_of d width new
-      ≡ row_of (length row) (λ x. if bit solid x then 0 else table (get_or row x 0) (bit chi x))
-  row-collided =
-      let e = wide d width words row inside view in
-      cells-from d width new _ (length-map-range_with_len _ 0 (length row) ∙ e) (λ x hx.
-      let lt : x < length row = omega arith in
-      each_here x (omega arith)
-      ∙ ap (λ s. if bit solid x then 0 else table s (bit chi x)) (read d width words row inside view x lt)
-      ∙ sym (get_or-map-range_with_len _ 0 (length row) x x 0 lt (omega arith)))
+  pub row-collided : AreOf d width new (row_of (length row) (λ x. if bit solid x then 0 else table (get_or row x 0) (bit chi x)))
+  row-collided = record {
+    planes = planes-other d width words row inside view new same_long (λ i x hi le lt.
+        let blank : state words (words_in width) d x ≡ 0 =
+        state-from words (words_in width) d x 0 (pow_pos d) (λ k hk. inside.clear k x hk le lt ∙ sym (holds-zero k)) in
+        sym (holds-state new (words_in width) d x i hi)
+        ∙ ap (λ s. holds s i) (each_here x (omega arith)
+        ∙ ap (λ z. if bit solid x then 0 else z) (ap (λ z. table z (bit chi x)) blank ∙ none (bit chi x))
+        ∙ both_zero (bit solid x))
+        ∙ holds-zero i);
+    cells =
+        let e = wide d width words row inside view in
+        cells-from d width new _ (length-map-range_with_len _ 0 (length row) ∙ e) (λ x hx.
+        let lt : x < length row = omega arith in
+        each_here x (omega arith)
+        ∙ ap (λ s. if bit solid x then 0 else table s (bit chi x)) (read d width words row inside view x lt)
+        ∙ sym (get_or-map-range_with_len _ 0 (length row) x x 0 lt (omega arith)));
+  }

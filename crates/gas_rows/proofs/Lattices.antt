@@ -1,23 +1,16 @@
 -- Lattices stay lattices: the empty one, one with other sets in a row, and one with a cell made solid.
-use Rattle.std.proofs.Common.{◌≡◌, ◌≢◌, ℕ, zero, suc, ◌<◌, ◌≤◌, ◌^◌, Bool, true, false, List, [], length, replicate, get_or, set, ap, ◌∙◌, sym, subst, refl, arith, if◌then◌else◌, ⊎_elim}
+use Rattle.std.proofs.Common.{◌≡◌, ◌≢◌, ℕ, ◌<◌, ◌≤◌, ◌^◌, Bool, true, false, List, [], length, replicate, get_or, set, ap, ◌∙◌, sym, subst, refl, arith, if◌then◌else◌, ⊎_elim}
 use Rattle.std.proofs.lemmas.Bool.{cases_eq, cases_lt}
-use Rattle.std.proofs.lemmas.List.{get_or-replicate, get_or_past, length-replicate, get_or-set_same, get_or-set_other, length-set, set_past}
+use Rattle.std.proofs.lemmas.List.{get_or-replicate, get_or_past, length-replicate, get_or-set_same, get_or-set_other, length-set, set_past, places}
 use Rattle.std.proofs.lemmas.List.FromFn.{get_or-map-range_with_len, length-map-range_with_len}
 use Rattle.std.proofs.lemmas.Nat.{pow_pos}
 use Rattle.gas_geom.specs.Gas.{Rules}
-use Rattle.gas_geom.specs.Channel.{ChannelModel, is_solid, with_solid}
+use Rattle.gas_geom.specs.Channel.{ChannelModel, is_solid}
 use Rattle.gas_geom.specs.Lattice.{IsLattice, cell, empty_lattice, row_of, with_cell}
 
 -- every cell of the empty lattice is empty
-zero_item : (n x : ℕ) → get_or (replicate {A = ℕ} n 0) x 0 ≡ 0
-zero_item zero x = refl
-zero_item (suc n) zero = refl
-zero_item (suc n) (suc x) = zero_item n x
-
 cell-empty : (width height x y : ℕ) → cell (replicate height (replicate width 0)) x y ≡ 0
-cell-empty width zero x y = refl
-cell-empty width (suc height) x zero = zero_item width x
-cell-empty width (suc height) x (suc y) = cell-empty width height x y
+cell-empty width height x y = grind (arith, places)
 
 pub IsLattice-empty : (gas : Rules) (channel : ChannelModel) → IsLattice gas channel (empty_lattice channel).rows
 IsLattice-empty gas channel = record {
@@ -98,7 +91,7 @@ IsLattice-with_states gas channel rows y states is iny small =
 -- a cell made solid and empty
 pub IsLattice-with_solid : (gas : Rules) (channel : ChannelModel) (rows : List (List ℕ)) (x y : ℕ) →
     IsLattice gas channel rows → x < channel.width → y < channel.height →
-    IsLattice gas (with_solid channel x y) (with_cell rows x y 0)
+    IsLattice gas (record channel { solid = with_cell channel.solid x y true }) (with_cell rows x y 0)
 IsLattice-with_solid gas channel rows x y is inx iny =
     IsLattice-with_row gas channel (set channel.solid y changed) rows y emptied is iny (length-set row x 0 ∙ is.wide y iny)
     (λ u. ⊎_elim
@@ -123,7 +116,7 @@ IsLattice-with_solid gas channel rows x y is inx iny =
     here : (u : ℕ) → u ≡ x → get_or emptied u 0 ≡ 0
     here u e = ap (λ k. get_or emptied k 0) e ∙ get_or-set_same row x 0 0 (omega (arith, is.wide y iny))
 
-    same_solid : (u : ℕ) → u ≢ x → is_solid (with_solid channel x y) u y ≡ is_solid channel u y
+    same_solid : (u : ℕ) → u ≢ x → is_solid (record channel { solid = with_cell channel.solid x y true }) u y ≡ is_solid channel u y
     same_solid u ne = ⊎_elim
         (λ (there : y < length channel.solid).
         ap (λ (r : List Bool). get_or r u false) (get_or-set_same channel.solid y changed [] there)

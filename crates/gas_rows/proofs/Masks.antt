@@ -1,16 +1,16 @@
 -- Masks as the lists of their cells' truth values.
-use Rattle.std.proofs.Common.{◌≡◌, ◌≢◌, ℕ, ◌+◌, ◌-◌, ◌*◌, ◌/◌, ◌%◌, ◌<◌, ◌≤◌, Bool, true, false, ◌&&◌, not, if◌then◌else◌, List, map, length, get_or, set, replicate, refl, sym, ap, ap₂, ◌∙◌, arith, ⊎_elim, eq-eqb, ne_eqb, length-set, get_or-set_same, get_or-set_other}
+use Rattle.std.proofs.Common.{◌≡◌, ◌≢◌, ℕ, ◌+◌, ◌-◌, ◌*◌, ◌/◌, ◌%◌, ◌<◌, ◌≤◌, Bool, true, false, ◌&&◌, not, if◌then◌else◌, List, map, length, get_or, set, replicate, sym, ap, ◌∙◌, arith, length-set}
 use Rattle.std.specs.Prelude.{◌==◌, nat_lt}
 use Rattle.std.specs.List.{range_with_len, count_by}
-use Rattle.std.proofs.lemmas.Bool.{cases_eq, cases_lt}
 use Rattle.std.proofs.lemmas.Bool.Decides.{nat_tests}
-use Rattle.std.proofs.lemmas.List.{get_or_past, get_or-replicate, length-replicate, ext_get_or}
+use Rattle.std.proofs.lemmas.List.{get_or-replicate, length-replicate, ext_get_or, places}
+use Rattle.std.proofs.lemmas.Grind.{get_or-set_at}
 use Rattle.std.proofs.lemmas.List.FromFn.{get_or-map-range_with_len, length-map-range_with_len, fill_by_all}
 use Rattle.gas_geom.specs.Gas.{holds}
 use Rattle.gas_geom.specs.declared.size.TheConstants.{MOST_SIDE}
 use Rattle.gas_bits.specs.Words.{words_in, bit}
 use Rattle.gas_rows.specs.Inner.Mask.{cells, IsMask}
-use Rattle.gas_bits.proofs.Words.{bit-is, bit-set_here, bit-set_there, bit-zeros}
+use Rattle.gas_bits.proofs.Words.{bit-is, bit-set, bit-zeros}
 use Rattle.gas_bits.proofs.Ones.{count-map}
 
 -- a word more whose halves are two words of 32 cells, of which the second may lie past the width
@@ -20,28 +20,11 @@ pub join-more : (words : List ℕ) (half : ℕ → ℕ) (width j low high v : �
     ((x : ℕ) → x / 64 < j → x < width → bit words x ≡ holds (half (x / 32)) (x % 32)) →
     (x : ℕ) → x / 64 < j + 1 → x < width → bit (set words j v) x ≡ holds (half (x / 32)) (x % 32)
 join-more words half width j low high v within first second put before x h lt =
-    ⊎_elim
-    (λ (e : x / 64 ≡ j). bit-set_here words j v x within e ∙ put (x % 64) (omega arith) ∙ joined e)
-    (λ (ne : x / 64 ≢ j). bit-set_there words j v x within ne ∙ before x (omega arith) lt)
-    (cases_eq (x / 64) j)
-  where
-    joined : x / 64 ≡ j →
-        (if nat_lt (x % 64) 32 then holds low (x % 64) else holds high (x % 64 - 32)) ≡ holds (half (x / 32)) (x % 32)
-    joined e =
-        ⊎_elim
-        (λ (less : x % 64 < 32).
-        let is : nat_lt (x % 64) 32 ≡ true = grind (arith, nat_tests) in
-        let place : 2 * j ≡ x / 32 = omega arith in
-        let inner : x % 64 ≡ x % 32 = omega arith in
-        ap (λ t. if t then holds low (x % 64) else holds high (x % 64 - 32)) is
-        ∙ ap₂ holds (first ∙ ap half place) inner)
-        (λ (more : 32 ≤ x % 64).
-        let is : nat_lt (x % 64) 32 ≡ false = grind (arith, nat_tests) in
-        let place : 2 * j + 1 ≡ x / 32 = omega arith in
-        let inner : x % 64 - 32 ≡ x % 32 = omega arith in
-        ap (λ t. if t then holds low (x % 64) else holds high (x % 64 - 32)) is
-        ∙ ap₂ holds (second (omega arith) ∙ ap half place) inner)
-        (cases_lt (x % 64) 32)
+    let here = put (x % 64) (omega arith) in
+    let earlier = before x in
+    let low_place : x / 64 ≡ j → x % 64 < 32 → x / 32 ≡ 2 * j = omega arith in
+    let high_place : x / 64 ≡ j → 32 ≤ x % 64 → x / 32 ≡ 2 * j + 1 = omega arith in
+    grind (arith, nat_tests, bit-set)
 
 -- ---- masks
 pub length-cells : (width : ℕ) (words : List ℕ) → length (cells width words) ≡ width
@@ -54,11 +37,7 @@ get_or-cells width words x h = get_or-map-range_with_len (bit words) 0 width x x
 
 -- of a mask the words and the cells say the same everywhere
 pub bit-cells : (width : ℕ) (words : List ℕ) {blank : Bool} → IsMask width blank words → (x : ℕ) → bit words x ≡ get_or (cells width words) x false
-bit-cells width words mask x =
-    ⊎_elim
-    (λ (h : x < width). sym (get_or-cells width words x h))
-    (λ (h : width ≤ x). mask.clear x h ∙ sym (get_or_past (cells width words) x false (omega (arith, length-cells width words))))
-    (cases_lt x width)
+bit-cells width words mask x = let past = mask.clear x in grind (arith, places, get_or-cells, length-cells)
 
 -- a mask has as many cells as its width says
 pub ruleset masks = length-cells
@@ -98,31 +77,16 @@ module _ (width : ℕ) (words : List ℕ) (x v : ℕ) (value : Bool) {blank : Bo
   in_range = omega (arith, mask.long)
 
   same : bit (set words (x / 64) v) x ≡ value
-  same =
-      bit-set_here words (x / 64) v x in_range refl ∙ put (x % 64) (omega arith)
-      ∙ ap (λ b. if b then value else holds (get_or words (x / 64) 0) (x % 64)) (eq-eqb (x % 64) (x % 64) refl)
+  same = let here = put (x % 64) (omega arith) in grind (arith, nat_tests, bit-set)
 
   other : (y : ℕ) → y ≢ x → bit (set words (x / 64) v) y ≡ bit words y
-  other y ne =
-      ⊎_elim
-      (λ (e : y / 64 ≡ x / 64).
-      bit-set_here words (x / 64) v y in_range e ∙ put (y % 64) (omega arith)
-      ∙ ap (λ b. if b then value else holds (get_or words (x / 64) 0) (y % 64)) (ne_eqb (y % 64) (x % 64) (λ q. ne (omega arith)))
-      ∙ ap (λ k. holds (get_or words k 0) (y % 64)) (sym e) ∙ sym (bit-is words y))
-      (λ (far : y / 64 ≢ x / 64). bit-set_there words (x / 64) v y in_range far)
-      (cases_eq (y / 64) (x / 64))
-
-  both : (b c : Bool) → (b && not c) ≡ true → (b ≡ true) × (c ≡ false)
-  both true false e = (refl, refl)
-  both true true e = cc
-  both false c e = cc
+  other y ne = let here = put (y % 64) (omega arith) in grind (arith, nat_tests, bit-set, bit-is)
 
   none_set : (blank && not value) ≡ true → (y : ℕ) → bit (set words (x / 64) v) y ≡ false
   none_set e y =
-      ⊎_elim
-      (λ (here : y ≡ x). ap (bit (set words (x / 64) v)) here ∙ same ∙ (both blank value e).1)
-      (λ (ne : y ≢ x). other y ne ∙ mask.none (both blank value e).0 y)
-      (cases_eq y x)
+      let elsewhere = other y in
+      let before = mask.none in
+      grind (arith, nat_tests, same)
 
   pub IsMask-set : IsMask width (blank && not value) (set words (x / 64) v)
   IsMask-set = record {
@@ -137,52 +101,31 @@ module _ (width : ℕ) (words : List ℕ) (x v : ℕ) (value : Bool) {blank : Bo
   cells-set =
       cells-from width (set words (x / 64) v) (set (cells width words) x value)
       (length-set (cells width words) x value ∙ length-cells width words)
-      (λ y h.
-      ⊎_elim
-      (λ (e : y ≡ x).
-      ap (bit (set words (x / 64) v)) e ∙ same
-      ∙ sym (ap (λ k. get_or (set (cells width words) x value) k false) e ∙ get_or-set_same (cells width words) x value false (omega (arith, length-cells width words))))
-      (λ (ne : y ≢ x).
-      other y ne ∙ sym (get_or-set_other (cells width words) x y value false ne ∙ get_or-cells width words y h))
-      (cases_eq y x))
+      (λ y h. let elsewhere = other y in grind (arith, places, get_or-set_at, length-cells, get_or-cells, same))
 
--- all words were written, and the last one was cut at the width
-module _ (width : ℕ) (words : List ℕ) (f : ℕ → Bool) (blank : Bool) (some : 1 ≤ width) (few : width ≤ MOST_SIDE) (long : length words ≡ words_in width)
-    (each : (x : ℕ) → bit words x ≡ (nat_lt x width && f x)) where
-  inside : (x : ℕ) → x < width → bit words x ≡ f x
-  inside x h = let is : nat_lt x width ≡ true = grind (arith, nat_tests) in each x ∙ ap (λ t. t && f x) is
+-- the cells of a mask are those of `f`
+pub record IsWritten (width : ℕ) (blank : Bool) (words : List ℕ) (f : ℕ → Bool) : Type 0 where
+  pub mask : IsMask width blank words
+  pub cells_are : cells width words ≡ map f (range_with_len 0 width)
 
-  pub IsMask-written : (blank ≡ true → (x : ℕ) → bit words x ≡ false) → IsMask width blank words
-  IsMask-written none = record {
+-- so they are where all words were written, and the last one was cut at the width
+pub written : (width : ℕ) (words : List ℕ) (f : ℕ → Bool) (blank : Bool) → 1 ≤ width → width ≤ MOST_SIDE → length words ≡ words_in width →
+    ((x : ℕ) → bit words x ≡ (nat_lt x width && f x)) → (blank ≡ true → (x : ℕ) → bit words x ≡ false) → IsWritten width blank words f
+written width words f blank some few long each none = record {
+  mask = record {
     none = none;
     some_cells = some;
     few_cells = few;
     long = long;
-    clear = λ x h. let is : nat_lt x width ≡ false = grind (arith, nat_tests) in each x ∙ ap (λ t. t && f x) is;
-  }
-
-  pub cells-written : cells width words ≡ map f (range_with_len 0 width)
-  cells-written =
-      fill_by_all f (cells width words) width false (length-cells width words)
-      (λ x h. get_or-cells width words x h ∙ inside x h)
+    clear = λ x h. let here = each x in grind (arith, nat_tests);
+  };
+  cells_are = fill_by_all f (cells width words) width false (length-cells width words)
+      (λ x h. get_or-cells width words x h ∙ (let here = each x in grind (arith, nat_tests)));
+}
 
 -- past its end a list says false
 pub cut-list : (width : ℕ) (xs : List Bool) → length xs ≡ width → (x : ℕ) → get_or xs x false ≡ (nat_lt x width && get_or xs x false)
-cut-list width xs long x =
-    ⊎_elim
-    (λ (h : x < width). let is : nat_lt x width ≡ true = grind (arith, nat_tests) in sym (ap (λ t. t && get_or xs x false) is))
-    (λ (h : width ≤ x).
-    let is : nat_lt x width ≡ false = grind (arith, nat_tests) in
-    get_or_past xs x false (omega arith) ∙ sym (ap (λ t. t && get_or xs x false) is))
-    (cases_lt x width)
-
-pub cells-filled : (width : ℕ) (words : List ℕ) (value : Bool) → ((x : ℕ) → bit words x ≡ (nat_lt x width && value)) →
-    cells width words ≡ replicate width value
-cells-filled width words value each =
-    cells-from width words (replicate width value) (length-replicate width value)
-    (λ x h.
-    let is : nat_lt x width ≡ true = grind (arith, nat_tests) in
-    each x ∙ ap (λ t. t && value) is ∙ sym (get_or-replicate width x value false h))
+cut-list width xs long x = grind (arith, nat_tests, places)
 
 -- ---- lists by the index
 pub replicate-map : (f : ℕ → Bool) (n : ℕ) (value : Bool) → ((x : ℕ) → f x ≡ value) → replicate n value ≡ map f (range_with_len 0 n)

@@ -1,7 +1,6 @@
 -- A row and its words: what the words of a row say, and what rows they are after a write.
-use Rattle.std.proofs.Common.{◌≡◌, ◌≢◌, ◌⊎◌, ℕ, ◌+◌, ◌*◌, ◌/◌, ◌%◌, ◌^◌, ◌<◌, ◌≤◌, Bool, true, false, ◌&&◌, ◌==◌, if◌then◌else◌, List, length, get_or, set, take, drop, ltb, refl, sym, ap, ap₂, ◌∙◌, subst, arith, inl, inr, eq-eqb, ne_eqb}
-use mathlib.Core.Bool.{and-false}
-use Rattle.std.proofs.lemmas.Bool.{cases_eq, cases_lt}
+use Rattle.std.proofs.Common.{◌≡◌, ◌≢◌, ◌⊎◌, ℕ, ◌+◌, ◌*◌, ◌/◌, ◌%◌, ◌^◌, ◌<◌, ◌≤◌, false, ◌&&◌, ◌==◌, if◌then◌else◌, List, length, get_or, set, take, drop, ltb, refl, sym, ap, ◌∙◌, subst, arith, inl, inr}
+use Rattle.std.proofs.lemmas.Bool.{cases_lt}
 use Rattle.std.proofs.lemmas.Bool.Decides.{nat_tests}
 use Rattle.std.proofs.lemmas.List.{get_or_past, length-set}
 use Rattle.std.proofs.lemmas.List.FromFn.{fill_by_all, get_or-map-range_with_len, length-map-range_with_len}
@@ -23,9 +22,10 @@ pub each_at : (P : ℕ → ℕ → ℕ → Type 0) (n m dirs d : ℕ) → n ≡ 
     ((i y : ℕ) → i < dirs → y / 64 < n → P n i y) → (i y : ℕ) → i < d → y / 64 < m → P m i y
 each_at P n m dirs d en ed each i y hi hy = subst (λ k. P k i y) en (each i y (omega arith) (omega arith))
 
-either : (t a b : Bool) → a ≡ false → b ≡ false → (if t then a else b) ≡ false
-either true a b p q = p
-either false a b p q = q
+-- the words are those of the row, of d directions and that width
+pub record AreOf (d width : ℕ) (words row : List ℕ) : Type 0 where
+  pub planes : ArePlanes d width words
+  pub cells : cells_of d width words ≡ row
 
 -- rows of equal cells
 pub row_of-same : {A : Type 0} (d : A) (n : ℕ) (f g : ℕ → A) → ((x : ℕ) → x < n → f x ≡ g x) → row_of n f ≡ row_of n g
@@ -91,17 +91,16 @@ module _ (d width : ℕ) (words row : List ℕ) (inside : ArePlanes d width word
         has new (words_in width) i y ≡ (if y == x then holds s i else has words (words_in width) i y)
     each_here = each_at (λ m i y. has new m i y ≡ (if y == x then holds s i else has words m i y)) n (words_in width) dirs d en ed each
 
-    pub planes-written : ArePlanes d width new
-    planes-written = record {
-      some_cells = inside.some_cells;
-      few_cells = inside.few_cells;
-      long = same_long ∙ inside.long;
-      clear = IsClear-written words new d width x s (let e = wide in omega arith) hs each_here inside.clear;
+    pub row-written : AreOf d width new (set row x s)
+    row-written = record {
+      planes = record {
+        some_cells = inside.some_cells;
+        few_cells = inside.few_cells;
+        long = same_long ∙ inside.long;
+        clear = IsClear-written words new d width x s (let e = wide in omega arith) hs each_here inside.clear;
+      };
+      cells = cells-written words new d width x s (let e = wide in omega arith) hs each_here ∙ ap (λ r. set r x s) view;
     }
-
-    pub row-written : cells_of d width new ≡ set row x s
-    row-written =
-        cells-written words new d width x s (let e = wide in omega arith) hs each_here ∙ ap (λ r. set r x s) view
 
   -- a cell of the row, of a word for each direction
   pub state-of_planes : (planes : List ℕ) (n dirs j b : ℕ) → n ≡ words_in width → dirs ≡ d → j < words_in width → b < 64 →
@@ -140,74 +139,48 @@ module _ (d width : ℕ) (words row : List ℕ) (inside : ArePlanes d width word
     pub IsClear-changed : (i : ℕ) → ((x : ℕ) → width ≤ x → x < 64 * words_in width → has new (words_in width) i x ≡ false) →
         ((k x : ℕ) → k < d → k ≢ i → x / 64 < words_in width → has new (words_in width) k x ≡ has words (words_in width) k x) →
         IsClear d width new
-    IsClear-changed i none rest k x hk le hx = elim (cases_eq k i) [
-      | inl e ↦ ap (λ j. has new (words_in width) j x) e ∙ none x le hx
-      | inr ne ↦ rest k x hk ne (omega arith) ∙ inside.clear k x hk le hx
-    ]
+    IsClear-changed i none rest k x hk le hx =
+        let here = none x le hx in
+        let there = rest k x hk in
+        let before = inside.clear k x hk le hx in
+        grind arith
 
-  -- a row with one word of one direction written, which has nothing past the width
-  module _ (i j v : ℕ) (hi : i < d) (hj : j < words_in width)
-      (none : (b : ℕ) → b < 64 → width ≤ 64 * j + b → holds v b ≡ false) where
-    within : i * words_in width + j < length words
-    within = omega (arith, place_in (words_in width) d i j hi hj, inside.long)
+  -- the words with one word of one direction written
+  module _ (i j v : ℕ) (hi : i < d) (hj : j < words_in width) where
+    abbrev pub word_set : List ℕ
+    word_set = set words (i * words_in width + j) v
 
     one_word : (k x : ℕ) → x / 64 < words_in width →
-        has (set words (i * words_in width + j) v) (words_in width) k x
-        ≡ (if (k == i) && (x / 64 == j) then holds v (x % 64) else has words (words_in width) k x)
-    one_word k x hx = has-set words (words_in width) i j v k x within hj hx
+        has word_set (words_in width) k x ≡ (if (k == i) && (x / 64 == j) then holds v (x % 64) else has words (words_in width) k x)
+    one_word k x hx = has-set words (words_in width) i j v k x (omega (arith, place_in (words_in width) d i j hi hj, inside.long)) hj hx
 
-    pub planes-word : ArePlanes d width (set words (i * words_in width + j) v)
-    planes-word = planes-other (set words (i * words_in width + j) v) (length-set words (i * words_in width + j) v) (λ k x hk le hx.
-        one_word k x (omega arith) ∙ past k x hk le hx)
-      where
-        past : (k x : ℕ) → k < d → width ≤ x → x < 64 * words_in width →
-            (if (k == i) && (x / 64 == j) then holds v (x % 64) else has words (words_in width) k x) ≡ false
-        past k x hk le hx = elim (cases_eq (x / 64) j) [
-          | inl e ↦ either ((k == i) && (x / 64 == j)) (holds v (x % 64)) (has words (words_in width) k x)
-              (none (x % 64) (omega arith) (omega arith)) (inside.clear k x hk le hx)
-          | inr ne ↦ ap (λ t. if t then holds v (x % 64) else has words (words_in width) k x)
-              (ap (λ t. (k == i) && t) (ne_eqb (x / 64) j ne) ∙ and-false (k == i))
-              ∙ inside.clear k x hk le hx
-        ]
-
-    pub word-written : (b : ℕ) → b < 64 → 64 * j + b < width →
-        holds (get_or (cells_of d width (set words (i * words_in width + j) v)) (64 * j + b) 0) i ≡ holds v b
+    pub word-written : (b : ℕ) → b < 64 → 64 * j + b < width → holds (get_or (cells_of d width word_set) (64 * j + b) 0) i ≡ holds v b
     word-written b hb h =
-        let q : (64 * j + b) / 64 ≡ j = omega arith in
-        let r : (64 * j + b) % 64 ≡ b = omega arith in
-        holds-cells d width (set words (i * words_in width + j) v) i (64 * j + b) hi h
-        ∙ one_word i (64 * j + b) (omega arith)
-        ∙ ap₂ (λ t c. if t then holds v c else has words (words_in width) i (64 * j + b))
-        (ap₂ (λ s t. s && t) (eq-eqb i i refl) (eq-eqb ((64 * j + b) / 64) j q)) r
+        let here = one_word i (64 * j + b) (omega arith) in
+        let cell = holds-cells d width word_set i (64 * j + b) hi h in
+        grind (arith, nat_tests)
 
-    pub word-others : (x k : ℕ) → (x / 64 ≢ j) ⊎ (k ≢ i) →
-        holds (get_or (cells_of d width (set words (i * words_in width + j) v)) x 0) k ≡ holds (get_or row x 0) k
-    word-others x k other = holds-other (set words (i * words_in width + j) v) (length-set words (i * words_in width + j) v) x k (λ hx hk.
-        one_word k x (omega arith) ∙ ap (λ t. if t then holds v (x % 64) else has words (words_in width) k x) (elim other [
-          | inl ne ↦ ap (λ t. (k == i) && t) (ne_eqb (x / 64) j ne) ∙ and-false (k == i)
-          | inr ne ↦ ap (λ t. t && (x / 64 == j)) (ne_eqb k i ne)
-        ]))
+    pub word-others : (x k : ℕ) → (x / 64 ≢ j) ⊎ (k ≢ i) → holds (get_or (cells_of d width word_set) x 0) k ≡ holds (get_or row x 0) k
+    word-others x k other =
+        holds-other word_set (length-set words (i * words_in width + j) v) x k (λ hx hk. let there = one_word k x (omega arith) in grind (arith, nat_tests))
 
 -- a row whose words were taken over, and cut at the width
 module _ (d width : ℕ) (given new : List ℕ) (dirs : ℕ) (ed : dirs ≡ d) (some : 1 ≤ width) (few : width ≤ MOST_SIDE)
     (long_new : length new ≡ d * words_in width)
     (each : (i y : ℕ) → i < dirs → y / 64 < words_in width →
     has new (words_in width) i y ≡ (ltb y width && has given (words_in width) i y)) where
-  pub planes-loaded : ArePlanes d width new
-  planes-loaded = record {
-    some_cells = some;
-    few_cells = few;
-    long = long_new;
-    clear = λ i x hi le hx. each i x (omega arith) (omega arith)
-        ∙ ap (λ b. b && has given (words_in width) i x) (let t : ltb x width ≡ false = grind (arith, nat_tests) in t);
+  pub row-loaded : AreOf d width new (cells_of d width given)
+  row-loaded = record {
+    planes = record {
+      some_cells = some;
+      few_cells = few;
+      long = long_new;
+      clear = λ i x hi le hx. let e = each i x (omega arith) (omega arith) in grind (arith, nat_tests);
+    };
+    cells = cells-from d width new (cells_of d width given) (width_of d width given _ refl) (λ x hx.
+        state-same new given (words_in width) d x (λ i hi. let e = each i x (omega arith) (omega arith) in grind (arith, nat_tests))
+        ∙ sym (get_or-cells d width given x hx));
   }
-
-  pub row-loaded : cells_of d width new ≡ cells_of d width given
-  row-loaded =
-      cells-from d width new (cells_of d width given) (width_of d width given _ refl) (λ x hx.
-      state-same new given (words_in width) d x (λ i hi. each i x (omega arith) (omega arith)
-      ∙ ap (λ b. b && has given (words_in width) i x) (let t : ltb x width ≡ true = grind (arith, nat_tests) in t))
-      ∙ sym (get_or-cells d width given x hx))
 
 -- a row of given states
 module _ (d width : ℕ) (new states : List ℕ) (n dirs : ℕ) (en : n ≡ words_in width) (ed : dirs ≡ d) (some : 1 ≤ width) (few : width ≤ MOST_SIDE)
@@ -216,15 +189,15 @@ module _ (d width : ℕ) (new states : List ℕ) (n dirs : ℕ) (en : n ≡ word
   each_state : (i y : ℕ) → i < d → y / 64 < words_in width → has new (words_in width) i y ≡ holds (get_or states y 0) i
   each_state = each_at (λ m i y. has new m i y ≡ holds (get_or states y 0) i) n (words_in width) dirs d en ed each
 
-  pub planes-of_states : ArePlanes d width new
-  planes-of_states = record {
-    some_cells = some;
-    few_cells = few;
-    long = long_new;
-    clear = λ i x hi le hx. each_state i x hi (omega arith)
-        ∙ ap (λ s. holds s i) (get_or_past states x 0 (omega arith)) ∙ holds-zero i;
+  pub row-of_states : AreOf d width new states
+  row-of_states = record {
+    planes = record {
+      some_cells = some;
+      few_cells = few;
+      long = long_new;
+      clear = λ i x hi le hx. each_state i x hi (omega arith)
+          ∙ ap (λ s. holds s i) (get_or_past states x 0 (omega arith)) ∙ holds-zero i;
+    };
+    cells = cells-from d width new states all (λ x hx.
+        state-from new (words_in width) d x (get_or states x 0) (small x) (λ i hi. each_state i x hi (omega arith)));
   }
-
-  pub row-of_states : cells_of d width new ≡ states
-  row-of_states = cells-from d width new states all (λ x hx.
-      state-from new (words_in width) d x (get_or states x 0) (small x) (λ i hi. each_state i x hi (omega arith)))

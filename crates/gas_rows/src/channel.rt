@@ -1,7 +1,8 @@
 //! Channels: their size and their solid cells.
-ghost use Rattle.std.specs.Prelude.{◌≡◌, ◌<◌, ℕ, [], false, length, slice_index_or, slice_set, IfOk};
+ghost use Rattle.std.specs.Prelude.{◌≡◌, ◌<◌, ℕ, [], true, false, length, slice_index_or, slice_set, IfOk};
 ghost use Rattle.gas_geom.specs.Size.{SizeModel};
-ghost use Rattle.gas_geom.specs.Channel.{ChannelModel, IsChannel, is_solid, solid_cells, free_channel, with_solid};
+ghost use Rattle.gas_geom.specs.Channel.{ChannelModel, IsChannel, is_solid, solid_cells, free_channel};
+ghost use Rattle.gas_geom.specs.Lattice.{with_cell};
 ghost use Rattle.gas_rows.specs.Beside.{is_solid_beside};
 
 use crate::mask::Mask;
@@ -43,7 +44,7 @@ impl Model for Channel {
 }
 
 impl Channel {
-    /// Returns a channel whose cells are all fluid.
+    /// A channel whose cells are all fluid.
     pub fn free(alloc: Global, size: Size) -> Result<Channel, AllocError>
         ensures value { IfOk result (λ c. c ≡ free_channel size.width size.height) }
     {
@@ -56,7 +57,7 @@ impl Channel {
         Ok(Channel { size, masks, wall })
     }
 
-    /// Returns an equal channel.
+    /// An equal channel.
     pub fn copy(&self, alloc: Global) -> Result<Channel, AllocError>
         ensures equal { IfOk result (λ c. c ≡ self.now) }
     {
@@ -71,7 +72,7 @@ impl Channel {
         })
     }
 
-    /// Returns the width and the height, each 1 to 65536 cells.
+    /// The width and the height, each 1 to 65536 cells.
     pub fn size(&self) -> Size
         ensures width { result.width ≡ self.now.width }
         ensures height { result.height ≡ self.now.height }
@@ -80,7 +81,7 @@ impl Channel {
         self.size
     }
 
-    /// Returns the solid cells of row `y`, as a mask of the channel's width.
+    /// The solid cells of row `y`, as a mask of the channel's width.
     pub fn mask(&self, y: u32) -> &Mask
         requires row { y < self.now.height }
         ensures row { result.now ≡ slice_index_or self.now.solid y [] }
@@ -104,7 +105,7 @@ impl Channel {
         }
     }
 
-    /// Returns whether the cell in column `x` of row `y` is solid.
+    /// Whether the cell in column `x` of row `y` is solid.
     pub fn is_solid(&self, x: u32, y: u32) -> bool
         requires column { x < self.now.width }
         requires row { y < self.now.height }
@@ -117,7 +118,8 @@ impl Channel {
     pub fn make_solid(&mut self, x: u32, y: u32)
         requires column { x < self.old.width }
         requires row { y < self.old.height }
-        ensures written { self.new ≡ with_solid self.old x y }
+        ensures written { self.new
+            ≡ record self.old { solid = with_cell self.old.solid x y true } }
     {
         self.masks[y as usize].set(x, true);
     }
@@ -132,7 +134,7 @@ impl Channel {
         self.masks[y as usize].copy_from(solid);
     }
 
-    /// Returns the number of solid cells.
+    /// The number of solid cells.
     pub fn count_solid(&self) -> u64
         ensures count { result ≡ solid_cells self.now }
     {

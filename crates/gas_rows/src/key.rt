@@ -12,8 +12,8 @@ use rand_chacha::ChaCha20Rng;
 use rand_core::SeedableRng;
 use rand_core::utils::NextWord;
 
-/// Returns the generator of ChaCha20 (the block function of RFC 8439) under the key of a seed: its
-/// 8 bytes, the least first, and 24 zero bytes.
+/// The generator of ChaCha20 (the block function of RFC 8439) under the key of a seed: its 8 bytes,
+/// the least first, and 24 zero bytes.
 pub(crate) fn generator_of(seed: u64) -> ChaCha20Rng
     ensures { result.key ≡ key_of (key_bytes seed) }
 {

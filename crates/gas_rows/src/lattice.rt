@@ -1,6 +1,6 @@
 //! Lattices: a channel and the states of its cells.
 ghost use Rattle.std.specs.Prelude.{◌≡◌, ◌<◌, ◌^◌, ℕ, [], true, false, length, slice_index, slice_index_or, slice_set, if◌then◌else◌, IfOk};
-ghost use Rattle.gas_geom.specs.Channel.{is_solid, with_solid};
+ghost use Rattle.gas_geom.specs.Channel.{is_solid};
 ghost use Rattle.gas_geom.specs.Lattice.{LatticeModel, IsLattice, cell, count, empty_lattice, row_of, with_cell};
 
 use crate::channel::Channel;
@@ -27,8 +27,7 @@ impl<G: Gas> Model for Lattice<G> {
 }
 
 impl<G: Gas> Lattice<G> {
-    /// Returns the lattice of this channel with no particle. If memory is refused, the channel is
-    /// dropped.
+    /// The lattice of this channel with no particle. If memory is refused, the channel is dropped.
     pub fn blank(alloc: Global, channel: Channel) -> Result<Self, AllocError>
         ensures value { IfOk result (λ l. l ≡ empty_lattice channel) }
     {
@@ -40,7 +39,7 @@ impl<G: Gas> Lattice<G> {
         Ok(Lattice { channel, rows })
     }
 
-    /// Returns the lattice of these rows, from the top.
+    /// The lattice of these rows, from the top.
     pub fn from_rows(channel: Channel, rows: Vec<Row<G>>) -> Self
         requires lattice { IsLattice G.rules channel rows.items }
         ensures value { result ≡ record { channel = channel; rows = rows.items } }
@@ -48,7 +47,7 @@ impl<G: Gas> Lattice<G> {
         Lattice { channel, rows }
     }
 
-    /// Returns the channel and the rows, from the top.
+    /// The channel and the rows, from the top.
     pub fn into_rows(self) -> (Channel, Vec<Row<G>>)
         ensures channel { result.0 ≡ self.channel }
         ensures rows { result.1.items ≡ self.rows }
@@ -57,7 +56,7 @@ impl<G: Gas> Lattice<G> {
         (self.channel, self.rows)
     }
 
-    /// Returns an equal lattice.
+    /// An equal lattice.
     pub fn copy(&self, alloc: Global) -> Result<Self, AllocError>
         ensures equal { IfOk result (λ l. l ≡ self.now) }
     {
@@ -69,7 +68,7 @@ impl<G: Gas> Lattice<G> {
         Ok(Lattice { channel, rows })
     }
 
-    /// Returns the channel.
+    /// The channel.
     pub fn channel(&self) -> &Channel
         ensures channel { result.now ≡ self.now.channel }
         ensures whole { IsLattice G.rules self.now.channel self.now.rows }
@@ -77,7 +76,7 @@ impl<G: Gas> Lattice<G> {
         &self.channel
     }
 
-    /// Returns the state of the cell in column `x` of row `y`, 0 at a solid cell.
+    /// The state of the cell in column `x` of row `y`, 0 at a solid cell.
     pub fn cell(&self, x: u32, y: u32) -> u8
         requires column { x < self.now.channel.width }
         requires row { y < self.now.channel.height }
@@ -87,7 +86,7 @@ impl<G: Gas> Lattice<G> {
         self.row(y).get(x)
     }
 
-    /// Returns row `y`, counted from the top.
+    /// Row `y`, counted from the top.
     pub fn row(&self, y: u32) -> &Row<G>
         requires row { y < self.now.channel.height }
         ensures row { result.now ≡ slice_index_or self.now.rows y [] }
@@ -96,7 +95,7 @@ impl<G: Gas> Lattice<G> {
         &self.rows[y as usize]
     }
 
-    /// Returns the number of particles.
+    /// The number of particles.
     pub fn count(&self) -> u64
         ensures count { result ≡ count G.rules self.now.rows }
     {
@@ -124,7 +123,7 @@ impl<G: Gas> Lattice<G> {
         requires row { y < self.old.channel.height }
         ensures written { self.new
             ≡ record {
-              channel = with_solid self.old.channel x y;
+              channel = record self.old.channel { solid = with_cell self.old.channel.solid x y true };
               rows = with_cell self.old.rows x y 0;
             } }
     {

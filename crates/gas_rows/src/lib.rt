@@ -7,5 +7,4 @@ mod collision;
 pub mod key;
 pub mod lattice;
 pub mod mask;
-pub mod random_bits;
 pub mod row;

@@ -35,7 +35,7 @@ impl Model for Mask {
 
 #[tactic(auto, using(crate::proofs::Masks::masks))]
 impl Mask {
-    /// Returns a mask of 1 to 65536 cells that is false everywhere.
+    /// A mask of 1 to 65536 cells that is false everywhere.
     pub fn blank(alloc: Global, width: u32) -> Result<Mask, AllocError>
         requires some_cells { 1 ≤ width }
         requires few_cells { width ≤ 65536 }
@@ -49,7 +49,7 @@ impl Mask {
         })
     }
 
-    /// Returns an equal mask.
+    /// An equal mask.
     pub fn copy(&self, alloc: Global) -> Result<Mask, AllocError>
         ensures equal { IfOk result (λ m. m ≡ self.now) }
     {
@@ -60,7 +60,7 @@ impl Mask {
         })
     }
 
-    /// Returns the number of cells, 1 to 65536.
+    /// The number of cells, 1 to 65536.
     pub fn width(&self) -> u32
         ensures value { result ≡ length self.now }
         ensures some_cells { 1 ≤ result }
@@ -69,7 +69,7 @@ impl Mask {
         self.width
     }
 
-    /// Returns the value in column `x`.
+    /// The value in column `x`.
     pub fn get(&self, x: u32) -> bool
         requires within { x < length self.now }
         ensures value { result ≡ slice_index_or self.now x false }
@@ -87,16 +87,16 @@ impl Mask {
         self.blank &= !value;
     }
 
-    /// Returns true only if no cell is true. It reads no word; after single cells were set it may
-    /// return false for a mask in which no cell is true.
+    /// True only if no cell is true. It reads no word; after single cells were set it may return
+    /// false for a mask in which no cell is true.
     pub fn is_blank(&self) -> bool
         ensures blank { IsTrue result → (x : ℕ) → slice_index_or self.now x false ≡ false }
     {
         self.blank
     }
 
-    /// Returns word `j`, the values of the cells `64 * j` to `64 * j + 63`, the first in the least
-    /// bit. Bits past the width are 0.
+    /// Word `j`, the values of the cells `64 * j` to `64 * j + 63`, the first in the least bit.
+    /// Bits past the width are 0.
     pub fn word(&self, j: u32) -> u64
         requires within { j < words_in (length self.now) }
         ensures bits { (b : ℕ) → b < 64 → holds result b
@@ -105,8 +105,7 @@ impl Mask {
         self.words[j as usize]
     }
 
-    /// Returns the values of all cells, 64 in a word, the first in the least bit. Bits past the
-    /// width are 0.
+    /// The values of all cells, 64 a word, the first in the least bit. Bits past the width are 0.
     pub fn words(&self) -> &[u64]
         ensures long { length result.now ≡ words_in (length self.now) }
         ensures bits { (x : ℕ) → bit result.now x ≡ slice_index_or self.now x false }
@@ -142,14 +141,14 @@ impl Mask {
         self.blank = false;
     }
 
-    /// Returns the number of cells that are true.
+    /// The number of cells that are true.
     pub fn count(&self) -> u32
         ensures count { result ≡ count_by (λ b. b) self.now }
     {
         count_in(&self.words, 0, self.width)
     }
 
-    /// Returns the number of true cells in the columns from `from` to `to - 1`.
+    /// The number of true cells in the columns from `from` to `to - 1`.
     pub fn count_in(&self, from: u32, to: u32) -> u32
         requires order { from ≤ to }
         requires within { to ≤ length self.now }

@@ -2,12 +2,12 @@
 ghost use Rattle.std.specs.Prelude.{◌≡◌, ◌≢◌, ◌⊎◌, ◌+◌, ◌-◌, ◌*◌, ◌/◌, ◌<◌, ◌≤◌, ◌^◌, ℕ, List, length, replicate, slice_index, slice_index_or, slice_set, false, IsTrue, count_by, sum_by, if◌then◌else◌, vec_len, IfOk};
 ghost use Rattle.std.specs.List.{range_with_len};
 ghost use Rattle.gas_geom.specs.Gas.{holds, particles};
-ghost use Rattle.gas_geom.specs.Lattice.{row_of, collided_set};
+ghost use Rattle.gas_geom.specs.Lattice.{row_of};
 ghost use Rattle.gas_bits.specs.Shift.{streamed_cell};
 ghost use Rattle.gas_bits.specs.Words.{words_in, bit};
 ghost use Rattle.gas_rows.specs.Planes.{AreWordsOf, cells_of};
 
-use crate::collision::{Collision, collide, directions};
+use crate::collision::{Collision, directions};
 use crate::mask::Mask;
 use gas_bits::plane::{Incoming, count_in};
 use gas_bits::planes::{
@@ -15,7 +15,7 @@ use gas_bits::planes::{
 };
 use gas_bits::states::states_of;
 use gas_bits::stream::stream_plane;
-use gas_bits::word::{clear_past_width, words_for};
+use gas_bits::word::words_for;
 use gas_geom::gas::Gas;
 use gas_geom::moves::Move;
 use std::alloc::{AllocError, Global};
@@ -44,7 +44,7 @@ impl<G: Gas> Model for Row<G> {
 
 #[tactic(auto, using(crate::proofs::Cells::rows))]
 impl<G: Gas> Row<G> {
-    /// Returns a row of 1 to 65536 empty cells.
+    /// A row of 1 to 65536 empty cells.
     pub fn blank(alloc: Global, width: u32) -> Result<Self, AllocError>
         requires some_cells { 1 ≤ width }
         requires few_cells { width ≤ 65536 }
@@ -57,7 +57,7 @@ impl<G: Gas> Row<G> {
         })
     }
 
-    /// Returns an equal row.
+    /// An equal row.
     pub fn copy(&self, alloc: Global) -> Result<Self, AllocError>
         ensures equal { IfOk result (λ r. r ≡ self.now) }
     {
@@ -68,7 +68,7 @@ impl<G: Gas> Row<G> {
         })
     }
 
-    /// Returns the number of cells, 1 to 65536.
+    /// The number of cells, 1 to 65536.
     pub fn width(&self) -> u32
         ensures value { result ≡ length self.now }
         ensures some_cells { 1 ≤ result }
@@ -77,7 +77,7 @@ impl<G: Gas> Row<G> {
         self.width
     }
 
-    /// Returns the state of the cell in column `x`.
+    /// The state of the cell in column `x`.
     pub fn get(&self, x: u32) -> u8
         requires within { x < length self.now }
         ensures value { result ≡ slice_index self.now x }
@@ -106,7 +106,7 @@ impl<G: Gas> Row<G> {
         load_states(&mut self.words, words_each, directions::<G>(), states);
     }
 
-    /// Returns the number of particles.
+    /// The number of particles.
     pub fn count(&self) -> u32
         ensures count { result ≡ sum_by (particles G.rules) self.now }
     {
@@ -117,7 +117,7 @@ impl<G: Gas> Row<G> {
         total
     }
 
-    /// Returns the number of cells that hold direction `i` in the columns from `from` to `to - 1`.
+    /// The number of cells that hold direction `i` in the columns from `from` to `to - 1`.
     pub fn count_in(&self, i: u32, from: u32, to: u32) -> u32
         requires direction { i < G.rules.dirs }
         requires order { from ≤ to }
@@ -128,8 +128,8 @@ impl<G: Gas> Row<G> {
         count_in(self.plane_of_width(i, self.width()), from, to)
     }
 
-    /// Returns all words: those of direction 0, from the first cell on, then those of direction 1,
-    /// and so on. A direction has a word for each 64 cells, the last one filled up with zeros.
+    /// All words: those of direction 0, from the first cell on, then those of direction 1, and so
+    /// on. A direction has a word for each 64 cells, the last one filled up with zeros.
     pub fn as_words(&self) -> &[u64]
         ensures words { AreWordsOf G.rules.dirs self.now result.now }
         ensures cells { cells_of G.rules.dirs (length self.now) result.now ≡ self.now }
@@ -143,7 +143,7 @@ impl<G: Gas> Row<G> {
         ensures words { AreWordsOf G.rules.dirs self.now out.new }
         ensures cells { cells_of G.rules.dirs (length self.now) out.new ≡ self.now }
     {
-        out.copy_from_slice(&self.words);
+        out.copy_from_slice(self.as_words());
     }
 
     /// Sets all cells from words in the order of `as_words`. Bits past the width are dropped.
@@ -168,8 +168,8 @@ impl<G: Gas> Row<G> {
         clear_planes_past(&mut self.words, directions::<G>(), self.width);
     }
 
-    /// Returns the words of direction `i`: bit `b` of word `j` is 1 if cell `64 * j + b` holds it.
-    /// Bits past the width are 0. The caller has the row's width at hand.
+    /// The words of direction `i`: bit `b` of word `j` is 1 if cell `64 * j + b` holds it. Bits
+    /// past the width are 0. The caller has the row's width at hand.
     #[inline(always)]
     pub fn plane_of_width(&self, i: u32, width: u32) -> &[u64]
         requires direction { i < G.rules.dirs }
@@ -183,14 +183,14 @@ impl<G: Gas> Row<G> {
         &words[start..start + words_each]
     }
 
-    /// Returns word `j` of direction `i`, for the cells from `64 * j` on.
+    /// Word `j` of direction `i`, for the cells from `64 * j` on.
     pub fn plane_word(&self, i: u32, j: u32) -> u64
         requires direction { i < G.rules.dirs }
         requires within { j < words_in (length self.now) }
         ensures bits { (b : ℕ) → b < 64 → holds result b
             ≡ holds (slice_index self.now (64 * j + b)) i }
     {
-        self.words[i as usize * words_for(self.width) + j as usize]
+        self.plane_of_width(i, self.width())[j as usize]
     }
 
     /// Sets word `j` of direction `i`. Bits past the width are dropped.
@@ -203,11 +203,12 @@ impl<G: Gas> Row<G> {
         ensures others { (x k : ℕ) → (x / 64 ≢ j) ⊎ (k ≢ i) →
             holds (slice_index self.new x) k ≡ holds (slice_index self.old x) k }
     {
-        let words_each = words_for(self.width);
-        self.words[i as usize * words_each + j as usize] = clear_past_width(word, j, self.width);
+        let words: &mut [u64] = &mut self.words;
+        words[i as usize * words_for(self.width) + j as usize] = word;
+        clear_planes_past(words, directions::<G>(), self.width);
     }
 
-    /// Returns the states of the 64 cells from `64 * j` on, 0 past the width.
+    /// The states of the 64 cells from `64 * j` on, 0 past the width.
     pub fn states64(&self, j: u32) -> [u8; 64]
         requires within { j < words_in (length self.now) }
         ensures states { (b : ℕ) → b < 64 → slice_index result b
@@ -261,8 +262,8 @@ pub fn collide_row<G: Gas>(row: &mut Row<G>, solid: &Mask, chi: &Mask)
     requires chi_wide { length chi.now ≡ length row.old }
     ensures wide { length row.new ≡ length row.old }
     ensures collided { row.new ≡ row_of (length row.old) (λ x.
-        collided_set G.rules (slice_index_or solid.now x false) (slice_index_or chi.now x false)
-        (slice_index row.old x)) }
+        if slice_index_or solid.now x false then 0
+        else G.rules.collide (slice_index row.old x) (slice_index_or chi.now x false)) }
 {
     let collision = Collision {
         words_each: words_for(row.width),
@@ -270,5 +271,5 @@ pub fn collide_row<G: Gas>(row: &mut Row<G>, solid: &Mask, chi: &Mask)
         chi: chi.words(),
         all_fluid: solid.is_blank(),
     };
-    collide::<G>(&mut row.words, &collision);
+    collision.collide::<G>(&mut row.words);
 }

@@ -2,6 +2,7 @@
 use Rattle.std.proofs.Common.{◌≡◌, ℕ, ◌+◌, ◌<◌, Bool, true, false, not, ◌&&◌, List, [], ◌∷◌, ◌++◌, map, length, get_or, take, pos, nat_abs, Some, None, ap, ap₂, sym, ◌∙◌, refl, arith, if◌then◌else◌}
 use Rattle.std.specs.List.{list_all}
 use Rattle.std.specs.Ordering.{int_eq}
+use Rattle.std.proofs.lemmas.Bool.Decides.{nat_tests}
 use Rattle.std.proofs.lemmas.Int.{ints}
 use Rattle.std.proofs.lemmas.List.{map-append, take_more}
 use Rattle.std.proofs.lemmas.List.Folds.{list_all-map}
@@ -21,8 +22,7 @@ use Rattle.gas_scene.specs.declared.scene_table.SceneTable.{SceneTable}
 use Rattle.gas_scene.specs.Table.{TableModel, rectangle_of, placement_of}
 use Rattle.gas_scene.specs.Refusals.{area_refusal}
 use Rattle.gas_scene.specs.Scene.{area_lattice}
-use Rattle.gas_scene.specs.Inner.Models.{table_model}
-use Rattle.gas_scene.specs.Inner.Areas.{solid_in, can_stand}
+use Rattle.gas_scene.specs.Inner.Models.{table_model, solid_in, can_stand}
 
 -- the first k values and one more, as they are read
 pub read_more : {A : Type 0} (f : Data → A) (vs : List Value) (k : ℕ) (v : Value) → k < length vs → v ≡ get_or vs k v
@@ -76,10 +76,7 @@ fits-views w h vs = sym (list_all-map (fits w h) rectangle_of (map view vs) ∙ 
 
 -- five tests, the first three as one
 rest_decides : (a b c rest : Bool) → true ≡ (a && (b && c)) → (a && (b && (c && rest))) ≡ rest
-rest_decides true true true rest all = refl
-rest_decides true true false rest all = absurd (cc)
-rest_decides true false c rest all = absurd (cc)
-rest_decides false b c rest all = absurd (cc)
+rest_decides a b c rest all = grind (arith, nat_tests, all)
 
 -- the fault of an area with a size and a rate in range, by the tests of its check
 pub area_refusal-tests : (most states : ℕ) (a : SceneTable) (s : SizeModel) (channel : ChannelModel)

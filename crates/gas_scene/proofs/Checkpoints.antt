@@ -1,6 +1,6 @@
 -- The table of a checkpoint reads as the scene that it was made of.
 use Rattle.std.proofs.Common.{◌≡◌, ℕ, ◌*◌, ◌/◌, ◌%◌, ◌^◌, ◌<◌, ◌≤◌, ◌==◌, Bool, true, false, not, ◌&&◌, cond, List, [], map, length, get_or, Some, None, pos, nat_le, nat_lt, ap, ap₂, sym, ◌∙◌, refl, arith, if◌then◌else◌}
-use Rattle.std.specs.Prelude.{Ok, Err, is_some, option_map, int_le}
+use Rattle.std.specs.Prelude.{Ok, Err, is_some, int_le}
 use Rattle.std.specs.List.{range_with_len, position}
 use Rattle.std.specs.Option.{option_or, option_map_or, unwrap_or}
 use Rattle.std.proofs.lemmas.Bool.{and_from, and_parts, leb-true}
@@ -22,14 +22,14 @@ use Rattle.gas_scene.specs.declared.catalog.KnownGas.TheVariants.{Fhp1, Hpp, Fhp
 use Rattle.gas_scene.specs.Catalog.{rules_of, gas_named, name_and_seed, chirality_named, GasLattice}
 use Rattle.gas_layout.specs.Layout.{between, lattice_of}
 use Rattle.gas_layout.proofs.Grids.{lattice_of-same}
-use Rattle.gas_scene.specs.declared.common_values.TheConstants.{LAST_GENERATION}
-use Rattle.gas_scene.specs.declared.error.SceneError.TheVariants.{Range, RowLength, BadCell}
+use Rattle.gas_scene.specs.declared.scene_table.TheConstants.{LAST_GENERATION}
+use Rattle.gas_scene.specs.declared.error.SceneError.TheVariants.{Range}
 use Rattle.gas_scene.specs.Table.{TableModel, table_of}
 use Rattle.gas_scene.specs.Refusals.{gas_of, has_wrong_length, row_length, bad_cell, map_refusal, is_common_in_range, table_refusal, value_refusal}
 use Rattle.gas_scene.specs.Scene.{map_lattice, scene_of, table_answer}
 use Rattle.gas_scene.specs.Checkpoint.{can_be_stated, checkpoint_table}
 use Rattle.gas_scene.specs.Inner.Maps.{row_at, map_cell}
-use Rattle.gas_scene.proofs.Firsts.{no_position}
+use Rattle.gas_scene.proofs.Maps.{bad_cell-none, row_length-none}
 use Rattle.gas_scene.proofs.Tables.{texts, with_rows, table_of-checkpoint, table_refusal-checkpoint}
 
 -- rows by their items
@@ -106,17 +106,13 @@ module _ (gas : KnownGas) (l : LatticeModel) (whole : IsLattice (rules_of gas) l
       ∙ fit l.channel.width channel.size.some_columns channel.size.few_columns
 
   lengths : row_length MOST_SIDE (texts l) ≡ None
-  lengths =
-      ap (option_map (λ r. RowLength r))
-      (no_position (has_wrong_length MOST_SIDE (length (row_at (texts l) 0))) (texts l) [] (λ r within. fits r (omega (arith, within, high-texts))))
+  lengths = row_length-none MOST_SIDE (texts l) (λ r within. fits r (omega (arith, within, high-texts)))
 
   columns : (r : ℕ) → r < l.channel.height → bad_column states (row_at (texts l) r) ≡ None
   columns r within = ap (bad_column states) (row-texts r within) ∙ bad_column-row_cells l.channel l.rows states r (λ x. whole.sets x r) few (λ x. whole.empty x r)
 
   cells : bad_cell states (texts l) ≡ None
-  cells =
-      ap (option_map (λ r. BadCell r (unwrap_or (bad_column states (row_at (texts l) r)) 0)))
-      (no_position (λ row. is_some (bad_column states row)) (texts l) [] (λ r within. ap is_some (columns r (omega (arith, within, high-texts)))))
+  cells = bad_cell-none states (texts l) (λ r within. ap is_some (columns r (omega (arith, within, high-texts))))
 
   map_refusal-texts : map_refusal MOST_SIDE states (texts l) ≡ None
   unfolding map_refusal

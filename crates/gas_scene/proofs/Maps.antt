@@ -15,14 +15,13 @@ use Rattle.gas_geom.specs.declared.size.TheConstants.{MOST_SIDE}
 use Rattle.gas_cells.specs.declared.reading.Cell.{Cell}
 use Rattle.gas_cells.specs.Reading.{digit_of, state_of, cell_of, cells_in, cell_at, cell_or_empty, bad_column}
 use Rattle.gas_layout.specs.Layout.{between}
-use Rattle.gas_layout.proofs.Grids.{rows_of-set_row, rows_of-replicate, lattice_of-same, if_same}
-use Rattle.gas_layout.proofs.Steps.{before-here, before-other, before-none, before-all}
+use Rattle.gas_layout.proofs.Steps.{rows_above-next, rows_above-none, rows_above-all}
 use Rattle.gas_scene.specs.declared.error.SceneError.{SceneError}
 use Rattle.gas_scene.specs.declared.error.SceneError.TheVariants.{Range, RowLength, BadCell}
 use Rattle.gas_scene.specs.Table.{text_of}
 use Rattle.gas_scene.specs.Refusals.{has_wrong_length, row_length, bad_cell, map_refusal}
 use Rattle.gas_scene.specs.Scene.{map_lattice}
-use Rattle.gas_scene.specs.Inner.Maps.{as_result, map_cell, map_width, map_before, shape_refusal, AreShort, IsMap, row_at}
+use Rattle.gas_scene.specs.Inner.Maps.{as_result, map_cell, map_width, map_before, shape_refusal, IsMap, row_at}
 use Rattle.gas_scene.proofs.Firsts.{none_passes, position-at, no_position}
 
 -- row r, by its value
@@ -36,50 +35,37 @@ length-rows vs = length-map (map view vs) text_of ∙ length-map vs view
 abbrev pub empty : Cell
 empty = record { solid = false; state = 0 }
 
--- the state of a cell, if there is one, is below the number of states, and 0 at a solid cell
-below : (states n : ℕ) (b : Bool) → 0 < states → nat_lt n states ≡ b
-    → (unwrap_or (if b then Some (record { solid = false; state = n }) else None) empty).state < states
-below states n true some is = ltb-true n states is
-below states n false some is = some
+-- what is true of a solid cell, of an empty one and of each state, is true of each cell as it is read
+module _ (P : Cell → Type 0) (states : ℕ) (solid : P (record { solid = true; state = 0 })) (none : P empty)
+    (state : (n : ℕ) → n < states → P (record { solid = false; state = n })) where
+  of_number : (n : ℕ) (b : Bool) → nat_lt n states ≡ b → P (unwrap_or (if b then Some (record { solid = false; state = n }) else None) empty)
+  of_number n true is = state n (ltb-true n states is)
+  of_number n false is = none
 
-state_of-within : (states : ℕ) (high low : Option ℕ) → 0 < states → (unwrap_or (state_of states high low) empty).state < states
-state_of-within states None low some = some
-state_of-within states (Some high) None some = some
-state_of-within states (Some high) (Some low) some = below states (high * 16 + low) (nat_lt (high * 16 + low) states) some refl
+  of_digits : (high low : Option ℕ) → P (unwrap_or (state_of states high low) empty)
+  of_digits None low = none
+  of_digits (Some high) None = none
+  of_digits (Some high) (Some low) = of_number (high * 16 + low) _ refl
 
-marked-within : (states : ℕ) (solid dots : Bool) (o : Option Cell) → 0 < states → (unwrap_or o empty).state < states
-    → (unwrap_or (if solid then Some (record { solid = true; state = 0 }) else if dots then Some empty else o) empty).state < states
-marked-within states true dots o some rest = some
-marked-within states false true o some rest = some
-marked-within states false false o some rest = rest
+  of_marks : (marked dots : Bool) (o : Option Cell) → P (unwrap_or o empty)
+      → P (unwrap_or (if marked then Some (record { solid = true; state = 0 }) else if dots then Some empty else o) empty)
+  of_marks true dots o rest = solid
+  of_marks false true o rest = none
+  of_marks false false o rest = rest
 
-pub cell_at-within : (states : ℕ) (row : List ℕ) (x : ℕ) → 0 < states → (unwrap_or (cell_at states row x) empty).state < states
-unfolding cell_of
-cell_at-within states row x some =
-    marked-within states (bytes_eq (get_or row (2 * x) 0 ∷ get_or row (2 * x + 1) 0 ∷ []) (codes "##")) (bytes_eq (get_or row (2 * x) 0 ∷ get_or row (2 * x + 1) 0 ∷ []) (codes "..")) _ some
-    (state_of-within states (digit_of (get_or row (2 * x) 0)) (digit_of (get_or row (2 * x + 1) 0)) some)
+  each_cell : (row : List ℕ) (x : ℕ) → P (cell_or_empty states row x)
+  unfolding cell_of
+  each_cell row x =
+      let a : ℕ = get_or row (2 * x) 0 in
+      let b : ℕ = get_or row (2 * x + 1) 0 in
+      of_marks (bytes_eq (a ∷ b ∷ []) (codes "##")) (bytes_eq (a ∷ b ∷ []) (codes "..")) _ (of_digits (digit_of a) (digit_of b))
 
-fluid_if : (n : ℕ) (b : Bool) → (unwrap_or (if b then Some (record { solid = false; state = n }) else None) empty).solid ≡ false
-fluid_if n true = refl
-fluid_if n false = refl
+cell-within : (states : ℕ) (row : List ℕ) (x : ℕ) → 0 < states → (cell_or_empty states row x).state < states
+cell-within states row x some = each_cell (λ c. c.state < states) states some some (λ n lt. lt) row x
 
-state_of-fluid : (states : ℕ) (high low : Option ℕ) → (unwrap_or (state_of states high low) empty).solid ≡ false
-state_of-fluid states None low = refl
-state_of-fluid states (Some high) None = refl
-state_of-fluid states (Some high) (Some low) = fluid_if (high * 16 + low) (nat_lt (high * 16 + low) states)
-
-marked-empty : (solid dots : Bool) (o : Option Cell) → (unwrap_or o empty).solid ≡ false
-    → (unwrap_or (if solid then Some (record { solid = true; state = 0 }) else if dots then Some empty else o) empty).solid ≡ true
-    → (unwrap_or (if solid then Some (record { solid = true; state = 0 }) else if dots then Some empty else o) empty).state ≡ 0
-marked-empty true dots o fluid is = refl
-marked-empty false true o fluid is = refl
-marked-empty false false o fluid is = absurd (false≢true (sym fluid ∙ is))
-
-pub solid-empty : (states : ℕ) (row : List ℕ) (x : ℕ) → (unwrap_or (cell_at states row x) empty).solid ≡ true → (unwrap_or (cell_at states row x) empty).state ≡ 0
-unfolding cell_of
-solid-empty states row x is =
-    marked-empty (bytes_eq (get_or row (2 * x) 0 ∷ get_or row (2 * x + 1) 0 ∷ []) (codes "##")) (bytes_eq (get_or row (2 * x) 0 ∷ get_or row (2 * x + 1) 0 ∷ []) (codes "..")) _
-    (state_of-fluid states (digit_of (get_or row (2 * x) 0)) (digit_of (get_or row (2 * x + 1) 0))) is
+solid-empty : (states : ℕ) (row : List ℕ) (x : ℕ) → (cell_or_empty states row x).solid ≡ true → (cell_or_empty states row x).state ≡ 0
+solid-empty states row x =
+    each_cell (λ c. c.solid ≡ true → c.state ≡ 0) states (λ _. refl) (λ is. absurd (false≢true is)) (λ n lt is. absurd (false≢true is)) row x
 
 -- a mask and states with the cells of row y of a map
 pub record IsRow (states : ℕ) (rows : List (List ℕ)) (y : ℕ) (mask : List Bool) (sets : List ℕ) : Type 0 where
@@ -105,7 +91,7 @@ IsRow-read states rows y row mask sets map in_rows here wide as_wide solid state
 pub IsRow-within : (states : ℕ) (rows : List (List ℕ)) (y : ℕ) (mask : List Bool) (sets : List ℕ) → IsRow states rows y mask sets → 0 < states
     → (x : ℕ) → get_or sets x 0 < states
 IsRow-within states rows y mask sets is some x = elim (cases_lt x (map_width rows)) [
-  | inl lt ↦ subst (λ s. s < states) (sym (is.state x lt)) (cell_at-within states (row_at rows y) x some)
+  | inl lt ↦ subst (λ s. s < states) (sym (is.state x lt)) (cell-within states (row_at rows y) x some)
   | inr le ↦ subst (λ s. s < states) (sym (get_or_past sets x 0 (omega (arith, le, is.as_wide)))) some
 ]
 
@@ -126,12 +112,6 @@ module _ (states : ℕ) (rows : List (List ℕ)) where
   abbrev state_at : ℕ → ℕ → ℕ
   state_at u v = (map_cell states rows u v).state
 
-  abbrev solid_before : ℕ → ℕ → ℕ → Bool
-  solid_before y u v = if nat_lt v y then solid_at u v else false
-
-  abbrev state_before : ℕ → ℕ → ℕ → ℕ
-  state_before y u v = if nat_lt v y then state_at u v else 0
-
   pub width-map_before : (y : ℕ) → (map_before states rows y).channel.width ≡ map_width rows
   unfolding map_before
   width-map_before y = refl
@@ -145,26 +125,20 @@ module _ (states : ℕ) (rows : List (List ℕ)) where
   unfolding map_before
   map_before-next y mask row in_rows is =
       ap₂ (λ gs rs. record { channel = record { width = map_width rows; height = length rows; solid = gs }; rows = rs })
-      (rows_of-set_row (map_width rows) (length rows) (solid_before y) (solid_before (y + 1)) y mask false in_rows is.wide
-      (λ u in_row. is.solid u in_row ∙ sym (if_same (nat_lt y (y + 1)) true (solid_at u y) false (before-here y)))
-      (λ u k other. if_same (nat_lt k y) (nat_lt k (y + 1)) (solid_at u k) false (before-other y k other)))
-      (rows_of-set_row (map_width rows) (length rows) (state_before y) (state_before (y + 1)) y row 0 in_rows is.as_wide
-      (λ u in_row. is.state u in_row ∙ sym (if_same (nat_lt y (y + 1)) true (state_at u y) 0 (before-here y)))
-      (λ u k other. if_same (nat_lt k y) (nat_lt k (y + 1)) (state_at u k) 0 (before-other y k other)))
+      (rows_above-next (map_width rows) (length rows) solid_at false y mask in_rows is.wide is.solid)
+      (rows_above-next (map_width rows) (length rows) state_at 0 y row in_rows is.as_wide is.state)
 
   pub map_before-none : empty_lattice (free_channel (map_width rows) (length rows)) ≡ map_before states rows 0
   unfolding map_before
   map_before-none =
       ap₂ (λ gs rs. record { channel = record { width = map_width rows; height = length rows; solid = gs }; rows = rs })
-      (rows_of-replicate (map_width rows) (length rows) (solid_before 0) false (λ u k. sym (if_same (nat_lt k 0) false (solid_at u k) false (before-none k))))
-      (rows_of-replicate (map_width rows) (length rows) (state_before 0) 0 (λ u k. sym (if_same (nat_lt k 0) false (state_at u k) 0 (before-none k))))
+      (rows_above-none (map_width rows) (length rows) solid_at false) (rows_above-none (map_width rows) (length rows) state_at 0)
 
   pub map_before-all : map_before states rows (length rows) ≡ map_lattice states rows
   unfolding map_before map_lattice
   map_before-all =
-      lattice_of-same (map_width rows) (length rows) (solid_before (length rows)) solid_at (state_before (length rows)) state_at
-      (λ u k _ in_column. if_same (nat_lt k (length rows)) true (solid_at u k) false (before-all (length rows) k in_column))
-      (λ u k _ in_column. if_same (nat_lt k (length rows)) true (state_at u k) 0 (before-all (length rows) k in_column))
+      ap₂ (λ gs rs. record { channel = record { width = map_width rows; height = length rows; solid = gs }; rows = rs })
+      (rows_above-all (map_width rows) (length rows) solid_at false) (rows_above-all (map_width rows) (length rows) state_at 0)
 
 pub as_result-none : (o : Option SceneError) → as_result o ≡ Ok tt → o ≡ None
 as_result-none None ok = refl
@@ -227,13 +201,7 @@ module _ (most : ℕ) (rows : List (List ℕ)) (few : most ≤ MOST_SIDE) (lengt
   fits : (r : ℕ) → r < length rows → (1 ≤ cells_in (row_at rows r)) × ((cells_in (row_at rows r) ≤ most) × (length (row_at rows r) ≡ length (row_at rows 0)))
   fits r within = fitting most _ (row_at rows r) (none_passes _ rows (mapped_none (λ r. RowLength r) _ lengths) r [] within)
 
-  pub AreShort-lengths : length rows ≤ MOST_SIDE → AreShort rows
-  AreShort-lengths high = record {
-    high = high;
-    wide = λ r within. let short = (fits r within).1.0 in omega (arith, short, few);
-  }
-
-  pub IsMap-accepted : between (pos 1) (pos most) (pos (length rows)) ≡ true → IsMap rows
+  IsMap-accepted : between (pos 1) (pos most) (pos (length rows)) ≡ true → IsMap rows
   IsMap-accepted high =
       let some_rows : 1 ≤ length rows = grind (arith, ints, high) in
       let few_rows : length rows ≤ most = grind (arith, ints, high) in
@@ -248,9 +216,12 @@ module _ (most : ℕ) (rows : List (List ℕ)) (few : most ≤ MOST_SIDE) (lengt
       }
 
 -- a map of an accepted shape
-pub shape_parts : (most : ℕ) (rows : List (List ℕ)) → shape_refusal most rows ≡ None → (between (pos 1) (pos most) (pos (length rows)) ≡ true) × (row_length most rows ≡ None)
+shape_parts : (most : ℕ) (rows : List (List ℕ)) → shape_refusal most rows ≡ None → (between (pos 1) (pos most) (pos (length rows)) ≡ true) × (row_length most rows ≡ None)
 shape_parts most rows none = by (between (pos 1) (pos most) (pos (length rows))) (row_length most rows) none
   where
     by : (b : Bool) (o : Option SceneError) → (if not b then Some Range else o) ≡ None → (b ≡ true) × (o ≡ None)
     by true o e = (refl, e)
     by false o e = absurd (cc)
+
+pub IsMap-shaped : (most : ℕ) (rows : List (List ℕ)) → most ≤ MOST_SIDE → shape_refusal most rows ≡ None → IsMap rows
+IsMap-shaped most rows few none = let parts = shape_parts most rows none in IsMap-accepted most rows few parts.1 parts.0

@@ -1,5 +1,4 @@
 -- Inner words: what functions of this crate promise one another. No public contract cites them.
 pub mod Models
-pub mod Areas
 pub mod Maps
 pub mod Printing

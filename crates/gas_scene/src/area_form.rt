@@ -1,19 +1,21 @@
 //! The lattice of an area.
 
-ghost use Rattle.std.specs.Prelude.{◌≡◌, ℕ, ◌^◌, Bool, true, map, nat_abs, IfOk};
+ghost use Rattle.std.specs.Prelude.{◌≡◌, ℕ, ◌^◌, Bool, true, map, nat_abs, IfOk, ◌⊎◌, ◌≤◌, ◌&&◌, Some, None, is_some, pos, IfSome, IfErr};
 ghost use Rattle.std.specs.List.{list_all};
 ghost use Rattle.toml.specs.View.{view};
 ghost use Rattle.gas_geom.specs.Size.{IsSize};
-ghost use Rattle.gas_layout.specs.Layout.{fits, drawn, lattice_of, placed};
+ghost use Rattle.gas_layout.specs.Layout.{fits, drawn, lattice_of, placed, between};
 ghost use Rattle.gas_scene.specs.Table.{rectangle_of, placement_of};
 ghost use Rattle.gas_scene.specs.Scene.{area_lattice};
-ghost use Rattle.gas_scene.specs.Inner.Models.{table_model};
-ghost use Rattle.gas_scene.specs.Inner.Areas.{can_stand, IsDrawn};
+ghost use Rattle.gas_scene.specs.Inner.Models.{can_stand, table_model, IsDrawn};
+ghost use Rattle.gas_geom.specs.declared.size.TheConstants.{MOST_SIDE};
+ghost use Rattle.gas_scene.specs.Catalog.{rules_of, gas_lattice};
+ghost use Rattle.gas_scene.specs.declared.error.SceneError.TheVariants.{Memory};
+ghost use Rattle.gas_scene.specs.Refusals.{area_refusal};
 
 use crate::catalog::{AnyLattice, any_lattice};
-use crate::common_values::CommonValues;
 use crate::error::SceneError;
-use crate::scene_table::SceneTable;
+use crate::scene_table::{CommonValues, SceneTable};
 use crate::toml_values::{placement, rectangle};
 use gas_geom::gas::Gas;
 use gas_geom::size::Size;
@@ -95,16 +97,6 @@ fn area_lattice<G: Gas>(
 }
 
 impl SceneTable<'_> {
-    ghost use Rattle.std.specs.Prelude.{◌≡◌, ◌⊎◌, ◌^◌, ◌≤◌, ◌&&◌, Some, None, is_some, pos, nat_abs, IfSome, IfOk, IfErr};
-    ghost use Rattle.gas_geom.specs.declared.size.TheConstants.{MOST_SIDE};
-    ghost use Rattle.gas_layout.specs.Layout.{between};
-    ghost use Rattle.gas_scene.specs.Catalog.{rules_of, gas_lattice};
-    ghost use Rattle.gas_scene.specs.declared.error.SceneError.TheVariants.{Memory};
-    ghost use Rattle.gas_scene.specs.Refusals.{area_refusal};
-    ghost use Rattle.gas_scene.specs.Scene.{area_lattice};
-    ghost use Rattle.gas_scene.specs.Inner.Models.{table_model};
-    ghost use Rattle.gas_scene.specs.Inner.Areas.{IsDrawn};
-
     // The size of the area if its sides and its rate are in their ranges.
     fn size(&self, most: u32) -> Option<Size>
         requires { most ≤ MOST_SIDE }

@@ -1,6 +1,7 @@
 //! The gases, a lattice of any of them, and the choice by gas.
 
 ghost use Rattle.std.specs.Prelude.{◌≡◌, ◌^◌};
+ghost use Rattle.gas_scene.specs.Catalog.{gas_named, rules_of, gas_lattice};
 
 use gas_geom::fhp_rest::FhpRest;
 use gas_geom::fhp1::Fhp1;
@@ -57,9 +58,6 @@ pub(crate) fn states<G: Gas>() -> u16
 }
 
 impl KnownGas {
-    ghost use Rattle.std.specs.Prelude.{◌≡◌, ◌^◌};
-    ghost use Rattle.gas_scene.specs.Catalog.{gas_named, rules_of};
-
     /// The gas of this name.
     pub fn named(name: &str) -> Option<KnownGas>
         ensures known { result ≡ gas_named name.now }
@@ -99,9 +97,6 @@ impl KnownGas {
 }
 
 impl AnyLattice {
-    ghost use Rattle.std.specs.Prelude.{◌≡◌};
-    ghost use Rattle.gas_scene.specs.Catalog.{gas_lattice};
-
     /// The gas of the lattice.
     pub fn gas(&self) -> KnownGas
         ensures gas { result ≡ (gas_lattice self.now).gas }

@@ -14,8 +14,8 @@ ghost use Rattle.gas_scene.specs.Checkpoint.{can_be_stated, checkpoint_table};
 ghost use Rattle.gas_scene.specs.Inner.Printing.{row_values, insert_member, insert_seed, insert_all};
 
 use crate::catalog::{AnyLattice, KnownGas};
-use crate::common_values::LAST_GENERATION;
 use crate::error::SceneError;
+use crate::scene_table::LAST_GENERATION;
 use crate::with_lattice;
 use gas_cells::cells::{CHARACTERS, row_block, row_blocks};
 use gas_geom::gas::Gas;

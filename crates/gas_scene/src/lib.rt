@@ -4,7 +4,6 @@
 mod area_form;
 pub mod catalog;
 pub mod checkpoint;
-mod common_values;
 pub mod error;
 mod map_form;
 pub mod scene;

@@ -10,7 +10,7 @@ ghost use Rattle.gas_scene.specs.declared.error.SceneError.TheVariants.{Memory};
 ghost use Rattle.gas_scene.specs.Refusals.{has_wrong_length, row_length, bad_cell, map_refusal};
 ghost use Rattle.gas_scene.specs.Scene.{map_lattice};
 ghost use Rattle.gas_scene.specs.Inner.Models.{texts_of};
-ghost use Rattle.gas_scene.specs.Inner.Maps.{as_result, map_before, map_width, shape_refusal, AreShort, IsMap, row_at};
+ghost use Rattle.gas_scene.specs.Inner.Maps.{as_result, map_before, map_width, shape_refusal, IsMap, row_at};
 
 use crate::catalog::{AnyLattice, KnownGas, any_lattice, states};
 use crate::error::SceneError;
@@ -64,7 +64,7 @@ fn check_lengths(most: u32, rows: &[Value]) -> Result<(), SceneError>
 
 // Refuses the first pair of characters that is no cell.
 fn check_cells(states: u16, rows: &[Value]) -> Result<(), SceneError>
-    requires { AreShort (texts_of rows.now) }
+    requires { IsMap (texts_of rows.now) }
     ensures { result ≡ as_result (bad_cell states (texts_of rows.now)) }
 {
     for r in 0..rows.len() {

@@ -1,16 +1,18 @@
 //! Scenes, and the reading of a scene's text.
 
-ghost use Rattle.std.specs.Prelude.{◌≡◌, ◌⊎◌, Err};
+ghost use Rattle.std.specs.Prelude.{◌≡◌, ◌⊎◌, Err, ◌≤◌, true, Some, None, nat_abs, IfOk, IfErr};
 ghost use Rattle.toml.specs.View.{table_view};
 ghost use Rattle.gas_scene.specs.declared.error.SceneError.TheVariants.{Memory};
-ghost use Rattle.gas_scene.specs.Scene.{table_answer, scene_of_text};
+ghost use Rattle.gas_scene.specs.Scene.{table_answer, scene_of_text, scene_of};
+ghost use Rattle.gas_scene.specs.Catalog.{gas_lattice};
+ghost use Rattle.gas_scene.specs.Refusals.{gas_of, is_common_in_range, most_side, value_refusal};
+ghost use Rattle.gas_scene.specs.Inner.Models.{table_model};
 
 use crate::catalog::AnyLattice;
-use crate::common_values::CommonValues;
-pub use crate::common_values::LAST_GENERATION;
 use crate::error::SceneError;
 use crate::map_form;
-use crate::scene_table::SceneTable;
+pub use crate::scene_table::LAST_GENERATION;
+use crate::scene_table::{CommonValues, SceneTable};
 use gas_rows::chirality::Chirality;
 use std::alloc::Global;
 use std::marker::Model;
@@ -42,9 +44,6 @@ impl Model for Scene {
 }
 
 impl Scene {
-    ghost use Rattle.std.specs.Prelude.{◌≡◌, ◌≤◌};
-    ghost use Rattle.gas_scene.specs.Catalog.{gas_lattice};
-
     /// The lattice.
     pub fn lattice(&self) -> &AnyLattice
         ensures value { gas_lattice result.now ≡ self.now.lattice }
@@ -69,13 +68,6 @@ impl Scene {
 }
 
 impl SceneTable<'_> {
-    ghost use Rattle.std.specs.Prelude.{◌≡◌, ◌⊎◌, true, Some, None, nat_abs, IfOk, IfErr};
-    ghost use Rattle.gas_scene.specs.Catalog.{gas_lattice};
-    ghost use Rattle.gas_scene.specs.declared.error.SceneError.TheVariants.{Memory};
-    ghost use Rattle.gas_scene.specs.Scene.{scene_of};
-    ghost use Rattle.gas_scene.specs.Refusals.{gas_of, is_common_in_range, most_side, value_refusal};
-    ghost use Rattle.gas_scene.specs.Inner.Models.{table_model};
-
     // The lattice of the map or of the area, or the first fault of its values.
     #[tactic(auto, unfolding(crate::specs::Refusals::value_refusal))]
     fn lattice(&self, alloc: Global, common: CommonValues) -> Result<AnyLattice, SceneError>

@@ -1,19 +1,35 @@
-//! The table of a scene, its values as texts and numbers.
+//! The table of a scene: its values as texts and numbers, and in their ranges the ones that maps and
+//! areas share.
 
-ghost use Rattle.std.specs.Prelude.{◌≡◌, ◌&&◌, ◌||◌, not, pos, codes, string_bytes};
+ghost use Rattle.std.specs.Prelude.{◌≡◌, ◌&&◌, ◌||◌, not, pos, codes, string_bytes, ◌≤◌, Some, None, is_some, is_ok, nat_abs, int_le, IfSome, IfErr, IfOk};
 ghost use Rattle.std.specs.BTreeMap.{keys as map_keys};
 ghost use Rattle.std.specs.List.{list_all, list_any};
 ghost use Rattle.std.specs.Ordering.{int_eq};
 ghost use Rattle.std.specs.Str.{bytes_eq};
 ghost use Rattle.toml.specs.View.{table_view};
-ghost use Rattle.gas_scene.specs.Keys.{are_known, area_keys};
+ghost use Rattle.gas_scene.specs.Catalog.{chirality_named};
+ghost use Rattle.gas_scene.specs.Keys.{are_known, area_keys, is_typed};
 ghost use Rattle.gas_scene.specs.Table.{table_of};
-ghost use Rattle.gas_scene.specs.Refusals.{has};
-ghost use Rattle.gas_scene.specs.Inner.Models.{is_known};
+ghost use Rattle.gas_scene.specs.Refusals.{has, most_side, gas_of, is_common_in_range, table_refusal};
+ghost use Rattle.gas_scene.specs.Inner.Models.{is_known, table_model};
+ghost use Rattle.gas_layout.specs.Layout.{between};
+ghost use Rattle.gas_scene.specs.Scene.{scene_of};
+ghost use Rattle.gas_scene.specs.declared.scene_table.TheConstants.{LAST_GENERATION};
+ghost use Rattle.gas_scene.specs.declared.error.SceneError.TheVariants.{WrongType};
 
+use crate::catalog::KnownGas;
 use crate::error::SceneError;
 use crate::toml_values::{integer_at, text_at, texts_at, tuples_at, value_at};
+use gas_geom::size::MOST_SIDE;
+use gas_layout::area::is_between;
+use gas_rows::chirality::Chirality;
 use toml::{Table, Value};
+
+/// The last generation that a scene can have.
+pub const LAST_GENERATION: u64 = 1_000_000_000_000;
+
+// The most columns of a scene of version 1, and the most rows.
+const FIRST_MOST_SIDE: u32 = 4096;
 
 // The keys of both forms, and the one of a map.
 const KEYS: [&str; 6] = ["version", "generation", "seed", "gas", "chirality", "cells"];
@@ -62,18 +78,13 @@ fn has_area(table: &Table) -> bool
     AREA_KEYS.iter().any(|key| has(table, key))
 }
 
-// Whether a key is in a list.
-fn is_among(key: &str, keys: &[&str]) -> bool
-    ensures { result ≡ list_any (λ k. bytes_eq key.now k.now) keys.now }
-{
-    keys.iter().any(|known| key == *known)
-}
-
 // Whether a scene can have the key.
 fn is_known(key: &str) -> bool
     ensures { result ≡ is_known key.now }
 {
-    is_among(key, &KEYS) || is_among(key, &AREA_KEYS)
+    KEYS.iter()
+        .chain(AREA_KEYS.iter())
+        .any(|known| key == *known)
 }
 
 // Whether the keys of the table are keys of a scene.
@@ -101,15 +112,41 @@ fn is_complete(table: &Table) -> bool
     has(table, "gas") && (has(table, "cells") || has(table, "width") && has(table, "height"))
 }
 
-impl<'a> SceneTable<'a> {
-    ghost use Rattle.std.specs.Prelude.{◌≡◌, Some, None, is_ok, IfErr, IfOk};
-    ghost use Rattle.toml.specs.View.{table_view};
-    ghost use Rattle.gas_scene.specs.Keys.{is_typed};
-    ghost use Rattle.gas_scene.specs.Table.{table_of};
-    ghost use Rattle.gas_scene.specs.Refusals.{table_refusal};
-    ghost use Rattle.gas_scene.specs.Inner.Models.{table_model};
-    ghost use Rattle.gas_scene.specs.declared.error.SceneError.TheVariants.{WrongType};
+/// The values that maps and areas share.
+#[derive(Clone, Copy)]
+pub struct CommonValues {
+    pub gas: KnownGas,
+    pub chirality: Chirality,
+    pub seed: u64,
+    pub generation: u64,
+    /// The most columns, and the most rows.
+    pub most_side: u32,
+}
 
+// The most columns of a scene of a version, and the most rows.
+fn most_side(version: i64) -> u32
+    ensures { result ≡ most_side version }
+{
+    if version == 2 {
+        MOST_SIDE
+    } else {
+        FIRST_MOST_SIDE
+    }
+}
+
+// The chirality of this name. A seeded one has this seed.
+fn chirality(name: &str, seed: u64) -> Option<Chirality>
+    ensures { result ≡ chirality_named name.now seed }
+{
+    match name {
+        "seeded" => Some(Chirality::Seeded(seed)),
+        "left" => Some(Chirality::Left),
+        "right" => Some(Chirality::Right),
+        _ => None,
+    }
+}
+
+impl<'a> SceneTable<'a> {
     // The scene's table. The error is `WrongType` if a value has another type than its key.
     #[tactic(auto, unfolding(crate::specs::Keys::is_typed))]
     fn typed(table: &'a Table) -> Result<SceneTable<'a>, SceneError>
@@ -149,5 +186,39 @@ impl<'a> SceneTable<'a> {
             return Err(SceneError::Missing);
         }
         SceneTable::typed(table)
+    }
+
+    // Whether the numbers are in their ranges.
+    fn has_common_numbers(&self) -> bool
+        ensures { result ≡ (between (pos 1) (pos 2) self.now.version
+            && (int_le (pos 0) self.now.seed
+            && between (pos 0) (pos 1000000000000) self.now.generation)) }
+    {
+        is_between(1, 2, self.version)
+            && 0 <= self.seed
+            && is_between(0, LAST_GENERATION as i64, self.generation)
+    }
+
+    /// The values that maps and areas share, or None if one is out of its range.
+    pub(crate) fn common_values(&self) -> Option<CommonValues>
+        ensures within { is_some result ≡ is_common_in_range (table_model self.now) }
+        ensures gas { IfSome result (λ c. c.gas ≡ gas_of (table_model self.now)) }
+        ensures chirality { IfSome result (λ c. c.chirality ≡ (scene_of (table_model self.now)).chirality) }
+        ensures seed { IfSome result (λ c. c.seed ≡ nat_abs self.now.seed) }
+        ensures generation { IfSome result (λ c. c.generation ≡ nat_abs self.now.generation) }
+        ensures few { IfSome result (λ c. c.generation ≤ LAST_GENERATION) }
+        ensures most { IfSome result (λ c. c.most_side ≡ most_side self.now.version) }
+    {
+        if !self.has_common_numbers() {
+            return None;
+        }
+        let seed = self.seed.unsigned_abs();
+        Some(CommonValues {
+            gas: KnownGas::named(self.gas)?,
+            chirality: chirality(self.chirality, seed)?,
+            seed,
+            generation: self.generation.unsigned_abs(),
+            most_side: most_side(self.version),
+        })
     }
 }

@@ -1,7 +1,6 @@
 //! Values read as the types of their keys.
 
 ghost use Rattle.std.specs.Prelude.{◌≡◌, true, [], is_ok, map, option_map, IfOk, IfErr};
-ghost use Rattle.std.specs.List.{list_all};
 ghost use Rattle.std.specs.Option.{option_map_or};
 ghost use Rattle.toml.specs.Data.{get_member, as_str, as_integer};
 ghost use Rattle.toml.specs.View.{view, table_view};
@@ -62,47 +61,26 @@ fn elements(value: &Value) -> &[Value]
     }
 }
 
-// Whether each value is a text.
-fn are_texts(values: &[Value]) -> bool
-    ensures { result ≡ list_all (λ v. has_type as_str (view v)) values.now }
-{
-    values.iter().all(|value| value.is_str())
-}
-
-// Whether each value is an integer.
-fn are_integers(values: &[Value]) -> bool
-    ensures { result ≡ list_all (λ v. has_type as_integer (view v)) values.now }
-{
-    values.iter().all(|value| value.is_integer())
-}
-
 // Whether the value is an array of `n` integers.
 fn is_tuple(value: &Value, n: usize) -> bool
     ensures { result ≡ is_tuple n (view value.now) }
 {
     let numbers = elements(value);
-    numbers.len() == n && (value.is_array() && are_integers(numbers))
-}
-
-// Whether each value is an array of `n` integers.
-fn are_tuples(values: &[Value], n: usize) -> bool
-    ensures { result ≡ list_all (λ v. is_tuple n (view v)) values.now }
-{
-    values.iter().all(|value| is_tuple(value, n))
+    numbers.len() == n && (value.is_array() && numbers.iter().all(|number| number.is_integer()))
 }
 
 // Whether the value is an array of texts.
 fn is_array_of_texts(value: &Value) -> bool
     ensures { result ≡ is_array_of (has_type as_str) (view value.now) }
 {
-    value.is_array() && are_texts(elements(value))
+    value.is_array() && elements(value).iter().all(|text| text.is_str())
 }
 
 // Whether the value is an array of arrays of `n` integers.
 fn is_array_of_tuples(value: &Value, n: usize) -> bool
     ensures { result ≡ is_array_of (is_tuple n) (view value.now) }
 {
-    value.is_array() && are_tuples(elements(value), n)
+    value.is_array() && elements(value).iter().all(|tuple| is_tuple(tuple, n))
 }
 
 /// The elements of the array of texts at a key, if there is one. The error is `WrongType`.

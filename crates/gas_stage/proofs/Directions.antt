@@ -33,9 +33,7 @@ holds-streamed gas c at x y i h = by (is_solid c x y)
 
 by_cases : (s t own met back came back' came' : Bool) → own ≡ s → met ≡ t → (s ≡ false → back ≡ back') → (t ≡ false → came ≡ came')
     → streamed_bit came met back own ≡ (if s then false else if t then back' else came')
-by_cases true t own met back came back' came' eo em hb hc = ap (λ o. streamed_bit came met back o) eo
-by_cases false true own met back came back' came' eo em hb hc = ap (λ o. streamed_bit came met back o) eo ∙ ap (λ m. if m then back else came) em ∙ hb refl
-by_cases false false own met back came back' came' eo em hb hc = ap (λ o. streamed_bit came met back o) eo ∙ ap (λ m. if m then back else came) em ∙ hc refl
+by_cases s t own met back came back' came' eo em hb hc = grind arith
 
 -- a set is known by its directions
 same_set : (n s t : ℕ) → s < 2 ^ n → t < 2 ^ n → ((i : ℕ) → i < n → holds s i ≡ holds t i) → s ≡ t
@@ -57,24 +55,15 @@ row_streamed gas c at y row wide small each =
     (λ x h. same_set gas.dirs (get_or row x 0) (streamed gas c at x y) (small x) (streamed-lt gas c at x y) (λ i lt. each i x lt h))
 
 -- ---- the row beside
-row_after-back : (h y v : ℕ) → row_after h y Back ≡ Some v → (0 < y) × (y - 1 ≡ v)
-row_after-back h y v there = (grind (arith, nat_tests), grind (arith, nat_tests))
-
-row_after-stay : (h y v : ℕ) → row_after h y Stay ≡ Some v → y ≡ v
-row_after-stay h y v there = grind (arith, nat_tests)
-
-row_after-on : (h y v : ℕ) → row_after h y On ≡ Some v → (y + 1 < h) × (y + 1 ≡ v)
-row_after-on h y v there = (grind (arith, nat_tests), grind (arith, nat_tests))
-
 after_move : (c : ChannelModel) (at : ℕ → ℕ → ℕ) (y v : ℕ) (up mid down : List ℕ) (m : Move) → row_after c.height y m ≡ Some v
     → AreRowsAbout c at y up mid down → IsRowAt c at v (row_beside m up mid down)
 after_move c at y v up mid down Back there rows =
-    let back = row_after-back c.height y v there in
-    subst (λ k. IsRowAt c at k up) back.1 (rows.up_is back.0)
-after_move c at y v up mid down Stay there rows = subst (λ k. IsRowAt c at k mid) (row_after-stay c.height y v there) rows.mid_is
+    let some : 0 < y = grind (arith, nat_tests) in
+    subst (λ k. IsRowAt c at k up) (let e : y - 1 ≡ v = grind (arith, nat_tests) in e) (rows.up_is some)
+after_move c at y v up mid down Stay there rows = subst (λ k. IsRowAt c at k mid) (let e : y ≡ v = grind (arith, nat_tests) in e) rows.mid_is
 after_move c at y v up mid down On there rows =
-    let on = row_after-on c.height y v there in
-    subst (λ k. IsRowAt c at k down) on.1 (rows.down_is on.0)
+    let more : y + 1 < c.height = grind (arith, nat_tests) in
+    subst (λ k. IsRowAt c at k down) (let e : y + 1 ≡ v = grind (arith, nat_tests) in e) (rows.down_is more)
 
 -- ---- one direction of a cell
 -- from what the four words say of it, where past a wall all cells are solid

@@ -5,7 +5,7 @@ use Rattle.std.proofs.lemmas.List.{length_push}
 use Rattle.std.proofs.lemmas.List.FromFn.{get_or-map-range_with_len}
 use Rattle.gas_geom.specs.Gas.{Rules}
 use Rattle.gas_geom.specs.Channel.{ChannelModel, is_solid}
-use Rattle.gas_geom.specs.Lattice.{cell, row_of, collided_set, streamed, next}
+use Rattle.gas_geom.specs.Lattice.{cell, row_of, streamed, next}
 use Rattle.gas_rows.specs.Chirality.{chirality_bit}
 use Rattle.gas_rows.specs.declared.chirality.Chirality.{Chirality}
 use Rattle.gas_stage.specs.Streaming.{IsRowAt, AreRowsAbout}
@@ -19,7 +19,7 @@ use Rattle.gas_stage.proofs.Local.{collided_at, cell-push_at, collided_of, colli
 -- a collided row, from its sets, its solid cells and its random bits
 abbrev collided_row : Rules → List Bool → List Bool → List ℕ → List ℕ
 collided_row gas solid bits row =
-    row_of (length row) (λ x. collided_set gas (get_or solid x false) (get_or bits x false) (get_or row x 0))
+    row_of (length row) (λ x. if get_or solid x false then 0 else gas.collide (get_or row x 0) (get_or bits x false))
 
 module _ (gas : Rules) (c : ChannelModel) (chi : ℕ → ℕ → Bool) (q : List (List ℕ)) where
   -- the row that was fed, collided by random bits that make no difference from those of its cells
@@ -28,14 +28,13 @@ module _ (gas : Rules) (c : ChannelModel) (chi : ℕ → ℕ → Bool) (q : List
       ((s x : ℕ) → x < c.width → gas.collide s (get_or bits x false) ≡ gas.collide s (chi x y)) →
       collided_row gas solid bits row ≡ collided_at gas c chi (q ++ row ∷ []) y
   collided_row-push row solid bits y here wide solid_is collides =
-      ap (λ n. row_of n (λ x. collided_set gas (get_or solid x false) (get_or bits x false) (get_or row x 0))) wide
-      ∙ row_of-same 0 c.width
-      (λ x. collided_set gas (get_or solid x false) (get_or bits x false) (get_or row x 0))
+      ap (λ n. row_of n (λ x. if get_or solid x false then 0 else gas.collide (get_or row x 0) (get_or bits x false))) wide
+      ∙ row_of-same 0 c.width _
       (λ x. collided_of gas c chi (q ++ row ∷ []) x y)
       (λ x h.
       let set : get_or row x 0 ≡ cell (q ++ row ∷ []) x y = sym (cell-push_at q row x y here) in
-      ap (λ (l : List Bool). collided_set gas (get_or l x false) (get_or bits x false) (get_or row x 0)) solid_is
-      ∙ ap (collided_set gas (is_solid c x y) (get_or bits x false)) set
+      ap (λ (l : List Bool). if get_or l x false then 0 else gas.collide (get_or row x 0) (get_or bits x false)) solid_is
+      ∙ ap (λ s. if is_solid c x y then 0 else gas.collide s (get_or bits x false)) set
       ∙ ap (λ v. if is_solid c x y then 0 else v) (collides (cell (q ++ row ∷ []) x y) x h))
 
   -- a row that was fed before stays as it was

@@ -1,8 +1,7 @@
 -- A pass over a queue of rows: those that are still to be fed stand in front, those that the stage gave behind.
-use Rattle.std.proofs.Common.{◌≡◌, ℕ, ◌+◌, ◌-◌, ◌<◌, ◌≤◌, Some, Option, List, [], ◌∷◌, ◌++◌, length, take, get_or, ap, ◌∙◌, sym, subst, arith, append_assoc, append-nil, add-one, Bool, if◌then◌else◌, eq-eqb}
+use Rattle.std.proofs.Common.{◌≡◌, ℕ, ◌+◌, ◌-◌, ◌<◌, ◌≤◌, Some, Option, List, [], ◌∷◌, ◌++◌, length, take, drop, get_or, ap, ◌∙◌, sym, subst, arith, append_assoc, add-one, length-append, length-drop, drop-cons, Bool, if◌then◌else◌, eq-eqb}
 use Rattle.std.specs.Option.{option_to_list}
-use Rattle.std.proofs.lemmas.List.{length-append, length-take, nil_from_length}
-use Rattle.std.proofs.Math.Seq.{get_or-append_seam}
+use Rattle.std.proofs.lemmas.List.{length-take, take_all, take_more, drop_all}
 use Rattle.gas_geom.specs.Gas.{Rules, IsGas}
 use Rattle.gas_geom.specs.Lattice.{IsLattice, next, generation}
 use Rattle.gas_geom.proofs.Runs.{IsLattice-generation}
@@ -11,74 +10,43 @@ use Rattle.gas_rows.specs.declared.chirality.Chirality.{Chirality}
 use Rattle.gas_geom.specs.Channel.{ChannelModel}
 use Rattle.gas_stage.specs.Stage.{StageModel, MayHaveBeenFed, given, owed}
 
--- of the rows `all`, a stage that was `old` when the pass from generation g began has been fed n, and `rest` is still to come
+-- a stage that was `old` when the pass from generation g began has been fed n of the rows `all`, and the others are still queued
 pub record IsUnderWay (gas : Rules) (old s : StageModel) (g : ℕ) (all queue : List (List ℕ)) (n : ℕ) : Type 0 where
-  pub fed : List (List ℕ)
-  pub rest : List (List ℕ)
-  pub joined : fed ++ rest ≡ all
-  pub counted : length fed ≡ n
   pub channel : s.channel ≡ old.channel
   pub chirality : s.chirality ≡ old.chirality
-  pub fits : MayHaveBeenFed gas s (Some g) fed
-  pub queued : queue ≡ rest ++ given gas old.channel old.chirality (Some g) fed
+  pub fits : MayHaveBeenFed gas s (Some g) (take n all)
+  pub queued : queue ≡ drop n all ++ given gas old.channel old.chirality (Some g) (take n all)
 
 -- the row at the front of the queue is the next one
-pub record IsNext (gas : Rules) (old : StageModel) (g : ℕ) (all fed : List (List ℕ)) (row : List ℕ) (behind : List (List ℕ)) : Type 0 where
-  pub rest : List (List ℕ)
-  pub joined : fed ++ row ∷ rest ≡ all
-  pub is : get_or all (length fed) [] ≡ row
-  pub queued : behind ≡ rest ++ given gas old.channel old.chirality (Some g) fed
-
-pub next_of : (gas : Rules) (old s : StageModel) (g : ℕ) (all queue behind : List (List ℕ)) (n : ℕ) (row : List ℕ) →
-    (way : IsUnderWay gas old s g all queue n) → n < length all → queue ≡ row ∷ behind →
-    IsNext gas old g all way.fed row behind
-next_of gas old s g all queue behind n row way left front = by way.rest way.joined way.queued
-  where
-    by : (rest : List (List ℕ)) → way.fed ++ rest ≡ all → queue ≡ rest ++ given gas old.channel old.chirality (Some g) way.fed →
-        IsNext gas old g all way.fed row behind
-    by [] joined queued =
-        absurd (omega (arith, ap length (sym (append-nil way.fed) ∙ joined), way.counted))
-    by (r ∷ rest) joined queued =
-        let both : row ∷ behind ≡ r ∷ (rest ++ given gas old.channel old.chirality (Some g) way.fed) = sym front ∙ queued in
-        let same : row ≡ r = cc in
-        let there : way.fed ++ row ∷ rest ≡ all = ap (λ (x : List ℕ). way.fed ++ x ∷ rest) same ∙ joined in
-        record {
-          rest = rest;
-          joined = there;
-          is = sym (ap (λ (l : List (List ℕ)). get_or l (length way.fed) []) there) ∙ get_or-append_seam way.fed row rest [];
-          queued = cc;
-        }
+pub next_of : (all queue behind gave : List (List ℕ)) (n : ℕ) (row : List ℕ) → n < length all → queue ≡ drop n all ++ gave → queue ≡ row ∷ behind →
+    (row ≡ get_or all n []) × (behind ≡ drop (n + 1) all ++ gave)
+next_of all queue behind gave n row left queued front =
+    let both : row ∷ behind ≡ get_or all n [] ∷ (drop (n + 1) all ++ gave) =
+    sym front ∙ queued ∙ ap (λ (l : List (List ℕ)). l ++ gave) (drop-cons all n [] left)
+    ∙ ap (λ k. get_or all n [] ∷ (drop k all ++ gave)) (sym (add-one n)) in
+    (cc, cc)
 
 -- one row more
 pub under_way_next : (gas : Rules) (old s s' : StageModel) (g : ℕ) (all queue behind queue' : List (List ℕ)) (n : ℕ) (row : List ℕ)
-    (gave : Option (List ℕ)) → (way : IsUnderWay gas old s g all queue n) → IsNext gas old g all way.fed row behind →
-    s'.channel ≡ s.channel → s'.chirality ≡ s.chirality → MayHaveBeenFed gas s' (Some g) (way.fed ++ row ∷ []) →
-    given gas s.channel s.chirality (Some g) (way.fed ++ row ∷ [])
-    ≡ given gas s.channel s.chirality (Some g) way.fed ++ option_to_list gave →
+    (gave : Option (List ℕ)) → IsUnderWay gas old s g all queue n → n < length all → queue ≡ row ∷ behind →
+    s'.channel ≡ s.channel → s'.chirality ≡ s.chirality → MayHaveBeenFed gas s' (Some g) (take n all ++ row ∷ []) →
+    given gas s.channel s.chirality (Some g) (take n all ++ row ∷ [])
+    ≡ given gas s.channel s.chirality (Some g) (take n all) ++ option_to_list gave →
     queue' ≡ behind ++ option_to_list gave → IsUnderWay gas old s' g all queue' (n + 1)
-under_way_next gas old s s' g all queue behind queue' n row gave way next channel chirality fits gives pushed = record {
-  fed = way.fed ++ row ∷ [];
-  rest = next.rest;
-  joined = append_assoc way.fed (row ∷ []) next.rest ∙ next.joined;
-  counted = length-append way.fed (row ∷ []) ∙ ap (λ k. k + 1) way.counted;
-  channel = channel ∙ way.channel;
-  chirality = chirality ∙ way.chirality;
-  fits = fits;
-  queued =
-      pushed ∙ ap (λ (l : List (List ℕ)). l ++ option_to_list gave) next.queued
-      ∙ append_assoc next.rest (of_old way.fed) (option_to_list gave)
-      ∙ ap (λ (l : List (List ℕ)). next.rest ++ l) (sym gives_old);
-}
-  where
-    of_old : List (List ℕ) → List (List ℕ)
-    of_old q = given gas old.channel old.chirality (Some g) q
-
-    gives_old : of_old (way.fed ++ row ∷ []) ≡ of_old way.fed ++ option_to_list gave
-    gives_old =
-        subst (λ (c : ChannelModel). given gas c old.chirality (Some g) (way.fed ++ row ∷ []) ≡ given gas c old.chirality (Some g) way.fed ++ option_to_list gave)
-        way.channel
-        (subst (λ (h : Chirality). given gas s.channel h (Some g) (way.fed ++ row ∷ []) ≡ given gas s.channel h (Some g) way.fed ++ option_to_list gave)
-        way.chirality gives)
+under_way_next gas old s s' g all queue behind queue' n row gave way left front channel chirality fits gives pushed =
+    let of_old : List (List ℕ) → List (List ℕ) = given gas old.channel old.chirality (Some g) in
+    let next = next_of all queue behind (of_old (take n all)) n row left way.queued front in
+    let fed : take n all ++ row ∷ [] ≡ take (n + 1) all =
+    ap (λ (r : List ℕ). take n all ++ r ∷ []) next.0 ∙ sym (take_more all n [] left) in
+    record {
+      channel = channel ∙ way.channel;
+      chirality = chirality ∙ way.chirality;
+      fits = subst (MayHaveBeenFed gas s' (Some g)) fed fits;
+      queued =
+          pushed ∙ ap (λ (l : List (List ℕ)). l ++ option_to_list gave) next.1
+          ∙ append_assoc (drop (n + 1) all) (of_old (take n all)) (option_to_list gave)
+          ∙ ap (λ (l : List (List ℕ)). drop (n + 1) all ++ l) (sym (rw (way.channel, way.chirality) at gives) ∙ ap of_old fed);
+    }
 
 -- all rows were fed
 pub record IsFed (gas : Rules) (old s : StageModel) (g : ℕ) (all queue : List (List ℕ)) : Type 0 where
@@ -88,14 +56,10 @@ pub record IsFed (gas : Rules) (old s : StageModel) (g : ℕ) (all queue : List 
 pub fed_all : (gas : Rules) (old s : StageModel) (g : ℕ) (all queue : List (List ℕ)) (n : ℕ) →
     IsUnderWay gas old s g all queue n → length all ≤ n → IsFed gas old s g all queue
 fed_all gas old s g all queue n way enough =
-    let none : way.rest ≡ [] =
-    nil_from_length way.rest (omega (arith, length-append way.fed way.rest, ap length way.joined, way.counted)) in
-    let whole : way.fed ≡ all =
-    sym (append-nil way.fed) ∙ ap (λ (l : List (List ℕ)). way.fed ++ l) (sym none) ∙ way.joined in
+    let whole : take n all ≡ all = take_all n all enough in
     record {
       fits = subst (MayHaveBeenFed gas s (Some g)) whole way.fits;
-      queued = way.queued ∙ ap (λ (l : List (List ℕ)). l ++ given gas old.channel old.chirality (Some g) way.fed) none
-          ∙ ap (given gas old.channel old.chirality (Some g)) whole;
+      queued = way.queued ∙ (λ t. drop_all n all enough t ++ given gas old.channel old.chirality (Some g) (whole t));
     }
 
 -- while rows are left to be fed, the queue is not empty
@@ -104,11 +68,9 @@ pub some_queued : (gas : Rules) (old s : StageModel) (g : ℕ) (all queue : List
 some_queued gas old s g all queue n way left =
     omega (
       arith,
-      length-append way.fed way.rest,
-      ap length way.joined,
-      way.counted,
       ap length way.queued,
-      length-append way.rest (given gas old.channel old.chirality (Some g) way.fed),
+      length-append (drop n all) (given gas old.channel old.chirality (Some g) (take n all)),
+      length-drop n all,
     )
 
 -- before the flush one row is held back
@@ -124,16 +86,11 @@ pub pass_gives : (gas : Rules) (old s : StageModel) (g : ℕ) (all queue queue' 
     queue' ≡ queue ++ option_to_list gave →
     queue' ≡ next gas old.channel (chirality_bit old.chirality old.channel.width g) all
 pass_gives gas old s g all queue queue' gave fed channel chirality high gives pushed =
-    pushed ∙ ap (λ (l : List (List ℕ)). l ++ option_to_list gave) fed.queued ∙ sym gives_old
+    pushed ∙ ap (λ (l : List (List ℕ)). l ++ option_to_list gave) fed.queued ∙ sym (rw (channel, chirality) at gives)
     ∙ ap (λ (b : Bool). if b then rows else take (length all - 1) rows) (eq-eqb (length all) old.channel.height high)
   where
     rows : List (List ℕ)
     rows = next gas old.channel (chirality_bit old.chirality old.channel.width g) all
-
-    gives_old : owed gas old.channel old.chirality (Some g) all ≡ given gas old.channel old.chirality (Some g) all ++ option_to_list gave
-    gives_old =
-        subst (λ (c : ChannelModel). owed gas c old.chirality (Some g) all ≡ given gas c old.chirality (Some g) all ++ option_to_list gave) channel
-        (subst (λ (h : Chirality). owed gas s.channel h (Some g) all ≡ given gas s.channel h (Some g) all ++ option_to_list gave) chirality gives)
 
 -- one generation more
 pub generation_more : (gas : Rules) (c : ChannelModel) (h : Chirality) (first : ℕ) (s : StageModel) (rows now after : List (List ℕ)) (n : ℕ) →
@@ -150,7 +107,4 @@ generation_more gas c h first s rows now after n channel chirality is step =
 pub IsLattice-after : (gas : Rules) → IsGas gas → (whole channel here : ChannelModel) (chi : ℕ → ℕ → ℕ → Bool) (first n : ℕ) (rows start now : List (List ℕ)) →
     IsLattice gas whole rows → channel ≡ whole → start ≡ rows → here ≡ channel → now ≡ generation gas channel chi first start n → IsLattice gas here now
 IsLattice-after gas laws whole channel here chi first n rows start now is same begun there after =
-    subst (λ (c : ChannelModel). IsLattice gas c now) (sym there)
-    (subst (IsLattice gas channel) (sym after)
-    (IsLattice-generation gas laws channel chi first start
-    (subst (λ (c : ChannelModel). IsLattice gas c start) (sym same) (subst (IsLattice gas whole) (sym begun) is)) n))
+    rw (there, after, begun, same) (IsLattice-generation gas laws whole chi first rows is n)

@@ -2,6 +2,5 @@
 #![tactic(auto)]
 
 pub mod evolution;
-mod neighbourhood;
 pub mod stage;
 pub mod stream;

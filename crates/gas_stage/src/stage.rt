@@ -4,11 +4,10 @@ ghost use Rattle.std.specs.Option.{option_to_list};
 ghost use Rattle.gas_geom.specs.Channel.{IsChannel};
 ghost use Rattle.gas_stage.specs.Stage.{StageModel, MayHaveBeenFed, owed, given};
 
-use crate::neighbourhood::Neighbourhood;
+use crate::stream::Neighbourhood;
 use gas_geom::gas::Gas;
 use gas_rows::channel::Channel;
-use gas_rows::chirality::Chirality;
-use gas_rows::random_bits::RandomBits;
+use gas_rows::chirality::{Chirality, RandomBits};
 use gas_rows::row::{Row, collide_row};
 use std::alloc::{AllocError, Global};
 use std::marker::Model;

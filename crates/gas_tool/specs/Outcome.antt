@@ -20,8 +20,8 @@ use Rattle.gas_tool_io.specs.Table.{table_text}
 use Rattle.gas_tool_io.specs.Replay.{replay_text}
 use Rattle.gas_tool.specs.declared.faults.ToolError.{ToolError}
 use Rattle.gas_tool.specs.declared.faults.ToolError.TheVariants.{Memory, Scene, Plan, Write, MorePasses}
-use Rattle.gas_tool_cli.specs.declared.request.Request.{Request}
-use Rattle.gas_tool_cli.specs.declared.request.Request.TheVariants.{Check, Run, Coarse, Replay}
+use Rattle.gas_tool_cli.specs.declared.words.Request.{Request}
+use Rattle.gas_tool_cli.specs.declared.words.Request.TheVariants.{Check, Run, Coarse, Replay}
 
 -- this outcome, unless the plan is refused
 abbrev pub unless_refused : Option PlanError → Result (List ℕ) ToolError → Result (List ℕ) ToolError

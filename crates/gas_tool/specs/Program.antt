@@ -7,9 +7,9 @@ use Rattle.gas_tool.specs.declared.faults.ToolError.TheVariants as tool
 use Rattle.gas_tool.specs.declared.program.Fault.{Fault}
 use Rattle.gas_tool.specs.declared.program.Fault.TheVariants.{Usage, Input, Tool}
 use Rattle.gas_tool_cli.specs.Requests.{Words, AskFor, HaveFault}
-use Rattle.gas_tool_cli.specs.declared.request.Request.{Request}
+use Rattle.gas_tool_cli.specs.declared.words.Request.{Request}
 use Rattle.gas_tool_cli.specs.declared.words.UsageFault.TheVariants as usage
-use Rattle.gas_tool_io.specs.declared.faults.InputFault.TheVariants as input
+use Rattle.gas_tool_io.specs.declared.input.InputFault.TheVariants as input
 
 -- the exit status of a fault
 abbrev pub exit_status : Fault → ℕ

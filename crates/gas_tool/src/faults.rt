@@ -1,17 +1,15 @@
 //! The faults, from the command line to the answer, and their exit statuses.
 
-ghost use Rattle.std.specs.Prelude.{◌≡◌, ◌≢◌, ℕ};
-ghost use Rattle.gas_pipe_members.specs.declared.error.RunError.TheVariants as run;
+ghost use Rattle.std.specs.Prelude.{◌≡◌, ◌≢◌};
+ghost use Rattle.gas_pipe_members.specs.declared.plan.RunError.TheVariants as run;
 ghost use Rattle.gas_scene.specs.declared.error.SceneError.TheVariants as scene;
 ghost use Rattle.gas_tool.specs.declared.faults.ToolError.TheVariants.{Memory, Scene, Plan, Write, MorePasses};
-ghost use Rattle.gas_scene.specs.declared.error.SceneError.{SceneError};
-ghost use Rattle.gas_pipe_members.specs.declared.plan.PlanError.{PlanError};
 
-use gas_pipe_members::error::RunError;
-use gas_pipe_members::plan::PlanError;
+use gas_pipe::{PlanError, RunError};
 use gas_scene::error::SceneError;
 pub use gas_tool_cli::words::UsageFault;
-pub use gas_tool_io::faults::{InputFault, WriteFault};
+pub use gas_tool_io::input::InputFault;
+pub use gas_tool_io::text::WriteFault;
 use std::alloc::AllocError;
 use thiserror::Error;
 
@@ -32,16 +30,14 @@ pub enum ToolError {
 }
 
 impl ToolError {
+    ghost use Rattle.std.specs.Prelude.{◌≡◌};
+    ghost use Rattle.gas_tool.specs.Program.{exit_status};
+    ghost use Rattle.gas_tool.specs.declared.program.Fault.TheVariants.{Tool};
+
     /// The program's exit status: 1 if something was refused, 3 for memory, 4 for a writer
     /// that failed.
     pub fn status(&self) -> u8
-        ensures memory { self.now ≡ Memory → result ≡ 3 }
-        ensures memory_of_scene { self.now ≡ Scene scene.Memory → result ≡ 3 }
-        ensures scene { (error : SceneError) → error ≢ scene.Memory →
-            self.now ≡ Scene error → result ≡ 1 }
-        ensures plan { (error : PlanError) → self.now ≡ Plan error → result ≡ 1 }
-        ensures passes { self.now ≡ MorePasses → result ≡ 1 }
-        ensures write { (written : ℕ) → self.now ≡ Write written → result ≡ 4 }
+        ensures status { result ≡ exit_status (Tool self.now) }
     {
         match self {
             ToolError::Memory | ToolError::Scene(SceneError::Memory) => 3,

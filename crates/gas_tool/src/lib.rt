@@ -3,39 +3,23 @@
 //!
 //! `answer` does all that the program `fhpgas` does, from its words and its input to its output.
 //! `perform` writes the answer to a request on the text of a scene. `parse_words` returns the
-//! `Request` of a command line's words, and `slurp` reads an input. `coarse` returns the density and
-//! the momentum of a lattice by blocks of cells:
-//!
-//! ```
-//! let blocks = coarse(alloc, lattice, 8, 4)?;
-//! for block in &blocks {
-//!     println!(rt;
-//!         "block ({}, {}): {} cells, {} particles, momentum ({}, {})",
-//!         block.col, block.row, block.fluid, block.particles, block.px, block.py
-//!     )?;
-//! }
-//! ```
+//! `Request` of a command line's words, and `slurp` reads an input. `coarse` returns the particles and
+//! the momentum of a lattice by blocks of cells.
 //!
 //! The calls of the command line, of input and of printed texts are defined in `gas_tool_cli` and
 //! `gas_tool_io`, and named here. `docs/PROVED.md` lists the promises in words, and
-//! `docs/LIBRARY.md` walks through an example.
+//! `docs/LIBRARY.md` takes a program apart that calls `slurp`.
 #![tactic(auto)]
 
 pub mod faults;
 pub mod program;
 mod requests;
-pub mod resume;
 
 pub use faults::{InputFault, ToolError, UsageFault, WriteFault};
-pub use gas_tool_cli::request::{Request, Turns};
-pub use gas_tool_cli::words::parse_words;
-pub use gas_tool_cli::{request, words};
+pub use gas_tool_cli::words::{Request, Turns, parse_words};
 pub use gas_tool_io::blocks::{Block, coarse};
 pub use gas_tool_io::input::{LONGEST_INPUT, slurp};
 pub use gas_tool_io::replay::write_replay;
-pub use gas_tool_io::table::write_table;
-pub use gas_tool_io::text::{write_cells, write_summary};
-pub use gas_tool_io::{blocks, input, table, text};
+pub use gas_tool_io::text::{write_cells, write_summary, write_table};
 pub use program::{Fault, Watch, answer};
-pub use requests::perform;
-pub use resume::resumed_runs;
+pub use requests::{perform, resumed_runs};

@@ -5,9 +5,8 @@ ghost use Rattle.gas_tool.specs.Program.{Ends, exit_status};
 
 use crate::faults::{InputFault, ToolError, UsageFault};
 use crate::requests::perform;
-use gas_pipe_run::gate::{Gate, NoGate};
-use gas_tool_cli::request::Request;
-use gas_tool_cli::words::read_request;
+use gas_pipe::{Gate, NoGate};
+use gas_tool_cli::words::{Request, read_request};
 use gas_tool_io::input::slurp;
 use std::alloc::Global;
 use std::env::Args;

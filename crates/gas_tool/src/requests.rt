@@ -1,28 +1,24 @@
-//! The answer to a request on a scene.
+//! The answer to a request on a scene, and runs in two parts.
 
-ghost use Rattle.std.specs.Prelude.{◌≡◌, IfOk, IfErr};
+ghost use Rattle.std.specs.Prelude.{◌≡◌, ℕ, ◌+◌, List, None, Ok, IfOk, IfErr};
+ghost use Rattle.gas_pipe_members.specs.Plan.{plan_refusal};
 ghost use Rattle.gas_stage.specs.Evolution.{lattice_after};
 ghost use Rattle.gas_scene.specs.Catalog.{rules_of};
+ghost use Rattle.gas_scene.specs.Scene.{SceneModel, scene_of_text};
 ghost use Rattle.gas_tool_cli.specs.Requests.{IsAllowed};
-ghost use Rattle.gas_tool_cli.specs.declared.request.Request.TheVariants as request_of;
-ghost use Rattle.gas_tool.specs.Outcome.{Performs, gas_outcome, outcome};
+ghost use Rattle.gas_tool_cli.specs.declared.words.Request.TheVariants as request_of;
+ghost use Rattle.gas_tool.specs.Outcome.{Performs, gas_outcome, outcome, scene_after};
 
 use crate::faults::ToolError;
 use gas_geom::gas::Gas;
-use gas_pipe_members::error::RunError;
-use gas_pipe_members::plan::Plan;
-use gas_pipe_replay::replay;
-use gas_pipe_run::answer::Run;
-use gas_pipe_run::gate::Gate;
-use gas_pipe_run::run;
+use gas_pipe::{Gate, Plan, Run, RunError, replay, run};
 use gas_rows::lattice::Lattice;
 use gas_scene::scene::{Scene, read};
 use gas_scene::with_lattice;
-use gas_tool_cli::request::Request;
+use gas_tool_cli::words::Request;
 use gas_tool_io::blocks::coarse;
 use gas_tool_io::replay::write_replay;
-use gas_tool_io::table::write_table;
-use gas_tool_io::text::{write_cells, write_summary};
+use gas_tool_io::text::{write_cells, write_summary, write_table};
 use std::alloc::Global;
 use std::io::Write;
 use std::sync::Wait;
@@ -148,3 +144,23 @@ fn print_replay<G: Gas, W: Write>(
     write_replay(&replay, first + plan.generations(), out)?;
     Ok(())
 }
+
+/// A run in two parts prints what one run prints, for any numbers of stages and any capacities.
+/// Let a later text be the scene of a first text's lattice after m generations. Then n generations
+/// of the later text lead to the same answer as m + n generations of the first.
+pub fn resumed_runs()
+    ensures cells { (text later : List ℕ) (scene : SceneModel)
+        (m n stages capacity stages2 capacity2 : ℕ) →
+        scene_of_text text ≡ Ok scene → scene_of_text later ≡ Ok (scene_after scene m) →
+        plan_refusal stages capacity (m + n) ≡ None →
+        plan_refusal stages2 capacity2 n ≡ None →
+        outcome later (request_of.Run stages2 capacity2 n)
+        ≡ outcome text (request_of.Run stages capacity (m + n)) }
+    ensures table { (text later : List ℕ) (scene : SceneModel)
+        (m n stages capacity stages2 capacity2 width height : ℕ) →
+        scene_of_text text ≡ Ok scene → scene_of_text later ≡ Ok (scene_after scene m) →
+        plan_refusal stages capacity (m + n) ≡ None →
+        plan_refusal stages2 capacity2 n ≡ None →
+        outcome later (request_of.Coarse stages2 capacity2 n width height)
+        ≡ outcome text (request_of.Coarse stages capacity (m + n) width height) }
+{}

@@ -13,8 +13,8 @@ use Rattle.clap.specs.declared.error.kind.ErrorKind.TheVariants.{DisplayHelp, Di
 use Rattle.gas_tool_cli.specs.Words.{program_app}
 use Rattle.gas_tool_cli.specs.declared.words.UsageFault.{UsageFault}
 use Rattle.gas_tool_cli.specs.declared.words.UsageFault.TheVariants as fault
-use Rattle.gas_tool_cli.specs.declared.request.Request.{Request}
-use Rattle.gas_tool_cli.specs.declared.request.Request.TheVariants.{Check, Run, Coarse, Replay}
+use Rattle.gas_tool_cli.specs.declared.words.Request.{Request}
+use Rattle.gas_tool_cli.specs.declared.words.Request.TheVariants.{Check, Run, Coarse, Replay}
 
 -- a text is this decimal number, which fits in `bits` bits
 abbrev pub IsNumber : ℕ → Text → ℕ → Type 0

@@ -4,15 +4,77 @@ ghost use Rattle.std.specs.Prelude.{◌≡◌, [], ◌∷◌, ◌++◌, IfOk, fa
 ghost use Rattle.clap.specs.declared.builder.command.Command.TheViews.{out-Command as fields_of};
 ghost use Rattle.clap.specs.Simple.{on_top};
 ghost use Rattle.clap.specs.Words.{App, Rule, Shape, app_of, new_app, rule_of, with_rule, with_subcommand};
-ghost use Rattle.gas_tool_cli.specs.Words.{plan_rules, program_app, side_rule, subcommand, turns_rule};
+ghost use Rattle.gas_tool_cli.specs.Words.{default_rule, plan_rules, program_app, required_rule, side_rule, subcommand, turns_rule};
 ghost use Rattle.gas_tool_cli.specs.Inner.{leaf_app};
 
-use crate::arguments::{
-    block_height_arg, block_width_arg, capacity_arg, generations_arg, stages_arg, turns_arg,
-};
 use crate::help::{self, Help};
-use clap::{Arg, Command};
+use clap::builder::ValueParser;
+use clap::{Arg, ArgAction, Command, value_parser};
 use std::alloc::{AllocError, Global};
+
+/// The most columns, and the most rows, of a block.
+pub(crate) const MOST_BLOCK_SIDE: u32 = 4096;
+
+// An option `--name VALUE` that must be given.
+fn required_arg<'a>(
+    alloc: Global,
+    name: &'a str,
+    value_name: &'a str,
+    values: ValueParser<'a>,
+    help: &'a str,
+) -> Arg<'a>
+    ensures rule { rule_of result ≡ required_rule name.entry.now values.entry }
+    ensures local { result.global ≡ false }
+{
+    Arg::new(alloc, name)
+        .long(name)
+        .value_name(value_name)
+        .action(ArgAction::Set)
+        .value_parser(values)
+        .required(true)
+        .help(help)
+}
+
+// An option `--name VALUE` for a number, with a default.
+fn default_arg<'a>(
+    alloc: Global,
+    name: &'a str,
+    value_name: &'a str,
+    value: &'a str,
+    help: &'a str,
+) -> Arg<'a>
+    ensures rule { rule_of result ≡ default_rule name.entry.now value.entry.now }
+    ensures local { result.global ≡ false }
+{
+    Arg::new(alloc, name)
+        .long(name)
+        .value_name(value_name)
+        .action(ArgAction::Set)
+        .value_parser(value_parser!(u32))
+        .default_value(value)
+        .help(help)
+}
+
+// An option for the width or the height of blocks.
+fn side_arg<'a>(alloc: Global, name: &'a str, value_name: &'a str, help: &'a str) -> Arg<'a>
+    ensures rule { rule_of result ≡ side_rule name.entry.now }
+    ensures local { result.global ≡ false }
+{
+    let values = value_parser!(u32).range(1..=i64::from(MOST_BLOCK_SIDE));
+    required_arg(alloc, name, value_name, values, help)
+}
+
+fn turns_arg<'a>(alloc: Global) -> Arg<'a>
+    ensures rule { rule_of result ≡ turns_rule }
+    ensures local { result.global ≡ false }
+{
+    Arg::new(alloc, "turns")
+        .value_name("TURN")
+        .action(ArgAction::Append)
+        .num_args(0..)
+        .value_parser(value_parser!(u32))
+        .help("The schedule: who takes a step next, one after another")
+}
 
 fn new_command<'a>(alloc: Global, name: &'a str, help: Help) -> Command<'a>
     ensures app { app_of result ≡ new_app name.entry.now }
@@ -44,10 +106,13 @@ fn plan_command<'a>(alloc: Global, name: &'a str, help: Help) -> Result<Command<
     ensures app { IfOk result (λ r. app_of r ≡ leaf_app (subcommand name.entry.now plan_rules)) }
     ensures local { IfOk result (λ r. (fields_of r).has_globals ≡ false) }
 {
-    let command = new_command(alloc, name, help);
-    let first = with_arg(Ok(command), generations_arg(alloc));
-    let second = with_arg(first, stages_arg(alloc));
-    with_arg(second, capacity_arg(alloc))
+    let values = value_parser!(u64);
+    let generations = required_arg(alloc, "generations", "G", values, help::GENERATIONS);
+    let stages = default_arg(alloc, "stages", "N", "4", help::STAGES);
+    let capacity = default_arg(alloc, "capacity", "C", "2", help::CAPACITY);
+    let first = with_arg(Ok(new_command(alloc, name, help)), generations);
+    let second = with_arg(first, stages);
+    with_arg(second, capacity)
 }
 
 fn coarse_command<'a>(alloc: Global) -> Result<Command<'a>, AllocError>
@@ -56,8 +121,10 @@ fn coarse_command<'a>(alloc: Global) -> Result<Command<'a>, AllocError>
     ensures local { IfOk result (λ r. (fields_of r).has_globals ≡ false) }
 {
     let plan = plan_command(alloc, "coarse", help::COARSE);
-    let wide = with_arg(plan, block_width_arg(alloc));
-    with_arg(wide, block_height_arg(alloc))
+    let width = side_arg(alloc, "block-width", "BW", help::BLOCK_WIDTH);
+    let height = side_arg(alloc, "block-height", "BH", help::BLOCK_HEIGHT);
+    let wide = with_arg(plan, width);
+    with_arg(wide, height)
 }
 
 fn replay_command<'a>(alloc: Global) -> Result<Command<'a>, AllocError>

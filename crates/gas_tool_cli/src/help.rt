@@ -1,4 +1,4 @@
-//! The texts of the help: what each command does, its usage, and notes.
+//! The texts of the help: what each command does, its usage, and notes, and what its options are.
 
 /// The program's version, and the kit that proves it, without the letter of the kit's release.
 pub(crate) const VERSION: &str = "1.0.0 (rattle-kit-13 logic dac8208d650f15bf)";
@@ -25,7 +25,8 @@ With `version = 2` a scene may have a `generation`, and sides up to 65536 cells 
 };
 
 pub(crate) const CHECK: Help = Help {
-    usage: "fhpgas check < SCENE",
+    usage: "fhpgas check < SCENE
+       (put `<` before the scene's file)",
     about: "Check the scene and print a one-line summary",
     notes: "\
 The line has the gas, the width and the height in cells, and the numbers of solid cells and of
@@ -35,7 +36,8 @@ Example: fhpgas check < scene.toml",
 };
 
 pub(crate) const RUN: Help = Help {
-    usage: "fhpgas run --generations G [--stages N] [--capacity C] < SCENE",
+    usage: "fhpgas run --generations G [--stages N] [--capacity C] < SCENE
+       (put `<` before the scene's file)",
     about: "Compute generations of the scene and print the cells",
     notes: "\
 A pipeline of N workers computes the generations. Each worker has a thread of its own and computes
@@ -51,7 +53,8 @@ Example: fhpgas run --generations 100 < scene.toml",
 
 pub(crate) const COARSE: Help = Help {
     usage: "fhpgas coarse --generations G [--stages N] [--capacity C] --block-width BW --block-height BH \
-     < SCENE",
+     < SCENE
+       (put `<` before the scene's file)",
     about: "Compute generations of the scene and print a table of its blocks of cells",
     notes: "\
 The lattice is divided into blocks of BW columns and BH rows, from the top left. Blocks at the right
@@ -68,7 +71,8 @@ Example: fhpgas coarse --generations 100 --block-width 16 --block-height 16 < sc
 };
 
 pub(crate) const REPLAY: Help = Help {
-    usage: "fhpgas replay --generations G [--stages N] [--capacity C] [TURN]... < SCENE",
+    usage: "fhpgas replay --generations G [--stages N] [--capacity C] [TURN]... < SCENE
+       (put `<` before the scene's file)",
     about: "Step the pipeline on one thread by a schedule, and print the state of its belts",
     notes: "\
 The TURNs are a schedule of the pipeline: each is a step of one member. 0 is the feeder, which has
@@ -83,3 +87,17 @@ the cells follow as `run` prints them. G generations need at least G workers.
 
 Example: fhpgas replay --generations 1 --stages 1 0 1 0 1 < scene.toml",
 };
+
+pub(crate) const GENERATIONS: &str = "Generations (time steps) to compute: 0 to 1000000";
+
+pub(crate) const STAGES: &str = "\
+Workers (pipeline stages), one generation each: 1 to 64. On four
+cores `--stages 16 --capacity 128` is faster";
+
+pub(crate) const CAPACITY: &str = "\
+Rows in a belt, the queue between two workers: 1 to 1024. On four
+cores `--stages 16 --capacity 128` is faster";
+
+pub(crate) const BLOCK_WIDTH: &str = "Columns of cells in a block: 1 to 4096";
+
+pub(crate) const BLOCK_HEIGHT: &str = "Rows of cells in a block: 1 to 4096";

@@ -1,9 +1,7 @@
 //! The command line: its words, and the request that they make.
 #![tactic(auto)]
 
-mod arguments;
 mod command;
 mod help;
 mod matches;
-pub mod request;
 pub mod words;

@@ -5,8 +5,8 @@ ghost use Rattle.std.specs.List.{AllZip};
 ghost use Rattle.clap.specs.Words.{found_of, rows_of, subcommand_rows_of};
 ghost use Rattle.gas_tool_cli.specs.Requests.{AreTurnsAt, IsNumber, IsPlanAt, IsRequestOf, IsSideAt};
 
-use crate::arguments::MOST_BLOCK_SIDE;
-use crate::request::{Request, Turns};
+use crate::command::MOST_BLOCK_SIDE;
+use crate::words::{Request, Turns};
 use clap::ArgMatches;
 use std::alloc::{AllocError, Global};
 

@@ -1,4 +1,4 @@
-//! Reading the words of the command line: their request, or why they are none.
+//! The words of the command line: what they ask for, or why they are no request.
 
 ghost use Rattle.std.specs.Prelude.{◌≡◌, [], IfOk, IfErr, String, map};
 ghost use Rattle.std.specs.Global.{Global};
@@ -12,12 +12,74 @@ ghost use Rattle.gas_tool_cli.specs.declared.words.UsageFault.TheVariants as fau
 
 use crate::command::program_command;
 use crate::matches::request_of;
-use crate::request::Request;
 use clap::error::ErrorKind;
 use std::alloc::{AllocError, Global};
 use std::env::Args;
 use std::io;
+use std::marker::Model;
 use thiserror::Error;
+
+/// A schedule of a pipeline: the members that take a step, one after another. 0 is the feeder, and
+/// k is worker k.
+#[derive(Debug, Drop)]
+pub struct Turns {
+    list: Vec<u32>,
+}
+
+impl Model for Turns {
+    ghost use Rattle.std.specs.Prelude.{ℕ, List};
+
+    ghost Value = { List ℕ };
+
+    ghost view = { λ t. t.list.items };
+}
+
+impl Turns {
+    /// The schedule of these turns.
+    pub fn new(list: Vec<u32>) -> Turns
+        ensures value { result ≡ list.items }
+    {
+        Turns { list }
+    }
+
+    /// The turns in order.
+    pub fn as_slice(&self) -> &[u32]
+        ensures value { result.now ≡ self.now }
+    {
+        self.list.as_slice()
+    }
+}
+
+/// What the words of the command line ask for. Only the plan checks the limits of stages, capacity
+/// and generations.
+#[derive(Debug, Drop)]
+pub enum Request {
+    /// Read the scene and print a summary of one line.
+    Check,
+    /// Compute generations and print the cells.
+    Run {
+        stages: u32,
+        capacity: u32,
+        generations: u64,
+    },
+    /// Compute generations and print a table of the lattice's blocks, `block_width` columns wide
+    /// and `block_height` rows high.
+    Coarse {
+        stages: u32,
+        capacity: u32,
+        generations: u64,
+        block_width: u32,
+        block_height: u32,
+    },
+    /// Let the members of a pipeline make these turns, in one pass on one thread, and print the
+    /// state of the pass.
+    Replay {
+        stages: u32,
+        capacity: u32,
+        generations: u64,
+        turns: Turns,
+    },
+}
 
 /// Why the words are no request. `Usage` and `Help` contain the text to print, with its last line
 /// feed. The version is a `Help` too.
@@ -46,12 +108,11 @@ impl UsageFault {
     }
 }
 
-// The fault of matches without a request. `clap` returns no such matches for this command line, but
-// that is not proved.
-fn missing_value(alloc: Global) -> UsageFault
+// The fault with this text.
+fn usage_fault(alloc: Global, text: &str) -> UsageFault
     ensures { IsFaultOf [] result }
 {
-    match String::from_str(alloc, "a value is missing\n") {
+    match String::from_str(alloc, text) {
         Ok(text) => UsageFault::Usage(text),
         Err(_) => UsageFault::Memory,
     }
@@ -88,7 +149,8 @@ pub fn parse_words<'a>(alloc: Global, words: &'a [&'a str]) -> Result<Request, U
     match command.try_get_matches_from(words) {
         Ok(matches) => match request_of(alloc, &matches) {
             Ok(Some(request)) => Ok(request),
-            Ok(None) => Err(missing_value(alloc)),
+            // `clap` returns no such matches for this command line, but that is not proved.
+            Ok(None) => Err(usage_fault(alloc, "a value is missing\n")),
             Err(_) => Err(UsageFault::Memory),
         },
         Err(error) => Err(usage_of(alloc, error)),
@@ -104,7 +166,9 @@ pub fn read_request(alloc: Global, words: io::Result<Args>) -> Result<Request, U
 {
     match words {
         Ok(words) => parse_args(alloc, words),
-        Err(error) if error.kind() == io::ErrorKind::InvalidData => Err(not_utf8_fault(alloc)),
+        Err(error) if error.kind() == io::ErrorKind::InvalidData => {
+            Err(usage_fault(alloc, "error: a word is not UTF-8\n"))
+        }
         Err(_) => Err(UsageFault::Memory),
     }
 }
@@ -135,12 +199,4 @@ fn texts<'a>(alloc: Global, words: &'a [String]) -> Result<Vec<&'a str>, AllocEr
         texts.push(word.as_str())?;
     }
     Ok(texts)
-}
-
-// The fault of a word that is not UTF-8.
-fn not_utf8_fault(alloc: Global) -> UsageFault {
-    match String::from_str(alloc, "error: a word is not UTF-8\n") {
-        Ok(text) => UsageFault::Usage(text),
-        Err(_) => UsageFault::Memory,
-    }
 }

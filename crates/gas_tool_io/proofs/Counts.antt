@@ -11,7 +11,7 @@ use Rattle.gas_geom.specs.declared.size.TheConstants.{MOST_SIDE}
 use Rattle.std.specs.Int.{bit_at}
 use Rattle.gas_geom.proofs.Sets.{bit_of-holds}
 use Rattle.gas_geom.proofs.Sums.{sum_below, sum_below-cong, sum_below-zero, sum_below-add}
-use Rattle.gas_tool_io.specs.Inner.Tally.{HasRoom, most_cells, plus_cell, plus_particles}
+use Rattle.gas_tool_io.specs.Inner.Tally.{HasRoom, plus_cell, plus_particles}
 use Rattle.gas_tool_io.specs.declared.blocks.Block.{Block}
 use Rattle.gas_tool_io.proofs.Tallies.{IsSmall, Within, Within-add, Within-le}
 
@@ -158,10 +158,10 @@ counted-all gas solid state b [] =
 counted-all gas solid state b (x ∷ xs) =
     counted-cell gas solid state b x xs ∙ counted-all gas solid state (plus_cell gas b (solid x) (state x)) xs
 
--- cells of one row have room
-pub counted-room : (gas : Rules) → IsGas gas → (solid : ℕ → Bool) (state : ℕ → ℕ) (b : Block) (xs : List ℕ) (n : ℕ) → n ≤ gas.dirs → length xs ≤ MOST_SIDE →
-    HasRoom b (most_cells - MOST_SIDE) → HasRoom (counted gas solid state b xs n) most_cells
-counted-room gas laws solid state b xs n few short h =
+-- cells of one row take the room of a row
+pub counted-room : (gas : Rules) → IsGas gas → (solid : ℕ → Bool) (state : ℕ → ℕ) (b : Block) (xs : List ℕ) (n m : ℕ) → n ≤ gas.dirs → length xs ≤ MOST_SIDE →
+    HasRoom b m → HasRoom (counted gas solid state b xs n) (m + MOST_SIDE)
+counted-room gas laws solid state b xs n m few short h =
     let each : (i : ℕ) → holding state xs i ≤ MOST_SIDE = λ i. omega (arith, count_by-le-length (λ x. holds (state x) i) xs) in
     let most : n ≤ 8 = omega (arith, laws.few_dirs) in
     let le : n * MOST_SIDE ≤ 8 * MOST_SIDE = mul-le-mul_right MOST_SIDE most in

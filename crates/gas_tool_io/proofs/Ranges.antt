@@ -8,10 +8,6 @@ use Rattle.std.proofs.Math.Nat.{div-lt_iff_lt-mul, mul-le-mul_right}
 use Rattle.std.proofs.lemmas.List.Elements.{filter-append}
 use Rattle.std.proofs.lemmas.List.FromFn.{map-range_with_len_more}
 use Rattle.std.proofs.lemmas.Grind.{flat_map-append, div_ceil_times}
-use Rattle.std.proofs.lemmas.List.{get_or-append_right, get_or-drop, length-map, length-take-le, get_or_default, take_all, drop_all}
-use Rattle.std.proofs.Math.Seq.{take-append_seam, drop-append_seam}
-use Rattle.std.proofs.lemmas.List.Edits.{map_over_more}
-use Rattle.std.proofs.Math.ListN.{set}
 use Rattle.gas_bits.proofs.Ones.{range-append}
 use Rattle.gas_tool_io.specs.Inner.Tally.{part}
 
@@ -62,14 +58,6 @@ part-range n size k m some begins e =
     ∙ filter-append p _ _ ∙ ap (λ xs. xs ++ filter p (range_with_len (k * size) m ++ range_with_len (k * size + m) rest)) front
     ∙ filter-append p _ _ ∙ ap (λ xs. xs ++ filter p (range_with_len (k * size + m) rest)) middle
     ∙ ap (λ xs. range_with_len (k * size) m ++ xs) back ∙ append-nil _
-
-pub part-short : (p : ℕ → Bool) (xs : List ℕ) → length (filter p xs) ≤ length xs
-part-short p [] = omega arith
-part-short p (x ∷ xs) = by_test (p x) (part-short p xs)
-  where
-    by_test : (b : Bool) → length (filter p xs) ≤ length xs → length (cond b (x ∷ filter p xs) (filter p xs)) ≤ suc (length xs)
-    by_test true h = omega arith
-    by_test false h = omega arith
 
 -- a column of blocks begins before the end of a row
 pub begins-within : (n size k : ℕ) → 1 ≤ size → k < div_ceil n size → k * size < n

@@ -67,18 +67,10 @@ Adds-then a b c p q r s t h k = record {
       subst (HasSent start c r) (append_assoc text s t) (k.adds start (text ++ s) (h.adds start text carried));
 }
 
--- nothing adds the empty text
-pub Adds-nil : (a : Option (List ℕ)) (p : SinkModel) → Adds a a p p []
-Adds-nil a p = record { adds = λ start text carried. HasSent-same start a p text carried }
-
 -- one more of the texts below a number
 pub Adds-next : (a b c : Option (List ℕ)) (p q r : SinkModel) (f : ℕ → List ℕ) (n : ℕ) → Adds a b p q (texts f 0 n) → Adds b c q r (f n) → Adds a c p r (texts f 0 (n + 1))
 Adds-next a b c p q r f n h k =
     subst (Adds a c p r) (sym (texts-next f n)) (Adds-then a b c p q r _ _ h k)
-
--- the texts below an equal number
-pub Adds-below : (a b : Option (List ℕ)) (p q : SinkModel) (f : ℕ → List ℕ) (n m : ℕ) → n ≡ m → Adds a b p q (texts f 0 n) → Adds a b p q (texts f 0 m)
-Adds-below a b p q f n m e h = subst (λ (k : ℕ). Adds a b p q (texts f 0 k)) e h
 
 -- the same text
 pub Adds-same : (a b : Option (List ℕ)) (p q : SinkModel) (text whole : List ℕ) → text ≡ whole → Adds a b p q text → Adds a b p q whole

@@ -4,24 +4,17 @@ use Rattle.std.specs.Prelude.{All, ◌==◌, if◌then◌else◌, not, unsigned_
 use Rattle.std.specs.Int.{div_ceil}
 use Rattle.std.specs.List.{range_with_len, flat_map}
 use Rattle.std.proofs.lemmas.Int.{ints}
-use Rattle.std.proofs.Math.Nat.{mul-le-mul, suc-mul}
-use Rattle.std.proofs.lemmas.List.Elements.{All-from_get_or}
-use Rattle.std.proofs.lemmas.List.FromFn.{length-range_with_len, length-map-range_with_len, get_or-map-range_with_len}
 use Rattle.std.proofs.lemmas.Grind.{flat_map-append}
 use Rattle.std.proofs.lemmas.List.Sums.{fold-append}
-use Rattle.std.proofs.lemmas.List.{length-map}
 use Rattle.std.proofs.lemmas.List.Folds.{fold-map}
-use Rattle.gas_geom.specs.Gas.{Rules, IsGas, holds, particles, momentum_of}
-use Rattle.gas_geom.proofs.Held.{sum_held, sum-held, particles-bits}
-use Rattle.gas_geom.specs.declared.size.TheConstants.{MOST_SIDE}
+use Rattle.gas_geom.specs.Gas.{Rules, particles, momentum_of}
 use Rattle.gas_geom.specs.Channel.{is_solid}
 use Rattle.gas_geom.specs.Lattice.{LatticeModel, cell}
-use Rattle.gas_bits.proofs.Counting.{bits-le}
 use Rattle.gas_bits.proofs.Ones.{range-append}
 use Rattle.gas_tool_io.specs.Blocks.{cells_of, block_of_cells}
-use Rattle.gas_tool_io.specs.Inner.Tally.{HasRoom, block_at, empty_block, most_cells, part, plus_cell, plus_cell_of}
+use Rattle.gas_tool_io.specs.Inner.Tally.{HasRoom, block_at, empty_block, part, plus_cell, plus_cell_of}
 use Rattle.gas_tool_io.specs.declared.blocks.Block.{Block}
-use Rattle.gas_tool_io.proofs.Ranges.{part-range, part-short}
+use Rattle.gas_tool_io.proofs.Ranges.{part-range}
 
 -- a number from -m to m
 pub record Within (m : ℕ) (z : ℤ) : Type 0 where
@@ -36,47 +29,22 @@ pub small-within : (z : ℤ) → IsSmall z → Within 2 z
 small-within (pos a) h = record { low = omega (arith, ints); high = omega (arith, ints, h) }
 small-within (negsuc a) h = record { low = omega (arith, ints, h); high = omega (arith, ints) }
 
-if_small : (b : Bool) (z : ℤ) → IsSmall z → Within 2 (if b then z else pos 0)
-if_small true z h = small-within z h
-if_small false z h = record { low = omega (arith, ints); high = omega (arith, ints) }
-
 pub Within-add : (m n : ℕ) (y z : ℤ) → Within m y → Within n z → Within (m + n) (y +ℤ z)
 Within-add m n y z h k = record { low = omega (arith, ints, h.low, k.low); high = omega (arith, ints, h.high, k.high) }
 
 pub Within-le : (m n : ℕ) (z : ℤ) → m ≤ n → Within m z → Within n z
 Within-le m n z le h = record { low = omega (arith, ints, h.low); high = omega (arith, ints, h.high) }
 
-sum_held_small : (n s : ℕ) (f : ℕ → ℤ) → ((i : ℕ) → i < n → IsSmall (f i)) → Within (2 * n) (sum_held n s f)
-sum_held_small zero s f h = record { low = omega (arith, ints); high = omega (arith, ints) }
-sum_held_small (suc n) s f h =
-    Within-le _ _ _ (omega arith) (Within-add _ _ _ _ (sum_held_small n s f (λ i lt. h i (omega arith))) (if_small (holds s n) (f n) (h n (omega arith))))
-
--- the momentum of a set is small
-pub momentum_within : (gas : Rules) → IsGas gas → (s : ℕ) → Within 16 (momentum_of gas s).0 × Within 16 (momentum_of gas s).1
-momentum_within gas laws s =
-    let few = laws.few_dirs in (
-      subst (Within 16) (sym (sum-held gas.dirs s (λ i. (gas.momentum i).0)))
-          (Within-le _ _ _ (omega arith) (sum_held_small gas.dirs s (λ i. (gas.momentum i).0) (λ i lt. (laws.momentum_small i lt).0))),
-      subst (Within 16) (sym (sum-held gas.dirs s (λ i. (gas.momentum i).1)))
-          (Within-le _ _ _ (omega arith) (sum_held_small gas.dirs s (λ i. (gas.momentum i).1) (λ i lt. (laws.momentum_small i lt).1))),
-    )
-
-solid_counts : (b : Bool) → (if not b then 1 else 0) ≤ 1
-solid_counts true = omega arith
-solid_counts false = omega arith
-
--- a cell takes the room of a cell
-pub HasRoom-cell : (gas : Rules) → IsGas gas → (b : Block) (solid : Bool) (s n : ℕ) → HasRoom b n → HasRoom (plus_cell gas b solid s) (n + 1)
-HasRoom-cell gas laws b solid s n h =
-    let m = momentum_within gas laws s in
-    record {
-      fluid = omega (arith, h.fluid, solid_counts solid);
-      particles = omega (arith, h.particles, particles-bits gas s, bits-le gas.dirs s, laws.few_dirs);
-      west = omega (arith, ints, h.west, m.0.low);
-      east = omega (arith, ints, h.east, m.0.high);
-      south = omega (arith, ints, h.south, m.1.low);
-      north = omega (arith, ints, h.north, m.1.high);
-    }
+-- a block of no cell takes no room
+pub HasRoom-none : (col row : ℕ) → HasRoom (empty_block col row) 0
+HasRoom-none col row = record {
+  fluid = omega arith;
+  particles = omega arith;
+  west = omega (arith, ints);
+  east = omega (arith, ints);
+  south = omega (arith, ints);
+  north = omega (arith, ints);
+}
 
 pub HasRoom-le : (b : Block) (m n : ℕ) → m ≤ n → HasRoom b m → HasRoom b n
 HasRoom-le b m n le h = record {
@@ -117,39 +85,6 @@ folded gas lattice (c ∷ cells) b = folded gas lattice cells (plus_place gas la
 block_folded : (gas : Rules) (lattice : LatticeModel) (col row : ℕ) (cells : List (ℕ × ℕ))
     → fold (plus_place gas lattice) (empty_block col row) cells ≡ block_of_cells gas lattice col row cells
 block_folded gas lattice col row cells = folded gas lattice cells (empty_block col row)
-
-HasRoom-fold : (gas : Rules) → IsGas gas → (lattice : LatticeModel) (cells : List (ℕ × ℕ)) (b : Block) (n : ℕ) → HasRoom b n
-    → HasRoom (fold (plus_place gas lattice) b cells) (n + length cells)
-HasRoom-fold gas laws lattice [] b n h = subst (HasRoom b) (sym (add-zero n)) h
-HasRoom-fold gas laws lattice (c ∷ cells) b n h =
-    HasRoom-le _ (n + 1 + length cells) (n + suc (length cells)) (omega arith)
-    (HasRoom-fold gas laws lattice cells (plus_place gas lattice b c) (n + 1) (HasRoom-cell gas laws b _ _ n h))
-
--- n rows have at most n times as many cells as one
-cells_few : (lattice : LatticeModel) (width col from n : ℕ) → length (cells_from lattice width col from n) ≤ n * lattice.channel.width
-cells_few lattice width col from zero = omega arith
-cells_few lattice width col from (suc n) =
-    let xs : List ℕ = part lattice.channel.width width col in
-    let row : List (ℕ × ℕ) = map (λ x. (x, from)) xs in
-    let short : length xs ≤ lattice.channel.width = omega (arith, part-short (λ i. i / width == col) (range_with_len 0 lattice.channel.width), length-range_with_len 0 lattice.channel.width) in
-    let long : length row ≡ length xs = length-map xs _ in
-    omega (arith, length-append row (cells_from lattice width col (from + 1) n), long, short, cells_few lattice width col (from + 1) n, suc-mul n lattice.channel.width)
-
--- a block of fewer than MOST_SIDE rows has room for one more
-pub block_from-room : (gas : Rules) → IsGas gas → (lattice : LatticeModel) (width row from n col : ℕ) → lattice.channel.width ≤ MOST_SIDE → n < MOST_SIDE
-    → HasRoom (block_from gas lattice width row from n col) (most_cells - MOST_SIDE)
-block_from-room gas laws lattice width row from n col wide few =
-    let none : HasRoom (empty_block col row) 0 = record {
-      fluid = omega arith;
-      particles = omega arith;
-      west = omega (arith, ints);
-      east = omega (arith, ints);
-      south = omega (arith, ints);
-      north = omega (arith, ints);
-    } in
-    let cells : List (ℕ × ℕ) = cells_from lattice width col from n in
-    let most : n * lattice.channel.width ≤ (MOST_SIDE - 1) * MOST_SIDE = mul-le-mul (let h : n ≤ MOST_SIDE - 1 = omega arith in h) wide in
-    HasRoom-le _ (0 + length cells) (most_cells - MOST_SIDE) (omega (arith, cells_few lattice width col from n, most)) (HasRoom-fold gas laws lattice cells (empty_block col row) 0 none)
 
 -- a block with the cells of one more row
 pub block_from-more : (gas : Rules) (lattice : LatticeModel) (width row from n y col m : ℕ) (r : Block) → 1 ≤ width → col * width < lattice.channel.width

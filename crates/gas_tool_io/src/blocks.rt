@@ -1,10 +1,10 @@
 //! Coarse tables of a lattice: density and momentum by blocks of cells.
 
-ghost use Rattle.std.specs.Prelude.{◌≡◌, ◌≤◌, ◌<◌, ◌-◌, ◌++◌, ◌*◌, IfOk, OnOk, fold, length};
+ghost use Rattle.std.specs.Prelude.{◌≡◌, ◌≤◌, ◌<◌, ◌+◌, ◌-◌, ◌++◌, ◌*◌, ℕ, IfOk, OnOk, fold, length};
 ghost use Rattle.std.specs.List.{range_with_len};
 ghost use Rattle.gas_geom.specs.declared.size.TheConstants.{MOST_SIDE};
 ghost use Rattle.gas_tool_io.specs.Blocks.{blocks_of};
-ghost use Rattle.gas_tool_io.specs.Inner.Tally.{HasRoom, block_at, empty_block, most_cells, plus_cell_of, plus_particles, row_of_blocks};
+ghost use Rattle.gas_tool_io.specs.Inner.Tally.{HasRoom, block_at, most_cells, plus_cell_of, plus_particles, row_of_blocks};
 
 use gas_geom::gas::Gas;
 use gas_rows::lattice::Lattice;
@@ -27,20 +27,6 @@ pub struct Block {
 }
 
 impl Block {
-    // The block of no cell.
-    fn empty(col: u32, row: u32) -> Block
-        ensures { result ≡ empty_block col row }
-    {
-        Block {
-            col,
-            row,
-            fluid: 0,
-            particles: 0,
-            px: 0,
-            py: 0,
-        }
-    }
-
     // The block with `count` more particles of direction `i`.
     fn plus_particles<G: Gas>(self, i: u32, count: u32) -> Block
         requires direction { i < G.rules.dirs }
@@ -64,8 +50,9 @@ impl Block {
         requires few { to ≤ MOST_SIDE }
         requires same { length solid.now ≡ length row.now }
         requires room { HasRoom self (most_cells - MOST_SIDE) }
-        ensures { result
+        ensures cells { result
             ≡ fold (plus_cell_of G.rules solid.now row.now) self (range_with_len from (to - from)) }
+        ensures room { (n : ℕ) → HasRoom self n → HasRoom result (n + MOST_SIDE) }
     {
         let mut block = Block {
             fluid: self.fluid + u64::from(to - from - solid.count_in(from, to)),
@@ -90,7 +77,14 @@ impl Block {
         let right = left + width.min(size.width() - left);
         let top = row * height;
         let bottom = top + height.min(size.height() - top);
-        let mut block = Block::empty(col, row);
+        let mut block = Block {
+            col,
+            row,
+            fluid: 0,
+            particles: 0,
+            px: 0,
+            py: 0,
+        };
         for y in top..bottom {
             let solid = lattice.channel().mask(y);
             block = block.plus_cells(lattice.row(y), solid, left, right);

@@ -1,12 +1,36 @@
 //! Reading a whole input, up to a limit.
 
-ghost use Rattle.std.specs.Prelude.{◌≡◌, ◌≤◌, ◌<◌, IfOk, IfSome, length, vec_len, IsErrOf};
+ghost use Rattle.std.specs.Prelude.{◌≡◌, ◌≢◌, ◌≤◌, ◌<◌, IfOk, IfSome, length, vec_len, IsErrOf};
 ghost use Rattle.std.specs.Io.KnownBytes.{IsAtEnd};
-ghost use Rattle.gas_tool_io.specs.declared.faults.InputFault.TheVariants as fault;
+ghost use Rattle.gas_tool_io.specs.declared.input.InputFault.TheVariants as fault;
 
-use crate::faults::InputFault;
 use std::alloc::Global;
 use std::io::Read;
+use thiserror::Error;
+
+/// Why an input was not read. Its `Display` text is the line that the program prints.
+#[derive(Debug, Drop, Error)]
+pub enum InputFault {
+    #[error("memory refused")]
+    Memory,
+    #[error("input: read failed")]
+    Read,
+    #[error("input: too long")]
+    TooLong,
+}
+
+impl InputFault {
+    /// The exit status of the program: 3 for memory, 1 for a refused input.
+    pub fn status(&self) -> u8
+        ensures memory { self.now ≡ fault.Memory → result ≡ 3 }
+        ensures refused { self.now ≢ fault.Memory → result ≡ 1 }
+    {
+        match self {
+            InputFault::Memory => 3,
+            InputFault::Read | InputFault::TooLong => 1,
+        }
+    }
+}
 
 /// The most bytes that an input may have: 64 MiB.
 pub const LONGEST_INPUT: usize = 67_108_864;

@@ -2,9 +2,7 @@
 #![tactic(auto)]
 
 pub mod blocks;
-pub mod faults;
 pub mod input;
 mod output;
 pub mod replay;
-pub mod table;
 pub mod text;

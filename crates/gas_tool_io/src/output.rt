@@ -6,7 +6,7 @@ ghost use Rattle.std.specs.Fmt.{with_newline};
 ghost use Rattle.gas_tool_io.specs.Output.{Writes};
 ghost use Rattle.gas_tool_io.specs.Inner.Sink.{HasSent, Adds};
 
-use crate::faults::WriteFault;
+use crate::text::WriteFault;
 use arrayvec::{ArrayString, ArrayVec};
 use std::fmt::{Display, Write as _};
 use std::io::Write;

@@ -10,9 +10,8 @@ ghost use Rattle.gas_tool_io.specs.Inner.Sink.{Adds};
 ghost use Rattle.gas_tool_io.specs.Text.{cells_text, line_feed};
 ghost use Rattle.gas_tool_io.specs.Replay.{belt_line, replay_text};
 
-use crate::faults::WriteFault;
 use crate::output::{Sink, put_line};
-use crate::text::put_cells;
+use crate::text::{WriteFault, put_cells};
 use gas_geom::gas::Gas;
 use gas_pipe_replay::answer::Replay;
 use std::io::Write;

@@ -1,4 +1,4 @@
-//! The printed texts of a lattice: its cells, and its summary.
+//! The printed texts of a lattice: its cells, its summary, and a table of its blocks.
 
 ghost use Rattle.std.specs.Prelude.{◌<◌, ◌++◌, codes};
 ghost use Rattle.std.specs.Fmt.{decimal};
@@ -6,14 +6,23 @@ ghost use Rattle.std.specs.List.{flat_map, range_with_len};
 ghost use Rattle.gas_cells.specs.Cells.{row_cells};
 ghost use Rattle.gas_tool_io.specs.Output.{Writes};
 ghost use Rattle.gas_tool_io.specs.Inner.Sink.{Adds};
+ghost use Rattle.gas_tool_io.specs.Table.{block_line, table_text};
 ghost use Rattle.gas_tool_io.specs.Text.{cells_text, check_text, line_feed};
 
-use crate::faults::WriteFault;
+use crate::blocks::Block;
 use crate::output::{Sink, put_line};
 use gas_cells::cells::{row_block, row_blocks};
 use gas_geom::gas::Gas;
 use gas_rows::lattice::Lattice;
 use std::io::Write;
+use thiserror::Error;
+
+/// A writer failed, or took nothing, after the first `written` bytes of a text.
+#[derive(Debug, Drop, Error)]
+#[error("write: failed after {written} bytes")]
+pub struct WriteFault {
+    pub written: u64,
+}
 
 // Adds the line above the cells.
 fn put_header<W: Write>(sink: &mut Sink, out: &mut W, generation: u64, particles: u64)
@@ -102,16 +111,6 @@ fn put_summary_line<W: Write>(
     );
 }
 
-#[tactic(auto, unfolding(crate::specs::Text::check_text))]
-fn put_summary<G: Gas, W: Write>(sink: &mut Sink, out: &mut W, gas: &str, lattice: &Lattice<G>)
-    ensures { Adds (W.contents out.old) (W.contents out.new) sink.old sink.new
-        (check_text gas.now G.rules lattice.now) }
-{
-    let channel = lattice.channel();
-    let size = (channel.size().width(), channel.size().height());
-    put_summary_line(sink, out, gas, size, channel.count_solid(), lattice.count());
-}
-
 /// Writes the summary of a lattice, a line. It has this name of its gas, the width and the height in
 /// cells, and the numbers of solid cells and of particles. Then the writer is flushed once. The
 /// faults are as in `write_cells`. It takes no memory.
@@ -123,7 +122,60 @@ pub fn write_summary<G: Gas, W: Write>(
     ensures written { Writes (W.contents out.old) (W.contents out.new)
         (check_text gas.now G.rules lattice.now) result }
 {
+    let channel = lattice.channel();
+    let size = (channel.size().width(), channel.size().height());
     let mut sink = Sink::new();
-    put_summary(&mut sink, out, gas, lattice);
+    put_summary_line(
+        &mut sink,
+        out,
+        gas,
+        size,
+        channel.count_solid(),
+        lattice.count(),
+    );
+    sink.finish(out)
+}
+
+fn put_block<W: Write>(sink: &mut Sink, out: &mut W, block: Block)
+    ensures { Adds (W.contents out.old) (W.contents out.new) sink.old sink.new (block_line block) }
+{
+    let Block {
+        col,
+        row,
+        fluid,
+        particles,
+        px,
+        py,
+    } = block;
+    put_line(
+        sink,
+        out,
+        format_args!("{col:>5} {row:>5} {fluid:>8} {particles:>9} {px:>10} {py:>10}"),
+    );
+}
+
+fn put_blocks<W: Write>(sink: &mut Sink, out: &mut W, blocks: &[Block])
+    ensures { Adds (W.contents out.old) (W.contents out.new) sink.old sink.new
+        (flat_map block_line blocks.now) }
+{
+    for block in blocks {
+        put_block(sink, out, *block);
+    }
+}
+
+/// Writes the table of blocks: a header, then a line per block in the given order. The six columns
+/// are the fields of `Block`, right-aligned in 5, 5, 8, 9, 10 and 10 places, with one space between
+/// them. A number that needs more places takes them. Then the writer is flushed once. The faults
+/// are as in `write_cells`. It takes no memory.
+pub fn write_table<W: Write>(blocks: &[Block], out: &mut W) -> Result<(), WriteFault>
+    ensures written { Writes (W.contents out.old) (W.contents out.new)
+        (table_text blocks.now) result }
+{
+    let mut sink = Sink::new();
+    sink.push(
+        out,
+        b"  col   row    fluid particles         px         py\n",
+    );
+    put_blocks(&mut sink, out, blocks);
     sink.finish(out)
 }

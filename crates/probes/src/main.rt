@@ -10,17 +10,54 @@
 //!   the last word.
 #![tactic(auto)]
 
-mod bench;
 mod parts;
 mod probe;
 mod runs;
 mod scenes;
 
 use crate::probe::Probe;
+use gas_geom::gas::Gas;
+use gas_rows::key::key_words;
+use gas_rows::lattice::Lattice;
+use gas_scene::scene::{Scene, read};
+use gas_scene::with_lattice;
+use gas_stage::evolution::lattice_after;
+use gas_tool::{slurp, write_cells};
 use std::process::ExitCode;
 use std::sync::Wait;
 use std::thread::Threads;
 use std::{env, io};
+
+const WORDS: usize = 4096;
+
+// Prints the last word of `rows` rows of 4096 words, under the seed 1.
+fn print_word(rt: &HostRuntime, rows: u64) -> Option<()> {
+    let mut words = [0u32; WORDS];
+    for row in 0..u32::try_from(rows).ok()? {
+        key_words(1, 0, u64::from(row) * WORDS as u64, &mut words);
+    }
+    println!(rt; "{}", words[WORDS - 1]).ok()
+}
+
+// Reads a scene from standard input, and prints its cells after these generations, computed by one
+// stage on one thread.
+fn print_cells(rt: &HostRuntime, generations: u64) -> Option<()> {
+    let text = slurp(rt.alloc(), &mut rt.reader()).ok()?;
+    let scene = read(rt.alloc(), text.as_slice()).ok()?;
+    with_lattice!(scene.lattice(), lattice => print(rt, lattice, &scene, generations))
+}
+
+fn print<G: Gas>(
+    rt: &HostRuntime,
+    lattice: &Lattice<G>,
+    scene: &Scene,
+    generations: u64,
+) -> Option<()> {
+    let first = scene.generation();
+    let last = first.checked_add(generations)?;
+    let lattice = lattice_after(rt.alloc(), lattice, scene.chirality(), first, generations).ok()?;
+    write_cells(&lattice, last, &mut rt.stdout()).ok()
+}
 
 // Makes the calls of this name, or all of them.
 fn calls<R: Threads + Wait + Sync>(rt: &HostRuntime, threads: &R, name: &str) -> u8 {
@@ -47,8 +84,8 @@ fn status<R: Threads + Wait + Sync>(rt: &HostRuntime, threads: &R) -> io::Result
         None => 0,
     };
     let done = match word.as_str() {
-        "single_stage" => bench::print_cells(rt, number),
-        "key_stream" => bench::print_word(rt, number),
+        "single_stage" => print_cells(rt, number),
+        "key_stream" => print_word(rt, number),
         name => return Ok(calls(rt, threads, name)),
     };
     Ok(u8::from(done.is_none()))

@@ -3,16 +3,11 @@
 use crate::probe::{Made, Probe, drifting_lattice, has_drifted_to, lent};
 use arrayvec::ArrayVec;
 use gas_geom::fhp1::Fhp1;
-use gas_pipe::error::RunError;
-use gas_pipe::gate::Gate;
-use gas_pipe::plan::Plan;
-use gas_pipe::{replay, run};
+use gas_pipe::{Gate, Plan, RunError, replay, run};
 use gas_rows::chirality::Chirality;
 use gas_rows::lattice::Lattice;
 use gas_stage::evolution::lattice_after;
-use gas_tool::faults::ToolError;
-use gas_tool::request::Request;
-use gas_tool::{coarse, perform};
+use gas_tool::{Request, ToolError, coarse, perform};
 use std::alloc::{AllocError, Global};
 use std::sync::Wait;
 use std::sync::atomic::{AtomicU64, Ordering};

@@ -5,13 +5,9 @@ use super::helpers::{feeder, finished, turn_feeder, turn_worker, worker};
 use super::runs::{Cell, full_lattice, lattice};
 use gas_geom::fhp1::Fhp1;
 use gas_geom::size::Size;
-use gas_pipe::ends::Turned::{Put, Stray};
-use gas_pipe::ends::{PutEnd, TakeEnd};
-use gas_pipe::feeder::Feeder;
-use gas_pipe::plain_belt::PlainBelt;
-use gas_pipe::plan::Plan;
-use gas_pipe::worker::Worker;
-use gas_pipe_members::schedule::Schedule;
+use gas_pipe::Turned::{Put, Stray};
+use gas_pipe::{Feeder, PlainBelt, Plan, PutEnd, TakeEnd, Worker};
+use gas_pipe_members::plan::Schedule;
 use gas_rows::channel::Channel;
 use gas_rows::chirality::Chirality;
 use gas_rows::chirality::Chirality::{Left, Seeded};
@@ -57,7 +53,7 @@ impl Line<'_> {
     fn beginning(&self, k: usize, put: u32) -> Option<Option<u64>> {
         let who = u32::try_from(k).ok()?;
         let pass = u64::from(put / self.height.max(1));
-        if pass < self.schedule.passes() && who < self.schedule.plan.stages() {
+        if pass < self.schedule.plan.passes() && who < self.schedule.plan.stages() {
             Some(self.schedule.generation(pass, who + 1))
         } else {
             None

@@ -1,10 +1,7 @@
 //! What several tests share.
 
 use gas_geom::fhp1::Fhp1;
-use gas_pipe::ends::Turned;
-use gas_pipe::feeder::Feeder;
-use gas_pipe::plain_belt::PlainBelt;
-use gas_pipe::worker::Worker;
+use gas_pipe::{Feeder, PlainBelt, Turned, Worker};
 use gas_rows::channel::Channel;
 use gas_rows::chirality::Chirality;
 use gas_rows::lattice::Lattice;

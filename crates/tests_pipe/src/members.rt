@@ -4,12 +4,8 @@ use super::helpers::{feeder, finished, row_is, turn_feeder, turn_worker, worker}
 use super::runs::lattice;
 use gas_geom::fhp1::Fhp1;
 use gas_geom::size::Size;
-use gas_pipe::ends::Turned::{Done, Idle, Put, Stray, Took};
-use gas_pipe::ends::{PutEnd, Turned};
-use gas_pipe::feeder::Feeder;
-use gas_pipe::plain_belt::PlainBelt;
-use gas_pipe::plan::{Plan, PlanError};
-use gas_pipe::worker::Worker;
+use gas_pipe::Turned::{Done, Idle, Put, Stray, Took};
+use gas_pipe::{Feeder, PlainBelt, Plan, PlanError, PutEnd, Turned, Worker};
 use gas_rows::chirality::Chirality;
 use gas_rows::lattice::Lattice;
 use gas_rows::row::Row;

@@ -3,8 +3,7 @@
 use super::runs::{lattice, run_from};
 use gas_geom::fhp1::Fhp1;
 use gas_geom::size::Size;
-use gas_pipe::gate::Gate;
-use gas_pipe::plan::Plan;
+use gas_pipe::{Gate, Plan};
 use gas_rows::chirality::Chirality;
 use std::alloc::Global;
 use std::process::Abort;

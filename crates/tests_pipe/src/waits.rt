@@ -1,9 +1,9 @@
 //! How a member waits, stepped by hand: the phases of its waits, the bans on yields, and wake-ups.
 //! The numbers are those that docs/DECISIONS.md states ("How a member waits").
 
-use gas_pipe_run::backoff::Phase::{Announce, Park, Spin, Yield};
-use gas_pipe_run::backoff::{Backoff, Phase, YieldBan};
-use gas_pipe_run::wake_ups::WakeUps;
+use gas_pipe::backoff::Phase::{Announce, Park, Spin, Yield};
+use gas_pipe::backoff::{Backoff, Phase, YieldBan};
+use gas_pipe::wake_ups::WakeUps;
 use std::process::Abort;
 use std::sync::Wait;
 use std::test::Fail;

@@ -3,7 +3,7 @@
 //! them through each of its paths.
 
 use gas_geom::gas::Gas;
-use gas_pipe_run::gate::NoGate;
+use gas_pipe::NoGate;
 use gas_rows::lattice::Lattice;
 use gas_scene::error::SceneError;
 use gas_scene::scene::{Scene, read};

@@ -2,7 +2,7 @@
 
 use super::helpers::{DRIFTED, End, Narrow, assert_got};
 use super::input::{Given, scene};
-use gas_pipe_run::gate::NoGate;
+use gas_pipe::NoGate;
 use gas_scene::error::SceneError;
 use gas_tool::{Fault, InputFault, ToolError, UsageFault, answer};
 use std::alloc::Global;

@@ -6,148 +6,79 @@ use std::alloc::{AllocError, Global};
 use std::process::Abort;
 use std::test::Fail;
 
-// Asserts for each case whether a text is refused, and why. The text is `first` and the lines of
-// the case.
-fn have_refusals(
-    rt: &impl Abort,
-    alloc: Global,
-    first: &str,
-    cases: &[(&str, Option<SceneError>)],
-) -> Result<(), Fail> {
-    for (last, wanted) in cases {
+// Asserts of each line whether a text is refused, and by which message. The text is `first` and what
+// stands before the bar, where a semicolon ends a line.
+fn have_refusals(rt: &impl Abort, alloc: Global, first: &str, cases: &str) -> Result<(), Fail> {
+    for case in cases.lines() {
+        let (last, wanted) = case.split_once(" | ").ok_or("a case")?;
         let text = format!(in alloc; "{first}{last}")?;
-        assert!(rt;
-            refusal(alloc, text.as_str().as_bytes()) == *wanted,
-            "{first} {last}"
-        );
+        let text = text.as_str().replace(alloc, "; ", "\n")?;
+        let told = match refusal(alloc, text.as_str().as_bytes()) {
+            Some(error) => format!(in alloc; "{error}")?,
+            None => String::from_str(alloc, "a scene")?,
+        };
+        assert!(rt; told.as_str() == wanted, "{first} {case}: {told}");
     }
     Ok(())
 }
 
 #[test]
 fn maps(rt: HostRuntime) -> Result<(), Fail> {
-    have_refusals(
-        &rt,
-        rt.alloc(),
-        "",
-        &[
-            ("", Some(SceneError::Missing)),
-            ("gas = ", Some(SceneError::Syntax)),
-            ("gas = \"fhp1\"\ngas = \"fhp1\"", Some(SceneError::Syntax)),
-            ("cells = [\"01\"]", Some(SceneError::Missing)),
-            ("gas = 1\ncells = [\"01\"]", Some(SceneError::WrongType)),
-            ("gas = \"fhp2\"\ncells = [\"01\"]", Some(SceneError::Range)),
-            (
-                "gas = \"hpp\"\nchirality = \"left\"\ncells = [\"10\"]",
-                Some(SceneError::BadCell(0, 0)),
-            ),
-            (
-                "gas = \"fhp-rest\"\ncells = [\"80\"]",
-                Some(SceneError::BadCell(0, 0)),
-            ),
-            (
-                "gas = \"fhp1\"\nchirality = \"left\"\ncells = [\"0101\", \"0g\"]",
-                Some(SceneError::RowLength(1)),
-            ),
-            (
-                "gas = \"fhp1\"\nchirality = \"left\"\ncells = [\"40\"]",
-                Some(SceneError::BadCell(0, 0)),
-            ),
-        ],
-    )?;
-    have_refusals(
-        &rt,
-        rt.alloc(),
-        "gas = \"fhp1\"\ncells = ",
-        &[
-            ("[]", Some(SceneError::Range)),
-            ("[\"01\"]", None),
-            ("[\"01\"]\ncolour = 1", Some(SceneError::UnknownKey)),
-            ("[\"01\"]\nwidth = 4", Some(SceneError::BothForms)),
-            ("[\"010\"]", Some(SceneError::RowLength(0))),
-            ("[\"01\", \"0g\"]", Some(SceneError::BadCell(1, 0))),
-            ("[\"é.\"]", Some(SceneError::RowLength(0))),
-            ("[\"é\"]", Some(SceneError::BadCell(0, 0))),
-        ],
-    )
+    let texts = "\
+gas =  | scene: not TOML
+ | scene: missing key
+gas = 'fhp1'; gas = 'fhp1' | scene: not TOML
+cells = ['01'] | scene: missing key
+gas = 1; cells = ['01'] | scene: wrong type
+gas = 'fhp2'; cells = ['01'] | scene: out of range
+gas = 'hpp'; chirality = 'left'; cells = ['10'] | scene: row 0 cell 0 is not a cell
+gas = 'fhp-rest'; cells = ['80'] | scene: row 0 cell 0 is not a cell
+gas = 'fhp1'; chirality = 'left'; cells = ['0101', '0g'] | scene: row 1 has a wrong length
+gas = 'fhp1'; chirality = 'left'; cells = ['40'] | scene: row 0 cell 0 is not a cell";
+    have_refusals(&rt, rt.alloc(), "", texts)?;
+    let cells = "\
+[] | scene: out of range
+['01'] | a scene
+['01']; colour = 1 | scene: unknown key
+['01']; width = 4 | scene: both forms
+['010'] | scene: row 0 has a wrong length
+['01', '0g'] | scene: row 1 cell 0 is not a cell
+['é.'] | scene: row 0 has a wrong length
+['é'] | scene: row 0 cell 0 is not a cell";
+    have_refusals(&rt, rt.alloc(), "gas = 'fhp1'; cells = ", cells)
 }
 
 // Only version 2 may have a generation.
 #[test]
 fn versions(rt: HostRuntime) -> Result<(), Fail> {
-    have_refusals(
-        &rt,
-        rt.alloc(),
-        "gas = \"fhp1\"\ncells = [\"01\"]\n",
-        &[
-            ("version = 3", Some(SceneError::Range)),
-            ("version = \"1\"", Some(SceneError::WrongType)),
-            ("version = \"2\"", Some(SceneError::WrongType)),
-            ("generation = 3", Some(SceneError::UnknownKey)),
-            ("generation = 3\nversion = 1", Some(SceneError::UnknownKey)),
-            ("generation = 3\nversion = 3", Some(SceneError::UnknownKey)),
-            (
-                "generation = 3\nversion = \"2\"",
-                Some(SceneError::UnknownKey),
-            ),
-            ("version = 2\ngeneration = -1", Some(SceneError::Range)),
-            (
-                "version = 2\ngeneration = 1000000000001",
-                Some(SceneError::Range),
-            ),
-            (
-                "version = 2\ngeneration = \"1\"",
-                Some(SceneError::WrongType),
-            ),
-        ],
-    )
+    let keys = "\
+version = 3 | scene: out of range
+version = '1' | scene: wrong type
+version = '2' | scene: wrong type
+generation = 3 | scene: unknown key
+generation = 3; version = 1 | scene: unknown key
+generation = 3; version = 3 | scene: unknown key
+generation = 3; version = '2' | scene: unknown key
+version = 2; generation = -1 | scene: out of range
+version = 2; generation = 1000000000001 | scene: out of range
+version = 2; generation = '1' | scene: wrong type";
+    have_refusals(&rt, rt.alloc(), "gas = 'fhp1'; cells = ['01']; ", keys)
 }
 
 #[test]
 fn areas(rt: HostRuntime) -> Result<(), Fail> {
-    have_refusals(
-        &rt,
-        rt.alloc(),
-        "gas = \"fhp1\"\n",
-        &[
-            (
-                "width = 4\nheight = 3\nparticles = [[4, 0, 1]]",
-                Some(SceneError::Range),
-            ),
-            (
-                "width = 4\nheight = 3\nsolid = [[0, 0, 9223372036854775807, 1]]",
-                Some(SceneError::Range),
-            ),
-            (
-                "width = 4\nheight = 3\nparticles = [[-1, 0, 1]]",
-                Some(SceneError::Range),
-            ),
-            ("width = 4\nheight = 3\nseed = -1", Some(SceneError::Range)),
-            (
-                "width = 4\nheight = 3\nrate = 1.0",
-                Some(SceneError::WrongType),
-            ),
-            (
-                "width = 4\nheight = 2\nsolid = [[0, 0, 2, 1], [1, 0, 2, 2]]\n\
-                 particles = [[1, 0, 1]]",
-                Some(SceneError::Range),
-            ),
-            (
-                "width = 4\nheight = 2\nsolid = [[0, 0, 2, 1], [1, 0, 2, 2]]\n\
-                 particles = [[0, 1, 64]]",
-                Some(SceneError::Range),
-            ),
-            (
-                "width = 4\nheight = 2\nsolid = [[3, 0, 2, 1]]",
-                Some(SceneError::Range),
-            ),
-            ("width = 4097\nheight = 1", Some(SceneError::Range)),
-            (
-                "version = 2\nwidth = 65537\nheight = 1",
-                Some(SceneError::Range),
-            ),
-        ],
-    )
+    let keys = "\
+width = 4; height = 3; particles = [[4, 0, 1]] | scene: out of range
+width = 4; height = 3; solid = [[0, 0, 9223372036854775807, 1]] | scene: out of range
+width = 4; height = 3; particles = [[-1, 0, 1]] | scene: out of range
+width = 4; height = 3; seed = -1 | scene: out of range
+width = 4; height = 3; rate = 1.0 | scene: wrong type
+width = 4; height = 2; solid = [[0, 0, 2, 1], [1, 0, 2, 2]]; particles = [[1, 0, 1]] | scene: out of range
+width = 4; height = 2; solid = [[0, 0, 2, 1], [1, 0, 2, 2]]; particles = [[0, 1, 64]] | scene: out of range
+width = 4; height = 2; solid = [[3, 0, 2, 1]] | scene: out of range
+width = 4097; height = 1 | scene: out of range
+version = 2; width = 65537; height = 1 | scene: out of range";
+    have_refusals(&rt, rt.alloc(), "gas = 'fhp1'; ", keys)
 }
 
 // The first bytes of a scene, for each number of bytes. At the end of a line a key is missing. With

@@ -4,83 +4,56 @@ use super::helpers::{DRIFT, holds};
 use gas_rows::key::key_words;
 use std::alloc::Global;
 use std::fmt::Write;
+use std::process::Abort;
 use std::test::Fail;
+
+// Asserts of each line which scene a text is. The text is `first` and what stands before the bar. A
+// semicolon ends a line, in the text and in the scene.
+fn each_holds(rt: &impl Abort, alloc: Global, first: &str, cases: &str) -> Result<(), Fail> {
+    for case in cases.lines() {
+        let (last, wanted) = case.split_once(" | ").ok_or("a case")?;
+        let text = format!(in alloc; "{first}{last}")?;
+        let text = text.as_str().replace(alloc, "; ", "\n")?;
+        let wanted = wanted.replace(alloc, "; ", "\n")?;
+        holds(rt, alloc, text.as_str(), wanted.as_str())?;
+    }
+    Ok(())
+}
 
 #[test]
 fn maps(rt: HostRuntime) -> Result<(), Fail> {
-    for (keys, wanted) in [
-        ("", "Left 0 fhp1\n........\n......01\n........"),
-        ("version = 1", "Left 0 fhp1\n........\n......01\n........"),
-        ("version = 2", "Left 0 fhp1\n........\n......01\n........"),
-        (
-            "version = 2\ngeneration = 10",
-            "Left 10 fhp1\n........\n......01\n........",
-        ),
-        (
-            "version = 2\ngeneration = 1000000000000",
-            "Left 1000000000000 fhp1\n........\n......01\n........",
-        ),
-    ] {
-        let text = format!(in rt.alloc(); "{DRIFT}{keys}")?;
-        holds(&rt, rt.alloc(), text.as_str(), wanted)?;
-    }
-    Ok(())
+    let keys = "\
+version = 1 | Left 0 fhp1; ........; ......01; ........
+ | Left 0 fhp1; ........; ......01; ........
+version = 2 | Left 0 fhp1; ........; ......01; ........
+version = 2; generation = 10 | Left 10 fhp1; ........; ......01; ........
+version = 2; generation = 1000000000000 | Left 1000000000000 fhp1; ........; ......01; ........";
+    each_holds(&rt, rt.alloc(), DRIFT, keys)
 }
 
 #[test]
 fn gases_and_chiralities(rt: HostRuntime) -> Result<(), Fail> {
-    for (text, wanted) in [
-        (
-            "gas = \"hpp\"\ncells = [\"00##\", \"0f..\"]",
-            "Seeded(0) 0 hpp\n..##\n0f..",
-        ),
-        (
-            "gas = \"fhp-rest\"\nchirality = \"right\"\ncells = [\"40\"]",
-            "Right 0 fhp-rest\n40",
-        ),
-        (
-            "gas = \"fhp1\"\nseed = 9223372036854775807\ncells = [\"01\"]",
-            "Seeded(9223372036854775807) 0 fhp1\n01",
-        ),
-        (
-            "gas = \"fhp1\"\nseed = 5\nchirality = \"seeded\"\ncells = [\"01\"]",
-            "Seeded(5) 0 fhp1\n01",
-        ),
-        (
-            "gas = \"fhp1\"\nseed = 5\nchirality = \"left\"\ncells = [\"01\"]",
-            "Left 0 fhp1\n01",
-        ),
-    ] {
-        holds(&rt, rt.alloc(), text, wanted)?;
-    }
-    Ok(())
+    let texts = "\
+'hpp'; cells = ['00##', '0f..'] | Seeded(0) 0 hpp; ..##; 0f..
+'fhp-rest'; chirality = 'right'; cells = ['40'] | Right 0 fhp-rest; 40
+'fhp1'; seed = 9223372036854775807; cells = ['01'] | Seeded(9223372036854775807) 0 fhp1; 01
+'fhp1'; seed = 5; chirality = 'seeded'; cells = ['01'] | Seeded(5) 0 fhp1; 01
+'fhp1'; seed = 5; chirality = 'left'; cells = ['01'] | Left 0 fhp1; 01";
+    each_holds(&rt, rt.alloc(), "gas = ", texts)
 }
 
 #[test]
 fn areas(rt: HostRuntime) -> Result<(), Fail> {
-    for (keys, wanted) in [
-        (
-            "width = 5\nheight = 4\nsolid = [[2, 1, 1, 1]]\nrate = 1000",
-            "Seeded(0) 0 fhp1\n3f3f3f3f3f\n3f3f##3f3f\n3f3f3f3f3f\n3f3f3f3f3f",
-        ),
-        (
-            "width = 5\nheight = 4\nsolid = [[2, 1, 1, 1]]\nrate = 1000\n\
-             particles = [[0, 0, 9], [0, 0, 0]]",
-            "Seeded(0) 0 fhp1\n..3f3f3f3f\n3f3f##3f3f\n3f3f3f3f3f\n3f3f3f3f3f",
-        ),
-        (
-            "width = 4\nheight = 2\nsolid = [[0, 0, 2, 1], [1, 0, 2, 2]]",
-            "Seeded(0) 0 fhp1\n######..\n..####..",
-        ),
-        (
-            "width = 4\nheight = 2\nsolid = [[0, 0, 2, 1], [1, 0, 2, 2]]\nrate = 1000",
-            "Seeded(0) 0 fhp1\n######3f\n3f####3f",
-        ),
-    ] {
-        let text = format!(in rt.alloc(); "gas = \"fhp1\"\n{keys}")?;
-        holds(&rt, rt.alloc(), text.as_str(), wanted)?;
-    }
-    Ok(())
+    let large = "\
+rate = 1000 | Seeded(0) 0 fhp1; 3f3f3f3f3f; 3f3f##3f3f; 3f3f3f3f3f; 3f3f3f3f3f
+rate = 1000; particles = [[0, 0, 9], [0, 0, 0]] | Seeded(0) 0 fhp1; ..3f3f3f3f; 3f3f##3f3f; 3f3f3f3f3f; 3f3f3f3f3f";
+    let first = "gas = 'fhp1'; width = 5; height = 4; solid = [[2, 1, 1, 1]]; ";
+    each_holds(&rt, rt.alloc(), first, large)?;
+    let overlapping = "\
+rate = 1000 | Seeded(0) 0 fhp1; ######3f; 3f####3f
+ | Seeded(0) 0 fhp1; ######..; ..####..";
+    let first = "gas = 'fhp1'; width = 4; height = 2; solid = [[0, 0, 2, 1], [1, 0, 2, 2]]; ";
+    each_holds(&rt, rt.alloc(), first, overlapping)
 }
 
 // A particle in the last of the most columns.

@@ -1,63 +1,34 @@
 //! The requests of the command line's words.
 
 use super::helpers::request_of;
-use gas_tool::{Request, Turns};
-use std::alloc::Global;
-use std::process::Abort;
 use std::test::Fail;
-
-// Asserts that the words are this request.
-fn makes(rt: &impl Abort, alloc: Global, words: &str, wanted: &Request) -> Result<(), Fail> {
-    match request_of(alloc, words)? {
-        Ok(request) => assert!(rt; request == *wanted, "{words}"),
-        Err(status) => assert!(rt; false, "{words}: status {status}"),
-    }
-    Ok(())
-}
 
 #[test]
 fn requests(rt: HostRuntime) -> Result<(), Fail> {
-    let alloc = rt.alloc();
-    let table = [
-        ("fhpgas check", Request::Check),
+    for (words, wanted) in [
+        ("check", "Check"),
         (
-            "fhpgas run --generations 1",
-            Request::Run {
-                stages: 4,
-                capacity: 2,
-                generations: 1,
-            },
+            "run --generations 1",
+            "Run { stages: 4, capacity: 2, generations: 1 }",
         ),
         (
-            "fhpgas run --generations 1 --stages 0",
-            Request::Run {
-                stages: 0,
-                capacity: 2,
-                generations: 1,
-            },
+            "run --generations 1 --stages 0",
+            "Run { stages: 0, capacity: 2, generations: 1 }",
         ),
         (
-            "fhpgas coarse --generations 7 --block-width 4096 --block-height 1",
-            Request::Coarse {
-                stages: 4,
-                capacity: 2,
-                generations: 7,
-                block_width: 4096,
-                block_height: 1,
-            },
+            "coarse --generations 7 --block-width 4096 --block-height 1",
+            "Coarse { stages: 4, capacity: 2, generations: 7, block_width: 4096, block_height: 1 }",
         ),
         (
-            "fhpgas replay --generations 2 0 4294967295 --stages 3 1",
-            Request::Replay {
-                stages: 3,
-                capacity: 2,
-                generations: 2,
-                turns: Turns::new(vec![in alloc; 0, 4294967295, 1]?),
-            },
+            "replay --generations 2 0 4294967295 --stages 3 1",
+            "Replay { stages: 3, capacity: 2, generations: 2, turns: Turns { list: [0, 4294967295, 1] } }",
         ),
-    ];
-    for (words, wanted) in &table {
-        makes(&rt, alloc, words, wanted)?;
+    ] {
+        let line = format!(in rt.alloc(); "fhpgas {words}")?;
+        let request = request_of(rt.alloc(), line.as_str())?;
+        let told = format!(in rt.alloc(); "{request:?}")?;
+        let wanted = format!(in rt.alloc(); "Ok({wanted})")?;
+        assert_eq!(rt; told.as_str(), wanted.as_str());
     }
     Ok(())
 }

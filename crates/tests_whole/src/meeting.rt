@@ -4,15 +4,12 @@ ghost use Rattle.gas_tool_cli.specs.Requests.{IsAllowed};
 
 use gas_geom::fhp1::Fhp1;
 use gas_geom::size::Size;
-use gas_pipe::answers::Run;
-use gas_pipe::gate::Gate;
-use gas_pipe::plan::Plan;
-use gas_pipe::run;
+use gas_pipe::{Gate, Plan, Run, run};
 use gas_rows::channel::Channel;
 use gas_rows::chirality::Chirality;
 use gas_rows::lattice::Lattice;
 use gas_tool::perform;
-use gas_tool_cli::request::Request;
+use gas_tool_cli::words::Request;
 use std::alloc::{AllocError, Global};
 use std::process::Abort;
 use std::sync::Wait;

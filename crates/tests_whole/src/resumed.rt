@@ -1,9 +1,7 @@
 //! Runs in two parts, with a scene written down between them.
 
 use gas_geom::gas::Gas;
-use gas_pipe::gate::NoGate;
-use gas_pipe::plan::Plan;
-use gas_pipe::run;
+use gas_pipe::{NoGate, Plan, run};
 use gas_rows::chirality::Chirality;
 use gas_rows::lattice::Lattice;
 use gas_scene::catalog::AnyLattice;

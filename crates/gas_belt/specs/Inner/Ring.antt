@@ -10,7 +10,7 @@ use Rattle.gas_rows.specs.Planes.{cells_of}
 use Rattle.gas_rows.specs.Row.{RowModel}
 use Rattle.gas_bits.specs.Words.{words_in}
 use Rattle.gas_belt.specs.Belt.{Belt}
-use Rattle.gas_belt.specs.declared.push_end.PushEnd.{PushEnd}
+use Rattle.gas_belt.specs.declared.ring_ends.PushEnd.{PushEnd}
 
 -- the number of words of a row of that width
 abbrev pub row_words : ℕ → ℕ → ℕ

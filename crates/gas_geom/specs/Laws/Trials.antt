@@ -8,7 +8,7 @@ use Rattle.std.proofs.lemmas.Bool.Decides.{Decides-int_eq, nat_tests}
 use Rattle.gas_geom.specs.declared.moves.Move.{Move}
 use Rattle.gas_geom.specs.declared.moves.Move.TheVariants.{Back, Stay, On}
 use Rattle.gas_geom.specs.Moves.{amount}
-use Rattle.gas_geom.specs.Gas.{Rules, IsGas, IgnoresChirality, particles, momentum_of}
+use Rattle.gas_geom.specs.Gas.{Rules, IsGas, particles, momentum_of}
 use Rattle.gas_geom.specs.Laws.Steps.{reversed, odd_after, neighbour-back}
 
 -- a test that holds at each number below n, which computes at a written-out n
@@ -19,8 +19,8 @@ pub each_below : (test : ℕ → Bool) (n k : ℕ) → holds_below test n ≡ tr
 each_below test n k passes h = agree_below_at test (λ _. true) n k passes h
 
 -- nothing is asked of a gas that uses its random bit
-pub uses-chirality : (gas : Rules) → true ≡ false → IgnoresChirality gas
-uses-chirality gas e = absurd (cc)
+pub uses-chirality : (gas : Rules) → true ≡ false → (s : ℕ) (chi chi' : Bool) → gas.collide s chi ≡ gas.collide s chi'
+uses-chirality gas e s chi chi' = absurd (cc)
 
 -- ---- equal pairs of numbers, equal steps
 abbrev same_pair : ℤ × ℤ → ℤ × ℤ → Bool

@@ -5,8 +5,8 @@ use Rattle.std.specs.Prelude.{◌≡◌, ℕ, zero, suc, ◌+◌, ◌*◌, ◌/�
 use Rattle.std.specs.List.{list_any}
 use Rattle.gas_geom.specs.declared.size.TheConstants.{MOST_SIDE}
 use Rattle.gas_layout.specs.declared.area.Rectangle.{Rectangle}
-use Rattle.gas_layout.specs.declared.skyline.Strip.{Strip}
-use Rattle.gas_layout.specs.declared.skyline.Skyline.{Skyline}
+use Rattle.gas_layout.specs.declared.drawing.Strip.{Strip}
+use Rattle.gas_layout.specs.declared.drawing.Skyline.{Skyline}
 
 -- a rectangle with cells, all of them in an area of this size
 pub record IsInside (width height : ℕ) (r : Rectangle) : Type 0 where

@@ -1,10 +1,16 @@
 -- Inner words: what functions of this crate promise one another. No public contract cites them.
--- A cell after its collision, by the words of a row.
-use Rattle.std.specs.Prelude.{ℕ, List, if◌then◌else◌}
+-- The cells of a row, by its words, after a collision.
+use Rattle.std.specs.Prelude.{◌≡◌, ℕ, ◌/◌, ◌<◌, ◌&&◌, nat_le, nat_lt, List, if◌then◌else◌}
 use Rattle.gas_geom.specs.Gas.{Rules}
 use Rattle.gas_bits.specs.Words.{bit}
 use Rattle.gas_bits.specs.Planes.{state}
+use Rattle.gas_rows.specs.declared.collision.Collision.{Collision}
 
--- the state of cell y after the collision of a row whose directions have n words each
-abbrev pub collided_state : Rules → List ℕ → ℕ → List ℕ → List ℕ → ℕ → ℕ
-collided_state gas words n solid chi y = if bit solid y then 0 else gas.collide (state words n gas.dirs y) (bit chi y)
+-- the state of cell y after the collision of a row of these words
+abbrev pub collided_state : Rules → Collision → List ℕ → ℕ → ℕ
+collided_state gas q words y = if bit q.solid.now y then 0 else gas.collide (state words q.words_each gas.dirs y) (bit q.chi.now y)
+
+-- the cells of the words from `from` to `to - 1` are collided, the others as they were
+abbrev pub AreCollided : Rules → Collision → ℕ → ℕ → List ℕ → List ℕ → Type 0
+AreCollided gas q from to old new = (y : ℕ) → y / 64 < q.words_each → state new q.words_each gas.dirs y
+    ≡ (if nat_le from (y / 64) && nat_lt (y / 64) to then collided_state gas q old y else state old q.words_each gas.dirs y)

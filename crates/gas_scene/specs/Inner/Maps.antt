@@ -23,11 +23,6 @@ row_at rows r = slice_index_or rows r []
 abbrev pub shape_refusal : ℕ → List (List ℕ) → Option SceneError
 shape_refusal most rows = if not (between (pos 1) (pos most) (pos (length rows))) then Some Range else row_length most rows
 
--- rows that are neither too many nor too long
-pub record AreShort (rows : List (List ℕ)) : Type 0 where
-  pub high : length rows ≤ MOST_SIDE
-  pub wide : (r : ℕ) → r < length rows → cells_in (row_at rows r) ≤ MOST_SIDE
-
 -- the first row sets the width
 abbrev pub map_width : List (List ℕ) → ℕ
 map_width rows = cells_in (row_at rows 0)

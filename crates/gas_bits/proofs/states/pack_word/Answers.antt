@@ -5,7 +5,7 @@ use Rattle.std.proofs.lemmas.List.{get_or_past}
 use Rattle.std.proofs.lemmas.Simd.{get_or-replicate}
 use mir.Val.{bool_byte}
 use Rattle.gas_geom.specs.Gas.{holds}
-use Rattle.gas_geom.proofs.Holds.{holds-zero, holds-above}
+use Rattle.gas_geom.proofs.Holds.{holds-above}
 use Rattle.gas_bits.proofs.states.pack_word.Goals as goal
 
 holds-one : (c : Bool) (n : ℕ) → n ≡ bool_byte c → holds n 0 ≡ c

@@ -1,4 +1,4 @@
-use Rattle.std.proofs.Common.{◌≡◌, ◌-◌, ◌*◌, ◌≤◌, length}
+use Rattle.std.proofs.Common.{◌-◌, ◌*◌, ◌≤◌, length}
 use Rattle.gas_geom.specs.declared.moves.Move.TheVariants.{On}
 use Rattle.gas_bits.specs.Inner.Streamed.{AreStreamed}
 use Rattle.gas_bits.proofs.stream.end_from_east.Given as goal

@@ -1,4 +1,4 @@
-use Rattle.std.proofs.Common.{◌≡◌, ℕ, ◌+◌, ◌≤◌, List, length, set, length-set, arith}
+use Rattle.std.proofs.Common.{ℕ, ◌+◌, ◌≤◌, List, length, set, length-set, arith}
 use Rattle.gas_geom.specs.declared.moves.Move.{Move}
 use Rattle.gas_geom.specs.declared.moves.Move.TheVariants.{Back}
 use Rattle.gas_bits.specs.declared.plane.Incoming.{Incoming}

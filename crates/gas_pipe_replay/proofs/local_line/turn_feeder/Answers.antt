@@ -5,7 +5,7 @@ use Rattle.gas_pipe_members.specs.Belt.{BeltModel}
 use Rattle.gas_pipe_model.proofs.Generations.{pass_fits}
 use Rattle.gas_pipe_model.proofs.Rounds.{run_append}
 use Rattle.gas_pipe_replay.proofs.Slots.{two_writes, read_before, read_behind}
-use Rattle.gas_pipe_replay.proofs.FeederSteps.{FeederTurned, feeder_step_at}
+use Rattle.gas_pipe_replay.proofs.FeederSteps.{feeder_step_at}
 use Rattle.gas_pipe_replay.proofs.local_line.turn_feeder.Goals as goal
 
 pub returns-clause-shows : goal.returns-clause-shows
@@ -23,21 +23,8 @@ returns-clause-shows g c input ws turns sh =
     let y = read_behind bs before behind input.plan.stages c.index-behind-0.result none parts at high c.index-behind-0.is in
     let to = get_or before 0 c.index-before-0.result in
     let from = get_or behind 0 c.index-behind-0.result in
-    let turned : FeederTurned c.turn.result c.args.feeder.now c.turn.new.self to c.turn.new.put from c.turn.new.take = record {
-      channel = c.turn.ensures.channel;
-      gave = c.turn.ensures.put;
-      took = c.turn.ensures.took;
-      took_when = c.turn.ensures.took_when;
-      took_after_put = c.turn.ensures.took_after_put;
-      idle = c.turn.ensures.idle;
-      idle_putting = c.turn.ensures.idle_putting;
-      idle_taking = c.turn.ensures.idle_taking;
-      done = c.turn.ensures.done;
-      done_when = c.turn.ensures.done_when;
-      stray_at = c.turn.ensures.stray_at;
-    } in
     let step = feeder_step_at g.G.Gas.rules input c.args.feeder.now c.turn.new.self ws bs (after g.G.Gas.rules input 0 turns) c.turn.new.put c.turn.new.take
     g.met.G.Gas.laws (pass_fits g.G.Gas.rules input sh.is_input 0 turns) sh
-    c.turn.result to from (sym c.index-before-0.is ∙ x) (sym c.index-behind-0.is ∙ y) turned in
+    c.turn.result to from (sym c.index-before-0.is ∙ x) (sym c.index-behind-0.is ∙ y) c.turn.ensures.channel c.turn.ensures.turned in
     rw (two_writes bs before behind 0 input.plan.stages c.turn.new.put c.turn.new.take parts at some)
     (rw (run_append (line_of g.G.Gas.rules input 0) turns (0 ∷ []) start) step)

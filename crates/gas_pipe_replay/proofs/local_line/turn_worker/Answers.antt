@@ -7,7 +7,7 @@ use Rattle.gas_pipe_replay.specs.Inner.LocalLine.{belt}
 use Rattle.gas_pipe_model.proofs.Generations.{pass_fits}
 use Rattle.gas_pipe_model.proofs.Rounds.{run_append}
 use Rattle.gas_pipe_replay.proofs.Slots.{two_writes, read_before, read_behind}
-use Rattle.gas_pipe_replay.proofs.WorkerSteps.{WorkerTurned, worker_step_at}
+use Rattle.gas_pipe_replay.proofs.WorkerSteps.{worker_step_at}
 use Rattle.gas_pipe_replay.proofs.local_line.turn_worker.Goals as goal
 
 pub returns-clause-shows : goal.returns-clause-shows
@@ -29,22 +29,9 @@ returns-clause-shows g c input f turns sh =
     let w = get_or c.args.workers.now (who - 1) c.index-workers-who.result in
     let from = get_or before (who - 1) c.index-before-who.result in
     let to = get_or behind 0 c.index-behind-0.result in
-    let turned : WorkerTurned g.G.Gas.rules c.turn.result w c.turn.new.self from c.turn.new.take to c.turn.new.put = record {
-      channel = c.turn.ensures.same.channel;
-      chirality = c.turn.ensures.same.chirality;
-      took = c.turn.ensures.took;
-      took_when = c.turn.ensures.took_when;
-      gave = c.turn.ensures.put;
-      idle = c.turn.ensures.idle;
-      idle_owing = c.turn.ensures.idle_owing;
-      idle_taking = c.turn.ensures.idle_taking;
-      done = c.turn.ensures.done;
-      done_when = c.turn.ensures.done_when;
-      stray_at = c.turn.ensures.stray_at;
-    } in
     let step = worker_step_at g.G.Gas.rules input f c.args.workers.now bs (after g.G.Gas.rules input 0 turns) (who - 1) w c.turn.new.self c.turn.new.take c.turn.new.put
     g.met.G.Gas.laws (pass_fits g.G.Gas.rules input sh.is_input 0 turns) in_line sh
     (λ d. sym (get_or_read c.args.workers.now (who - 1) c.index-workers-who.result low c.index-workers-who.is d) ∙ c.index-workers-who.is)
-    c.turn.result from to (sym c.index-before-who.is ∙ x) (sym c.index-behind-0.is ∙ y ∙ ap (λ n. belt bs n) (sym next)) turned in
+    c.turn.result from to (sym c.index-before-who.is ∙ x) (sym c.index-behind-0.is ∙ y ∙ ap (λ n. belt bs n) (sym next)) c.turn.ensures.same c.turn.ensures.turned in
     rw (two_writes bs before behind (who - 1) who c.turn.new.take c.turn.new.put parts at below)
     (rw (run_append (line_of g.G.Gas.rules input 0) turns (who ∷ []) start) (rw next at step))

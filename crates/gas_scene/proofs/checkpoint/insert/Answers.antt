@@ -1,7 +1,7 @@
 use Rattle.std.proofs.Common.{◌∙◌, ap}
 use Rattle.toml.specs.View.{view, table_view, members_view}
 use Rattle.gas_scene.specs.Inner.Printing.{insert_member}
-use Rattle.gas_scene.proofs.Members.{members_view-insert}
+use Rattle.gas_scene.proofs.Values.{members_view-insert}
 use Rattle.gas_scene.proofs.checkpoint.insert.Goals as goal
 
 pub returns-in-Ok : goal.returns-in-Ok

@@ -8,7 +8,7 @@ use Rattle.gas_scene.specs.Catalog.{rules_of}
 use Rattle.gas_scene.specs.Refusals.{bad_cell, map_refusal}
 use Rattle.gas_scene.specs.Inner.Models.{texts_of}
 use Rattle.gas_scene.specs.Inner.Maps.{shape_refusal}
-use Rattle.gas_scene.proofs.Maps.{as_result-none, as_result-some, shape_parts, AreShort-lengths, IsMap-accepted, map_refusal-shape, map_refusal-cells}
+use Rattle.gas_scene.proofs.Maps.{as_result-none, as_result-some, IsMap-shaped, map_refusal-shape, map_refusal-cells}
 use Rattle.gas_scene.proofs.map_form.lattice.Goals as goal
 
 pub returns-in_err-check_shape-clause-refused : goal.returns-in_err-check_shape-clause-refused
@@ -21,16 +21,11 @@ returns-in_err-check_shape-clause-refused c =
 
 pub build-requires : goal.build-requires
 build-requires c =
-    let rows = texts_of c.args.rows.now in
-    let parts = shape_parts c.args.most rows (as_result-none (shape_refusal c.args.most rows) (sym c.check_shape.ensures ∙ c.in_ok-check_shape.was)) in
-    IsMap-accepted c.args.most rows c.requires parts.1 parts.0
+    IsMap-shaped c.args.most (texts_of c.args.rows.now) c.requires (as_result-none (shape_refusal c.args.most (texts_of c.args.rows.now)) (sym c.check_shape.ensures ∙ c.in_ok-check_shape.was))
 
 pub check_cells-requires : goal.check_cells-requires
 check_cells-requires c =
-    let rows = texts_of c.args.rows.now in
-    let parts = shape_parts c.args.most rows (as_result-none (shape_refusal c.args.most rows) (sym c.check_shape.ensures ∙ c.in_ok-check_shape.was)) in
-    let map = IsMap-accepted c.args.most rows c.requires parts.1 parts.0 in
-    AreShort-lengths c.args.most rows c.requires parts.1 map.few_rows
+    IsMap-shaped c.args.most (texts_of c.args.rows.now) c.requires (as_result-none (shape_refusal c.args.most (texts_of c.args.rows.now)) (sym c.check_shape.ensures ∙ c.in_ok-check_shape.was))
 
 pub returns-in_err-check_cells-in-Err-clause-refused : goal.returns-in_err-check_cells-in-Err-clause-refused
 returns-in_err-check_cells-in-Err-clause-refused c =

@@ -1,5 +1,5 @@
 use Rattle.std.proofs.Common.{sym, ◌∙◌, rules}
-use Rattle.gas_scene.proofs.Members.{all_known}
+use Rattle.gas_scene.proofs.Values.{all_known}
 use Rattle.gas_scene.proofs.scene_table.has_known_keys.Goals as goal
 
 pub returns-then-version-eq2 : goal.returns-then-version-eq2

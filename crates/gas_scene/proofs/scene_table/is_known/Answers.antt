@@ -1,16 +1,16 @@
-use Rattle.std.proofs.Common.{Bool, ◌||◌, sym, ap, ◌∙◌}
-use Rattle.std.specs.List.{list_any}
+use Rattle.std.proofs.Common.{Bor, List, ℕ, ap, ◌∙◌, rules, tests}
 use Rattle.std.specs.Str.{bytes_eq}
-use Rattle.gas_scene.specs.Keys.{area_keys}
-use Rattle.gas_scene.proofs.Members.{is_known-parts}
+use Rattle.std.specs.Slice.Iter.{iter_rest}
+use Rattle.std.proofs.lemmas.Iterator.{YieldsList-from_slice}
+use Rattle.std.proofs.lemmas.Iterator.Consumers.{YieldsList-from_chain}
+use Rattle.std.proofs.lemmas.Iterator.Search.{any_from_yields_List}
+use Rattle.gas_scene.specs.Inner.Models.{is_known}
 use Rattle.gas_scene.proofs.scene_table.is_known.Goals as goal
 
-pub returns-then-is_among : goal.returns-then-is_among
-returns-then-is_among c =
-    let key = c.args.key.now in
-    c.if-is_among.true ∙ sym (is_known-parts key ∙ ap (λ (b : Bool). b || list_any (λ k. bytes_eq key k.0) area_keys) (sym c.is_among.ensures ∙ c.if-is_among.true))
-
-pub returns-else-is_among : goal.returns-else-is_among
-returns-else-is_among c =
-    let key = c.args.key.now in
-    c.is_among-else-is_among.ensures ∙ sym (is_known-parts key ∙ ap (λ (b : Bool). b || list_any (λ k. bytes_eq key k.0) area_keys) (sym c.is_among.ensures ∙ c.if-is_among.false))
+pub returns : goal.returns
+unfolding is_known
+returns c =
+    any_from_yields_List (λ (k : Bor (List ℕ)). bytes_eq c.args.key.now k.now) _ _ _ c.any.ensures.ran
+    (YieldsList-from_chain (YieldsList-from_slice _ (ap iter_rest c.chain.ensures.first ∙ c.iter.ensures.rest))
+    (YieldsList-from_slice _ (ap iter_rest c.chain.ensures.second ∙ c.iter-2.ensures.rest)) c.chain.ensures.first_done c.chain.ensures.second_done)
+    (λ x b q k. search (rules, tests))

@@ -1,7 +1,7 @@
 use Rattle.std.proofs.Common.{ap, sym, ◌∙◌, map}
 use Rattle.toml.specs.View.{view}
 use Rattle.gas_scene.specs.Table.{elements_of}
-use Rattle.gas_scene.proofs.Lists.{elements_of-Array}
+use Rattle.gas_scene.proofs.Values.{elements_of-Array}
 use Rattle.gas_scene.proofs.toml_values.elements.Goals as goal
 
 pub returns-in-Array : goal.returns-in-Array

@@ -1,6 +1,7 @@
-use Rattle.std.proofs.Common.{◌≡◌, ◌<◌, ◌≤◌, ◌++◌, ℕ, List, [], ◌∷◌, length, Option, IsSome, ap, ◌∙◌, sym, refl, subst, arith, append-nil}
+use Rattle.std.proofs.Common.{◌≡◌, ◌<◌, ◌≤◌, ◌++◌, ℕ, List, ◌∷◌, length, Option, IsSome, ap, ◌∙◌, sym, refl, subst, arith, append-nil}
 use Rattle.std.specs.Option.{option_to_list}
 use Rattle.std.specs.VecDeque.{deque_len}
+use Rattle.std.proofs.lemmas.List.{length-take}
 use Rattle.gas_geom.specs.Channel.{ChannelModel}
 use Rattle.gas_stage.specs.Stage.{StageModel}
 use Rattle.gas_stage.proofs.Passes.{next_of, under_way_next, fed_all, some_queued, one_held, pass_gives}
@@ -9,10 +10,6 @@ use Rattle.gas_stage.proofs.evolution.pass.Goals as goal
 pub loop-init : goal.loop-init
 loop-init g c = record {
   way = record {
-    fed = [];
-    rest = c.args.rows.now.items;
-    joined = refl;
-    counted = refl;
     channel = ap (λ (s : StageModel). s.channel) c.begin.ensures.opened;
     chirality = ap (λ (s : StageModel). s.chirality) c.begin.ensures.opened;
     fits = c.begin.ensures.fits;
@@ -40,7 +37,7 @@ feed-requires-clause-room g c =
       c.args.rows.now.ok.0,
       c.requires.lattice.high,
       way.fits.fed,
-      way.counted,
+      length-take c.loop.counter c.args.rows.now.items,
       ap (λ (h : ChannelModel). h.height) way.channel,
     )
 
@@ -50,9 +47,8 @@ feed-requires-clause-wide g c =
     let left : c.loop.counter < length c.args.rows.now.items = omega (arith, c.len-end.ensures, c.args.rows.now.ok.0) in
     let front : c.loop.rows.items ≡ c.unwrap-row.result ∷ c.pop_front.new.self.items =
     c.pop_front.ensures.items ∙ ap (λ (o : Option (List ℕ)). option_to_list o ++ c.pop_front.new.self.items) c.unwrap-row.ensures in
-    let next = next_of _ _ _ _ _ _ _ _ _ way left front in
-    ap length (sym next.is)
-    ∙ c.requires.lattice.wide (length way.fed) (omega (arith, way.counted, c.requires.lattice.high))
+    ap length (next_of _ _ _ _ _ _ left way.queued front).0
+    ∙ c.requires.lattice.wide c.loop.counter (omega (arith, left, c.requires.lattice.high))
     ∙ sym (ap (λ (h : ChannelModel). h.width) way.channel)
 
 pub push_some-requires : goal.push_some-requires
@@ -72,9 +68,8 @@ loop-preserved g c =
     let left : c.loop.counter < length c.args.rows.now.items = omega (arith, c.len-end.ensures, c.args.rows.now.ok.0) in
     let front : c.loop.rows.items ≡ c.unwrap-row.result ∷ c.pop_front.new.self.items =
     c.pop_front.ensures.items ∙ ap (λ (o : Option (List ℕ)). option_to_list o ++ c.pop_front.new.self.items) c.unwrap-row.ensures in
-    let next = next_of _ _ _ _ _ _ _ _ _ way left front in
     record {
-      way = under_way_next _ _ _ _ _ _ _ _ _ _ _ c.feed.result way next c.feed.ensures.channel c.feed.ensures.chirality
+      way = under_way_next _ _ _ _ _ _ _ _ _ _ _ c.feed.result way left front c.feed.ensures.channel c.feed.ensures.chirality
           (c.feed.ensures.fits _ _ way.fits) (c.feed.ensures.gives _ _ way.fits) c.push_some.ensures.items;
       same_room = c.push_some.ensures.capacity ∙ c.pop_front.ensures.capacity ∙ c.loop.invariant.same_room;
     }
@@ -83,14 +78,12 @@ pub flush-requires-clause-all : goal.flush-requires-clause-all
 flush-requires-clause-all g c =
     let way = c.loop.invariant.way in
     let enough : length c.args.rows.now.items ≤ c.loop.counter = omega (arith, c.len-end.ensures, c.args.rows.now.ok.0) in
-    let fed = fed_all _ _ _ _ _ _ _ way enough in
-    omega (arith, fed.fits.fed, c.requires.lattice.high, ap (λ (h : ChannelModel). h.height) way.channel)
+    omega (arith, (fed_all _ _ _ _ _ _ _ way enough).fits.fed, c.requires.lattice.high, ap (λ (h : ChannelModel). h.height) way.channel)
 
 pub push_some-requires-2 : goal.push_some-requires-2
 push_some-requires-2 g c =
     let enough : length c.args.rows.now.items ≤ c.loop.counter = omega (arith, c.len-end.ensures, c.args.rows.now.ok.0) in
-    let fed = fed_all _ _ _ _ _ _ _ c.loop.invariant.way enough in
-    let held = one_held _ _ _ _ _ _ fed (omega (arith, c.requires.some_rows, c.requires.lattice.high)) in
+    let held = one_held _ _ _ _ _ _ (fed_all _ _ _ _ _ _ _ c.loop.invariant.way enough) (omega (arith, c.requires.some_rows, c.requires.lattice.high)) in
     record { room = λ some. omega (arith, held, c.loop.rows.ok.0, c.loop.invariant.same_room, c.args.rows.now.ok.0, c.args.rows.now.small.1) }
 
 pub returns-clause-next : goal.returns-clause-next

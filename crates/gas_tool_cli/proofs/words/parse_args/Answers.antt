@@ -10,16 +10,13 @@ use Rattle.gas_tool_cli.specs.Requests.{IsFaultOf, IsRequestOf}
 use Rattle.gas_tool_cli.specs.Words.{program_app}
 use Rattle.gas_tool_cli.proofs.words.parse_args.Goals as goal
 
-pub returns-in-Ok-texts-clause-request : goal.returns-in-Ok-texts-clause-request
-returns-in-Ok-texts-clause-request c =
+pub returns-in-Ok-texts : goal.returns-in-Ok-texts
+returns-in-Ok-texts c =
     let collected = items_from_collect {E = ℕ} (Ok c.in-Ok.words) c.in-Ok.ensures.ran (YieldsList-from_vec (into_iter_items c.args.words) refl c.args.words.rest.ok.0) in
     let same = ap (map (λ (s : Bor (List ℕ)). s.now)) c.as_slice-in-Ok-texts.ensures.value
     ∙ c.in-Ok-texts.ensures ∙ ap (map string_bytes) (c.as_slice.ensures.value ∙ collected) in
-    subst (λ (words : List (List ℕ)). IfOk c.parse_words.result (IsRequestOf (subcommand_of program_app words))) same c.parse_words.ensures.request
-
-pub returns-in-Ok-texts-clause-fault : goal.returns-in-Ok-texts-clause-fault
-returns-in-Ok-texts-clause-fault c =
-    let collected = items_from_collect {E = ℕ} (Ok c.in-Ok.words) c.in-Ok.ensures.ran (YieldsList-from_vec (into_iter_items c.args.words) refl c.args.words.rest.ok.0) in
-    let same = ap (map (λ (s : Bor (List ℕ)). s.now)) c.as_slice-in-Ok-texts.ensures.value
-    ∙ c.in-Ok-texts.ensures ∙ ap (map string_bytes) (c.as_slice.ensures.value ∙ collected) in
-    subst (λ (words : List (List ℕ)). IfErr c.parse_words.result (IsFaultOf (fault_of program_app words))) same c.parse_words.ensures.fault
+    record {
+      allowed = c.parse_words.ensures.allowed;
+      request = subst (λ (words : List (List ℕ)). IfOk c.parse_words.result (IsRequestOf (subcommand_of program_app words))) same c.parse_words.ensures.request;
+      fault = subst (λ (words : List (List ℕ)). IfErr c.parse_words.result (IsFaultOf (fault_of program_app words))) same c.parse_words.ensures.fault;
+    }

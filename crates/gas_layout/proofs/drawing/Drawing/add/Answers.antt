@@ -1,7 +1,7 @@
 use Rattle.std.proofs.Common.{◌<◌, length, length-set, rules, ◌∙◌, ◌++◌, ◌∷◌, [], List, Vec, Global, ap, sym, subst, arith}
 use Rattle.std.specs.Prelude.{Result, Ok, Err, OnErr}
 use Rattle.std.proofs.lemmas.List.{length-map}
-use Rattle.gas_layout.specs.declared.skyline.Strip.{Strip}
+use Rattle.gas_layout.specs.declared.drawing.Strip.{Strip}
 use Rattle.gas_layout.specs.Layout.{channel_of}
 use Rattle.gas_layout.specs.Inner.Strips.{AreStrips, is_drawn, strips_of}
 use Rattle.gas_layout.proofs.Strips.{strips-same, strips-more}

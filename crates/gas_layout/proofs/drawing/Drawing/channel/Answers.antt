@@ -3,7 +3,7 @@ use Rattle.std.specs.Prelude.{All}
 use Rattle.std.specs.List.{list_any}
 use Rattle.std.proofs.lemmas.List.{with_items_is}
 use Rattle.gas_geom.specs.Channel.{ChannelModel}
-use Rattle.gas_layout.specs.declared.skyline.Strip.{Strip}
+use Rattle.gas_layout.specs.declared.drawing.Strip.{Strip}
 use Rattle.gas_layout.specs.Inner.Steps.{channel_before}
 use Rattle.gas_layout.specs.Inner.Strips.{passes, is_reached, is_drawn, strips_of, reaches, IsStrip, IsSkyline}
 use Rattle.gas_layout.proofs.Steps.{channel_before-none, channel_before-next, channel_before-all}

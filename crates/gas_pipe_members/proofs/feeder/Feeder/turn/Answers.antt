@@ -5,8 +5,8 @@ use Rattle.gas_pipe_members.proofs.Feeds.{fed_take}
 use Rattle.gas_pipe_members.proofs.Queues.{queue_closed}
 use Rattle.gas_pipe_members.proofs.feeder.Feeder.turn.Goals as goal
 
-pub returns-clause-took : goal.returns-clause-took
-returns-clause-took g c = λ _.
+pub returns-clause-turned : goal.returns-clause-turned
+returns-clause-turned g c =
     let rests = c.if-put_next.ensures.rests refl in
     let inside : c.self-2.inside.to_put < c.self-2.inside.to_take = omega (arith, c.self-2.invariant.put_first, c.if-self-2.false) in
     let step : g.T.TakeEnd.takes c.args.take.now c.in-Some.row c.give_spare.new.take = search rules in
@@ -14,11 +14,13 @@ returns-clause-took g c = λ _.
       c.in-Some.row,
       step,
       rests.0,
-      λ passes rows gave took fed.
-          subst (λ (f : FeederModel). MayHaveFed f passes rows (gave ++ []) (took ++ c.in-Some.row ∷ [])) (sym c.self-3.view_is)
+      (λ passes rows gave took fed.
+          subst (λ (f : FeederModel). MayHaveFed f passes rows gave (took ++ c.in-Some.row ∷ [])) (sym c.self-3.view_is)
           (fed_take c.put_next.new.self c.accept.new.self c.in-Some.row c.accept.ensures.channel c.accept.ensures.rows c.accept.ensures.to_put
           c.accept.ensures.to_take c.accept.ensures.next c.accept.ensures.stray some passes rows gave took
-          (subst (λ (f : FeederModel). MayHaveFed f passes rows gave took) (sym rests.1) fed)),
+          (subst (λ (f : FeederModel). MayHaveFed f passes rows gave took) (sym rests.1) fed))),
+      subst (λ (f : FeederModel). f.to_put < f.to_take) rests.1 some,
+      c.if-put_next.ensures.ready refl,
     )
 
 pub returns-then-self-eq0-clause-whole : goal.returns-then-self-eq0-clause-whole

@@ -1,6 +1,6 @@
-use Rattle.std.proofs.Common.{◌≡◌, ◌<◌, ℕ, List, [], length, get_or, set, ap, ◌∙◌, sym, subst, arith}
+use Rattle.std.proofs.Common.{◌≡◌, ◌<◌, ℕ, true, List, [], length, get_or, set, ap, ◌∙◌, sym, subst, arith}
 use Rattle.std.proofs.lemmas.List.{get_or_default}
-use Rattle.gas_geom.specs.Channel.{ChannelModel, with_solid}
+use Rattle.gas_geom.specs.Channel.{ChannelModel}
 use Rattle.gas_geom.specs.Lattice.{LatticeModel, IsLattice, with_cell}
 use Rattle.gas_rows.proofs.Lattices.{IsLattice-with_solid}
 use Rattle.gas_rows.proofs.lattice.Lattice.make_solid.Goals as goal
@@ -17,5 +17,5 @@ invariant_of-self g c =
     let changed : set rows c.args.y c.set.new.self ≡ with_cell rows c.args.x c.args.y 0 =
     ap (set rows c.args.y) (c.set.ensures.written ∙ ap (λ (r : List ℕ). set r c.args.x 0) row) in
     subst (λ (ch : ChannelModel). IsLattice gas ch (set rows c.args.y c.set.new.self)) (sym c.make_solid.ensures.written)
-    (subst (λ (rs : List (List ℕ)). IsLattice gas (with_solid c.self.inside.channel c.args.x c.args.y) rs) (sym changed)
+    (subst (IsLattice gas (record c.self.inside.channel { solid = with_cell c.self.inside.channel.solid c.args.x c.args.y true })) (sym changed)
     (IsLattice-with_solid gas c.self.inside.channel rows c.args.x c.args.y c.self.invariant inx iny))

@@ -3,7 +3,7 @@ use Rattle.std.specs.List.{All}
 use Rattle.std.proofs.lemmas.List.{with_items_is}
 use Rattle.gas_bits.specs.Words.{words_in}
 use Rattle.gas_rows.specs.Inner.Mask.{cells, IsMask}
-use Rattle.gas_rows.proofs.Masks.{width_of, cells-from, IsMask-written, cut-list}
+use Rattle.gas_rows.proofs.Masks.{width_of, cells-from, written, cut-list}
 use Rattle.gas_bits.proofs.Words.{bit-all_zero}
 use Rattle.gas_rows.proofs.mask.Mask.copy_from.Goals as goal
 
@@ -18,9 +18,9 @@ invariant_of-self c =
     let long : length new ≡ words_in width =
     c.pack.auto.words ∙ ap (λ (words : List ℕ). length words) c.deref_mut.ensures.value ∙ c.self.invariant.long in
     subst (IsMask width c.are_zero-self-inside.result) (sym same)
-    (IsMask-written width new (λ x. get_or cells x false) c.are_zero-self-inside.result c.self.invariant.some_cells c.self.invariant.few_cells long
+    (written width new (λ x. get_or cells x false) c.are_zero-self-inside.result c.self.invariant.some_cells c.self.invariant.few_cells long
     (λ x. c.pack.ensures.bits x ∙ cut-list width cells wide x)
-    (λ e. bit-all_zero new (subst (λ (ws : List ℕ). All (λ w. w ≡ 0) ws) (c.deref.ensures.value ∙ same) (c.are_zero-self-inside.ensures.zero e))))
+    (λ e. bit-all_zero new (subst (λ (ws : List ℕ). All (λ w. w ≡ 0) ws) (c.deref.ensures.value ∙ same) (c.are_zero-self-inside.ensures.zero e)))).mask
 
 pub returns : goal.returns
 returns c =

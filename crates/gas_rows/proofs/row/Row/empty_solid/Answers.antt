@@ -1,43 +1,37 @@
 use Rattle.std.proofs.Common.{◌≡◌, ◌/◌, ◌<◌, ℕ, Bool, false, if◌then◌else◌, List, length, get_or, refl, ap, ◌∙◌, sym, subst}
 use Rattle.std.proofs.lemmas.List.{with_items_is}
 use Rattle.std.proofs.lemmas.List.FromFn.{fill_by_all}
+use Rattle.gas_geom.specs.Lattice.{row_of}
 use Rattle.gas_bits.specs.Words.{bit}
 use Rattle.gas_bits.specs.Planes.{state}
-use Rattle.gas_rows.specs.Inner.Planes.{ArePlanes}
-use Rattle.gas_rows.specs.Planes.{cells_of}
-use Rattle.gas_rows.proofs.Rows.{row_of-same}
-use Rattle.gas_rows.proofs.Collisions.{planes-collided, row-collided}
+use Rattle.gas_rows.proofs.Rows.{AreOf, row_of-same}
+use Rattle.gas_rows.proofs.Collisions.{row-collided}
+use Rattle.gas_rows.proofs.row.Row.empty_solid.Given.{Over}
+use Rattle.gas_rows.proofs.row.Row.empty_solid.Goals.{After-self-1}
 use Rattle.gas_rows.proofs.row.Row.empty_solid.Goals as goal
 
 Emptied : (new old : List ℕ) (n d : ℕ) (solid : List ℕ) → Type 0
 Emptied new old n d solid = (y : ℕ) → y / 64 < n → state new n d y ≡ (if bit solid y then 0 else state old n d y)
 
-pub invariant_of-self : goal.invariant_of-self
+settled : (g : Over) (c : After-self-1 g) → AreOf g.G.Gas.rules.dirs c.self.inside.width c.empty_solid.new.words
+    (row_of (length c.args.self.now) (λ x. if bit c.words.result.now x then 0 else get_or c.args.self.now x 0))
 unfolding Emptied
-invariant_of-self g c =
+settled g c =
     let d = g.G.Gas.rules.dirs in
     let new = c.empty_solid.new.words in
     let n = c.words_for-words_each.result in
-    let same = with_items_is c.self.inside.words new (c.empty_solid.auto.words ∙ c.deref_mut.ensures.len) in
-    subst (ArePlanes d c.self.inside.width) (sym same)
-    (planes-collided d (λ s _. s) (λ _. refl) c.self.inside.width c.self.inside.words.items c.args.self.now c.self.invariant c.self.view_is
-    new n c.words.result.now c.words.result.now c.words_for-words_each.ensures.value (c.empty_solid.auto.words ∙ ap length c.deref_mut.ensures.value)
-    (subst (λ e. Emptied new c.self.inside.words.items n e c.words.result.now) c.directions.ensures.value
-    (subst (λ ws. Emptied new ws n c.directions.result c.words.result.now) c.deref_mut.ensures.value c.empty_solid.ensures.emptied)))
-
-pub returns-then-not-is_blank-clause-emptied : goal.returns-then-not-is_blank-clause-emptied
-unfolding Emptied
-returns-then-not-is_blank-clause-emptied g c =
-    let d = g.G.Gas.rules.dirs in
-    let new = c.empty_solid.new.words in
-    let n = c.words_for-words_each.result in
-    let same = with_items_is c.self.inside.words new (c.empty_solid.auto.words ∙ c.deref_mut.ensures.len) in
-    ap (cells_of d c.self.inside.width) same
-    ∙ row-collided d (λ s _. s) (λ _. refl) c.self.inside.width c.self.inside.words.items c.args.self.now c.self.invariant c.self.view_is
+    row-collided d (λ s _. s) (λ _. refl) c.self.inside.width c.self.inside.words.items c.args.self.now c.self.invariant c.self.view_is
     new n c.words.result.now c.words.result.now c.words_for-words_each.ensures.value (c.empty_solid.auto.words ∙ ap length c.deref_mut.ensures.value)
     (subst (λ e. Emptied new c.self.inside.words.items n e c.words.result.now) c.directions.ensures.value
     (subst (λ ws. Emptied new ws n c.directions.result c.words.result.now) c.deref_mut.ensures.value c.empty_solid.ensures.emptied))
-    ∙ row_of-same 0 (length c.args.self.now) _ _ (λ x h. ap (λ (s : Bool). if s then 0 else get_or c.args.self.now x 0) (c.words.ensures.bits x))
+
+pub invariant_of-self : goal.invariant_of-self
+invariant_of-self g c = rw (with_items_is c.self.inside.words c.empty_solid.new.words (c.empty_solid.auto.words ∙ c.deref_mut.ensures.len)) (settled g c).planes
+
+pub returns-then-not-is_blank-clause-emptied : goal.returns-then-not-is_blank-clause-emptied
+returns-then-not-is_blank-clause-emptied g c =
+    rw (with_items_is c.self.inside.words c.empty_solid.new.words (c.empty_solid.auto.words ∙ c.deref_mut.ensures.len))
+    ((settled g c).cells ∙ row_of-same 0 (length c.args.self.now) _ _ (λ x h. ap (λ (s : Bool). if s then 0 else get_or c.args.self.now x 0) (c.words.ensures.bits x)))
 
 pub returns-else-not-is_blank-clause-emptied : goal.returns-else-not-is_blank-clause-emptied
 returns-else-not-is_blank-clause-emptied g c =

@@ -2,6 +2,7 @@ use Rattle.std.proofs.Common.{◌≡◌, ◌∙◌, ◌+◌, ◌-◌, ◌≤◌,
 use Rattle.std.specs.List.{range_with_len}
 use Rattle.std.proofs.lemmas.Int.{ints}
 use Rattle.std.proofs.lemmas.List.FromFn.{length-range_with_len}
+use Rattle.gas_geom.specs.declared.size.TheConstants.{MOST_SIDE}
 use Rattle.gas_tool_io.specs.Inner.Tally.{HasRoom, most_cells, plus_particles}
 use Rattle.gas_tool_io.specs.declared.blocks.Block.{Block}
 use Rattle.gas_tool_io.proofs.Counts.{counted, counted-none, counted-more, counted-all, counted-room}
@@ -24,7 +25,7 @@ plus_particles-block-requires-clause-room g c =
     let cells = range_with_len c.args.from (c.args.to - c.args.from) in
     let few : c.loop-i.i ≤ g.G.Gas.rules.dirs = omega (arith, g.met.G.Gas.dirs_are) in
     subst (λ (b : Block). HasRoom b most_cells) (sym c.loop-i.invariant)
-    (counted-room g.G.Gas.rules g.met.G.Gas.laws (λ x. slice_index_or c.args.solid.now x false) (λ x. slice_index c.args.row.now x) c.args.self cells c.loop-i.i few
+    (counted-room g.G.Gas.rules g.met.G.Gas.laws (λ x. slice_index_or c.args.solid.now x false) (λ x. slice_index c.args.row.now x) c.args.self cells c.loop-i.i _ few
     (omega (arith, length-range_with_len c.args.from (c.args.to - c.args.from))) c.requires.room)
 
 pub loop-i-preserved : goal.loop-i-preserved
@@ -35,11 +36,17 @@ loop-i-preserved g c =
     ∙ ap₂ (λ (b : Block) n. plus_particles gas b c.loop-i.i n) c.loop-i.invariant c.count_in-in-loop-i.ensures.count
     ∙ counted-more gas (λ x. slice_index_or c.args.solid.now x false) (λ x. slice_index c.args.row.now x) c.args.self cells c.loop-i.i
 
-pub returns : goal.returns
-returns g c =
+pub returns-clause-cells : goal.returns-clause-cells
+returns-clause-cells g c =
     let gas = g.G.Gas.rules in
     let cells = range_with_len c.args.from (c.args.to - c.args.from) in
     let all : c.loop-i.i ≡ gas.dirs = omega (arith, g.met.G.Gas.dirs_are) in
     c.loop-i.invariant
     ∙ ap (counted gas (λ x. slice_index_or c.args.solid.now x false) (λ x. slice_index c.args.row.now x) c.args.self cells) all
     ∙ counted-all gas (λ x. slice_index_or c.args.solid.now x false) (λ x. slice_index c.args.row.now x) c.args.self cells
+
+pub returns-clause-room : goal.returns-clause-room
+returns-clause-room g c n room =
+    let few : c.loop-i.i ≤ g.G.Gas.rules.dirs = omega (arith, g.met.G.Gas.dirs_are) in
+    subst (λ (b : Block). HasRoom b (n + MOST_SIDE)) (sym c.loop-i.invariant)
+    (counted-room g.G.Gas.rules g.met.G.Gas.laws _ _ c.args.self _ c.loop-i.i n few (omega (arith, length-range_with_len c.args.from (c.args.to - c.args.from))) room)

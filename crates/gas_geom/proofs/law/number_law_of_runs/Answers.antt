@@ -1,5 +1,0 @@
-use Rattle.gas_geom.proofs.Runs.{count-generation}
-use Rattle.gas_geom.proofs.law.number_law_of_runs.Goals as goal
-
-pub returns : goal.returns
-returns g c = record { kept = count-generation g.G.Gas.rules g.met.G.Gas.laws }

@@ -1,0 +1,7 @@
+use Rattle.std.proofs.Common.{◌≡◌, ℕ, ◌*◌, ◌<◌, false, length, get_or}
+use Rattle.gas_layout.specs.Inner.Strips.{passes}
+use Rattle.gas_layout.proofs.drawing.Skyline.mark.Given as goal
+
+abbrev pub invariant-loop-block : goal.invariant-loop-block
+invariant-loop-block l =
+    (x : ℕ) → x < length l.columns → x < 256 * l.block → get_or l.solid x false ≡ passes l.self x l.y

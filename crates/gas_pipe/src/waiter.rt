@@ -1,0 +1,113 @@
+//! How a member of the line waits for its neighbours and wakes them.
+ghost use Rattle.std.specs.Prelude.{◌≡◌};
+
+use crate::backoff::{Backoff, Phase};
+use crate::wake_ups::WakeUps;
+use gas_belt::tx::Tx;
+use gas_geom::gas::Gas;
+use gas_pipe_members::ends::Turned;
+use std::sync::Wait;
+use std::{hint, thread};
+
+/// A member of the line that waits for its neighbours and wakes them.
+#[derive(Drop)]
+pub struct Waiter<'a> {
+    wake_ups: &'a WakeUps,
+    member: usize,
+    before: usize,
+    behind: usize,
+    backoff: Backoff,
+}
+
+impl<'a> Waiter<'a> {
+    /// The waiter of the feeder, 0, or of a worker.
+    pub(crate) fn new(wake_ups: &'a WakeUps, member: u32) -> Self {
+        let member = member as usize;
+        let last = wake_ups.last_member();
+        Waiter {
+            wake_ups,
+            member,
+            before: if member == 0 { last } else { member - 1 },
+            behind: if member < last { member + 1 } else { 0 },
+            backoff: Backoff::new(),
+        }
+    }
+
+    // Takes one step of a wait. Returns whether to go on: not if the stop flag is raised.
+    fn wait<R: Wait>(&mut self, rt: &R) -> bool {
+        let is_stopped = self.wake_ups.is_stopped();
+        let Some(phase) = self.backoff.next(is_stopped, self.wake_ups.yield_ban()) else {
+            return false;
+        };
+        match phase {
+            Phase::Spin => hint::spin_loop(),
+            Phase::Yield => thread::yield_now(),
+            Phase::Announce => self.wake_ups.announce_park(self.member),
+            Phase::Park => {
+                let was_woken = self.wake_ups.park(rt, self.member);
+                self.backoff.note_park(was_woken);
+            }
+        }
+        true
+    }
+
+    // Ends a wait.
+    fn end_wait(&mut self) {
+        if self.backoff.end_wait() {
+            self.wake_ups.withdraw_park(self.member);
+        }
+    }
+
+    // A row was put, so the wait is over. Wakes the member behind, which may wait for the row, once it
+    // is shown the row.
+    fn wake_behind<G: Gas>(&mut self, tx: &Tx<G>) {
+        self.end_wait();
+        if !tx.has_gathered() {
+            self.wake_ups.wake(self.behind);
+        }
+    }
+
+    /// Shows the member behind the rows that gathered on the belt. Returns whether there were any.
+    pub(crate) fn show<G: Gas>(&mut self, tx: &mut Tx<G>) -> bool
+        ensures { tx.new ≡ tx.old }
+    {
+        let any = tx.show();
+        if any {
+            self.wake_behind(tx);
+        }
+        any
+    }
+
+    // After a turn in which nothing could be done. Rows that gathered are shown first, because the
+    // member behind may wait for them. If there are none, the member waits a little.
+    fn show_or_wait<G: Gas, R: Wait>(&mut self, rt: &R, tx: &mut Tx<G>) -> bool
+        ensures { tx.new ≡ tx.old }
+    {
+        if self.show(tx) {
+            !self.wake_ups.is_stopped()
+        } else {
+            self.wait(rt)
+        }
+    }
+
+    /// After a turn that did not end the passes: wakes the neighbour that may wait for what was done
+    /// or, if nothing was, waits a little. Returns whether to go on: not if nothing was done and the
+    /// stop flag is raised.
+    #[inline(always)]
+    pub(crate) fn follow<G: Gas, R: Wait>(&mut self, rt: &R, turned: Turned, tx: &mut Tx<G>) -> bool
+        ensures { tx.new ≡ tx.old }
+    {
+        match turned {
+            Turned::Took => {
+                self.end_wait();
+                self.wake_ups.wake(self.before);
+                true
+            }
+            Turned::Put => {
+                self.wake_behind(tx);
+                true
+            }
+            _ => self.show_or_wait(rt, tx),
+        }
+    }
+}

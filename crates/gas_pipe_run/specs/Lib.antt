@@ -1,3 +1,0 @@
-pub mod Run
-pub mod Waits
-pub mod Inner

@@ -1,9 +1,0 @@
-use Rattle.std.proofs.Common.{Bor, List, ℕ, rules, tests}
-use Rattle.std.specs.Str.{bytes_eq}
-use Rattle.std.proofs.lemmas.Iterator.{YieldsList-from_slice}
-use Rattle.std.proofs.lemmas.Iterator.Search.{any_from_yields_List}
-use Rattle.gas_scene.proofs.scene_table.is_among.Goals as goal
-
-pub returns : goal.returns
-returns c =
-    any_from_yields_List (λ (k : Bor (List ℕ)). bytes_eq c.args.key.now k.now) _ _ _ c.any.ensures.ran (YieldsList-from_slice _ c.iter.ensures.rest) (λ x b q k. search (rules, tests))
