@@ -11,7 +11,7 @@ import needs
 
 os.environ["PYDEVD_DISABLE_FILE_VALIDATION"] = "1"  # or the kernel's debugger warns
 needs.built_program()
-needs.libraries(nbclient="nbclient", nbformat="nbformat", ipykernel="ipykernel")
+needs.libraries("nbclient", "nbformat", "ipykernel")
 
 import nbformat  # noqa: E402
 from nbclient import NotebookClient  # noqa: E402

@@ -207,6 +207,7 @@ class Commands(unittest.TestCase):
                     frames = [np.asarray(frame.convert("RGB")) for frame in ImageSequence.Iterator(film)]
                 self.assertEqual((len(frames), frames[0].shape[1]), (4, 350))
                 self.assertTrue(all((a != b).any() for a, b in itertools.combinations(frames, 2)), suffix)
+                self.assertTrue(all((frame[:, 310:] == frames[0][:, 310:]).all() for frame in frames), suffix)  # the bar of colours
         fhpgas.film(self.room / "few.gif", self.start.replace(states=self.start.states).every(1, 2))
         for call, part in ((lambda: fhpgas.film("a.gif", []), "a state or more"), (lambda: fhpgas.strip([]), "a state or more"),
                            (lambda: fhpgas.film("a.avi", many), "a film is written as"),

@@ -22,7 +22,7 @@ import unittest.mock
 
 import needs
 
-needs.libraries(distributed="distributed")
+needs.libraries("distributed")
 PROGRAM = needs.built_program()
 os.environ["PYTHONPATH"] = str(needs.ROOT / "python")
 import distributed  # noqa: E402
@@ -56,6 +56,12 @@ Lattice([1])                                    arrays [y, x] of one shape, 1 to
 Lattice([[1, 2]], [[0]])                        not (1, 2) and (1, 1)
 Lattice([[1]], [[1]])                           row 0 column 0 is solid and contains a particle
 Lattice([[1]], [[0.5]])                         solid cells are an array of truth values
+gas(0.2, solid=255 * np.ones((4, 4), np.uint8)) compare an image with a number
+forces(start)                                   a lattice of generation 0 has had no collision with a wall
+film("a.gif", start)                            a film or a strip has several states
+film("no/a.gif", [start])                       no/a.gif: No such file or directory
+mean([start.blocks(), start.blocks()])          blocks are added
+start.plot("speed", 1, block=8)                 a block is two integers, columns and rows, not 8
 Lattice([[0]], gas="fhp2")                      a gas is one of fhp1, hpp, fhp-rest, not 'fhp2'
 Lattice([[0]], chirality="up")                  a chirality is one of seeded, left, right, not 'up'
 Lattice([[0]], seed=-1)                         a seed is an integer from 0 to 9223372036854775807, not -1
@@ -353,6 +359,8 @@ class Package(unittest.TestCase):
         blocks = fhpgas.Blocks(np.full((1, 16), 9), sums, 2 * sums // 5, 0 * sums, fhpgas.GASES["hpp"], (3, 3), (48, 3))
         self.same(blocks.smooth(1).particles, [np.roll(np.pad(1000 * weights / weights.sum(), (0, 7)), -4)], 9)
         self.same(blocks.smooth(1).east[0, [0, 1, 4, -4]], [0.4] * 4)
+        uneven = wind((70, 50), solid=np.zeros((50, 70), bool)).blocks(7, 9)  # the last row of blocks has 5 rows of cells
+        self.same([uneven.smooth(2).particles.sum(), uneven.smooth(2).px.sum()], [uneven.particles.sum(), uneven.px.sum()], 6)
         self.assertTrue(np.isnan(dataclasses.replace(blocks, fluid=blocks.fluid * (np.arange(16) != 1)).smooth(1).density[0, 1]))
 
     # -- drawing
@@ -550,7 +558,10 @@ class Package(unittest.TestCase):
         for pool in (concurrent.futures.ThreadPoolExecutor, concurrent.futures.ProcessPoolExecutor):
             with pool(2) as executor:
                 self.assertEqual(fhpgas.side_by_side(particles_of, range(5), executor), alone)
-        self.fault("scene: missing key", fhpgas.side_by_side, lambda seed: fhpgas.with_seed("", seed), [1, 2])
+        for _ in range(20):  # a failure ends all runs, whatever they do at this moment
+            failing = lambda seed: particles_of(seed) if seed % 5 else fhpgas.with_seed("", seed)
+            self.fault("scene: missing key", fhpgas.side_by_side, failing, range(1, 9))
+        self.fault("the process of a run was killed", fhpgas.side_by_side, lambda number: os.kill(os.getpid(), signal.SIGKILL), [1])
         with distributed.Client(n_workers=2, threads_per_worker=1, dashboard_address=":0") as client, client.get_executor() as executor:
             self.assertEqual(fhpgas.side_by_side(particles_of, range(5), executor), alone)
 

@@ -147,7 +147,7 @@ def main():
 
 
 if __name__ == "__main__":  # not in the workers, which import this file
-    needs.libraries(distributed="distributed")
+    needs.libraries("distributed")
     os.environ["PYTHONPATH"] = str(needs.ROOT / "python")
     warnings.simplefilter("ignore")
     import numpy

@@ -17,9 +17,8 @@ standard library only. The rest needs numpy, pictures need matplotlib, and some 
 import importlib.util
 
 from .fault import Fault
-from .program import Summary, check, plan, side_by_side
+from .program import Summary, check, plan, side_by_side, with_seed
 from .refusals import explain
-from .scenes import with_seed
 
 __version__ = "1.1.0"
 __all__ = ["Fault", "Summary", "check", "explain", "plan", "side_by_side", "with_seed"]
@@ -31,13 +30,12 @@ if importlib.util.find_spec("numpy"):
     from .fields import equilibrium, positions
     from .gases import GASES, Gas, gas_named
     from .lattice import Lattice, coarse, gas, read_cells, run
-    from .observe import flux, forces, staggered
+    from .observe import flux, forces, mean, staggered
     from .pictures import film, plot, strip
     from .shapes import bitmap, disc, nozzle, polygon, porous
-    from .statistics import average, mean
     from .theory import Numbers, numbers
 
-    __all__ += ["Blocks", "GASES", "Gas", "Lattice", "Numbers", "Point", "average", "bitmap", "boltzmann", "coarse", "disc", "driven",
+    __all__ += ["Blocks", "GASES", "Gas", "Lattice", "Numbers", "Point", "bitmap", "boltzmann", "coarse", "disc", "driven",
                 "equilibrium", "film", "flux", "forces", "gas", "gas_named", "mean", "nozzle", "numbers", "plot", "polygon", "porous",
                 "positions", "read_cells", "read_table", "run", "shapes", "staggered", "strip", "theory"]
 else:

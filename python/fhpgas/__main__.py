@@ -6,58 +6,48 @@ input. A fault is one line on standard error. The status is 2 if the words are w
 from __future__ import annotations
 
 import argparse
+import importlib
 import os
 import pathlib
 import sys
-import time
+import timeit
+import warnings
 from collections.abc import Callable
-from typing import TYPE_CHECKING, Any
+from typing import Any
 
-from . import __version__, drawing
+import fhpgas
+
+from . import drawing
 from .fault import Fault, Parser, Usage, number, one_line_faults, whole
-from .program import check, plan, read_bytes, side_by_side
-from .scenes import with_seed
-
-if TYPE_CHECKING:
-    from .blocks import Blocks
-    from .lattice import Lattice
+from .program import MOST_SEED, read_bytes
+from .refusals import NOT_REFUSED
 
 FIELDS = "speed", "east", "north", "vorticity", "density", "filling", "pressure"
 FIGURES, FILMS = (".png", ".svg", ".pdf"), (".gif", ".webp", ".apng", ".mp4")
 UNITS = ("days", 86400), ("hours", 3600), ("minutes", 60), ("seconds", 1)
 
-# -- what is read
 
-
-def text(path: str, found: bytes | None = None) -> str:
+def text(found: bytes) -> str:
     """The text of a scene. It has a line feed, so it is never taken for a path."""
-    read = (read_bytes(path) if found is None else found).decode(errors="replace")
+    read = found.decode(errors="replace")
     return read if "\n" in read else read + "\n"
 
 
-def lattice(path: str) -> Lattice:
-    from .lattice import Lattice
-
-    return Lattice.load(text(path))
-
-
-def source(path: str, asked: argparse.Namespace) -> Lattice | Blocks:
+def source(path: str, asked: argparse.Namespace) -> fhpgas.Lattice | fhpgas.Blocks:
     """What a file has: a scene, or cells or a table, which do not name their gas and the sizes of the lattice and of the blocks."""
-    from .blocks import read_table
-    from .lattice import Lattice, read_cells
-
     found = read_bytes(path)
     is_table = found.startswith(b"  col ")
     if not is_table and not found.startswith(b"generation "):
-        return Lattice.load(text(path, found))
+        return fhpgas.Lattice.load(text(found))
     if asked.scene is None and None in (asked.gas, asked.size):
         raise Usage(f"{path} does not name its gas and its size: --scene SCENE, or --gas GAS and --size COLUMNS ROWS")
     if is_table and asked.block is None:
         raise Usage(f"{path} does not name the size of its blocks: --block COLUMNS ROWS")
-    run = check(text(asked.scene)) if asked.scene else None
-    gas, size = (run.gas, (run.width, run.height)) if run else (asked.gas, asked.size)
+    gas, columns, rows = fhpgas.check(asked.scene)[:3] if asked.scene else (asked.gas, *asked.size)
     try:
-        return read_table(found, gas, asked.block, size) if is_table else read_cells(found, gas, size)
+        if is_table:
+            return fhpgas.read_table(found, gas, asked.block, (columns, rows))
+        return fhpgas.read_cells(found, gas, (columns, rows))
     except Fault as fault:
         raise Fault(f"{path}: {fault}") from None
 
@@ -82,22 +72,12 @@ def to_write(*suffixes: str) -> Callable[[str], str]:
     return file
 
 
-# -- the commands
-
-
 def draw(asked: argparse.Namespace) -> None:
     print(drawing.drawn(asked), end="")
-    if any(asked.wind):
-        from .theory import sound_speed
-
-        if (mach := sum(speed**2 for speed in asked.wind) ** 0.5 / sound_speed(asked.gas)) > 1:
-            print(f"fhpgas-tools: the wind is faster than sound, Mach {mach:.2f}", file=sys.stderr)
 
 
 def explain(asked: argparse.Namespace) -> None:
-    from .refusals import NOT_REFUSED, explanation
-
-    told = explanation(read_bytes(asked.scene))
+    told = fhpgas.explain(asked.scene)
     print(told, end="")
     if told != NOT_REFUSED:
         sys.exit(1)
@@ -113,18 +93,17 @@ def looks(asked: argparse.Namespace) -> dict[str, Any]:
 
 def picture(asked: argparse.Namespace) -> None:
     """A figure of one source or a strip of several, or if the file is .gif, .webp, .apng or .mp4 a film of them."""
+    from .pictures import axes_of
+
     options = looks(asked)
-    from matplotlib import use
-
-    from . import pictures
-
-    use("agg")
+    os.environ["MPLBACKEND"] = "agg"  # no window, whatever the screen
     sources = [source(path, asked) for path in asked.sources]
     if asked.file.endswith(FILMS):
-        return pictures.film(asked.file, sources, asked.what, dpi=asked.dpi, **options)
-    figure = pictures.strip(sources, asked.what, **options) if len(sources) > 1 else pictures.figure_of(sources[0])
-    if len(sources) == 1:
-        pictures.plot(sources[0], asked.what, figure.add_subplot(), **options)
+        return fhpgas.film(asked.file, sources, asked.what, dpi=asked.dpi, **options)
+    if len(sources) > 1:
+        figure = fhpgas.strip(sources, asked.what, **options)
+    else:
+        figure = sources[0].plot(asked.what, axes_of(sources[0]), **options).figure
     figure.savefig(asked.file, dpi=asked.dpi)
     if images := figure.axes[0].images:
         print("{} from {:.4g} to {:.4g}".format(asked.what, *images[0].get_clim()))
@@ -136,28 +115,22 @@ def film(asked: argparse.Namespace) -> None:
     how = {name: value for name, value in (("force", asked.force), ("flow", asked.flow)) if value is not None}
     if len(how) > 1:
         raise Usage("a flow is driven by a force or towards a mean flow: --force or --flow")
-    from . import pictures
-
-    start = lattice(asked.scene)
+    start = fhpgas.Lattice.load(asked.scene)
     points = start.driven(asked.until, asked.every, seed=asked.seed, **how) if how else ()
     frames = (point.before for point in points) if how else start.every(asked.every, count)
-    pictures.film(asked.file, frames, asked.what, fps=asked.fps, dpi=asked.dpi, **options)
+    fhpgas.film(asked.file, frames, asked.what, fps=asked.fps, dpi=asked.dpi, **options)
     print(f"{asked.file}: {count + 1} frames, generations {start.generation} to {start.generation + asked.until}")
 
 
 def how_long(asked: argparse.Namespace) -> None:
     """Times a few short runs with the same plan, and scales. On a busy machine the figure changes every minute."""
-    from .lattice import coarse
-
-    scene = text(asked.scene)
-    size = check(scene)
-    stages, capacity = plan(size.height, asked.generations)
+    scene = text(read_bytes(asked.scene))
+    size = fhpgas.check(scene)
+    stages, capacity = fhpgas.plan(size.height, asked.generations)
     stages, capacity = asked.stages or stages, asked.capacity or capacity
 
     def timed(generations: int) -> float:
-        begun = time.perf_counter()
-        coarse(scene, generations, 4096, 4096, stages=stages, capacity=capacity)
-        return time.perf_counter() - begun
+        return timeit.timeit(lambda: fhpgas.coarse(scene, generations, 4096, 4096, stages=stages, capacity=capacity), number=1)
 
     around, generations = min(timed(0), timed(0)), stages
     while (seconds := timed(generations) - around) < asked.seconds and 10 * generations <= 1_000_000:
@@ -170,16 +143,16 @@ def how_long(asked: argparse.Namespace) -> None:
 
 
 def resume(asked: argparse.Namespace) -> None:
-    print(lattice(asked.scene).resume(read_bytes(asked.cells)).scene(), end="")
+    print(fhpgas.Lattice.load(asked.scene).resume(read_bytes(asked.cells)).scene(), end="")
 
 
 def long_run(asked: argparse.Namespace) -> None:
-    for later in lattice(asked.scene).long_run(asked.generations, asked.step, asked.kept):
+    for later in fhpgas.Lattice.load(asked.scene).long_run(asked.generations, asked.step, asked.kept):
         print(f"generation {later.generation} particles {later.particles}", flush=True)
 
 
 def over_time(asked: argparse.Namespace) -> None:
-    for later in lattice(asked.scene).every(asked.step, steps(asked.last, asked.step)):
+    for later in fhpgas.Lattice.load(asked.scene).every(asked.step, steps(asked.last, asked.step)):
         print(f"generation {later.generation} particles {later.particles}")
         print(later.blocks(*asked.block or (8, 9)).text(), end="", flush=True)
 
@@ -189,29 +162,26 @@ def drive(asked: argparse.Namespace) -> None:
     steps(asked.generations, asked.every)
     if (asked.flow is None) == (asked.force is None):
         raise Usage("a flow is driven either by a force or towards a mean flow: --force or --flow")
-    points = lattice(asked.scene).driven(asked.generations, asked.every, force=asked.force, flow=asked.flow, seed=asked.seed)
+    points = fhpgas.Lattice.load(asked.scene).driven(asked.generations, asked.every, force=asked.force, flow=asked.flow, seed=asked.seed)
     for done, point in enumerate(points):
         print("generation    velocity       force\n" * (done == 0), end="")
         print(f"{point.before.generation:10} {point.velocity:11.5f} {point.force:11.3g}", flush=True)
 
 
 def over_seeds(asked: argparse.Namespace) -> None:
-    from .lattice import coarse
-    from .statistics import mean
-
     if asked.drawn is None:
-        scene = text(asked.scene or "-")
+        scene = text(read_bytes(asked.scene or "-"))
     else:
         words = Parser("--drawn")
         drawing.add_words(words)
         drawn = words.parse_args(asked.drawn)
 
     def columns(seed: int) -> Any:
-        area = with_seed(scene, seed) if asked.drawn is None else drawing.drawn(drawn, seed)
-        blocks = coarse(area, asked.generations, *asked.block or (8, 9))
+        area = fhpgas.with_seed(scene, seed) if asked.drawn is None else drawing.drawn(drawn, seed)
+        blocks = fhpgas.coarse(area, asked.generations, *asked.block or (8, 9))
         return [blocks.fluid, blocks.particles, *blocks.velocity]
 
-    (fluid, *means), (_, *errors) = mean(side_by_side(columns, range(1, asked.seeds + 1)))
+    (fluid, *means), (_, *errors) = fhpgas.mean(fhpgas.side_by_side(columns, range(1, asked.seeds + 1)))
     print("  col   row    fluid" + "".join(f"{name:>12}{name + '_error':>16}" for name in ("particles", "u", "v")))
     for row, column in ((row, column) for row in range(len(fluid)) for column in range(fluid.shape[1])):
         pairs = ((middle[row, column], error[row, column]) for middle, error in zip(means, errors))
@@ -222,37 +192,33 @@ def over_seeds(asked: argparse.Namespace) -> None:
 def live(asked: argparse.Namespace) -> None:
     from .live import serve
 
-    serve(text(asked.scene) if asked.scene else None, asked.port, not asked.no_browser)
+    serve(text(read_bytes(asked.scene)) if asked.scene else None, asked.port, not asked.no_browser)
 
 
 def numbers(asked: argparse.Namespace) -> None:
-    from . import theory
-    from .blocks import Blocks
-
     gas, flow = asked.gas or "fhp1", {"filling": asked.filling, "speed": asked.speed}
     if [value is None for value in flow.values()] != [asked.table is not None] * 2:
         raise Usage("a flow has --filling and --speed, or a --table")
     if asked.table is not None:
         found = source(asked.table, asked)
-        blocks = found if isinstance(found, Blocks) else found.blocks()
+        blocks = found if isinstance(found, fhpgas.Blocks) else found.blocks()
         gas, particles = blocks.gas.name, blocks.particles.sum()
         if not particles:
             raise Fault(f"{asked.table} has no particle, so no flow")
         x, y = blocks.gas.units * (blocks.px.sum(), blocks.py.sum()) / particles
         flow = {"filling": particles / blocks.gas.directions / blocks.fluid.sum(), "speed": (x**2 + y**2) ** 0.5}
-    told = theory.numbers(gas, **flow, length=asked.length, chirality=asked.chirality)._asdict()
+    told = fhpgas.numbers(gas, **flow, length=asked.length, chirality=asked.chirality)._asdict()
     for name, value in (flow | told if asked.table else told).items():
         print(f"{name.replace('_', ' '):16}{value:12.4g}")
 
 
-# -- their words
-
 FIELD: dict[str, Any] = {"choices": (*FIELDS, "particles")}
+SCENE: dict[str, Any] = {"metavar": "SCENE", "type": pathlib.Path}
 SIDES: dict[str, Any] = {"nargs": 2, "metavar": ("COLUMNS", "ROWS")}
 FINITE, MANY, STEP, COUNT = number(-1e300, 1e300), whole(0, 10**12), whole(1, 1_000_000), whole(0, 1_000_000)
 WORDS: dict[str, dict[str, Any]] = {
-    "scene": {"metavar": "SCENE"},
-    "scene:optional": {"metavar": "SCENE", "nargs": "?"},
+    "scene": SCENE,
+    "scene:optional": SCENE | {"nargs": "?"},
     "sources": {"metavar": "SOURCE", "nargs": "+"},
     "cells": {"metavar": "CELLS"},
     "kept": {"metavar": "KEPT", "help": "the file, a scene"},
@@ -280,9 +246,9 @@ WORDS: dict[str, dict[str, Any]] = {
     "--low": {"type": FINITE, "help": "the value of the first colour"},
     "--no-browser": {"action": "store_true"},
     "--port": {"type": whole(0, 65535), "default": 0, "help": "default any that is free"},
-    "--scene": {"metavar": "SCENE", "help": "the scene of the run, for its gas and its size"},
+    "--scene": SCENE | {"help": "the scene of the run, for its gas and its size"},
     "--seconds": {"type": whole(1, 3600), "default": 2, "help": "the least that is timed; default 2"},
-    "--seed": {"type": whole(0, drawing.MOST_SEED), "default": 0, "help": "of the particles that are turned; default 0"},
+    "--seed": {"type": whole(0, MOST_SEED), "default": 0, "help": "of the particles that are turned; default 0"},
     "--seeds": {"type": whole(2, 10**6), "default": 8, "help": "default 8"},
     "--size": SIDES | {"type": whole(1, 65536), "help": "of the lattice"},
     "--smooth": {"metavar": "BLOCKS", "type": number(0, 100), "default": 0, "help": "width of a Gaussian that smooths, in blocks"},
@@ -313,7 +279,7 @@ COMMANDS: tuple[tuple[Callable[[argparse.Namespace], None], str, str], ...] = (
 
 def reader(name: str) -> Parser:
     top = Parser(name, description=__doc__)
-    top.add_argument("--version", action="version", version=f"fhpgas-tools {__version__}")
+    top.add_argument("--version", action="version", version=f"fhpgas-tools {fhpgas.__version__}")
     commands = top.add_subparsers(required=True, metavar="COMMAND")
     for function, about, words in COMMANDS:
         more = drawing.__doc__ if function is draw else function.__doc__ or about
@@ -328,9 +294,12 @@ def reader(name: str) -> Parser:
 
 def main(words: list[str] | None = None) -> None:
     name = pathlib.Path(sys.argv[0]).name
-    with one_line_faults("fhpgas-tools"):
+    with one_line_faults("fhpgas-tools"), warnings.catch_warnings():
+        warnings.showwarning = lambda message, *_: print(f"fhpgas-tools: {message}", file=sys.stderr)
         asked = reader("python3 -m fhpgas" if name == "__main__.py" else name).parse_args(words)
         try:
+            if asked.function is not explain:
+                importlib.import_module("numpy")
             asked.function(asked)
         except ModuleNotFoundError as missing:
             name = str(missing.name).lower()

@@ -6,6 +6,7 @@ from typing import Any
 
 import numpy as np
 
+from . import pictures
 from .fault import Fault, integer, real
 from .fields import size_checked
 from .gases import Array, Gas, gas_named, read_only
@@ -50,16 +51,7 @@ class Value:
     def __hash__(self) -> int:
         return hash(tuple(value.tobytes() if isinstance(value, np.ndarray) else value for value in self._values()))
 
-    def plot(self, what: Any = None, ax: Any = None, **options: Any) -> Any:
-        """Shows a field on Axes of matplotlib, or the particles of a small lattice as arrows: see `fhpgas.plot`."""
-        from . import pictures
-
-        return pictures.plot(self, what, ax, **options)  # type: ignore[arg-type]
-
-    def _repr_png_(self) -> bytes:
-        from . import pictures
-
-        return pictures.png(self)  # type: ignore[arg-type]
+    plot, _repr_png_ = pictures.plot, pictures.png
 
 
 @dataclasses.dataclass(frozen=True, eq=False, repr=False)
@@ -82,11 +74,10 @@ class Blocks(Value):
 
     def __post_init__(self) -> None:
         (columns, rows), (width, height) = size_checked(self.size), size_checked(self.block)
-        sums, shape = {name: np.array(getattr(self, name)) for name in SUMS}, (-(-rows // height), -(-columns // width))
+        sums, shape = {name: read_only(np.array(getattr(self, name))) for name in SUMS}, (-(-rows // height), -(-columns // width))
         if any(array.shape != shape or array.dtype.kind not in "iuf" for array in sums.values()):
             raise Fault(f"{columns} x {rows} cells have {shape[1]} x {shape[0]} blocks of {width} x {height}, and the sums are arrays"
                         f" [row, column] of {', '.join(str(array.shape) for array in sums.values())}")
-        sums = {name: read_only(array) for name, array in sums.items()}
         self.__dict__.update(sums, gas=gas_named(self.gas), block=(width, height), size=(columns, rows))
 
     def __repr__(self) -> str:
@@ -106,8 +97,6 @@ class Blocks(Value):
         if not isinstance(other, int) or other:
             return NotImplemented
         return self
-
-    # -- fields
 
     @functools.cached_property
     def density(self) -> Array:
@@ -160,8 +149,6 @@ class Blocks(Value):
         curl = _slope(wrapped, around).T - _slope(edged, np.array([y[0] + 1, *y, y[-1] - 1]))  # past a wall is nothing, at any distance
         return read_only(np.where(np.isnan(self.east), np.nan, curl))
 
-    # -- places
-
     @property
     def edges(self) -> tuple[Array, Array]:
         """The edges of the blocks: x [columns + 1] eastwards, and y [rows + 1] northwards from the lower wall, from the top."""
@@ -175,12 +162,12 @@ class Blocks(Value):
         return (x[1:] + x[:-1]) / 2, (y[1:] + y[:-1]) / 2
 
     def smooth(self, sigma: float = 1.0) -> "Blocks":
-        """The sums spread by a Gaussian of `sigma` blocks, periodic in x. Solid blocks stay solid. Particles and momenta are spread alike,
-        so velocities are means."""
+        """The sums spread by a Gaussian of `sigma` blocks, periodic in x and reflected by the walls. Solid blocks stay solid. Particles and
+        momenta are spread alike, so velocities are means."""
         from scipy.ndimage import gaussian_filter
 
         sigma = real("sigma", sigma, 0)
-        spread = {name: gaussian_filter(getattr(self, name).astype(float), sigma, mode=("nearest", "wrap")) for name in SUMS}
+        spread = {name: gaussian_filter(getattr(self, name).astype(float), sigma, mode=("reflect", "wrap")) for name in SUMS}
         return dataclasses.replace(self, **{name: np.where(self.fluid > 0, sums, 0) for name, sums in spread.items()})
 
     def text(self) -> str:
@@ -215,14 +202,13 @@ def read_table(text: str | bytes, gas: str | Gas, block: tuple[int, int], size: 
     (columns, rows), (width, height) = size_checked(size), size_checked(block)
     shape = -(-rows // height), -(-columns // width)
     first, _, body = (text.encode() if isinstance(text, str) else text).partition(b"\n")
-    fault = Fault(f"this is no whole table of `coarse` with {shape[1]} columns and {shape[0]} rows of blocks")
-    if first != HEADER.encode() or body.count(b"\n") != shape[0] * shape[1] or body.translate(None, b"-0123456789 \n"):
-        raise fault
     try:
+        if first != HEADER.encode() or body.count(b"\n") != shape[0] * shape[1] or body.translate(None, b"-0123456789 \n"):
+            raise ValueError
         table = np.loadtxt(io.BytesIO(body), np.int64).reshape(*shape, 6)
+        if (table[..., 1::-1] != np.moveaxis(np.indices(shape), 0, -1)).any():
+            raise ValueError
     except (ValueError, OverflowError):
-        raise fault from None
-    if (table[..., 1::-1] != np.moveaxis(np.indices(shape), 0, -1)).any():
-        raise fault
-    sums = dict(zip(SUMS, np.moveaxis(table[..., 2:], -1, 0)))
-    return Blocks(**sums, gas=gas_named(gas), block=(width, height), size=(columns, rows), generation=generation)
+        raise Fault(f"this is no whole table of `coarse` with {shape[1]} columns and {shape[0]} rows of blocks") from None
+    fluid, particles, px, py = np.moveaxis(table[..., 2:], -1, 0)
+    return Blocks(fluid, particles, px, py, gas_named(gas), block, size, generation)

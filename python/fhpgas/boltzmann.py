@@ -5,7 +5,7 @@
         east, north = flow.velocity(chances)              # [y, x]
 
 `chances` [direction, y, x] are the chances that the directions of a cell contain a particle. Walls, obstacles and collisions are the
-program's. Lengths are in cells' widths, times in generations. The equation is that of U. Frisch and others, Complex Systems 1 (1987) 649.
+program's. The equation is that of U. Frisch and others, Complex Systems 1 (1987) 649.
 """
 from collections.abc import Iterator
 from typing import Any
@@ -14,7 +14,7 @@ import numpy as np
 
 from .fault import Fault
 from .fields import equilibrium
-from .gases import SIDES, Array, Gas, chirality_named, gas_named
+from .gases import Array, Gas, gas_named
 
 
 class Flow:
@@ -27,10 +27,8 @@ class Flow:
             raise Fault(f"solid cells are an array [y, x], not one of the shape {self.solid.shape}")
         if len(self.solid) % 2 and not has_walls:
             raise Fault(f"a gas without walls has an even number of rows, not {len(self.solid)}")
-        bits = self.gas.bits[: 1 << self.gas.directions].astype(float)
-        change = np.mean([self.gas.bits[self.gas.collisions(side)[: len(bits)]] for side in SIDES[chirality_named(chirality)]], 0) - bits
-        collide = change.any(1)
-        self._full, self._change, self._sources = bits[collide] > 0, change[collide], self._streaming(has_walls)
+        collide = (change := self.gas.changes(chirality)).any(1)
+        self._full, self._change, self._sources = self.gas.bits[collide] > 0, change[collide], self._streaming(has_walls)
 
     def _streaming(self, has_walls: bool) -> Array:
         """Where, in all chances one after the other, the chance of a direction of a cell streams from: the neighbour, or if that is solid
@@ -79,8 +77,8 @@ class Flow:
             *_, chances = self.every(kicked, every, 1)
 
     def forced(self, chances: Array, force: float) -> Array:
-        """The chances after a force that adds this momentum eastwards to every fluid cell, from west to east as `fhpgas.driven` does. A cell
-        in which a chance would leave 0 to 1 raises a Fault."""
+        """The chances after a force that adds this momentum eastwards to every fluid cell, from west to east as `fhpgas.driven` does. A
+        chance that would leave 0 to 1 raises a Fault."""
         after = chances.copy()
         after[0] += force / 2 * ~self.solid
         after[self.gas.opposite[0]] -= force / 2 * ~self.solid

@@ -13,12 +13,13 @@ again per seed.
 import argparse
 from typing import Any
 
+import fhpgas
+
 from .fault import Fault, Parser, Usage, number, whole
-from .program import MOST_BYTES
-from .scenes import text_of
+from .program import MOST_BYTES, MOST_SEED, text_of
 
 GASES, CHIRALITIES = ("fhp1", "fhp-rest", "hpp"), ("seeded", "left", "right")
-MOST_SIDE, MOST_SEED = 65536, 2**63 - 1
+MOST_SIDE = 65536
 
 
 def add_words(reader: argparse.ArgumentParser) -> None:
@@ -60,48 +61,41 @@ def add_words(reader: argparse.ArgumentParser) -> None:
 
 def drawn(asked: argparse.Namespace, seed: int | None = None) -> str:
     """The scene of the words that were read, and of a seed if one is passed too."""
-    from .shapes import check_inside, rectangles
-
     if seed is not None and asked.seed is not None:
         raise Usage("the words that draw have a --seed, and a seed is given beside them")
     seed, size = seed or asked.seed or 0, (asked.width, asked.height)
     blocks = [*asked.block, *([[0, 0, 1, asked.height]] if asked.closed else [])]
     for block in blocks:
-        check_inside("a block", block, size)
+        fhpgas.shapes.check_inside("a block", block, size)
     solid, thousandths = shape(asked, size, seed), 1000 * asked.filling
     if any(asked.wind) or asked.patch or abs(thousandths - round(thousandths)) > 1e-9:
         return windy(asked, size, seed, blocks, solid)
     keys = ({"version": 2} if max(size) > 4096 else {}) | {"gas": asked.gas, "chirality": asked.chirality, "seed": seed}
     keys |= {"width": asked.width, "height": asked.height, "rate": round(thousandths)}
-    blocks += [] if solid is None else rectangles(solid)
+    blocks += [] if solid is None else fhpgas.shapes.rectangles(solid)
     return text_of(keys | ({"solid": blocks} if blocks else {}))
 
 
 def shape(asked: argparse.Namespace, size: tuple[int, int], seed: int) -> Any:
     """The solid cells [y, x] of the shapes that were asked for beside blocks, None if there are none."""
-    from . import shapes
-
     if asked.shape == "bitmap":
         column, row = asked.at
-        return shapes.bitmap(size, asked.picture, asked.pixel, column, row, asked.gas)
+        return fhpgas.bitmap(size, asked.picture, asked.pixel, column, row, asked.gas)
     if asked.shape == "nozzle":
-        return shapes.nozzle(size, asked.throat, asked.length)
+        return fhpgas.nozzle(size, asked.throat, asked.length)
     if asked.shape == "porous":
-        return shapes.porous(size, asked.share, asked.radius, seed, asked.gas)
-    many = [shapes.disc(size, x, y, radius, asked.gas) for x, y, radius in asked.disc] if asked.shape == "discs" else []
+        return fhpgas.porous(size, asked.share, asked.radius, seed, asked.gas)
+    many = [fhpgas.disc(size, x, y, radius, asked.gas) for x, y, radius in asked.disc] if asked.shape == "discs" else []
     for numbers in asked.polygon if asked.shape == "polygons" else ():
         if len(numbers) % 2:
             raise Usage(f"a polygon has corners of two numbers each, and these are {len(numbers)}")
-        many.append(shapes.polygon(size, zip(numbers[::2], numbers[1::2]), asked.gas))
+        many.append(fhpgas.polygon(size, zip(numbers[::2], numbers[1::2]), asked.gas))
     return sum(many[1:], many[0]) if many else None
 
 
 def windy(asked: argparse.Namespace, size: tuple[int, int], seed: int, blocks: list[list[int]], solid: Any) -> str:
     """A map with a wind, the patches at their fillings."""
     import numpy as np
-
-    from .lattice import gas
-    from .shapes import check_inside
 
     if len(asked.wind) > 2:
         raise Usage("a wind has a speed eastwards and one northwards")
@@ -112,9 +106,9 @@ def windy(asked: argparse.Namespace, size: tuple[int, int], seed: int, blocks: l
         walls[y : y + h, x : x + w] = True
     for *patch, chance in asked.patch:
         x, y, w, h = map(int, patch)
-        check_inside("a patch", (x, y, w, h), size)
+        fhpgas.shapes.check_inside("a patch", (x, y, w, h), size)
         if [x, y, w, h] != patch or chance > 1:
             raise Usage(f"a patch is whole columns and rows and a filling of 0 to 1, not {' '.join(f'{n:g}' for n in (*patch, chance))}")
         filling[y : y + h, x : x + w] = chance
     drawn = filling if asked.patch else asked.filling
-    return gas(drawn, *asked.wind, size=size, solid=walls, gas=asked.gas, chirality=asked.chirality, seed=seed).scene()
+    return fhpgas.gas(drawn, *asked.wind, size=size, solid=walls, gas=asked.gas, chirality=asked.chirality, seed=seed).scene()

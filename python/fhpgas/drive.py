@@ -3,16 +3,19 @@
 A particle that is turned adds the momentum of two. Which ones are turned is drawn at random from a seed, in proportion to the fluid cells
 of the rows. A driven run is therefore repeatable, and the force that acted is known exactly.
 """
+from __future__ import annotations
+
 from collections.abc import Iterator
-from typing import Any, NamedTuple
+from typing import TYPE_CHECKING, Any, NamedTuple
 
 import numpy as np
 
 from .fault import Fault, integer, real
 from .gases import Array, Gas
-from .lattice import Lattice
-from .program import show_progress
-from .scenes import MOST_SEED
+from .program import MOST_SEED, show_progress
+
+if TYPE_CHECKING:
+    from .lattice import Lattice
 
 
 class Point(NamedTuple):
@@ -31,7 +34,10 @@ def driven(lattice: Lattice, generations: int, every: int = 10, *, force: float 
            **plan: Any) -> Iterator[Point]:
     """The points of a driven run: at its start, and after every `every` generations. Either a body force acts eastwards, a momentum per
     fluid cell and generation, or the particles are turned that bring the mean velocity to `flow`, and `Point.force` is the force that this
-    takes. The plan is as in `Lattice.run`. A row that has too few particles to turn raises a Fault."""
+    takes. The plan is as in `Lattice.run`. A row that has too few particles to turn raises a Fault.
+
+    Between points the walls act and the drive does not, so the flow near walls and in narrow gaps depends on `every`. For a profile, a slip
+    or a permeability take 1 to 4. In a porous medium kicks at even intervals add up in pockets one cell wide."""
     if (force is None) == (flow is None):
         raise Fault("a flow is driven either by a force or towards a mean flow: force=.. or flow=.. (--force, --flow)")
     every, generations = integer("the number of generations between points", every, 1), integer("the number of generations", generations)
@@ -77,7 +83,7 @@ def _turn(row: Array, fluid: Array, number: int, gas: Gas, lots: np.random.PCG64
     free, number = np.flatnonzero(row & both == (both ^ 1 if number > 0 else 1)), abs(number)
     if number > len(free):
         raise Fault(f"row {y} has {len(free)} particles to turn, and {number} must be: the flow is too fast, the force too large, or the"
-                    " gas too thin")
+                    " gas too thin. A flow from rest needs them all at once: begin with a gas that moves (east=..)")
     starts = np.sort(fluid[(_uniform(lots, number) * len(fluid)).astype(int)])
     places, order = np.searchsorted(free, starts), np.arange(number)
     taken = np.maximum.accumulate(places - order) + order

@@ -17,12 +17,12 @@ Field = float | Array | Callable[[Array, Array], Any]
 CACHED = 1 << 17  # words of random bits, or cells, that are worked on at a time
 
 
-def size_checked(size: tuple[int, int]) -> tuple[int, int]:
+def size_checked(size: tuple[int, int], what: str = "a size") -> tuple[int, int]:
     """A size, columns and rows, as two ints of at least 1."""
     try:
         columns, rows = size
     except (TypeError, ValueError):
-        raise Fault(f"a size is two integers, columns and rows, not {reprlib.repr(size)}") from None
+        raise Fault(f"{what} is two integers, columns and rows, not {reprlib.repr(size)}") from None
     return integer("the number of columns", columns, 1), integer("the number of rows", rows, 1)
 
 

@@ -1,8 +1,4 @@
-"""The three gases: their directions, their neighbours and their collisions, as docs/FORMATS.md lists them.
-
-Bit i of a state is a particle in direction i: E, NE, NW, W, SW, SE in `fhp1`, the same and rest in `fhp-rest`, E, N, W, S in `hpp`. Lengths
-are in cells' widths, times in generations.
-"""
+"""The three gases: their directions, their neighbours and their collisions, as docs/FORMATS.md lists them."""
 import functools
 import reprlib
 from collections.abc import Sequence
@@ -24,6 +20,15 @@ def read_only(array: Array) -> Array:
     """The same array, which can no longer be written."""
     array.flags.writeable = False
     return array
+
+
+def mask(values: Any) -> Array:
+    """Truth values, or numbers that are 0 or 1, as an array of truth values. Anything else, such as an image's greys, raises a Fault."""
+    array = np.asarray(values)
+    if array.dtype.kind not in "iub" or (array.dtype.kind != "b" and ((array != 0) & (array != 1)).any()):
+        raise Fault(f"solid cells are an array of truth values, or of 0 and 1, not {reprlib.repr(values)} of {array.dtype}: compare an"
+                    " image with a number, as in `image > 127`")
+    return array.astype(bool)
 
 
 class Gas:
@@ -64,6 +69,10 @@ class Gas:
         table = STATES.copy()
         table[[*changes]] = [*changes.values()]
         return read_only(table)
+
+    def changes(self, chirality: str) -> Array:
+        """What a collision adds to the particles [128, b] of a state, on average over the sides."""
+        return np.mean([self.bits[self.collisions(side)] for side in SIDES[chirality_named(chirality)]], 0) - self.bits
 
 
 _HEXAGON = (2, 0), (1, 1), (-1, 1), (-2, 0), (-1, -1), (1, -1)

@@ -5,20 +5,18 @@ import itertools
 import os
 import pathlib
 import re
+import warnings
 from collections.abc import Iterator
-from typing import TYPE_CHECKING, Any
+from typing import Any
 
 import numpy as np
 
-from . import fields, program
+from . import drive, fields, program
 from .blocks import Blocks, Value, block_sums, read_table
 from .fault import Fault, integer
-from .gases import Array, Gas, chirality_named, gas_named, read_only
-from .program import Scene
-from .scenes import MOST_SEED, keys_of, text_of
-
-if TYPE_CHECKING:
-    from .drive import Point
+from .gases import Array, Gas, chirality_named, gas_named, mask, read_only
+from .program import MOST_GENERATIONS, MOST_SEED, Scene, keys_of
+from .theory import sound_speed
 
 SOLID = 0x80  # in a byte per cell: a solid cell. Any other cell's byte is its state
 NO_CELL = 0xFF
@@ -50,28 +48,27 @@ class Lattice(Value):
     def __init__(self, states: Any, solid: Any = None, gas: str | Gas = "fhp1", chirality: str = "seeded", seed: int = 0,
                  generation: int = 0):
         named, states = gas_named(gas), np.asarray(states)
-        solid = np.zeros(states.shape, bool) if solid is None else np.asarray(solid)
+        solid = np.zeros(states.shape, bool) if solid is None else mask(solid)
         if states.ndim != 2 or solid.shape != states.shape or not all(1 <= side <= MOST_SIDE for side in states.shape):
             raise Fault(f"states and solid cells are arrays [y, x] of one shape, 1 to {MOST_SIDE} each way, not {states.shape} and"
                         f" {solid.shape}")
-        if states.dtype.kind not in "iub" or states.min() < 0 or states.max() >> named.directions:
-            raise Fault(_wrong_state(named, states))
-        if solid.dtype.kind not in "iub":
-            raise Fault(f"solid cells are an array of truth values, not of {solid.dtype}")
-        self.__dict__.update(states=read_only(states.astype(np.uint8)), solid=read_only(solid.astype(bool)), gas=named,
+        allowed = f"a state of {named} is an integer from 0 to {(1 << named.directions) - 1}"
+        if states.dtype.kind not in "iub":
+            raise Fault(f"{allowed}, and these are of the type {states.dtype}")
+        if states.min() < 0 or states.max() >> named.directions:
+            y, x = np.argwhere((states < 0) | (states >> named.directions > 0))[0]
+            raise Fault(f"{allowed}, and row {y} column {x} has {states[y, x]}")
+        self.__dict__.update(states=read_only(states.astype(np.uint8)), solid=read_only(solid.copy()), gas=named,
                              chirality=chirality_named(chirality), seed=integer("a seed", seed, 0, MOST_SEED),
                              generation=integer("a generation", generation, 0, MOST_GENERATION))
         if (both := self.solid & (self.states > 0)).any():
             y, x = np.argwhere(both)[0]
             raise Fault(f"row {y} column {x} is solid and contains a particle: numpy.where(solid, 0, states) clears such cells")
 
-    # -- making one
-
     @classmethod
     def load(cls, scene: Scene) -> "Lattice":
         """The lattice of a scene, the path of its file or its text. A refused scene raises a Fault with the program's line."""
-        text = program.scene_bytes(scene)
-        return cls._of(*cells_of(program.call(text, "run", "--generations", 0, "--stages", 1)), **_names(text))
+        return run(scene, 0)
 
     @classmethod
     def _of(cls, codes: Array, generation: int, gas: str | Gas, chirality: str = "seeded", seed: int = 0) -> "Lattice":
@@ -81,8 +78,6 @@ class Lattice(Value):
         """The same lattice with other `states`, `solid`, `gas`, `chirality`, `seed` or `generation`. A run of it continues with the random
         bits that come next."""
         return dataclasses.replace(self, **changes)
-
-    # -- what it is
 
     @property
     def size(self) -> tuple[int, int]:
@@ -105,11 +100,6 @@ class Lattice(Value):
         """The momentum [east, north] of all particles, in units of a particle of speed 1."""
         return read_only(self.counts() @ self.gas.velocities)
 
-    @property
-    def positions(self) -> tuple[Array, Array]:
-        """The places X [y, x] and Y [y, 1] of the cells' middles: see `fhpgas.positions`."""
-        return fields.positions(self.size, self.gas)
-
     def counts(self, width: int | None = None, height: int | None = None) -> Array:
         """The numbers of particles by direction: [b] of all cells, or [b, row, column] of blocks of so many columns and rows."""
         if width is None and height is None:
@@ -130,8 +120,6 @@ class Lattice(Value):
     def __repr__(self) -> str:
         columns, rows = self.size
         return f"<Lattice {self.gas} {self.chirality} {columns} x {rows}, generation {self.generation}, {self.particles} particles>"
-
-    # -- its texts
 
     def text(self) -> str:
         """The cells as `fhpgas run` prints them."""
@@ -155,9 +143,7 @@ class Lattice(Value):
 
     def _scene(self) -> bytes:
         keys = {"version": 2, "gas": self.gas.name, "chirality": self.chirality, "seed": self.seed, "generation": self.generation}
-        return b"".join([text_of(keys).encode(), b"cells = [\n", lines_of(self._codes(), b'    "', b'",\n'), b"]\n"])
-
-    # -- what happens to it
+        return b"".join([program.text_of(keys).encode(), b"cells = [\n", lines_of(self._codes(), b'    "', b'",\n'), b"]\n"])
 
     def run(self, generations: int, stages: int | None = None, capacity: int | None = None) -> "Lattice":
         """The lattice after 0 to 1,000,000 generations. The plan, `stages` and `capacity`, changes only the time."""
@@ -166,23 +152,24 @@ class Lattice(Value):
 
     def every(self, step: int, count: int, **plan: Any) -> Iterator["Lattice"]:
         """Yields this lattice, and then `count` times the lattice `step` generations later."""
-        step = integer("a step", step, 1, program.MOST_GENERATIONS)
+        step = integer("a step", step, 1, MOST_GENERATIONS)
         last = self.generation + step * integer("the number of steps", count)
         return itertools.chain([self], self._parts(last, step, plan))
 
-    def _parts(self, last: int, step: int, plan: dict[str, Any]) -> Iterator["Lattice"]:
-        """The lattices after every step, and at the last generation."""
+    def _parts(self, last: int, step: int, plan: dict[str, Any], kept: Any = None) -> Iterator["Lattice"]:
+        """The lattices after every step, and at the last generation. The file `kept` has the scene of the last one."""
         lattice = self
         while lattice.generation < last:
             program.show_progress(f"generation {lattice.generation} of {last}")
             lattice = lattice.run(min(step, last - lattice.generation), **plan)
             program.show_progress("")
+            if kept is not None:
+                lattice.save(kept)
             yield lattice
 
     def coarse(self, generations: int, width: int = 8, height: int = 9, **plan: Any) -> Blocks:
         """The blocks of the lattice after some generations, summed by the program."""
-        text = _coarse(self._scene(), len(self.states), generations, width, height, plan)
-        return read_table(text, self.gas, (width, height), self.size, self.generation + generations)
+        return _coarse(self._scene(), self.gas, self.size, self.generation, generations, (width, height), plan)
 
     def reverse(self) -> "Lattice":
         """The lattice with all particles turned back. `lattice.run(n).reverse().run(n).reverse()` has the states of `lattice`, bit for bit.
@@ -195,11 +182,7 @@ class Lattice(Value):
         after = self.gas.collisions("right" if self.chirality == "right" else "left")[self.states]
         return self.replace(states=self.gas.turned[after], chirality=OTHER[self.chirality])
 
-    def driven(self, generations: int, every: int = 10, **how: Any) -> "Iterator[Point]":
-        """The points of a run under a force or towards a mean flow: see `fhpgas.driven`."""
-        from .drive import driven
-
-        return driven(self, generations, every, **how)
+    driven = drive.driven
 
     def resume(self, text: str | bytes) -> "Lattice":
         """The lattice of cells that `fhpgas run` printed in a run that began with this lattice. Cells that cannot come from it raise a
@@ -223,24 +206,10 @@ class Lattice(Value):
         """Runs for some generations, `step` of them at a time, and yields the lattice after every part. Then the file `kept` contains the
         scene that continues, so the same call continues a run that a time limit or a failure ended. The file is tried first."""
         last = self.generation + integer("the number of generations", generations)
-        step = integer("a step", step, 1, program.MOST_GENERATIONS)
+        step = integer("a step", step, 1, MOST_GENERATIONS)
         here = self._continued(Lattice.load(pathlib.Path(kept))) if os.path.exists(kept) else self
         here.save(kept)
-
-        def save(lattice: "Lattice") -> "Lattice":
-            lattice.save(kept)
-            return lattice
-
-        return map(save, here._parts(last, step, plan))
-
-
-def _wrong_state(gas: Gas, states: Array) -> str:
-    """Why states are not those of a gas."""
-    allowed = f"a state of {gas} is an integer from 0 to {(1 << gas.directions) - 1}"
-    if states.dtype.kind not in "iub":
-        return f"{allowed}, and these are of the type {states.dtype}"
-    y, x = np.argwhere((states < 0) | (states >> gas.directions > 0))[0]
-    return f"{allowed}, and row {y} column {x} has {states[y, x]}"
+        return here._parts(last, step, plan, kept)
 
 
 def lines_of(codes: Array, before: bytes = b"", after: bytes = b"\n") -> bytes:
@@ -271,12 +240,6 @@ def cells_of(text: bytes, size: tuple[int, int] | None = None) -> tuple[Array, i
     return codes, int(head[1])
 
 
-def _names(scene: bytes) -> dict[str, Any]:
-    """The gas, the chirality and the seed of a scene that the program takes, as far as it has them."""
-    keys = keys_of(scene)
-    return {key: keys[key] for key in ("gas", "chirality", "seed") if key in keys}
-
-
 def read_cells(text: str | bytes, gas: str | Gas, size: tuple[int, int], chirality: str = "seeded", seed: int = 0) -> Lattice:
     """The lattice of cells that `fhpgas run` printed. The text does not name the gas, the chirality and the seed of the run. `size`, its
     columns and rows, shows whether rows are lost. A text that is not whole raises a Fault."""
@@ -290,45 +253,49 @@ def gas(filling: fields.Field, east: fields.Field = 0.0, north: fields.Field = 0
 
     A field is a number, an array that numpy spreads over the cells [y, x] (so [rows, 1] is a profile across the channel), or a function of
     the places X, Y of `fhpgas.positions` that returns one of these. `solid` (bool, [y, x]) are the solid cells. `size`, the columns and
-    rows, may be left out if one of these has it.
+    rows, may be left out if one of these has it. A gas that is faster than sound somewhere is drawn with a warning.
     """
-    named, solid = gas_named(gas), None if solid is None else np.asarray(solid, bool)
+    named, walls = gas_named(gas), mask(False if solid is None else solid)
     known = {"filling": filling, "east": east, "north": north}
-    rows, columns = _shape_of(size, solid, [np.shape(field) for field in known.values() if not callable(field)])
+    rows, columns = _shape_of(size, walls, [np.shape(field) for field in known.values() if not callable(field)])
     places = fields.positions((columns, rows), named) if any(map(callable, known.values())) else ()
     values = [fields.numbers_of(name, field(*places) if callable(field) else field) for name, field in known.items()]
-    for name, value in zip((*known, "solid"), (*values, *([] if solid is None else [solid]))):
+    for name, value in zip((*known, "solid"), (*values, walls)):
         if value.ndim > 2 or any(have not in (1, want) for have, want in zip(value.shape[::-1], (columns, rows))):
             raise Fault(f"the field `{name}` has the shape {value.shape}, and the lattice {rows} rows and {columns} columns")
     states = fields.drawn(named, values, (rows, columns), integer("a seed", seed, 0, MOST_SEED))
-    return Lattice(states if solid is None else np.where(solid, np.uint8(0), states), solid, named, chirality, seed)
+    if (mach := float(np.hypot(values[1], values[2]).max()) / sound_speed(named)) > 1:
+        warnings.warn(f"the gas is faster than sound, Mach {mach:.2f}", stacklevel=2)
+    return Lattice(np.where(walls, np.uint8(0), states), np.broadcast_to(walls, states.shape), named, chirality, seed)
 
 
-def _shape_of(size: tuple[int, int] | None, solid: Array | None, shapes: list[tuple[int, ...]]) -> tuple[int, int]:
+def _shape_of(size: tuple[int, int] | None, solid: Array, shapes: list[tuple[int, ...]]) -> tuple[int, ...]:
     """The rows and columns of a gas: of its size, of its solid cells, or of fields that have both."""
     if size is not None:
-        columns, rows = fields.size_checked(size)
-        return rows, columns
+        return fields.size_checked(size)[::-1]
     try:
-        shape = np.broadcast_shapes(*shapes) if solid is None else solid.shape
+        shape = solid.shape or np.broadcast_shapes(*shapes)
     except ValueError:
         raise Fault(f"the fields have the shapes {', '.join(map(str, shapes))}, which do not fit together") from None
-    if len(shape) != 2 or solid is None and 1 in shape:
+    if len(shape) != 2 or not solid.ndim and 1 in shape:
         raise Fault("the size is not known: gas(.., size=(columns, rows))")
-    return shape[0], shape[1]
+    return shape
 
 
-def _coarse(text: bytes, rows: int, generations: int, width: int, height: int, plan: dict[str, Any]) -> bytes:
-    sides = integer("the width of a block", width, 1, 4096), integer("the height of a block", height, 1, 4096)
-    words = program.planned(rows, generations, **plan)
-    return program.call(text, "coarse", *words, "--block-width", sides[0], "--block-height", sides[1])
+def _coarse(scene: bytes, gas: str | Gas, size: tuple[int, int], first: int, generations: int, block: tuple[int, int],
+            plan: dict[str, Any]) -> Blocks:
+    sides = integer("the width of a block", block[0], 1, 4096), integer("the height of a block", block[1], 1, 4096)
+    words = program.planned(size[1], generations, **plan)
+    table = program.call(scene, "coarse", *words, "--block-width", sides[0], "--block-height", sides[1])
+    return read_table(table, gas, sides, size, first + generations)
 
 
 def run(scene: Scene, generations: int, **plan: Any) -> Lattice:
     """The lattice of a scene, the path of its file or its text, after 0 to 1,000,000 generations."""
     text = program.scene_bytes(scene)
     words = program.planned(program.height_of(text), generations, **plan)
-    return Lattice._of(*cells_of(program.call(text, "run", *words)), **_names(text))
+    cells, keys = cells_of(program.call(text, "run", *words)), keys_of(text)
+    return Lattice._of(*cells, **{name: keys[name] for name in ("gas", "chirality", "seed") if name in keys})
 
 
 def coarse(scene: Scene, generations: int, width: int = 8, height: int = 9, **plan: Any) -> Blocks:
@@ -336,5 +303,4 @@ def coarse(scene: Scene, generations: int, width: int = 8, height: int = 9, **pl
     than the memory of Python: an area of 65536 x 65536 cells is a text of five lines."""
     text = program.scene_bytes(scene)
     of = program.summary(text)
-    table = _coarse(text, of.height, generations, width, height, plan)
-    return read_table(table, of.gas, (width, height), (of.width, of.height), keys_of(text).get("generation", 0) + generations)
+    return _coarse(text, of.gas, (of.width, of.height), keys_of(text).get("generation", 0), generations, (width, height), plan)

@@ -1,16 +1,13 @@
-"""Observables of lattices: forces on walls and obstacles, staggered momenta, and the flux of momentum. Momenta are in units of a particle
-of speed 1."""
-from __future__ import annotations
-
-from typing import TYPE_CHECKING, Any
+"""Observables of lattices: forces on walls and obstacles, staggered momenta, the flux of momentum, and means with their errors. Momenta are
+in units of a particle of speed 1."""
+from collections.abc import Iterable
+from typing import Any
 
 import numpy as np
 
 from .fault import Fault
-from .gases import Array, Gas, gas_named
-
-if TYPE_CHECKING:
-    from .lattice import Lattice
+from .gases import Array, Gas, gas_named, mask
+from .lattice import Lattice
 
 FORCED = "upper", "lower", "solid"
 
@@ -27,8 +24,12 @@ def flux(numbers: Any, gas: str | Gas) -> Array:
 def forces(lattice: Lattice, part: Any = None) -> dict[str, Array]:
     """The momentum [2], eastwards and northwards, that the `upper` wall, the `lower` wall and the `solid` cells received in the generation
     that ended with this lattice. A particle that moves away from a neighbouring wall or solid cell was just reflected by it, so the wall
-    received twice the momentum with which it came. `part` [y, x] says which solid cells count, for one obstacle of several."""
-    gas, rows, of_these = lattice.gas, len(lattice.states), lattice.solid if part is None else np.asarray(part, bool)
+    received twice the momentum with which it came. `part` [y, x] says which solid cells count, for one obstacle of several. The number of
+    one generation has much noise, so take means over many. Of a driven run take `Point.before`, whose particles are as the run left them.
+    A lattice of generation 0 raises a Fault."""
+    gas, rows, of_these = lattice.gas, len(lattice.states), lattice.solid if part is None else mask(part)
+    if not lattice.generation:
+        raise Fault("a lattice of generation 0 has had no collision with a wall: forces are those of the generation before it")
     if of_these.shape != lattice.states.shape:
         raise Fault(f"the part of the solid cells has the shape {of_these.shape}, and the lattice {lattice.states.shape}")
     kinds = np.pad(3 * (lattice.solid & of_these), ((1, 1), (0, 0)))
@@ -57,3 +58,14 @@ def staggered(lattice: Lattice) -> tuple[int, ...]:
         across = gas.bits.astype(int) @ [(0, 1, 1, 0, -1, -1, 0)[(i - axis) % 6] if i < 6 else 0 for i in range(gas.directions)]
         found.append((-1) ** lattice.generation * int(((1 - 2 * is_odd) * across[lattice.states]).sum()))
     return tuple(found)
+
+
+def mean(values: Iterable[Any]) -> tuple[Any, Any]:
+    """The mean of two or more independent numbers, or arrays of one shape, and its standard error."""
+    try:
+        samples = np.asarray([*values], float)
+    except (TypeError, ValueError):
+        raise Fault("the mean is of numbers, or of arrays of one shape (blocks are added: sum(..))") from None
+    if len(samples) < 2:
+        raise Fault(f"a standard error needs two values or more, not {len(samples)}")
+    return samples.mean(0), samples.std(0, ddof=1) / np.sqrt(len(samples))

@@ -10,19 +10,20 @@ import os
 import pathlib
 import reprlib
 from collections.abc import Iterable
-from typing import TYPE_CHECKING, Any, NamedTuple
+from typing import TYPE_CHECKING, Any, NamedTuple, TypeAlias
 
 import numpy as np
 
-from .blocks import Blocks
 from .fault import Fault, integer, real
-from .fields import size_checked
-from .gases import Array
-from .lattice import Lattice
+from .fields import positions, size_checked
 
 if TYPE_CHECKING:
     from matplotlib.axes import Axes
     from matplotlib.figure import Figure
+
+    from .lattice import Blocks, Lattice
+
+    Source: TypeAlias = Lattice | Blocks
 
 __all__ = ["film", "plot", "strip"]
 PLAIN, SIGNED, VELOCITY = "viridis", "RdBu_r", "cells per generation"
@@ -36,71 +37,69 @@ PALE, GREY, INK = "0.88", "0.55", "#1f4e79"
 
 
 class Shown(NamedTuple):
-    """A field: values [row, column] of blocks, masked where less than half of a block is fluid, and the solid cells if they are known."""
+    """Blocks, values [row, column] of them, masked where less than half of a block is fluid, and the solid cells if they are known. Or a
+    lattice whose particles are shown."""
 
-    values: np.ma.MaskedArray[Any, Any]
-    blocks: Blocks
-    solid: Array | None
-
-    @property
-    def generation(self) -> int:
-        return self.blocks.generation
+    source: Any
+    values: Any = None
+    solid: Any = None
 
 
-def chosen(source: Lattice | Blocks, what: Any) -> Any:
-    """What is shown of a lattice or of blocks if this is asked for: an array, the name of a field, or PARTICLES."""
+def chosen(source: Source, what: Any, block: tuple[int, int], smooth: float) -> tuple[Any, Shown]:
+    """What a picture shows if `what` is asked for: an array, the name of a field, or PARTICLES, with its values."""
+    from .lattice import Blocks, Lattice
+
     if not isinstance(source, (Lattice, Blocks)):
         raise Fault(f"a picture is one of a Lattice or of Blocks, not of {reprlib.repr(source)}")
     cells = source.states.size if isinstance(source, Lattice) else MOST + 1
-    can = [*FIELDS, PARTICLES] if cells <= MOST else [*FIELDS]
     if what is None:
-        return PARTICLES if cells <= SMALL else "speed"
-    if isinstance(what, str) and what not in can:
+        what = PARTICLES if cells <= SMALL else "speed"
+    if isinstance(what, str) and what not in (can := [*FIELDS, PARTICLES] if cells <= MOST else [*FIELDS]):
         raise Fault(f"there is no picture of {what!r} of {source!r}: {', '.join(can)}")
-    return (PARTICLES if what == PARTICLES else what) if isinstance(what, str) else np.asarray(what)
-
-
-def field(source: Lattice | Blocks, what: Any, block: tuple[int, int], smooth: float) -> Shown:
-    blocks, solid = (source, None) if isinstance(source, Blocks) else (source.blocks(*size_checked(block)), source.solid)
+    if isinstance(what, str) and what == PARTICLES:
+        return PARTICLES, Shown(source)
+    blocks = source if isinstance(source, Blocks) else source.blocks(*size_checked(block, "a block"))
     smoothed = blocks.smooth(smooth) if smooth else blocks
-    values = getattr(smoothed, what) if isinstance(what, str) else what
+    values = getattr(smoothed, what) if isinstance(what, str) else np.asarray(what)
     if values.shape != blocks.fluid.shape or values.dtype.kind not in "biuf":
         raise Fault(f"what is shown are numbers [row, column] of {blocks.fluid.shape} blocks, not {values.dtype} of shape {values.shape}")
     x, y = blocks.edges
-    cells = np.diff(x) * np.diff(-y)[:, None] / blocks.gas.row_distance
-    return Shown(np.ma.masked_where(~np.isfinite(values) | (2 * smoothed.fluid < cells - 0.5), values), blocks, solid)
+    cells_of_blocks = np.diff(x) * np.diff(-y)[:, None] / blocks.gas.row_distance
+    hidden = ~np.isfinite(values) | (2 * smoothed.fluid < cells_of_blocks - 0.5)
+    return what, Shown(blocks, np.ma.masked_where(hidden, values), getattr(source, "solid", None))
 
 
-def prepared(sources: Iterable[Lattice | Blocks], what: Any, block: tuple[int, int], smooth: float, options: dict[str, Any]) -> tuple[
-        Any, list[Any], dict[str, Any]]:
-    """What is shown, the fields (or lattices, if their particles are shown), and the options of their images: all have one range of values,
-    which is symmetric about 0 if the field has a sign."""
-    many = list[Any]()
+def prepared(sources: Iterable[Source], what: Any, block: tuple[int, int], smooth: float, options: dict[str, Any]) -> tuple[
+        str | None, list[Shown], dict[str, Any]]:
+    """The label of the colours (particles have None), what is shown, and the options of the images: all have one range of values, which is
+    symmetric about 0 if the field has a sign."""
+    many = list[Shown]()
+    if not isinstance(sources, Iterable):
+        raise Fault(f"a film or a strip has several states, [lattice, ..] or lattice.every(..), not {reprlib.repr(sources)}")
     for source in sources:
-        what = chosen(source, what)
-        many.append(source if what is PARTICLES else field(source, what, block, smooth))
+        what, shown = chosen(source, what, block, smooth)
+        many.append(shown)
     if not many:
         raise Fault("a picture has a state or more")
     if what is PARTICLES:
-        return what, many, {}
+        return None, many, {}
     from matplotlib import colormaps
 
-    known, name = np.concatenate([shown.values.compressed() for shown in many]), FIELDS[what][1] if isinstance(what, str) else PLAIN
+    unit, name = FIELDS[what] if isinstance(what, str) else ("", PLAIN)
+    known = np.concatenate([shown.values.compressed() for shown in many])
     least, most = (float(known.min()), float(known.max())) if known.size else (0.0, 1.0)
     if name == SIGNED:
         least, most = min(least, -most), max(most, -least)
-    shades = options.get("cmap", name)
-    shades = (colormaps[shades] if isinstance(shades, str) else shades).copy()
-    shades.set_bad(GREY)
     limits = {} if "norm" in options else {"vmin": least, "vmax": most}
-    return what, many, {"interpolation": "nearest"} | limits | options | {"cmap": shades}
+    shades = colormaps.get_cmap(options.get("cmap", name)).with_extremes(bad=GREY)
+    return f"{what}\n({unit})" if unit else "", many, {"interpolation": "nearest"} | limits | options | {"cmap": shades}
 
 
-def draw(shown: Any, ax: Axes, options: dict[str, Any]) -> Any:
+def draw(shown: Shown, ax: Axes, options: dict[str, Any]) -> Any:
     """A field as an image on Axes in cells' widths, with the solid cells over it, or the particles of a lattice."""
-    if not isinstance(shown, Shown):
-        return particles(shown, ax)
-    blocks = shown.blocks
+    if shown.values is None:
+        return particles(shown.source, ax)
+    blocks = shown.source
     (x, y), (rows, columns), (width, height) = blocks.edges, blocks.fluid.shape, blocks.block
     full = x[0], x[0] + columns * width, y[0] - rows * height * blocks.gas.row_distance, y[0]  # as if the last blocks were not smaller
     image = ax.imshow(shown.values, extent=full, **options)
@@ -114,7 +113,7 @@ def particles(lattice: Lattice, ax: Axes) -> Axes:
     """Moving particles as arrows, particles at rest as dots, solid cells grey, and the walls as lines."""
     from matplotlib.collections import EllipseCollection, PolyCollection
 
-    gas, (X, Y) = lattice.gas, np.broadcast_arrays(*lattice.positions)
+    gas, (X, Y) = lattice.gas, np.broadcast_arrays(*positions(lattice.size, lattice.gas))
     corners = 4 if gas.is_square else 6
     turns = np.exp(2j * np.pi * (np.arange(corners) + 0.5) / corners) / 2 / np.cos(np.pi / corners)
     outlines = np.stack([X.reshape(-1, 1) + turns.real, Y.reshape(-1, 1) + turns.imag], 2)
@@ -134,19 +133,15 @@ def particles(lattice: Lattice, ax: Axes) -> Axes:
     return ax
 
 
-def label(what: Any) -> str | None:
-    return f"{what}\n({FIELDS[what][0]})" if isinstance(what, str) else None
-
-
-def bar(image: Any, what: Any, ax: Axes) -> None:
+def bar(image: Any, label: str | None, ax: Axes) -> None:
     """The bar of an image's colours beside its Axes, about as high as the image will be. Arrows have none."""
-    if what is not PARTICLES:
+    if label is not None:
         room = ax.get_window_extent()
         share = min(1.0, 0.85 * ax.get_data_ratio() * room.width / room.height)
-        ax.figure.colorbar(image, ax=ax, label=label(what), shrink=share, aspect=max(5, 25 * share), pad=0.02)
+        ax.figure.colorbar(image, ax=ax, label=label, shrink=share, aspect=max(5, 25 * share), pad=0.02)
 
 
-def plot(source: Lattice | Blocks, what: Any = None, ax: Axes | None = None, *, block: tuple[int, int] = (8, 9), smooth: float = 0.0,
+def plot(source: Source, what: Any = None, ax: Axes | None = None, *, block: tuple[int, int] = (8, 9), smooth: float = 0.0,
          colorbar: bool = True, **options: Any) -> Any:
     """Shows a lattice or blocks on Axes of matplotlib (None: pyplot's), and returns the image.
 
@@ -158,22 +153,20 @@ def plot(source: Lattice | Blocks, what: Any = None, ax: Axes | None = None, *, 
         from matplotlib import pyplot
 
         ax = pyplot.gca()
-    what, (shown,), options = prepared([source], what, block, smooth, options)
+    label, (shown,), options = prepared([source], what, block, smooth, options)
     image = draw(shown, ax, options)
-    if colorbar:
-        bar(image, what, ax)
+    bar(image, label if colorbar else None, ax)
     return image
 
 
-def strip(sources: Iterable[Lattice | Blocks], what: Any = None, *, block: tuple[int, int] = (8, 9), smooth: float = 0.0,
+def strip(sources: Iterable[Source], what: Any = None, *, block: tuple[int, int] = (8, 9), smooth: float = 0.0,
           columns: int | None = None, **options: Any) -> Figure:
     """A figure of pyplot with several states of a lattice, which have one range of colours. `columns` is how many stand beside one another,
     by default as many as make the figure about three times as wide as high. All else is as in `plot`."""
     from matplotlib import pyplot
 
-    sources = list(sources)
-    what, many, options = prepared(sources, what, block, smooth, options)
-    n, aspect = len(many), sources[0].size[1] * sources[0].gas.row_distance / sources[0].size[0]
+    label, many, options = prepared(sources, what, block, smooth, options)
+    n, aspect = len(many), aspect_of(many[0].source)
     across = integer("the number of columns", columns, 1, n) if columns is not None else min(
         (k for k in range(1, n + 1) if n % k == 0), key=lambda k: abs(np.log(k * k / n / aspect / 3)))
     down = -(-n // across)
@@ -181,51 +174,54 @@ def strip(sources: Iterable[Lattice | Blocks], what: Any = None, *, block: tuple
     figure, grid = pyplot.subplots(down, across, figsize=(9, high), layout="constrained", squeeze=False, sharex=True, sharey=True)
     for shown, ax in zip(many, grid.flat):
         image = draw(shown, ax, options)
-        ax.set_title(f"generation {shown.generation}", fontsize="medium")
+        ax.set_title(f"generation {shown.source.generation}", fontsize="medium")
         ax.label_outer()
     for ax in grid.flat[n:]:
         ax.axis("off")
-    if what is not PARTICLES:
-        figure.colorbar(image, ax=grid, label=label(what), aspect=30)
+    if label is not None:
+        figure.colorbar(image, ax=grid, label=label, aspect=30)
     return figure
 
 
-def figure_of(source: Lattice | Blocks) -> Figure:
-    """A figure beside pyplot, as high as the lattice asks."""
+def aspect_of(source: Source) -> float:
+    return source.size[1] * source.gas.row_distance / source.size[0]
+
+
+def axes_of(source: Source) -> Axes:
+    """The Axes of a figure beside pyplot, which is as high as the lattice asks."""
     from matplotlib.figure import Figure
 
-    aspect = source.size[1] * source.gas.row_distance / source.size[0]
-    return Figure(figsize=(min(7, 8 / aspect + 2.5), max(1.5, min(9, 5.4 * aspect + 0.8))), layout="constrained")
+    size = min(7, 8 / aspect_of(source) + 2.5), max(1.5, min(9, 5.4 * aspect_of(source) + 0.8))
+    return Figure(figsize=size, layout="constrained").add_subplot()
 
 
-def png(source: Lattice | Blocks) -> bytes:
+def png(source: Source) -> bytes:
     """What a notebook shows for a lattice or blocks."""
-    figure, out = figure_of(source), io.BytesIO()
-    ax = figure.add_subplot()
+    ax, out = axes_of(source), io.BytesIO()
     plot(source, None, ax)
     ax.set_title(repr(source)[1:-1], fontsize="small")
-    figure.savefig(out, format="png", dpi=100)
+    ax.figure.savefig(out, format="png", dpi=100)
     return out.getvalue()
 
 
-def film(path: str | os.PathLike[str], sources: Iterable[Lattice | Blocks], what: Any = None, *, block: tuple[int, int] = (8, 9),
+def film(path: str | os.PathLike[str], sources: Iterable[Source], what: Any = None, *, block: tuple[int, int] = (8, 9),
          smooth: float = 0.0, fps: float = 10.0, dpi: int = 100, **options: Any) -> None:
     """Writes a film of lattices or blocks, which may come one by one, as .gif, .webp, .apng, or if there is ffmpeg as .mp4. All frames have
     one range of colours. `fps` is the frames per second. With a `dpi` of 100 a frame is at most 700 x 900 pixels. All else is as in
     `plot`."""
     writer, dpi = film_writer(path, real("the frames per second", fps, 0.1, 100)), integer("the dots per inch", dpi, 10, 1000)
-    what, many, options = prepared(sources, what, block, smooth, options)
-    figure = figure_of(many[0] if what is PARTICLES else many[0].blocks)
-    ax = figure.add_subplot(title="generation")
-    bar(draw(many[0], ax, options), what, ax)
-    figure.draw_without_rendering()
-    figure.set_layout_engine("none")  # so that nothing moves
-    with writer.saving(figure, os.fspath(path), dpi):
+    label, many, options = prepared(sources, what, block, smooth, options)
+    ax = axes_of(many[0].source)
+    ax.set_title("generation")
+    bar(draw(many[0], ax, options), label, ax)
+    ax.figure.draw_without_rendering()
+    ax.figure.set_layout_engine("none")  # so that nothing moves
+    with writer.saving(ax.figure, os.fspath(path), dpi):
         for shown in many:
             for artist in [*ax.images, *ax.collections]:
                 artist.remove()
             draw(shown, ax, options)
-            ax.set_title(f"generation {shown.generation}")
+            ax.set_title(f"generation {shown.source.generation}")
             writer.grab_frame()
 
 
@@ -234,12 +230,20 @@ def film_writer(path: str | os.PathLike[str], fps: float) -> Any:
     from matplotlib.animation import FFMpegWriter, PillowWriter
 
     class Pictures(PillowWriter):
+        palette: Any = None
+
         def grab_frame(self, **options: Any) -> None:
             super().grab_frame(**options)
-            self._frames[-1] = self._frames[-1].convert("RGB")  # of frames that may be transparent a GIF has few colours
+            frame = self._frames[-1].convert("RGB")
+            if suffix == ".gif":  # all frames have the 256 colours of the first one, which shows the bar
+                self.palette = self.palette or frame.quantize()
+                frame = frame.quantize(palette=self.palette, dither=0)
+            self._frames[-1] = frame
 
     if (suffix := pathlib.Path(path).suffix) not in PILLOW + FFMPEG:
         raise Fault(f"{path}: a film is written as {', '.join(PILLOW + FFMPEG)}")
+    if not pathlib.Path(path).absolute().parent.is_dir():
+        raise Fault(f"{path}: No such file or directory")
     if suffix in FFMPEG and not FFMpegWriter.isAvailable():
         raise Fault(f"{path}: a film of this kind needs the program ffmpeg")
     return (FFMpegWriter if suffix in FFMPEG else Pictures)(fps=fps)

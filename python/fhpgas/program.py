@@ -1,8 +1,11 @@
-"""Finds and runs the program on the text of a scene: `check`, calls, plans, and runs side by side. It needs the standard library only."""
+"""The texts of scenes, and the program that runs them: `check`, calls, plans, and runs side by side. It needs the standard library only."""
 import concurrent.futures
 import contextvars
 import functools
-import multiprocessing
+import itertools
+import json
+import multiprocessing.connection
+import operator
 import os
 import pathlib
 import re
@@ -10,6 +13,8 @@ import shutil
 import signal
 import subprocess
 import sys
+import tomllib
+import traceback
 from collections.abc import Callable, Iterable
 from typing import Any, NamedTuple
 
@@ -17,7 +22,8 @@ from .fault import Fault, integer
 
 ABOVE = pathlib.Path(__file__).resolve().parents[2]  # the repository, or the unpacked archive
 HEIGHT = re.compile(rb"^[ \t]*height[ \t]*=[ \t]*(\d+)", re.M)
-MOST_BYTES, MOST_GENERATIONS, MOST_STAGES, CAPACITY = 67_108_864, 1_000_000, 64, 128
+ROWS = re.compile(r"^[ \t]*cells[ \t]*=[ \t]*\[[^\]#]*(?:##[^\]#]*)*\]", re.M)  # the key of a map, without comments
+MOST_BYTES, MOST_GENERATIONS, MOST_STAGES, CAPACITY, MOST_SEED = 67_108_864, 1_000_000, 64, 128, 2**63 - 1
 _cores = contextvars.ContextVar("cores", default=0)  # of a run of `side_by_side`, 0 for any other
 
 Scene = str | os.PathLike[str]  # the text of a scene, or a path
@@ -69,10 +75,8 @@ def call(scene: bytes, *words: object, is_checked: bool = False) -> bytes:
     shows = not _cores.get() and words[0] != "check" and sys.stderr.isatty()
     if shows and not is_checked:
         call(scene, "check")
-    with os.fdopen(os.memfd_create("scene"), "w+b", 0) as given, os.fdopen(os.memfd_create("answer"), "w+b", 0) as answer:
-        left = memoryview(scene)
-        while left:
-            left = left[given.write(left) :]
+    with os.fdopen(os.memfd_create("scene"), "w+b") as given, os.fdopen(os.memfd_create("answer"), "w+b") as answer:
+        given.write(scene)
         given.seek(0)
         done = subprocess.run([program_path(), *map(str, words)], stdin=given, stdout=answer, stderr=None if shows else subprocess.PIPE)
         answer.seek(0)
@@ -102,6 +106,42 @@ def summary(scene: bytes) -> Summary:
     """The summary of the bytes of a scene."""
     words = call(scene, "check").decode().split()
     return Summary(words[1], *map(int, words[3::2]))
+
+
+def keys_of(scene: bytes) -> dict[str, Any]:
+    """The keys and values of a scene that the program takes, without the rows of a map, which Python would read character by character."""
+    text, why = scene.decode("utf-8-sig"), None
+    for cut in ROWS.sub("", text), text:
+        try:
+            return tomllib.loads(cut)
+        except tomllib.TOMLDecodeError as fault:
+            why = fault
+    raise Fault(f"the scene is TOML 1.1, and Python reads 1.0: {why}")
+
+
+def text_of(keys: dict[str, Any]) -> str:
+    """The scene of a dictionary of keys and values, texts, integers (also numpy's) and lists of them, with a line per entry of a list."""
+    toml, lines = functools.partial(json.dumps, ensure_ascii=False, default=operator.index), list[str]()
+    for key, value in keys.items():
+        if isinstance(value, (list, tuple)):
+            lines += [f"{key} = [", *(f"    {toml(entry)}," for entry in value), "]"]
+        else:
+            lines.append(f"{key} = {toml(value)}")
+    return "\n".join(lines) + "\n"
+
+
+def with_seed(scene: Scene, seed: int) -> str:
+    """The text of an area with another seed, and so with another filling. A scene whose start would be the same, in part or as a whole,
+    raises a Fault: a map, an area with `particles`, and one with rate 0."""
+    text = scene_bytes(scene)
+    call(text, "check")
+    keys = keys_of(text)
+    if kept := "cells" if "width" not in keys else "particles" if keys.get("particles") else "":
+        raise Fault(f"another seed would leave `{kept}` as they are: draw the scene again, by `fhpgas.gas(.., seed=..)` or"
+                    " `over-seeds --drawn`")
+    if not keys.get("rate"):
+        raise Fault("another seed would change nothing: `rate` is 0, so nothing is filled at random")
+    return text_of(keys | {"seed": integer("a seed", seed, 0, MOST_SEED)})
 
 
 def plan(rows: int, generations: int, cores: int | None = None) -> tuple[int, int]:
@@ -137,39 +177,19 @@ def side_by_side(function: Callable[[Any], Any], values: Iterable[Any], executor
     """The results of the function for the values, in their order: in one local process per core, or by an executor of `concurrent.futures`
     (Dask's `Client.get_executor()`, mpi4py's `MPIPoolExecutor()`). An executor sends the function to its workers, so it must be at the top
     of a module that they have, and they need this package and the program. An interrupt or a failure ends all runs."""
-    values, cores = list(values), len(os.sched_getaffinity(0))
-    if executor is not None:
-        futures = [executor.submit(_alone, function, value) for value in values]
-        try:
-            return _gathered(futures)
-        finally:
-            for future in futures:
-                future.cancel()
-    program_path()
-    workers, others = max(1, min(len(values), cores)), multiprocessing.active_children()
-    # a forked worker has the function without pickling it, so it may be a lambda
-    with concurrent.futures.ProcessPoolExecutor(workers, multiprocessing.get_context("fork"), _take, (function, cores // workers)) as pool:
-        try:
-            return _gathered([pool.submit(_taken, value) for value in values])
-        except BaseException:  # without a call to cancel, which a pool that loses its workers may trip over
-            for worker in multiprocessing.active_children():
-                if worker not in others:
-                    worker.terminate()
-            raise
-
-
-_called: list[Callable[[Any], Any]] = []  # of a forked worker: what it calls
-
-
-def _take(function: Callable[[Any], Any], cores: int) -> None:
-    _called.append(function)
-    _cores.set(cores)
-    signal.signal(signal.SIGINT, signal.SIG_IGN)  # an interrupt comes to the process that asked, which ends its workers
-    signal.signal(signal.SIGTERM, lambda *_: sys.exit(1))  # and they end the programs that they run
-
-
-def _taken(value: Any) -> Any:
-    return _called[-1](value)
+    values = list(values)
+    if executor is None:
+        return _forked(function, values)
+    futures = [executor.submit(_alone, function, value) for value in values]
+    try:
+        for done, future in enumerate(concurrent.futures.as_completed(futures), start=1):
+            future.result()
+            show_progress(f"{done} of {len(futures)} runs")
+        return [future.result() for future in futures]
+    finally:
+        show_progress("")
+        for future in futures:
+            future.cancel()
 
 
 def _alone(function: Callable[[Any], Any], value: Any) -> Any:
@@ -181,11 +201,47 @@ def _alone(function: Callable[[Any], Any], value: Any) -> Any:
         _cores.reset(token)
 
 
-def _gathered(futures: list["concurrent.futures.Future[Any]"]) -> list[Any]:
+def _forked(function: Callable[[Any], Any], values: list[Any]) -> list[Any]:
+    """The results of calls, each in a process that is forked for it, so that the function may be a lambda. A pool would not do: its workers
+    catch the exit that a signal asks for, and wait for the next call."""
+    program_path()
+    fork, cores = multiprocessing.get_context("fork"), len(os.sched_getaffinity(0))
+    workers = max(1, min(len(values), cores))
+    calls, running, results = enumerate(values), dict[Any, Any](), dict[int, Any]()
     try:
-        for done, future in enumerate(concurrent.futures.as_completed(futures), start=1):
-            future.result()
-            show_progress(f"{done} of {len(futures)} runs")
-        return [future.result() for future in futures]
+        while len(results) < len(values):
+            for number, value in itertools.islice(calls, workers - len(running)):
+                ours, theirs = fork.Pipe(False)
+                process = fork.Process(target=_send, args=(theirs, function, value, cores // workers))
+                process.start()
+                theirs.close()
+                running[ours] = number, process
+            for ready in list[Any](multiprocessing.connection.wait(running)):
+                number, process = running[ready]
+                try:
+                    results[number], fault = ready.recv()
+                except EOFError:
+                    fault = Fault("the process of a run was killed")
+                process.join()
+                del running[ready]
+                if fault is not None:
+                    raise fault
+            show_progress(f"{len(results)} of {len(values)} runs")
+        return [results[number] for number in range(len(values))]
     finally:
         show_progress("")
+        for _, process in running.values():
+            process.terminate()
+            process.join()
+
+
+def _send(pipe: Any, function: Callable[[Any], Any], value: Any, cores: int) -> None:
+    """Sends what a call returns, or what it raises."""
+    signal.signal(signal.SIGINT, signal.SIG_IGN)  # an interrupt comes to the process that asked, which ends its workers
+    signal.signal(signal.SIGTERM, lambda *_: sys.exit(1))  # and they end the programs that they run
+    _cores.set(cores)
+    try:
+        pipe.send((function(value), None))
+    except Exception as fault:
+        fault.add_note(traceback.format_exc())
+        pipe.send((None, fault))

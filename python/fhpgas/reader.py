@@ -1,6 +1,7 @@
 """A second reading of scenes, on Python's own TOML reader, by docs/FORMATS.md alone: the line that refuses a text, the reasons, and what
 else is wrong. It shares nothing with the program. The tests compare the program with it, and `explain` prints its reasons.
 """
+import collections
 import difflib
 import itertools
 import json
@@ -12,6 +13,7 @@ from typing import Any
 
 STATES = {"fhp1": 64, "hpp": 16, "fhp-rest": 128}
 CHIRALITIES = ("seeded", "left", "right")
+WORDS: dict[str, Iterable[str]] = {"gas": STATES, "chirality": CHIRALITIES}  # of the keys that are texts
 # What gases are called in print, in small letters and without hyphens; None if the program lacks the gas.
 PUBLISHED = {"fhpi": "fhp1", "fhp2": "fhp-rest", "fhpii": "fhp-rest", "fhp3": None, "fhpiii": None, "hpp": "hpp"}
 MOST_SIDE = {1: 4096, 2: 65536}
@@ -19,7 +21,8 @@ INTEGERS = ("version", "generation", "seed", "width", "height", "rate")
 LISTS = {"solid": (4, "[x, y, w, h]"), "particles": (3, "[x, y, state]")}
 AREA = ("width", "height", "solid", "rate", "particles")
 KEYS = (*INTEGERS, "gas", "chirality", "cells", *LISTS)
-TYPES = {bool: "a truth value", int: "an integer", float: "a float", str: "a text", list: "a list", dict: "a table"}
+TYPES = collections.defaultdict(lambda: "a date or a time", {
+    bool: "a truth value", int: "an integer", float: "a float", str: "a text", list: "a list", dict: "a table"})
 MOST_BYTES, DEEPEST, MOST_ROWS = 67_108_864, 80, 8
 SYNTAX = "scene: not TOML"
 Reasons = Iterator[tuple[tuple, str]]
@@ -50,24 +53,12 @@ def read(text: bytes) -> dict:
     """The keys of the bytes of a scene and their values, or the first refusal as a Refused."""
     if len(text) > MOST_BYTES:
         raise Refused("input: too long", [((), f"the text has {len(text)} bytes, and the program reads {MOST_BYTES}")])
-    table = document(text)
-    if found := faults(table):
-        raise Refused(*found[0], found[1:])
-    return table
-
-
-# -- the document --------------------------------------------------------------------------------------------------------------
-
-
-def document(text: bytes) -> dict:
-    """The table of the bytes of a text, or a refusal."""
     try:
         letters = text.decode("utf-8-sig")
+        table = tomllib.loads(letters, parse_float=finite)
     except UnicodeDecodeError as fault:
         line, byte = text.count(b"\n", 0, fault.start) + 1, fault.start - text.rfind(b"\n", 0, fault.start)
         raise Refused(SYNTAX, [((), f"line {line}, byte {byte}: no UTF-8")]) from None
-    try:
-        table = tomllib.loads(letters, parse_float=finite)
     except tomllib.TOMLDecodeError as fault:
         raise Refused(SYNTAX, [((), sentence(str(fault), letters))], unsure=bool(NEWER.search(letters))) from None
     except ValueError:  # Python reads integers of up to 4300 digits
@@ -77,6 +68,8 @@ def document(text: bytes) -> dict:
         raise Refused(SYNTAX, [((), f"lists, tables or keys are nested more than {DEEPEST} deep")]) from None
     if reasons := list(beyond(table)):
         raise Refused(SYNTAX, reasons)
+    if found := faults(table):
+        raise Refused(*found[0], found[1:])
     return table
 
 
@@ -114,9 +107,6 @@ def sentence(message: str, text: str) -> str:
     return f"{where}: {what}" + (f": {hint}" if hint else "")
 
 
-# -- the checks ----------------------------------------------------------------------------------------------------------------
-
-
 def faults(table: dict) -> list[tuple[str, list]]:
     """The lines that refuse a scene with their reasons, in order. Before a further check what is at fault is mended if it is a misspelt
     word, and else left out."""
@@ -130,28 +120,24 @@ def faults(table: dict) -> list[tuple[str, list]]:
 
 def mend(table: dict, key: str | None = None) -> None:
     """Takes a key at fault for the nearest one, or with the nearest value, or leaves it out."""
-    value, near = table.pop(key, None), closest(key or "", KEYS)
+    value, near = table.pop(key, None), closest(key or "", KEYS)[0]
     if near and near not in table and near != key:
         table[near] = value
-    known: Iterable[str] | None = {"gas": STATES, "chirality": CHIRALITIES}.get(key or "")
-    if known and type(value) is str and closest(value, known):
-        table[key] = closest(value, known)
+    if key in WORDS and type(value) is str and (near := closest(value, WORDS[key])[0]):
+        table[key] = near
 
 
-def closest(word: str, known: Iterable[str]) -> str | None:
-    """The known word that is most like this one, or None. A published name of a gas is the gas that it names."""
-    if known is STATES and plain(word) in PUBLISHED:
-        return PUBLISHED[plain(word)]
-    return next(iter(difflib.get_close_matches(word.lower(), known, 1, 0.5)), None)
-
-
-def plain(word: str) -> str:
-    return re.sub(r"[-_\s]", "", word.lower())
+def closest(word: str, known: Iterable[str]) -> tuple[str | None, bool]:
+    """The known word that is most like this one, or None, and whether this is a published name of a gas."""
+    plain = re.sub(r"[-_\s]", "", word.lower())
+    if known is STATES and plain in PUBLISHED:
+        return PUBLISHED[plain], True
+    return next(iter(difflib.get_close_matches(word.lower(), known, 1, 0.5)), None), False
 
 
 def nearest(word: str, known: Iterable[str]) -> str:
     """A hint at the known word that is most like this one, or else at all known words."""
-    found, is_published = closest(word, known), known is STATES and plain(word) in PUBLISHED
+    found, is_published = closest(word, known)
     if found:
         return f"{'its name here' if is_published else 'the nearest'} is `{found}`"
     return f"there {'is none here, only' if is_published else 'are'} " + ", ".join(f"`{name}`" for name in known)
@@ -162,10 +148,6 @@ def shown(value: Any) -> str:
     text = json.dumps(value, ensure_ascii=False, default=str)
     text = "".join(letter if letter.isprintable() else f"\\u{ord(letter):04x}" for letter in text)
     return text if len(text) <= 60 else text[:57] + ".."
-
-
-def type_of(value: Any) -> str:
-    return TYPES.get(type(value), "a date or a time")
 
 
 def is_tuple(value: Any, count: int) -> bool:
@@ -204,32 +186,31 @@ def missing_keys(table: dict) -> Reasons:
 
 def wrong_types(table: dict) -> Reasons:
     for key, value in table.items():
-        wanted = "an integer" if key in INTEGERS else "a text" if key in ("gas", "chirality") else "a list"
+        wanted = "an integer" if key in INTEGERS else "a text" if key in WORDS else "a list"
         count, form = LISTS.get(key, (0, ""))
-        if type_of(value) != wanted:
-            yield (key,), f"`{key}` is {type_of(value)}, {shown(value)}, and must be {wanted}"
+        if (kind := TYPES[type(value)]) != wanted:
+            yield (key,), f"`{key}` is {kind}, {shown(value)}, and must be {wanted}"
         elif count and is_tuple(value, count):
             yield (key,), f"`{key}` is one entry, {shown(value)}, and must be a list of entries: [{shown(value)}]"
         elif wanted == "a list":
             for place, entry in enumerate(value):
                 if not count and type(entry) is not str:
-                    yield (key, place), f"row {place} is {type_of(entry)}, {shown(entry)}, and must be a text"
+                    yield (key, place), f"row {place} is {TYPES[type(entry)]}, {shown(entry)}, and must be a text"
                 if count and not is_tuple(entry, count):
                     yield (key, place), f"entry {place} of `{key}`, {shown(entry)}, must be a list of {count} integers, {form}"
 
 
 def out_of_range(table: dict) -> Reasons:
-    side, version = MOST_SIDE[version_of(table)], version_of(table)
-    ranges = {"version": (1, 2), "seed": (0, 2**63 - 1), "generation": (0, 10**12), "rate": (0, 1000), "width": (1, side)}
-    ranges["height"] = ranges["width"]
-    sizes = {key: table[key] for key in ranges if key in table} | ({"cells": len(table["cells"])} if "cells" in table else {})
-    for key, value in sizes.items():
-        least, most = ranges.get(key, (1, side))
-        if not least <= value <= most:
-            longer = most == side and version == 1 and side < value <= MOST_SIDE[2]
+    version, sides = version_of(table), ("width", "height", "cells")
+    ranges = {"version": (1, 2), "seed": (0, 2**63 - 1), "generation": (0, 10**12), "rate": (0, 1000)}
+    ranges |= dict.fromkeys(sides, (1, MOST_SIDE[version]))
+    for key, (least, most) in ranges.items():
+        value = len(table.get(key, ())) if key == "cells" else table.get(key, least)
+        if key in table and not least <= value <= most:
             what = f"`cells` has {value} rows, and must have" if key == "cells" else f"`{key}` is {value}, and must be"
+            longer = key in sides and version == 1 and most < value <= MOST_SIDE[2]
             yield (key,), f"{what} {least} to {most}" + f" (with `version = 2` to {MOST_SIDE[2]})" * longer
-    for key, known in (("gas", STATES), ("chirality", CHIRALITIES)):
+    for key, known in WORDS.items():
         if key in table and table[key] not in known:
             yield (key,), f"`{key}` is {shown(table[key])}; {nearest(table[key], known)}"
 
@@ -269,9 +250,6 @@ CHECKS = [
     ("scene: out of range", out_of_range),
     ("scene: out of range", misplaced),
 ]
-
-
-# -- the rows ------------------------------------------------------------------------------------------------------------------
 
 
 def row_faults(table: dict) -> Iterator[tuple[str, list]]:

@@ -1,7 +1,4 @@
-"""Why a scene is refused: the program's line, and under it where in the text and why.
-
-It reads the scene itself, without the program (reader.py). The tests compare its line with the program's.
-"""
+"""Why a scene is refused: the program's line, and under it where in the text and why, by the second reader alone (reader.py)."""
 import re
 
 from . import reader
@@ -25,18 +22,13 @@ def explained(text: bytes) -> list[tuple[str, list[str]]]:
     return []
 
 
-def explanation(text: bytes) -> str:
-    """What is printed for the bytes of a scene: the line that refuses it and its reasons, and then what else is wrong."""
+def explain(scene: Scene) -> str:
+    """Where and why a scene, its text or its path, is refused: the program's line and its reasons, and then what else is wrong."""
     lines: list[str] = []
-    for line, reasons in explained(text):
+    for line, reasons in explained(scene_bytes(scene)):
         lines += [f"and then: {line}" if lines else line, *(f"  {reason}" for reason in reasons[:MOST_REASONS])]
         lines += [f"  and {len(reasons) - MOST_REASONS} more of the kind"] if len(reasons) > MOST_REASONS else []
     return "\n".join(lines) + "\n" if lines else NOT_REFUSED
-
-
-def explain(scene: Scene) -> str:
-    """Where and why a scene, its text or its path, is refused, in lines."""
-    return explanation(scene_bytes(scene))
 
 
 def position(source: str, path: tuple) -> str:

@@ -2,7 +2,6 @@
 column and row from 0 at the top left, and lengths are in cells' widths. What a formula of the place says needs no shape:
 `numpy.hypot(X - 200, Y - 220) < 40` with `X, Y = fhpgas.positions(size)`.
 """
-import functools
 import math
 import os
 import reprlib
@@ -20,27 +19,20 @@ FAR = 1e6  # cells, of a corner of a polygon
 
 def disc(size: tuple[int, int], column: int, row: int, radius: float, gas: str | Gas = "fhp1") -> Array:
     """The cells whose middles are at most `radius` from the middle of a cell. It continues past the last column and is cut at the walls."""
-    (columns, rows), named = size_checked(size), gas_named(gas)
-    solid = np.zeros((rows, columns), bool)
+    columns, rows = size_checked(size)
     column, row = integer("the column of a disc", column, 0, columns - 1), integer("the row of a disc", row, 0, rows - 1)
-    _stamp(solid, column, row, *_round(real("the radius of a disc", radius, 0), row % 2, named.is_square))
+    solid = np.zeros((rows, columns), bool)
+    _stamp(solid, column, row, real("the radius of a disc", radius, 0), gas_named(gas))
     return solid
 
 
-@functools.lru_cache(4)
-def _round(radius: float, parity: int, is_square: bool) -> tuple[Array, Array]:
-    """The columns and rows of the cells of a disc, from its middle in a row of this parity. Four times the square of a distance is an
-    integer on both lattices, so nothing is rounded."""
-    y, x = np.ogrid[-int(1.2 * radius) - 1 : int(1.2 * radius) + 2, -int(radius) - 1 : int(radius) + 2]
-    square = (2 * x + (not is_square) * ((y + parity) % 2 - parity)) ** 2 + (4 if is_square else 3) * y**2
-    down, across = np.nonzero(square <= 4 * radius**2 * (1 + 1e-12))
-    return across - int(radius) - 1, down - int(1.2 * radius) - 1
-
-
-def _stamp(solid: Array, column: int, row: int, across: Array, down: Array) -> None:
-    """Makes the cells solid that lie so far from a cell, past the last column from the first on."""
-    inside = (0 <= row + down) & (row + down < len(solid))
-    solid[row + down[inside], (column + across[inside]) % solid.shape[1]] = True
+def _stamp(solid: Array, column: int, row: int, radius: float, gas: Gas) -> None:
+    """Makes the cells of a disc solid. Four times the square of a distance is an integer on both lattices, so nothing is rounded."""
+    reach, across = int(1.2 * radius) + 1, min(solid.shape[1], int(radius) + 1)
+    x, y = np.arange(-across, across + 1), np.arange(max(-row, -reach), min(len(solid) - row, reach + 1))
+    halves = 2 * x if gas.is_square else 2 * x + ((row + y) % 2 - row % 2)[:, None]
+    down, along = np.nonzero(halves**2 + ((4 if gas.is_square else 3) * y**2)[:, None] <= 4 * radius * radius * (1 + 1e-12))
+    solid[row + y[down], (column + x[along]) % solid.shape[1]] = True
 
 
 def polygon(size: tuple[int, int], corners: Iterable[Sequence[float]], gas: str | Gas = "fhp1") -> Array:
@@ -82,7 +74,7 @@ def porous(size: tuple[int, int], share: float, radius: float, seed: int = 0, ga
     lots, solid = np.random.PCG64(integer("a seed", seed)), np.zeros((rows, columns), bool)
     while np.count_nonzero(solid) < share * solid.size:
         column, row = (int(lots.random_raw() >> 32) * side >> 32 for side in (columns, rows))
-        _stamp(solid, column, row, *_round(radius, row % 2, named.is_square))
+        _stamp(solid, column, row, radius, named)
     return solid
 
 
@@ -125,16 +117,13 @@ def check_inside(what: str, block: Sequence[int], size: tuple[int, int]) -> None
 
 
 def rectangles(solid: Array) -> list[list[int]]:
-    """Rectangles [x, y, w, h], as an area has them, that cover every solid cell once: runs along a row, joined to equal runs in the rows
-    below."""
-    last: dict[tuple[int, int], list[int]] = {}
-    found = []
+    """Rectangles [x, y, w, h] that cover every solid cell once: runs along a row, joined to equal runs in the rows below."""
+    last, found = dict[tuple[int, int], list[int]](), list[list[int]]()
     for y, row in enumerate(np.pad(solid, ((0, 0), (1, 1))).astype(np.int8)):
-        steps = np.flatnonzero(np.diff(row)).tolist()
-        here = {}
-        for first, end in zip(steps[::2], steps[1::2]):
-            here[first, end] = last.get((first, end)) or [first, y, end - first, 0]
-            here[first, end][3] += 1
-            found += [here[first, end]] if here[first, end][3] == 1 else []
+        ends = np.flatnonzero(np.diff(row)).tolist()
+        here = {run: last.get(run) or [run[0], y, run[1] - run[0], 0] for run in zip(ends[::2], ends[1::2])}
+        for run, rectangle in here.items():
+            rectangle[3] += 1
+            found += [rectangle] if run not in last else []
         last = here
     return found

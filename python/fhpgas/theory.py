@@ -11,7 +11,7 @@ import numpy as np
 
 from .fault import Fault, real
 from .fields import equilibrium
-from .gases import SIDES, Array, Gas, chirality_named, gas_named
+from .gases import Array, Gas, gas_named
 
 
 def sound_speed(gas: str | Gas) -> float:
@@ -50,11 +50,9 @@ def checked(filling: Any) -> Array:
 def relaxed(gas: str | Gas, filling: Any, chirality: str, mode: Array) -> Any:
     """The share of a mode [b] that collisions undo in a generation, in the Boltzmann equation linearized about equal filling: the
     eigenvalue of the collision operator, of which the mode must be an eigenvector."""
-    named, d, sides = gas_named(gas), checked(filling)[..., None, None], SIDES[chirality_named(chirality)]
-    bits = named.bits[: 1 << named.directions].astype(float)
-    chance, slopes = np.where(bits, d, 1 - d).prod(-1), np.where(bits, 1 / d, -1 / (1 - d)) @ mode
-    change = np.mean([named.bits[named.collisions(side)[: len(bits)]] - bits for side in sides], 0) @ mode.conj()
-    return -(chance * slopes * change).sum(-1) / (abs(mode) ** 2).sum()
+    named, d = gas_named(gas), checked(filling)[..., None, None]
+    chance, slopes = np.where(named.bits, d, 1 - d).prod(-1), np.where(named.bits, 1 / d, -1 / (1 - d)) @ mode
+    return -(chance * slopes * (named.changes(chirality) @ mode.conj())).sum(-1) / (abs(mode) ** 2).sum()
 
 
 def _turning(gas: Gas, times: int) -> Array:
