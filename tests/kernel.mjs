@@ -34,8 +34,8 @@ function run(scene, generations) {
 
 const textOf = (keys) => Object.entries(keys).map(([key, value]) => `${key} = ${value}\n`).join("");
 const spelled = (state) => (state === SOLID ? "##" : state ? state.toString(16).padStart(2, "0") : "..");
-const rowOf = (cells, y, width) => Array.from(cells.subarray(y * width, (y + 1) * width), spelled).join("");
-const rowsOf = (cells, width, height) => Array.from({ length: height }, (_, y) => rowOf(cells, y, width));
+const rowsOf = (cells, width, height) => Array.from({ length: height }, (_, y) =>
+  Array.from(cells.subarray(y * width, (y + 1) * width), spelled).join(""));
 
 function drawn(random, gas, width, height) {
   const cells = new Uint8Array(width * height + SLACK), rate = random.of([0.02, 0.1, 0.2, 0.35, 0.6]);
@@ -46,9 +46,8 @@ function drawn(random, gas, width, height) {
   }
   for (let n = random.below(5); n > 0; n--) {
     const [left, top] = [width, height].map(random.below), [w, h] = [40, 20].map(random.below);
-    for (let y = top; y <= Math.min(height - 1, top + h); y++) {
-      cells.fill(SOLID, y * width + left, y * width + Math.min(width, left + w + 1));
-    }
+    const across = Math.min(width, left + w + 1) - left;
+    for (let y = top; y <= Math.min(height - 1, top + h); y++) cells.fill(SOLID, y * width + left, y * width + left + across);
   }
   return cells;
 }

@@ -11,20 +11,16 @@ import sys
 import tempfile
 import time
 import urllib.error
-import urllib.parse
 import urllib.request
 
 import needs
 
 PROGRAM = needs.built_program()
 needs.command("chromium", "apt-get install chromium chromium-driver")
-try:
-    __import__("aiohttp")
-    from selenium import webdriver
-    from selenium.webdriver.common.action_chains import ActionChains
-    from selenium.webdriver.common.by import By
-except ImportError as missing:
-    needs.stop(f"{missing.name} is missing: apt-get install python3-selenium python3-aiohttp")
+needs.libraries("selenium", "aiohttp")
+from selenium import webdriver
+from selenium.webdriver.common.action_chains import ActionChains
+from selenium.webdriver.common.by import By
 
 WORDS = ("--headless=new", "--no-sandbox", "--disable-dev-shm-usage", "--disable-gpu", "--no-first-run", "--disable-background-networking",
          "--disable-component-update", "--disable-sync", "--window-size=1600,1000")
@@ -75,30 +71,32 @@ class Page:
     def pause(self):
         if self.js("return running"):
             self.click("play")
-        self.js("live.hashes = []; look()")
         return self.wait("live.hashes.length && !running && [head.generation, live.hashes[0]]")
 
-    def drag(self, tool, *places):
-        """Draws a line over places of the lattice with a tool."""
-        self.driver.find_element(By.CSS_SELECTOR, f"[data-tool={tool}]").click()
+    def at(self, x, y):
+        """Where a place of the lattice is in the picture."""
+        return self.js("return [(arguments[0] - place.x) * place.scale, (arguments[1] - place.y) * place.scale]", x, y)
+
+    def drag(self, tool, *places, waits=True):
+        """Draws a line over places of the lattice with a tool, and waits until the page says what came of it."""
+        self.click(tool)
+        notes = self.js("return live.notes.length")
         chain = ActionChains(self.driver, duration=50)
         for number, place in enumerate(places):
-            at = self.js("const b = view.getBoundingClientRect(), [x, y] = live.at(...arguments); return"
-                         " [x - b.left - b.width / 2, y - b.top - b.height / 2].map(Math.round)", *place)
-            chain.move_to_element_with_offset(self.view, *at)
+            (x, y), (width, height) = self.at(*place), self.js("return [view.clientWidth, view.clientHeight]")
+            chain.move_to_element_with_offset(self.view, round(x - width / 2), round(y - height / 2))
             chain = chain if number else chain.click_and_hold()
-        notes = self.js("return live.notes.length")
         chain.release().perform()
-        self.wait(f"live.notes.length > {notes}")
+        self.wait(f"live.notes.length > {notes}" if waits else "!isScheduled")
 
     def saved(self, button, suffix):
         """The file that a button saves."""
-        for old in self.room.glob(f"*{suffix}"):
-            old.unlink()
+        old = set(self.room.iterdir())
         self.click(button)
         for _ in range(20 * PATIENCE):
-            if found := [file for file in self.room.glob(f"*{suffix}") if file.stat().st_size]:
-                return found[0].read_bytes()
+            for file in set(self.room.glob(f"*{suffix}")) - old:
+                if file.stat().st_size:
+                    return file.read_bytes()
             time.sleep(0.05)
         raise SystemExit(f"{button} saved nothing")
 
@@ -109,22 +107,14 @@ class Page:
 
     def pixel(self, x, y):
         """The colour of a place of the lattice on the screen."""
-        return self.js("const [x, y] = live.at(...arguments), b = view.getBoundingClientRect(), r = devicePixelRatio;"
-                       "return [...view.getContext('2d').getImageData((x - b.left) * r, (y - b.top) * r, 1, 1).data].slice(0, 3)", x, y)
+        return self.js("const r = devicePixelRatio, [x, y] = arguments;"
+                       "return [...view.getContext('2d').getImageData(x * r, y * r, 1, 1).data].slice(0, 3)", *self.at(x, y))
 
     def strangers(self):
         """The addresses of other hosts that were asked for."""
         events = [json.loads(entry["message"])["message"] for entry in self.driver.get_log("performance")]
         asked = [event["params"]["request"]["url"] for event in events if event["method"] == "Network.requestWillBeSent"]
         return [url for url in asked if not url.startswith(("file:", "blob:", "data:", "http://127.0.0.1:"))]
-
-    def faults(self):
-        return [entry for entry in self.driver.get_log("browser") if entry["level"] == "SEVERE"]
-
-
-def printed(scene, generations):
-    words = [PROGRAM, "run", "--generations", str(generations)]
-    return subprocess.run(words, input=scene, stdout=subprocess.PIPE, check=True).stdout
 
 
 def tried(page, way):
@@ -133,6 +123,11 @@ def tried(page, way):
     check(f"{way}: a flow past a disc moves at once, and the wind is kept", abs(page.js("return head.u") - 0.26) < 0.02)
     page.click("turn")
     check(f"{way}: a seeded gas does not go back, and says why", "seeded" in page.js("return live.notes.at(-1)"))
+    page.choose("change", seed="7"), page.wait("head.seed === '7'")
+    page.click("bare")
+    check(f"{way}: the picture without controls is as wide as the window", page.js("return view.clientWidth === innerWidth"))
+    ActionChains(page.driver).send_keys("q").perform()
+    check(f"{way}: a key shows the controls again", page.js("return view.clientWidth < innerWidth"))
     page.choose(gas="fhp1", chirality="left", size="256 x 128", radius=14, keep=False, pace="10"), page.click("start")
     page.wait("head.width === 256")
     particles, solid = page.js("return [head.particles, head.width * head.height - head.fluid]")
@@ -142,6 +137,10 @@ def tried(page, way):
     check(f"{way}: an obstacle is drawn while it runs", "particles were beneath" in page.js("return live.notes.at(-1)"))
     page.drag("erase", (150, 60), (160, 70))
     erased = page.wait(f"head.width * head.height - head.fluid < {drawn[1]} && head.particles")
+    page.js("window.kept = worker.onmessage, window.held = [], worker.onmessage = (event) => held.push(event)")
+    page.drag("draw", (200, 90), waits=False)
+    check(f"{way}: a click is shown before the gas has it", page.pixel(200, 90) == [70, 78, 86])
+    page.js("worker.onmessage = kept, held.forEach(kept)")
     page.drag("dense", (200, 40))
     check(f"{way}: particles stay as many", particles == drawn[0] == erased == page.js("return head.particles"), (particles, drawn, erased))
     first, _ = page.pause()
@@ -149,18 +148,19 @@ def tried(page, way):
     page.choose("change", pace="50"), page.click("play")
     page.wait(f"head.generation >= {max(1000, first + 100)}")
     last, found = page.pause()
-    wanted = hashlib.sha256(printed(scene, last - first)).hexdigest()
-    check(f"{way}: the program continues the saved scene to the page's cells", found == wanted, (first, last))
+    ran = subprocess.run([PROGRAM, "run", "--generations", str(last - first)], input=scene, stdout=subprocess.PIPE, check=True)
+    same = found == hashlib.sha256(ran.stdout).hexdigest()
+    check(f"{way}: the program continues the saved scene to the page's cells", same, (first, last))
     check(f"{way}: the obstacle is in the saved scene", scene.count(b"##") + scene.count(b"\n") > 500)
     page.click("turn")
     found = page.wait("typeof head.found === 'number' && [head.found, head.generation]")
     check(f"{way}: {last} generations back, through all edits", found == [0, 0], found)
-    page.click("play"), page.wait("head.generation >= 1000"), page.click("turn"), page.click("play")
-    page.drag("flip", (60, 60))
+    page.click("play"), page.wait("head.generation >= 1000"), page.choose("change", pace="1"), page.click("turn"), page.click("play")
+    page.drag("flip", (60, 60)), page.choose("change", pace="50")
     page.click("play")
     check(f"{way}: with one particle turned it does not return", page.wait("typeof head.found === 'number' && head.found") > 100)
     page.open(KNOWN)
-    page.wait("head.width === 6 && head.cells && !motion")
+    page.wait("head.width === 6 && head.cells && !motion && isPainted")
     alone, meets, fluid = page.pixel(-0.28, 0), page.pixel(1.5 + 0.28, 0.866), page.pixel(3.5 - 0.28, 0.866)
     check(f"{way}: single cells show their particles", alone == page.pixel(3 + 0.15, 2 * 0.866 + 0.25) == [11, 60, 102], alone)
     check(f"{way}: colliding ones are orange, empty cells are empty", meets == [209, 72, 15] and min(fluid) > 200, (meets, fluid))
@@ -173,13 +173,14 @@ def tried(page, way):
     lines = {"engine": "scene: row 0 cell 0 is not a cell", "file": "this page does not read cell 0 of row 0"}
     check(f"{way}: a scene that is refused", note == lines[way], note)
     check(f"{way}: a picture", page.saved("picture", ".png")[:8] == b"\x89PNG\r\n\x1a\n")
-    page.click("film"), page.click("play"), page.wait("recorder.state === 'recording' && head.generation > 20")
+    page.click("film"), page.click("play"), page.wait("recorder.state === 'recording' && head.generation > 1000")
     check(f"{way}: a film", page.saved("film", ".webm")[:4] == b"\x1aE\xdf\xa3")
     bare = page.js("return [...document.querySelectorAll('button, select, input')].filter((e) => e.id !== 'file' && !(e.dataset.key &&"
                    " (e.tagName === 'BUTTON' ? e : e.closest('label')).textContent.trim())).map((e) => e.id)")
     check(f"{way}: every control has a label and a key", not bare, bare)
     check(f"{way}: no request leaves this computer", not (found := page.strangers()), found)
-    check(f"{way}: no error in the console", not (found := page.faults()), found)
+    found = [entry for entry in page.driver.get_log("browser") if entry["level"] == "SEVERE"]
+    check(f"{way}: no error in the console", not found, found)
 
 
 def asked(address, **headers):
@@ -192,7 +193,7 @@ def asked(address, **headers):
 
 def strangers(page, address, room):
     """What the server refuses."""
-    host, talk = f"http://{urllib.parse.urlparse(address).netloc}", address + "talk"
+    host, talk = address.rsplit("/", 2)[0], address + "talk"
     check("its own page", asked(address) == 200)
     check("another Host", asked(address, Host="gas.example") == 403)
     check("a wrong token", asked(f"{host}/wrong/") == asked(f"{host}/wrong/talk", Origin=host) == 404)

@@ -14,25 +14,22 @@ import webbrowser
 from typing import Any
 
 import numpy as np
-from aiohttp import WSMsgType, web
+from aiohttp import web
 
 from . import program
 from .fault import Fault, integer
 from .gases import Array, chirality_named, gas_named
 from .lattice import cells_of, lines_of
-from .scenes import MOST_SEED, keys_of
+from .program import MOST_SEED, keys_of
 
 PAGE = program.ABOVE / "page/fhpgas.html"  # of the repository or the archive
 ENGINE = 'name="engine" content="'  # of the page: the path of its engine, empty for its own kernel
 MOST_CELLS, MOST_MESSAGE, MOST_GENERATIONS = 1 << 22, 10_000_000, 1000
+SHORT = 100_000_000  # updates of a run that takes less time on one thread, beside a browser that is busy too
 BUSY = b"The gas is shown in another tab. Close that tab, then reload this one."
 HEADERS = {"Cache-Control": "no-store", "Referrer-Policy": "no-referrer", "Content-Security-Policy": "frame-ancestors 'none'"}
 
-
-def packed(head: dict[str, Any], cells: bytes = b"") -> bytes:
-    """A message: the length of its head in four bytes, the head as JSON, and cells, a byte each."""
-    text = json.dumps(head).encode()
-    return len(text).to_bytes(4, "little") + text + cells
+Message = tuple[dict[str, Any], bytes]  # a head, which is sent as JSON, and after it cells, a byte each, or a scene
 
 
 def scene_of(head: dict[str, Any], cells: bytes) -> bytes:
@@ -52,43 +49,42 @@ class Live:
     def __init__(self, port: int):
         self.port, self.token, self.page = port, secrets.token_urlsafe(24), PAGE.read_text("utf-8").replace(ENGINE, f"{ENGINE}talk")
         self.socket: web.WebSocketResponse | None = None
-        self.process: asyncio.subprocess.Process | None = None
+        self.process: subprocess.Popen[bytes] | None = None
         version = subprocess.run([program.program_path(), "--version"], stdout=subprocess.PIPE, check=True).stdout.decode()
-        self.names, self.hello = {"version": " ".join(version.split()[:2]), "most": MOST_CELLS}, b""
+        self.hello: Message = {"version": " ".join(version.split()[:2]), "most": MOST_CELLS}, b""
 
-    async def after(self, scene: bytes, generations: int) -> tuple[Array, int]:
+    def after(self, scene: bytes, generations: int = 0, rows: int = 1, columns: int = 1) -> tuple[Array, int]:
         """The cells of a scene after some generations, by the program, and their generation. Input and output are files in memory."""
-        words = program.planned(program.height_of(scene), integer("the generations", generations, 0, MOST_GENERATIONS))
+        updates = integer("the generations", generations, 0, MOST_GENERATIONS) * rows * columns
+        words = program.planned(rows, generations, 1 if updates < SHORT else None)
         with os.fdopen(os.memfd_create("scene"), "w+b") as given, os.fdopen(os.memfd_create("answer"), "w+b") as answer:
             given.write(scene), given.seek(0)
-            command = map(str, (program.program_path(), "run", *words))
-            self.process = await asyncio.create_subprocess_exec(*command, stdin=given, stdout=answer, stderr=subprocess.PIPE)
-            said = (await self.process.communicate())[1].decode(errors="replace")
+            command = [str(program.program_path()), "run", *map(str, words)]
+            with subprocess.Popen(command, stdin=given, stdout=answer, stderr=subprocess.PIPE) as self.process:
+                said = self.process.communicate()[1].decode(errors="replace")
             if status := self.process.returncode:
                 raise Fault(said.split("\n")[0] or f"fhpgas ended with status {status}")
             answer.seek(0)
             return cells_of(answer.read())
 
-    async def opened(self, scene: bytes) -> bytes:
-        """The message of the lattice of a scene's text. A scene that is refused or too large raises a Fault."""
-        cells, generation = await self.after(scene, 0)
+    def opened(self, scene: bytes) -> Message:
+        """The lattice of a scene's text. A scene that is refused or too large raises a Fault."""
+        cells, generation = self.after(scene)
         if cells.size > MOST_CELLS:
             raise Fault(f"the scene has {cells.size:,} cells, and this server takes at most {MOST_CELLS:,}")
         keys = {"chirality": "seeded", "seed": 0} | keys_of(scene)
         head = {"gas": keys["gas"], "chirality": keys["chirality"], "seed": str(keys["seed"]), "generation": generation}
-        return packed(self.names | head | {"width": cells.shape[1], "height": cells.shape[0]}, cells.tobytes())
+        return head | {"width": cells.shape[1], "height": cells.shape[0]}, cells.tobytes()
 
-    async def answer(self, message: bytes) -> bytes:
+    def answer(self, head: dict[str, Any], body: bytes) -> Message:
         """The answer to a message: a lattice, or the line of a Fault. A message that is none raises another error."""
-        end = 4 + int.from_bytes(message[:4], "little")
-        head, body = json.loads(message[4:end]), message[end:]
         try:
             if "scene" in head:
-                return await self.opened(body)
-            cells, generation = await self.after(scene_of(head, body), head["generations"])
-            return packed({"generation": generation}, cells.tobytes())
+                return self.opened(body)
+            cells, generation = self.after(scene_of(head, body), head["generations"], head["height"], head["width"])
+            return {"generation": generation}, cells.tobytes()
         except Fault as fault:
-            return packed({"fault": str(fault)})
+            return {"fault": str(fault)}, b""
 
     async def talk(self, request: web.Request) -> web.WebSocketResponse:
         """Answers the messages of one tab."""
@@ -101,11 +97,11 @@ class Live:
             return socket
         self.socket = socket
         with contextlib.suppress(ValueError, LookupError, TypeError, ConnectionError):
-            await socket.send_bytes(self.hello)
-            async for message in socket:
-                if message.type != WSMsgType.BINARY:
-                    break
-                await socket.send_bytes(await self.answer(message.data))
+            answer = self.hello
+            while True:
+                await socket.send_str(json.dumps(answer[0]))
+                await socket.send_bytes(answer[1])
+                answer = await asyncio.to_thread(self.answer, json.loads(await socket.receive_str()), await socket.receive_bytes())
         self.socket = None
         await socket.close()
         return socket
@@ -121,7 +117,9 @@ class Live:
         return await self.talk(request) if name else web.Response(text=self.page, content_type="text/html", headers=HEADERS)
 
     async def serve(self, scene: str | None, browser: bool) -> None:
-        self.hello = await self.opened(scene.encode()) if scene else packed(self.names)
+        if scene:
+            head, cells = self.opened(scene.encode())
+            self.hello = self.hello[0] | head, cells
         application = web.Application()
         application.router.add_get("/{token}/{name:.*}", self.handle)
         runner = web.AppRunner(application, access_log=None)
@@ -134,7 +132,7 @@ class Live:
                 webbrowser.open(address)
             await asyncio.Event().wait()
         finally:
-            if self.process and self.process.returncode is None:
+            if self.process:
                 self.process.kill()
             await runner.cleanup()
 
