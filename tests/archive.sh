@@ -21,13 +21,27 @@ draws() {
         [ "$(head -c 4 "$room/wind.png")" = $'\x89PNG' ]
 }
 
+# links_lead: every link of the unpacked documents leads to a place in the unpacked folder
+links_lead() {
+    PYTHONPATH=tests "$python" - "$folder" << 'END'
+import pathlib, sys
+import links
+links.ROOT = pathlib.Path(sys.argv[1]).resolve()
+all_links = [(document, link) for document in links.documents() for link, _ in links.links(document.read_text())]
+wrong = [(str(document), link) for document, link in all_links if not links.ELSEWHERE.match(link) and links.fault(document, link)]
+print(*wrong, sep="\n")
+sys.exit(len(wrong) > 0 or not all_links)
+END
+}
+
 # installs: pip makes commands from the wheel, without the network
 installs() {
-    (cd "$folder" && /usr/bin/python3 -m pip install -q --no-deps --no-index --target "$room/site" fhpgas-*.whl) > "$room/told" 2>&1 &&
-        env -i PATH=/usr/bin PYTHONPATH="$room/site" "$room/site/bin/fhpgas-tools" --version > "$room/version" &&
+    (cd "$folder" && "$python" -m pip install -q --no-deps --no-index --target "$room/site" fhpgas-*.whl) > "$room/told" 2>&1 &&
+        env -i PATH="$path" PYTHONPATH="$room/site" "$room/site/bin/fhpgas-tools" --version > "$room/version" &&
         grep -qx "fhpgas-tools $(sed -n 's/^version = "\(.*\)"/\1/p' python/pyproject.toml)" "$room/version" && [ -e "$room/site/fhpgas/py.typed" ]
 }
 
+python=$(tests/needs.py | sed -n 1p)
 mkdir "$room/other place"
 try 'the archive is packed' tools/archive.sh "$room/packed.tar.gz"
 try 'nothing but the archive is left where it is written' [ "$(cd "$room" && echo *)" = 'other place packed.tar.gz' ]
@@ -44,10 +58,12 @@ try 'so it does for the scene that comes with it' prints "$room/wanted" "$folder
 try 'a scene of no text is refused' refuses
 try 'it needs the C library alone' needs_libc
 
-path=/usr/bin # of the system's Python, to which Debian's packages belong
+try 'the links of its documents lead to what is in it' links_lead
+
+path=${python%/*}
 try 'the Python package says what it can do' alone python3 -m fhpgas --help > "$room/help"
 try 'and draws what the program computed' draws
-if /usr/bin/python3 -c 'import pip, wheel'; then try 'pip installs its command' installs; fi
+if "$python" -c 'import setuptools, pip, wheel' 2> /dev/null; then try 'pip installs its command' installs; fi
 
 try 'README names the level' grep -qE 'built for x86-64-v[23]$' "$folder/README"
 try 'README says that there is no proof in hand' grep -q 'holds no proof' "$folder/README"

@@ -7,6 +7,10 @@
 top=$room/top kit=$room/kit
 mkdir -p "$kit/bin" "$kit/rlibs" "$top"/crates/{low,high,fhpgas}/src
 cp -r Makefile fhpgas tools "$top"
+cat > "$top/tools/archive.sh" << 'END'
+#!/bin/sh
+cp "$2" "$1"
+END
 printf '# the crates\nlow: core\nhigh: low clap\n\nfhpgas: high\n' > "$top/crates.txt"
 tee "$top"/crates/{low,high}/src/lib.rt > "$top/crates/fhpgas/src/main.rt" <<< $'stated\nproved'
 echo 1 | tee "$kit/KIT-ID" > "$kit/WHAT"
@@ -77,6 +81,13 @@ try 'so is what was changed since' proves 'high' build
 try 'another level needs the program alone' proves 'fhpgas' build CPU=x86-64-v0
 try 'one of a level that no machine has is built again' proves 'fhpgas' launch
 try 'a crate is built by its name' proves '' build high
+cp -r crates/fhpgas/out "$room/own"
+try 'an archive needs the program alone, for its level' proves 'fhpgas' build archive FILE="$room/packed"
+try 'it is packed' cmp "$room/packed" crates/fhpgas/out/v2/fhpgas
+try 'with its level beside it' [ "$(cat crates/fhpgas/out/v2/level)" = x86-64-v2 ]
+for file in fhpgas level sums; do try "the own $file is left as it was" cmp "$room/own/$file" "crates/fhpgas/out/$file"; done
+try 'and is run' proves '' quietly
+try 'a second archive proves nothing' proves '' build archive FILE="$room/packed"
 
 { # what a real check said of a body that is wrong, before twenty lines about libraries
     echo 'note: src/rectangle.rt:29:5: it is not proved that what the function ensures holds when it returns'
