@@ -15,7 +15,7 @@ use crate::ring_ends::{PopEnd, PushEnd};
 use crate::rx::Rx;
 use crate::tx::Tx;
 use gas_geom::gas::Gas;
-use gas_rows::row::Row;
+use gas_rows::row::{Row, zeros_apart};
 use rtrb::RingBuffer;
 use std::alloc::{AllocError, Global};
 
@@ -58,9 +58,10 @@ pub fn belt<G: Gas>(alloc: Global, capacity: u32, width: u32) -> Result<(Tx<G>, 
 {
     let row = Row::<G>::blank(alloc, width)?;
     let places = capacity as usize;
-    let words = vec![in alloc; 0; row.as_words().len()]?;
-    let gathered = vec![in alloc; 0; words_to_gather(places, words.len())]?;
+    let words = zeros_apart(alloc, row.as_words().len())?;
+    // The ring stands between memory that stays unused.
     let (producer, consumer) = RingBuffer::new(alloc, places * words.len())?;
+    let gathered = zeros_apart(alloc, words_to_gather(places, words.len()))?;
     let pop_end = PopEnd {
         ring: consumer,
         words,

@@ -4,7 +4,9 @@ ghost use Rattle.rtrb.specs.Ends.{SameRing};
 ghost use Rattle.rtrb.specs.Ring.{known_free, received};
 
 use core::mem::replace_with;
+use gas_geom::gas::Gas;
 use rtrb::{Consumer, Producer};
+use std::marker::PhantomData;
 
 /// The end of a ring that rows are pushed on. Short rows gather before they are pushed, because
 /// showing words to the other thread is expensive.
@@ -85,8 +87,8 @@ pub(crate) struct PopEnd {
 
 impl PopEnd {
     // By value, so that the compiler knows that no write of a word changes where the ring lies, and
-    // copies several words at a time.
-    fn pop_by_value(self, _nothing: ()) -> (Self, bool)
+    // copies several words at a time. For one gas, because the compiler inlines what has few callers.
+    fn pop_by_value<G: Gas>(self, _gas: PhantomData<G>) -> (Self, bool)
         ensures ring { SameRing self.ring.end result.0.ring.end }
         ensures places { vec_len result.0.words ≡ vec_len self.words }
         ensures words { length result.0.words.items ≡ vec_len self.words }
@@ -103,9 +105,8 @@ impl PopEnd {
     }
 
     /// Pops the words of the next row, all or none. Returns whether the ring had them all.
-    // One function for all gases, so that the compiler moves neither ring nor words.
-    #[inline(never)]
-    pub(crate) fn pop(&mut self) -> bool
+    #[inline(always)]
+    pub(crate) fn pop<G: Gas>(&mut self) -> bool
         ensures ring { SameRing self.old.ring.end self.new.ring.end }
         ensures places { vec_len self.new.words ≡ vec_len self.old.words }
         ensures words { length self.new.words.items ≡ vec_len self.old.words }
@@ -113,6 +114,6 @@ impl PopEnd {
             received self.new.ring ≡ received self.old.ring ++ self.new.words.items }
         ensures unchanged { IsFalse result → received self.new.ring ≡ received self.old.ring }
     {
-        replace_with(self, (), PopEnd::pop_by_value)
+        replace_with(self, PhantomData::<G>, PopEnd::pop_by_value::<G>)
     }
 }

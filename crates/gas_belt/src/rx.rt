@@ -85,7 +85,7 @@ impl<G: Gas> Rx<G> {
         if self.count == u64::MAX || self.spares.is_empty() {
             return None;
         }
-        if !self.end.pop() {
+        if !self.end.pop::<G>() {
             return None;
         }
         let Some(mut row) = self.spares.pop() else {

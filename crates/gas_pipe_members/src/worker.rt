@@ -82,6 +82,7 @@ impl<'a, G: Gas> Worker<'a, G> {
 
     // The row that it must put next: the row that waits or, if all rows of the pass were taken, the
     // last row of its stage. That closes the stage's pass.
+    #[inline(always)]
     fn next_row(&mut self) -> Option<Row<G>>
         requires no_stray { self.old.stray ≡ false }
         ensures same { SameWorker self.old self.new }
@@ -112,6 +113,7 @@ impl<'a, G: Gas> Worker<'a, G> {
 
     // Tries to put a row. If it is handed back, it waits. The row of a put goes to the other end as
     // a spare row. Returns whether it was put.
+    #[inline(always)]
     fn offer<T: TakeEnd<Row<G>>, P: PutEnd<Row<G>>>(
         &mut self,
         row: Row<G>,
@@ -154,6 +156,7 @@ impl<'a, G: Gas> Worker<'a, G> {
     /// take. Returns Done if no pass is open, or if all rows of the pass were taken and put before.
     /// A taken row of another width than the channel's is dropped. Then this turn and all later
     /// ones return Stray.
+    #[inline(always)]
     pub fn turn<T: TakeEnd<Row<G>>, P: PutEnd<Row<G>>>(
         &mut self,
         take: &mut T,

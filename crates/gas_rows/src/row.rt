@@ -22,6 +22,20 @@ use std::alloc::{AllocError, Global};
 use std::marker::{Model, PhantomData};
 use std::mem;
 
+// Words that stay unused behind those of a row, so that rows of different threads share no line of a
+// cache, nor two that a processor fetches together (measured: bench/LOG.md).
+const WORDS_APART: usize = 32;
+
+/// This many zeros, which share no line of a cache with what comes after them in memory.
+pub fn zeros_apart(alloc: Global, len: usize) -> Result<Vec<u64>, AllocError>
+    ensures zeros { IfOk result (λ w. w.items ≡ replicate len 0) }
+    ensures long { IfOk result (λ w. vec_len w ≡ len) }
+{
+    let mut words = vec![in alloc; 0u64; len.saturating_add(WORDS_APART)]?;
+    words.truncate(len);
+    Ok(words)
+}
+
 /// The states of the 1 to 65536 cells of a row, held as words of 64 cells for each direction.
 #[derive(Drop)]
 pub struct Row<G: Gas> {
@@ -52,7 +66,7 @@ impl<G: Gas> Row<G> {
     {
         Ok(Row {
             width,
-            words: vec![in alloc; 0u64; directions::<G>() * words_for(width)]?,
+            words: zeros_apart(alloc, directions::<G>() * words_for(width))?,
             gas: PhantomData,
         })
     }

@@ -110,6 +110,7 @@ impl<'a, G: Gas> Stage<'a, G> {
     /// Takes the next row of the open pass. A computing pass returns None for the first row, and
     /// then the next lattice's row before the one fed. It takes solid cells of a row as empty. A
     /// pass that hands rows on returns the row itself.
+    #[inline(always)]
     pub fn feed(&mut self, mut row: Row<G>) -> Option<Row<G>>
         requires open { IsSome self.old.pass }
         requires room { self.old.fed < self.old.channel.height }
