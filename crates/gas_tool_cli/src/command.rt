@@ -4,7 +4,7 @@ ghost use Rattle.std.specs.Prelude.{◌≡◌, [], ◌∷◌, ◌++◌, IfOk, fa
 ghost use Rattle.clap.specs.declared.builder.command.Command.TheViews.{out-Command as fields_of};
 ghost use Rattle.clap.specs.Simple.{on_top};
 ghost use Rattle.clap.specs.Words.{App, Rule, Shape, app_of, new_app, rule_of, with_rule, with_subcommand};
-ghost use Rattle.gas_tool_cli.specs.Words.{default_rule, plan_rules, program_app, required_rule, side_rule, subcommand, turns_rule};
+ghost use Rattle.gas_tool_cli.specs.Words.{option_rule, plan_rules, program_app, side_rule, subcommand, turns_rule};
 ghost use Rattle.gas_tool_cli.specs.Inner.{leaf_app};
 
 use crate::help::{self, Help};
@@ -15,15 +15,15 @@ use std::alloc::{AllocError, Global};
 /// The most columns, and the most rows, of a block.
 pub(crate) const MOST_BLOCK_SIDE: u32 = 4096;
 
-// An option `--name VALUE` that must be given.
-fn required_arg<'a>(
+// An option `--name VALUE`.
+fn option_arg<'a>(
     alloc: Global,
     name: &'a str,
     value_name: &'a str,
     values: ValueParser<'a>,
     help: &'a str,
 ) -> Arg<'a>
-    ensures rule { rule_of result ≡ required_rule name.entry.now values.entry }
+    ensures rule { rule_of result ≡ option_rule name.entry.now values.entry }
     ensures local { result.global ≡ false }
 {
     Arg::new(alloc, name)
@@ -31,27 +31,6 @@ fn required_arg<'a>(
         .value_name(value_name)
         .action(ArgAction::Set)
         .value_parser(values)
-        .required(true)
-        .help(help)
-}
-
-// An option `--name VALUE` for a number, with a default.
-fn default_arg<'a>(
-    alloc: Global,
-    name: &'a str,
-    value_name: &'a str,
-    value: &'a str,
-    help: &'a str,
-) -> Arg<'a>
-    ensures rule { rule_of result ≡ default_rule name.entry.now value.entry.now }
-    ensures local { result.global ≡ false }
-{
-    Arg::new(alloc, name)
-        .long(name)
-        .value_name(value_name)
-        .action(ArgAction::Set)
-        .value_parser(value_parser!(u32))
-        .default_value(value)
         .help(help)
 }
 
@@ -61,7 +40,7 @@ fn side_arg<'a>(alloc: Global, name: &'a str, value_name: &'a str, help: &'a str
     ensures local { result.global ≡ false }
 {
     let values = value_parser!(u32).range(1..=i64::from(MOST_BLOCK_SIDE));
-    required_arg(alloc, name, value_name, values, help)
+    option_arg(alloc, name, value_name, values, help).required(true)
 }
 
 fn turns_arg<'a>(alloc: Global) -> Arg<'a>
@@ -107,12 +86,15 @@ fn plan_command<'a>(alloc: Global, name: &'a str, help: Help) -> Result<Command<
     ensures local { IfOk result (λ r. (fields_of r).has_globals ≡ false) }
 {
     let values = value_parser!(u64);
-    let generations = required_arg(alloc, "generations", "G", values, help::GENERATIONS);
-    let stages = default_arg(alloc, "stages", "N", "4", help::STAGES);
-    let capacity = default_arg(alloc, "capacity", "C", "2", help::CAPACITY);
-    let first = with_arg(Ok(new_command(alloc, name, help)), generations);
-    let second = with_arg(first, stages);
-    with_arg(second, capacity)
+    let generations = option_arg(alloc, "generations", "G", values, help::GENERATIONS);
+    let stages = option_arg(alloc, "stages", "N", value_parser!(u32), help::STAGES);
+    let capacity = option_arg(alloc, "capacity", "C", value_parser!(u32), help::CAPACITY);
+    let first = with_arg(
+        Ok(new_command(alloc, name, help)),
+        generations.required(true),
+    );
+    let second = with_arg(first, stages.default_value("4"));
+    with_arg(second, capacity.default_value("2"))
 }
 
 fn coarse_command<'a>(alloc: Global) -> Result<Command<'a>, AllocError>
