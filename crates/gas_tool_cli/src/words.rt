@@ -122,15 +122,10 @@ fn usage_fault(alloc: Global, text: &str) -> UsageFault
 fn usage_of(alloc: Global, error: clap::Error) -> UsageFault
     ensures { TellsKind (kind_of error) result }
 {
-    let kind = error.kind();
-    let Ok(text) = error.to_string(alloc) else {
-        return UsageFault::Memory;
-    };
-    match kind {
-        ErrorKind::OutOfMemory => UsageFault::Memory,
-        ErrorKind::DisplayHelp => UsageFault::Help(text),
-        ErrorKind::DisplayVersion => UsageFault::Help(text),
-        _ => UsageFault::Usage(text),
+    match (error.kind(), error.to_string(alloc)) {
+        (ErrorKind::OutOfMemory, _) | (_, Err(_)) => UsageFault::Memory,
+        (ErrorKind::DisplayHelp | ErrorKind::DisplayVersion, Ok(text)) => UsageFault::Help(text),
+        (_, Ok(text)) => UsageFault::Usage(text),
     }
 }
 
