@@ -189,9 +189,5 @@ fn texts<'a>(alloc: Global, words: &'a [String]) -> Result<Vec<&'a str>, AllocEr
     ensures { IfOk result (λ texts.
         map (λ s. s.now) texts.items ≡ map string_bytes words.entry.now) }
 {
-    let mut texts = Vec::with_capacity(alloc, words.len())?;
-    for word in words {
-        texts.push(word.as_str())?;
-    }
-    Ok(texts)
+    words.iter().map(|word| word.as_str()).collect(alloc)
 }
