@@ -2,7 +2,6 @@
 
 ghost use Rattle.std.specs.Prelude.{◌<◌, ◌++◌, ◌↔◌, [], codes, length, is_some, if◌then◌else◌, IsTrue, IsSome, Option};
 ghost use Rattle.gas_geom.specs.Lattice.{LatticeModel};
-ghost use Rattle.std.specs.Fmt.{decimal};
 ghost use Rattle.std.specs.List.{flat_map, range_with_len};
 ghost use Rattle.std.specs.Option.{option_map_or};
 ghost use Rattle.gas_tool_io.specs.Output.{Writes};
@@ -28,20 +27,8 @@ fn put_done<W: Write>(sink: &mut Sink, out: &mut W, done: bool)
     }
 }
 
-fn put_belt<W: Write>(sink: &mut Sink, out: &mut W, belt: u32, put: u32, taken: u32)
-    ensures { Adds (W.contents out.old) (W.contents out.new) sink.old sink.new
-        (codes "belt " ++ decimal belt
-        ++ codes " put " ++ decimal put ++ codes " taken " ++ decimal taken ++ line_feed) }
-{
-    put_line(
-        sink,
-        out,
-        format_args!("belt {belt} put {put} taken {taken}"),
-    );
-}
-
 #[tactic(auto, unfolding(crate::specs::Replay::belt_line))]
-fn put_belt_of<G: Gas, W: Write>(sink: &mut Sink, out: &mut W, replay: &Replay<G>, belt: u32)
+fn put_belt<G: Gas, W: Write>(sink: &mut Sink, out: &mut W, replay: &Replay<G>, belt: u32)
     requires { belt < length replay.now.belts }
     ensures { Adds (W.contents out.old) (W.contents out.new) sink.old sink.new
         (belt_line replay.now.belts belt) }
@@ -49,7 +36,11 @@ fn put_belt_of<G: Gas, W: Write>(sink: &mut Sink, out: &mut W, replay: &Replay<G
     let (Some(put), Some(taken)) = (replay.put(belt), replay.taken(belt)) else {
         unreachable!()
     };
-    put_belt(sink, out, belt, put, taken);
+    put_line(
+        sink,
+        out,
+        format_args!("belt {belt} put {put} taken {taken}"),
+    );
 }
 
 fn put_belts<G: Gas, W: Write>(sink: &mut Sink, out: &mut W, replay: &Replay<G>)
@@ -57,7 +48,7 @@ fn put_belts<G: Gas, W: Write>(sink: &mut Sink, out: &mut W, replay: &Replay<G>)
         (flat_map (belt_line replay.now.belts) (range_with_len 0 (length replay.now.belts))) }
 {
     for belt in 0..replay.belts() {
-        put_belt_of(sink, out, replay, belt);
+        put_belt(sink, out, replay, belt);
     }
 }
 
