@@ -1,7 +1,6 @@
 //! The printed texts of a lattice: its cells, its summary, and a table of its blocks.
 
-ghost use Rattle.std.specs.Prelude.{◌<◌, ◌++◌, codes};
-ghost use Rattle.std.specs.Fmt.{decimal};
+ghost use Rattle.std.specs.Prelude.{◌<◌, ◌++◌};
 ghost use Rattle.std.specs.List.{flat_map, range_with_len};
 ghost use Rattle.gas_cells.specs.Cells.{row_cells};
 ghost use Rattle.gas_tool_io.specs.Output.{Writes};
@@ -22,19 +21,6 @@ use thiserror::Error;
 #[error("write: failed after {written} bytes")]
 pub struct WriteFault {
     pub written: u64,
-}
-
-// Adds the line above the cells.
-fn put_header<W: Write>(sink: &mut Sink, out: &mut W, generation: u64, particles: u64)
-    ensures { Adds (W.contents out.old) (W.contents out.new) sink.old sink.new
-        (codes "generation " ++ decimal generation
-        ++ codes " particles " ++ decimal particles ++ line_feed) }
-{
-    put_line(
-        sink,
-        out,
-        format_args!("generation {generation} particles {particles}"),
-    );
 }
 
 fn put_row<G: Gas, W: Write>(sink: &mut Sink, out: &mut W, lattice: &Lattice<G>, y: u32)
@@ -69,7 +55,12 @@ pub(crate) fn put_cells<G: Gas, W: Write>(
     ensures { Adds (W.contents out.old) (W.contents out.new) sink.old sink.new
         (cells_text G.rules lattice.now generation) }
 {
-    put_header(sink, out, generation, lattice.count());
+    let particles = lattice.count();
+    put_line(
+        sink,
+        out,
+        format_args!("generation {generation} particles {particles}"),
+    );
     put_rows(sink, out, lattice);
 }
 
@@ -89,28 +80,6 @@ pub fn write_cells<G: Gas, W: Write>(
     sink.finish(out)
 }
 
-fn put_summary_line<W: Write>(
-    sink: &mut Sink,
-    out: &mut W,
-    gas: &str,
-    size: (u32, u32),
-    solid: u64,
-    particles: u64,
-)
-    ensures { Adds (W.contents out.old) (W.contents out.new) sink.old sink.new
-        (codes "gas " ++ gas.now
-        ++ codes " width " ++ decimal size.0 ++ codes " height " ++ decimal size.1
-        ++ codes " solid " ++ decimal solid ++ codes " particles " ++ decimal particles
-        ++ line_feed) }
-{
-    let (width, height) = size;
-    put_line(
-        sink,
-        out,
-        format_args!("gas {gas} width {width} height {height} solid {solid} particles {particles}"),
-    );
-}
-
 /// Writes the summary of a lattice, a line. It has this name of its gas, the width and the height in
 /// cells, and the numbers of solid cells and of particles. Then the writer is flushed once. The
 /// faults are as in `write_cells`. It takes no memory.
@@ -123,15 +92,13 @@ pub fn write_summary<G: Gas, W: Write>(
         (check_text gas.now G.rules lattice.now) result }
 {
     let channel = lattice.channel();
-    let size = (channel.size().width(), channel.size().height());
+    let (width, height) = (channel.size().width(), channel.size().height());
+    let (solid, particles) = (channel.count_solid(), lattice.count());
     let mut sink = Sink::new();
-    put_summary_line(
+    put_line(
         &mut sink,
         out,
-        gas,
-        size,
-        channel.count_solid(),
-        lattice.count(),
+        format_args!("gas {gas} width {width} height {height} solid {solid} particles {particles}"),
     );
     sink.finish(out)
 }
