@@ -96,7 +96,10 @@ fn perform_on<G: Gas + Send, W: Write, H: Gate + Sync, R: Threads + Wait + Sync>
             turns,
         } => {
             let plan = Plan::new(*stages, *capacity, *generations)?;
-            print_replay(alloc, scene, lattice, plan, turns.as_slice(), out)
+            let first = scene.generation();
+            let turns = turns.as_slice();
+            let replay = replay(alloc, lattice, scene.chirality(), first, plan, turns)?;
+            Ok(write_replay(&replay, first + plan.generations(), out)?)
         }
     }
 }
@@ -123,26 +126,6 @@ fn run_scene<G: Gas + Send, H: Gate + Sync, R: Threads + Wait + Sync>(
         plan,
         gate,
     )
-}
-
-// Replays these turns of a pipeline over the lattice of a scene, and prints the state of the pass.
-fn print_replay<G: Gas, W: Write>(
-    alloc: Global,
-    scene: &Scene,
-    lattice: &Lattice<G>,
-    plan: Plan,
-    turns: &[u32],
-    out: &mut W,
-) -> Result<(), ToolError>
-    ensures { Performs
-        (gas_outcome G.rules lattice.now scene.now.chirality scene.now.generation
-        (request_of.Replay plan.stages plan.capacity plan.generations turns.now))
-        (W.contents out.old) (W.contents out.new) result }
-{
-    let first = scene.generation();
-    let replay = replay(alloc, lattice, scene.chirality(), first, plan, turns)?;
-    write_replay(&replay, first + plan.generations(), out)?;
-    Ok(())
 }
 
 /// A run in two parts prints what one run prints, for any numbers of stages and any capacities.
