@@ -13,7 +13,7 @@ use Rattle.gas_geom.specs.Channel.{free_channel}
 use Rattle.gas_geom.specs.Lattice.{LatticeModel, empty_lattice}
 use Rattle.gas_geom.specs.declared.size.TheConstants.{MOST_SIDE}
 use Rattle.gas_cells.specs.declared.reading.Cell.{Cell}
-use Rattle.gas_cells.specs.Reading.{digit_of, state_of, cell_of, cells_in, cell_at, cell_or_empty, bad_column}
+use Rattle.gas_cells.specs.Reading.{digit_of, state_of, cell_of, cells_in, cell_or_empty, bad_column}
 use Rattle.gas_layout.specs.Layout.{between}
 use Rattle.gas_layout.proofs.Steps.{rows_above-next, rows_above-none, rows_above-all}
 use Rattle.gas_scene.specs.declared.error.SceneError.{SceneError}

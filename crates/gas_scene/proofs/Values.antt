@@ -1,5 +1,5 @@
 -- Values and their views, and the members of a table: their keys, and what an insert adds.
-use Rattle.std.proofs.Common.{◌≡◌, ◌&&◌, ℕ, Bool, true, List, [], ◌∷◌, map, refl, ap, sym, ◌∙◌, Vec, Global, String, Ordering, Less, Equal, Greater, string_bytes}
+use Rattle.std.proofs.Common.{◌≡◌, ◌&&◌, Bool, true, List, [], ◌∷◌, map, refl, ap, sym, ◌∙◌, Vec, Global, String, Ordering, Less, Equal, Greater, string_bytes}
 use Rattle.std.specs.Prelude.{is_some}
 use Rattle.std.specs.BTreeMap.{insert_entry}
 use Rattle.std.specs.List.{list_all}

@@ -1,5 +1,5 @@
 -- Why a document's table is no scene.
-use Rattle.std.specs.Prelude.{ℕ, ◌%◌, ◌^◌, ◌==◌, ◌&&◌, ◌||◌, not, Bool, List, [], ◌∷◌, Option, Some, None, is_some, option_map, if◌then◌else◌, length, codes, slice_index_or, ℤ, pos, nat_abs, int_le}
+use Rattle.std.specs.Prelude.{ℕ, ◌%◌, ◌^◌, ◌==◌, ◌&&◌, ◌||◌, not, Bool, List, [], Option, Some, None, is_some, option_map, if◌then◌else◌, length, codes, slice_index_or, ℤ, pos, nat_abs, int_le}
 use Rattle.std.specs.List.{list_all, list_any, position}
 use Rattle.std.specs.Option.{option_or, option_map_or, unwrap_or}
 use Rattle.std.specs.Ordering.{int_eq}

@@ -1,5 +1,5 @@
 -- Lemmas about ranges of numbers, their parts, and lists that grow.
-use Rattle.std.proofs.Common.{◌≡◌, ◌∙◌, ap, sym, cond, true, false, Bool, ℕ, zero, suc, ◌+◌, ◌-◌, ◌*◌, ◌/◌, ◌<◌, ◌≤◌, min, refl, zero-add, append_assoc, arith, List, [], ◌∷◌, ◌++◌, map, length, take, drop, get_or, append-nil, ap₂, length-append}
+use Rattle.std.proofs.Common.{◌≡◌, ◌∙◌, ap, sym, cond, true, false, Bool, ℕ, zero, suc, ◌+◌, ◌-◌, ◌*◌, ◌/◌, ◌<◌, ◌≤◌, min, refl, zero-add, append_assoc, arith, List, [], ◌∷◌, ◌++◌, map, append-nil, ap₂}
 use Rattle.std.specs.Prelude.{◌==◌, filter}
 use Rattle.std.specs.Int.{div_ceil}
 use Rattle.std.specs.List.{range_with_len, flat_map}

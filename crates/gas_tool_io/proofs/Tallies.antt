@@ -1,7 +1,6 @@
 -- Lemmas about how a block's numbers add up.
-use Rattle.std.proofs.Common.{◌≡◌, ◌∙◌, ap, sym, subst, true, false, Bool, ℕ, zero, suc, ◌+◌, ◌-◌, ◌*◌, ◌/◌, ◌<◌, ◌≤◌, min, refl, pos, negsuc, ◌+ℤ◌, ◌≤ℤ◌, neg_ℤ, ℤ, add-zero, zero-add, arith, List, [], ◌∷◌, ◌++◌, map, fold, length, slice_index_or, append-nil, ap₂, length-append}
-use Rattle.std.specs.Prelude.{All, ◌==◌, if◌then◌else◌, not, unsigned_abs}
-use Rattle.std.specs.Int.{div_ceil}
+use Rattle.std.proofs.Common.{◌≡◌, ◌∙◌, ap, sym, ℕ, suc, ◌+◌, ◌-◌, ◌*◌, ◌<◌, ◌≤◌, min, refl, pos, negsuc, ◌+ℤ◌, ◌≤ℤ◌, neg_ℤ, ℤ, arith, List, [], ◌∷◌, ◌++◌, map, fold, slice_index_or, append-nil}
+use Rattle.std.specs.Prelude.{if◌then◌else◌, not, unsigned_abs}
 use Rattle.std.specs.List.{range_with_len, flat_map}
 use Rattle.std.proofs.lemmas.Int.{ints}
 use Rattle.std.proofs.lemmas.Grind.{flat_map-append}

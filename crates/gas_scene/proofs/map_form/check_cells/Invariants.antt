@@ -1,4 +1,4 @@
-use Rattle.std.proofs.Common.{◌≡◌, ℕ, ◌<◌, false, length}
+use Rattle.std.proofs.Common.{◌≡◌, ℕ, ◌<◌, false}
 use Rattle.std.specs.Prelude.{is_some}
 use Rattle.gas_cells.specs.Reading.{bad_column}
 use Rattle.gas_scene.specs.Inner.Models.{texts_of}

@@ -1,4 +1,4 @@
-use Rattle.std.proofs.Common.{◌≡◌, ◌∙◌, ◌<◌, ◌≤◌, ◌+◌, ◌-◌, ◌*◌, ℕ, List, [], Bool, min, ap, ap₂, subst, sym, slice_index_or, fold, arith, rules}
+use Rattle.std.proofs.Common.{◌≡◌, ◌∙◌, ◌<◌, ◌+◌, ◌-◌, ◌*◌, ℕ, List, [], Bool, min, ap, ap₂, subst, slice_index_or, fold, arith, rules}
 use Rattle.std.specs.List.{range_with_len}
 use Rattle.gas_geom.specs.Channel.{ChannelModel}
 use Rattle.gas_geom.specs.declared.size.TheConstants.{MOST_SIDE}
