@@ -4,8 +4,9 @@
 thread joined and all memory freed, and print nothing. Otherwise it must end with 0, without a request between the last start of a thread
 and the first join. Then the program runs under limits of its address space. Ends with the counts.
 
-The program collects its words by the kit's `collect`, which asks for room for all of them and, if that is refused, again for less. One
-request of a run may therefore be refused by itself and the run continue. It must then print the whole usual answer."""
+The program collects its words, and then their texts, by the kit's `collect`, which asks for room for all of them and, if that is refused,
+again for less. Two requests of a run may therefore be refused by themselves and the run continue. It must then print the whole usual
+answer."""
 
 import concurrent.futures
 import os
@@ -129,7 +130,7 @@ def main():
             sweep(pool, library, call, [PROBES, call], os.devnull, b"")
         for scene, words in REQUESTS:
             path = TOP / f"scenes/{scene}.toml"
-            sweep(pool, library, f"{scene} {words}", [PROGRAM, *words.split()], path, b"memory refused\n", most_asked_again=1)
+            sweep(pool, library, f"{scene} {words}", [PROGRAM, *words.split()], path, b"memory refused\n", most_asked_again=2)
         drift = TOP / "scenes/drift.toml"
         words = ["run", "--stages", "2", "--generations"]
         holds_places(library, drift, 6 * 8)  # a row of four cells: a word for each direction
