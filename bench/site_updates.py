@@ -4,17 +4,20 @@ FHP-I, filled at rate 300: one stage on one thread (probes), C on bit planes in 
 what one would write in an afternoon, in C (tests/oracles/bytes.c) and in numpy (bytes.py, if numpy is installed, and only with chirality "left"). Under a seed
 it also makes only the random bits of the same number of updates.
 
-Every program takes its turn in every round. A figure is the best of the rounds, followed by how many times longer the worst one took. The
-cost of reading and printing is taken off by a run of 0 generations. All must print the same cells. All are built for the level of the
-processor that the program was built for. Use an idle machine.
+Every program takes its turn in every round. A figure is the best of the rounds, followed by the middle one. The cost of reading and printing
+is taken off by runs of 0 generations: their best from the best, their middle from the middle, because the difference of two runs next to each
+other says little if the machine was slow in one of them. All must print the same cells. All are built for the level of the processor that the
+program was built for. Use an idle machine.
 Programs that keep a byte per cell compute a twentieth of the generations, and numpy a two-hundredth. Their cells are compared with the
 cells of bands.c.
 """
 import argparse
+import collections
 import hashlib
 import importlib.util
 import os
 import pathlib
+import statistics
 import subprocess
 import sys
 import tempfile
@@ -73,25 +76,24 @@ class Bench:
                               f'height = {self.height}\nrate = 300\n')
         timed([PROGRAM, "run", "--generations", "0"], self.scene, self.start)
         self.wanted = {}
-        self.best, self.worst = {}, {}
+        self.seconds = collections.defaultdict(lambda: ([], []))
 
     def check(self, name, generations):
         found = digest(self.out)
         if self.wanted.setdefault(generations, found) != found:
             sys.exit(f"{name} prints another lattice")
 
-    def add(self, name, seconds, generations):
-        """Counts a round, in seconds per generation."""
-        each = seconds / generations
-        self.best[name] = min(each, self.best.get(name, each))
-        self.worst[name] = max(each, self.worst.get(name, each))
+    def add(self, name, whole, generations, none=0.0):
+        """Counts a round: the seconds per generation of a whole run, and of one of 0 generations."""
+        for kept, seconds in zip(self.seconds[name], (whole, none)):
+            kept.append(seconds / generations)
 
     def ours(self, name, words):
-        """The time of the generations, by a program whose last word is their number: the whole run's time less a run's of 0 generations."""
+        """A program whose last word is the number of generations."""
         none = timed([*words, "0"], self.scene, self.room / "none")
         whole = timed([*words, str(self.generations)], self.scene, self.out)
         self.check(name, self.generations)
-        self.add(name, whole - none, self.generations)
+        self.add(name, whole, self.generations, none)
 
     def seconds_of(self, name, program, generations, *words):
         """The time that a program reports for its generations, if it prints the cells that the others print."""
@@ -114,7 +116,7 @@ class Bench:
     def random_bits(self, name):
         rows = self.width * self.height * self.generations // CELLS_OF_KEY_ROW
         none, whole = (timed([*KEY_STREAM, str(count)], self.scene, self.room / "word") for count in (0, rows))
-        self.add(name, whole - none, self.generations)
+        self.add(name, whole, self.generations, none)
 
     def round(self):
         processors = os.cpu_count() or 1
@@ -133,10 +135,10 @@ class Bench:
 
     def table(self):
         print(f"\n{self.width} x {self.height}, {self.chirality}, {self.generations} generations\n")
-        print("| program | MLUPS | worst / best |\n|---|---|---|")
-        for name, seconds in self.best.items():
-            updates = self.width * self.height / seconds / 1e6
-            print(f"| {name} | {updates:,.{0 if updates >= 100 else 1}f} | {self.worst[name] / seconds:.2f} |", flush=True)
+        print("| program | best | middle |\n|---|---|---|")
+        for name, (whole, none) in self.seconds.items():
+            updates = (self.width * self.height / (of(whole) - of(none)) / 1e6 for of in (min, statistics.median))
+            print(f"| {name} |", *(f"{each:,.{0 if each >= 100 else 1}f} |" for each in updates), flush=True)
 
 
 def main():
@@ -150,7 +152,7 @@ def main():
     with tempfile.TemporaryDirectory() as folder:
         room = pathlib.Path(folder)
         level = build(room)
-        print(f"{os.cpu_count()} processors, built for {level}, best of {options.rounds}")
+        print(f"MLUPS on {os.cpu_count()} processors, built for {level}, {options.rounds} rounds")
         for lattice in options.lattices:
             bench = Bench(room, lattice, options)
             for _ in range(options.rounds):
