@@ -1,15 +1,14 @@
 #!/usr/bin/env python3
 """Site updates per second (cells times generations by seconds) of `fhpgas run` and of other programs that compute the same lattice of
-FHP-I, filled at rate 300: one stage on one thread (probes), C on bit planes in place, on one thread and in bands on all (tests/oracles/bands.c), and
-what one would write in an afternoon, in C (tests/oracles/bytes.c) and in numpy (bytes.py, if numpy is installed, and only with chirality "left"). Under a seed
-it also makes only the random bits of the same number of updates.
+FHP-I, filled at rate 300: one stage on one thread (probes), C on bit planes in place, on one thread and in bands on all
+(tests/oracles/bands.c), and what one would write in an afternoon, in C (tests/oracles/bytes.c) and in numpy (bytes.py, if numpy is
+installed, and only with chirality "left"). Under a seed it also makes only the random bits of the same number of updates.
 
-Every program takes its turn in every round. A figure is the best of the rounds, followed by the middle one. The cost of reading and printing
-is taken off by runs of 0 generations: their best from the best, their middle from the middle, because the difference of two runs next to each
-other says little if the machine was slow in one of them. All must print the same cells. All are built for the level of the processor that the
-program was built for. Use an idle machine.
-Programs that keep a byte per cell compute a twentieth of the generations, and numpy a two-hundredth. Their cells are compared with the
-cells of bands.c.
+Every program takes its turn in every round. A figure is the best of the rounds, followed by the middle one. The cost of reading and
+printing is taken off by runs of 0 generations: their best from the best, their middle from the middle, because the difference of two runs
+says little if the machine was slow in one of them. All must print the same cells. All are built for the level of the processor that the
+program was built for. Use an idle machine. Programs that keep a byte per cell compute a twentieth of the generations, and numpy a
+two-hundredth. Their cells are compared with the cells of bands.c.
 """
 import argparse
 import collections
