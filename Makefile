@@ -1,19 +1,21 @@
 # Proves the crates over what the crates below them state, several side by side, and links the programs.
 #
-#   make                  builds fhpgas for this machine (CPU=x86-64-v2: for that level), or make NAME a crate of crates.txt
-#   make quick            runs the tests that prove nothing
-#   make test             proves all from scratch, and runs every test
+#   make                  builds fhpgas for this machine (CPU=x86-64-v2: for that level) and the engine
+#   make engine           builds the engine for Python and C, python/fhpgas/libfhpgas-*.so, and for the page, page/engine.js, if wasm-opt is here
+#   make NAME             builds a crate of crates.txt
+#   make quick            runs the tests for the time between edits, which prove nothing
+#   make package          runs the tests of the package, the notebook and the page, on the program that FHPGAS names
+#   make test             sets up what is missing (SETUP=no: nothing), proves all from scratch, and runs every test
+#   make page             bundles page/src into page/fhpgas.html, by esbuild
+#   make wheel            packs the Python package into out/, with the engine for Linux, and without it for other systems
 #   make archive FILE=F   packs fhpgas, built apart for x86-64-v2, into F, a .tar.gz for machines without the kit
 #   make clean            removes all that was built
 #
 # A crate is proved again only if the content of what its proof reads changed: kit, line of crates.txt, files, libraries below it.
 SHELL := /bin/bash
 .SHELLFLAGS := -O extglob -euo pipefail -c
-.DEFAULT_GOAL := fhpgas
+.DEFAULT_GOAL := all
 .ONESHELL:
-CPU := $(if $(filter archive,$(MAKECMDGOALS)),x86-64-v2,$(shell tools/level))
-out := $(if $(filter archive,$(MAKECMDGOALS)),out/v2,out)
-kit := $(patsubst %/START-HERE.md,%,$(shell rt doc 2> /dev/null))
 processors := $(shell nproc)
 
 # A proof takes up to 3 GB. There are two more than processors at a time, because the end of a proof is one processor's.
@@ -21,50 +23,71 @@ MAKEFLAGS += --no-print-directory -j$(shell awk -v most=$$(($(processors) + 2)) 
     '/^MemAvailable/ { n = int($$2 / 3e6); print (n < 1 ? 1 : (n > most ? most : n)) }' /proc/meminfo)
 unexport MAKEFLAGS
 
+.PHONY: quick package test page archive clean help
+quick package test: ; @tests/all.sh $@
+page: ; @node page/build.mjs
+clean: ; rm -rf crates/*/out out $(if $(wildcard crates.txt),python/fhpgas/libfhpgas-*.so page/engine.js)
+help: ; @sed -n 's/^#   //p' Makefile
+
+# All below proves and builds. An unpacked archive, in which the rest works too, has no crates.
+ifneq ($(filter-out quick package test page clean help,$(or $(MAKECMDGOALS),all)),)
+CPU := $(if $(filter archive,$(MAKECMDGOALS)),x86-64-v2,$(shell tools/level))
+out := $(if $(filter archive,$(MAKECMDGOALS)),out/v2,out)
+kit := $(patsubst %/START-HERE.md,%,$(shell rt doc 2>&1 || :))
+
 # The crates in the order in which they begin, with the seconds that one processor takes to prove each: first the ones for which the longest
 # chains of others wait. A crate that has several processors is proved sooner with a third more work, so the one that has time takes one.
 costs := gas_geom:30 gas_bits:60 gas_rows:120 gas_tool_cli:120 gas_layout:55 gas_cells:20 gas_scene:175 gas_belt:90 gas_stage:65 \
-    gas_pipe_model:10 gas_pipe_members:115 gas_pipe_replay:70 gas_pipe:190 gas_tool_io:95 gas_tool:80 fhpgas:70
+    gas_pipe_model:10 gas_pipe_members:115 gas_pipe_replay:70 gas_pipe:190 gas_tool_io:95 gas_tool:80 gas_export:75 fhpgas:70
 order := $(foreach c,$(costs),$(firstword $(subst :, ,$c)))
 jobs = $(if $(filter gas_tool_cli,$@),1,$(processors))
 
 # From crates.txt, in which lower crates come first: uses_NAME is what the line of a crate names, own_NAME what of that is built here,
-# and below_NAME all built here that it needs.
-lines := $(shell sed -n 's/ /|/g; /^[a-z]/p' crates.txt)
+# and below_NAME all built here that it needs. AS_IS=1 takes the libraries below as rt left them.
+statics := $(shell sed -n 's/ staticlib:.*//p' crates.txt)
+lines := $(shell sed -n 's/ staticlib:/:/; s/ /|/g; /^[a-z]/p' crates.txt)
 names := $(foreach l,$(lines),$(firstword $(subst :, ,$l)))
 $(foreach l,$(lines),$(eval uses_$(subst :,:=,$(subst |, ,$l))))
 $(foreach c,$(names),$(eval own_$c := $(filter $(names),$(uses_$c))))
 $(foreach c,$(names),$(eval below_$c := $(sort $(own_$c) $(foreach d,$(own_$c),$(below_$d)))))
-$(foreach c,$(names),$(eval $c: $(filter $(below_$c),$(order)) $(filter-out $(order),$(own_$c))))
-wanted := $(sort $(foreach c,$(or $(filter $(names),$(MAKECMDGOALS)),fhpgas),$c $(below_$c)))
+$(if $(AS_IS),,$(foreach c,$(names),$(eval $c: $(filter $(below_$c),$(order)) $(filter-out $(order),$(own_$c)))))
+wanted := $(sort $(foreach c,$(or $(filter $(names),$(MAKECMDGOALS:engine=$(statics))),fhpgas $(statics)),$c $(below_$c)))
 is_program = $(wildcard crates/$@/src/main.rt)
+is_static = $(filter $(statics),$@)
 
 flags = --crate-name $@ --links $@= --jobs $(jobs) -L dependency=$(kit)/rlibs \
     $(foreach d,std $(filter-out $(names),$(uses_$@)),--extern $d=$(kit)/rlibs/$d.rlib) \
     $(foreach d,$(own_$@),--extern $d=../$d/out/rlib/$d.rlib) $(foreach d,$(below_$@),-L dependency=../$d/out/rlib) \
     --antt-project $(kit)/rattle/logic/antt-project.json --logic-built $(kit)/logic_built
-library = src/lib.rt --statements -o out/new/$@.rlib
-program = src/main.rt --cpu $(CPU) --toolchain $(kit)/toolchain -o out/new/$@.o
+library = $(kit)/bin/rattle build src/lib.rt --statements -o out/new/$@.rlib
+program = $(kit)/bin/rattle build src/main.rt --list-axioms --cpu $(CPU) --toolchain $(kit)/toolchain -o out/new/$@.o
+static = ../../tools/inside.sh $(kit)
 link = $(kit)/bin/rattle-link --target x86_64-unknown-linux-gnu --toolchain $(kit)/toolchain -o out/new/$@ out/new/$@.o \
     $(kit)/c/libos_c.a $(kit)/c/liblibc_c.a >> out/build.log 2>&1 && mv out/new/$@ $(out)/$@ && rm -r out/new && echo $(CPU) > $(out)/level
+libraries := $(addprefix ../../python/fhpgas/libfhpgas-x86-64-,v2.so v3.so)
+lowering := $(shell wasm-opt --version 2> /dev/null)
+install = mv out/new/*.map out && mv out/new/*.so ../../python/fhpgas && rm -f ../../page/engine.js && \
+    $(if $(lowering),mv out/new/engine.js ../../page,echo 'page/engine.js is left out: apt-get install binaryen') && rm -r out/new
 
-# The file that represents a crate once it is made, and the sums of what it was made from. rt removes both with the library. A crate is
-# made in out/new and moved when it is whole, so an interrupted build leaves none half made.
-made = $(if $(is_program),$(out)/$@,out/rlib/$@.rlib/format)
-sums = $(if $(is_program),$(out)/sums,out/rlib/sums)
+# The files that represent a crate once it is made, and the sums of what it was made from. rt removes both with a library for crates. A crate
+# is made in out/new and moved when it is whole, so an interrupted build leaves none half made.
+of_kind = $(if $(is_program),$1,$(if $(is_static),$2,$3))
+made = $(call of_kind,$(out)/$@,$(libraries) $(if $(lowering),../../page/engine.js),out/rlib/$@.rlib/format)
+sums = $(call of_kind,$(out)/sums,out/sums,out/rlib/sums)
 
 # The crates that are done, and when the first began: a program is as old as that, so that a source which is edited meanwhile is newer.
 tally := ../fhpgas/out/tally
 begun := ../fhpgas/out/begun
 told := ../fhpgas/out/told
 done = $(if $(is_program),touch -r $(begun) $(made);) echo $@ >> $(tally)
-$(if $(filter quick test clean help,$(MAKECMDGOALS)),,$(shell mkdir -p crates/fhpgas/$(out) $(wanted:%=crates/%/out) && cd crates/fhpgas && \
-    rm -rf $(told) && : > $(tally) && touch $(begun)))
+$(shell mkdir -p crates/fhpgas/$(out) $(wanted:%=crates/%/out) && cd crates/fhpgas && rm -rf $(told) && : > $(tally) && touch $(begun))
 
 # While it is proved, a crate's folder has rt's lock, and the folders below a shared one.
-.PHONY: $(names) quick test archive clean help
+.PHONY: all engine wheel $(names)
+all: fhpgas engine
+engine: $(statics)
 $(names):
-	@$(if $(kit),,$(error the Rattle kit's command rt is not on the PATH: see README.md))
+	@$(if $(wildcard $(kit)/KIT-ID),,$(error the Rattle kit does not answer, see README.md: $(kit)))
 	cd crates/$@
 	for crate in $(sort $@ $(below_$@)); do
 	    exec {held}< ../$$crate
@@ -72,7 +95,7 @@ $(names):
 	    flock -n $$way $$held || { echo "$@: waiting for another run in crates/$$crate to end"; flock $$way $$held; }
 	done
 	sum() {
-	    { echo '$(uses_$@)$(if $(is_program), $(CPU))'
+	    { echo '$(uses_$@)$(call of_kind, $(CPU), $(lowering),)'
 	        cat $(kit)/KIT-ID $(kit)/WHAT $(foreach d,$(below_$@),../$d/out/rlib/$d.rlib/format)
 	        find @(src|specs|proofs) -type f -print0 | LC_ALL=C sort -z | xargs -0 sha256sum; } | sha256sum
 	}
@@ -85,11 +108,11 @@ $(names):
 	[ "$$(cat $(sums) 2>&1)" != "$$sum $$(sha256sum $(made) 2>&1)" ] || { $(done); exit; }
 	trap exit TERM INT HUP; trap 'kill $${!-} 2> /dev/null || :; rm -rf out/new' EXIT
 	mkdir $(told) 2> /dev/null && echo "$@ is proved now, and then what is above it" || :
-	rm -rf out/new $(if $(is_program),$(sums),out/rlib) && mkdir -p out/new
-	$(kit)/bin/rattle build $(if $(is_program),$(program),$(library)) $(flags) > out/build.log 2>&1 < /dev/null &
+	rm -rf out/new $(sums) $(call of_kind,,,out/rlib) && mkdir -p out/new
+	$(call of_kind,$(program),$(static),$(library)) $(flags) > out/build.log 2>&1 < /dev/null &
 	wait $$! || fail
 	[ "$$(sum)" = "$$sum" ] || { echo "crate $@: a file that its proof reads changed meanwhile" >&2; exit 1; }
-	$(if $(is_program),$(link),mv out/new out/rlib) || fail
+	$(call of_kind,$(link),{ $(install); },mv out/new out/rlib) || fail
 	trap - EXIT
 	echo "$$sum $$(sha256sum $(made))" > $(sums)
 	$(done)
@@ -97,8 +120,6 @@ $(names):
 	    $(tally) <(printf '%s\n' $(filter $(wanted:%=%:%),$(costs))))
 	echo "$@ proved in $$SECONDS s ($$(wc -l < $(tally)) of $(words $(wanted)), about $$left min left)"
 
-quick: ; @tests/quick.sh
-test: ; @tests/all.sh
-archive: $(if $(FILE),fhpgas) ; @tools/archive.sh "$(FILE)" crates/fhpgas/$(out)/fhpgas
-clean: ; rm -rf crates/*/out out
-help: ; @sed -n 's/^#   //p' Makefile
+wheel: engine ; @tools/wheel.sh out && tools/wheel.sh out any
+archive: $(if $(FILE),all) ; @tools/archive.sh "$(FILE)" crates/fhpgas/$(out)/fhpgas
+endif

@@ -14,13 +14,22 @@ BITS = (1, 2, 4, 8, 16, 32)  # of the directions, counterclockwise from east
 COLLISIONS = np.arange(64, dtype=np.uint8)
 for before, after in ((9, 18), (18, 36), (36, 9), (21, 42), (42, 21)):
     COLLISIONS[before] = after
-COLUMNS = ((1, 1), (0, 1), (-1, 0), (-1, -1), (-1, 0), (0, 1))  # that the directions move by, in even rows and in odd ones
+COLUMNS = (
+    (1, 1),
+    (0, 1),
+    (-1, 0),
+    (-1, -1),
+    (-1, 0),
+    (0, 1),
+)  # that the directions move by, in even rows and in odd ones
 ROWS = (0, -1, -1, 0, 1, 1)
 
 
 def shifted(cells, even, columns, sign):
     """The rows moved by the columns of a direction, or back."""
-    return np.where(even[:, None], np.roll(cells, sign * columns[0], 1), np.roll(cells, sign * columns[1], 1))
+    return np.where(
+        even[:, None], np.roll(cells, sign * columns[0], 1), np.roll(cells, sign * columns[1], 1)
+    )
 
 
 def step(states, solid):
@@ -49,8 +58,10 @@ def read_cells():
 
 
 def print_cells(generation, states, solid):
-    cells = [["##" if is_solid else f"{state:02x}" if state else ".." for state, is_solid in zip(*rows)]
-             for rows in zip(states.tolist(), solid.tolist())]
+    cells = [
+        ["##" if is_solid else f"{state:02x}" if state else ".." for state, is_solid in zip(*rows)]
+        for rows in zip(states.tolist(), solid.tolist())
+    ]
     particles = sum(state.bit_count() for row in states.tolist() for state in row)
     print(f"generation {generation} particles {particles}")
     print("\n".join(map("".join, cells)))

@@ -29,8 +29,14 @@ PROBES = ROOT / "crates/probes/out/probes"
 SINGLE = [PROBES, "single_stage"]
 KEY_STREAM = [PROBES, "key_stream"]
 CELLS_OF_KEY_ROW = 4096 * 32
-LATTICES = ["256x256x8000:left", "256x256x8000:seeded", "1024x1024x1500:left", "1024x1024x1000:seeded", "4096x1024x600:left",
-            "4096x1024x300:seeded"]
+LATTICES = [
+    "256x256x8000:left",
+    "256x256x8000:seeded",
+    "1024x1024x1500:left",
+    "1024x1024x1000:seeded",
+    "4096x1024x600:left",
+    "4096x1024x300:seeded",
+]
 C_PROGRAMS = ["bands", "bytes"]
 SEED = "1"
 
@@ -40,7 +46,14 @@ def build(room):
     subprocess.run(["make", "-C", ROOT, "fhpgas", "probes"], stdout=sys.stderr, check=True)
     level = LEVEL.read_text().strip()
     for name in C_PROGRAMS:
-        words = ["-O3", "-march=" + level, "-pthread", "-o", room / name, ROOT / f"tests/oracles/{name}.c"]
+        words = [
+            "-O3",
+            "-march=" + level,
+            "-pthread",
+            "-o",
+            room / name,
+            ROOT / f"tests/oracles/{name}.c",
+        ]
         subprocess.run(["cc", *words], check=True)
     return level
 
@@ -56,7 +69,9 @@ def timed(words, given, out):
 def told(words, given, out):
     """The seconds that a program says its generations took."""
     with open(given) as source, open(out, "w") as sink:
-        ran = subprocess.run(words, stdin=source, stdout=sink, stderr=subprocess.PIPE, text=True, check=True)
+        ran = subprocess.run(
+            words, stdin=source, stdout=sink, stderr=subprocess.PIPE, text=True, check=True
+        )
     return float(ran.stderr)
 
 
@@ -71,8 +86,10 @@ class Bench:
         self.width, self.height, self.generations = (int(word) for word in size.split("x"))
         self.room, self.options = room, options
         self.scene, self.start, self.out = room / "scene", room / "start", room / "out"
-        self.scene.write_text(f'version = 2\ngas = "fhp1"\nchirality = "{self.chirality}"\nseed = {SEED}\nwidth = {self.width}\n'
-                              f'height = {self.height}\nrate = 300\n')
+        self.scene.write_text(
+            f'version = 2\ngas = "fhp1"\nchirality = "{self.chirality}"\nseed = {SEED}\nwidth = {self.width}\n'
+            f"height = {self.height}\nrate = 300\n"
+        )
         timed([PROGRAM, "run", "--generations", "0"], self.scene, self.start)
         self.wanted = {}
         self.seconds = collections.defaultdict(lambda: ([], []))
@@ -114,7 +131,9 @@ class Bench:
 
     def random_bits(self, name):
         rows = self.width * self.height * self.generations // CELLS_OF_KEY_ROW
-        none, whole = (timed([*KEY_STREAM, str(count)], self.scene, self.room / "word") for count in (0, rows))
+        none, whole = (
+            timed([*KEY_STREAM, str(count)], self.scene, self.room / "word") for count in (0, rows)
+        )
         self.add(name, whole, self.generations, none)
 
     def round(self):
@@ -127,7 +146,18 @@ class Bench:
         for capacity in self.options.capacities:
             for stages in self.options.stages:
                 plan = f"N = {stages}, C = {capacity}"
-                self.ours(plan, [PROGRAM, "run", "--stages", str(stages), "--capacity", str(capacity), "--generations"])
+                self.ours(
+                    plan,
+                    [
+                        PROGRAM,
+                        "run",
+                        "--stages",
+                        str(stages),
+                        "--capacity",
+                        str(capacity),
+                        "--generations",
+                    ],
+                )
         self.slower("C, a byte a cell", 20, [self.room / "bytes"])
         if self.chirality == "left" and importlib.util.find_spec("numpy"):
             self.slower("numpy", 200, [sys.executable, ROOT / "bench/bytes.py"])
@@ -136,17 +166,28 @@ class Bench:
         print(f"\n{self.width} x {self.height}, {self.chirality}, {self.generations} generations\n")
         print("| program | best | middle |\n|---|---|---|")
         for name, (whole, none) in self.seconds.items():
-            updates = (self.width * self.height / (of(whole) - of(none)) / 1e6 for of in (min, statistics.median))
-            print(f"| {name} |", *(f"{each:,.{0 if each >= 100 else 1}f} |" for each in updates), flush=True)
+            updates = (
+                self.width * self.height / (of(whole) - of(none)) / 1e6
+                for of in (min, statistics.median)
+            )
+            print(
+                f"| {name} |",
+                *(f"{each:,.{0 if each >= 100 else 1}f} |" for each in updates),
+                flush=True,
+            )
 
 
 def main():
-    words = argparse.ArgumentParser(description=__doc__, formatter_class=argparse.RawDescriptionHelpFormatter)
+    words = argparse.ArgumentParser(
+        description=__doc__, formatter_class=argparse.RawDescriptionHelpFormatter
+    )
     words.add_argument("--rounds", type=int, default=3)
     numbers = lambda text: [int(word) for word in text.split(",")]
     words.add_argument("--stages", type=numbers, default=[1, 2, 3, 4, 8, 16, 32], metavar="N,N..")
     words.add_argument("--capacities", type=numbers, default=[2, 32, 128], metavar="C,C..")
-    words.add_argument("lattices", nargs="*", default=LATTICES, metavar="WIDTHxHEIGHTxGENERATIONS[:left|seeded]")
+    words.add_argument(
+        "lattices", nargs="*", default=LATTICES, metavar="WIDTHxHEIGHTxGENERATIONS[:left|seeded]"
+    )
     options = words.parse_args()
     with tempfile.TemporaryDirectory() as folder:
         room = pathlib.Path(folder)

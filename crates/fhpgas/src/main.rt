@@ -5,12 +5,24 @@ mod terminal;
 
 use crate::terminal::Terminal;
 use gas_tool::{Fault, UsageFault, answer};
-use std::env;
+use std::os::unix::fs::{FileTypeExt, MetadataExt};
 use std::process::ExitCode;
+use std::rt::Files;
+use std::{env, fs};
+
+// Whether this is a terminal, by its device's number. Linux's list of devices has consoles and
+// serial lines under 4 and 5, and pseudo terminals under 136 to 143.
+fn is_terminal<R: Files>(rt: &R, path: &str) -> bool {
+    let Ok(metadata) = fs::metadata(rt, path) else {
+        return false;
+    };
+    let device = metadata.rdev() >> 8 & 0xfff;
+    metadata.file_type().is_char_device() && matches!(device, 4 | 5 | 136..=143)
+}
 
 // Prints a fault. The texts of help and usage have line feeds of their own. A failure to print is
 // ignored.
-fn tell(rt: &HostRuntime, fault: &Fault) {
+fn tell<R: Print + Eprint>(rt: &R, fault: &Fault) {
     let _ = match fault {
         Fault::Usage(UsageFault::Help(text)) => print!(rt; "{text}"),
         Fault::Usage(UsageFault::Usage(text)) => eprint!(rt; "{text}"),
@@ -21,7 +33,9 @@ fn tell(rt: &HostRuntime, fault: &Fault) {
 fn main(rt: HostRuntime) -> ExitCode {
     let words = env::args(&rt);
     let mut input = rt.reader();
-    let mut terminal = Terminal::new(&rt);
+    let prompts = is_terminal(&rt, "/proc/self/fd/0");
+    let reports = is_terminal(&rt, "/proc/self/fd/2");
+    let mut terminal = Terminal::new(&rt, prompts, reports);
     let mut out = rt.stdout();
     match answer(&rt, rt.alloc(), words, &mut input, &mut terminal, &mut out) {
         Ok(()) => ExitCode::SUCCESS,

@@ -2,33 +2,15 @@
 
 use gas_pipe::Gate;
 use gas_tool::{Request, Watch};
-use std::fs;
-use std::os::unix::fs::{FileTypeExt, MetadataExt};
-use std::rt::{Clock, Files};
+use std::rt::Clock;
 use std::sync::atomic::{AtomicU64, Ordering};
 use std::time::Instant;
-
-// The program's standard input.
-const INPUT: &str = "/proc/self/fd/0";
-
-// Its standard error.
-const ERRORS: &str = "/proc/self/fd/2";
 
 // The fewest milliseconds between two writings of the line.
 const LINE_MILLISECONDS: u64 = 100;
 
 // Goes back to the start of the line and wipes it.
 const WIPE: &str = "\r\x1b[K";
-
-// Whether this is a terminal, by its device's number. Linux's list of devices has consoles and
-// serial lines under 4 and 5, and pseudo terminals under 136 to 143.
-fn is_terminal<R: Files>(rt: &R, path: &str) -> bool {
-    let Ok(metadata) = fs::metadata(rt, path) else {
-        return false;
-    };
-    let device = metadata.rdev() >> 8 & 0xfff;
-    metadata.file_type().is_char_device() && matches!(device, 4 | 5 | 136..=143)
-}
 
 // A run and the passes that its last worker has begun. If it begins one, all before it are over.
 #[derive(Drop)]
@@ -98,18 +80,25 @@ impl Progress {
     }
 }
 
-/// Prompts for a scene if standard input is a terminal. If standard error is one, it says there how
-/// many generations of a run are computed, and their share of all, in a line that is wiped when the
-/// last worker leaves. A failure to print is ignored.
+/// Prompts for a scene if it `prompts`. If it `reports`, it says how many generations of a run are
+/// computed, and their share of all, in a line that is wiped when the last worker leaves. All goes to
+/// standard error, and a failure to print is ignored.
 #[derive(Drop)]
 pub(crate) struct Terminal<'a, R> {
     rt: &'a R,
+    prompts: bool,
+    reports: bool,
     run: Option<Progress>,
 }
 
 impl<'a, R> Terminal<'a, R> {
-    pub(crate) fn new(rt: &'a R) -> Self {
-        Terminal { rt, run: None }
+    pub(crate) fn new(rt: &'a R, prompts: bool, reports: bool) -> Self {
+        Terminal {
+            rt,
+            prompts,
+            reports,
+            run: None,
+        }
     }
 
     // The run, if `who` is its last worker.
@@ -118,7 +107,7 @@ impl<'a, R> Terminal<'a, R> {
     }
 }
 
-impl<R: Files + Clock + Eprint> Gate for Terminal<'_, R> {
+impl<R: Clock + Eprint> Gate for Terminal<'_, R> {
     fn enter(&self, who: u32) {
         if let Some(run) = self.run_of(who) {
             run.begin_pass(self.rt);
@@ -132,9 +121,9 @@ impl<R: Files + Clock + Eprint> Gate for Terminal<'_, R> {
     }
 }
 
-impl<R: Files + Clock + Eprint> Watch for Terminal<'_, R> {
+impl<R: Clock + Eprint> Watch for Terminal<'_, R> {
     fn before_input(&mut self) {
-        if is_terminal(self.rt, INPUT) {
+        if self.prompts {
             let _ = eprintln!(self.rt;
                 "fhpgas: type a scene, and end it by Ctrl-D on a line of its own"
             );
@@ -142,7 +131,7 @@ impl<R: Files + Clock + Eprint> Watch for Terminal<'_, R> {
     }
 
     fn before_request(&mut self, request: &Request) {
-        if is_terminal(self.rt, ERRORS) {
+        if self.reports {
             self.run = Progress::of(self.rt, request);
         }
     }

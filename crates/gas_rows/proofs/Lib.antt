@@ -3,6 +3,6 @@ pub mod Collisions
 pub mod Counting
 pub mod Lattices
 pub mod Masks
-pub mod PlaneWrites
 pub mod Rows
 pub mod Sums
+pub mod Streaming

@@ -8,15 +8,15 @@ use gas_geom::gas::Gas;
 
 /// What a collision reads beside the words of a row: a word for each 64 cells.
 #[derive(Clone, Copy)]
-pub(crate) struct Collision<'a> {
+pub struct Collision<'a> {
     /// The number of words of a direction.
-    pub(crate) words_each: usize,
+    pub words_each: usize,
     /// The solid cells, which are emptied.
-    pub(crate) solid: &'a [u64],
+    pub solid: &'a [u64],
     /// The random bits.
-    pub(crate) chi: &'a [u64],
+    pub chi: &'a [u64],
     /// True only if no cell is solid.
-    pub(crate) all_fluid: bool,
+    pub all_fluid: bool,
     ghost few_words: { words_each ≤ words_in MOST_SIDE },
     ghost solid_long: { length solid.now ≡ words_each },
     ghost chi_long: { length chi.now ≡ words_each },
@@ -27,13 +27,14 @@ impl<'a> Collision<'a> {
     ghost use Rattle.std.specs.Prelude.{◌≡◌, ◌+◌, ◌*◌, ◌/◌, ◌<◌, ℕ, IsTrue, length, slice_index};
     ghost use Rattle.gas_geom.specs.Gas.{holds};
     ghost use Rattle.gas_bits.specs.Planes.{state};
-    ghost use Rattle.gas_rows.specs.Inner.Collision.{collided_state, AreCollided};
+    ghost use Rattle.gas_rows.specs.Collision.{collided_state};
+    ghost use Rattle.gas_rows.specs.Inner.Collision.{AreCollided};
 
     /// Collides each cell by the gas's table with its random bit, and empties the solid cells.
     #[inline(never)]
-    pub(crate) fn collide<G: Gas>(&self, words: &mut [u64])
+    pub fn collide<G: Gas>(&self, words: &mut [u64])
         requires long { length words.old ≡ G.rules.dirs * self.now.words_each }
-        ensures { (y : ℕ) → y / 64 < self.now.words_each →
+        ensures collided { (y : ℕ) → y / 64 < self.now.words_each →
             state words.new self.now.words_each G.rules.dirs y
             ≡ collided_state G.rules self.now words.old y }
     {
@@ -124,7 +125,7 @@ impl<'a> Collision<'a> {
 
 /// The number of directions, 1 to 8.
 #[inline(always)]
-pub(crate) fn directions<G: Gas>() -> usize
+pub fn directions<G: Gas>() -> usize
     ensures value { result ≡ G.rules.dirs }
     ensures some { 1 ≤ result }
     ensures few { result ≤ 8 }

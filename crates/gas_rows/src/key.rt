@@ -3,8 +3,7 @@ ghost use Rattle.std.specs.Prelude.{◌≡◌, ◌<◌, ◌≤◌, ◌*◌, ◌/
 ghost use Rattle.gas_geom.specs.Gas.{holds};
 ghost use Rattle.gas_bits.specs.Words.{words_in, bit};
 ghost use Rattle.rand_chacha.specs.ChaCha.{key_of};
-ghost use Rattle.gas_rows.specs.Key.{key_word, key_bytes};
-ghost use Rattle.gas_rows.specs.Inner.Key.{drawn_bit};
+ghost use Rattle.gas_rows.specs.Key.{key_word, key_bytes, drawn_bit};
 
 use gas_bits::plane::clear_past;
 use gas_bits::word::join_halves;
@@ -14,8 +13,8 @@ use rand_core::utils::NextWord;
 
 /// The generator of ChaCha20 (the block function of RFC 8439) under the key of a seed: its 8 bytes,
 /// the least first, and 24 zero bytes.
-pub(crate) fn generator_of(seed: u64) -> ChaCha20Rng
-    ensures { result.key ≡ key_of (key_bytes seed) }
+pub fn generator_of(seed: u64) -> ChaCha20Rng
+    ensures key { result.key ≡ key_of (key_bytes seed) }
 {
     let mut key = [0u8; 32];
     key[..8].copy_from_slice(&seed.to_le_bytes());
@@ -24,8 +23,8 @@ pub(crate) fn generator_of(seed: u64) -> ChaCha20Rng
 
 /// Sets a generator to a position of a stream. If it is there already, it keeps its buffered block.
 #[inline(always)]
-pub(crate) fn seek(generator: &mut ChaCha20Rng, stream: u64, position: u64)
-    ensures { generator.new ≡ record generator.old { stream = stream; word_pos = position } }
+pub fn seek(generator: &mut ChaCha20Rng, stream: u64, position: u64)
+    ensures sought { generator.new ≡ record generator.old { stream = stream; word_pos = position } }
 {
     if generator.get_stream() == stream && generator.get_word_pos() == u128::from(position) {
         return;
@@ -72,7 +71,7 @@ fn draw_words(words: &mut [u64], width: u32, generator: &mut ChaCha20Rng)
 }
 
 /// Writes a bit for each cell of a row from the next key words of a generator, 32 cells each.
-pub(crate) fn draw(words: &mut [u64], width: u32, generator: &mut ChaCha20Rng)
+pub fn draw(words: &mut [u64], width: u32, generator: &mut ChaCha20Rng)
     requires some_cells { 1 ≤ width }
     requires long { length words.old ≡ words_in width }
     requires places { generator.old.word_pos + 2 * length words.old < 2 ^ 68 }

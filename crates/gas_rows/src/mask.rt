@@ -2,7 +2,7 @@
 ghost use Rattle.std.specs.Prelude.{◌≡◌, ◌<◌, ◌≤◌, ◌+◌, ◌-◌, ◌*◌, ◌/◌, ◌%◌, ◌^◌, ℕ, Bool, false, List, length, map, replicate, slice_index, slice_index_or, slice_set, count_by, IfOk, IsTrue};
 ghost use Rattle.std.specs.List.{range_with_len};
 ghost use Rattle.gas_geom.specs.Gas.{holds};
-ghost use Rattle.gas_rows.specs.Inner.Key.{drawn_bit};
+ghost use Rattle.gas_rows.specs.Key.{drawn_bit};
 ghost use Rattle.gas_bits.specs.Words.{words_in, bit};
 
 use crate::key;

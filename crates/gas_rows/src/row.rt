@@ -2,22 +2,22 @@
 ghost use Rattle.std.specs.Prelude.{◌≡◌, ◌≢◌, ◌⊎◌, ◌+◌, ◌-◌, ◌*◌, ◌/◌, ◌<◌, ◌≤◌, ◌^◌, ℕ, List, length, replicate, slice_index, slice_index_or, slice_set, false, IsTrue, count_by, sum_by, if◌then◌else◌, vec_len, IfOk};
 ghost use Rattle.std.specs.List.{range_with_len};
 ghost use Rattle.gas_geom.specs.Gas.{holds, particles};
-ghost use Rattle.gas_geom.specs.Lattice.{row_of};
-ghost use Rattle.gas_bits.specs.Shift.{streamed_cell};
+ghost use Rattle.gas_geom.specs.Channel.{ChannelModel};
+ghost use Rattle.gas_geom.specs.Lattice.{row_of, streamed};
 ghost use Rattle.gas_bits.specs.Words.{words_in, bit};
 ghost use Rattle.gas_rows.specs.Planes.{AreWordsOf, cells_of};
+ghost use Rattle.gas_rows.specs.Streaming.{AreRowsLong, AreWordsAbout};
 
 use crate::collision::{Collision, directions};
 use crate::mask::Mask;
-use gas_bits::plane::{Incoming, count_in};
+use crate::stream::Neighbourhood;
+use gas_bits::plane::count_in;
 use gas_bits::planes::{
     clear_planes_past, empty_solid, load_states, load_words, planes_at, read_cell, write_cell,
 };
 use gas_bits::states::states_of;
-use gas_bits::stream::stream_plane;
 use gas_bits::word::words_for;
 use gas_geom::gas::Gas;
-use gas_geom::moves::Move;
 use std::alloc::{AllocError, Global};
 use std::marker::{Model, PhantomData};
 use std::mem;
@@ -251,20 +251,17 @@ impl<G: Gas> Row<G> {
         }
     }
 
-    /// Streams direction `i` into this row. The move leads along the row to where the particles come
-    /// from.
+    /// Streams into this row. The neighbourhood has its width.
     #[inline(always)]
-    pub fn stream<'a>(&mut self, i: u32, along: Move, incoming: &Incoming<'a>)
-        requires direction { i < G.rules.dirs }
-        requires wide { incoming.now.width ≡ length self.old }
+    pub fn stream<'a>(&mut self, neighbourhood: &Neighbourhood<'a>)
+        requires wide { neighbourhood.now.width ≡ length self.old }
+        requires rows { AreRowsLong G.rules.dirs neighbourhood.now }
         ensures wide { length self.new ≡ length self.old }
-        ensures states { (x : ℕ) → slice_index self.new x < 2 ^ G.rules.dirs }
-        ensures streamed { (x : ℕ) → x < length self.old →
-            holds (slice_index self.new x) i ≡ streamed_cell incoming.now along x }
-        ensures others { (x k : ℕ) → k ≢ i → holds (slice_index self.new x) k
-            ≡ holds (slice_index self.old x) k }
+        ensures streamed { (channel : ChannelModel) (at : ℕ → ℕ → ℕ) →
+            AreWordsAbout G.rules.dirs channel at neighbourhood.now →
+            self.new ≡ row_of channel.width (λ x. streamed G.rules channel at x neighbourhood.now.y) }
     {
-        stream_plane(&mut self.words, i as usize, along, incoming);
+        neighbourhood.stream::<G>(&mut self.words);
     }
 }
 

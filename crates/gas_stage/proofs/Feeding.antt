@@ -8,7 +8,7 @@ use Rattle.gas_geom.specs.Channel.{ChannelModel, is_solid}
 use Rattle.gas_geom.specs.Lattice.{cell, row_of, streamed, next}
 use Rattle.gas_rows.specs.Chirality.{chirality_bit}
 use Rattle.gas_rows.specs.declared.chirality.Chirality.{Chirality}
-use Rattle.gas_stage.specs.Streaming.{IsRowAt, AreRowsAbout}
+use Rattle.gas_rows.specs.Streaming.{IsRowAt, AreRowsAbout}
 use Rattle.gas_stage.specs.declared.stage.Mode.{Mode}
 use Rattle.gas_stage.specs.declared.stage.Mode.TheVariants.{Closed, HandsOn, Computes}
 use Rattle.gas_stage.specs.Inner.Passes.{open_pass}

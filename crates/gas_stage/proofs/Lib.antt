@@ -2,5 +2,4 @@ pub mod Local
 pub mod Feeding
 pub mod Owed
 pub mod Passes
-pub mod Directions
 pub mod Additions

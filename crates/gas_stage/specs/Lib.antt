@@ -1,4 +1,3 @@
-pub mod Streaming
 pub mod Stage
 pub mod Evolution
 pub mod Inner

@@ -4,7 +4,7 @@ ghost use Rattle.std.specs.Option.{option_to_list};
 ghost use Rattle.gas_geom.specs.Channel.{IsChannel};
 ghost use Rattle.gas_stage.specs.Stage.{StageModel, MayHaveBeenFed, owed, given};
 
-use crate::stream::Neighbourhood;
+use crate::stream::stream_between;
 use gas_geom::gas::Gas;
 use gas_rows::channel::Channel;
 use gas_rows::chirality::{Chirality, RandomBits};
@@ -140,14 +140,12 @@ impl<'a, G: Gas> Stage<'a, G> {
         };
         let above = mem::replace(&mut self.before_last, last);
         let out = mem::replace(&mut self.oldest, above);
-        let neighbourhood = Neighbourhood {
-            channel: self.channel,
-            above: &self.oldest,
-            middle: &self.before_last,
-            below: &row,
-            y: y - 1,
-        };
-        let given = neighbourhood.stream(out);
+        let given = stream_between(
+            self.channel,
+            y - 1,
+            (&self.oldest, &self.before_last, &row),
+            out,
+        );
         self.last = Some(row);
         Some(given)
     }
@@ -174,14 +172,12 @@ impl<'a, G: Gas> Stage<'a, G> {
         let upper = mem::replace(&mut self.before_last, last);
         let out = mem::replace(&mut self.oldest, upper);
         // Below the bottom row no row is read.
-        let neighbourhood = Neighbourhood {
-            channel: self.channel,
-            above: &self.oldest,
-            middle: &self.before_last,
-            below: &self.before_last,
-            y: y - 1,
-        };
-        Some(neighbourhood.stream(out))
+        Some(stream_between(
+            self.channel,
+            y - 1,
+            (&self.oldest, &self.before_last, &self.before_last),
+            out,
+        ))
     }
 
     /// The number of rows fed in the open pass, 0 if none is open.

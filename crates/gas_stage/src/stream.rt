@@ -1,155 +1,86 @@
-//! The streaming of one row of a channel, wherever walls and solid cells are: every particle moves
-//! along its link, or is sent back if the link ends at a solid cell or the wall.
-ghost use Rattle.std.specs.Prelude.{◌≡◌, ◌+◌, ◌<◌, ◌^◌, ◌↔◌, ℕ, [], length, slice_index, unwrap_or, IsTrue, IsSome};
+//! The streaming of one row of a channel between the rows beside it.
+ghost use Rattle.std.specs.Prelude.{◌≡◌, ◌+◌, ◌<◌, ◌↔◌, ℕ, [], false, length, slice_index_or, unwrap_or, IsTrue, IsSome};
 ghost use Rattle.std.specs.Option.{option_copied, ForSome};
 ghost use Rattle.gas_geom.specs.Lattice.{streamed, row_of};
-ghost use Rattle.gas_stage.specs.Streaming.{AreRowsAbout};
-ghost use Rattle.gas_stage.specs.Inner.Neighbourhood.{AreRowsOf, AreStreamed, HasOnlyFluidAround, row_beside, streamed_row};
+ghost use Rattle.gas_rows.specs.Streaming.{AreRowsAbout};
 
-use gas_bits::plane::Incoming;
 use gas_geom::gas::Gas;
-use gas_geom::moves::{Move, moves};
+use gas_geom::moves::Move;
 use gas_rows::channel::Channel;
+use gas_rows::mask::Mask;
 use gas_rows::row::Row;
-use std::marker::Model;
+use gas_rows::stream::Neighbourhood;
 
-/// Row `y` of a channel between the rows beside it, all of them collided. Past a wall any row of the
-/// channel's width serves.
-#[derive(Drop)]
-pub(crate) struct Neighbourhood<'a, G: Gas> {
-    pub(crate) channel: &'a Channel,
-    pub(crate) above: &'a Row<G>,
-    pub(crate) middle: &'a Row<G>,
-    pub(crate) below: &'a Row<G>,
-    pub(crate) y: u32,
+// Whether it is known that no cell is true in three masks.
+#[inline(always)]
+fn are_blank(above: &Mask, middle: &Mask, below: &Mask) -> bool
+    ensures above { IsTrue result → (x : ℕ) → slice_index_or above.now x false ≡ false }
+    ensures middle { IsTrue result → (x : ℕ) → slice_index_or middle.now x false ≡ false }
+    ensures below { IsTrue result → (x : ℕ) → slice_index_or below.now x false ≡ false }
+{
+    middle.is_blank() && above.is_blank() && below.is_blank()
 }
 
-impl<'a, G: Gas> Model for Neighbourhood<'a, G> {
-    ghost use Rattle.std.specs.Prelude.{◌≡◌, ◌<◌, length};
-    ghost use Rattle.gas_stage.specs.Inner.Neighbourhood.{NeighbourhoodModel};
-
-    ghost Value = { NeighbourhoodModel };
-
-    ghost view = { λ n. record {
-      channel = n.channel.now;
-      y = n.y;
-      above = n.above.now;
-      middle = n.middle.now;
-      below = n.below.now;
-    } };
-
-    ghost invariant = { λ n. record {
-      row : n.y < n.channel.now.height;
-      above_wide : length n.above.now ≡ n.channel.now.width;
-      middle_wide : length n.middle.now ≡ n.channel.now.width;
-      below_wide : length n.below.now ≡ n.channel.now.width;
-    } };
+// Writes row `y` after streaming from the collided rows above, at and below it. Past a wall any row
+// serves.
+#[inline(always)]
+fn stream_into<G: Gas>(
+    channel: &Channel,
+    y: u32,
+    above: &Row<G>,
+    middle: &Row<G>,
+    below: &Row<G>,
+    out: &mut Row<G>,
+)
+    requires row { y < channel.now.height }
+    requires above_wide { length above.now ≡ channel.now.width }
+    requires middle_wide { length middle.now ≡ channel.now.width }
+    requires below_wide { length below.now ≡ channel.now.width }
+    requires wide { length out.old ≡ channel.now.width }
+    ensures wide { length out.new ≡ channel.now.width }
+    ensures streamed { (at : ℕ → ℕ → ℕ) →
+        AreRowsAbout channel.now at y above.now middle.now below.now →
+        out.new ≡ row_of channel.now.width (λ x. streamed G.rules channel.now at x y) }
+{
+    let solid_above = channel.mask_beside(y, Move::Back);
+    let solid_middle = channel.mask(y);
+    let solid_below = channel.mask_beside(y, Move::On);
+    let neighbourhood = Neighbourhood {
+        above: above.as_words(),
+        middle: middle.as_words(),
+        below: below.as_words(),
+        solid_above: solid_above.words(),
+        solid_middle: solid_middle.words(),
+        solid_below: solid_below.words(),
+        width: out.width(),
+        y,
+        all_fluid: are_blank(solid_above, solid_middle, solid_below),
+    };
+    out.stream(&neighbourhood);
 }
 
-impl<'a, G: Gas> Neighbourhood<'a, G> {
-    // The row that a move leads to from the middle row.
-    #[inline(always)]
-    fn row_beside(&self, down: Move) -> &'a Row<G>
-        ensures wide { length result.now ≡ self.now.channel.width }
-        ensures row { result.now ≡ row_beside down self.now.above self.now.middle self.now.below }
-    {
-        match down {
-            Move::Back => self.above,
-            Move::Stay => self.middle,
-            Move::On => self.below,
-        }
-    }
-
-    // Streams direction `i`, if the gas has it, after those before it. If `all_fluid`, no cell is
-    // solid in the row or in the rows beside it.
-    #[inline(always)]
-    fn stream_direction(&self, i: u32, all_fluid: bool, out: &mut Row<G>)
-        requires fluid { IsTrue all_fluid → HasOnlyFluidAround self.now.channel self.now.y }
-        requires wide { length out.old ≡ self.now.channel.width }
-        requires states { 0 < i → (x : ℕ) → slice_index out.old x < 2 ^ G.rules.dirs }
-        ensures wide { length out.new ≡ self.now.channel.width }
-        ensures states { (x : ℕ) → slice_index out.new x < 2 ^ G.rules.dirs }
-        ensures streamed { (at : ℕ → ℕ → ℕ) → AreRowsOf self.now at →
-            AreStreamed G.rules self.now at i out.old →
-            AreStreamed G.rules self.now at (i + 1) out.new }
-    {
-        if i >= G::DIRS {
-            return;
-        }
-        let opposite = G::opposite(i);
-        let (along, down) = moves::<G>(opposite, self.y % 2 == 1);
-        let solid_there = self.channel.mask_beside(self.y, down).words();
-        let solid_here = self.channel.mask(self.y).words();
-        // All rows have this width, and the compiler has it in a register.
-        let width = out.width();
-        let incoming = Incoming {
-            plane: self.row_beside(down).plane_of_width(i, width),
-            solid_there,
-            opposite_here: self.middle.plane_of_width(opposite, width),
-            solid_here,
-            width,
-            all_fluid,
-        };
-        out.stream(i, along, &incoming);
-    }
-
-    // Writes the row after streaming. If `ALL_FLUID`, no cell is solid in it or in the rows beside it;
-    // a type parameter, so that a compiler leaves the masks out.
-    fn stream_directions<const ALL_FLUID: bool>(&self, out: &mut Row<G>)
-        requires fluid { IsTrue ALL_FLUID → HasOnlyFluidAround self.now.channel self.now.y }
-        requires wide { length out.old ≡ self.now.channel.width }
-        ensures wide { length out.new ≡ self.now.channel.width }
-        ensures streamed { (at : ℕ → ℕ → ℕ) → AreRowsOf self.now at →
-            out.new ≡ streamed_row G.rules self.now at }
-    {
-        // Unrolled by hand: with a constant direction a compiler knows its step.
-        self.stream_direction(0, ALL_FLUID, out);
-        self.stream_direction(1, ALL_FLUID, out);
-        self.stream_direction(2, ALL_FLUID, out);
-        self.stream_direction(3, ALL_FLUID, out);
-        self.stream_direction(4, ALL_FLUID, out);
-        self.stream_direction(5, ALL_FLUID, out);
-        self.stream_direction(6, ALL_FLUID, out);
-        self.stream_direction(7, ALL_FLUID, out);
-    }
-
-    // Whether it is known that no cell is solid in the row or in the rows beside it.
-    #[inline(always)]
-    fn has_only_fluid(&self) -> bool
-        ensures fluid { IsTrue result → HasOnlyFluidAround self.now.channel self.now.y }
-    {
-        self.channel.mask(self.y).is_blank()
-            && self.channel.mask_beside(self.y, Move::Back).is_blank()
-            && self.channel.mask_beside(self.y, Move::On).is_blank()
-    }
-
-    /// Writes the row after streaming.
-    #[inline(always)]
-    pub(crate) fn stream_into(&self, out: &mut Row<G>)
-        requires wide { length out.old ≡ self.now.channel.width }
-        ensures wide { length out.new ≡ self.now.channel.width }
-        ensures streamed { (at : ℕ → ℕ → ℕ) → AreRowsOf self.now at →
-            out.new ≡ streamed_row G.rules self.now at }
-    {
-        if self.has_only_fluid() {
-            self.stream_directions::<true>(out);
-        } else {
-            self.stream_directions::<false>(out);
-        }
-    }
-
-    /// The row after streaming, in the memory of `out`. By value, so that the compiler knows
-    /// that no store changes the row's pointer.
-    #[inline(never)]
-    pub(crate) fn stream(self, mut out: Row<G>) -> Row<G>
-        requires wide { length out ≡ self.channel.width }
-        ensures wide { length result ≡ self.entry.channel.width }
-        ensures streamed { (at : ℕ → ℕ → ℕ) → AreRowsOf self.entry at →
-            result ≡ streamed_row G.rules self.entry at }
-    {
-        self.stream_into(&mut out);
-        out
-    }
+/// Row `y` after streaming from the collided rows above, at and below it, in the memory of `out`. By
+/// value, so that the compiler knows that no store changes the row's pointer.
+#[inline(never)]
+pub(crate) fn stream_between<G: Gas>(
+    channel: &Channel,
+    y: u32,
+    rows: (&Row<G>, &Row<G>, &Row<G>),
+    mut out: Row<G>,
+) -> Row<G>
+    requires row { y < channel.now.height }
+    requires above_wide { length rows.0.now ≡ channel.now.width }
+    requires middle_wide { length rows.1.now ≡ channel.now.width }
+    requires below_wide { length rows.2.now ≡ channel.now.width }
+    requires wide { length out ≡ channel.now.width }
+    ensures wide { length result ≡ channel.now.width }
+    ensures streamed { (at : ℕ → ℕ → ℕ) →
+        AreRowsAbout channel.now at y rows.entry.0.now rows.entry.1.now rows.entry.2.now →
+        result ≡ row_of channel.now.width (λ x. streamed G.rules channel.now at x y) }
+{
+    let (above, middle, below) = rows;
+    stream_into(channel, y, above, middle, below, &mut out);
+    out
 }
 
 /// Row `y` after streaming, from the collided rows above it, at it and below it. The first is None
@@ -175,12 +106,5 @@ pub fn stream_row<G: Gas>(
         (unwrap_or (option_copied up.entry) []) mid.now (unwrap_or (option_copied down.entry) []) →
         out.new ≡ row_of channel.now.width (λ x. streamed G.rules channel.now at x y) }
 {
-    let neighbourhood = Neighbourhood {
-        channel,
-        above: up.unwrap_or(mid),
-        middle: mid,
-        below: down.unwrap_or(mid),
-        y,
-    };
-    neighbourhood.stream_into(out);
+    stream_into(channel, y, up.unwrap_or(mid), mid, down.unwrap_or(mid), out);
 }

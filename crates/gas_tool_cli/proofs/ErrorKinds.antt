@@ -26,6 +26,7 @@ fault_tells kinds e (fault.Help text) (inr among) (inl t) = inl (subst (λ (k : 
 fault_tells kinds e (fault.Help text) (inr among) (inr t) = inr (subst (λ (k : ErrorKind). IsAmong k kinds) t among)
 fault_tells kinds e (fault.Usage text) (inl memory) t = absurd (t.2 memory)
 fault_tells kinds e (fault.Usage text) (inr among) t = (
+  (λ none. subst (IsAmong (kind_of e)) none among),
   (λ only. is_only DisplayHelp t.0 (subst (IsAmong (kind_of e)) only among)),
   (λ only. is_only DisplayVersion t.1 (subst (IsAmong (kind_of e)) only among)),
 )

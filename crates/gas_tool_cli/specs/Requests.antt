@@ -1,5 +1,5 @@
 -- The request in the matches of the words, and the fault of words without a request.
-use Rattle.std.specs.Prelude.{◌≡◌, ◌≢◌, ◌⊎◌, ◌≤◌, ℕ, List, [], ◌∷◌, map, Option, Some, None, IsSomeAnd, Result, Ok, IsOkAnd, IfOk, String, codes, unwrap_or, ⊤}
+use Rattle.std.specs.Prelude.{◌≡◌, ◌≢◌, ◌⊎◌, ◌≤◌, ℕ, List, [], ◌∷◌, map, Option, Some, None, IsSomeAnd, Result, Ok, Err, IsOkAnd, String, codes, unwrap_or, ⊤}
 use Rattle.std.specs.Global.{Global}
 use Rattle.std.specs.String.{string_bytes}
 use Rattle.std.specs.Vec.Iter.{into_iter_items}
@@ -9,7 +9,7 @@ use Rattle.std.specs.List.{AllZip}
 use Rattle.std.specs.Str.Parse.{ParsesUnsigned}
 use Rattle.std.specs.declared.num.ParseIntError.{ParseIntError}
 use Rattle.clap.specs.Words.{Row, Text, all_of, fault_of, one_of, subcommand_of, IsAmong, Kinds}
-use Rattle.clap.specs.declared.error.kind.ErrorKind.TheVariants.{DisplayHelp, DisplayVersion}
+use Rattle.clap.specs.declared.error.kind.ErrorKind.TheVariants.{DisplayHelp, DisplayVersion, InvalidValue}
 use Rattle.gas_tool_cli.specs.Words.{program_app}
 use Rattle.gas_tool_cli.specs.declared.words.UsageFault.{UsageFault}
 use Rattle.gas_tool_cli.specs.declared.words.UsageFault.TheVariants as fault
@@ -56,11 +56,11 @@ IsAllowed (Coarse stages capacity generations width height) = (1 ≤ width) × (
 IsAllowed request = ⊤
 
 -- the fault of words for which `clap` returns errors of these kinds. It is help only if they ask for it or for the
--- version. It is never usage if they ask only for one of these.
+-- version. It is usage only if there is an error, and never if they ask only for one of these.
 abbrev pub IsFaultOf : Kinds → UsageFault → Type 0
 IsFaultOf kinds fault.Memory = ⊤
 IsFaultOf kinds (fault.Help text) = IsAmong DisplayHelp kinds ⊎ IsAmong DisplayVersion kinds
-IsFaultOf kinds (fault.Usage text) = (kinds ≢ DisplayHelp ∷ []) × (kinds ≢ DisplayVersion ∷ [])
+IsFaultOf kinds (fault.Usage text) = (kinds ≢ []) × (kinds ≢ DisplayHelp ∷ []) × (kinds ≢ DisplayVersion ∷ [])
 
 -- what `env::args` returns: the program's words, or why they could not be had
 abbrev pub Words : Type 0
@@ -70,6 +70,7 @@ Words = Result (IntoIter (String Global) Global) Error
 abbrev pub AskFor : Words → Request → Type 0
 AskFor words request = IsOkAnd words (λ all. IsRequestOf (subcommand_of program_app (map string_bytes (into_iter_items all))) request)
 
--- the words are no request, with this fault
+-- the words are no request, with this fault; words that could not be had count as an invalid value
 abbrev pub HaveFault : Words → UsageFault → Type 0
-HaveFault words fault = IfOk words (λ all. IsFaultOf (fault_of program_app (map string_bytes (into_iter_items all))) fault)
+HaveFault (Ok all) fault = IsFaultOf (fault_of program_app (map string_bytes (into_iter_items all))) fault
+HaveFault (Err error) fault = IsFaultOf (InvalidValue ∷ []) fault

@@ -9,8 +9,7 @@ use Rattle.clap.specs.declared.builder.value_parser.ValueParser.TheVariants.{Sig
 
 -- an option `--name VALUE`
 abbrev pub option_rule : Text → ValueParser → Rule
-option_rule name values =
-    record (new_rule name) { long = Some name; value_names = 1; action = Some Set; parser = Some values }
+option_rule name values = record (new_rule name) { long = Some name; value_names = 1; action = Some Set; parser = Some values }
 
 -- such an option that must be given
 abbrev pub required_rule : Text → ValueParser → Rule

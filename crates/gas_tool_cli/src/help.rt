@@ -90,13 +90,9 @@ Example: fhpgas replay --generations 1 --stages 1 0 1 0 1 < scene.toml",
 
 pub(crate) const GENERATIONS: &str = "Generations (time steps) to compute: 0 to 1000000";
 
-pub(crate) const STAGES: &str = "\
-Workers (pipeline stages), one generation each: 1 to 64. On four
-cores `--stages 16 --capacity 128` is faster";
+pub(crate) const STAGES: &str = "Workers (pipeline stages), one generation each: 1 to 64";
 
-pub(crate) const CAPACITY: &str = "\
-Rows in a belt, the queue between two workers: 1 to 1024. On four
-cores `--stages 16 --capacity 128` is faster";
+pub(crate) const CAPACITY: &str = "Rows in a belt, the queue between two workers: 1 to 1024";
 
 pub(crate) const BLOCK_WIDTH: &str = "Columns of cells in a block: 1 to 4096";
 

@@ -1,9 +1,10 @@
 //! The words of the command line: what they ask for, or why they are no request.
 
-ghost use Rattle.std.specs.Prelude.{◌≡◌, [], IfOk, IfErr, String, map};
+ghost use Rattle.std.specs.Prelude.{◌≡◌, [], ◌∷◌, IfOk, IfErr, String, map};
 ghost use Rattle.std.specs.Global.{Global};
 ghost use Rattle.std.specs.String.{string_bytes};
 ghost use Rattle.std.specs.Vec.Iter.{into_iter_items};
+ghost use Rattle.clap.specs.declared.error.kind.ErrorKind.TheVariants.{InvalidValue};
 ghost use Rattle.clap.specs.Words.{fault_of, kind_of, subcommand_of};
 ghost use Rattle.gas_tool_cli.specs.Words.{program_app};
 ghost use Rattle.gas_tool_cli.specs.Requests.{AskFor, HaveFault, IsAllowed, IsFaultOf, IsRequestOf};
@@ -108,16 +109,6 @@ impl UsageFault {
     }
 }
 
-// The fault with this text.
-fn usage_fault(alloc: Global, text: &str) -> UsageFault
-    ensures { IsFaultOf [] result }
-{
-    match String::from_str(alloc, text) {
-        Ok(text) => UsageFault::Usage(text),
-        Err(_) => UsageFault::Memory,
-    }
-}
-
 // The fault of a failed parse.
 fn usage_of(alloc: Global, error: clap::Error) -> UsageFault
     ensures { TellsKind (kind_of error) result }
@@ -144,9 +135,8 @@ pub fn parse_words<'a>(alloc: Global, words: &'a [&'a str]) -> Result<Request, U
     match command.try_get_matches_from(words) {
         Ok(matches) => match request_of(alloc, &matches) {
             Ok(Some(request)) => Ok(request),
-            // `clap` returns no such matches for this command line, but that is not proved.
-            Ok(None) => Err(usage_fault(alloc, "a value is missing\n")),
-            Err(_) => Err(UsageFault::Memory),
+            // `clap` returns no matches without a request, but that is not proved.
+            Ok(None) | Err(_) => Err(UsageFault::Memory),
         },
         Err(error) => Err(usage_of(alloc, error)),
     }
@@ -161,10 +151,17 @@ pub fn read_request(alloc: Global, words: io::Result<Args>) -> Result<Request, U
 {
     match words {
         Ok(words) => parse_args(alloc, words),
-        Err(error) if error.kind() == io::ErrorKind::InvalidData => {
-            Err(usage_fault(alloc, "error: a word is not UTF-8\n"))
-        }
+        Err(error) if error.kind() == io::ErrorKind::InvalidData => Err(not_utf8(alloc)),
         Err(_) => Err(UsageFault::Memory),
+    }
+}
+
+fn not_utf8(alloc: Global) -> UsageFault
+    ensures { IsFaultOf (InvalidValue ∷ []) result }
+{
+    match String::from_str(alloc, "error: a word is not UTF-8\n") {
+        Ok(text) => UsageFault::Usage(text),
+        Err(_) => UsageFault::Memory,
     }
 }
 

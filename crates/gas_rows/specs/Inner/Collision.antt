@@ -1,14 +1,10 @@
 -- Inner words: what functions of this crate promise one another. No public contract cites them.
--- The cells of a row, by its words, after a collision.
+-- Here: the cells of a row, by its words, while they are collided.
 use Rattle.std.specs.Prelude.{◌≡◌, ℕ, ◌/◌, ◌<◌, ◌&&◌, nat_le, nat_lt, List, if◌then◌else◌}
 use Rattle.gas_geom.specs.Gas.{Rules}
-use Rattle.gas_bits.specs.Words.{bit}
 use Rattle.gas_bits.specs.Planes.{state}
+use Rattle.gas_rows.specs.Collision.{collided_state}
 use Rattle.gas_rows.specs.declared.collision.Collision.{Collision}
-
--- the state of cell y after the collision of a row of these words
-abbrev pub collided_state : Rules → Collision → List ℕ → ℕ → ℕ
-collided_state gas q words y = if bit q.solid.now y then 0 else gas.collide (state words q.words_each gas.dirs y) (bit q.chi.now y)
 
 -- the cells of the words from `from` to `to - 1` are collided, the others as they were
 abbrev pub AreCollided : Rules → Collision → ℕ → ℕ → List ℕ → List ℕ → Type 0

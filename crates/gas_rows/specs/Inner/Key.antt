@@ -1,5 +1,5 @@
 -- Inner words: what functions of this crate promise one another. No public contract cites them.
--- Generators of the key stream, and the bits that they draw next.
+-- Here: generators of the key stream, and the random bits of a row.
 use Rattle.std.specs.Prelude.{◌≡◌, ℕ, ◌+◌, ◌/◌, ◌%◌, Bool, List}
 use Rattle.rand_chacha.specs.ChaCha.{ChaCha, word_at, key_of}
 use Rattle.gas_geom.specs.Gas.{holds}
@@ -12,11 +12,6 @@ use Rattle.gas_rows.specs.declared.chirality.Chirality.TheVariants.{Seeded, Left
 -- the random bits of row y, from the west
 abbrev pub chirality_row : Chirality → ℕ → ℕ → ℕ → List Bool
 chirality_row chirality width g y = row_of width (λ x. chirality_bit chirality width g x y)
-
--- bit x of those that come next, 32 to a word of the key stream, the least first
-abbrev pub drawn_bit : ChaCha → ℕ → Bool
-drawn_bit generator x =
-    holds (word_at 10 generator.key generator.stream (generator.word_pos + x / 32)) (x % 32)
 
 -- seeded bits come from a generator under the key of their seed, and others from none
 abbrev pub IsGeneratorOf : Chirality → ChaCha → Type 0

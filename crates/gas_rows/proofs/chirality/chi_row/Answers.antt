@@ -19,5 +19,5 @@ returns-in-Right-clause-bits c =
 
 pub returns-in-Seeded-clause-bits : goal.returns-in-Seeded-clause-bits
 returns-in-Seeded-clause-bits c =
-    c.write_seeded_row.ensures.bits (Seeded c.in-Seeded.seed) c.generator_of.ensures
+    c.write_seeded_row.ensures.bits (Seeded c.in-Seeded.seed) c.generator_of.ensures.key
     ∙ ap₂ (λ q n. map (λ x. chirality_bit q n c.args.generation x c.args.y) (range_with_len 0 n)) (sym c.in-Seeded.is) c.requires.wide

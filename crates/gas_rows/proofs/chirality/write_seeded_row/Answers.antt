@@ -23,5 +23,5 @@ returns-clause-bits c (Seeded seed) key =
     c.draw.ensures.cells
     ∙ row_of-same false width _ (λ x. chirality_bit (Seeded seed) width c.args.generation x c.args.y)
     (λ x h.
-    ap (λ (g : ChaCha). holds (word_at 10 g.key g.stream (g.word_pos + x / 32)) (x % 32)) c.seek.ensures
+    ap (λ (g : ChaCha). holds (word_at 10 g.key g.stream (g.word_pos + x / 32)) (x % 32)) c.seek.ensures.sought
     ∙ ap₂ (λ k first. holds (word_at 10 k c.args.generation (first + x / 32)) (x % 32)) key first_is)

@@ -28,7 +28,7 @@ settled g c =
     row-collided gas.dirs gas.collide (nothing gas g.met.G.Gas.laws) c.row.inside.width c.row.inside.words.items c.args.row.now c.row.invariant c.row.view_is
     c.collide.new.words n c.words-2.result.now c.words.result.now c.words_for.ensures.value (c.collide.auto.words ∙ ap length c.deref_mut.ensures.value)
     (subst (λ ws. (y : ℕ) → y / 64 < n → state c.collide.new.words n gas.dirs y
-    ≡ (if bit c.words.result.now y then 0 else gas.collide (state ws n gas.dirs y) (bit c.words-2.result.now y))) c.deref_mut.ensures.value c.collide.ensures)
+    ≡ (if bit c.words.result.now y then 0 else gas.collide (state ws n gas.dirs y) (bit c.words-2.result.now y))) c.deref_mut.ensures.value c.collide.ensures.collided)
 
 pub invariant_of-row : goal.invariant_of-row
 invariant_of-row g c = rw (with_items_is c.row.inside.words c.collide.new.words (c.collide.auto.words ∙ c.deref_mut.ensures.len)) (settled g c).planes

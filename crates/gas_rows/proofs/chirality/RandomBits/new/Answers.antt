@@ -21,7 +21,7 @@ invariant_of-result c = elim c.match-chirality.branch [
   | in-Seeded w ↦ record {
     drawn = λ x e.
         let same : w.generator_of.result ≡ x = cc in
-        let key : x.key ≡ key_of (key_bytes w.in-Seeded.seed) = ap (λ (g : ChaCha). g.key) (sym same) ∙ w.generator_of.ensures in
+        let key : x.key ≡ key_of (key_bytes w.in-Seeded.seed) = ap (λ (g : ChaCha). g.key) (sym same) ∙ w.generator_of.ensures.key in
         subst (λ q. IsGeneratorOf q x) (sym w.chirality-is) key;
     alike = λ none. absurd (cc);
   }

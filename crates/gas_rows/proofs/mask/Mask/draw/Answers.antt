@@ -1,7 +1,7 @@
 use Rattle.std.proofs.Common.{false, length, map, ap, ◌∙◌, sym}
 use Rattle.std.specs.List.{range_with_len}
 use Rattle.std.proofs.lemmas.List.{with_items_is}
-use Rattle.gas_rows.specs.Inner.Key.{drawn_bit}
+use Rattle.gas_rows.specs.Key.{drawn_bit}
 use Rattle.gas_rows.proofs.Masks.{IsWritten, written, width_of}
 use Rattle.gas_rows.proofs.mask.Mask.draw.Goals.{After-self-2-1}
 use Rattle.gas_rows.proofs.mask.Mask.draw.Goals as goal

@@ -1,35 +1,34 @@
-use Rattle.std.proofs.Common.{◌≡◌, ◌≢◌, ◌≤◌, ◌<◌, ◌*◌, ◌/◌, ℕ, false, subst, ◌∙◌}
+use Rattle.std.proofs.Common.{◌≡◌, ◌<◌, ◌≤◌, ◌*◌, ℕ, false, length, ap, ◌∙◌, sym, subst, arith}
 use Rattle.std.proofs.lemmas.List.{with_items_is}
+use Rattle.std.proofs.lemmas.List.FromFn.{get_or-map-range_with_len, length-map-range_with_len}
+use Rattle.gas_geom.specs.Lattice.{streamed}
 use Rattle.gas_bits.specs.Words.{words_in}
-use Rattle.gas_bits.specs.Planes.{has}
-use Rattle.gas_bits.specs.Shift.{streamed_cell}
-use Rattle.gas_rows.proofs.Cells.{width_of}
-use Rattle.gas_rows.proofs.PlaneWrites.{IsWritten, written}
+use Rattle.gas_bits.specs.Planes.{has, state}
+use Rattle.gas_rows.proofs.Cells.{width_of, cells-from}
+use Rattle.gas_rows.proofs.Rows.{planes-other}
 use Rattle.gas_rows.proofs.row.Row.stream.Given.{Over}
 use Rattle.gas_rows.proofs.row.Row.stream.Goals.{After-self-1}
 use Rattle.gas_rows.proofs.row.Row.stream.Goals as goal
 
-same : (g : Over) (c : After-self-1 g) → c.args.incoming.now.width ≡ c.self.inside.width
+same : (g : Over) (c : After-self-1 g) → c.args.neighbourhood.now.width ≡ c.self.inside.width
 same g c = c.requires.wide ∙ width_of g.G.Gas.rules.dirs c.self.inside.width c.self.inside.words.items c.args.self.now c.self.view_is
 
-settled : (g : Over) (c : After-self-1 g) → IsWritten g.G.Gas.rules.dirs c.self.inside.width c.args.self.now c.stream_plane.new.words c.args.i
-settled g c =
-    written g.G.Gas.rules.dirs c.self.inside.width c.self.inside.words.items c.args.self.now c.deref_mut.result.now c.stream_plane.new.words c.args.i
-    c.self.invariant c.self.view_is c.deref_mut.ensures.value c.stream_plane.auto.words
-    (subst (λ (w : ℕ). (x : ℕ) → w ≤ x → x < 64 * words_in w → has c.stream_plane.new.words (words_in w) c.args.i x ≡ false) (same g c) c.stream_plane.ensures.clear)
-    (subst (λ (w : ℕ). (k x : ℕ) → k ≢ c.args.i → x / 64 < words_in w → has c.stream_plane.new.words (words_in w) k x ≡ has c.deref_mut.result.now (words_in w) k x) (same g c) c.stream_plane.ensures.others)
-
 pub invariant_of-self : goal.invariant_of-self
-invariant_of-self g c = rw (with_items_is c.self.inside.words c.stream_plane.new.words (c.stream_plane.auto.words ∙ c.deref_mut.ensures.len)) (settled g c).planes
+invariant_of-self g c =
+    rw (with_items_is c.self.inside.words c.stream.new.out (c.stream.auto.out ∙ c.deref_mut.ensures.len))
+    (planes-other g.G.Gas.rules.dirs c.self.inside.width c.self.inside.words.items c.args.self.now c.self.invariant c.self.view_is c.stream.new.out
+    (c.stream.auto.out ∙ ap length c.deref_mut.ensures.value)
+    (subst (λ (w : ℕ). (i x : ℕ) → i < g.G.Gas.rules.dirs → w ≤ x → x < 64 * words_in w → has c.stream.new.out (words_in w) i x ≡ false) (same g c) c.stream.ensures.clear))
 
-pub returns : goal.returns
-returns g c =
-    let row = settled g c in
-    rw (with_items_is c.self.inside.words c.stream_plane.new.words (c.stream_plane.auto.words ∙ c.deref_mut.ensures.len)) (record {
-      wide = row.wide;
-      states = row.states;
-      streamed = row.here (streamed_cell c.args.incoming.now c.args.along) c.requires.direction
-          (subst (λ (w : ℕ). (x : ℕ) → x < w → has c.stream_plane.new.words (words_in w) c.args.i x ≡ streamed_cell c.args.incoming.now c.args.along x) (same g c)
-          c.stream_plane.ensures.streamed);
-      others = row.others;
-    })
+pub returns-clause-streamed : goal.returns-clause-streamed
+returns-clause-streamed g c = λ ch at about.
+    let gas = g.G.Gas.rules in
+    let width : ℕ = c.self.inside.width in
+    let new = c.stream.new.out in
+    let n = c.args.neighbourhood.now in
+    let wide : ch.width ≡ width = sym about.wide ∙ same g c in
+    rw (with_items_is c.self.inside.words new (c.stream.auto.out ∙ c.deref_mut.ensures.len))
+    (cells-from gas.dirs width new _ (length-map-range_with_len _ 0 ch.width ∙ wide) (λ x lt.
+    let inside : x < ch.width = omega (arith, lt, wide) in
+    subst (λ (w : ℕ). state new (words_in w) gas.dirs x ≡ streamed gas ch at x n.y) (same g c) (c.stream.ensures.streamed ch at about x inside)
+    ∙ sym (get_or-map-range_with_len _ 0 ch.width x x 0 inside (omega arith))))

@@ -1,6 +1,6 @@
 use Rattle.std.proofs.Common.{◌≡◌, ◌-◌, ◌<◌, ℕ, Bool, false, List, [], IsSome, unwrap_or, refl, length, get_or, ap, ◌∙◌, sym, subst}
 use Rattle.std.proofs.lemmas.Bool.{false≢true}
-use Rattle.gas_stage.specs.Streaming.{AreRowsAbout}
+use Rattle.gas_rows.specs.Streaming.{AreRowsAbout}
 use Rattle.gas_stage.specs.Inner.Passes.{open_pass}
 use Rattle.gas_stage.specs.Stage.{StageModel}
 use Rattle.gas_stage.proofs.Feeding.{feed-fits, feed-gives}
@@ -38,10 +38,10 @@ returns-clause-gives g c = λ p q fits.
     c.mask.result.now c.mask-2.result.now (ap open_pass c.in-Computes.is) c.collide_row.ensures.collided c.mask.ensures.row
     wide
     (λ set x h. ap (λ (bits : List Bool). g.G.Gas.rules.collide set (get_or bits x false)) c.mask-2.ensures.bits ∙ c.draw_for.ensures.collisions set x h)
-    c.requires.wide p q c.stream-given.result fits
+    c.requires.wide p q c.stream_between-given.result fits
     (c.self.invariant.last_fed (subst IsSome some refl))
     (subst (λ (v : StageModel). v.fed < v.channel.height) (sym c.self.view_is) c.requires.room)
-    (λ at about. c.stream-given.ensures.streamed at
+    (λ at about. c.stream_between-given.ensures.streamed at
     (subst (λ (a : List ℕ). AreRowsAbout c.self.inside.channel.now at (c.self.inside.fed - 1) a c.replace-above.new.dest c.collide_row.new.row)
     (sym (c.replace-out.ensures.after ∙ c.replace-above.ensures.value))
     (subst (λ (m : List ℕ). AreRowsAbout c.self.inside.channel.now at (c.self.inside.fed - 1) c.self.inside.before_last m c.collide_row.new.row)

@@ -1,0 +1,4 @@
+pub mod Packed
+pub mod Draws
+pub mod Planes
+pub mod Turns

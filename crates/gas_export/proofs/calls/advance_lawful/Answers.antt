@@ -1,0 +1,30 @@
+use Rattle.std.proofs.Common.{◌≡◌, ap, sym, arith}
+use Rattle.std.proofs.lemmas.Bool.Decides.{nat_tests}
+use Rattle.gas_geom.specs.Size.{SizeModel}
+use Rattle.gas_geom.specs.FhpRest.{fhp_rest}
+use Rattle.gas_export.specs.Planes.{gas_numbered}
+use Rattle.gas_export.proofs.Turns.{renamed}
+use Rattle.gas_export.proofs.calls.advance_lawful.Goals as goal
+
+pub returns-in-0 : goal.returns-in-0
+returns-in-0 c = record {
+  done = renamed _ _ _ _ _ _ _ _ c.args.place.whole_width c.args.place.first_column c.args.place.first_row c.args.first c.args.generations c.args.solid.now c.args.states.now c.advance.new.states
+      (ap gas_numbered c.in-0.is) (sym c.chirality_of-bits.ensures.value)
+      (sym (ap (λ (s : SizeModel). s.width) c.in-Some.ensures.made)) (sym (ap (λ (s : SizeModel). s.height) c.in-Some.ensures.made)) c.advance.ensures.done;
+}
+
+pub returns-in-1 : goal.returns-in-1
+returns-in-1 c = record {
+  done = renamed _ _ _ _ _ _ _ _ c.args.place.whole_width c.args.place.first_column c.args.place.first_row c.args.first c.args.generations c.args.solid.now c.args.states.now c.advance-in-1.new.states
+      (ap gas_numbered c.in-1.is) (sym c.chirality_of-bits.ensures.value)
+      (sym (ap (λ (s : SizeModel). s.width) c.in-Some.ensures.made)) (sym (ap (λ (s : SizeModel). s.height) c.in-Some.ensures.made)) c.advance-in-1.ensures.done;
+}
+
+pub returns-in_default-gas : goal.returns-in_default-gas
+returns-in_default-gas c =
+    let rest : gas_numbered c.args.gas ≡ fhp_rest = grind (arith, nat_tests) in
+    record {
+      done = renamed _ _ _ _ _ _ _ _ c.args.place.whole_width c.args.place.first_column c.args.place.first_row c.args.first c.args.generations c.args.solid.now c.args.states.now c.advance-in_default-gas.new.states
+          rest (sym c.chirality_of-bits.ensures.value)
+          (sym (ap (λ (s : SizeModel). s.width) c.in-Some.ensures.made)) (sym (ap (λ (s : SizeModel). s.height) c.in-Some.ensures.made)) c.advance-in_default-gas.ensures.done;
+    }

@@ -1,0 +1,30 @@
+use Rattle.std.proofs.Common.{◌≡◌, ◌<◌, ◌≤◌, ◌+◌, ◌%◌, ℕ, length}
+use Rattle.gas_geom.specs.Lattice.{streamed, collided}
+use Rattle.gas_layout.specs.Layout.{channel_of}
+use Rattle.gas_rows.specs.declared.chirality.Chirality.{Chirality}
+use Rattle.gas_export.specs.Planes.{state_at, solid_at}
+use Rattle.gas_export.specs.Part.{part_bit}
+use Rattle.gas_export.specs.Inner.Source.{IsSourceOf}
+use Rattle.gas_export.proofs.step.step.Given as goal
+
+-- of the rows above y the last two are kept, collided, and those above the last one streamed
+abbrev pub invariant-loop-y : goal.invariant-loop-y
+invariant-loop-y g l = record {
+  states : length l.states ≡ length l.initial.states;
+  bits : length l.bits ≡ length l.initial.bits;
+  kept : length l.kept ≡ length l.initial.kept;
+  source : (chirality : Chirality) → IsSourceOf chirality l.seeded l.initial.generator.key l.fn.size.width l.initial.bits
+      → IsSourceOf chirality l.seeded l.generator.key l.fn.size.width l.bits;
+  fresh : (x k : ℕ) → l.y ≤ k + 1 → k < l.fn.size.height → state_at g.G.Gas.rules.dirs l.fn.size.width l.states x k ≡ state_at g.G.Gas.rules.dirs l.fn.size.width l.initial.states x k;
+  hit : (chirality : Chirality) (at : ℕ → ℕ → ℕ) → IsSourceOf chirality l.seeded l.initial.generator.key l.fn.size.width l.initial.bits
+      → ((x y : ℕ) → x < l.fn.size.width → y < l.fn.size.height → state_at g.G.Gas.rules.dirs l.fn.size.width l.initial.states x y ≡ at x y)
+      → (x k : ℕ) → x < l.fn.size.width → k < l.y → l.y ≤ k + 2 → state_at g.G.Gas.rules.dirs l.fn.size.width l.kept x (k % 3)
+      ≡ collided g.G.Gas.rules (channel_of l.fn.size.width l.fn.size.height (solid_at l.fn.size.width l.solid))
+      (part_bit chirality l.fn.place.whole_width l.fn.place.first_column l.fn.place.first_row l.generation) at x k;
+  gone : (chirality : Chirality) (at : ℕ → ℕ → ℕ) → IsSourceOf chirality l.seeded l.initial.generator.key l.fn.size.width l.initial.bits
+      → ((x y : ℕ) → x < l.fn.size.width → y < l.fn.size.height → state_at g.G.Gas.rules.dirs l.fn.size.width l.initial.states x y ≡ at x y)
+      → (x k : ℕ) → x < l.fn.size.width → k + 1 < l.y → state_at g.G.Gas.rules.dirs l.fn.size.width l.states x k
+      ≡ streamed g.G.Gas.rules (channel_of l.fn.size.width l.fn.size.height (solid_at l.fn.size.width l.solid))
+      (collided g.G.Gas.rules (channel_of l.fn.size.width l.fn.size.height (solid_at l.fn.size.width l.solid))
+      (part_bit chirality l.fn.place.whole_width l.fn.place.first_column l.fn.place.first_row l.generation) at) x k;
+}

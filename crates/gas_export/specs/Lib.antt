@@ -1,0 +1,4 @@
+pub mod Planes
+pub mod Part
+pub mod Statuses
+pub mod Inner

@@ -1,0 +1,235 @@
+//! The calls, as `include/fhpgas.h` has them.
+ghost use Rattle.std.specs.Prelude.{◌≡◌, ◌≢◌, ◌+◌, ◌*◌, ◌<◌, ◌&&◌, ℕ, nat_lt, if◌then◌else◌, length, slice_index};
+ghost use Rattle.gas_stage.specs.Evolution.{lattice_after};
+ghost use Rattle.gas_export.specs.Planes.{lattice_in, gas_numbered, chirality_numbered, state_at};
+ghost use Rattle.gas_export.specs.Part.{part_after};
+ghost use Rattle.gas_export.specs.Statuses.{is_planes, is_size, words_of, work_of, advance_status, pack_status, unpack_status};
+
+use crate::advance::advance;
+use crate::bytes::{pack, unpack};
+use crate::draw::Place;
+use crate::status::{
+    DONE, advance_status, directions_of, is_planes, is_size, pack_status, unpack_status, words_of,
+    work_of,
+};
+use gas_geom::fhp_rest::FhpRest;
+use gas_geom::fhp1::Fhp1;
+use gas_geom::hpp::Hpp;
+use gas_geom::size::Size;
+use gas_rows::chirality::Chirality;
+
+/// The number of this interface.
+#[unsafe(no_mangle)]
+pub extern "C" fn fhpgas_interface() -> u32
+    ensures number { result ≡ 1 }
+{
+    1
+}
+
+/// The number of directions of a gas, 0 if there is no such gas.
+#[unsafe(no_mangle)]
+pub extern "C" fn fhpgas_directions(gas: u32) -> u32
+    ensures number { result ≡ (if nat_lt gas 3 then (gas_numbered gas).dirs else 0) }
+{
+    if gas < 3 { directions_of(gas) } else { 0 }
+}
+
+/// The number of words of so many planes, 0 if their number or the size is not lawful.
+#[unsafe(no_mangle)]
+pub extern "C" fn fhpgas_words(planes: u32, width: u32, height: u32) -> usize
+    ensures number { result ≡ (if is_planes planes && is_size width height then words_of planes width height
+        else 0) }
+{
+    if is_planes(planes) && is_size(width, height) {
+        words_of(planes, width, height)
+    } else {
+        0
+    }
+}
+
+/// The number of words of the memory that generations are computed in, 0 if the gas or the width is not
+/// lawful.
+#[unsafe(no_mangle)]
+pub extern "C" fn fhpgas_work_words(gas: u32, width: u32) -> usize
+    ensures number { result ≡ (if nat_lt gas 3 && is_size width 1 then work_of gas width else 0) }
+{
+    if gas < 3 && is_size(width, 1) {
+        work_of(gas, width)
+    } else {
+        0
+    }
+}
+
+/// Writes bytes into planes.
+#[unsafe(no_mangle)]
+pub extern "C" fn fhpgas_pack(
+    planes: u32,
+    width: u32,
+    height: u32,
+    bytes: &[u8],
+    words: &mut [u64],
+) -> u32
+    ensures status { result ≡ pack_status planes width height bytes.now (length words.old) }
+    ensures kept { result ≢ 0 → words.new ≡ words.old }
+    ensures packed { result ≡ 0 → (x y : ℕ) → x < width → y < height →
+        state_at planes width words.new x y ≡ slice_index bytes.now (y * width + x) }
+{
+    let status = pack_status(planes, width, height, bytes, words.len());
+    if status == DONE {
+        pack_lawful(planes, width, height, bytes, words);
+    }
+    status
+}
+
+// Packs bytes that are lawful.
+fn pack_lawful(planes: u32, width: u32, height: u32, bytes: &[u8], words: &mut [u64])
+    requires lawful { pack_status planes width height bytes.now (length words.old) ≡ 0 }
+    ensures packed { (x y : ℕ) → x < width → y < height →
+        state_at planes width words.new x y ≡ slice_index bytes.now (y * width + x) }
+{
+    let Some(size) = Size::new(width, height) else {
+        return;
+    };
+    pack(size, planes as usize, bytes, words);
+}
+
+/// Writes planes into bytes.
+#[unsafe(no_mangle)]
+pub extern "C" fn fhpgas_unpack(
+    planes: u32,
+    width: u32,
+    height: u32,
+    words: &[u64],
+    bytes: &mut [u8],
+) -> u32
+    ensures status { result ≡ unpack_status planes width height (length words.now) (length bytes.old) }
+    ensures kept { result ≢ 0 → bytes.new ≡ bytes.old }
+    ensures unpacked { result ≡ 0 → (x y : ℕ) → x < width → y < height →
+        slice_index bytes.new (y * width + x) ≡ state_at planes width words.now x y }
+{
+    let status = unpack_status(planes, width, height, words.len(), bytes.len());
+    if status == DONE {
+        unpack_lawful(planes, width, height, words, bytes);
+    }
+    status
+}
+
+// Unpacks planes that are lawful.
+fn unpack_lawful(planes: u32, width: u32, height: u32, words: &[u64], bytes: &mut [u8])
+    requires lawful { unpack_status planes width height (length words.now) (length bytes.old) ≡ 0 }
+    ensures unpacked { (x y : ℕ) → x < width → y < height →
+        slice_index bytes.new (y * width + x) ≡ state_at planes width words.now x y }
+{
+    let Some(size) = Size::new(width, height) else {
+        return;
+    };
+    unpack(size, planes as usize, words, bytes);
+}
+
+// The chirality of a number.
+fn chirality_of(number: u32, seed: u64) -> Chirality
+    ensures value { result ≡ chirality_numbered number seed }
+{
+    match number {
+        0 => Chirality::Seeded(seed),
+        1 => Chirality::Left,
+        _ => Chirality::Right,
+    }
+}
+
+// Advances a part whose arguments are lawful.
+fn advance_lawful(
+    gas: u32,
+    chirality: u32,
+    seed: u64,
+    first: u64,
+    generations: u64,
+    width: u32,
+    height: u32,
+    place: Place,
+    solid: &[u64],
+    states: &mut [u64],
+    work: &mut [u64],
+)
+    requires lawful { advance_status gas chirality first generations width height place.first_row
+        place.first_column place.whole_width (length solid.now) (length states.old)
+        (length work.old) ≡ 0 }
+    ensures done { lattice_in (gas_numbered gas) width height solid.now states.new
+        ≡ part_after (gas_numbered gas) (chirality_numbered chirality seed) place.whole_width
+        place.first_column place.first_row first
+        (lattice_in (gas_numbered gas) width height solid.now states.old) generations }
+{
+    let Some(size) = Size::new(width, height) else {
+        return;
+    };
+    let bits = chirality_of(chirality, seed);
+    match gas {
+        0 => advance::<Fhp1>(size, place, bits, first, generations, solid, states, work),
+        1 => advance::<Hpp>(size, place, bits, first, generations, solid, states, work),
+        _ => advance::<FhpRest>(size, place, bits, first, generations, solid, states, work),
+    }
+}
+
+/// Replaces the states of a part of a lattice by those some generations later.
+#[unsafe(no_mangle)]
+pub extern "C" fn fhpgas_advance(
+    gas: u32,
+    chirality: u32,
+    seed: u64,
+    first: u64,
+    generations: u64,
+    width: u32,
+    height: u32,
+    first_row: u32,
+    first_column: u32,
+    whole_width: u32,
+    solid: &[u64],
+    states: &mut [u64],
+    work: &mut [u64],
+) -> u32
+    ensures status { result ≡ advance_status gas chirality first generations width height first_row
+        first_column whole_width (length solid.now) (length states.old) (length work.old) }
+    ensures kept { result ≢ 0 → states.new ≡ states.old }
+    ensures kept_work { result ≢ 0 → work.new ≡ work.old }
+    ensures done { result ≡ 0 → lattice_in (gas_numbered gas) width height solid.now states.new
+        ≡ part_after (gas_numbered gas) (chirality_numbered chirality seed) whole_width first_column
+        first_row first (lattice_in (gas_numbered gas) width height solid.now states.old) generations }
+    ensures whole { result ≡ 0 → first_row ≡ 0 → first_column ≡ 0 → whole_width ≡ width →
+        lattice_in (gas_numbered gas) width height solid.now states.new
+        ≡ lattice_after (gas_numbered gas) (chirality_numbered chirality seed) first
+        (lattice_in (gas_numbered gas) width height solid.now states.old) generations }
+{
+    let place = Place {
+        first_row,
+        first_column,
+        whole_width,
+    };
+    let status = advance_status(
+        gas,
+        chirality,
+        first,
+        generations,
+        width,
+        height,
+        place,
+        solid.len(),
+        states.len(),
+        work.len(),
+    );
+    if status == DONE {
+        advance_lawful(
+            gas,
+            chirality,
+            seed,
+            first,
+            generations,
+            width,
+            height,
+            place,
+            solid,
+            states,
+            work,
+        );
+    }
+    status
+}
