@@ -1,20 +1,28 @@
-"""Lattice gases from Python: lattices as numpy's arrays, runs of the program, fields of the fluid and pictures.
+"""Lattice gases from Python: lattices as numpy's arrays, runs of the proved engine, fields of the
+fluid and pictures::
 
-    import fhpgas, numpy as np                        # pip install ./python, or PYTHONPATH=python
-    X, Y = fhpgas.positions((512, 256))               # the places of the cells, north is up
-    start = fhpgas.gas(0.2, east=0.3, solid=np.hypot(X - 128, Y - 110) < 20, seed=1)
-    late = start.run(1000)                            # another Lattice: late.states[y, x], late.solid[y, x], late.particles
+    import fhpgas, numpy as np
+    X, Y = fhpgas.positions(fhpgas.Size(512, 256))  # the places of the cells, north is up
+    start = fhpgas.draw_gas(0.2, east=0.3, solid=np.hypot(X - 128, Y - 110) < 20, seed=1)
+    late = start.run(1000)  # another Lattice, with late.states[y, x] and late.solid[y, x]
     late.plot("vorticity", smooth=2)
-    blocks = late.blocks(8, 9)                        # blocks.density[row, column], blocks.east, blocks.speed, ..
+    blocks = late.blocks(8, 9)  # blocks.density[row, column], blocks.east, blocks.speed, ..
     late.save("late.toml")
     later = fhpgas.Lattice.load("late.toml").run(1000)
-    mean, error = fhpgas.mean(fhpgas.side_by_side(measure, range(1, 9)))
+    mean, error = fhpgas.mean_and_error(fhpgas.side_by_side(measure, range(1, 9)))
 
-A *filling* is the chance per direction, 0 to 1, and a *density* the particles per cell. Lengths are in cells' widths, times in generations.
-Input that does not fit raises a `Fault` of one line, a ValueError. `explain(scene)` says where and why a scene is refused, and needs the
-standard library only. The rest needs numpy, pictures need matplotlib, and some functions scipy. The program is proved, this package is not.
-"""
+A *filling* is the chance per direction, 0 to 1, and a *density* the particles per cell. A *gas* is
+the rules of a lattice: calls that need one have it first, calls that may do without have it last.
+Lengths are in cells' widths, times in generations. Input that does not fit raises a `Fault` of one
+line, a ValueError. `explain(scene)` says where and why a scene is refused, and needs the standard
+library only. The rest needs numpy, pictures need matplotlib, and some functions scipy. The program
+is proved, this package is not."""
 import importlib.util
+import sys
+
+if sys.version_info < (3, 11):  # the first word is -m while `python3 -m fhpgas` imports the package
+    why = "fhpgas needs Python 3.11 or later, and this is Python %d.%d" % sys.version_info[:2]
+    raise SystemExit(why) if sys.argv[0] == "-m" else ImportError(why)
 
 from .fault import Fault
 from .program import Summary, check, plan, side_by_side, with_seed
@@ -27,18 +35,53 @@ if importlib.util.find_spec("numpy"):
     from . import boltzmann, shapes, theory
     from .blocks import Blocks, read_table
     from .drive import Point, driven
-    from .fields import equilibrium, positions
+    from .fields import Size, equilibrium, positions
     from .gases import GASES, Gas, gas_named
-    from .lattice import Lattice, coarse, gas, read_cells, run
-    from .observe import flux, forces, mean, staggered
+    from .lattice import Lattice, coarse, draw_gas, read_cells, run
+    from .observe import SeriesMean, flux, forces, mean_and_error, mean_of_series, staggered
     from .pictures import film, plot, strip
     from .shapes import bitmap, disc, nozzle, polygon, porous
     from .theory import Numbers, numbers
 
-    __all__ += ["Blocks", "GASES", "Gas", "Lattice", "Numbers", "Point", "bitmap", "boltzmann", "coarse", "disc", "driven",
-                "equilibrium", "film", "flux", "forces", "gas", "gas_named", "mean", "nozzle", "numbers", "plot", "polygon", "porous",
-                "positions", "read_cells", "read_table", "run", "shapes", "staggered", "strip", "theory"]
+    __all__ += [
+        "Blocks",
+        "GASES",
+        "Gas",
+        "Lattice",
+        "Numbers",
+        "Point",
+        "SeriesMean",
+        "Size",
+        "bitmap",
+        "boltzmann",
+        "coarse",
+        "disc",
+        "draw_gas",
+        "driven",
+        "equilibrium",
+        "film",
+        "flux",
+        "forces",
+        "gas_named",
+        "mean_and_error",
+        "mean_of_series",
+        "nozzle",
+        "numbers",
+        "plot",
+        "polygon",
+        "porous",
+        "positions",
+        "read_cells",
+        "read_table",
+        "run",
+        "shapes",
+        "staggered",
+        "strip",
+        "theory",
+    ]
 else:
 
     def __getattr__(name: str) -> object:
-        raise AttributeError(f"fhpgas.{name} needs numpy, and this Python has none (Debian: python3-numpy)")
+        raise AttributeError(
+            f"fhpgas.{name} needs numpy, and this Python has none (Debian: python3-numpy)"
+        )

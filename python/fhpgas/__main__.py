@@ -1,8 +1,9 @@
-"""Lattice gases at the command line: draws scenes, pictures and films, explains refusals, runs scenes over seeds, over time and in parts.
+"""Lattice gases at the command line: draws scenes, pictures and films, explains refusals, runs
+scenes over seeds, over time and in parts.
 
-SCENE is the file of a scene, and SOURCE one of a scene, of cells that `fhpgas run` printed, or of a table of `fhpgas coarse`: - is standard
-input. A fault is one line on standard error. The status is 2 if the words are wrong, and else 1.
-"""
+SCENE is the file of a scene, and SOURCE one of a scene, of cells that `fhpgas run` printed, or of a
+table of `fhpgas coarse`: - is standard input. A fault is one line on standard error. The status is
+2 if the words are wrong, and else 1."""
 from __future__ import annotations
 
 import argparse
@@ -12,6 +13,7 @@ import pathlib
 import sys
 import timeit
 import warnings
+import webbrowser
 from collections.abc import Callable
 from typing import Any
 
@@ -19,7 +21,7 @@ import fhpgas
 
 from . import drawing
 from .fault import Fault, Parser, Usage, number, one_line_faults, whole
-from .program import MOST_SEED, read_bytes
+from .program import MOST_SEED, naming, read_bytes
 from .refusals import NOT_REFUSED
 
 FIELDS = "speed", "east", "north", "vorticity", "density", "filling", "pressure"
@@ -33,23 +35,31 @@ def text(found: bytes) -> str:
     return read if "\n" in read else read + "\n"
 
 
+def often(scene: pathlib.Path | None) -> pathlib.Path | str:
+    """A scene that can be read often: its path, or the text that standard input had."""
+    return scene if scene and str(scene) != "-" else text(read_bytes("-"))
+
+
 def source(path: str, asked: argparse.Namespace) -> fhpgas.Lattice | fhpgas.Blocks:
-    """What a file has: a scene, or cells or a table, which do not name their gas and the sizes of the lattice and of the blocks."""
+    """What a file has: a scene, or cells or a table, which do not name their gas and the sizes of
+    the lattice and of the blocks."""
     found = read_bytes(path)
     is_table = found.startswith(b"  col ")
     if not is_table and not found.startswith(b"generation "):
-        return fhpgas.Lattice.load(text(found))
+        with naming(path):
+            return fhpgas.Lattice.load(text(found))
     if asked.scene is None and None in (asked.gas, asked.size):
-        raise Usage(f"{path} does not name its gas and its size: --scene SCENE, or --gas GAS and --size COLUMNS ROWS")
+        raise Usage(
+            f"{path} does not name its gas and its size: --scene SCENE, or --gas GAS and --size"
+            " COLUMNS ROWS"
+        )
     if is_table and asked.block is None:
         raise Usage(f"{path} does not name the size of its blocks: --block COLUMNS ROWS")
     gas, columns, rows = fhpgas.check(asked.scene)[:3] if asked.scene else (asked.gas, *asked.size)
-    try:
+    with naming(path):
         if is_table:
-            return fhpgas.read_table(found, gas, asked.block, (columns, rows))
-        return fhpgas.read_cells(found, gas, (columns, rows))
-    except Fault as fault:
-        raise Fault(f"{path}: {fault}") from None
+            return fhpgas.read_table(found, gas, asked.block, fhpgas.Size(columns, rows))
+        return fhpgas.read_cells(found, gas, fhpgas.Size(columns, rows))
 
 
 def steps(last: int, step: int) -> int:
@@ -66,7 +76,9 @@ def to_write(*suffixes: str) -> Callable[[str], str]:
         if pathlib.Path(word).suffix not in suffixes:
             raise argparse.ArgumentTypeError(f"{word} is written as {', '.join(suffixes)}")
         if not os.access(pathlib.Path(word).absolute().parent, os.W_OK):
-            raise argparse.ArgumentTypeError(f"the folder of {word} is missing or cannot be written to")
+            raise argparse.ArgumentTypeError(
+                f"the folder of {word} is missing or cannot be written to"
+            )
         return word
 
     return file
@@ -87,12 +99,17 @@ def looks(asked: argparse.Namespace) -> dict[str, Any]:
     """The options of a picture."""
     if asked.low is not None and asked.high is not None and asked.low >= asked.high:
         raise Usage(f"--low {asked.low:g} is not below --high {asked.high:g}")
-    limits = {name: limit for name, limit in (("vmin", asked.low), ("vmax", asked.high)) if limit is not None}
+    limits = {
+        name: limit
+        for name, limit in (("vmin", asked.low), ("vmax", asked.high))
+        if limit is not None
+    }
     return {"block": asked.block or (8, 9), "smooth": asked.smooth} | limits
 
 
 def picture(asked: argparse.Namespace) -> None:
-    """A figure of one source or a strip of several, or if the file is .gif, .webp, .apng or .mp4 a film of them."""
+    """A figure of one source or a strip of several, or if the file is .gif, .webp, .apng or .mp4 a
+    film of them."""
     from .pictures import axes_of
 
     options = looks(asked)
@@ -110,36 +127,59 @@ def picture(asked: argparse.Namespace) -> None:
 
 
 def film(asked: argparse.Namespace) -> None:
-    """Runs a scene, and shows it every so many generations, from its start on. A flow is kept at each frame by turning particles."""
+    """Runs a scene, and shows it every so many generations, from its start on. A flow is kept at
+    each frame by turning particles."""
     count, options = steps(asked.until, asked.every), looks(asked)
-    how = {name: value for name, value in (("force", asked.force), ("flow", asked.flow)) if value is not None}
+    how = {
+        name: value
+        for name, value in (("force", asked.force), ("flow", asked.flow))
+        if value is not None
+    }
     if len(how) > 1:
         raise Usage("a flow is driven by a force or towards a mean flow: --force or --flow")
     start = fhpgas.Lattice.load(asked.scene)
-    points = start.driven(asked.until, asked.every, seed=asked.seed, **how) if how else ()
+    points = (
+        start.driven(asked.until, asked.every, along=asked.along, seed=asked.seed, **how)
+        if how
+        else ()
+    )
     frames = (point.before for point in points) if how else start.every(asked.every, count)
     fhpgas.film(asked.file, frames, asked.what, fps=asked.fps, dpi=asked.dpi, **options)
-    print(f"{asked.file}: {count + 1} frames, generations {start.generation} to {start.generation + asked.until}")
+    print(
+        f"{asked.file}: {count + 1} frames, generations {start.generation} to"
+        f" {start.generation + asked.until}"
+    )
 
 
 def how_long(asked: argparse.Namespace) -> None:
-    """Times a few short runs with the same plan, and scales. On a busy machine the figure changes every minute."""
-    scene = text(read_bytes(asked.scene))
+    """Times a few short runs with the same plan, and scales. On a busy machine the figure changes
+    every minute."""
+    scene = often(asked.scene)
     size = fhpgas.check(scene)
     stages, capacity = fhpgas.plan(size.height, asked.generations)
     stages, capacity = asked.stages or stages, asked.capacity or capacity
 
     def timed(generations: int) -> float:
-        return timeit.timeit(lambda: fhpgas.coarse(scene, generations, 4096, 4096, stages=stages, capacity=capacity), number=1)
+        return timeit.timeit(
+            lambda: fhpgas.coarse(scene, generations, 4096, 4096, stages=stages, capacity=capacity),
+            number=1,
+        )
 
     around, generations = min(timed(0), timed(0)), stages
-    while (seconds := timed(generations) - around) < asked.seconds and 10 * generations <= 1_000_000:
+    while (
+        seconds := timed(generations) - around
+    ) < asked.seconds and 10 * generations <= 1_000_000:
         generations *= max(2, min(10, int(asked.seconds / max(seconds, 1e-6))))
     of_one = max(seconds, 1e-6) / generations
     cells, whole_run = size.width * size.height, around + asked.generations * of_one
     unit, length = next((pair for pair in UNITS if whole_run >= 2 * pair[1]), UNITS[-1])
-    print(f"{cells / of_one / 1e6:,.0f} MLUPS with {stages} worker{'s' * (stages > 1)} and {capacity} rows per belt")
-    print(f"{asked.generations} generations of {cells} cells: about {whole_run / length:.2g} {unit}")
+    print(
+        f"{cells / of_one / 1e6:,.0f} MLUPS with {stages} worker{'s' * (stages > 1)} and {capacity}"
+        " rows per belt"
+    )
+    print(
+        f"{asked.generations} generations of {cells} cells: about {whole_run / length:.2g} {unit}"
+    )
 
 
 def resume(asked: argparse.Namespace) -> None:
@@ -147,30 +187,50 @@ def resume(asked: argparse.Namespace) -> None:
 
 
 def long_run(asked: argparse.Namespace) -> None:
-    for later in fhpgas.Lattice.load(asked.scene).long_run(asked.generations, asked.step, asked.kept):
+    files = asked.scene, pathlib.Path(asked.kept)
+    if all(map(os.path.exists, files)) and os.path.samefile(*files):
+        raise Usage(f"{asked.kept} is the scene itself, which the run would overwrite")
+    start, later = fhpgas.Lattice.load(asked.scene), None
+    for later in start.long_run(asked.generations, asked.step, asked.kept):
         print(f"generation {later.generation} particles {later.particles}", flush=True)
+    if later is None:
+        kept = fhpgas.Lattice.load(pathlib.Path(asked.kept))
+        print(f"{asked.kept} has generation {kept.generation}, so there was nothing to run")
 
 
 def over_time(asked: argparse.Namespace) -> None:
-    for later in fhpgas.Lattice.load(asked.scene).every(asked.step, steps(asked.last, asked.step)):
+    start = fhpgas.Lattice.load(asked.scene)
+    if asked.last < start.generation:
+        raise Usage(f"{asked.scene} has generation {start.generation}, which is past {asked.last}")
+    for later in start.every(asked.step, steps(asked.last - start.generation, asked.step)):
         print(f"generation {later.generation} particles {later.particles}")
         print(later.blocks(*asked.block or (8, 9)).text(), end="", flush=True)
 
 
 def drive(asked: argparse.Namespace) -> None:
-    """Turns particles from west to east between short runs, and says how fast the gas flows and which force acts until the next point."""
+    """Turns particles from west to east between short runs, and says how fast the gas flows and
+    which force acts until the next point."""
     steps(asked.generations, asked.every)
     if (asked.flow is None) == (asked.force is None):
         raise Usage("a flow is driven either by a force or towards a mean flow: --force or --flow")
-    points = fhpgas.Lattice.load(asked.scene).driven(asked.generations, asked.every, force=asked.force, flow=asked.flow, seed=asked.seed)
+    points = fhpgas.Lattice.load(asked.scene).driven(
+        asked.generations,
+        asked.every,
+        force=asked.force,
+        flow=asked.flow,
+        along=asked.along,
+        seed=asked.seed,
+    )
     for done, point in enumerate(points):
         print("generation    velocity       force\n" * (done == 0), end="")
-        print(f"{point.before.generation:10} {point.velocity:11.5f} {point.force:11.3g}", flush=True)
+        print(
+            f"{point.before.generation:10} {point.velocity:11.5f} {point.force:11.3g}", flush=True
+        )
 
 
 def over_seeds(asked: argparse.Namespace) -> None:
     if asked.drawn is None:
-        scene = text(read_bytes(asked.scene or "-"))
+        scene = often(asked.scene)
     else:
         words = Parser("--drawn")
         drawing.add_words(words)
@@ -181,18 +241,31 @@ def over_seeds(asked: argparse.Namespace) -> None:
         blocks = fhpgas.coarse(area, asked.generations, *asked.block or (8, 9))
         return [blocks.fluid, blocks.particles, *blocks.velocity]
 
-    (fluid, *means), (_, *errors) = fhpgas.mean(fhpgas.side_by_side(columns, range(1, asked.seeds + 1)))
-    print("  col   row    fluid" + "".join(f"{name:>12}{name + '_error':>16}" for name in ("particles", "u", "v")))
-    for row, column in ((row, column) for row in range(len(fluid)) for column in range(fluid.shape[1])):
+    (fluid, *means), (_, *errors) = fhpgas.mean_and_error(
+        fhpgas.side_by_side(columns, range(1, asked.seeds + 1))
+    )
+    print(
+        "  col   row    fluid"
+        + "".join(f"{name:>12}{name + '_error':>16}" for name in ("particles", "u", "v"))
+    )
+    for row, column in (
+        (row, column) for row in range(len(fluid)) for column in range(fluid.shape[1])
+    ):
         pairs = ((middle[row, column], error[row, column]) for middle, error in zip(means, errors))
-        shown = "".join(f"{'-':>12}{'-':>16}" if m != m else f"{m:12.5g}{e:16.2g}" for m, e in pairs)
+        shown = "".join(
+            f"{'-':>12}{'-':>16}" if m != m else f"{m:12.5g}{e:16.2g}" for m, e in pairs
+        )
         print(f"{column:5} {row:5} {fluid[row, column]:8.1f}{shown}")
 
 
-def live(asked: argparse.Namespace) -> None:
-    from .live import serve
-
-    serve(text(read_bytes(asked.scene)) if asked.scene else None, asked.port, not asked.no_browser)
+def page(asked: argparse.Namespace) -> None:
+    own = (
+        pathlib.Path(__file__).resolve().parent
+    )  # of a wheel, which has the page, or of the repository
+    path = (own if (own / "page").exists() else own.parents[1]) / "page/fhpgas.html"
+    print(path, flush=True)
+    if not asked.no_browser:
+        webbrowser.open(path.as_uri())
 
 
 def numbers(asked: argparse.Namespace) -> None:
@@ -206,7 +279,10 @@ def numbers(asked: argparse.Namespace) -> None:
         if not particles:
             raise Fault(f"{asked.table} has no particle, so no flow")
         x, y = blocks.gas.units * (blocks.px.sum(), blocks.py.sum()) / particles
-        flow = {"filling": particles / blocks.gas.directions / blocks.fluid.sum(), "speed": (x**2 + y**2) ** 0.5}
+        flow = {
+            "filling": particles / blocks.gas.directions / blocks.fluid.sum(),
+            "speed": (x**2 + y**2) ** 0.5,
+        }
     told = fhpgas.numbers(gas, **flow, length=asked.length, chirality=asked.chirality)._asdict()
     for name, value in (flow | told if asked.table else told).items():
         print(f"{name.replace('_', ' '):16}{value:12.4g}")
@@ -215,26 +291,51 @@ def numbers(asked: argparse.Namespace) -> None:
 FIELD: dict[str, Any] = {"choices": (*FIELDS, "particles")}
 SCENE: dict[str, Any] = {"metavar": "SCENE", "type": pathlib.Path}
 SIDES: dict[str, Any] = {"nargs": 2, "metavar": ("COLUMNS", "ROWS")}
-FINITE, MANY, STEP, COUNT = number(-1e300, 1e300), whole(0, 10**12), whole(1, 1_000_000), whole(0, 1_000_000)
+FINITE, MANY, STEP, COUNT = (
+    number(-1e300, 1e300),
+    whole(0, 10**12),
+    whole(1, 1_000_000),
+    whole(0, 1_000_000),
+)
 WORDS: dict[str, dict[str, Any]] = {
     "scene": SCENE,
     "scene:optional": SCENE | {"nargs": "?"},
     "sources": {"metavar": "SOURCE", "nargs": "+"},
     "cells": {"metavar": "CELLS"},
     "kept": {"metavar": "KEPT", "help": "the file, a scene"},
-    "file:picture": {"metavar": "FILE", "type": to_write(*FIGURES, *FILMS), "help": ", ".join(FIGURES + FILMS)},
+    "file:picture": {
+        "metavar": "FILE",
+        "type": to_write(*FIGURES, *FILMS),
+        "help": ", ".join(FIGURES + FILMS),
+    },
     "file:film": {"metavar": "FILE", "type": to_write(*FILMS), "help": ", ".join(FILMS)},
     "what": FIELD,
     "generations": {"metavar": "GENERATIONS", "type": MANY},
-    "last": {"metavar": "LAST", "type": MANY},
+    "last": {"metavar": "LAST", "type": MANY, "help": "the last generation"},
     "step": {"metavar": "STEP", "type": STEP},
     "every": {"metavar": "EVERY", "type": STEP},
-    "--block": SIDES | {"type": whole(1, 4096), "help": "of a block; default 8 9, but a table needs its own"},
+    "--along": {
+        "choices": drawing.DRIVES,
+        "default": "rows",
+        "help": "the particles that turn: W to E (rows), or NW to NE and SW to SE too (directions);"
+        " default rows",
+    },
+    "--block": SIDES
+    | {"type": whole(1, 4096), "help": "of a block; default 8 9, but a table needs its own"},
     "--capacity": {"type": whole(1, 1024), "help": "rows per belt"},
     "--chirality": {"choices": drawing.CHIRALITIES, "default": "seeded", "help": "default seeded"},
     "--dpi": {"type": whole(10, 1000), "default": 100, "help": "dots per inch; default 100"},
-    "--drawn": {"metavar": "WORD", "nargs": "...", "help": "words of `draw` to the end of the line, for every seed"},
-    "--every": {"metavar": "STEP", "type": STEP, "required": True, "help": "generations from frame to frame"},
+    "--drawn": {
+        "metavar": "WORD",
+        "nargs": "...",
+        "help": "words of `draw` to the end of the line, for every seed",
+    },
+    "--every": {
+        "metavar": "STEP",
+        "type": STEP,
+        "required": True,
+        "help": "generations from frame to frame",
+    },
     "--filling": {"type": number(1e-4, 0.9999), "help": "the chance per direction"},
     "--flow": {"type": number(-1, 1), "help": "mean velocity"},
     "--force": {"type": number(-2, 2), "help": "momentum per fluid cell and generation"},
@@ -244,36 +345,75 @@ WORDS: dict[str, dict[str, Any]] = {
     "--high": {"type": FINITE, "help": "the value of the last colour"},
     "--length": {"type": number(1e-3, 1e9), "required": True, "help": "in cells' widths"},
     "--low": {"type": FINITE, "help": "the value of the first colour"},
-    "--no-browser": {"action": "store_true"},
-    "--port": {"type": whole(0, 65535), "default": 0, "help": "default any that is free"},
+    "--no-browser": {"action": "store_true", "help": "only print the path"},
     "--scene": SCENE | {"help": "the scene of the run, for its gas and its size"},
-    "--seconds": {"type": whole(1, 3600), "default": 2, "help": "the least that is timed; default 2"},
-    "--seed": {"type": whole(0, MOST_SEED), "default": 0, "help": "of the particles that are turned; default 0"},
+    "--seconds": {
+        "type": whole(1, 3600),
+        "default": 2,
+        "help": "the least that is timed; default 2",
+    },
+    "--seed": {
+        "type": whole(0, MOST_SEED),
+        "default": 0,
+        "help": "of the particles that are turned; default 0",
+    },
     "--seeds": {"type": whole(2, 10**6), "default": 8, "help": "default 8"},
     "--size": SIDES | {"type": whole(1, 65536), "help": "of the lattice"},
-    "--smooth": {"metavar": "BLOCKS", "type": number(0, 100), "default": 0, "help": "width of a Gaussian that smooths, in blocks"},
+    "--smooth": {
+        "metavar": "BLOCKS",
+        "type": number(0, 100),
+        "default": 0,
+        "help": "width of a Gaussian that smooths, in blocks",
+    },
     "--speed": {"type": number(0, 1), "help": "in cells' widths per generation"},
     "--stages": {"type": whole(1, 64), "help": "workers"},
     "--table": {"metavar": "SOURCE", "help": "for its filling and mean speed"},
-    "--until": {"metavar": "GENERATIONS", "type": COUNT, "required": True, "help": "generations in all"},
+    "--until": {
+        "metavar": "GENERATIONS",
+        "type": COUNT,
+        "required": True,
+        "help": "generations in all",
+    },
     "--what": FIELD | {"help": "default speed, or particles if the lattice is small"},
 }
 COMMANDS: tuple[tuple[Callable[[argparse.Namespace], None], str, str], ...] = (
     (draw, "draw a scene", ""),
     (explain, "say where and why a scene is refused", "scene"),
-    (picture, "a figure of a scene, of cells or of a table, or of several",
-        "what file:picture sources --scene --gas --size --block --low --high --smooth --dpi"),
-    (film, "run a scene and write a film",
-        "scene file:film --every --until --what --block --low --high --smooth --dpi --fps --force --flow --seed"),
-    (live, "show a gas that moves on a page of the browser", "scene:optional --port --no-browser"),
+    (
+        picture,
+        "a figure of a scene, of cells or of a table, or of several",
+        "what file:picture sources --scene --gas --size --block --low --high --smooth --dpi",
+    ),
+    (
+        film,
+        "run a scene and write a film",
+        "scene file:film --every --until --what --block --low --high --smooth --dpi --fps --force"
+        " --flow --along --seed",
+    ),
+    (page, "open a page on which a gas moves, and print its path", "--no-browser"),
     (how_long, "say how long a run will take", "scene generations --stages --capacity --seconds"),
     (resume, "print the scene that continues a run from printed cells", "scene cells"),
-    (long_run, "run in parts, each kept in a file; the same command continues an ended run", "scene generations step kept"),
-    (drive, "run a scene under a force or towards a mean flow", "scene generations every --force --flow --seed"),
+    (
+        long_run,
+        "run in parts, each kept in a file; the same command continues an ended run",
+        "scene generations step kept",
+    ),
+    (
+        drive,
+        "run a scene under a force or towards a mean flow",
+        "scene generations every --force --flow --along --seed",
+    ),
     (over_time, "tables every STEP generations up to LAST", "scene last step --block"),
-    (over_seeds, "the mean over seeds of a table of an area, with standard errors", "scene:optional --seeds --generations --block --drawn"),
-    (numbers, "Mach and Reynolds number of a flow, and the rest",
-        "--filling --speed --length --chirality --gas --table --scene --size --block"),
+    (
+        over_seeds,
+        "the mean over seeds of a table of an area, with standard errors",
+        "scene:optional --seeds --generations --block --drawn",
+    ),
+    (
+        numbers,
+        "Mach and Reynolds number of a flow, and the rest",
+        "--filling --speed --length --chirality --gas --table --scene --size --block",
+    ),
 )
 
 
@@ -283,7 +423,9 @@ def reader(name: str) -> Parser:
     commands = top.add_subparsers(required=True, metavar="COMMAND")
     for function, about, words in COMMANDS:
         more = drawing.__doc__ if function is draw else function.__doc__ or about
-        made = commands.add_parser(function.__name__.replace("_", "-"), help=about, description=more)
+        made = commands.add_parser(
+            function.__name__.replace("_", "-"), help=about, description=more
+        )
         made.set_defaults(function=function)
         for word in words.split():
             made.add_argument(word.split(":")[0], **WORDS[word])
@@ -295,7 +437,9 @@ def reader(name: str) -> Parser:
 def main(words: list[str] | None = None) -> None:
     name = pathlib.Path(sys.argv[0]).name
     with one_line_faults("fhpgas-tools"), warnings.catch_warnings():
-        warnings.showwarning = lambda message, *_: print(f"fhpgas-tools: {message}", file=sys.stderr)
+        warnings.showwarning = lambda message, *_: print(
+            f"fhpgas-tools: {message}", file=sys.stderr
+        )
         asked = reader("python3 -m fhpgas" if name == "__main__.py" else name).parse_args(words)
         try:
             if asked.function is not explain:
@@ -303,9 +447,14 @@ def main(words: list[str] | None = None) -> None:
             asked.function(asked)
         except ModuleNotFoundError as missing:
             name = str(missing.name).lower()
-            raise Fault(f"{sys.executable} lacks the package {name}: pip install {name}, or Debian's python3-{name}") from None
+            raise Fault(
+                f"{sys.executable} lacks the package {name}: pip install {name}, or Debian's"
+                f" python3-{name}"
+            ) from None
         except OSError as fault:
-            raise fault if isinstance(fault, BrokenPipeError) else Fault(f"{fault.filename or 'a file'}: {fault.strerror}") from None
+            raise fault if isinstance(fault, BrokenPipeError) else Fault(
+                f"{fault.filename or 'a file'}: {fault.strerror}"
+            ) from None
 
 
 if __name__ == "__main__":

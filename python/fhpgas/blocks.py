@@ -2,42 +2,77 @@
 import dataclasses
 import functools
 import io
+import itertools
+import os
 from typing import Any
 
 import numpy as np
 
-from . import pictures
 from .fault import Fault, integer, real
-from .fields import size_checked
-from .gases import Array, Gas, gas_named, read_only
+from .fields import Size, pair_checked, size_of
+from .gases import Array, Gas, array_of, gas_named, read_only
+from .program import write_whole
 
 HEADER = "  col   row    fluid particles         px         py"
-SUMS = "fluid", "particles", "px", "py"
+MOMENTA = "px", "py"
+SUMS = "fluid", "particles", *MOMENTA
 CACHED = 1 << 17  # cells that are summed at a time
 LANE = 21  # bits of a sum over a column of a block: at most 65536 rows of a weight of at most 31
 
 
+def block_checked(width: int, height: int, most: int | None = None) -> tuple[int, int]:
+    """The columns and rows of a block as two ints of at least 1."""
+    return (
+        integer("the width of a block", width, 1, most),
+        integer("the height of a block", height, 1, most),
+    )
+
+
 def block_sums(states: Array, weights: Array, width: int, height: int) -> Array:
-    """The sums [k, row, column] over blocks of `width` x `height` cells of the weights [k, state], at most 31 apart, of their states. The
-    rows of a block are added first, with three weights at a time in the lanes of an integer of 64 bits."""
-    width, height = integer("the width of a block", width, 1), integer("the height of a block", height, 1)
-    tops, lefts, found = np.arange(0, len(states), height), np.arange(0, states.shape[1], width), []
-    rows, strip = np.diff(tops, append=len(states))[:, None], max(1, CACHED // (height * states.shape[1]))
-    for three in (weights[k : k + 3].astype(int) for k in range(0, len(weights), 3)):
+    """The sums [k, row, column] over blocks of `width` x `height` cells of the weights [k,
+    state], at most 31 apart, of their states. The rows of a block are added first, with three
+    weights at a time in the lanes of an integer of 64 bits."""
+    width, height = block_checked(width, height)
+    tops, lefts = np.arange(0, len(states), height), np.arange(0, states.shape[1], width)
+    cells = np.outer(np.diff(tops, append=len(states)), np.diff(lefts, append=states.shape[1]))
+    found = np.empty((len(weights), *cells.shape), np.int64)
+    many = max(1, CACHED // (height * states.shape[1]))
+    for first, k in itertools.product(range(0, len(weights), 3), range(0, len(tops), many)):
+        three, part = (
+            weights[first : first + 3].astype(int),
+            states[k * height : (k + many) * height],
+        )
+        if not part.max():  # all cells have state 0, as where nothing is solid
+            found[first : first + 3, k : k + many] = three[:, :1, None] * cells[k : k + many]
+            continue
         least = three.min(1, keepdims=True)
         lanes = ((three - least) << LANE * np.arange(len(three))[:, None]).sum(0).astype(np.uint64)
-        packed = np.empty((len(tops), states.shape[1]), np.uint64)
-        for k in range(0, len(tops), strip):
-            part = lanes[states[tops[k] : tops[k] + strip * height]]
-            np.add.reduceat(part, np.arange(0, len(part), height), axis=0, out=packed[k : k + strip])
-        for k, shift in enumerate(least[:, 0]):
-            columns = (packed >> np.uint64(LANE * k) & np.uint64((1 << LANE) - 1)).astype(np.int64) + shift * rows
-            found.append(np.add.reduceat(columns, lefts, axis=1))
-    return np.stack(found)
+        packed = _columns(lanes, part, height)
+        for lane, shift in enumerate(least[:, 0]):
+            sums = (packed >> np.uint64(LANE * lane) & np.uint64((1 << LANE) - 1)).view(np.int64)
+            here = found[first + lane, k : k + many]
+            np.add.reduceat(sums, lefts, axis=1, out=here)
+            here += shift * cells[k : k + many]
+    return found
+
+
+def _columns(lanes: Array, states: Array, height: int) -> Array:
+    """The sums [row of blocks, column] of the lanes of states over `height` rows, few rows at a
+    time. The last ones may be fewer."""
+    rows, columns = states.shape
+    if rows <= height:
+        step = max(1, CACHED // columns)
+        parts = (lanes[states[top : top + step]].sum(0) for top in range(0, rows, step))
+        return sum(parts, np.zeros((1, columns), lanes.dtype))
+    whole = rows // height * height
+    found = lanes[states[:whole]].reshape(-1, height, columns).sum(1)
+    rest = lanes[states[whole:]].sum(0, keepdims=True)
+    return np.concatenate([found, rest][: 1 + (whole < rows)])
 
 
 class Value:
-    """What is equal by value, shows itself as a picture, and is again what it was after pickling: the base of dataclasses with arrays."""
+    """What is equal by value, shows itself as a picture, and is again what it was after
+    pickling: the base of dataclasses with arrays."""
 
     def _values(self) -> tuple[Any, ...]:
         return tuple(getattr(self, field.name) for field in dataclasses.fields(self))
@@ -46,21 +81,148 @@ class Value:
         return type(self), self._values()
 
     def __eq__(self, other: object) -> bool:
-        return isinstance(other, Value) and type(self) is type(other) and all(map(np.array_equal, self._values(), other._values()))
+        return (
+            isinstance(other, Value)
+            and type(self) is type(other)
+            and all(map(np.array_equal, self._values(), other._values()))
+        )
 
     def __hash__(self) -> int:
-        return hash(tuple(value.tobytes() if isinstance(value, np.ndarray) else value for value in self._values()))
+        return hash(
+            tuple(
+                value.tobytes() if isinstance(value, np.ndarray) else value
+                for value in self._values()
+            )
+        )
 
-    plot, _repr_png_ = pictures.plot, pictures.png
+    def plot(self: Any, what: Any = None, ax: Any = None, **options: Any) -> Any:
+        """Shows the value on Axes of matplotlib.
+
+        Parameters
+        ----------
+        what, ax, **options
+            As in `fhpgas.plot`.
+
+        Returns
+        -------
+        matplotlib.image.AxesImage or matplotlib.axes.Axes
+
+        Examples
+        --------
+        >>> from matplotlib.figure import Figure
+        >>> start = fhpgas.draw_gas(0.2, size=fhpgas.Size(64, 36), seed=1)
+        >>> image = start.blocks().plot("east", Figure().subplots(), vmin=-1, vmax=1)
+        """
+        from . import pictures  # which is above this module
+
+        return pictures.plot(self, what, ax, **options)
+
+    def save(self: Any, path: str | os.PathLike[str]) -> None:
+        """Writes all parts to an .npz file of numpy, which is whole or as before.
+
+        Parameters
+        ----------
+        path : path
+            The file.
+
+        Raises
+        ------
+        Fault
+            If the file cannot be written.
+
+        Examples
+        --------
+        >>> blocks = fhpgas.draw_gas(0.2, size=fhpgas.Size(64, 36), seed=1).blocks()
+        >>> blocks.save("rest.npz")
+        >>> fhpgas.Blocks.load("rest.npz") == blocks
+        True
+        """
+        from . import forms
+
+        write_whole(path, forms.to_npz(self))
+
+    @classmethod
+    def load(cls, path: Any) -> Any:
+        """The value that `save` wrote to an .npz file."""
+        from . import forms
+
+        return forms.from_npz(cls, path)
+
+    def to_xarray(self: Any) -> Any:
+        """The same as a Dataset of xarray, with names, units and places, which netCDF and zarr
+        keep.
+
+        Returns
+        -------
+        xarray.Dataset
+            Arrays with the dimensions y and x; the other parts are its attributes.
+        """
+        from . import forms
+
+        return forms.to_xarray(self)
+
+    @classmethod
+    def from_xarray(cls, dataset: Any) -> Any:
+        """The value whose `to_xarray` a dataset is, also after a file kept it.
+
+        Parameters
+        ----------
+        dataset : xarray.Dataset
+
+        Returns
+        -------
+        Lattice or Blocks
+
+        Examples
+        --------
+        >>> start = fhpgas.draw_gas(0.2, size=fhpgas.Size(64, 36), seed=1)
+        >>> fhpgas.Lattice.from_xarray(start.to_xarray()) == start
+        True
+        """
+        from . import forms
+
+        return forms.from_xarray(cls, dataset)
+
+    def _repr_png_(self: Any) -> bytes:
+        from . import pictures
+
+        return pictures.png(self)
 
 
 @dataclasses.dataclass(frozen=True, eq=False, repr=False)
 class Blocks(Value):
-    """Sums over blocks of cells as read-only arrays [row, column], row 0 at the top: the numbers of `fluid` cells and of `particles`, and
-    the momenta eastwards and northwards, `px` and `py`, in the gas's units, as `fhpgas coarse` prints them.
+    """Sums over blocks of cells, as read-only arrays [row, column] with row 0 at the top.
 
-    `block` is the columns and rows of a block. Blocks at the right and at the bottom may be smaller. `size` is the columns and rows of the
-    lattice, `generation` its generation. The fields are arrays of floats: nan in solid blocks, and velocities also in empty ones.
+    Blocks of several lattices are added, `sum(many)`: velocities are then means over all particles.
+    Fields are floats: nan in solid blocks, and velocities also in empty ones.
+
+    Parameters
+    ----------
+    fluid, particles : array of shape (rows, columns)
+        The fluid cells and the particles of each block.
+    px, py : array of shape (rows, columns)
+        The momenta eastwards and northwards in the gas's units, as `fhpgas coarse` prints them.
+    gas : Gas or str
+        The gas.
+    block : pair of int
+        The columns and rows of a block. Blocks at the right and at the bottom may be smaller.
+    size : Size
+        Of the lattice.
+    generation : int, optional
+        Of the lattice, or of the last one that was added.
+    members : int, optional
+        How many lattices the sums are of.
+
+    Raises
+    ------
+    Fault
+        If the sums do not have one number per block.
+
+    Examples
+    --------
+    >>> blocks = fhpgas.Lattice([[1, 1, 8, 0]]).blocks(2, 1)
+    >>> blocks.density.tolist(), blocks.east.tolist()
+    ([[1.0, 0.5]], [[1.0, -1.0]])
     """
 
     fluid: Array
@@ -69,34 +231,71 @@ class Blocks(Value):
     py: Array
     gas: Gas
     block: tuple[int, int]
-    size: tuple[int, int]
+    size: Size
     generation: int = 0
+    members: int = 1
 
     def __post_init__(self) -> None:
-        (columns, rows), (width, height) = size_checked(self.size), size_checked(self.block)
-        sums, shape = {name: read_only(np.array(getattr(self, name))) for name in SUMS}, (-(-rows // height), -(-columns // width))
+        (columns, rows), block = size_of(self.size), pair_checked(self.block, "a block")
+        width, height = block
+        sums = {name: read_only(array_of(name, getattr(self, name)).copy()) for name in SUMS}
+        shape = -(-rows // height), -(-columns // width)
         if any(array.shape != shape or array.dtype.kind not in "iuf" for array in sums.values()):
-            raise Fault(f"{columns} x {rows} cells have {shape[1]} x {shape[0]} blocks of {width} x {height}, and the sums are arrays"
-                        f" [row, column] of {', '.join(str(array.shape) for array in sums.values())}")
-        self.__dict__.update(sums, gas=gas_named(self.gas), block=(width, height), size=(columns, rows))
+            raise Fault(
+                f"{columns} x {rows} cells have {shape[1]} x {shape[0]} blocks of {width} x"
+                f" {height}, and the sums are arrays"
+                f" [row, column] of {', '.join(str(array.shape) for array in sums.values())}"
+            )
+        self.__dict__.update(sums, gas=gas_named(self.gas), block=block, size=Size(columns, rows))
 
     def __repr__(self) -> str:
         rows, columns = self.fluid.shape
-        return f"<Blocks {columns} x {rows} of {self.block[0]} x {self.block[1]} cells of {self.gas}, generation {self.generation}>"
+        of = f", {self.members} members" if self.members > 1 else ""
+        width, height = self.block
+        return (
+            f"<Blocks {columns} x {rows} of {width} x {height} cells of {self.gas},"
+            f" generation {self.generation}{of}>"
+        )
 
     def __add__(self, other: "Blocks") -> "Blocks":
-        """The sums of two lattices of the same blocks, with the generation of the second. `sum(many)` works, and its velocities are means
-        over all particles."""
+        """The sums of two lattices of the same blocks, with the generation of the second.
+        `sum(many)` works, and its velocities are means over all particles."""
         if not isinstance(other, Blocks):
             return NotImplemented
         if (self.gas, self.block, self.size) != (other.gas, other.block, other.size):
-            raise Fault(f"only blocks of one gas, one size and one lattice's size can be added, and these are {self} and {other}")
-        return dataclasses.replace(other, **{name: getattr(self, name) + getattr(other, name) for name in SUMS})
+            raise Fault(
+                "only blocks of one gas, one size and one lattice's size can be added, and these"
+                f" are {self} and {other}"
+            )
+        return dataclasses.replace(
+            other,
+            members=self.members + other.members,
+            **{name: getattr(self, name) + getattr(other, name) for name in SUMS},
+        )
 
     def __radd__(self, other: Any) -> "Blocks":
         if not isinstance(other, int) or other:
             return NotImplemented
         return self
+
+    @property
+    def cells(self) -> Array:
+        """The cells of the blocks of all members, fluid and solid."""
+        widths, heights = (
+            np.diff(np.minimum(np.arange(0, side + step, step), side))
+            for side, step in zip(self.size, self.block)
+        )
+        return self.members * heights[:, None] * widths
+
+    def most(self) -> dict[str, Array]:
+        """The largest sums that the cells, the fluid ones and their particles allow."""
+        of_one, of_cell = np.abs(self.gas.momenta).max(0), np.abs(self.gas.momenta).sum(0) // 2
+        momenta = (
+            np.minimum(one * self.particles, cell * self.fluid)
+            for one, cell in zip(of_one, of_cell)
+        )
+        numbers = {"fluid": self.cells, "particles": self.gas.directions * self.fluid}
+        return numbers | dict(zip(MOMENTA, momenta))
 
     @functools.cached_property
     def density(self) -> Array:
@@ -110,8 +309,16 @@ class Blocks(Value):
 
     @functools.cached_property
     def velocity(self) -> Array:
-        """The mean velocities [2, row, column] of the particles, eastwards and northwards, in cells' widths per generation."""
-        return read_only(np.stack([_ratio(unit * sums, self.particles) for unit, sums in zip(self.gas.units, (self.px, self.py))]))
+        """The mean velocities [2, row, column] of the particles, eastwards and northwards, in
+        cells' widths per generation."""
+        return read_only(
+            np.stack(
+                [
+                    _ratio(unit * sums, self.particles)
+                    for unit, sums in zip(self.gas.units, (self.px, self.py))
+                ]
+            )
+        )
 
     @property
     def east(self) -> Array:
@@ -130,9 +337,12 @@ class Blocks(Value):
 
     @functools.cached_property
     def pressure(self) -> Array:
-        """The pressure per cell at equilibrium, to second order in the speed u: c^2 density (1 - k g u^2), where c is the speed of sound, k
-        is 1 in `fhp1` and 5/6 in `fhp-rest`, and g = (b/12) (1 - 2d) / (1 - d) at the filling d (docs/PHYSICS.md). Per area divide by the
-        rows' distance. In `hpp`, whose stress is not isotropic, c^2 density."""
+        """The pressure per cell at equilibrium, to second order in the speed u.
+
+        It is c^2 density (1 - k g u^2), where c is the speed of sound, k is 1 in `fhp1` and 5/6
+        in `fhp-rest`, and g = (b/12) (1 - 2d) / (1 - d) at the filling d (docs/PHYSICS.md). Per
+        area divide by the rows' distance. In `hpp`, whose stress is not isotropic, it is c^2
+        density."""
         square, b = float((self.gas.velocities[:, 0] ** 2).mean()), self.gas.directions
         k = 0 if self.gas.is_square else 2 - 1 / (2 * square)
         with np.errstate(divide="ignore", invalid="ignore"):
@@ -141,42 +351,112 @@ class Blocks(Value):
 
     @functools.cached_property
     def vorticity(self) -> Array:
-        """d north/dx - d east/dy, by differences of the blocks next to a block, of one side if the other is solid, empty or past a wall."""
+        """d north/dx - d east/dy, by differences of the blocks next to a block, of one side if
+        the other is solid, empty or past a wall."""
         x, y = self.positions
         edged = np.pad(self.east, ((1, 1), (0, 0)), constant_values=np.nan)
         wrapped = np.pad(self.north, ((0, 0), (1, 1)), mode="wrap").T
         around = np.array([x[-1] - self.size[0], *x, x[0] + self.size[0]])
-        curl = _slope(wrapped, around).T - _slope(edged, np.array([y[0] + 1, *y, y[-1] - 1]))  # past a wall is nothing, at any distance
+        curl = _slope(wrapped, around).T - _slope(
+            edged, np.array([y[0] + 1, *y, y[-1] - 1])
+        )  # past a wall is nothing, at any distance
         return read_only(np.where(np.isnan(self.east), np.nan, curl))
 
     @property
     def edges(self) -> tuple[Array, Array]:
-        """The edges of the blocks: x [columns + 1] eastwards, and y [rows + 1] northwards from the lower wall, from the top."""
-        x, y = (np.minimum(np.arange(0, side + step, step), side) for side, step in zip(self.size, self.block))
+        """The edges of the blocks: x [columns + 1] eastwards, and y [rows + 1] northwards from
+        the lower wall, from the top."""
+        x, y = (
+            np.minimum(np.arange(0, side + step, step), side)
+            for side, step in zip(self.size, self.block)
+        )
         return x - 0.5 + self.gas.shift / 2, (self.size[1] - y) * self.gas.row_distance
 
     @property
     def positions(self) -> tuple[Array, Array]:
-        """The places of the blocks' middles as in `fhpgas.positions`: x [column] eastwards, y [row] northwards from the lower wall."""
+        """The places of the blocks' middles as in `fhpgas.positions`: x [column] eastwards, y
+        [row] northwards from the lower wall."""
         x, y = self.edges
         return (x[1:] + x[:-1]) / 2, (y[1:] + y[:-1]) / 2
 
     def smooth(self, sigma: float = 1.0) -> "Blocks":
-        """The sums spread by a Gaussian of `sigma` blocks, periodic in x and reflected by the walls. Solid blocks stay solid. Particles and
-        momenta are spread alike, so velocities are means."""
+        """The sums spread by a Gaussian, periodic in x.
+
+        Walls and solid blocks mirror particles as they are and momenta with the other sign, because
+        the fluid does not slip there: a velocity that grows linearly from a wall stays as it is.
+        Particles and momenta are spread alike, so velocities are means. Solid blocks stay solid.
+
+        Parameters
+        ----------
+        sigma : float, optional
+            The width of the Gaussian in blocks, 0 to 100.
+
+        Returns
+        -------
+        Blocks
+            With fractions.
+
+        Examples
+        --------
+        >>> start = fhpgas.draw_gas(0.2, size=fhpgas.Size(64, 36), seed=1)
+        >>> bool(start.blocks().smooth().density.std() < start.blocks().density.std())
+        True
+        """
         from scipy.ndimage import gaussian_filter
 
-        sigma = real("sigma", sigma, 0)
-        spread = {name: gaussian_filter(getattr(self, name).astype(float), sigma, mode=("reflect", "wrap")) for name in SUMS}
-        return dataclasses.replace(self, **{name: np.where(self.fluid > 0, sums, 0) for name, sums in spread.items()})
+        sigma, (rows, columns) = real("sigma", sigma, 0, 100), self.fluid.shape
+        reach = int(4 * sigma + 0.5)  # of scipy's Gaussian
+        places, signs = _mirrored(self.fluid > 0, reach)
+
+        def spread(name: str) -> Array:
+            around = getattr(self, name).astype(float)[places]
+            if name in MOMENTA:
+                around *= signs
+            found = gaussian_filter(around, sigma)[reach : reach + rows, reach : reach + columns]
+            return np.where(self.fluid > 0, found, 0)
+
+        return dataclasses.replace(self, **{name: spread(name) for name in SUMS})
 
     def text(self) -> str:
-        """The table as `fhpgas coarse` prints it."""
+        """The table as `fhpgas coarse` prints it.
+
+        Raises
+        ------
+        Fault
+            If the sums have fractions, because they were smoothed.
+        """
         rows, columns = np.indices(self.fluid.shape)
         if self.fluid.dtype.kind == "f":
             raise Fault("a table has whole numbers, and smoothed sums have fractions")
-        table = np.stack([columns, rows, *(getattr(self, name) for name in SUMS)], -1).reshape(-1, 6).tolist()
-        return "\n".join([HEADER, *("%5d %5d %8d %9d %10d %10d" % tuple(line) for line in table)]) + "\n"
+        table = (
+            np.stack([columns, rows, *(getattr(self, name) for name in SUMS)], -1)
+            .reshape(-1, 6)
+            .tolist()
+        )
+        return (
+            "\n".join([HEADER, *("%5d %5d %8d %9d %10d %10d" % tuple(line) for line in table)])
+            + "\n"
+        )
+
+
+def _mirrored(is_fluid: Array, reach: int) -> tuple[tuple[Array, Array], Array]:
+    """The rows and columns of blocks that are the mirror images of the ones up to `reach` blocks
+    around an array, and in its solid places, and the signs of their momenta. A solid block
+    mirrors what is as far from the surface, on the other side of the nearest fluid block."""
+    from scipy.ndimage import distance_transform_edt
+
+    rows, columns = is_fluid.shape
+    y, x = np.arange(-reach, rows + reach), np.arange(-reach, columns + reach) % columns
+    signs = (1 - 2 * (y // rows % 2))[:, None] * np.ones_like(x)
+    y = np.pad(np.arange(rows), reach, "symmetric")
+    around, here = is_fluid[np.ix_(y, x)], np.indices(signs.shape)
+    if not around.all() and around.any():
+        apart, near = distance_transform_edt(~around, return_indices=True)
+        far = here + np.rint((near - here) * (2 - 1 / np.maximum(apart, 1))).astype(int)
+        far = far.clip(0, np.array(signs.shape)[:, None, None] - 1)
+        here = np.where(around | ~around[tuple(far)], near, far)
+        signs = np.where(around, 1, -1) * signs[tuple(here)]
+    return (y[here[0]], x[here[1]]), signs
 
 
 def _ratio(above: Array, below: Array) -> Array:
@@ -185,30 +465,84 @@ def _ratio(above: Array, below: Array) -> Array:
 
 
 def _slope(values: Array, places: Array) -> Array:
-    """The slopes along the first axis, at all places but the first and the last: of the parabola through a place and its neighbours, of a
-    line if one of these is nan, or 0 if both are."""
+    """The slopes along the first axis, at all places but the first and the last: of the parabola
+    through a place and its neighbours, of a line if one of these is nan, or 0 if both are."""
     apart = np.diff(places).reshape(-1, *[1] * (values.ndim - 1))
     steps = np.diff(values, axis=0) / apart
     weights = np.where(np.isnan(steps), 0, np.abs(1 / apart))
     before, after = weights[:-1], weights[1:]
     with np.errstate(invalid="ignore"):
-        slopes = (np.nan_to_num(steps[:-1]) * before + np.nan_to_num(steps[1:]) * after) / (before + after)
+        slopes = (np.nan_to_num(steps[:-1]) * before + np.nan_to_num(steps[1:]) * after) / (
+            before + after
+        )
     return np.nan_to_num(slopes)
 
 
-def read_table(text: str | bytes, gas: str | Gas, block: tuple[int, int], size: tuple[int, int], generation: int = 0) -> Blocks:
-    """The blocks of a table that `fhpgas coarse` printed. The text does not name the gas, the columns and rows of a block, and those of the
-    lattice, which show whether the text is whole. A text that is not raises a Fault."""
-    (columns, rows), (width, height) = size_checked(size), size_checked(block)
+def read_table(
+    text: str | bytes,
+    gas: str | Gas,
+    block: tuple[int, int],
+    size: Any,
+    generation: int = 0,
+) -> Blocks:
+    """The blocks of a table that `fhpgas coarse` printed.
+
+    Parameters
+    ----------
+    text : str or bytes
+        The table, which does not name the following.
+    gas : str or Gas
+        The gas.
+    block : pair of int
+        The columns and rows of a block.
+    size : Size
+        Of the lattice, which shows whether the table is whole.
+    generation : int, optional
+        Of the lattice.
+
+    Returns
+    -------
+    Blocks
+
+    Raises
+    ------
+    Fault
+        If the table is not whole, or has sums that such blocks cannot have.
+
+    Examples
+    --------
+    >>> start = fhpgas.draw_gas(0.2, size=fhpgas.Size(64, 36), seed=1)
+    >>> text = start.blocks(8, 9).text()
+    >>> fhpgas.read_table(text, "fhp1", (8, 9), start) == start.blocks(8, 9)
+    True
+    """
+    (columns, rows), (width, height) = size_of(size), pair_checked(block, "a block")
     shape = -(-rows // height), -(-columns // width)
     first, _, body = (text.encode() if isinstance(text, str) else text).partition(b"\n")
     try:
-        if first != HEADER.encode() or body.count(b"\n") != shape[0] * shape[1] or body.translate(None, b"-0123456789 \n"):
+        if (
+            first != HEADER.encode()
+            or body.count(b"\n") != shape[0] * shape[1]
+            or body.translate(None, b"-0123456789 \n")
+        ):
             raise ValueError
         table = np.loadtxt(io.BytesIO(body), np.int64).reshape(*shape, 6)
         if (table[..., 1::-1] != np.moveaxis(np.indices(shape), 0, -1)).any():
             raise ValueError
     except (ValueError, OverflowError):
-        raise Fault(f"this is no whole table of `coarse` with {shape[1]} columns and {shape[0]} rows of blocks") from None
+        raise Fault(
+            f"this is no whole table of `coarse` with {shape[1]} columns and {shape[0]} rows of"
+            " blocks"
+        ) from None
     fluid, particles, px, py = np.moveaxis(table[..., 2:], -1, 0)
-    return Blocks(fluid, particles, px, py, gas_named(gas), block, size, generation)
+    blocks = Blocks(fluid, particles, px, py, gas_named(gas), block, size, generation)
+    for name, most in blocks.most().items():
+        if (wrong := np.abs(getattr(blocks, name)) > most).any():
+            row, column = np.argwhere(wrong)[0]
+            raise Fault(
+                f"column {column} row {row} has {name} {getattr(blocks, name)[row, column]}, and a"
+                f" block of {blocks.gas} with its cells and"
+                f" particles at most {most[row, column]}: the table is of another gas, size or"
+                " block"
+            )
+    return blocks

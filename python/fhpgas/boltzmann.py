@@ -1,12 +1,14 @@
-"""Boltzmann's equation for the gases, solved without noise: what theory says of a flow if correlations between particles are left out.
+"""Boltzmann's equation for the gases, solved without noise: what theory says of a flow if
+correlations between particles are left out::
 
-    flow = boltzmann.Flow("fhp1", np.zeros((64, 1)))     # solid [y, x]: 64 rows, and nothing varies along x
-    for chances in flow.every(flow.at(0.2, 0.1), 100, 4):  # from a filling and a velocity, at equilibrium
-        east, north = flow.velocity(chances)              # [y, x]
+    flow = boltzmann.Flow("fhp1", np.zeros((64, 1)))  # solid [y, x]: 64 rows, alike along x
+    for chances in flow.every(flow.at(0.2, 0.1), 100, 4):  # from a filling and a velocity
+        east, north = flow.velocity(chances)  # [y, x]
 
-`chances` [direction, y, x] are the chances that the directions of a cell contain a particle. Walls, obstacles and collisions are the
-program's. The equation is that of U. Frisch and others, Complex Systems 1 (1987) 649.
-"""
+`chances` [direction, y, x] are the chances that the directions of a cell contain a particle. Walls,
+obstacles and collisions are the program's. The equation is that of U. Frisch and others, Complex
+Systems 1 (1987) 649. `collision_matrix` and `generation_matrix` are its linear form, for small
+deviations from an equal filling (docs/DERIVATION.md)."""
 from collections.abc import Iterator
 from typing import Any
 
@@ -14,25 +16,74 @@ import numpy as np
 
 from .fault import Fault
 from .fields import equilibrium
-from .gases import Array, Gas, gas_named
+from .gases import Array, Gas, array_of, gas_named
+
+
+def collision_matrix(gas: str | Gas, filling: Any, chirality: str = "seeded") -> Array:
+    """What a collision adds to small deviations of the chances from an equal filling, a number or
+    an array [..] above 0 and below 1: the matrix [.., b, b] by which the deviations [b] are
+    multiplied."""
+    named, d = gas_named(gas), array_of("a filling", filling)[..., None, None]
+    chance = np.where(named.bits, d, 1 - d).prod(-1, keepdims=True)
+    slopes = chance * np.where(named.bits, 1 / d, -1 / (1 - d))
+    return np.asarray(named.changes(chirality).T @ slopes)
+
+
+def generation_matrix(gas: str | Gas, filling: Any, wave: Any, chirality: str = "seeded") -> Array:
+    """What a generation makes of plane waves of small deviations from an equal filling, without
+    walls: the matrix [.., b, b] by which the chances [b] of the wave vectors `wave` [.., 2]
+    (eastwards and northwards, per cell's width) are multiplied. An eigenvalue exp(-r - i w) is a
+    mode that fades at the rate r and moves with the speed w / abs(wave)."""
+    named = gas_named(gas)
+    streamed = np.exp(-1j * (np.asarray(wave, float) @ named.velocities.T))
+    collided = np.eye(named.directions) + collision_matrix(named, filling, chirality)
+    return np.asarray(streamed[..., None] * collided)
 
 
 class Flow:
-    """A channel of a gas with cells `solid` [y, x] (row 0 at the top), periodic in x, between walls above and below. Without these walls
-    it is periodic in y too, unlike the program's channels, and its rows must be even."""
+    """A channel of a gas, periodic in x, between walls above and below.
 
-    def __init__(self, gas: str | Gas, solid: Any, chirality: str = "seeded", has_walls: bool = True):
-        self.gas, self.solid = gas_named(gas), np.asarray(solid).astype(bool)
+    Parameters
+    ----------
+    gas : str or Gas
+    solid : array of shape (rows, columns)
+        The solid cells, row 0 at the top.
+    chirality : str, optional
+    has_walls : bool, optional
+        Without walls it is periodic in y too, unlike the program's channels, and its rows must be
+        even.
+
+    Examples
+    --------
+    A shear wave of 128 rows fades at the rate of `theory.viscosity`, up to a percent.
+
+    >>> flow = fhpgas.boltzmann.Flow("fhp1", np.zeros((128, 1)), has_walls=False)
+    >>> wave = np.sin(2 * np.pi * np.arange(128)[:, None] / 128)
+    >>> _, *chances = flow.every(flow.at(0.3, 1e-4 * wave), 100, 2)
+    >>> before, after = (float(np.abs(flow.velocity(each)[0]).max()) for each in chances)
+    >>> rate = np.log(before / after) / 100 / (2 * np.pi / 128 / 0.75**0.5) ** 2
+    >>> bool(abs(rate / fhpgas.theory.viscosity("fhp1", 0.3) - 1) < 0.01)
+    True
+    """
+
+    def __init__(
+        self, gas: str | Gas, solid: Any, chirality: str = "seeded", has_walls: bool = True
+    ):
+        self.gas, self.solid = gas_named(gas), array_of("solid cells", solid).astype(bool)
         if self.solid.ndim != 2 or not self.solid.size:
             raise Fault(f"solid cells are an array [y, x], not one of the shape {self.solid.shape}")
         if len(self.solid) % 2 and not has_walls:
             raise Fault(f"a gas without walls has an even number of rows, not {len(self.solid)}")
         collide = (change := self.gas.changes(chirality)).any(1)
-        self._full, self._change, self._sources = self.gas.bits[collide] > 0, change[collide], self._streaming(has_walls)
+        self._full, self._change, self._sources = (
+            self.gas.bits[collide] > 0,
+            change[collide],
+            self._streaming(has_walls),
+        )
 
     def _streaming(self, has_walls: bool) -> Array:
-        """Where, in all chances one after the other, the chance of a direction of a cell streams from: the neighbour, or if that is solid
-        the opposite direction of the cell itself."""
+        """Where, in all chances one after the other, the chance of a direction of a cell streams
+        from: the neighbour, or if that is solid the opposite direction of the cell itself."""
         rows, columns = self.solid.shape
         i, y, x = np.indices((self.gas.directions, rows, columns))
         back = self.gas.opposite[i]
@@ -41,10 +92,14 @@ class Flow:
         is_outside = has_walls & (row != y + down)
         bounces = ~self.solid[y, x] & (is_outside | self.solid[row, column])
         stays = bounces | self.solid[y, x]
-        return np.ravel_multi_index((np.where(bounces, back, i), np.where(stays, y, row), np.where(stays, x, column)), i.shape)
+        return np.ravel_multi_index(
+            (np.where(bounces, back, i), np.where(stays, y, row), np.where(stays, x, column)),
+            i.shape,
+        )
 
     def at(self, filling: Any, east: Any = 0.0, north: Any = 0.0) -> Array:
-        """The chances at equilibrium, for a filling and a velocity that numpy spreads over the cells [y, x]."""
+        """The chances at equilibrium, for a filling and a velocity that numpy spreads over the
+        cells [y, x]."""
         fields = (np.broadcast_to(field, self.solid.shape) for field in (filling, east, north))
         return np.where(self.solid, 0.0, equilibrium(self.gas, *fields))
 
@@ -61,30 +116,39 @@ class Flow:
         return self.collided(chances).ravel()[self._sources]
 
     def every(self, chances: Array, step: int, count: int) -> Iterator[Array]:
-        """Yields these chances, and then `count` times the chances `step` generations later, as `Lattice.every` does."""
+        """Yields these chances, and then `count` times the chances `step` generations later, as
+        `Lattice.every` does."""
         yield chances
         for _ in range(count):
             for _ in range(step):
                 chances = self.step(chances)
             yield chances
 
-    def driven(self, chances: Array, count: int, every: int, force: float) -> Iterator[tuple[Array, Array]]:
-        """Yields the chances before and after a force acts that adds up to `force` per fluid cell and generation: at the start, and then
-        `count` times after every `every` generations, as `fhpgas.driven` does."""
+    def driven(
+        self, chances: Array, count: int, every: int, force: float, along: str = "rows"
+    ) -> Iterator[tuple[Array, Array]]:
+        """Yields the chances before and after a force acts that adds up to `force` per fluid cell
+        and generation: at the start, and then `count` times after every `every` generations, as
+        `fhpgas.driven` does."""
         for _ in range(count + 1):
-            kicked = self.forced(chances, every * force)
+            kicked = self.forced(chances, every * force, along)
             yield chances, kicked
             *_, chances = self.every(kicked, every, 1)
 
-    def forced(self, chances: Array, force: float) -> Array:
-        """The chances after a force that adds this momentum eastwards to every fluid cell, from west to east as `fhpgas.driven` does. A
-        chance that would leave 0 to 1 raises a Fault."""
+    def forced(self, chances: Array, force: float, along: str = "rows") -> Array:
+        """The chances after a force that adds this momentum eastwards to every fluid cell, `along`
+        the rows or the directions as `fhpgas.driven` does. A chance that would leave 0 to 1 raises
+        a Fault."""
         after = chances.copy()
-        after[0] += force / 2 * ~self.solid
-        after[self.gas.opposite[0]] -= force / 2 * ~self.solid
+        for east, west, turns in self.gas.turns(along):
+            after[east] += force * turns * ~self.solid
+            after[west] -= force * turns * ~self.solid
         if after.min() < 0 or after.max() > 1:
             y, x = np.argwhere(((after < 0) | (after > 1)).any(0))[0]
-            raise Fault(f"row {y} column {x} has too few particles to turn: the flow is too fast, the force too large, or the gas too thin")
+            raise Fault(
+                f"row {y} column {x} has too few particles to turn: the flow is too fast, the force"
+                " too large, or the gas too thin"
+            )
         return after
 
     def density(self, chances: Array) -> Array:
@@ -92,10 +156,12 @@ class Flow:
         return chances.sum(0)
 
     def momentum(self, chances: Array) -> Array:
-        """The momentum eastwards and northwards [2, y, x] of the cells, in units of a particle of speed 1."""
+        """The momentum eastwards and northwards [2, y, x] of the cells, in units of a particle of
+        speed 1."""
         return np.tensordot(self.gas.velocities.T, chances, 1)
 
     def velocity(self, chances: Array) -> Array:
-        """The mean velocity eastwards and northwards [2, y, x] of the particles, nan where a cell is solid or empty."""
+        """The mean velocity eastwards and northwards [2, y, x] of the particles, nan where a cell
+        is solid or empty."""
         with np.errstate(invalid="ignore"):
             return np.asarray(self.momentum(chances) / self.density(chances))

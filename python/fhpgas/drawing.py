@@ -1,15 +1,16 @@
-"""Scenes from words: blocks, discs, polygons, a picture, a nozzle or a porous medium in a channel that is filled at random.
+"""Scenes from words: blocks, discs, polygons, a picture, a nozzle or a porous medium in a channel
+that is filled at random.
 
     python3 -m fhpgas draw blocks --block 8 2 3 4 > plate.toml
     python3 -m fhpgas draw discs --width 512 --height 256 --disc 128 128 20 --wind 0.2 > wake.toml
-    python3 -m fhpgas draw bitmap letter.pbm --pixel 16 --at 250 190 --width 1536 --height 512 > letter.toml
+    python3 -m fhpgas draw bitmap letter.pbm --pixel 16 --at 250 190 --width 1536 --height 512
     python3 -m fhpgas draw porous --share 0.3 --radius 2 --seed 5 > porous.toml
 
-A cell is named by its column and row from 0 at the top left. A filling is the chance that a direction of a cell has a particle, and speeds
-are in cells' widths per generation. The same words draw the same scene. Without a wind and patches it is an area, which the program fills,
-and any size fits. With them it is a map, drawn from the equilibrium, of at most about 33 million cells, and a sweep over seeds draws it
-again per seed.
-"""
+A cell is named by its column and row from 0 at the top left. A filling is the chance that a
+direction of a cell has a particle, and speeds are in cells' widths per generation. The same words
+draw the same scene. Without a wind and patches it is an area, which the program fills, and any size
+fits. With them it is a map, drawn from the equilibrium, of at most about 33 million cells, and a
+sweep over seeds draws it again per seed."""
 import argparse
 from typing import Any
 
@@ -19,7 +20,7 @@ from .fault import Fault, Parser, Usage, number, whole
 from .program import MOST_BYTES, MOST_SEED, text_of
 
 GASES, CHIRALITIES = ("fhp1", "fhp-rest", "hpp"), ("seeded", "left", "right")
-MOST_SIDE = 65536
+DRIVES, MOST_SIDE = ("rows", "directions"), 65536
 
 
 def add_words(reader: argparse.ArgumentParser) -> None:
@@ -28,34 +29,134 @@ def add_words(reader: argparse.ArgumentParser) -> None:
     common = Parser(add_help=False)
     common.add_argument("--gas", choices=GASES, default="fhp1", help="default fhp1")
     common.add_argument("--chirality", choices=CHIRALITIES, default="seeded", help="default seeded")
-    common.add_argument("--seed", type=whole(0, MOST_SEED), help="of the scene, and of all that is drawn at random here; default 0")
-    common.add_argument("--width", type=whole(1, MOST_SIDE), default=64, metavar="COLUMNS", help="1 to 65536; default 64")
-    common.add_argument("--height", type=whole(1, MOST_SIDE), default=24, metavar="ROWS", help="1 to 65536; default 24")
-    common.add_argument("--filling", type=number(0, 1), default=0.2, help="the chance per direction, 0 to 1; default 0.2")
-    common.add_argument("--patch", type=number(0, MOST_SIDE), nargs=5, action="append", default=[], metavar=("X", "Y", "W", "H", "FILLING"),
-                        help="fill these columns and rows otherwise; may be repeated")
-    common.add_argument("--wind", type=number(-1, 1), nargs="+", default=[0.0], metavar="SPEED",
-                        help="the mean velocity of the particles, eastwards and, if a second number is given, northwards; default 0")
-    common.add_argument("--closed", action="store_true", help="make the first column solid, so that nothing passes the ends")
-    common.add_argument("--block", type=place, nargs=4, action="append", default=[], metavar=("X", "Y", "W", "H"),
-                        help="a solid rectangle; may be repeated")
+    common.add_argument(
+        "--seed",
+        type=whole(0, MOST_SEED),
+        help="of the scene, and of all that is drawn at random here; default 0",
+    )
+    common.add_argument(
+        "--width",
+        type=whole(1, MOST_SIDE),
+        default=64,
+        metavar="COLUMNS",
+        help="1 to 65536; default 64",
+    )
+    common.add_argument(
+        "--height",
+        type=whole(1, MOST_SIDE),
+        default=24,
+        metavar="ROWS",
+        help="1 to 65536; default 24",
+    )
+    common.add_argument(
+        "--filling",
+        type=number(0, 1),
+        default=0.2,
+        help="the chance per direction, 0 to 1; default 0.2",
+    )
+    common.add_argument(
+        "--patch",
+        type=number(0, MOST_SIDE),
+        nargs=5,
+        action="append",
+        default=[],
+        metavar=("X", "Y", "W", "H", "FILLING"),
+        help="fill these columns and rows otherwise; may be repeated",
+    )
+    common.add_argument(
+        "--wind",
+        type=number(-1, 1),
+        nargs="+",
+        default=[0.0],
+        metavar="SPEED",
+        help="the mean velocity of the particles, eastwards and, if a second number is given,"
+        " northwards; default 0",
+    )
+    common.add_argument(
+        "--closed",
+        action="store_true",
+        help="make the first column solid, so that nothing passes the ends",
+    )
+    common.add_argument(
+        "--block",
+        type=place,
+        nargs=4,
+        action="append",
+        default=[],
+        metavar=("X", "Y", "W", "H"),
+        help="a solid rectangle; may be repeated",
+    )
     kinds = reader.add_subparsers(dest="shape", required=True, metavar="SHAPE")
     kinds.add_parser("blocks", parents=[common], help="rectangles")
     discs = kinds.add_parser("discs", parents=[common], help="discs, round as the lattice lies")
-    discs.add_argument("--disc", type=place, nargs=3, action="append", default=[], metavar=("X", "Y", "RADIUS"),
-                       help="middle (column and row) and radius in cells' widths: a disc of radius 16 takes 33 columns and 37 rows of the"
-                       " triangular lattice; may be repeated; goes on past the last column, is cut at the walls")
+    discs.add_argument(
+        "--disc",
+        type=place,
+        nargs=3,
+        action="append",
+        default=[],
+        metavar=("X", "Y", "RADIUS"),
+        help="middle (column and row) and radius in cells' widths: a disc of radius 16 takes 33"
+        " columns and 37 rows of the"
+        " triangular lattice; may be repeated; goes on past the last column, is cut at the walls",
+    )
     polygons = kinds.add_parser("polygons", parents=[common], help="polygons")
-    polygons.add_argument("--polygon", type=far, nargs="+", action="append", default=[], metavar="X Y", help="the corners; may be repeated")
+    polygons.add_argument(
+        "--polygon",
+        type=far,
+        nargs="+",
+        action="append",
+        default=[],
+        metavar="X Y",
+        help="the corners; may be repeated",
+    )
     bitmap = kinds.add_parser("bitmap", parents=[common], help="the dark pixels of a picture")
-    bitmap.add_argument("picture", metavar="PICTURE", help="a PBM or PNG file, or another that Pillow reads")
-    bitmap.add_argument("--pixel", type=number(0.01, MOST_SIDE), default=1, metavar="WIDTH", help="of a pixel in cells' widths; default 1")
-    bitmap.add_argument("--at", type=place, nargs=2, default=(0, 0), metavar=("X", "Y"), help="the cell of its upper left; default 0 0")
-    nozzle = kinds.add_parser("nozzle", parents=[common], help="the channel narrows to a throat and widens again")
-    nozzle.add_argument("--throat", type=place, default=6, metavar="ROWS", help="open rows of the narrowest column; default 6")
-    nozzle.add_argument("--length", type=place, default=40, metavar="COLUMNS", help="from full to full height; default 40")
-    porous = kinds.add_parser("porous", parents=[common], help="discs at random places, until the share of solid cells is reached")
-    porous.add_argument("--share", type=number(0, 1), default=0.3, help="of all cells that are solid, at least; default 0.3")
+    bitmap.add_argument(
+        "picture", metavar="PICTURE", help="a PBM or PNG file, or another that Pillow reads"
+    )
+    bitmap.add_argument(
+        "--pixel",
+        type=number(0.01, MOST_SIDE),
+        default=1,
+        metavar="WIDTH",
+        help="of a pixel in cells' widths; default 1",
+    )
+    bitmap.add_argument(
+        "--at",
+        type=place,
+        nargs=2,
+        default=(0, 0),
+        metavar=("X", "Y"),
+        help="the cell of its upper left; default 0 0",
+    )
+    nozzle = kinds.add_parser(
+        "nozzle", parents=[common], help="the channel narrows to a throat and widens again"
+    )
+    nozzle.add_argument(
+        "--throat",
+        type=place,
+        default=6,
+        metavar="ROWS",
+        help="open rows of the narrowest column; default 6",
+    )
+    nozzle.add_argument(
+        "--length",
+        type=place,
+        default=40,
+        metavar="COLUMNS",
+        help="from full to full height; default 40",
+    )
+    porous = kinds.add_parser(
+        "porous",
+        parents=[common],
+        help="discs at random places, until the share of solid cells is reached",
+    )
+    porous.add_argument(
+        "--share",
+        type=number(0, 1),
+        default=0.3,
+        help="of all cells that are solid, at least; default 0.3",
+    )
     porous.add_argument("--radius", type=place, default=2, help="of each disc; default 2")
 
 
@@ -63,21 +164,26 @@ def drawn(asked: argparse.Namespace, seed: int | None = None) -> str:
     """The scene of the words that were read, and of a seed if one is passed too."""
     if seed is not None and asked.seed is not None:
         raise Usage("the words that draw have a --seed, and a seed is given beside them")
-    seed, size = seed or asked.seed or 0, (asked.width, asked.height)
+    seed, size = seed or asked.seed or 0, fhpgas.Size(asked.width, asked.height)
     blocks = [*asked.block, *([[0, 0, 1, asked.height]] if asked.closed else [])]
     for block in blocks:
         fhpgas.shapes.check_inside("a block", block, size)
     solid, thousandths = shape(asked, size, seed), 1000 * asked.filling
     if any(asked.wind) or asked.patch or abs(thousandths - round(thousandths)) > 1e-9:
         return windy(asked, size, seed, blocks, solid)
-    keys = ({"version": 2} if max(size) > 4096 else {}) | {"gas": asked.gas, "chirality": asked.chirality, "seed": seed}
+    keys = ({"version": 2} if max(size) > 4096 else {}) | {
+        "gas": asked.gas,
+        "chirality": asked.chirality,
+        "seed": seed,
+    }
     keys |= {"width": asked.width, "height": asked.height, "rate": round(thousandths)}
     blocks += [] if solid is None else fhpgas.shapes.rectangles(solid)
     return text_of(keys | ({"solid": blocks} if blocks else {}))
 
 
-def shape(asked: argparse.Namespace, size: tuple[int, int], seed: int) -> Any:
-    """The solid cells [y, x] of the shapes that were asked for beside blocks, None if there are none."""
+def shape(asked: argparse.Namespace, size: Any, seed: int) -> Any:
+    """The solid cells [y, x] of the shapes that were asked for beside blocks, None if there are
+    none."""
     if asked.shape == "bitmap":
         column, row = asked.at
         return fhpgas.bitmap(size, asked.picture, asked.pixel, column, row, asked.gas)
@@ -85,7 +191,11 @@ def shape(asked: argparse.Namespace, size: tuple[int, int], seed: int) -> Any:
         return fhpgas.nozzle(size, asked.throat, asked.length)
     if asked.shape == "porous":
         return fhpgas.porous(size, asked.share, asked.radius, seed, asked.gas)
-    many = [fhpgas.disc(size, x, y, radius, asked.gas) for x, y, radius in asked.disc] if asked.shape == "discs" else []
+    many = (
+        [fhpgas.disc(size, x, y, radius, asked.gas) for x, y, radius in asked.disc]
+        if asked.shape == "discs"
+        else []
+    )
     for numbers in asked.polygon if asked.shape == "polygons" else ():
         if len(numbers) % 2:
             raise Usage(f"a polygon has corners of two numbers each, and these are {len(numbers)}")
@@ -93,22 +203,41 @@ def shape(asked: argparse.Namespace, size: tuple[int, int], seed: int) -> Any:
     return sum(many[1:], many[0]) if many else None
 
 
-def windy(asked: argparse.Namespace, size: tuple[int, int], seed: int, blocks: list[list[int]], solid: Any) -> str:
+def windy(
+    asked: argparse.Namespace, size: Any, seed: int, blocks: list[list[int]], solid: Any
+) -> str:
     """A map with a wind, the patches at their fillings."""
     import numpy as np
 
     if len(asked.wind) > 2:
         raise Usage("a wind has a speed eastwards and one northwards")
     if size[1] * (2 * size[0] + 8) + 200 > MOST_BYTES:
-        raise Fault(f"a wind makes a map, and this one would be longer than the {MOST_BYTES} bytes that the program reads")
-    filling, walls = np.full(size[::-1], asked.filling), np.zeros(size[::-1], bool) if solid is None else solid
+        raise Fault(
+            f"a wind makes a map, and this one would be longer than the {MOST_BYTES} bytes that the"
+            " program reads"
+        )
+    filling, walls = (
+        np.full(size.shape, asked.filling),
+        np.zeros(size.shape, bool) if solid is None else solid,
+    )
     for x, y, w, h in blocks:
         walls[y : y + h, x : x + w] = True
     for *patch, chance in asked.patch:
         x, y, w, h = map(int, patch)
         fhpgas.shapes.check_inside("a patch", (x, y, w, h), size)
         if [x, y, w, h] != patch or chance > 1:
-            raise Usage(f"a patch is whole columns and rows and a filling of 0 to 1, not {' '.join(f'{n:g}' for n in (*patch, chance))}")
+            raise Usage(
+                "a patch is whole columns and rows and a filling of 0 to 1, not"
+                f" {' '.join(f'{n:g}' for n in (*patch, chance))}"
+            )
         filling[y : y + h, x : x + w] = chance
     drawn = filling if asked.patch else asked.filling
-    return fhpgas.gas(drawn, *asked.wind, size=size, solid=walls, gas=asked.gas, chirality=asked.chirality, seed=seed).scene()
+    return fhpgas.draw_gas(
+        drawn,
+        *asked.wind,
+        size=size,
+        solid=walls,
+        gas=asked.gas,
+        chirality=asked.chirality,
+        seed=seed,
+    ).scene()

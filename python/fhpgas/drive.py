@@ -1,27 +1,39 @@
-"""Driven flows: the engine has no force, so between short runs some particles are turned from west to east.
+"""Driven flows: the engine has no force, so between short runs some particles are turned to the
+east.
 
-A particle that is turned adds the momentum of two. Which ones are turned is drawn at random from a seed, in proportion to the fluid cells
-of the rows. A driven run is therefore repeatable, and the force that acted is known exactly.
-"""
+A particle that is turned adds twice its momentum eastwards. Which ones are turned is drawn at
+random from a seed, in proportion to the fluid cells of the rows. A driven run is therefore
+repeatable, and the force that acted is known exactly."""
 from __future__ import annotations
 
 from collections.abc import Iterator
-from typing import TYPE_CHECKING, Any, NamedTuple
+from typing import TYPE_CHECKING, NamedTuple
 
 import numpy as np
 
 from .fault import Fault, integer, real
-from .gases import Array, Gas
-from .program import MOST_SEED, show_progress
+from .fields import lots_of
+from .gases import Array, Checked, read_only
+from .program import MOST_SEED, counted, plan_of
 
 if TYPE_CHECKING:
     from .lattice import Lattice
 
 
 class Point(NamedTuple):
-    """A point of a driven run: the lattice before and after particles were turned, and how many were turned (to the west if negative).
-    `force` is the momentum per fluid cell and generation that these add until the next point. `velocity` is the mean flow: the mean
-    velocity of the particles before plus half of the kick."""
+    """A point of a driven run.
+
+    Attributes
+    ----------
+    before, after : Lattice
+        Before and after particles were turned.
+    turned : int
+        How many were turned to the east, negative if to the west.
+    force : float
+        The momentum per fluid cell and generation that these add until the next point.
+    velocity : float
+        The mean flow: the mean velocity of the particles before, and half of the kick.
+    """
 
     before: Lattice
     after: Lattice
@@ -30,63 +42,174 @@ class Point(NamedTuple):
     velocity: float
 
 
-def driven(lattice: Lattice, generations: int, every: int = 10, *, force: float | None = None, flow: float | None = None, seed: int = 0,
-           **plan: Any) -> Iterator[Point]:
-    """The points of a driven run: at its start, and after every `every` generations. Either a body force acts eastwards, a momentum per
-    fluid cell and generation, or the particles are turned that bring the mean velocity to `flow`, and `Point.force` is the force that this
-    takes. The plan is as in `Lattice.run`. A row that has too few particles to turn raises a Fault.
+def driven(
+    lattice: Lattice,
+    generations: int,
+    every: int = 10,
+    *,
+    force: float | None = None,
+    flow: float | None = None,
+    along: str = "rows",
+    seed: int = 0,
+    stages: int | None = None,
+    capacity: int | None = None,
+) -> Iterator[Point]:
+    """The points of a driven run: at its start, and after every `every` generations.
 
-    Between points the walls act and the drive does not, so the flow near walls and in narrow gaps depends on `every`. For a profile, a slip
-    or a permeability take 1 to 4. In a porous medium kicks at even intervals add up in pockets one cell wide."""
+    A row that has too few particles to turn owes the rest to the next point. Between points the
+    walls act and the drive does not, so the flow near walls and in narrow gaps depends on `every`.
+    For a profile, a slip or a permeability take 1 to 4. In a porous medium kicks at even intervals
+    add up in pockets one cell wide.
+
+    Parameters
+    ----------
+    lattice : Lattice
+        The start.
+    generations : int
+        A multiple of `every`.
+    every : int, optional
+        Generations from one point to the next.
+    force : float, optional
+        A body force eastwards, the momentum per fluid cell and generation, -2 to 2.
+    flow : float, optional
+        Or the mean velocity of the particles, -1 to 1, which is restored at each point.
+    along : {"rows", "directions"}, optional
+        Which particles turn. "rows" turns W to E. "directions" is a force along every c_i, as of a
+        pressure gradient or in a lattice Boltzmann code: two thirds of the momentum by W to E, and
+        a sixth each by NW to NE and SW to SE. The slip at walls differs (`theory.slip`).
+    seed : int, optional
+        Of the particles that are turned. It is another stream than `draw_gas` has of the same seed.
+    stages, capacity : int, optional
+        The plan, as in `Lattice.run`.
+
+    Yields
+    ------
+    Point
+
+    Raises
+    ------
+    Fault
+        At the call if an argument does not fit. At a point if the rows owe together more than a
+        turn each and half a kick, and more than at the point before, so that the force does not
+        act.
+
+    Examples
+    --------
+    >>> start = fhpgas.draw_gas(0.3, size=fhpgas.Size(64, 48), seed=1)
+    >>> points = list(start.driven(40, 4, flow=0.1))
+    >>> abs(points[-1].velocity - 0.1) < 0.01
+    True
+    """
     if (force is None) == (flow is None):
-        raise Fault("a flow is driven either by a force or towards a mean flow: force=.. or flow=.. (--force, --flow)")
-    every, generations = integer("the number of generations between points", every, 1), integer("the number of generations", generations)
-    if generations % every:
-        raise Fault(f"{generations} generations are not a multiple of {every}, those from one point to the next")
+        raise Fault(
+            "a flow is driven either by a force or towards a mean flow: force=.. or flow=.."
+            " (--force, --flow)"
+        )
+    every = integer("the number of generations between points", every, 1)
+    if integer("the number of generations", generations) % every:
+        raise Fault(
+            f"{generations} generations are not a multiple of {every}, those from one point to the"
+            " next"
+        )
     if not lattice.particles:
         raise Fault("the lattice has no particle that could be turned")
-    force = force if force is None else real("a force", force, -2, 2)
-    flow = flow if flow is None else real("a flow, the mean velocity of the particles,", flow, -1, 1)
-    return _points(lattice, generations, every, force, flow, np.random.PCG64(integer("a seed", seed, 0, MOST_SEED)), plan)
+    if force is not None:
+        force = real("a force", force, -2, 2) * every * lattice.fluid
+    else:
+        flow = real("a flow, the mean velocity of the particles,", flow, -1, 1)
+    kicks = _Kicks(lattice, along, integer("a seed", seed, 0, MOST_SEED))
+    plan = plan_of(stages, capacity)
+    return _points(lattice, generations, every, force, flow, kicks, plan)
 
 
-def _points(lattice: Lattice, generations: int, every: int, force: float | None, flow: float | None, lots: np.random.PCG64,
-            plan: dict[str, Any]) -> Iterator[Point]:
-    """The points of `driven`. A row is owed what rounding left of its share so far."""
-    fluid = [np.flatnonzero(~row) for row in lattice.solid]
-    shares, owed = np.array([*map(len, fluid)]) / lattice.fluid, _uniform(lots, len(fluid)) - 0.5
-    for done in range(0, generations + 1, every):
-        show_progress(f"{done} of {generations} generations")
+def _points(
+    lattice: Lattice,
+    generations: int,
+    every: int,
+    force: float | None,
+    flow: float | None,
+    kicks: _Kicks,
+    plan: dict[str, int | None],
+) -> Iterator[Point]:
+    """The points of `driven`, where `force` is the momentum of a kick."""
+    kicked = range(0, generations + 1, every)
+    for done in counted(kicked, len(kicked), "point"):
         before = lattice.run(every, **plan) if done else lattice
-        momentum = before.momentum[0]
-        wanted = force * every * before.fluid / 2 if force is not None else ((flow or 0) * before.particles - momentum) / 2
-        owed += wanted * shares
-        numbers = np.rint(owed).astype(int)
-        owed -= numbers
-        states, count = before.states.copy(), int(numbers.sum())
-        for y in np.flatnonzero(numbers):
-            _turn(states[y], fluid[y], int(numbers[y]), before.gas, lots, y)
-        lattice = before.replace(states=states)
-        show_progress("")
-        yield Point(before, lattice, count, 2 * count / every / before.fluid, float(momentum + count) / before.particles)
+        momentum = float(before.momentum[0])
+        wanted = (flow or 0) * before.particles - momentum if force is None else force
+        states, turned, given = kicks.kicked(before.states, wanted, keeps_rest=force is not None)
+        lattice = before.replace(states=Checked(read_only(states)))
+        yield Point(
+            before,
+            lattice,
+            turned,
+            given / every / before.fluid,
+            (momentum + given / 2) / before.particles,
+        )
 
 
-def _uniform(lots: np.random.PCG64, number: int) -> Array:
-    """Numbers from 0 to less than 1 with 53 random bits."""
-    return (lots.random_raw(number) >> np.uint64(11)) * 2.0**-53
+class _Kicks:
+    """What turns the particles of a lattice, and what its rows are owed: the turns [pair, row] that
+    rounding or a lack of particles left."""
 
+    def __init__(self, lattice: Lattice, along: str, seed: int):
+        rows, columns = lattice.states.shape
+        self.pairs, self.lots = lattice.gas.turns(along), lots_of("driven", seed)
+        self.momenta = lattice.gas.velocities[[pair[0] for pair in self.pairs], 0]
+        self.fluid = np.flatnonzero(~lattice.solid)
+        self.begins = np.searchsorted(self.fluid, columns * np.arange(rows + 1))
+        self.shares = np.diff(self.begins) / len(self.fluid)
+        self.owed = self._uniform(len(self.pairs) * rows).reshape(len(self.pairs), rows) - 0.5
+        self.debt = 0.0
 
-def _turn(row: Array, fluid: Array, number: int, gas: Gas, lots: np.random.PCG64, y: int) -> None:
-    """Turns particles of a row that moved west to the east, or east to the west if the number is negative: from random fluid cells the next
-    one, eastwards, whose opposite direction is empty and which no other took."""
-    both = 1 | 1 << int(gas.opposite[0])
-    free, number = np.flatnonzero(row & both == (both ^ 1 if number > 0 else 1)), abs(number)
-    if number > len(free):
-        raise Fault(f"row {y} has {len(free)} particles to turn, and {number} must be: the flow is too fast, the force too large, or the"
-                    " gas too thin. A flow from rest needs them all at once: begin with a gas that moves (east=..)")
-    starts = np.sort(fluid[(_uniform(lots, number) * len(fluid)).astype(int)])
-    places, order = np.searchsorted(free, starts), np.arange(number)
-    taken = np.maximum.accumulate(places - order) + order
-    if past := np.count_nonzero(taken >= len(free)):  # these go on at the row's begin, with the first ones that are left
-        taken[-past:] = np.setdiff1d(np.arange(len(free)), taken[:-past])[:past]
-    row[free[taken]] ^= both
+    def _uniform(self, number: int) -> Array:
+        """Numbers from 0 to less than 1 with 53 random bits."""
+        return (self.lots.random_raw(number) >> np.uint64(11)) * 2.0**-53
+
+    def kicked(self, states: Array, wanted: float, keeps_rest: bool) -> tuple[Array, int, float]:
+        """The states after a kick of about this momentum, how many particles it turned, and its
+        momentum. What is left is kept for the next kick, or if that asks for it itself only what
+        rounding left."""
+        after, turned = states.copy(), []
+        for owed, (east, west, turns) in zip(self.owed, self.pairs):
+            owed += wanted * turns * self.shares
+            numbers = self._turn(after, np.rint(owed).astype(int), 1 << east, 1 << west)
+            owed -= numbers
+            turned.append(int(numbers.sum()))
+        debt = float(np.maximum(np.abs(self.owed) - 0.5, 0).sum())
+        asked = abs(wanted) * sum(turns for *_, turns in self.pairs)
+        if debt > self.debt and debt > self.owed.size + asked / 2:
+            raise Fault(
+                f"the rows owe {debt:.0f} turns of {asked:.0f} per kick, and have no more particles"
+                " to turn: the flow is too fast, the force"
+                " too large, or the gas too thin. A flow from rest needs them all at once: begin"
+                " with a gas that moves (east=..)"
+            )
+        self.debt = debt
+        if not keeps_rest:
+            np.clip(self.owed, -0.5, 0.5, out=self.owed)
+        return after, sum(turned), float(2 * self.momenta @ turned)
+
+    def _turn(self, states: Array, numbers: Array, east: int, west: int) -> Array:
+        """Turns so many particles of each row from west to east, or from east to west if the number
+        is negative, as far as there are any, and returns how many. From random fluid cells of the
+        row the next one, eastwards, whose other direction is empty and which no other took, and
+        past the row's end from its begin on."""
+        rows, columns = states.shape
+        wanted = np.where(numbers > 0, west, east).astype(np.uint8)[:, None]
+        free = np.flatnonzero(states & np.uint8(east | west) == wanted)
+        begins = np.searchsorted(free, columns * np.arange(rows + 1))
+        found = np.minimum(np.abs(numbers), np.diff(begins))
+        row = np.repeat(np.arange(rows), found)
+        lots = (self._uniform(len(row)) * np.diff(self.begins)[row]).astype(int)
+        places = np.searchsorted(free, np.sort(self.fluid[self.begins[row] + lots]))
+        order = np.arange(len(row)) - columns * row  # so that no row pushes on the next one
+        taken = np.maximum.accumulate(places - order) + order
+        if (past := taken >= begins[row + 1]).any():
+            is_left = np.ones(len(free), bool)
+            is_left[taken[~past]] = False
+            left, late = np.flatnonzero(is_left), row[past]
+            rank = np.arange(len(late)) - np.searchsorted(late, late)
+            taken[past] = left[np.searchsorted(left, begins[late]) + rank]
+        states.reshape(-1)[free[taken]] ^= np.uint8(east | west)
+        return np.sign(numbers) * found

@@ -2,10 +2,12 @@
 import argparse
 import contextlib
 import functools
+import io
 import math
 import operator
 import os
 import reprlib
+import signal
 import sys
 from collections.abc import Callable, Iterator
 from typing import Any, NoReturn, SupportsIndex
@@ -23,15 +25,20 @@ class Usage(Fault):
 
 
 def integer(what: str, value: SupportsIndex, least: int = 0, most: int | None = None) -> int:
-    """A value as an int from `least` to `most`. Anything else raises a Fault that begins with `what`."""
+    """A value as an int from `least` to `most`. Anything else raises a Fault that begins with
+    `what`."""
     with contextlib.suppress(TypeError):
         if least <= (number := operator.index(value)) and (most is None or number <= most):
             return number
-    raise Fault(f"{what} is an integer from {least}{f' to {most}' if most is not None else ''}, not {reprlib.repr(value)}")
+    raise Fault(
+        f"{what} is an integer from {least}{f' to {most}' if most is not None else ''}, not"
+        f" {reprlib.repr(value)}"
+    )
 
 
 def real(what: str, value: Any, least: float = -math.inf, most: float = math.inf) -> float:
-    """A value as a finite float from `least` to `most`. Anything else raises a Fault that begins with `what`."""
+    """A value as a finite float from `least` to `most`. Anything else raises a Fault that begins
+    with `what`."""
     with contextlib.suppress(TypeError, ValueError, OverflowError):
         if math.isfinite(number := float(value)) and least <= number <= most:
             return number
@@ -49,18 +56,35 @@ class Parser(argparse.ArgumentParser):
         raise Usage(f"{message} (--help says more)")
 
 
+def _exit(number: int, _: object) -> NoReturn:
+    sys.exit(128 + number)
+
+
 @contextlib.contextmanager
 def one_line_faults(name: str) -> Iterator[None]:
-    """Ends a script after one line for a Fault: with 2 if the words are wrong, else with 1. It ends silently if the reader of its output
-    has left, and with 130 after an interrupt."""
+    """Ends a script after one line for a Fault: with 2 if the words are wrong, else with 1. It ends
+    silently if the reader of its output has left, and with 130 after an interrupt. SIGTERM and
+    SIGHUP end it as an interrupt does, with 143 and 129. What the output cannot encode is
+    escaped."""
+    for number in {signal.SIGTERM, getattr(signal, "SIGHUP", signal.SIGTERM)}:
+        if signal.getsignal(number) is signal.SIG_DFL:  # nohup lets SIGHUP be ignored
+            signal.signal(number, _exit)
     try:
-        yield
-        sys.stdout.flush()
+        if sys.stdout is None:
+            raise Fault("standard output is closed")
+        if isinstance(sys.stdout, io.TextIOWrapper):
+            sys.stdout.reconfigure(errors="backslashreplace")
+        try:
+            yield
+        finally:
+            sys.stdout.flush()
     except Fault as fault:
         print(f"{name}: {fault}", file=sys.stderr)
         sys.exit(2 if isinstance(fault, Usage) else 1)
-    except BrokenPipeError:
+    except OSError as fault:
         os.dup2(os.open(os.devnull, os.O_WRONLY), 1)
+        if not isinstance(fault, BrokenPipeError):
+            print(f"{name}: standard output: {fault.strerror}", file=sys.stderr)
         sys.exit(1)
     except KeyboardInterrupt:
         sys.exit(130)
@@ -73,7 +97,9 @@ def within(kind: Callable[[str], float], least: float, most: float) -> Callable[
         with contextlib.suppress(ValueError, OverflowError):
             if least <= kind(word) <= most:
                 return kind(word)
-        raise argparse.ArgumentTypeError(f"{word} is no {'integer' if kind is int else 'number'} from {least} to {most}")
+        raise argparse.ArgumentTypeError(
+            f"{word} is no {'integer' if kind is int else 'number'} from {least} to {most}"
+        )
 
     return number
 

@@ -1,47 +1,141 @@
-"""Fields of a gas: the places of its cells, the equilibrium of Fermi and Dirac, and states that are drawn from it at random.
+"""Fields of a gas: the places of its cells, the equilibrium of Fermi and Dirac, and states that are
+drawn from it at random.
 
-At equilibrium direction i of a cell contains a particle with the chance N_i = 1 / (1 + exp(h + q.c_i)), where c_i is its velocity. The sum
-of N_i must be b d, and the sum of N_i c_i must be b d u (b directions, filling d, velocity u), which determines h and q (U. Frisch and
-others, Complex Systems 1 (1987) 649).
-"""
+At equilibrium direction i of a cell contains a particle with the chance N_i = 1 / (1 + exp(h +
+q.c_i)), where c_i is its velocity. The sum of N_i must be b d, and the sum of N_i c_i must be b d u
+(b directions, filling d, velocity u), which determines h and q (U. Frisch and others, Complex
+Systems 1 (1987) 649)."""
 import reprlib
 from collections.abc import Callable, Iterable
-from typing import Any
+from typing import Any, NamedTuple
 
 import numpy as np
 
 from .fault import Fault, integer
-from .gases import Array, Gas, gas_named
+from .gases import Array, Gas, array_of, gas_named
 
 Field = float | Array | Callable[[Array, Array], Any]
+STREAMS = "porous", "driven"  # the calls beside `gas` that draw from a seed
 CACHED = 1 << 17  # words of random bits, or cells, that are worked on at a time
 
 
-def size_checked(size: tuple[int, int], what: str = "a size") -> tuple[int, int]:
-    """A size, columns and rows, as two ints of at least 1."""
+class Size(NamedTuple):
+    """The columns and rows of a lattice.
+
+    numpy's shape of its arrays [y, x] is the other way round. So calls take a `Size`, or something
+    that has one: a lattice, blocks, or an array [y, x]. They refuse a bare pair, which does not say
+    what comes first.
+
+    Examples
+    --------
+    >>> fhpgas.Size(columns=64, rows=47).shape
+    (47, 64)
+    """
+
+    columns: int
+    rows: int
+
+    @property
+    def shape(self) -> tuple[int, int]:
+        """The rows and columns, as of numpy's arrays [y, x]."""
+        return self.rows, self.columns
+
+    def __str__(self) -> str:
+        return f"{self.columns} x {self.rows}"
+
+
+def size_of(size: Any) -> Size:
+    """The Size that a `size` is or has, each way at least 1."""
+    found = getattr(size, "size", size)
+    if isinstance(size, np.ndarray) and size.ndim == 2:
+        found = Size(*size.shape[::-1])
+    if not isinstance(found, Size):
+        raise Fault(
+            "a size is fhpgas.Size(columns, rows), or a lattice or an array [y, x] of this size,"
+            " not"
+            f" {reprlib.repr(size)}"
+        )
+    return Size(*pair_checked(found, "a size"))
+
+
+def pair_checked(pair: Any, what: str) -> tuple[int, int]:
+    """Columns and rows, of a lattice or of a block, as two ints of at least 1."""
     try:
-        columns, rows = size
+        columns, rows = pair
     except (TypeError, ValueError):
-        raise Fault(f"{what} is two integers, columns and rows, not {reprlib.repr(size)}") from None
+        raise Fault(f"{what} is two integers, columns and rows, not {reprlib.repr(pair)}") from None
     return integer("the number of columns", columns, 1), integer("the number of rows", rows, 1)
 
 
-def positions(size: tuple[int, int], gas: str | Gas = "fhp1", rows: slice = slice(None)) -> tuple[Array, Array]:
-    """The places of the cells' middles, in cells' widths, for a `size` of columns and rows: X [rows, columns] eastwards from the middle of
-    the first cell, and Y [rows, 1] northwards from the lower wall. Row 0 is the top. With `rows` only these rows."""
-    (columns, height), named = size_checked(size), gas_named(gas)
-    y = np.arange(height)[rows, None]
-    return np.arange(columns) + named.shift * (y % 2), (height - 0.5 - y) * named.row_distance
+def positions(
+    size: Any, gas: str | Gas = "fhp1", rows: slice = slice(None), columns: slice = slice(None)
+) -> tuple[Array, Array]:
+    """The places of the cells' middles, in cells' widths.
+
+    Parameters
+    ----------
+    size : Size
+        Of the lattice, or what has one.
+    gas : str or Gas, optional
+        Whose lattice it is.
+    rows, columns : slice, optional
+        Those that are wanted, by default all.
+
+    Returns
+    -------
+    X : array of float of shape (rows, columns)
+        Eastwards from the middle of the first cell.
+    Y : array of float of shape (rows, 1)
+        Northwards from the lower wall. Row 0 is the top.
+
+    Examples
+    --------
+    >>> X, Y = fhpgas.positions(fhpgas.Size(3, 2))
+    >>> X.tolist(), Y.round(3).tolist()
+    ([[0.0, 1.0, 2.0], [0.5, 1.5, 2.5]], [[1.299], [0.433]])
+    """
+    (width, height), named = size_of(size), gas_named(gas)
+    x, y = np.arange(width)[columns], np.arange(height)[rows, None]
+    return x + named.shift * (y % 2), (height - 0.5 - y) * named.row_distance
 
 
 def equilibrium(gas: str | Gas, filling: Any, east: Any = 0.0, north: Any = 0.0) -> Array:
-    """The chances [b, ..] that the b directions of a cell contain a particle, for a filling (0 to 1, the mean of these chances) and a mean
-    velocity of the particles, in cells' widths per generation. These are numbers or arrays [..] that numpy spreads. A velocity that is
-    impossible at its filling raises a Fault."""
+    """The chances that the directions of a cell contain a particle, at equilibrium.
+
+    Parameters
+    ----------
+    gas : str or Gas
+        The gas, with b directions.
+    filling : float or array
+        0 to 1, the mean of the chances.
+    east, north : float or array, optional
+        The mean velocity of the particles, in cells' widths per generation. numpy spreads all.
+
+    Returns
+    -------
+    array of float of shape (b, ..)
+
+    Raises
+    ------
+    Fault
+        If no gas of this filling has this velocity.
+
+    Examples
+    --------
+    >>> chances = fhpgas.equilibrium("fhp1", 0.2, east=0.1)
+    >>> east = fhpgas.GASES["fhp1"].velocities[:, 0]
+    >>> bool(abs(chances.sum() - 1.2) < 1e-9), bool(abs(east @ chances - 1.2 * 0.1) < 1e-9)
+    (True, True)
+    """
     named = gas_named(gas)
-    d, u, v = np.broadcast_arrays(*map(numbers_of, ("filling", "east", "north"), (filling, east, north)))
+    d, u, v = np.broadcast_arrays(
+        *map(numbers_of, ("filling", "east", "north"), (filling, east, north))
+    )
     if (wrong := ~((d >= 0) & (d <= 1))).any():
-        raise Fault(f"a filling is the chance per direction, 0 to 1, not {d[wrong][0]:g} (particles per cell are a density)")
+        raise Fault(
+            f"a filling is the chance per direction, 0 to 1, not {d[wrong][0]:g} (particles per"
+            " cell are a density)"
+        )
     if (wrong := (d == 1) & ((u != 0) | (v != 0))).any():
         raise _impossible(named, d[wrong], u[wrong], v[wrong])
     chances, some = np.empty((named.directions, *d.shape)), (d > 0) & (d < 1)
@@ -53,9 +147,11 @@ def equilibrium(gas: str | Gas, filling: Any, east: Any = 0.0, north: Any = 0.0)
 
 def numbers_of(name: str, field: Any) -> Array:
     """A field as an array of finite floats. Anything else raises a Fault with its name."""
-    values = np.asarray(field)
+    values = array_of(f"the field `{name}`", field)
     if values.dtype.kind not in "biuf":
-        raise Fault(f"the field `{name}` is numbers or a function of the place, not {reprlib.repr(field)}")
+        raise Fault(
+            f"the field `{name}` is numbers or a function of the place, not {reprlib.repr(field)}"
+        )
     if not np.isfinite(values).all():
         raise Fault(f"the field `{name}` has a value that is not finite")
     return values.astype(float, copy=False)
@@ -65,14 +161,18 @@ def _impossible(gas: Gas, d: Array, u: Array, v: Array) -> Fault:
     return Fault(f"no {gas} of filling {d[0]:g} has the velocity {u[0]:g}, {v[0]:g}")
 
 
+@np.errstate(all="ignore")  # an impossible velocity leaves the floats, and is refused
 def _solved(gas: Gas, d: Array, u: Array, v: Array) -> Array:
-    """Newton's method for (h, q) of all cells, from their values at a small velocity, with steps of at most 2 so that it does not
-    overshoot. Sums go direction by direction, without BLAS, so every machine rounds alike."""
+    """Newton's method for (h, q) of all cells, from their values at a small velocity, with steps of
+    at most 2 so that it does not overshoot. Sums go direction by direction, without BLAS, so every
+    machine rounds alike."""
     wanted = gas.directions * d, gas.directions * d * u, gas.directions * d * v
     square, is_done = float((gas.velocities[:, 0] ** 2).mean()), False
     h, qx, qy = np.log(1 / d - 1), -u / square / (1 - d), -v / square / (1 - d)
     for _ in range(200):
-        chances = np.stack([1 / (1 + np.exp(np.minimum(500.0, h + qx * x + qy * y))) for x, y in gas.velocities])
+        chances = np.stack(
+            [1 / (1 + np.exp(np.minimum(500.0, h + qx * x + qy * y))) for x, y in gas.velocities]
+        )
         s, sx, sy = (-part for part in wanted)
         matrix = np.zeros((6, *d.shape))
         for n, (x, y) in zip(chances, gas.velocities):
@@ -80,7 +180,9 @@ def _solved(gas: Gas, d: Array, u: Array, v: Array) -> Array:
             matrix += [n * (1 - n) * weight for weight in (1, x, y, x * x, x * y, y * y)]
         if is_done:
             return chances
-        is_done = max(np.abs(part).max() for part in (s, sx, sy)) < 1e-11  # then one more step makes it exact
+        is_done = (
+            max(np.abs(part).max() for part in (s, sx, sy)) < 1e-11
+        )  # then one more step makes it exact
         steps = _divided((s, sx, sy), *matrix)
         share = np.minimum(1, 2 / np.maximum(1e-300, np.abs(steps).max(0)))
         h, qx, qy = h + share * steps[0], qx + share * steps[1], qy + share * steps[2]
@@ -89,35 +191,81 @@ def _solved(gas: Gas, d: Array, u: Array, v: Array) -> Array:
     raise _impossible(gas, d, u, v)
 
 
-def _divided(right: tuple[Array, Array, Array], a: Array, b: Array, c: Array, d: Array, e: Array, f: Array) -> Array:
-    """The solutions [3, cells] of three linear equations whose symmetric matrix has the rows (a, b, c), (b, d, e), (c, e, f)."""
+def _divided(
+    right: tuple[Array, Array, Array], a: Array, b: Array, c: Array, d: Array, e: Array, f: Array
+) -> Array:
+    """The solutions [3, cells] of three linear equations whose symmetric matrix has the rows (a, b,
+    c), (b, d, e), (c, e, f)."""
     minors = d * f - e * e, c * e - b * f, b * e - c * d
     whole = a * minors[0] + b * minors[1] + c * minors[2]
-    rows = minors, (minors[1], a * f - c * c, b * c - a * e), (minors[2], b * c - a * e, a * d - b * b)
+    rows = (
+        minors,
+        (minors[1], a * f - c * c, b * c - a * e),
+        (minors[2], b * c - a * e, a * d - b * b),
+    )
     with np.errstate(divide="ignore", invalid="ignore"):
-        return np.stack([(row[0] * right[0] + row[1] * right[1] + row[2] * right[2]) / whole for row in rows])
+        return np.stack(
+            [(row[0] * right[0] + row[1] * right[1] + row[2] * right[2]) / whole for row in rows]
+        )
 
 
-def drawn(gas: Gas, fields: Iterable[Array], shape: tuple[int, int], seed: int, first: int = 0) -> Array:
-    """States (uint8) of a `shape` of rows and columns, drawn at random from the equilibrium of `fields`: filling, east and north, which
-    numpy spreads over the shape. They are the rows from `first` on of a lattice.
+def lots_of(call: str, seed: int) -> np.random.PCG64:
+    """The random bits of a call of `STREAMS`, which have nothing in common with the ones that `gas`
+    and the other calls draw from the same seed: numpy's PCG64 of SeedSequence(seed,
+    spawn_key=(number of the call,))."""
+    key = (STREAMS.index(call) + 1,)
+    return np.random.PCG64(np.random.SeedSequence(integer("a seed", seed), spawn_key=key))
 
-    Direction i of a cell contains a particle if a number of 16 bits is less than 65536 times its chance, rounded. A row takes, direction by
-    direction, the columns' numbers from the little-endian 64-bit words of numpy's PCG64(seed), and its first word is number
-    row * b * ceil(columns / 4). So a row has the same states whichever rows are drawn with it.
-    """
-    rows, columns = shape
-    words = gas.directions * -(-columns // 4)
+
+def drawn(
+    gas: Gas,
+    fields: Iterable[Array],
+    shape: tuple[int, int],
+    seed: int,
+    first: tuple[int, int] = (0, 0),
+    width: int | None = None,
+) -> Array:
+    """States (uint8) of a `shape` of rows and columns, drawn at random from the equilibrium of
+    `fields`: filling, east and north, which numpy spreads over the shape. They are those from the
+    `first` row and column on of a lattice of so many columns, by default of their own.
+
+    Direction i of a cell contains a particle if a number of 16 bits is less than 65536 times its
+    chance, rounded. A row takes, direction by direction, the columns' numbers from the
+    little-endian 64-bit words of numpy's PCG64(seed), and its first word is number row * b *
+    ceil(columns / 4). So a cell has the same state whichever cells are drawn with it."""
+    (rows, columns), (top_row, left) = shape, first
+    line, skipped = -(-(width or columns) // 4), left // 4
+    taken, offset = -(-(left + columns) // 4) - skipped, left % 4  # words of a line
+    words = gas.directions * taken
     flat = [field.reshape((1,) * (2 - field.ndim) + field.shape) for field in fields]
     spread, height = np.broadcast_shapes(*(field.shape for field in flat)), max(1, CACHED // words)
-    profile = np.broadcast_to(equilibrium(gas, *flat), (gas.directions, rows, spread[1])) if 1 in spread else None
-    source, states = np.random.PCG64(seed).advance(first * words), np.zeros(shape, np.uint8)
+    profile = (
+        np.broadcast_to(equilibrium(gas, *flat), (gas.directions, rows, spread[1]))
+        if 1 in spread
+        else None
+    )
+    source, states = np.random.PCG64(seed), np.zeros(shape, np.uint8)
+    source.advance(top_row * gas.directions * line + skipped)
     for top in range(0, rows, height):
         part, strip = states[top : top + height], slice(top, top + height)
         fields_here = (field[strip] if len(field) > 1 else field for field in flat)
-        limits = np.rint(65536 * (equilibrium(gas, *fields_here) if profile is None else profile[:, strip]))
+        limits = np.rint(
+            65536 * (equilibrium(gas, *fields_here) if profile is None else profile[:, strip])
+        )
         limits = limits.astype(np.uint16 if limits.max() < 65536 else np.int32)
-        lots = source.random_raw(len(part) * words).astype("<u8", copy=False).view("<u2").reshape(len(part), gas.directions, -1)
+        lots = _lines_of(source, len(part) * gas.directions, taken, line - taken)
+        lots = lots.astype("<u8", copy=False).view("<u2").reshape(len(part), gas.directions, -1)
         for i, limit in enumerate(limits):
-            part |= (lots[:, i, :columns] < limit).view(np.uint8) << i
+            part |= (lots[:, i, offset : offset + columns] < limit).view(np.uint8) << i
     return states
+
+
+def _lines_of(source: np.random.PCG64, lines: int, taken: int, left_out: int) -> Array:
+    """The words that are taken of some lines of a source, each with so many that are left out."""
+    if not left_out:
+        return source.random_raw(lines * taken)
+    words = np.empty((lines, taken), np.uint64)
+    for each in words:
+        each[:] = source.random_raw(taken)
+        source.advance(left_out)
+    return words

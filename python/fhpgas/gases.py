@@ -1,8 +1,9 @@
-"""The three gases: their directions, their neighbours and their collisions, as docs/FORMATS.md lists them."""
+"""The three gases: their directions, their neighbours and their collisions, as docs/FORMATS.md
+lists them."""
 import functools
 import reprlib
 from collections.abc import Sequence
-from typing import Any
+from typing import Any, NamedTuple
 
 import numpy as np
 
@@ -11,9 +12,21 @@ from .fault import Fault
 Array = np.ndarray[Any, np.dtype[Any]]
 Pairs = Sequence[tuple[int, int]]
 ROOT3 = 3**0.5
-SIDES = {"seeded": ("left", "right"), "left": ("left",), "right": ("right",)}  # of the pairs that turn, by chirality
+SIDES = {
+    "seeded": ("left", "right"),
+    "left": ("left",),
+    "right": ("right",),
+}  # of the pairs that turn, by chirality
 STATES = np.arange(128, dtype=np.uint8)
-EXCHANGES = {0x41: 0x22, 0x42: 0x05, 0x44: 0x0A, 0x48: 0x14, 0x50: 0x28, 0x60: 0x11}  # one moving and one at rest: two moving
+DRIVES = "rows", "directions"  # along which a force turns particles
+EXCHANGES = {
+    0x41: 0x22,
+    0x42: 0x05,
+    0x44: 0x0A,
+    0x48: 0x14,
+    0x50: 0x28,
+    0x60: 0x11,
+}  # one moving and one at rest: two moving
 
 
 def read_only(array: Array) -> Array:
@@ -22,32 +35,87 @@ def read_only(array: Array) -> Array:
     return array
 
 
+class Checked(NamedTuple):
+    """An array that a lattice shares as it is: read-only, of its type, and with values that its gas
+    can have."""
+
+    array: Array
+
+
+def array_of(what: str, values: Any) -> Array:
+    """Values as an array. Masked ones, which numpy's functions would take for values, raise a Fault
+    that begins with `what`."""
+    found = np.ma.asarray(values)
+    if np.ma.is_masked(found):
+        raise Fault(f"{what}: a masked value is none, so fill it first, as by .filled(0)")
+    return np.asarray(found.data)
+
+
 def mask(values: Any) -> Array:
-    """Truth values, or numbers that are 0 or 1, as an array of truth values. Anything else, such as an image's greys, raises a Fault."""
-    array = np.asarray(values)
-    if array.dtype.kind not in "iub" or (array.dtype.kind != "b" and ((array != 0) & (array != 1)).any()):
-        raise Fault(f"solid cells are an array of truth values, or of 0 and 1, not {reprlib.repr(values)} of {array.dtype}: compare an"
-                    " image with a number, as in `image > 127`")
+    """Truth values, or numbers that are 0 or 1, as a new array of truth values. Anything else, such
+    as an image's greys, raises a Fault."""
+    array = array_of("solid cells", values)
+    if array.dtype.kind not in "iub" or (
+        array.dtype.kind != "b" and ((array != 0) & (array != 1)).any()
+    ):
+        raise Fault(
+            f"solid cells are an array of truth values, or of 0 and 1, not {reprlib.repr(values)}"
+            f" of {array.dtype}: compare an"
+            " image with a number, as in `image > 127`"
+        )
     return array.astype(bool)
 
 
 class Gas:
-    """A gas, one of `GASES`. With b directions:
+    """A gas, one of `GASES`, with b directions.
 
-    `momenta` [b, 2] are the directions' momenta eastwards and northwards in the units of `px` and `py`, and `velocities` [b, 2] are
-    `momenta` times these `units` [2]. `opposite` [b] are the directions turned back. `steps` [parity of the row, b, 2] are the columns and
-    rows to the neighbour. Rows are `row_distance` apart, and odd ones lie `shift` to the east. `is_square` is true for `hpp`. By state, for
-    all 128: `bits` [128, b], the `number` of particles, `px` and `py`, and the states with all particles `turned` back.
+    Attributes
+    ----------
+    name : str
+    directions : int
+        b.
+    momenta : array of int of shape (b, 2)
+        The directions' momenta eastwards and northwards, in the units of `px` and `py`.
+    units : array of shape (2,)
+        These units.
+    velocities : array of shape (b, 2)
+        `momenta` times `units`.
+    opposite : array of int of shape (b,)
+        The directions turned back.
+    steps : array of int of shape (2, b, 2)
+        By the parity of the row, the columns and rows to the neighbour.
+    row_distance, shift : float
+        Rows are so far apart, and odd ones lie so far to the east.
+    is_square : bool
+        True for `hpp`.
+    bits : array of shape (128, b)
+        The particles of a state by direction.
+    number, px, py : array of int of shape (128,)
+        The sums of a state.
+    turned : array of shape (128,)
+        The states with all particles turned back.
     """
 
-    def __init__(self, name: str, momenta: Pairs, units: tuple[float, float], even: Pairs, odd: Pairs, row_distance: float):
+    def __init__(
+        self,
+        name: str,
+        momenta: Pairs,
+        units: tuple[float, float],
+        even: Pairs,
+        odd: Pairs,
+        row_distance: float,
+    ):
         self.name, self.directions, self.row_distance = name, len(momenta), row_distance
         self.is_square, self.shift = even == odd, 0.0 if even == odd else 0.5
-        self.momenta, self.units, self.steps = map(read_only, (np.array(momenta), np.array(units), np.array([even, odd])))
+        self.momenta, self.units, self.steps = map(
+            read_only, (np.array(momenta), np.array(units), np.array([even, odd]))
+        )
         self.velocities = read_only(self.momenta * self.units)
         self.opposite = read_only(np.array([momenta.index((-x, -y)) for x, y in momenta]))
         self.bits = read_only((STATES[:, None] >> np.arange(self.directions) & 1).astype(np.uint8))
-        self.number, self.px, self.py = map(read_only, (self.bits.sum(1, dtype=int), *(self.bits @ self.momenta).T))
+        self.number, self.px, self.py = map(
+            read_only, (self.bits.sum(1, dtype=int), *(self.bits @ self.momenta).T)
+        )
         self.turned = read_only((self.bits @ (1 << self.opposite)).astype(np.uint8))
 
     def __repr__(self) -> str:
@@ -58,11 +126,20 @@ class Gas:
 
     @functools.cache
     def collisions(self, side: str) -> Array:
-        """The states [128] after a collision, with head-on pairs that turn to this side, "left" or "right"."""
+        """The states [128] after a collision, with head-on pairs that turn to this side, "left" or
+        "right"."""
         if side not in ("left", "right"):
             raise Fault(f"head-on pairs turn left or right, not {side!r}")
-        pairs = (0x05, 0x0A) if self.is_square else (0x09, 0x12, 0x24) if side == "left" else (0x24, 0x12, 0x09)
-        changes = dict(zip(pairs, (*pairs[1:], pairs[0]))) | ({} if self.is_square else {0x15: 0x2A, 0x2A: 0x15})
+        pairs = (
+            (0x05, 0x0A)
+            if self.is_square
+            else (0x09, 0x12, 0x24)
+            if side == "left"
+            else (0x24, 0x12, 0x09)
+        )
+        changes = dict(zip(pairs, (*pairs[1:], pairs[0]))) | (
+            {} if self.is_square else {0x15: 0x2A, 0x2A: 0x15}
+        )
         if self.name == "fhp-rest":
             changes |= {before | 0x40: after | 0x40 for before, after in changes.items()}
             changes |= EXCHANGES | {two: one for one, two in EXCHANGES.items()}
@@ -70,9 +147,32 @@ class Gas:
         table[[*changes]] = [*changes.values()]
         return read_only(table)
 
+    @functools.cache
+    def turns(self, along: str) -> tuple[tuple[int, int, float], ...]:
+        """The pairs of directions between which a force to the east turns particles: the eastward
+        one, the westward one that differs from it in the sign of `px` only, and how many particles
+        are turned per unit of momentum. "rows" turns W to E. "directions" changes every direction
+        in proportion to its velocity c_i eastwards, as a pressure gradient does: NW to NE and SW to
+        SE too."""
+        if along not in DRIVES:
+            raise Fault(f"a force acts along one of {', '.join(DRIVES)}, not {reprlib.repr(along)}")
+        momenta = self.momenta.tolist()
+        pairs = [
+            (momenta.index([x, y]), momenta.index([-x, y]))
+            for x, y in momenta
+            if x > 0 and (y == 0 or along == "directions")
+        ]
+        east = self.velocities[[pair[0] for pair in pairs], 0]
+        return tuple((*pair, c / 2 / (east @ east)) for pair, c in zip(pairs, east.tolist()))
+
     def changes(self, chirality: str) -> Array:
         """What a collision adds to the particles [128, b] of a state, on average over the sides."""
-        return np.mean([self.bits[self.collisions(side)] for side in SIDES[chirality_named(chirality)]], 0) - self.bits
+        return (
+            np.mean(
+                [self.bits[self.collisions(side)] for side in SIDES[chirality_named(chirality)]], 0
+            )
+            - self.bits
+        )
 
 
 _HEXAGON = (2, 0), (1, 1), (-1, 1), (-2, 0), (-1, -1), (1, -1)
@@ -80,15 +180,44 @@ _EVEN = (1, 0), (0, -1), (-1, -1), (-1, 0), (-1, 1), (0, 1)
 _ODD = (1, 0), (1, -1), (0, -1), (-1, 0), (0, 1), (1, 1)
 _SQUARE = (1, 0), (0, -1), (-1, 0), (0, 1)
 _REST = (0, 0)
-GASES = {gas.name: gas for gas in (
-    Gas("fhp1", _HEXAGON, (1 / 2, ROOT3 / 2), _EVEN, _ODD, ROOT3 / 2),
-    Gas("hpp", ((1, 0), (0, 1), (-1, 0), (0, -1)), (1, 1), _SQUARE, _SQUARE, 1.0),
-    Gas("fhp-rest", (*_HEXAGON, _REST), (1 / 2, ROOT3 / 2), (*_EVEN, _REST), (*_ODD, _REST), ROOT3 / 2),
-)}
+GASES = {
+    gas.name: gas
+    for gas in (
+        Gas("fhp1", _HEXAGON, (1 / 2, ROOT3 / 2), _EVEN, _ODD, ROOT3 / 2),
+        Gas("hpp", ((1, 0), (0, 1), (-1, 0), (0, -1)), (1, 1), _SQUARE, _SQUARE, 1.0),
+        Gas(
+            "fhp-rest",
+            (*_HEXAGON, _REST),
+            (1 / 2, ROOT3 / 2),
+            (*_EVEN, _REST),
+            (*_ODD, _REST),
+            ROOT3 / 2,
+        ),
+    )
+}
 
 
 def gas_named(name: str | Gas) -> Gas:
-    """The gas of a name, or a gas itself. Any other value raises a Fault."""
+    """The gas of a name, or a gas itself.
+
+    Parameters
+    ----------
+    name : str or Gas
+
+    Returns
+    -------
+    Gas
+
+    Raises
+    ------
+    Fault
+        If there is no such gas.
+
+    Examples
+    --------
+    >>> fhpgas.gas_named("hpp").directions
+    4
+    """
     if isinstance(name, Gas):
         return name
     if not isinstance(name, str) or name not in GASES:

@@ -1,8 +1,9 @@
-"""Pictures by matplotlib: fields of blocks in colours, small lattices as arrows, strips of several states, and films.
+"""Pictures by matplotlib: fields of blocks in colours, small lattices as arrows, strips of several
+states, and films.
 
-Lengths are in cells' widths, so 512 rows of a triangular lattice are 443 high. Solid cells and blocks without a value are grey.
-Fields with a sign are blue below 0 and red above it, the others run from dark to light. Colour-blind readers can tell both apart.
-"""
+Lengths are in cells' widths, so 512 rows of a triangular lattice are 443 high. Solid cells and
+blocks without a value are grey. Fields with a sign are blue below 0 and red above it, the others
+run from dark to light. Colour-blind readers can tell both apart."""
 from __future__ import annotations
 
 import io
@@ -14,31 +15,41 @@ from typing import TYPE_CHECKING, Any, NamedTuple, TypeAlias
 
 import numpy as np
 
+from .blocks import Blocks, block_sums
 from .fault import Fault, integer, real
-from .fields import positions, size_checked
+from .fields import positions, pair_checked
+from .lattice import Lattice
 
 if TYPE_CHECKING:
     from matplotlib.axes import Axes
     from matplotlib.figure import Figure
 
-    from .lattice import Blocks, Lattice
-
-    Source: TypeAlias = Lattice | Blocks
+Source: TypeAlias = Lattice | Blocks
 
 __all__ = ["film", "plot", "strip"]
 PLAIN, SIGNED, VELOCITY = "viridis", "RdBu_r", "cells per generation"
 FIELDS = {  # the unit and the colours of what is shown
-    "speed": (VELOCITY, PLAIN), "east": (VELOCITY, SIGNED), "north": (VELOCITY, SIGNED), "vorticity": ("1 per generation", SIGNED),
-    "density": ("particles per cell", PLAIN), "filling": ("particles per direction", PLAIN), "pressure": ("per cell", PLAIN),
+    "speed": (VELOCITY, PLAIN),
+    "east": (VELOCITY, SIGNED),
+    "north": (VELOCITY, SIGNED),
+    "vorticity": ("1 per generation", SIGNED),
+    "density": ("particles per cell", PLAIN),
+    "filling": ("particles per direction", PLAIN),
+    "pressure": ("per cell", PLAIN),
 }
-PARTICLES, SMALL, MOST = "particles", 2_000, 20_000  # cells of a lattice that shows its particles if no field is named, and that can at all
+PARTICLES, SMALL, MOST = (
+    "particles",
+    2_000,
+    20_000,
+)  # cells of a lattice that shows its particles if no field is named, and that can at all
+FINEST = 1024  # pixels of the solid cells each way
 PILLOW, FFMPEG = (".gif", ".webp", ".apng"), (".mp4",)
 PALE, GREY, INK = "0.88", "0.55", "#1f4e79"
 
 
 class Shown(NamedTuple):
-    """Blocks, values [row, column] of them, masked where less than half of a block is fluid, and the solid cells if they are known. Or a
-    lattice whose particles are shown."""
+    """Blocks, values [row, column] of them, masked where less than half of a block is fluid, and
+    `solid_of` the lattice if that is known. Or a lattice whose particles are shown."""
 
     source: Any
     values: Any = None
@@ -46,38 +57,52 @@ class Shown(NamedTuple):
 
 
 def chosen(source: Source, what: Any, block: tuple[int, int], smooth: float) -> tuple[Any, Shown]:
-    """What a picture shows if `what` is asked for: an array, the name of a field, or PARTICLES, with its values."""
-    from .lattice import Blocks, Lattice
-
+    """What a picture shows if `what` is asked for: an array, the name of a field, or PARTICLES,
+    with its values."""
     if not isinstance(source, (Lattice, Blocks)):
         raise Fault(f"a picture is one of a Lattice or of Blocks, not of {reprlib.repr(source)}")
     cells = source.states.size if isinstance(source, Lattice) else MOST + 1
     if what is None:
         what = PARTICLES if cells <= SMALL else "speed"
-    if isinstance(what, str) and what not in (can := [*FIELDS, PARTICLES] if cells <= MOST else [*FIELDS]):
+    if isinstance(what, str) and what not in (
+        can := [*FIELDS, PARTICLES] if cells <= MOST else [*FIELDS]
+    ):
         raise Fault(f"there is no picture of {what!r} of {source!r}: {', '.join(can)}")
     if isinstance(what, str) and what == PARTICLES:
         return PARTICLES, Shown(source)
-    blocks = source if isinstance(source, Blocks) else source.blocks(*size_checked(block, "a block"))
+    blocks = (
+        source if isinstance(source, Blocks) else source.blocks(*pair_checked(block, "a block"))
+    )
     smoothed = blocks.smooth(smooth) if smooth else blocks
-    values = getattr(smoothed, what) if isinstance(what, str) else np.asarray(what)
+    values = getattr(smoothed, what) if isinstance(what, str) else np.ma.asarray(what)
     if values.shape != blocks.fluid.shape or values.dtype.kind not in "biuf":
-        raise Fault(f"what is shown are numbers [row, column] of {blocks.fluid.shape} blocks, not {values.dtype} of shape {values.shape}")
-    x, y = blocks.edges
-    cells_of_blocks = np.diff(x) * np.diff(-y)[:, None] / blocks.gas.row_distance
-    hidden = ~np.isfinite(values) | (2 * smoothed.fluid < cells_of_blocks - 0.5)
-    return what, Shown(blocks, np.ma.masked_where(hidden, values), getattr(source, "solid", None))
+        raise Fault(
+            f"what is shown are numbers [row, column] of {blocks.fluid.shape} blocks, not"
+            f" {values.dtype} of shape {values.shape}"
+        )
+    values = np.ma.masked_where(2 * blocks.fluid < blocks.cells, np.ma.masked_invalid(values))
+    return what, Shown(blocks, values, solid_of(source))
 
 
-def prepared(sources: Iterable[Source], what: Any, block: tuple[int, int], smooth: float, options: dict[str, Any]) -> tuple[
-        str | None, list[Shown], dict[str, Any]]:
-    """The label of the colours (particles have None), what is shown, and the options of the images: all have one range of values, which is
-    symmetric about 0 if the field has a sign."""
+def prepared(
+    sources: Iterable[Source],
+    what: Any,
+    block: tuple[int, int],
+    smooth: float,
+    options: dict[str, Any],
+) -> tuple[str | None, list[Shown], dict[str, Any]]:
+    """The label of the colours (particles have None), what is shown, and the options of the images:
+    all have one range of values, which is symmetric about 0 if the field has a sign."""
     many = list[Shown]()
     if not isinstance(sources, Iterable):
-        raise Fault(f"a film or a strip has several states, [lattice, ..] or lattice.every(..), not {reprlib.repr(sources)}")
+        raise Fault(
+            "a film or a strip has several states, [lattice, ..] or lattice.every(..), not"
+            f" {reprlib.repr(sources)}"
+        )
     for source in sources:
         what, shown = chosen(source, what, block, smooth)
+        if many and np.array_equal(shown.solid, many[-1].solid):
+            shown = shown._replace(solid=many[-1].solid)
         many.append(shown)
     if not many:
         raise Fault("a picture has a state or more")
@@ -92,40 +117,100 @@ def prepared(sources: Iterable[Source], what: Any, block: tuple[int, int], smoot
         least, most = min(least, -most), max(most, -least)
     limits = {} if "norm" in options else {"vmin": least, "vmax": most}
     shades = colormaps.get_cmap(options.get("cmap", name)).with_extremes(bad=GREY)
-    return f"{what}\n({unit})" if unit else "", many, {"interpolation": "nearest"} | limits | options | {"cmap": shades}
+    return (
+        f"{what}\n({unit})" if unit else "",
+        many,
+        {"interpolation": "nearest"} | limits | options | {"cmap": shades},
+    )
+
+
+def solid_of(source: Source) -> Any:
+    """The solid cells of a lattice as an image [y, x] that is masked elsewhere, with at most FINEST
+    pixels each way, or None if no cell is solid. Of a larger lattice a pixel is a square of cells,
+    at least half of which are solid."""
+    solid = getattr(source, "solid", None)
+    if solid is None or not solid.any():
+        return None
+    side = -(-max(solid.shape) // FINEST)
+    (number,) = block_sums(solid.view(np.uint8), np.array([[0, 1]]), side, side)
+    return np.ma.masked_array(
+        np.full(number.shape, 255 * float(GREY), np.uint8), 2 * number < side**2
+    )
 
 
 def draw(shown: Shown, ax: Axes, options: dict[str, Any]) -> Any:
-    """A field as an image on Axes in cells' widths, with the solid cells over it, or the particles of a lattice."""
+    """A field as an image on Axes in cells' widths, with the solid cells over it, or the particles
+    of a lattice."""
     if shown.values is None:
         return particles(shown.source, ax)
     blocks = shown.source
     (x, y), (rows, columns), (width, height) = blocks.edges, blocks.fluid.shape, blocks.block
-    full = x[0], x[0] + columns * width, y[0] - rows * height * blocks.gas.row_distance, y[0]  # as if the last blocks were not smaller
+    full = (
+        x[0],
+        x[0] + columns * width,
+        y[0] - rows * height * blocks.gas.row_distance,
+        y[0],
+    )  # as if the last blocks were not smaller
     image = ax.imshow(shown.values, extent=full, **options)
     if shown.solid is not None:
-        ax.imshow(np.where(shown.solid, float(GREY), np.nan), cmap="gray", vmin=0, vmax=1, extent=(x[0], x[-1], y[-1], y[0]))
+        side = -(-max(blocks.size) // FINEST)
+        wide, high = (side * pixels for pixels in shown.solid.shape[::-1])
+        full = x[0], x[0] + wide, y[0] - high * blocks.gas.row_distance, y[0]
+        ax.imshow(shown.solid, cmap="gray", vmin=0, vmax=255, extent=full)
     ax.set(xlim=(x[0], x[-1]), ylim=(y[-1], y[0]), xlabel="x (cells)", ylabel="y (cells)")
     return image
 
 
 def particles(lattice: Lattice, ax: Axes) -> Axes:
-    """Moving particles as arrows, particles at rest as dots, solid cells grey, and the walls as lines."""
+    """Moving particles as arrows, particles at rest as dots, solid cells grey, and the walls as
+    lines."""
     from matplotlib.collections import EllipseCollection, PolyCollection
 
     gas, (X, Y) = lattice.gas, np.broadcast_arrays(*positions(lattice.size, lattice.gas))
     corners = 4 if gas.is_square else 6
     turns = np.exp(2j * np.pi * (np.arange(corners) + 0.5) / corners) / 2 / np.cos(np.pi / corners)
     outlines = np.stack([X.reshape(-1, 1) + turns.real, Y.reshape(-1, 1) + turns.imag], 2)
-    ax.add_collection(PolyCollection(outlines, facecolors=np.where(lattice.solid.ravel(), GREY, "white"), edgecolors=PALE, linewidths=0.8))
+    ax.add_collection(
+        PolyCollection(
+            outlines,
+            facecolors=np.where(lattice.solid.ravel(), GREY, "white"),
+            edgecolors=PALE,
+            linewidths=0.8,
+        )
+    )
     for i, (u, v) in enumerate(gas.velocities):
         here = lattice.states >> i & 1 > 0
         if u or v:
-            ax.quiver(X[here], Y[here], 0.46 * u, 0.46 * v, angles="xy", scale_units="xy", scale=1, units="xy", width=0.06, headwidth=3,
-                      headlength=3.5, headaxislength=3, minlength=0, color=INK, zorder=3)
+            ax.quiver(
+                X[here],
+                Y[here],
+                0.46 * u,
+                0.46 * v,
+                angles="xy",
+                scale_units="xy",
+                scale=1,
+                units="xy",
+                width=0.06,
+                headwidth=3,
+                headlength=3.5,
+                headaxislength=3,
+                minlength=0,
+                color=INK,
+                zorder=3,
+            )
         else:
             at, sizes = np.column_stack([X[here], Y[here]]), np.full(here.sum(), 0.24)
-            ax.add_collection(EllipseCollection(sizes, sizes, 0 * sizes, units="xy", offsets=at, offset_transform=ax.transData, color=INK))
+            ax.add_collection(
+                EllipseCollection(
+                    sizes,
+                    sizes,
+                    0 * sizes,
+                    units="xy",
+                    offsets=at,
+                    offset_transform=ax.transData,
+                    color=INK,
+                )
+            )
     top, right = lattice.size[1] * gas.row_distance, X.max() + 0.6
     ax.hlines((0, top), -0.6, right, "black", linewidth=2)
     ax.set(aspect="equal", xlim=(-0.6, right), ylim=(-0.2, top + 0.2), xticks=[], yticks=[])
@@ -134,21 +219,65 @@ def particles(lattice: Lattice, ax: Axes) -> Axes:
 
 
 def bar(image: Any, label: str | None, ax: Axes) -> None:
-    """The bar of an image's colours beside its Axes, about as high as the image will be. Arrows have none."""
+    """The bar of an image's colours beside its Axes, about as high as the image will be. Arrows
+    have none."""
     if label is not None:
         room = ax.get_window_extent()
         share = min(1.0, 0.85 * ax.get_data_ratio() * room.width / room.height)
-        ax.figure.colorbar(image, ax=ax, label=label, shrink=share, aspect=max(5, 25 * share), pad=0.02)
+        ax.figure.colorbar(
+            image, ax=ax, label=label, shrink=share, aspect=max(5, 25 * share), pad=0.02
+        )
 
 
-def plot(source: Source, what: Any = None, ax: Axes | None = None, *, block: tuple[int, int] = (8, 9), smooth: float = 0.0,
-         colorbar: bool = True, **options: Any) -> Any:
-    """Shows a lattice or blocks on Axes of matplotlib (None: pyplot's), and returns the image.
+def plot(
+    source: Source,
+    what: Any = None,
+    ax: Axes | None = None,
+    *,
+    block: tuple[int, int] = (8, 9),
+    smooth: float = 0.0,
+    colorbar: bool = True,
+    **options: Any,
+) -> Any:
+    """Shows a lattice or blocks on Axes of matplotlib.
 
-    `what` is "speed", "east", "north", "vorticity", "density", "filling" or "pressure", an array [row, column] of the blocks, or for the
-    arrows of at most 20,000 cells "particles". By default it is the speed, or if a lattice has at most 2000 cells its particles. A lattice
-    is shown in blocks of `block` columns and rows. `smooth` is the width in blocks of a Gaussian that smooths. `options`, such as vmin,
-    vmax, cmap and interpolation, are those of `imshow`."""
+    Parameters
+    ----------
+    source : Lattice or Blocks
+        What is shown.
+    what : str or array, optional
+        "speed", "east", "north", "vorticity", "density", "filling" or "pressure", or an array [row,
+        column] of the blocks, whose masked values are grey. Or for the arrows of at most 20,000
+        cells "particles". By default the speed, or of a lattice of at most 2000 cells its
+        particles.
+    ax : matplotlib.axes.Axes, optional
+        By default pyplot's.
+    block : pair of int, optional
+        The columns and rows of a block, in which a lattice is shown.
+    smooth : float, optional
+        The width in blocks of the Gaussian of `Blocks.smooth`.
+    colorbar : bool, optional
+        Whether there is a bar of the colours.
+    **options
+        Of `imshow`, such as vmin, vmax, cmap and interpolation.
+
+    Returns
+    -------
+    matplotlib.image.AxesImage or matplotlib.axes.Axes
+        The image, or of particles the Axes.
+
+    Raises
+    ------
+    Fault
+        If there is no such picture of the source.
+
+    Examples
+    --------
+    >>> from matplotlib.figure import Figure
+    >>> start = fhpgas.draw_gas(0.2, size=fhpgas.Size(64, 36), seed=1)
+    >>> start.plot("density", Figure().subplots()).get_array().shape
+    (4, 8)
+    """
     if ax is None:
         from matplotlib import pyplot
 
@@ -159,19 +288,60 @@ def plot(source: Source, what: Any = None, ax: Axes | None = None, *, block: tup
     return image
 
 
-def strip(sources: Iterable[Source], what: Any = None, *, block: tuple[int, int] = (8, 9), smooth: float = 0.0,
-          columns: int | None = None, **options: Any) -> Figure:
-    """A figure of pyplot with several states of a lattice, which have one range of colours. `columns` is how many stand beside one another,
-    by default as many as make the figure about three times as wide as high. All else is as in `plot`."""
+def strip(
+    sources: Iterable[Source],
+    what: Any = None,
+    *,
+    block: tuple[int, int] = (8, 9),
+    smooth: float = 0.0,
+    columns: int | None = None,
+    **options: Any,
+) -> Figure:
+    """A figure of pyplot with several states of a lattice, which have one range of colours.
+
+    Parameters
+    ----------
+    sources : iterable of Lattice or Blocks
+        The states.
+    what, block, smooth, **options
+        As in `plot`.
+    columns : int, optional
+        How many stand beside one another, by default as many as make the figure about three times
+        as wide as high.
+
+    Returns
+    -------
+    matplotlib.figure.Figure
+
+    Examples
+    --------
+    >>> start = fhpgas.draw_gas(0.2, size=fhpgas.Size(64, 36), seed=1)
+    >>> len(fhpgas.strip([start, start], "density").axes)
+    3
+    """
     from matplotlib import pyplot
 
     label, many, options = prepared(sources, what, block, smooth, options)
     n, aspect = len(many), aspect_of(many[0].source)
-    across = integer("the number of columns", columns, 1, n) if columns is not None else min(
-        (k for k in range(1, n + 1) if n % k == 0), key=lambda k: abs(np.log(k * k / n / aspect / 3)))
+    across = (
+        integer("the number of columns", columns, 1, n)
+        if columns is not None
+        else min(
+            (k for k in range(1, n + 1) if n % k == 0),
+            key=lambda k: abs(np.log(k * k / n / aspect / 3)),
+        )
+    )
     down = -(-n // across)
     high = max(2.2, down * (7.6 / across * aspect + 0.4) + 0.5)
-    figure, grid = pyplot.subplots(down, across, figsize=(9, high), layout="constrained", squeeze=False, sharex=True, sharey=True)
+    figure, grid = pyplot.subplots(
+        down,
+        across,
+        figsize=(9, high),
+        layout="constrained",
+        squeeze=False,
+        sharex=True,
+        sharey=True,
+    )
     for shown, ax in zip(many, grid.flat):
         image = draw(shown, ax, options)
         ax.set_title(f"generation {shown.source.generation}", fontsize="medium")
@@ -204,12 +374,45 @@ def png(source: Source) -> bytes:
     return out.getvalue()
 
 
-def film(path: str | os.PathLike[str], sources: Iterable[Source], what: Any = None, *, block: tuple[int, int] = (8, 9),
-         smooth: float = 0.0, fps: float = 10.0, dpi: int = 100, **options: Any) -> None:
-    """Writes a film of lattices or blocks, which may come one by one, as .gif, .webp, .apng, or if there is ffmpeg as .mp4. All frames have
-    one range of colours. `fps` is the frames per second. With a `dpi` of 100 a frame is at most 700 x 900 pixels. All else is as in
-    `plot`."""
-    writer, dpi = film_writer(path, real("the frames per second", fps, 0.1, 100)), integer("the dots per inch", dpi, 10, 1000)
+def film(
+    path: str | os.PathLike[str],
+    sources: Iterable[Source],
+    what: Any = None,
+    *,
+    block: tuple[int, int] = (8, 9),
+    smooth: float = 0.0,
+    fps: float = 10.0,
+    dpi: int = 100,
+    **options: Any,
+) -> None:
+    """Writes a film of lattices or blocks.
+
+    Parameters
+    ----------
+    path : path
+        The file, a .gif, .webp or .apng, or if there is ffmpeg a .mp4.
+    sources : iterable of Lattice or Blocks
+        The frames, which may come one by one. All have one range of colours.
+    what, block, smooth, **options
+        As in `plot`.
+    fps : float, optional
+        Frames per second.
+    dpi : int, optional
+        Dots per inch. With 100 a frame is at most 700 x 900 pixels.
+
+    Raises
+    ------
+    Fault
+        If the file cannot be written, or there is no frame.
+
+    Examples
+    --------
+    >>> start = fhpgas.draw_gas(0.2, size=fhpgas.Size(64, 36), seed=1)
+    >>> fhpgas.film("rest.gif", start.every(5, 2), "density")
+    """
+    writer, dpi = film_writer(path, real("the frames per second", fps, 0.1, 100)), integer(
+        "the dots per inch", dpi, 10, 1000
+    )
     label, many, options = prepared(sources, what, block, smooth, options)
     ax = axes_of(many[0].source)
     ax.set_title("generation")
@@ -235,7 +438,9 @@ def film_writer(path: str | os.PathLike[str], fps: float) -> Any:
         def grab_frame(self, **options: Any) -> None:
             super().grab_frame(**options)
             frame = self._frames[-1].convert("RGB")
-            if suffix == ".gif":  # all frames have the 256 colours of the first one, which shows the bar
+            if (
+                suffix == ".gif"
+            ):  # all frames have the 256 colours of the first one, which shows the bar
                 self.palette = self.palette or frame.quantize()
                 frame = frame.quantize(palette=self.palette, dither=0)
             self._frames[-1] = frame

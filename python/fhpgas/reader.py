@@ -1,6 +1,6 @@
-"""A second reading of scenes, on Python's own TOML reader, by docs/FORMATS.md alone: the line that refuses a text, the reasons, and what
-else is wrong. It shares nothing with the program. The tests compare the program with it, and `explain` prints its reasons.
-"""
+"""A second reading of scenes, on Python's own TOML reader, by docs/FORMATS.md alone: the line that
+refuses a text, the reasons, and what else is wrong. It shares nothing with the program. The tests
+compare the program with it, and `explain` prints its reasons."""
 import collections
 import difflib
 import itertools
@@ -13,16 +13,36 @@ from typing import Any
 
 STATES = {"fhp1": 64, "hpp": 16, "fhp-rest": 128}
 CHIRALITIES = ("seeded", "left", "right")
-WORDS: dict[str, Iterable[str]] = {"gas": STATES, "chirality": CHIRALITIES}  # of the keys that are texts
-# What gases are called in print, in small letters and without hyphens; None if the program lacks the gas.
-PUBLISHED = {"fhpi": "fhp1", "fhp2": "fhp-rest", "fhpii": "fhp-rest", "fhp3": None, "fhpiii": None, "hpp": "hpp"}
+WORDS: dict[str, Iterable[str]] = {
+    "gas": STATES,
+    "chirality": CHIRALITIES,
+}  # of the keys that are texts
+# What gases are called in print, in small letters and without hyphens; None if the program lacks
+# the gas.
+PUBLISHED = {
+    "fhpi": "fhp1",
+    "fhp2": "fhp-rest",
+    "fhpii": "fhp-rest",
+    "fhp3": None,
+    "fhpiii": None,
+    "hpp": "hpp",
+}
 MOST_SIDE = {1: 4096, 2: 65536}
 INTEGERS = ("version", "generation", "seed", "width", "height", "rate")
 LISTS = {"solid": (4, "[x, y, w, h]"), "particles": (3, "[x, y, state]")}
 AREA = ("width", "height", "solid", "rate", "particles")
 KEYS = (*INTEGERS, "gas", "chirality", "cells", *LISTS)
-TYPES = collections.defaultdict(lambda: "a date or a time", {
-    bool: "a truth value", int: "an integer", float: "a float", str: "a text", list: "a list", dict: "a table"})
+TYPES = collections.defaultdict(
+    lambda: "a date or a time",
+    {
+        bool: "a truth value",
+        int: "an integer",
+        float: "a float",
+        str: "a text",
+        list: "a list",
+        dict: "a table",
+    },
+)
 MOST_BYTES, DEEPEST, MOST_ROWS = 67_108_864, 80, 8
 SYNTAX = "scene: not TOML"
 Reasons = Iterator[tuple[tuple, str]]
@@ -32,7 +52,8 @@ NEWER = re.compile(r"\\[ex]|\{|\d:\d|0000-")
 MISTAKES = {
     "Cannot overwrite a value": "a key stands twice",
     "Unclosed array": "a comma is missing, or the bracket that closes the list",
-    "Invalid value": "a text needs quotes, a number has no 0 before it, and a hexadecimal one has 0x",
+    "Invalid value": "a text needs quotes, a number has no 0 before it, and a hexadecimal one has"
+    " 0x",
     "Illegal character '\\n'": "the quote that ends the text is missing",
     "Expected newline or end of document after a statement": "each key stands on a line of its own",
     "Expected '=' after a key in a key/value pair": "a key, `=` and a value make a line",
@@ -40,9 +61,10 @@ MISTAKES = {
 
 
 class Refused(Exception):
-    """The line that refuses a scene, and the reasons: pairs of a path and a sentence. A path is the reason's place in the document: a key,
-    places in lists, and for a map the place of a cell in its row, or empty if there is no such place. `later` has the lines, with their
-    reasons, that follow once these are mended. A refusal is unsure if the text is not TOML 1.0 and may be 1.1."""
+    """The line that refuses a scene, and the reasons: pairs of a path and a sentence. A path is the
+    reason's place in the document: a key, places in lists, and for a map the place of a cell in its
+    row, or empty if there is no such place. `later` has the lines, with their reasons, that follow
+    once these are mended. A refusal is unsure if the text is not TOML 1.0 and may be 1.1."""
 
     def __init__(self, line: str, reasons: list, later: Iterable = (), unsure: bool = False):
         super().__init__(line)
@@ -52,20 +74,36 @@ class Refused(Exception):
 def read(text: bytes) -> dict:
     """The keys of the bytes of a scene and their values, or the first refusal as a Refused."""
     if len(text) > MOST_BYTES:
-        raise Refused("input: too long", [((), f"the text has {len(text)} bytes, and the program reads {MOST_BYTES}")])
+        raise Refused(
+            "input: too long",
+            [((), f"the text has {len(text)} bytes, and the program reads {MOST_BYTES}")],
+        )
     try:
         letters = text.decode("utf-8-sig")
         table = tomllib.loads(letters, parse_float=finite)
     except UnicodeDecodeError as fault:
-        line, byte = text.count(b"\n", 0, fault.start) + 1, fault.start - text.rfind(b"\n", 0, fault.start)
+        line, byte = text.count(b"\n", 0, fault.start) + 1, fault.start - text.rfind(
+            b"\n", 0, fault.start
+        )
         raise Refused(SYNTAX, [((), f"line {line}, byte {byte}: no UTF-8")]) from None
     except tomllib.TOMLDecodeError as fault:
-        raise Refused(SYNTAX, [((), sentence(str(fault), letters))], unsure=bool(NEWER.search(letters))) from None
+        raise Refused(
+            SYNTAX, [((), sentence(str(fault), letters))], unsure=bool(NEWER.search(letters))
+        ) from None
     except ValueError:  # Python reads integers of up to 4300 digits
-        line = next(k for k, line in enumerate(letters.split("\n"), start=1) if re.search(r"[\d_]{4300}", line))
-        raise Refused(SYNTAX, [((), f"line {line}: an integer of thousands of digits is no integer of 64 bits")]) from None
+        line = next(
+            k
+            for k, line in enumerate(letters.split("\n"), start=1)
+            if re.search(r"[\d_]{4300}", line)
+        )
+        raise Refused(
+            SYNTAX,
+            [((), f"line {line}: an integer of thousands of digits is no integer of 64 bits")],
+        ) from None
     except RecursionError:
-        raise Refused(SYNTAX, [((), f"lists, tables or keys are nested more than {DEEPEST} deep")]) from None
+        raise Refused(
+            SYNTAX, [((), f"lists, tables or keys are nested more than {DEEPEST} deep")]
+        ) from None
     if reasons := list(beyond(table)):
         raise Refused(SYNTAX, reasons)
     if found := faults(table):
@@ -81,20 +119,27 @@ def finite(word: str) -> float:
 
 
 def beyond(value: Any, path: tuple = (), deep: int = 0) -> Reasons:
-    """What Python's reader takes and the program does not: integers of more than 64 bits, and what is nested too deep."""
+    """What Python's reader takes and the program does not: integers of more than 64 bits, and what
+    is nested too deep."""
     if deep > DEEPEST:
         yield path[:1], f"lists, tables or keys are nested more than {DEEPEST} deep"
     elif type(value) in (dict, list):
         for key, entry in value.items() if type(value) is dict else enumerate(value):
             yield from beyond(entry, (*path, key), deep + (type(entry) in (dict, list)))
     elif type(value) is int and not -(2**63) <= value < 2**63:
-        yield path, f"{value if value.bit_length() < 200 else f'one of {value.bit_length()} bits'} is no integer of 64 bits"
+        name = value if value.bit_length() < 200 else f"one of {value.bit_length()} bits"
+        yield path, f"{name} is no integer of 64 bits"
 
 
 def sentence(message: str, text: str) -> str:
     """Where and why a text is not TOML, from what Python's reader says."""
     what, _, where = message.removesuffix(")").rpartition(" (at ")
-    hint = MISTAKES.get(what, "the text may be TOML 1.1, which the program reads and Python does not" if NEWER.search(text) else "")
+    hint = MISTAKES.get(
+        what,
+        "the text may be TOML 1.1, which the program reads and Python does not"
+        if NEWER.search(text)
+        else "",
+    )
     if place := re.fullmatch(r"line (\d+), column (\d+)", where):
         line, column = text.split("\n")[int(place[1]) - 1], int(place[2]) - 1
         if line[column : column + 1] in {*"“”„‘’"}:
@@ -108,8 +153,8 @@ def sentence(message: str, text: str) -> str:
 
 
 def faults(table: dict) -> list[tuple[str, list]]:
-    """The lines that refuse a scene with their reasons, in order. Before a further check what is at fault is mended if it is a misspelt
-    word, and else left out."""
+    """The lines that refuse a scene with their reasons, in order. Before a further check what is at
+    fault is mended if it is a misspelt word, and else left out."""
     table, found = dict(table), dict[str, list]()
     for line, check in CHECKS:
         for path, why in list(check(table)):
@@ -128,7 +173,8 @@ def mend(table: dict, key: str | None = None) -> None:
 
 
 def closest(word: str, known: Iterable[str]) -> tuple[str | None, bool]:
-    """The known word that is most like this one, or None, and whether this is a published name of a gas."""
+    """The known word that is most like this one, or None, and whether this is a published name of a
+    gas."""
     plain = re.sub(r"[-_\s]", "", word.lower())
     if known is STATES and plain in PUBLISHED:
         return PUBLISHED[plain], True
@@ -140,7 +186,9 @@ def nearest(word: str, known: Iterable[str]) -> str:
     found, is_published = closest(word, known)
     if found:
         return f"{'its name here' if is_published else 'the nearest'} is `{found}`"
-    return f"there {'is none here, only' if is_published else 'are'} " + ", ".join(f"`{name}`" for name in known)
+    return f"there {'is none here, only' if is_published else 'are'} " + ", ".join(
+        f"`{name}`" for name in known
+    )
 
 
 def shown(value: Any) -> str:
@@ -151,7 +199,9 @@ def shown(value: Any) -> str:
 
 
 def is_tuple(value: Any, count: int) -> bool:
-    return type(value) is list and len(value) == count and all(type(entry) is int for entry in value)
+    return (
+        type(value) is list and len(value) == count and all(type(entry) is int for entry in value)
+    )
 
 
 def version_of(table: dict) -> int:
@@ -164,7 +214,11 @@ def unknown_keys(table: dict) -> Reasons:
         if key == "generation" and version_of(table) == 1:
             yield (key,), "`generation` is a key of version 2 alone, with `version = 2` beside it"
         elif key not in KEYS:
-            heading = ", and all keys stand at the top level, under no heading" if type(value) is dict else ""
+            heading = (
+                ", and all keys stand at the top level, under no heading"
+                if type(value) is dict
+                else ""
+            )
             yield (key,), f"{shown(key)} is no key of a scene{heading}; {nearest(key, KEYS)}"
 
 
@@ -181,7 +235,9 @@ def missing_keys(table: dict) -> Reasons:
     elif "gas" not in table:
         yield (), "`gas` is missing: " + ", ".join(f'"{name}"' for name in STATES)
     if table and "cells" not in table and sides:
-        yield (), f"`{sides[0]}` is missing" if len(sides) == 1 else "`cells` is missing, or `width` and `height`"
+        yield (), f"`{sides[0]}` is missing" if len(
+            sides
+        ) == 1 else "`cells` is missing, or `width` and `height`"
 
 
 def wrong_types(table: dict) -> Reasons:
@@ -191,54 +247,87 @@ def wrong_types(table: dict) -> Reasons:
         if (kind := TYPES[type(value)]) != wanted:
             yield (key,), f"`{key}` is {kind}, {shown(value)}, and must be {wanted}"
         elif count and is_tuple(value, count):
-            yield (key,), f"`{key}` is one entry, {shown(value)}, and must be a list of entries: [{shown(value)}]"
+            one = shown(value)
+            yield (key,), f"`{key}` is one entry, {one}, and must be a list of entries: [{one}]"
         elif wanted == "a list":
             for place, entry in enumerate(value):
                 if not count and type(entry) is not str:
-                    yield (key, place), f"row {place} is {TYPES[type(entry)]}, {shown(entry)}, and must be a text"
+                    yield (
+                        key,
+                        place,
+                    ), f"row {place} is {TYPES[type(entry)]}, {shown(entry)}, and must be a text"
                 if count and not is_tuple(entry, count):
-                    yield (key, place), f"entry {place} of `{key}`, {shown(entry)}, must be a list of {count} integers, {form}"
+                    why = f"`{key}`, {shown(entry)}, must be a list of {count} integers, {form}"
+                    yield (key, place), f"entry {place} of {why}"
 
 
 def out_of_range(table: dict) -> Reasons:
     version, sides = version_of(table), ("width", "height", "cells")
-    ranges = {"version": (1, 2), "seed": (0, 2**63 - 1), "generation": (0, 10**12), "rate": (0, 1000)}
+    ranges = {
+        "version": (1, 2),
+        "seed": (0, 2**63 - 1),
+        "generation": (0, 10**12),
+        "rate": (0, 1000),
+    }
     ranges |= dict.fromkeys(sides, (1, MOST_SIDE[version]))
     for key, (least, most) in ranges.items():
         value = len(table.get(key, ())) if key == "cells" else table.get(key, least)
         if key in table and not least <= value <= most:
-            what = f"`cells` has {value} rows, and must have" if key == "cells" else f"`{key}` is {value}, and must be"
+            what = (
+                f"`cells` has {value} rows, and must have"
+                if key == "cells"
+                else f"`{key}` is {value}, and must be"
+            )
             longer = key in sides and version == 1 and most < value <= MOST_SIDE[2]
-            yield (key,), f"{what} {least} to {most}" + f" (with `version = 2` to {MOST_SIDE[2]})" * longer
+            yield (
+                key,
+            ), f"{what} {least} to {most}" + f" (with `version = 2` to {MOST_SIDE[2]})" * longer
     for key, known in WORDS.items():
         if key in table and table[key] not in known:
             yield (key,), f"`{key}` is {shown(table[key])}; {nearest(table[key], known)}"
 
 
 def misplaced(table: dict) -> Reasons:
-    """The rectangles that are empty or leave the area, and the particles outside it, in a rectangle, or with a state that the gas lacks."""
+    """The rectangles that are empty or leave the area, and the particles outside it, in a
+    rectangle, or with a state that the gas lacks."""
     if "width" not in table or "height" not in table:
         return
-    width, height, solid, states = table["width"], table["height"], table.get("solid", []), STATES.get(table.get("gas", ""), 256)
+    width, height, solid, states = (
+        table["width"],
+        table["height"],
+        table.get("solid", []),
+        STATES.get(table.get("gas", ""), 256),
+    )
     area = f"the area of columns 0 to {width - 1} and rows 0 to {height - 1}"
     for place, (x, y, w, h) in enumerate(solid):
         if w < 1 or h < 1:
             yield ("solid", place), f"rectangle {place}, {[x, y, w, h]}, is empty"
         elif not (0 <= x and 0 <= y and x + w <= width and y + h <= height):
-            yield ("solid", place), f"rectangle {place}, {[x, y, w, h]}, leaves {area}: it ends at column {x + w - 1} and row {y + h - 1}"
+            end = f"it ends at column {x + w - 1} and row {y + h - 1}"
+            yield ("solid", place), f"rectangle {place}, {[x, y, w, h]}, leaves {area}: {end}"
     for place, (x, y, state) in enumerate(table.get("particles", [])):
         name = f"particle {place}, {[x, y, state]},"
         if not (0 <= x < width and 0 <= y < height):
             yield ("particles", place), f"{name} is outside {area}"
         elif not 0 <= state < states:
-            yield ("particles", place), f"{name} has state {state}, and those of {table.get('gas')} are 0 to {states - 1}"
+            yield (
+                "particles",
+                place,
+            ), f"{name} has state {state}, and those of {table.get('gas')} are 0 to {states - 1}"
         elif (cover := covering(solid, x, y)) is not None:
             yield ("particles", place), f"{name} stands in rectangle {cover}, {solid[cover]}"
 
 
 def covering(solid: list, x: int, y: int) -> int | None:
     """The place of the first rectangle that covers a cell, or None."""
-    return next((k for k, (left, top, w, h) in enumerate(solid) if left <= x < left + w and top <= y < top + h), None)
+    return next(
+        (
+            k
+            for k, (left, top, w, h) in enumerate(solid)
+            if left <= x < left + w and top <= y < top + h
+        ),
+        None,
+    )
 
 
 # The checks before a map's rows, in their order, with the lines that refuse.
@@ -267,7 +356,9 @@ def row_faults(table: dict) -> Iterator[tuple[str, list]]:
         length = found.end() if found else 0  # up to the first pair that is not a cell
         if length + 1 < len(rows[number]):
             why = cell_fault(rows[number][length : length + 2], gas)
-            yield f"scene: row {number} cell {length // 2} is not a cell", [(("cells", number, length // 2), why)]
+            yield f"scene: row {number} cell {length // 2} is not a cell", [
+                (("cells", number, length // 2), why)
+            ]
 
 
 def length_fault(rows: list[bytes], number: int, most: int) -> str | None:
@@ -276,10 +367,22 @@ def length_fault(rows: list[bytes], number: int, most: int) -> str | None:
     if number == 0:
         if length % 2:
             return f"row 0 has {length} characters, an odd number, and a cell has two"
-        return None if 2 <= length <= 2 * most else f"row 0 has {length // 2} cells, and must have 1 to {most}"
+        return (
+            None
+            if 2 <= length <= 2 * most
+            else f"row 0 has {length // 2} cells, and must have 1 to {most}"
+        )
     alike = sum(len(row) == length for row in rows) if length != first else 0
-    others = f"; as many have {alike} of the {len(rows)} rows, so row 0 may be the wrong one" if 2 * alike > len(rows) else ""
-    return None if length == first else f"row {number} has {length} characters, and row 0 has {first}{others}"
+    others = (
+        f"; as many have {alike} of the {len(rows)} rows, so row 0 may be the wrong one"
+        if 2 * alike > len(rows)
+        else ""
+    )
+    return (
+        None
+        if length == first
+        else f"row {number} has {length} characters, and row 0 has {first}{others}"
+    )
 
 
 def cell_fault(pair: bytes, gas: str) -> str:
@@ -289,4 +392,6 @@ def cell_fault(pair: bytes, gas: str) -> str:
         return f"`{text}` is no state of {gas}, whose states are {states}"
     if re.fullmatch("[0-9a-fA-F]{2}", text):
         return f"`{text}` has a capital digit, and digits of states are small"
-    return f"{shown(text)} is no cell: `..` is empty, `##` is solid, and a state of {gas} is {states}"
+    return (
+        f"{shown(text)} is no cell: `..` is empty, `##` is solid, and a state of {gas} is {states}"
+    )

@@ -1,5 +1,7 @@
-"""Solid cells as arrays [y, x] of truth values, which are combined by `|`, `&` and `~`. A `size` is columns and rows. Cells are named by
-column and row from 0 at the top left, and lengths are in cells' widths. What a formula of the place says needs no shape:
+"""Solid cells as arrays [y, x] of truth values, which are combined by `|`, `&` and `~`.
+
+A `size` is a `Size`, or what has one. Cells are named by column and row from 0 at the top left, and
+lengths are in cells' widths. What a formula of the place says needs no shape:
 `numpy.hypot(X - 200, Y - 220) < 40` with `X, Y = fhpgas.positions(size)`.
 """
 import math
@@ -11,98 +13,269 @@ from typing import Any
 import numpy as np
 
 from .fault import Fault, integer, real
-from .fields import size_checked
-from .gases import Array, Gas, gas_named
+from .fields import CACHED, lots_of, size_of
+from .gases import Array, Gas, array_of, gas_named
 
 FAR = 1e6  # cells, of a corner of a polygon
 
 
-def disc(size: tuple[int, int], column: int, row: int, radius: float, gas: str | Gas = "fhp1") -> Array:
-    """The cells whose middles are at most `radius` from the middle of a cell. It continues past the last column and is cut at the walls."""
-    columns, rows = size_checked(size)
-    column, row = integer("the column of a disc", column, 0, columns - 1), integer("the row of a disc", row, 0, rows - 1)
+def disc(size: Any, column: int, row: int, radius: float, gas: str | Gas = "fhp1") -> Array:
+    """The cells whose middles are at most `radius` from the middle of a cell.
+
+    Parameters
+    ----------
+    size : Size
+        Of the lattice.
+    column, row : int
+        The middle, a cell of the lattice. The disc continues past the last column and is cut at
+        the walls.
+    radius : float
+        At least 0, in cells' widths.
+    gas : str or Gas, optional
+        Whose lattice it is.
+
+    Returns
+    -------
+    array of bool of shape (rows, columns)
+
+    Examples
+    --------
+    >>> int(fhpgas.disc(fhpgas.Size(9, 9), 4, 4, 1).sum())
+    7
+    """
+    columns, rows = size_of(size)
+    column = integer("the column of a disc", column, 0, columns - 1)
+    row = integer("the row of a disc", row, 0, rows - 1)
     solid = np.zeros((rows, columns), bool)
-    _stamp(solid, column, row, real("the radius of a disc", radius, 0), gas_named(gas))
+    down, right = _stencil((columns, rows), row % 2, real("the radius of a disc", radius, 0), gas)
+    is_inside = (0 <= row + down) & (row + down < rows)
+    solid[row + down[is_inside], (column + right[is_inside]) % columns] = True
     return solid
 
 
-def _stamp(solid: Array, column: int, row: int, radius: float, gas: Gas) -> None:
-    """Makes the cells of a disc solid. Four times the square of a distance is an integer on both lattices, so nothing is rounded."""
-    reach, across = int(1.2 * radius) + 1, min(solid.shape[1], int(radius) + 1)
-    x, y = np.arange(-across, across + 1), np.arange(max(-row, -reach), min(len(solid) - row, reach + 1))
-    halves = 2 * x if gas.is_square else 2 * x + ((row + y) % 2 - row % 2)[:, None]
-    down, along = np.nonzero(halves**2 + ((4 if gas.is_square else 3) * y**2)[:, None] <= 4 * radius * radius * (1 + 1e-12))
-    solid[row + y[down], (column + x[along]) % solid.shape[1]] = True
+def _stencil(size: tuple[int, int], parity: int, radius: float, gas: str | Gas) -> Array:
+    """The rows and columns [2, cells] from the middle of a disc to its cells, in even or odd rows.
+    Four times the square of a distance is an integer on both lattices, so nothing is rounded."""
+    (columns, rows), is_square = size, gas_named(gas).is_square
+    reach, across = min(rows, int(1.2 * radius) + 1), min(columns, int(radius) + 1)
+    x, y = np.arange(-across, across + 1), np.arange(-reach, reach + 1)
+    halves = 2 * x if is_square else 2 * x + ((parity + y) % 2 - parity)[:, None]
+    squares = halves**2 + ((4 if is_square else 3) * y**2)[:, None]
+    down, right = np.nonzero(squares <= 4 * radius * radius * (1 + 1e-12))
+    return np.stack([y[down], x[right]])
 
 
-def polygon(size: tuple[int, int], corners: Iterable[Sequence[float]], gas: str | Gas = "fhp1") -> Array:
-    """The cells whose middles are inside a polygon. Its corners are columns and rows, which need not be whole: (0, 0) is the middle of the
-    first cell. It continues past the last column and is cut at the walls. Of a polygon that crosses itself, what lies inside an odd number
-    of times. A cell on an upper or left edge belongs to it, on a lower or right edge not."""
-    (columns, rows), named = size_checked(size), gas_named(gas)
+def polygon(size: Any, corners: Iterable[Sequence[float]], gas: str | Gas = "fhp1") -> Array:
+    """The cells whose middles are inside a polygon.
+
+    A cell on an upper or left edge belongs to it, on a lower or right edge not. Of a polygon that
+    crosses itself, what lies inside an odd number of times.
+
+    Parameters
+    ----------
+    size : Size
+        Of the lattice.
+    corners : iterable of pairs of float
+        Three or more columns and rows, which need not be whole: (0, 0) is the middle of the first
+        cell. The polygon continues past the last column and is cut at the walls.
+    gas : str or Gas, optional
+        Whose lattice it is.
+
+    Returns
+    -------
+    array of bool of shape (rows, columns)
+
+    Examples
+    --------
+    >>> box = fhpgas.polygon(fhpgas.Size(9, 9), [(2, 3), (5, 3), (5, 5), (2, 5)], "hpp")
+    >>> np.argwhere(box).tolist()
+    [[3, 2], [3, 3], [3, 4], [4, 2], [4, 3], [4, 4]]
+    """
+    (columns, rows), named = size_of(size), gas_named(gas)
     try:
-        places_of = np.array([*corners], float)
+        places = array_of("corners", [*corners]).astype(float)
+    except Fault:
+        raise
     except (TypeError, ValueError):
-        places_of = np.empty(0)
-    if places_of.ndim != 2 or len(places_of) < 3 or places_of.shape[1] != 2 or not (np.abs(places_of) <= FAR).all():
-        raise Fault(f"a polygon has three corners (column, row) or more, at most {FAR:g} away, not {reprlib.repr(corners)}")
-    left, right = math.floor(places_of[:, 0].min()) - 1, math.ceil(places_of[:, 0].max()) + 1
-    y, x = np.ogrid[:rows, left : right + 1]
-    places, inside = x + named.shift * (y % 2), np.zeros((rows, right + 1 - left), bool)
-    for (x0, y0), (x1, y1) in zip(places_of, np.roll(places_of, -1, 0)):
-        if y0 != y1:
-            inside ^= ((y0 <= y) != (y1 <= y)) & (places >= x0 + (y - y0) * (x1 - x0) / (y1 - y0))
-    solid, (down, across) = np.zeros((rows, columns), bool), np.nonzero(inside)
-    solid[down, (left + across) % columns] = True
-    return solid
+        places = np.empty(0)
+    is_polygon = places.ndim == 2 and len(places) >= 3 and places.shape[1] == 2
+    if not is_polygon or not (np.abs(places) <= FAR).all():
+        raise Fault(
+            f"a polygon has three corners (column, row) or more, at most {FAR:g} away, not"
+            f" {reprlib.repr(corners)}"
+        )
+    crossed = []  # the rows that the edges cross, and where
+    for (x0, y0), (x1, y1) in zip(places, np.roll(places, -1, 0)):
+        low, high = (math.ceil(min(max(y, 0), rows)) for y in sorted((y0, y1)))
+        y = np.arange(low, high)
+        if len(y):
+            x = x0 + (y - y0) * (x1 - x0) / (y1 - y0) - named.shift * (y % 2)
+            crossed.append(np.stack([np.ceil(x).astype(int), y]))
+    x, y = np.concatenate(crossed or [np.zeros((2, 0), int)], 1)
+    order = np.lexsort((x, y))
+    (first, end), row = x[order].reshape(-1, 2).T, y[order][::2]
+    start = first % columns
+    stop = start + np.minimum(end - first, columns)
+    steps, is_past = np.zeros((rows, columns + 1), np.int32), stop > columns
+    np.add.at(steps, (row, start), 1)
+    np.add.at(steps, (row, np.minimum(stop, columns)), -1)
+    np.add.at(steps, (row[is_past], 0), 1)
+    np.add.at(steps, (row[is_past], stop[is_past] - columns), -1)
+    return np.cumsum(steps, axis=1, out=steps)[:, :-1] > 0
 
 
-def nozzle(size: tuple[int, int], throat: int, length: int) -> Array:
-    """A channel that narrows to `throat` open rows in its middle column and widens again, over `length` columns in all."""
-    columns, rows = size_checked(size)
-    throat, length = integer("the throat of a nozzle", throat, 1, rows), integer("the length of a nozzle", length, 1, columns)
+def nozzle(size: Any, throat: int, length: int) -> Array:
+    """A channel that narrows and widens again.
+
+    Parameters
+    ----------
+    size : Size
+        Of the lattice.
+    throat : int
+        Open rows in the middle column, 1 to all.
+    length : int
+        Columns over which it narrows and widens, 1 to all.
+
+    Returns
+    -------
+    array of bool of shape (rows, columns)
+
+    Examples
+    --------
+    >>> (~fhpgas.nozzle(fhpgas.Size(9, 8), 2, 6)).sum(0).tolist()
+    [8, 8, 6, 4, 2, 4, 6, 8, 8]
+    """
+    columns, rows = size_of(size)
+    throat = integer("the throat of a nozzle", throat, 1, rows)
+    length = integer("the length of a nozzle", length, 1, columns)
     apart = np.minimum(1, np.abs(np.arange(columns) - columns // 2) / (length / 2))
     opening = throat + np.rint((rows - throat) * apart).astype(int)
     top, y = (rows - opening) // 2, np.arange(rows)[:, None]
     return (y < top) | (y >= top + opening)
 
 
-def porous(size: tuple[int, int], share: float, radius: float, seed: int = 0, gas: str | Gas = "fhp1") -> Array:
-    """Discs at random places, until that share (0 to 1) of all cells is solid, drawn from the raw bits of numpy's PCG64(seed)."""
-    (columns, rows), named = size_checked(size), gas_named(gas)
-    share, radius = real("the share of solid cells", share, 0, 1), real("the radius of a disc", radius, 0)
-    lots, solid = np.random.PCG64(integer("a seed", seed)), np.zeros((rows, columns), bool)
-    while np.count_nonzero(solid) < share * solid.size:
-        column, row = (int(lots.random_raw() >> 32) * side >> 32 for side in (columns, rows))
-        _stamp(solid, column, row, radius, named)
-    return solid
+def porous(size: Any, share: float, radius: float, seed: int = 0, gas: str | Gas = "fhp1") -> Array:
+    """Discs at random places, until a share of all cells is solid.
+
+    They are drawn from the raw bits of numpy's PCG64, in a stream of their own (`fields.lots_of`),
+    so the same arguments draw the same medium on every machine.
+
+    Parameters
+    ----------
+    size : Size
+        Of the lattice.
+    share : float
+        Of all cells that are solid, at least, 0 to 1.
+    radius : float
+        Of a disc, at least 0, in cells' widths.
+    seed : int, optional
+        Of the places.
+    gas : str or Gas, optional
+        Whose lattice it is.
+
+    Returns
+    -------
+    array of bool of shape (rows, columns)
+
+    Examples
+    --------
+    >>> solid = fhpgas.porous(fhpgas.Size(200, 100), 0.3, 2, seed=5)
+    >>> 6000 <= int(solid.sum()) < 6019
+    True
+    """
+    columns, rows = size_of(size)
+    share = real("the share of solid cells", share, 0, 1)
+    radius = real("the radius of a disc", radius, 0)
+    lots, solid = lots_of("porous", seed), np.zeros(rows * columns, bool)
+    down, right = np.stack([_stencil((columns, rows), parity, radius, gas) for parity in (0, 1)], 1)
+    wanted, many = math.ceil(share * solid.size), max(1, CACHED // down.shape[1])
+    sides = np.array([columns, rows], np.uint64)
+    while wanted > 0:
+        places = (lots.random_raw((many, 2)) >> np.uint64(32)) * sides
+        column, row = (places >> np.uint64(32)).astype(int).T[..., None]
+        y, x = row + down[row[:, 0] % 2], (column + right[row[:, 0] % 2]) % columns
+        is_new = (0 <= y) & (y < rows)
+        is_new[is_new] = ~solid[y[is_new] * columns + x[is_new]]
+        cells, firsts = np.unique((y * columns + x)[is_new], return_index=True)
+        disc_of = np.nonzero(is_new)[0][firsts]
+        made = np.bincount(disc_of, minlength=many).cumsum()
+        last = np.searchsorted(made, wanted)  # the disc that reaches the share, or past all
+        solid[cells[disc_of <= last]] = True
+        wanted = wanted - int(made[-1]) if last == many else 0
+    return solid.reshape(rows, columns)
 
 
-def bitmap(size: tuple[int, int], picture: Any, pixel: float = 1.0, column: int = 0, row: int = 0, gas: str | Gas = "fhp1") -> Array:
-    """The dark pixels of a picture, `pixel` cells' widths wide and high. Its upper left corner is at a cell. `picture` is the path of a
-    file that Pillow reads, or an array [y, x] of truth values. A picture that leaves the channel raises a Fault."""
-    (columns, rows), named = size_checked(size), gas_named(gas)
+def bitmap(
+    size: Any,
+    picture: Any,
+    pixel: float = 1.0,
+    column: int = 0,
+    row: int = 0,
+    gas: str | Gas = "fhp1",
+) -> Array:
+    """The dark pixels of a picture.
+
+    Parameters
+    ----------
+    size : Size
+        Of the lattice.
+    picture : path or array of bool
+        A file that Pillow reads, whose pixels are dark if they are black, or darker than half of
+        white, and not transparent. Or truth values [y, x].
+    pixel : float, optional
+        The width and height of a pixel in cells' widths.
+    column, row : int, optional
+        The cell at the upper left corner of the picture.
+    gas : str or Gas, optional
+        Whose lattice it is.
+
+    Returns
+    -------
+    array of bool of shape (rows, columns)
+
+    Raises
+    ------
+    Fault
+        If the picture leaves the channel, or its file cannot be read.
+
+    Examples
+    --------
+    >>> cross = [[0, 1, 0], [1, 1, 1], [0, 1, 0]]
+    >>> fhpgas.bitmap(fhpgas.Size(5, 4), cross, column=1, row=1, gas="hpp").astype(int).tolist()
+    [[0, 0, 0, 0, 0], [0, 0, 1, 0, 0], [0, 1, 1, 1, 0], [0, 0, 1, 0, 0]]
+    """
+    (columns, rows), named = size_of(size), gas_named(gas)
     dark, pixel = _dark(picture), real("the width of a pixel", pixel, 1e-9, 65536)
     y, x = np.ogrid[:rows, :columns]
     right = np.floor((x - column + named.shift * (y % 2)) / pixel + 1e-9).astype(int)
     down = np.floor((y - row + 0.5) * named.row_distance / pixel).astype(int)
-    wide, tall = math.ceil(pixel * dark.shape[1] - 1e-9), math.ceil(pixel * len(dark) / named.row_distance - 0.5 - 1e-9)
+    wide, tall = math.ceil(pixel * dark.shape[1] - 1e-9), math.ceil(
+        pixel * len(dark) / named.row_distance - 0.5 - 1e-9
+    )
     check_inside("the picture", (column, row, wide, tall), (columns, rows))
     inside = (0 <= right) & (right < dark.shape[1]) & (0 <= down) & (down < len(dark))
     return inside & dark[down.clip(0, len(dark) - 1), right.clip(0, dark.shape[1] - 1)]
 
 
 def _dark(picture: Any) -> Array:
-    """Whether the pixels [y, x] of a picture are dark: black, or darker than half of white, and not transparent."""
+    """Whether the pixels [y, x] of a picture are dark: black, or darker than half of white, and not
+    transparent."""
     if not isinstance(picture, (str, os.PathLike)):
-        if (mask := np.asarray(picture)).ndim != 2 or not mask.size:
-            raise Fault(f"a picture is the path of a file or an array [y, x], not of the shape {mask.shape}")
-        return mask.astype(bool)
+        dark = array_of("a picture", picture)
+        if dark.ndim != 2 or not dark.size:
+            raise Fault(
+                f"a picture is the path of a file or an array [y, x], not of the shape {dark.shape}"
+            )
+        return dark.astype(bool)
     from PIL import Image
 
     try:
         with Image.open(picture) as image:
-            grey = image.point(lambda shade: shade / 256).convert("L") if image.mode.startswith("I") else image
+            grey = (
+                image.point(lambda shade: shade / 256).convert("L")
+                if image.mode.startswith("I")
+                else image
+            )
             shades = np.asarray(grey.convert("RGBA")).astype(int)
     except (OSError, ValueError, SyntaxError, Image.DecompressionBombError) as fault:
         raise Fault(f"{picture}: {getattr(fault, 'strerror', None) or fault}") from None
@@ -110,18 +283,25 @@ def _dark(picture: Any) -> Array:
 
 
 def check_inside(what: str, block: Sequence[int], size: tuple[int, int]) -> None:
-    """Raises a Fault if a rectangle of cells, its column, row, columns and rows, is empty or leaves a lattice."""
+    """Raises a Fault if a rectangle of cells, its column, row, columns and rows, is empty or leaves
+    a lattice."""
     x, y, w, h = block
     if not (0 <= x and 0 <= y and 1 <= w and 1 <= h and x + w <= size[0] and y + h <= size[1]):
-        raise Fault(f"{what} leaves the channel of {size[0]} x {size[1]} cells or is empty: {x} {y} {w} {h}")
+        raise Fault(
+            f"{what} leaves the channel of {size[0]} x {size[1]} cells or is empty: {x} {y} {w} {h}"
+        )
 
 
 def rectangles(solid: Array) -> list[list[int]]:
-    """Rectangles [x, y, w, h] that cover every solid cell once: runs along a row, joined to equal runs in the rows below."""
+    """Rectangles [x, y, w, h] that cover every solid cell once: runs along a row, joined to equal
+    runs in the rows below."""
     last, found = dict[tuple[int, int], list[int]](), list[list[int]]()
     for y, row in enumerate(np.pad(solid, ((0, 0), (1, 1))).astype(np.int8)):
         ends = np.flatnonzero(np.diff(row)).tolist()
-        here = {run: last.get(run) or [run[0], y, run[1] - run[0], 0] for run in zip(ends[::2], ends[1::2])}
+        here = {
+            run: last.get(run) or [run[0], y, run[1] - run[0], 0]
+            for run in zip(ends[::2], ends[1::2])
+        }
         for run, rectangle in here.items():
             rectangle[3] += 1
             found += [rectangle] if run not in last else []

@@ -1,106 +1,302 @@
-"""What theory says of the gases: sound, the Galilean factor, viscosities and slip in the Boltzmann approximation, and noise.
+"""What theory says of the gases: sound, the Galilean factor, viscosities and slip in the Boltzmann
+approximation, and noise.
 
-Lengths are in cells' widths, times in generations. A filling d, above 0 and below 1, is a number or an array, and results have its shape. b
-is the number of directions. The formulas are by U. Frisch, D. d'Humieres, B. Hasslacher, P. Lallemand, Y. Pomeau, J.-P. Rivet, "Lattice gas
-hydrodynamics in two and three dimensions", Complex Systems 1 (1987) 649, but for those that say otherwise. The Boltzmann approximation
-leaves correlations out. The viscosities are summed here over the collisions themselves, so they are valid for every chirality.
-"""
+Lengths are in cells' widths, times in generations. The argument `filling` is d, above 0 and
+below 1, a number or an array, and results have its shape; b is the number of directions. A
+filling outside raises a Fault, and so does `hpp`, whose flows follow no fluid's equations. The
+formulas are by U. Frisch, D. d'Humieres, B. Hasslacher, P. Lallemand, Y. Pomeau, J.-P. Rivet,
+"Lattice gas hydrodynamics in two and three dimensions", Complex Systems 1 (1987) 649, but for
+those that say otherwise. The Boltzmann approximation leaves correlations out. The viscosities
+are summed here over the collisions themselves, so they are valid for every chirality."""
+import warnings
 from typing import Any, NamedTuple
 
 import numpy as np
 
+from .boltzmann import collision_matrix
 from .fault import Fault, real
 from .fields import equilibrium
-from .gases import Array, Gas, gas_named
+from .gases import Array, Gas, array_of, chirality_named, gas_named
 
 
 def sound_speed(gas: str | Gas) -> float:
-    """The speed of sound: 1/sqrt(2), and sqrt(3/7) in `fhp-rest`."""
+    """The speed of sound: 1/sqrt(2), and sqrt(3/7) in `fhp-rest`.
+
+    Examples
+    --------
+    >>> round(fhpgas.theory.sound_speed("fhp1"), 4)
+    0.7071
+    """
     return float(np.sqrt((gas_named(gas).velocities[:, 0] ** 2).mean()))
 
 
 def galilean_factor(gas: str | Gas, filling: Any, wind: float = 0.0) -> Any:
-    """The factor g by which u.grad u is multiplied in the momentum equation: (1 - 2d) / (2 (1 - d)), and 7/6 of it in `fhp-rest`. With a
-    wind (-1 to 1), for which these formulas are not exact, g is the factor by which the wind carries a slow flow across it, from the
-    equilibrium of Fermi and Dirac: momentum flux xy / (density wind v)."""
+    """The factor g by which u.grad u is multiplied in the momentum equation.
+
+    It is (1 - 2d) / (2 (1 - d)), and 7/6 of it in `fhp-rest`.
+
+    Parameters
+    ----------
+    gas : str or Gas
+    filling : float or array
+    wind : float, optional
+        -1 to 1. With a wind, for which these formulas are not exact, g is the factor by which the
+        wind carries a slow flow across it, from the equilibrium of Fermi and Dirac: momentum flux
+        xy / (density wind v).
+
+    Returns
+    -------
+    float or array
+
+    Examples
+    --------
+    >>> round(float(fhpgas.theory.galilean_factor("fhp1", 0.2)), 4)
+    0.375
+    """
     named, d = isotropic(gas), checked(filling)
     if not wind:
         return named.directions / 12 * (1 - 2 * d) / (1 - d)
     across = 1e-4
     numbers = equilibrium(named, d, real("a wind", wind, -1, 1), across)
-    return np.tensordot(named.velocities.prod(1), numbers, 1) / (named.directions * d * wind * across)
+    return np.tensordot(named.velocities.prod(1), numbers, 1) / (
+        named.directions * d * wind * across
+    )
 
 
 def isotropic(gas: str | Gas) -> Gas:
     """A gas whose flows follow the equations of a fluid. `hpp` raises a Fault."""
     named = gas_named(gas)
     if named.is_square:
-        raise Fault("hpp has no viscosity and no Galilean factor: its stress depends on the direction of the flow")
+        raise Fault(
+            "hpp has no viscosity and no Galilean factor: its stress depends on the direction of"
+            " the flow"
+        )
     return named
 
 
 def checked(filling: Any) -> Array:
     """A filling as an array of floats. Any that is not above 0 and below 1 raises a Fault."""
-    d = np.asarray(filling)
+    d = array_of("a filling", filling)
     if d.dtype.kind not in "biuf" or not ((d > 0) & (d < 1)).all():
         raise Fault(f"a filling is the chance per direction, above 0 and below 1, not {filling!r}")
     return d.astype(float)
 
 
 def relaxed(gas: str | Gas, filling: Any, chirality: str, mode: Array) -> Any:
-    """The share of a mode [b] that collisions undo in a generation, in the Boltzmann equation linearized about equal filling: the
-    eigenvalue of the collision operator, of which the mode must be an eigenvector."""
-    named, d = gas_named(gas), checked(filling)[..., None, None]
-    chance, slopes = np.where(named.bits, d, 1 - d).prod(-1), np.where(named.bits, 1 / d, -1 / (1 - d)) @ mode
-    return -(chance * slopes * (named.changes(chirality) @ mode.conj())).sum(-1) / (abs(mode) ** 2).sum()
+    """The share of a mode [b] that collisions undo in a generation, in the Boltzmann equation
+    linearized about equal filling: the eigenvalue of the collision operator, of which the mode must
+    be an eigenvector."""
+    undone = collision_matrix(gas, checked(filling), chirality) @ mode
+    return -(undone @ mode.conj()) / (abs(mode) ** 2).sum()
 
 
 def _turning(gas: Gas, times: int) -> Array:
-    """The mode [b] of the moving directions that turns so many times as the direction turns once: 2 is the shear, 3 the staggered mode."""
-    return np.where(np.arange(gas.directions) < 6, np.exp(1j * np.pi / 3 * times * np.arange(gas.directions)), 0)
+    """The mode [b] of the moving directions that turns so many times as the direction turns once: 2
+    is the shear, 3 the staggered mode."""
+    return np.where(
+        np.arange(gas.directions) < 6, np.exp(1j * np.pi / 3 * times * np.arange(gas.directions)), 0
+    )
 
 
 def _shear(gas: str | Gas, filling: Any, chirality: str) -> Any:
     named = isotropic(gas)
-    return (1 / relaxed(named, filling, chirality, _turning(named, 2)) - 1 / 2) / 4  # c^2 / (dimensions + 2), where c = 1
+    return (
+        1 / relaxed(named, filling, chirality, _turning(named, 2)) - 1 / 2
+    ) / 4  # c^2 / (dimensions + 2), where c = 1
 
 
 def viscosity(gas: str | Gas, filling: Any, chirality: str = "seeded") -> Any:
-    """The kinematic shear viscosity. FHP-I (`fhp1`, seeded): 1 / (12 d (1-d)^3) - 1/8, with one chirality 1 / (16 d (1-d)^3) - 1/8. FHP-II
-    (`fhp-rest`, seeded): 1 / (28 d (1-d)^3 (1 - 4d/7)) - 1/8."""
+    """The kinematic shear viscosity in the Boltzmann approximation.
+
+    FHP-I (`fhp1`, seeded): 1 / (12 d (1-d)^3) - 1/8, with one chirality 1 / (16 d (1-d)^3) - 1/8.
+    FHP-II (`fhp-rest`, seeded): 1 / (28 d (1-d)^3 (1 - 4d/7)) - 1/8.
+
+    Parameters
+    ----------
+    gas : str or Gas
+    filling : float or array
+    chirality : str, optional
+
+    Returns
+    -------
+    float or array
+
+    Warns
+    -----
+    Correlated
+        If measured viscosities exceed it by more than a tenth (`is_correlated`).
+
+    Examples
+    --------
+    >>> round(float(fhpgas.theory.viscosity("fhp1", 0.3)), 4)
+    0.6848
+    """
+    _warn(gas, filling, chirality)
     return _shear(gas, filling, chirality).real
 
 
+class Correlated(UserWarning):
+    """Correlations between particles make a measured viscosity exceed Boltzmann's by more than a
+    tenth."""
+
+
+# the fillings from .. to .. at which they do so, in shear waves of 128 and 256 rows
+# (docs/EXPERIMENTS.md#viscosity)
+CORRELATED = {
+    ("fhp1", "seeded"): (0.0, 0.19),
+    ("fhp1", "left"): (0.0, 0.2),
+    ("fhp-rest", "seeded"): (0.08, 0.65),
+    ("fhp-rest", "left"): (0.05, 0.65),
+}
+
+
+def is_correlated(gas: str | Gas, filling: Any, chirality: str = "seeded") -> Any:
+    """Whether a measured viscosity exceeds Boltzmann's by more than a tenth, by a table of
+    measurements.
+
+    Parameters
+    ----------
+    gas : str or Gas
+    filling : float or array
+    chirality : str, optional
+
+    Returns
+    -------
+    bool or array of bool
+
+    Examples
+    --------
+    >>> bool(fhpgas.theory.is_correlated("fhp1", 0.1))
+    True
+    """
+    side = "left" if chirality_named(chirality) == "right" else chirality
+    low, high = CORRELATED[isotropic(gas).name, side]
+    return (low < checked(filling)) & (checked(filling) < high)
+
+
+def _warn(gas: str | Gas, filling: Any, chirality: str) -> None:
+    if np.any(is_correlated(gas, filling, chirality)):
+        warnings.warn(
+            f"measured viscosities of {gas_named(gas)} ({chirality}) exceed Boltzmann's by more"
+            " than a tenth at this filling:"
+            " docs/EXPERIMENTS.md, Viscosity",
+            Correlated,
+            stacklevel=3,
+        )
+
+
 def odd_viscosity(gas: str | Gas, filling: Any, chirality: str) -> Any:
-    """The kinematic odd viscosity, 0 if `chirality` is "seeded". Its sign is that of the stress -p - density odd_viscosity (du/dy + dv/dx)
-    across a row, yy, and -p + density odd_viscosity (du/dy + dv/dx) along it, xx. `left` has a negative one, `right` the opposite."""
+    """The kinematic odd viscosity, 0 if `chirality` is "seeded".
+
+    Its sign is that of the stress -p - density odd_viscosity (du/dy + dv/dx) across a row, yy, and
+    -p + density odd_viscosity (du/dy + dv/dx) along it, xx.
+
+    Parameters
+    ----------
+    gas : str or Gas
+    filling : float or array
+    chirality : str
+
+    Returns
+    -------
+    float or array
+        Negative for "left", and the opposite for "right".
+
+    Examples
+    --------
+    >>> left, right = (fhpgas.theory.odd_viscosity("fhp1", 0.3, side) for side in ("left", "right"))
+    >>> bool(left < 0), bool(abs(left + right) < 1e-12)
+    (True, True)
+    """
     return _shear(gas, filling, chirality).imag
 
 
 def bulk_viscosity(gas: str | Gas, filling: Any) -> Any:
-    """The kinematic bulk viscosity: 0 in `fhp1`, and 1 / (98 d (1-d)^4) - 1/28 in `fhp-rest`."""
+    """The kinematic bulk viscosity: 0 in `fhp1`, and 1 / (98 d (1-d)^4) - 1/28 in `fhp-rest`.
+
+    Examples
+    --------
+    >>> float(fhpgas.theory.bulk_viscosity("fhp1", 0.3))
+    0.0
+    """
     d = checked(filling)
     return 0.0 * d if isotropic(gas).name == "fhp1" else 1 / (98 * d * (1 - d) ** 4) - 1 / 28
 
 
-def slip(gas: str | Gas, filling: Any, chirality: str = "seeded") -> Any:
-    """K, in squares of the distance of rows: between walls along the rows, H rows apart, a slow steady flow is the parabola that is zero at
-    sqrt(H^2 / 4 + K) rows from the middle. K = 8 viscosity (1 / m - 2/3) - 1/4, where m is the share of the difference between odd and even
-    directions that collisions undo: 6 d^2 (1-d)^2, and in `fhp-rest` 9 d (1-d)^4 more. It is the exact stationary solution of the linear
-    Boltzmann equation, derived in docs/PHYSICS.md."""
+def slip(gas: str | Gas, filling: Any, chirality: str = "seeded", along: str = "rows") -> Any:
+    """K, by which a parabola ends outside the walls, in squares of the distance of rows.
+
+    Between walls along the rows, H rows apart, a slow steady flow is the parabola that is zero at
+    sqrt(H^2 / 4 + K) rows from the middle. The share of the difference between odd and even
+    directions that collisions undo is m = 6 d^2 (1-d)^2, and in `fhp-rest` 9 d (1-d)^4 more. This
+    is the exact stationary solution of the linear Boltzmann equation (docs/DERIVATION.md#7-slip).
+
+    Parameters
+    ----------
+    gas : str or Gas
+    filling : float or array
+    chirality : str, optional
+    along : {"rows", "directions"}, optional
+        What drives the flow, as in `driven`. With "rows" K = 8 viscosity (1 / m - 2/3) - 1/4, with
+        "directions", a force along every c_i, K = 16/3 viscosity (1 / m - 1/2) - 1/4.
+
+    Returns
+    -------
+    float or array
+
+    Examples
+    --------
+    >>> round(float(fhpgas.theory.slip("fhp1", 0.3)), 2)
+    16.8
+    """
     named = isotropic(gas)
-    return 8 * viscosity(named, filling, chirality) * (1 / relaxed(named, filling, chirality, _turning(named, 3)).real - 2 / 3) - 1 / 4
+    mode = _turning(named, 3).real
+    kick = sum(turns * (mode[east] - mode[west]) for east, west, turns in named.turns(along))
+    m = relaxed(named, filling, chirality, mode)
+    staggered = (2 + kick * (1 - m)) / m  # of a row, for a force of 1
+    return 8 / 3 * _shear(named, filling, chirality).real * (staggered - 1) - 1 / 4
 
 
 def noise(gas: str | Gas, filling: Any, cells: Any) -> Any:
-    """The standard deviation of a mean velocity over some cells at equilibrium: sqrt((1 - d) c^2 / (b d cells)), c the speed of sound."""
+    """The standard deviation of a mean velocity over some cells at equilibrium.
+
+    It is sqrt((1 - d) c^2 / (b d cells)), with c the speed of sound.
+
+    Parameters
+    ----------
+    gas : str or Gas
+    filling, cells : float or array
+
+    Returns
+    -------
+    float or array
+
+    Examples
+    --------
+    >>> round(float(fhpgas.theory.noise("fhp1", 0.5, 3)), 4)
+    0.1667
+    """
     d = checked(filling)
     return sound_speed(gas) * np.sqrt((1 - d) / (gas_named(gas).directions * d * cells))
 
 
 class Numbers(NamedTuple):
-    """The numbers of a flow: `mach` is speed / sound speed, `reynolds` g speed length / viscosity, `viscous_time` length^2 / viscosity,
-    and `turnover_time` length / (g speed), because a flow is carried by g times its velocity. If nothing is carried (d = 1/2) it is inf."""
+    """The numbers of a flow.
+
+    Attributes
+    ----------
+    sound_speed, galilean_factor, viscosity : float
+        Of the gas.
+    mach : float
+        speed / sound speed.
+    reynolds : float
+        g speed length / viscosity.
+    viscous_time : float
+        length^2 / viscosity.
+    turnover_time : float
+        length / (g speed), because a flow is carried by g times its velocity. If nothing is carried
+        (d = 1/2) it is inf.
+    """
 
     sound_speed: float
     galilean_factor: float
@@ -111,11 +307,50 @@ class Numbers(NamedTuple):
     turnover_time: float
 
 
-def numbers(gas: str | Gas, filling: float, speed: float, length: float, chirality: str = "seeded") -> Numbers:
-    """The numbers of a flow of a speed (at most 1, in cells' widths per generation) past something of a length (in cells' widths)."""
-    d, u, size = real("a filling", filling, 0, 1), abs(real("a speed", speed, -1, 1)), real("a length", length)
-    g, nu, sound = float(galilean_factor(gas, d)), float(viscosity(gas, d, chirality)), sound_speed(gas)
+def numbers(
+    gas: str | Gas, filling: float, speed: float, length: float, chirality: str = "seeded"
+) -> Numbers:
+    """The numbers of a flow past something.
+
+    Parameters
+    ----------
+    gas : str or Gas
+    filling : float
+    speed : float
+        At most 1, in cells' widths per generation.
+    length : float
+        In cells' widths, above 0.
+    chirality : str, optional
+
+    Returns
+    -------
+    Numbers
+
+    Examples
+    --------
+    >>> round(fhpgas.numbers("fhp1", 0.3, 0.1, 80).mach, 4)
+    0.1414
+    """
+    d, u, size = (
+        real("a filling", filling, 0, 1),
+        abs(real("a speed", speed, -1, 1)),
+        real("a length", length),
+    )
+    g, nu, sound = (
+        float(galilean_factor(gas, d)),
+        float(_shear(gas, d, chirality).real),
+        sound_speed(gas),
+    )
+    _warn(gas, d, chirality)
     if size <= 0:
         raise Fault(f"a length is above 0, not {length!r}")
     carried = abs(g * u)
-    return Numbers(sound, g, nu, u / sound, carried * size / nu, size**2 / nu, size / carried if carried else float("inf"))
+    return Numbers(
+        sound,
+        g,
+        nu,
+        u / sound,
+        carried * size / nu,
+        size**2 / nu,
+        size / carried if carried else float("inf"),
+    )
