@@ -1,28 +1,26 @@
-// Takes the kernel out of the page and compares it with the program, bit for bit, and its key stream with RFC 8439.
+// Compares the page's kernels with the program, bit for bit, and its key stream with RFC 8439: the one in JavaScript, and, where `make`
+// left page/engine.js, the proved engine.
 //   node tests/kernel.mjs        the program is FHPGAS, or ./fhpgas
 import { spawnSync } from "node:child_process";
-import { readFileSync, readdirSync } from "node:fs";
+import { existsSync, readFileSync, readdirSync } from "node:fs";
+import { Flow } from "../page/src/flow.js";
+import { GASES, SOLID } from "../page/src/gases.js";
+import { ProvedKernel, ScriptKernel } from "../page/src/kernel.js";
+import { block } from "../page/src/keystream.js";
+import { fillStates, printed, readScene, sceneOf } from "../page/src/scenes.js";
+import { lots } from "./lots.mjs";
 
 const root = new URL("..", import.meta.url).pathname, program = process.env.FHPGAS ?? `${root}fhpgas`;
-const page = readFileSync(`${root}page/fhpgas.html`, "utf8");
-const [kernel, worker] = ["kernel", "worker"].map((id) => page.split(`<script id="${id}">`)[1].split("</script>")[0]);
-const names = "{ Kernel, GASES, SOLID, SLACK, block, fill, readScene }";
-const { Kernel, GASES, SOLID, SLACK, block, fill, readScene } = new Function(`${kernel}${worker}return ${names}`)();
+const kernels = { script: (...size) => new ScriptKernel(...size) };
+if (existsSync(`${root}page/engine.js`)) {
+  new Function(readFileSync(`${root}page/engine.js`, "utf8"))();
+  const module = new WebAssembly.Module(Buffer.from(globalThis.FHPGAS_ENGINE, "base64"));
+  kernels.proved = (...size) => new ProvedKernel(module, ...size);
+} else console.log("the engine is left out, because page/engine.js is missing: run make");
 const MAPS = 200, AREAS = 18;
 let passed = 0, failed = 0;
 
 const check = (what, isSo) => (isSo ? passed++ : (failed++, console.log(`FAILED: ${what}`)));
-
-// Numbers that are the same in every run: mulberry32.
-function lots(seed) {
-  const next = () => {
-    let t = (seed = (seed + 0x6d2b79f5) | 0);
-    t = Math.imul(t ^ (t >>> 15), t | 1);
-    t ^= t + Math.imul(t ^ (t >>> 7), t | 61);
-    return ((t ^ (t >>> 14)) >>> 0) / 2 ** 32;
-  };
-  return { chance: next, below: (n) => Math.floor(n * next()), of: (list) => list[Math.floor(list.length * next())] };
-}
 
 // The line that the program prints first, and its rows.
 function run(scene, generations) {
@@ -32,13 +30,22 @@ function run(scene, generations) {
   return done.stdout.toString().trimEnd().split("\n");
 }
 
+// Whether the sums of blocks are those of the program's table.
+function sameSums(flow, wide, tall) {
+  const words = ["coarse", "--generations", "0", "--block-width", `${wide}`, "--block-height", `${tall}`];
+  const done = spawnSync(program, words, { input: sceneOf(flow).replace(/generation = .*/, "generation = 0"), maxBuffer: 1 << 28 });
+  const [, ...rows] = done.stdout.toString().trimEnd().split("\n"), { parts } = flow.kernel.sums(wide, tall);
+  const totals = flow.totals(), isWhole = parts.every((part, k) => part.reduce((a, b) => a + b, 0) === totals[k]);
+  return isWhole && done.status === 0 && rows.every((row, i) => row.split(/[\s,]+/).slice(-4).every((value, k) => Number(value) === parts[k][i]));
+}
+
 const textOf = (keys) => Object.entries(keys).map(([key, value]) => `${key} = ${value}\n`).join("");
 const spelled = (state) => (state === SOLID ? "##" : state ? state.toString(16).padStart(2, "0") : "..");
 const rowsOf = (cells, width, height) => Array.from({ length: height }, (_, y) =>
   Array.from(cells.subarray(y * width, (y + 1) * width), spelled).join(""));
 
 function drawn(random, gas, width, height) {
-  const cells = new Uint8Array(width * height + SLACK), rate = random.of([0.02, 0.1, 0.2, 0.35, 0.6]);
+  const cells = new Uint8Array(width * height), rate = random.of([0.02, 0.1, 0.2, 0.35, 0.6]);
   const singles = random.of([0, 0.001, 0.03]);
   for (let at = 0; at < width * height; at++) {
     for (let i = 0; i < gas.directions; i++) if (random.chance() < rate) cells[at] |= 1 << i;
@@ -59,14 +66,19 @@ for (let number = 0; number < MAPS; number++) {
   const width = random.of(WIDTHS), height = random.of(HEIGHTS), generations = 100 + random.below(400);
   const first = random.of([0, 1, 2 ** 32 - 100, 10 ** 12]);
   const seed = random.of([0n, 1n, 2n ** 32n, 2n ** 63n - 1n, BigInt(random.below(2 ** 32)) << 20n]);
-  const cells = drawn(random, gas, width, height), kernel = new Kernel(gas, width, height);
+  const cells = drawn(random, gas, width, height);
   const keys = { version: 2, gas: `"${gas.name}"`, chirality: `"${chirality}"`, seed, generation: first };
-  const [, ...theirs] = run(textOf({ ...keys, cells: JSON.stringify(rowsOf(cells, width, height)) }), generations);
-  kernel.load(cells);
-  kernel.advance(generations, first, chirality, seed);
-  kernel.store(cells);
-  const name = `map ${number}: ${gas.name}, ${chirality}, ${width} x ${height}, ${generations} generations`;
-  check(name, rowsOf(cells, width, height).join("\n") === theirs.join("\n"));
+  const [line, ...theirs] = run(textOf({ ...keys, cells: JSON.stringify(rowsOf(cells, width, height)) }), generations);
+  for (const [kernel, make] of Object.entries(kernels)) {
+    const flow = new Flow(make(gas, width, height), { chirality, seed: String(seed), generation: first });
+    flow.cells.fill(cells);
+    flow.begin();
+    for (let left = generations; left > 0; left -= 37) flow.advance(Math.min(37, left));
+    const name = `map ${number}, ${kernel}: ${gas.name}, ${chirality}, ${width} x ${height}, ${generations} generations`;
+    check(name, printed(flow) === `${line}\n${theirs.join("\n")}\n`);
+    const [wide, tall] = [random.of([1, 2, 4, 8, 16, 32]), 1 + random.below(height)];
+    check(`sums of ${name}`, sameSums(flow, wide, tall));
+  }
 }
 
 // the filling of areas
@@ -74,17 +86,17 @@ for (let number = 0; number < AREAS; number++) {
   const random = lots(1000 + number), gas = Object.values(GASES)[number % 3];
   const width = random.of(WIDTHS), height = random.of(HEIGHTS), rate = random.of([0, 1, 200, 500, 999, 1000]);
   const seed = random.of([0n, 7n, 2n ** 63n - 1n]);
-  const cells = new Uint8Array(width * height + SLACK);
+  const cells = new Uint8Array(width * height);
   cells[0] = SOLID;
-  fill(gas, cells, width * height, seed, Array(gas.directions).fill(rate));
+  fillStates(gas, cells, seed, Array(gas.directions).fill(rate));
   const [, ...theirs] = run(textOf({ gas: `"${gas.name}"`, width, height, rate, seed, solid: "[[0, 0, 1, 1]]" }), 0);
   check(`area ${number}: ${gas.name}, ${width} x ${height}`, rowsOf(cells, width, height).join("\n") === theirs.join("\n"));
 }
 
 // the scenes of the repository, as the page reads them
 for (const name of readdirSync(`${root}scenes`).filter((file) => file.endsWith(".toml"))) {
-  const text = readFileSync(`${root}scenes/${name}`, "utf8"), { cells, width, height } = readScene(text, 1 << 20);
-  check(`scenes/${name}`, rowsOf(cells, width, height).join("\n") === run(text, 0).slice(1).join("\n"));
+  const text = readFileSync(`${root}scenes/${name}`, "utf8"), { states, width, height } = readScene(text, 1 << 20);
+  check(`scenes/${name}`, rowsOf(states, width, height).join("\n") === run(text, 0).slice(1).join("\n"));
 }
 
 // RFC 8439: the block of 2.3.2, and the test vectors 1 to 5 of appendix A.1

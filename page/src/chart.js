@@ -1,0 +1,64 @@
+// The chart of the probe.
+import { contextOf, count, line, nice, round, theme, write } from "./draw.js";
+import { strouhal } from "./numbers.js";
+import { LEAST_PERIODS, periodOf } from "./probe.js";
+import { $, amount, head, marks } from "./state.js";
+
+const U = "#2b8cd6", V = "#e0702a", PATIENCE = 500; // milliseconds between two searches for a period
+const found = { at: 0, samples: marks.samples, period: null };
+
+/** The period of the probe's flow across, searched for now and then. @param {number} turnover */
+function periodNow(turnover) {
+  const now = performance.now();
+  if (now - found.at > PATIENCE || found.samples !== marks.samples) {
+    Object.assign(found, { at: now, samples: marks.samples, period: periodOf(marks.samples, turnover) });
+  }
+  return found.period;
+}
+
+/** What the chart says. @param {import("./numbers.js").Numbers} numbers @returns {[text: string, colour?: string][]} */
+export function linesOf(numbers) {
+  const { g, turnover, speed } = numbers;
+  const { radius } = marks.probe ?? { radius: 0 }, { measured: { blockage, incoming } } = head(), length = amount("length");
+  const period = g && turnover ? periodNow(turnover) : null, percent = `${Math.round(100 * blockage)} %`;
+  /** @type {[string, string?][]} */
+  const lines = [["u, east", U], ["v, north", V], [`of a disc of ${round(2 * radius)} cells`]];
+  if (!period || !g) lines.push([`no period yet: ${LEAST_PERIODS} alike are asked for`]);
+  else {
+    const part = period.error / period.period, met = period.incoming ?? incoming;
+    const numberOf = (by) => strouhal(length, period.period, g, by);
+    const shown = (by) => `${numberOf(by).toFixed(3)} ± ${(numberOf(by) * part).toFixed(3)}`;
+    lines.push([`T = ${count(Math.round(period.period))} ± ${round(period.error, 2)} (${period.count} periods)`]);
+    lines.push([`St = ${shown(speed)} of the mean u`]);
+    if (met) lines.push([`St = ${shown(met)} of the incoming ${met.toFixed(3)}`]);
+  }
+  return [...lines, [`the obstacle blocks ${percent} of the channel`]];
+}
+
+/** @param {import("./numbers.js").Numbers} numbers */
+export function paintChart(numbers) {
+  const { samples } = marks, canvas = /** @type {HTMLCanvasElement} */ ($("chart"));
+  canvas.hidden = !marks.probe;
+  if (!marks.probe || !samples.length) return;
+  const { width, height, context: c } = contextOf(canvas, true), words = Math.min(270, width / 2);
+  const box = { left: 58, right: width - words - 14, top: 10, bottom: height - 24 };
+  const values = samples.flatMap(({ u, v }) => [u, v]), least = Math.min(0, ...values), largest = Math.max(0.01, ...values);
+  const step = nice((largest - least) / 2.5), low = Math.floor(least / step), high = Math.ceil(largest / step);
+  const first = samples[0].generation, last = Math.max(first + 1, samples[samples.length - 1].generation);
+  const X = (at) => box.left + ((at - first) / (last - first)) * (box.right - box.left);
+  const Y = (value) => box.bottom - ((value / step - low) / (high - low)) * (box.bottom - box.top);
+  c.clearRect(0, 0, width, height);
+  for (let k = low; k <= high; k++) {
+    line(c, [[box.left, Y(k * step)], [box.right, Y(k * step)]], theme.faint, 1);
+    write(c, round(k * step), box.left - 6, Y(k * step) + 5, { font: "13px", align: "right" });
+  }
+  const ticks = nice(Math.max(1, (last - first) / 3));
+  for (let at = Math.ceil(first / ticks) * ticks; at <= last; at += ticks) {
+    write(c, count(at), X(at), box.bottom + 18, { font: "13px", align: "center" });
+  }
+  line(c, samples.map(({ generation, u }) => [X(generation), Y(u)]), U, 2);
+  line(c, samples.map(({ generation, v }) => [X(generation), Y(v)]), V, 2);
+  linesOf(numbers).forEach(([text, colour], k) => {
+    write(c, text, box.right + 12, box.top + 14 + 21 * k, { font: k < 2 ? "600 14px" : "14px", colour: colour ?? theme.ink });
+  });
+}

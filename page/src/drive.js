@@ -1,0 +1,61 @@
+// The drive: in every generation particles are turned from west to east, at random fluid cells, until the mean velocity is
+// the wind. What it does therefore does not depend on how many generations a frame has.
+
+const MEMORY = 1000; // generations of a mean over time
+
+/** A mean over the last generations, of all if they are few. */
+export class Mean {
+  constructor() {
+    this.value = 0;
+    this.count = 0;
+  }
+
+  /** @param {number} value */
+  add(value) {
+    this.count++;
+    this.value += (value - this.value) / Math.min(this.count, MEMORY);
+  }
+
+  get found() {
+    return this.count ? this.value : null;
+  }
+}
+
+export class Drive {
+  /** @param {number | null} wind cells per generation that the flow keeps, or null if it decays @param {string} seed */
+  constructor(wind, seed) {
+    this.random = Number(BigInt(seed) % 0xfffffffbn) + 1 | 0;
+    this.lot = () => this.draw();
+    this.keep(wind);
+  }
+
+  /** @param {number | null} wind */
+  keep(wind) {
+    this.wind = wind;
+    this.velocity = new Mean(); // of the particles before they are turned
+    this.force = new Mean(); // momentum that was added per fluid cell and generation
+  }
+
+  /** A random number below 1, by xorshift. */
+  draw() {
+    this.random ^= this.random << 13;
+    this.random ^= this.random >>> 17;
+    this.random ^= this.random << 5;
+    return (this.random >>> 0) / 2 ** 32;
+  }
+
+  /** Brings a flow to the wind. Returns whether there were particles to turn. @param {import("./flow.js").Flow} flow */
+  act(flow) {
+    const { cells, turned } = flow, [fluid, particles, px] = flow.totals(), unit = flow.gas.units[0];
+    const wanted = ((this.wind ?? 0) * particles - px * unit) / 2, sign = Math.sign(wanted);
+    const pair = 1 | turned[1], old = sign > 0 ? turned[1] : 1, steps = Math.round(Math.abs(wanted));
+    this.velocity.add((px * unit) / (particles || 1));
+    for (let kick = 0; kick < steps; kick++) {
+      const at = cells.pick(this.lot, pair, old);
+      if (at === undefined) return false;
+      flow.flip(at, pair);
+    }
+    this.force.add((2 * sign * steps) / fluid);
+    return true;
+  }
+}

@@ -1,0 +1,418 @@
+// The page: what it tells the worker, and what it does with its answers. What is done with a gas is done in the worker.
+import { applyState, isForeign, setControl, stateText, writeAddress } from "./address.js";
+import { paintChart } from "./chart.js";
+import { makeControls, showControls } from "./controls.js";
+import { contextOf, count, readTheme, theme, write } from "./draw.js";
+import { record, save, takeScenes } from "./files.js";
+import { GASES } from "./gases.js";
+import { numbersOf } from "./numbers.js";
+import { paintNumbers, said, say, speeds } from "./panel.js";
+import { paintLattice, wallsOf } from "./picture.js";
+import { listenToPointers, setProbe, zoom } from "./pointer.js";
+import { PRESETS } from "./presets.js";
+import { $, GAP, NEAR, amount, chosen, head, look, marks, motion, paneWidth, setText, shown, view } from "./state.js";
+import { paintStrip, stripHeight } from "./strip.js";
+import { BLOCKS, SPANS, tableOf } from "./table.js";
+import { Tracers } from "./tracers.js";
+
+/**
+ * @typedef {import("./messages.js").Commands} Commands
+ * @typedef {import("./messages.js").Answers} Answers
+ * @typedef {<K extends keyof Commands>(name: K, value: Commands[K]) => void} Tell
+ */
+
+const worker = new Worker(URL.createObjectURL(new Blob([$("worker").textContent], { type: "text/javascript" })));
+const live = { notes: [], engine: "", errors: 0, isScheduled: false, noteTimer: 0, addressTimer: 0,
+  pending: { at: null, probe: null } }; // of the address, for the first frame
+const tracers = [new Tracers(), new Tracers()];
+const isStill = matchMedia("(prefers-reduced-motion: reduce)").matches;
+
+/** @type {Tell} */
+const tell = (name, value) => worker.postMessage({ name, value });
+const preset = () => PRESETS[$("scene").value];
+const isSlow = () => $("pace").value.endsWith(" s");
+
+// -- what the worker says
+
+/** @type {{ [K in keyof Answers]: (value: Answers[K]) => void }} */
+const answers = {
+  hello: greeted,
+  frames: arrived,
+  files: ({ files }) => files.forEach(({ text, name }) => save(new Blob([text]), `${name}.toml`)),
+  hashes: ({ hashes }) => {
+    shown.hashes = hashes;
+    paintNumbers();
+  },
+  fault: ({ fault }) => {
+    setRunning(false);
+    note(fault, "bad");
+  },
+};
+worker.onmessage = ({ data }) => answers[/** @type {keyof Answers} */ (data.name)](data.value);
+worker.onerror = ({ message }) => note(`A mistake in this page: ${message}`, "bad");
+
+/** @param {Answers["hello"]} hello */
+function greeted({ engine, most, fault }) {
+  live.engine = engine;
+  const kernel = engine === "proved" ? "The proved engine computes the cells (engine.js)."
+    : "The kernel in this page computes the cells: a copy in JavaScript, free to pass on, compared with fhpgas bit for bit.";
+  say({ engine: `${kernel} At most ${count(most)} cells.` });
+  if (fault) note(`engine.js does not serve: ${fault}. The kernel in this page computes the cells.`, "bad", 9);
+  begin();
+}
+
+/** @param {Answers["frames"]} data */
+function arrived(data) {
+  const { frames } = data, isNew = data.serial !== shown.serial, before = isNew ? null : head();
+  const isMoved = !before || frames[0].generation !== before.generation;
+  const walls = frames.map((frame, k) => (frame.walls ? wallsOf(frame, frame.walls) : shown.walls[k]));
+  Object.assign(shown, { frames, walls, serial: data.serial, canUndo: data.canUndo, took: data.took, hashes: [], unseen: shown.unseen + 1 });
+  if (!isSlow()) shown.isRunning = data.isRunning;
+  marks.pieces.splice(0, data.strokes);
+  if (isNew) beginAnew(data.state);
+  for (const text of frames.flatMap(({ notes }) => notes)) {
+    marks.touched = null;
+    note(text, "", 9);
+  }
+  if (isMoved) Object.assign(motion, { phase: 0, isOn: false });
+  frames.forEach((frame, k) => tracers[k].carry(frame));
+  if (isMoved) sample(frames[0]);
+  tellReturn(before);
+  if (isMoved && shown.isRunning && isSlow()) move();
+  repaint();
+}
+
+/** Keeps what the probe measured; of many samples every second one. @param {import("./messages.js").Frame} frame */
+function sample({ probe, generation, measured: { incoming } }) {
+  if (!marks.probe || String(probe?.at) !== String(marks.probe.at) || !probe) return;
+  marks.samples.push({ generation, u: probe.u, v: probe.v, incoming });
+  if (marks.samples.length > 8000) marks.samples = marks.samples.filter((_, k) => k % 2);
+}
+
+/** @param {import("./messages.js").Frame | null} before */
+function tellReturn(before) {
+  const { found, generation, width, height } = head();
+  if (found === null || !before || before.found !== null) return;
+  const whose = `${count(found)} of ${count(width * height)} cells differ from the cells of then.`;
+  setRunning(false);
+  note(`Back at generation ${count(generation)}: ${whose}`, found ? "bad" : "good");
+}
+
+/** @param {string} state of the controls */
+function beginAnew(state) {
+  if (state !== stateText() && state) {
+    applyState(state);
+    introduce();
+  }
+  Object.assign(marks, { samples: [], pieces: [], probe: null, touched: null });
+  shown.times = [];
+  shown.frames.forEach((frame, k) => tracers[k].spread(frame));
+  setControl("keep", head().wind !== null);
+  setControl("chirality", head().chirality);
+  setControl("gas", head().gas);
+  fit();
+  const { at, probe } = live.pending;
+  live.pending = { at: null, probe: null };
+  if (probe) setProbe(tell, { at: [probe[0], probe[1]], radius: probe[2] });
+  if (at) Object.assign(look, { place: { x: at[0], y: at[1], scale: at[2] }, isWhole: false });
+  if (at) looked();
+}
+
+/** @param {string} text @param {"" | "good" | "bad"} kind @param {number} [lasting] seconds */
+function note(text, kind, lasting) {
+  live.notes.push(text);
+  Object.assign($("note"), { textContent: text, className: kind, hidden: false });
+  clearTimeout(live.noteTimer);
+  if (lasting) live.noteTimer = window.setTimeout(hideNote, 1000 * lasting);
+}
+
+function hideNote() {
+  $("note").hidden = true;
+}
+
+/** A note with a button. @param {string} text @param {string} label @param {() => void} act */
+function offer(text, label, act) {
+  note(text, "bad", 20);
+  const button = Object.assign(document.createElement("button"), { textContent: label, id: "offer" });
+  button.onclick = () => {
+    hideNote();
+    act();
+  };
+  $("note").append(button);
+}
+
+// -- painting
+
+function repaint() {
+  if (live.isScheduled || !shown.frames.length) return;
+  live.isScheduled = true;
+  requestAnimationFrame(paint);
+}
+
+/** @param {number} now */
+function paint(now) {
+  live.isScheduled = false;
+  const begun = performance.now(), { width, height, context: c } = contextOf(view(), false), { frames } = shown;
+  const place = /** @type {import("./state.js").Corner} */ (look.place), wide = paneWidth(width), frame = head();
+  const part = motion.isOn ? Math.min(1, (now - motion.begun) / motion.span) : motion.phase / 2;
+  const moment = { isCollided: part > 0.25, glide: Math.max(0, 2 * part - 1) };
+  const bottom = Math.min(height - stripHeight(width), Math.max(60, ((frame.height - 0.5) * frame.apart - place.y) * place.scale + 3));
+  c.fillStyle = theme.paper;
+  c.fillRect(0, 0, width, height);
+  frames.forEach((one, k) => {
+    c.save();
+    c.beginPath();
+    c.rect(k * (wide + GAP), 0, wide, bottom);
+    c.clip();
+    c.translate(k * (wide + GAP) - place.x * place.scale, -place.y * place.scale);
+    paintLattice({ c, frame: one, scale: place.scale }, shown.walls[k], $("tracers").checked ? tracers[k] : null, moment);
+    c.restore();
+    const caption = frames.length > 1 ? preset().captions[k] ?? "" : "";
+    write(c, caption, k * (wide + GAP) + Math.max(0, -place.x * place.scale) + 10, Math.max(0, (-one.apart / 2 - place.y) * place.scale) + 28, { font: wide < 300 ? "600 14px" : "600 19px" });
+  });
+  paintStrip(c, { width, top: bottom, stage: moment.glide ? "streaming" : moment.isCollided ? "after the collision" : "before the collision" });
+  if (shown.unseen) painted(begun);
+  if (motion.isOn && part < 1) repaint();
+  else if (motion.isOn) {
+    Object.assign(motion, { isOn: false, phase: 2 });
+    tell("step", {});
+  }
+}
+
+/** A frame is on the screen: the worker may send the next. @param {number} begun */
+function painted(begun) {
+  tell("seen", { frames: shown.unseen });
+  shown.unseen = 0;
+  shown.times.push([begun, head().generation]);
+  if (shown.times.length > 50) shown.times.shift();
+  paintNumbers();
+  paintChart(numbersOf(head(), amount("length")));
+  update();
+  shown.painted++;
+  shown.took.paint = performance.now() - begun;
+}
+
+// -- where one looks
+
+/** Shows cells of so many pixels, with a place in the middle of the picture. */
+function lookAt(scale, x, y) {
+  const { clientWidth, clientHeight } = view();
+  look.place = { scale, x: x - paneWidth(clientWidth) / scale / 2, y: y - (clientHeight - stripHeight(clientWidth)) / scale / 2 };
+  look.isWhole = false;
+  looked();
+}
+
+/** Shows single cells, slowly. */
+function near() {
+  lookAt(36, head().width * 0.27, (head().height * head().apart) / 2);
+  if (isSlow()) return;
+  setControl("pace", "1 s");
+  go(shown.isRunning);
+}
+
+function fit() {
+  const { clientWidth, clientHeight } = view(), { width, height, apart } = head();
+  const scale = Math.min((paneWidth(clientWidth) - 4) / (width + 0.5), (clientHeight - stripHeight(clientWidth) - 8) / (height * apart), 150);
+  lookAt(scale, (width - 0.5) / 2, ((height - 1) * apart) / 2);
+  // the picture begins at the top
+  if (look.place) look.place.y = Math.max(look.place.y, -apart / 2 - 4 / scale);
+  look.isWhole = true;
+  repaint();
+}
+
+/** @param {number} factor */
+function closer(factor) {
+  zoom(factor, view().clientWidth / 2, view().clientHeight / 3);
+  looked();
+}
+
+/** Asks for what is to be seen: the field, and the cells in the picture if they are large enough. */
+function looked() {
+  const [block, smooth] = BLOCKS[amount("smooth")], { place } = look;
+  /** @type {import("./messages.js").View} */
+  const wanted = { field: chosen.field, block, smooth, span: SPANS[amount("span")], window: null };
+  if (place && shown.frames.length && place.scale >= NEAR) {
+    const { clientWidth, clientHeight } = view(), { x, y, scale } = place, { apart } = head();
+    const [left, top] = [x, y / apart].map((part) => Math.floor(part) - 1);
+    wanted.window = [left, top, Math.ceil(paneWidth(clientWidth) / scale) + 3, Math.ceil(clientHeight / apart / scale) + 3];
+  }
+  const text = JSON.stringify(wanted);
+  if (text !== look.sent) tell("view", { view: wanted });
+  look.sent = text;
+  update();
+  repaint();
+}
+
+// -- what the controls do
+
+/** The flows of the controls. @returns {import("./starts.js").Start[]} */
+function startsOf() {
+  const { gases, shapes } = preset(), [width, height] = $("size").value.split(" x ").map(Number);
+  return shapes.map((shape, k) => ({ width, height, shape, gas: gases.length > 1 ? gases[k] : $("gas").value,
+    chirality: $("chirality").value, keep: $("keep").checked, seed: String(Math.round(amount("seed"))), filling: amount("fill"),
+    wind: amount("wind"), radius: amount("radius") }));
+}
+
+/** Says what to look at, and what the length of Re is. */
+function introduce() {
+  setText($("sentence"), preset().look);
+  say({ length: preset().length || "the channel's height" });
+}
+
+/** @param {boolean} [hasLength] */
+function start(hasLength = false) {
+  const { shapes, length, flips } = preset(), flows = startsOf(), [{ width, height, gas }] = flows;
+  introduce();
+  if (!hasLength) setControl("length", Math.round(length ? 2 * amount("radius") : height * GASES[gas].apart));
+  hideNote();
+  marks.probe = null;
+  look.isWhole = true;
+  looked();
+  tell("start", { flows, state: stateText() });
+  if (flips) tell("flip", { at: [width / 2, (height * GASES[gas].apart) / 2], radius: 1 });
+  go(!isStill && !["pair", "triple"].includes(shapes[0]));
+  if (shown.frames.length) note("A new start. Undo (⌫) brings the old gas back.", "", 4);
+  if (isStill) note("Your system asks for less motion: Run starts the gas.", "", 12);
+}
+
+/** The worker runs on alone, or at a slow pace the page asks for every generation. @param {boolean} on */
+function go(on) {
+  tell("run", { on: on && !isSlow(), pace: isSlow() ? 1 : amount("pace") });
+  setRunning(on);
+}
+
+/** @param {boolean} on */
+function setRunning(on) {
+  shown.isRunning = on;
+  if (on && isSlow() && shown.frames.length) move();
+  else Object.assign(motion, { isOn: false, phase: 0 });
+  update();
+  repaint();
+}
+
+/** A generation in pictures: before the collision, after it, streaming. Then the next one is asked for. */
+function move(span = 1000 * parseFloat($("pace").value)) {
+  Object.assign(motion, { isOn: true, span, begun: performance.now() - (span * motion.phase) / 2 });
+  repaint();
+}
+
+function step() {
+  if (shown.isRunning) go(false);
+  if (motion.isOn || motion.phase > 1) return;
+  if (head().cells) return move(900);
+  motion.phase = 2;
+  tell("step", {});
+}
+
+function halfStep() {
+  if (shown.isRunning) go(false);
+  if (!head().cells) return near();
+  if (motion.phase < 2 && !motion.isOn && motion.phase) return move(1400);
+  if (!motion.phase) motion.phase = 1;
+  repaint();
+}
+
+/** Goes back, if all gases can. @param {"turn" | "back"} command */
+function back(command) {
+  if (shown.frames.some(({ canTurn }) => !canTurn)) {
+    const why = "Pairs turn at random here, and their random bits only run forwards.";
+    return offer(`${why} If they turn left from these cells on, the gas can come back to here.`, "Go on with left", () => {
+      setControl("chirality", "left");
+      acts.chirality();
+    });
+  }
+  hideNote();
+  const { isCut, origin, direction } = head();
+  if (isCut && direction > 0) note(`The way back goes to generation ${count(origin)}: older turnings took more than 64 MB.`, "", 9);
+  tell(command, {});
+  go(command === "turn");
+}
+
+const keptWind = () => ($("keep").checked ? amount("wind") : null);
+const acts = {
+  preset: () => {
+    applyState(`scene=${$("scene").value}`);
+    start();
+  },
+  start: () => start(),
+  gas: () => tell("gas", { gas: $("gas").value, flows: startsOf(), state: stateText() }),
+  chirality: () => tell("chirality", { chirality: $("chirality").value }),
+  keep: () => tell("keep", { wind: keptWind() }),
+  wind: () => $("keep").checked && tell("keep", { wind: keptWind() }),
+  undo: () => tell("undo", {}),
+  clear: () => tell("clear", {}),
+  field: (field) => {
+    chosen.field = field;
+    looked();
+  },
+  tool: (tool) => {
+    chosen.tool = tool;
+    view().style.cursor = tool === "move" ? "grab" : "crosshair";
+    document.body.classList.remove("opened");
+  },
+  look: looked,
+  fit,
+  near,
+  closer: () => closer(1.5),
+  farther: () => closer(1 / 1.5),
+  bare: () => document.body.classList.toggle("bare") && note("The key q shows the controls again.", "", 4),
+  drawer: () => document.body.classList.toggle("opened"),
+  save: () => tell("save", {}),
+  film: () => record(update),
+  picture: () => view().toBlob((blob) => blob && save(blob, `${head().gas}-${head().generation}.png`)),
+  link: () => {
+    writeAddress();
+    navigator.clipboard?.writeText(location.href).then(() => note("The link to this start is copied.", "good", 4), () => 0);
+  },
+  numbers: () => {
+    $("all").hidden = !$("all").hidden;
+    paintNumbers();
+  },
+  back: () => back("back"),
+  play: () => go(!shown.isRunning),
+  step,
+  half: halfStep,
+  pace: () => go(shown.isRunning),
+  turn: () => back("turn"),
+};
+
+const controls = makeControls(tableOf(acts), update);
+
+/** Shows what the controls say, and soon writes the address. */
+function update() {
+  showControls(controls);
+  live.addressTimer ||= window.setTimeout(() => {
+    live.addressTimer = 0;
+    if (shown.frames.length) writeAddress();
+  }, 400);
+}
+
+/** Begins with what the address says, or with the first preset. */
+function begin() {
+  const { hasLength, at, probe } = applyState(location.hash.slice(1));
+  live.pending = { at, probe };
+  start(hasLength);
+}
+
+function open(text) {
+  hideNote();
+  setText($("sentence"), "A scene that was opened. Run starts it.");
+  say({ length: "the channel's height" });
+  go(false);
+  tell("open", { text, state: stateText() });
+}
+
+takeScenes(open);
+listenToPointers({ tell, looked, repaint, hideNote });
+new ResizeObserver(() => shown.frames.length && look.place && (look.isWhole ? fit() : looked())).observe(view());
+const schemes = matchMedia("(prefers-color-scheme: dark)");
+schemes.onchange = () => {
+  readTheme();
+  repaint();
+};
+readTheme();
+window.onhashchange = () => isForeign() && begin();
+document.onvisibilitychange = repaint; // a hidden tab paints nothing, so the worker rests
+if (matchMedia("(pointer: coarse)").matches) chosen.tool = "draw";
+tell("begin", { engine: /** @type {any} */ (globalThis).FHPGAS_ENGINE ?? "" });
+Object.assign(globalThis, { fhpgas: { $, chosen, head, live, look, marks, motion, said, shown, speeds, tell, worker } }); // for tests
