@@ -1,14 +1,21 @@
 """What the experiments share: the way to the package, a command line, lines of output, and axes for a figure."""
+import argparse
 import contextlib
+import importlib.util
 import pathlib
 import sys
+import warnings
 
 sys.path.insert(0, str(pathlib.Path(__file__).resolve().parents[1] / "python"))
+for name in ("numpy", "scipy"):
+    if not importlib.util.find_spec(name):
+        sys.exit(f"{sys.argv[0]} needs {name}, and this Python has none (Debian: python3-{name})")
 
 import fhpgas
-from fhpgas import fault
+from fhpgas import fault, theory
 
 number, whole = fault.number, fault.whole  # types of options
+warnings.simplefilter("ignore", theory.Correlated)  # what is measured is printed beside
 
 
 class Options(fault.Parser):
@@ -17,8 +24,12 @@ class Options(fault.Parser):
     def __init__(self, text, *gases, figure, seeds=None):
         super().__init__(description=text, allow_abbrev=False)
         self.is_small = "--small" in sys.argv[1:]
-        self.add_argument("--small", action="store_true", help="other defaults: a run of some seconds")
-        self.add_argument("--picture", type=writable, metavar="FILE", help=f"draw {figure}: .png, .pdf, .svg")
+        self.add_argument(
+            "--small", action="store_true", help="other defaults: a run of some seconds"
+        )
+        self.add_argument(
+            "--picture", type=writable, metavar="FILE", help=f"draw {figure}: .png, .pdf, .svg"
+        )
         if gases:
             self.add_argument("--gas", choices=gases, default=gases[0], help=f"default {gases[0]}")
         if seeds:
@@ -29,10 +40,16 @@ class Options(fault.Parser):
         shown = " ".join(map(str, value)) if isinstance(value, list) else value
         self.add_argument(name, type=kind, default=value, help=f"{text}; default {shown}", **more)
 
+    def chirality(self):
+        sides = "seeded", "left", "right"
+        self.option("--chirality", str, *sides[:1] * 2, "seeded, left or right", choices=sides)
+
 
 def writable(path):
+    if pathlib.Path(path).suffix not in (".png", ".pdf", ".svg"):
+        raise argparse.ArgumentTypeError(f"{path} is written as .png, .pdf, .svg")
     if not pathlib.Path(path).absolute().parent.is_dir():
-        raise fault.Usage(f"{path}: there is no such folder")
+        raise argparse.ArgumentTypeError(f"{path}: there is no such folder")
     return path
 
 
@@ -45,9 +62,14 @@ def experiment(main):
 
 def compare(name, values, theory, digits=3):
     """Prints the mean of some values and its standard error, and what theory says. Returns the mean and the error."""
-    mean, error = fhpgas.mean(values)
-    shown = (round(float(value), digits) + 0.0 for value in (mean, error, theory))  # without a sign of 0
-    print("{:34} measured {:8.{d}f} +- {:.{d}f}  theory {:8.{d}f}".format(name, *shown, d=digits), flush=True)
+    mean, error = fhpgas.mean_and_error(values)
+    shown = (
+        round(float(value), digits) + 0.0 for value in (mean, error, theory)
+    )  # without a sign of 0
+    print(
+        "{:34} measured {:8.{d}f} +- {:.{d}f}  theory {:8.{d}f}".format(name, *shown, d=digits),
+        flush=True,
+    )
     return mean, error
 
 

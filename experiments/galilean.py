@@ -22,15 +22,33 @@ def places(asked, momenta):
 
 
 def measured(asked, filling, seed):
-    rows, edge = asked.height, asked.wave  # within a wave's length walls act on the pressure: exp(-k y) = 1/200 at its end
-    lattice = fhpgas.gas(filling, asked.wind, np.resize(asked.across, asked.width), size=(asked.width, rows), gas=asked.gas, seed=seed)
-    return places(asked, [later.blocks(BLOCK, 1).py[edge : rows - edge].sum(0) for later in lattice.every(STEP, PARTS)])
+    rows, edge = (
+        asked.height,
+        asked.wave,
+    )  # within a wave's length walls act on the pressure: exp(-k y) = 1/200 at its end
+    lattice = fhpgas.draw_gas(
+        filling,
+        asked.wind,
+        np.resize(asked.across, asked.width),
+        size=fhpgas.Size(asked.width, rows),
+        gas=asked.gas,
+        seed=seed,
+    )
+    return places(
+        asked,
+        [
+            later.blocks(BLOCK, 1).py[edge : rows - edge].sum(0)
+            for later in lattice.every(STEP, PARTS)
+        ],
+    )
 
 
 def predicted(asked, filling):
     flow = boltzmann.Flow(asked.gas, np.zeros((2, asked.wave)), has_walls=False)
     states = flow.every(flow.at(filling, asked.wind, asked.across), STEP, PARTS)
-    return places(asked, [flow.momentum(chances)[1].sum(0).reshape(-1, BLOCK).sum(1) for chances in states])
+    return places(
+        asked, [flow.momentum(chances)[1].sum(0).reshape(-1, BLOCK).sum(1) for chances in states]
+    )
 
 
 def draw(path, asked, waves):
@@ -39,32 +57,69 @@ def draw(path, asked, waves):
         for n, (filling, found, error, factors) in enumerate(waves):
             left.errorbar(TIMES, found, error, fmt=f"C{n}o", ms=3, label=f"d = {filling}")
             left.plot(TIMES, np.polyval(np.polyfit(TIMES, found, 1), TIMES), f"C{n}", lw=1)
-            right.errorbar(filling, *fhpgas.mean(factors), fmt=f"C{n}o", ms=3)
+            right.errorbar(filling, *fhpgas.mean_and_error(factors), fmt=f"C{n}o", ms=3)
         left.plot(TIMES, asked.wind * TIMES, "k:", lw=1, label="a fluid")
-        left.set(xlabel="generations", ylabel="way of the wave, cells' widths", title=f"{asked.gas}, wind {asked.wind}, wave {asked.wave}")
-        right.plot(d, theory.galilean_factor(asked.gas, d), "0.6", lw=1, label="published, slow wind")
-        right.plot(d, theory.galilean_factor(asked.gas, d, asked.wind), "k", lw=1, label="Fermi and Dirac, this wind")
+        left.set(
+            xlabel="generations",
+            ylabel="way of the wave, cells' widths",
+            title=f"{asked.gas}, wind {asked.wind}, wave {asked.wave}",
+        )
+        right.plot(
+            d, theory.galilean_factor(asked.gas, d), "0.6", lw=1, label="published, slow wind"
+        )
+        right.plot(
+            d,
+            theory.galilean_factor(asked.gas, d, asked.wind),
+            "k",
+            lw=1,
+            label="Fermi and Dirac, this wind",
+        )
         right.set(xlabel="filling d", ylabel="Galilean factor g")
         left.legend(fontsize=8), right.legend(fontsize=8)
 
 
 @common.experiment
 def main():
-    reader = common.Options(__doc__, "fhp1", "fhp-rest", figure="the way of the waves, and g over the filling", seeds=(8, 4))
-    reader.option("--filling", common.number(0.05, 0.6), [0.1, 0.2, 0.3, 0.4, 0.5], [0.2, 0.5], "fillings", nargs="+", metavar="D")
-    reader.option("--wind", common.number(0.02, 0.3), 0.2, 0.2, "the speed of the wind", metavar="U")
-    reader.option("--wave", common.whole(64, 4096), 128, 128, f"the length of the wave, a multiple of {BLOCK}")
+    reader = common.Options(
+        __doc__,
+        "fhp1",
+        "fhp-rest",
+        figure="the way of the waves, and g over the filling",
+        seeds=(8, 4),
+    )
+    reader.option(
+        "--filling",
+        common.number(0.05, 0.6),
+        [0.1, 0.2, 0.3, 0.4, 0.5],
+        [0.2, 0.5],
+        "fillings",
+        nargs="+",
+        metavar="D",
+    )
+    reader.option(
+        "--wind", common.number(0.02, 0.3), 0.2, 0.2, "the speed of the wind", metavar="U"
+    )
+    reader.option(
+        "--wave", common.whole(64, 4096), 128, 128, f"the length of the wave, a multiple of {BLOCK}"
+    )
     reader.option("--width", common.whole(64, 65536), 512, 512, "columns, a multiple of the wave")
     reader.option("--height", common.whole(256, 4096), 768, 512, "rows, more than two waves")
     asked, waves = reader.parse_args(), []
     if asked.wave % BLOCK or asked.width % asked.wave or asked.height <= 2 * asked.wave:
-        raise fhpgas.Fault(f"the wave, {asked.wave}, is a multiple of {BLOCK} and a part of the width, and less than half of the height")
+        raise fhpgas.Fault(
+            f"the wave, {asked.wave}, is a multiple of {BLOCK} and a part of the width, and less than half of the height"
+        )
     asked.across = ACROSS * np.sin(2 * np.pi * np.arange(asked.wave) / asked.wave)
     for filling in asked.filling:
-        runs = fhpgas.side_by_side(lambda seed: measured(asked, filling, seed), range(1, asked.seeds + 1))
-        *found, expected = (np.polyfit(TIMES, each, 1)[0] / asked.wind for each in (*runs, predicted(asked, filling)))
+        runs = fhpgas.side_by_side(
+            lambda seed: measured(asked, filling, seed), range(1, asked.seeds + 1)
+        )
+        *found, expected = (
+            np.polyfit(TIMES, each, 1)[0] / asked.wind
+            for each in (*runs, predicted(asked, filling))
+        )
         common.compare(f"{asked.gas} d {filling}: g", found, expected, 4)
         print(f"{'':34} published {theory.galilean_factor(asked.gas, filling):19.4f}")
-        waves.append((filling, *fhpgas.mean(runs), found))
+        waves.append((filling, *fhpgas.mean_and_error(runs), found))
     if asked.picture:
         draw(asked.picture, asked, waves)

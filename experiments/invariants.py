@@ -12,8 +12,8 @@ ROWS, MIDDLE = 17, 8
 
 
 def past_a_disc(gas, size, step):
-    solid = fhpgas.disc((size, size), size // 3, size // 2, size // 8, gas)
-    lattice, found = fhpgas.gas(0.3, 0.2, solid=solid, gas=gas, seed=1), []
+    solid = fhpgas.disc(fhpgas.Size(size, size), size // 3, size // 2, size // 8, gas)
+    lattice, found = fhpgas.draw_gas(0.3, 0.2, solid=solid, gas=gas, seed=1), []
     print(f"{gas} past a disc\ngeneration  eastwards  northwards  staggered")
     for later in lattice.every(step, 4):
         found.append((later.generation, *later.momentum, *fhpgas.staggered(later)))
@@ -23,22 +23,50 @@ def past_a_disc(gas, size, step):
 
 def stream(gas, size, step):
     east = np.where(np.arange(ROWS)[:, None] == MIDDLE, 0.3, 0)
-    lattice, found = fhpgas.gas(0.2, east, size=(16 * size, ROWS), gas=gas, seed=1), []
-    print(f"{gas}, a stream in one row: momentum eastwards of the rows {MIDDLE - 3} to {MIDDLE + 3}\ngeneration")
+    lattice, found = (
+        fhpgas.draw_gas(0.2, east, size=fhpgas.Size(16 * size, ROWS), gas=gas, seed=1),
+        [],
+    )
+    print(
+        f"{gas}, a stream in one row: momentum eastwards of the rows {MIDDLE - 3} to {MIDDLE + 3}\ngeneration"
+    )
     for later in lattice.every(step, 4):
         found.append(later.gas.units[0] * later.blocks(16 * size, 1).px[:, 0])
-        print(f"{later.generation:10}" + "".join(f"{momentum:9.1f}" for momentum in found[-1][MIDDLE - 3 : MIDDLE + 4]))
+        print(
+            f"{later.generation:10}"
+            + "".join(f"{momentum:9.1f}" for momentum in found[-1][MIDDLE - 3 : MIDDLE + 4])
+        )
     return found
 
 
 def draw(path, momenta, streams, step):
     with common.axes(path, 1, 3, (4, 3.4)) as panels:
-        panels[0].plot(momenta[:, 0], momenta[:, 1:], "o-", ms=3, lw=1, label=("eastwards", "northwards", "staggered", "same", "same"))
-        panels[0].set(xlabel="generations", ylabel="momentum", yscale="symlog", title="fhp1 past a disc"), panels[0].legend(fontsize=8)
+        panels[0].plot(
+            momenta[:, 0],
+            momenta[:, 1:],
+            "o-",
+            ms=3,
+            lw=1,
+            label=("eastwards", "northwards", "staggered", "same", "same"),
+        )
+        panels[0].set(
+            xlabel="generations", ylabel="momentum", yscale="symlog", title="fhp1 past a disc"
+        ), panels[0].legend(fontsize=8)
         for ax, (gas, found) in zip(panels[1:], streams.items()):
             for n, row in enumerate(found):
-                ax.plot(row, np.arange(ROWS)[::-1], f"C{n}o-", ms=3, lw=1, label=f"{n * step} generations")
-            ax.set(xlabel="momentum eastwards of a row", ylabel="row, from below", title=f"{gas}, a stream in one row")
+                ax.plot(
+                    row,
+                    np.arange(ROWS)[::-1],
+                    f"C{n}o-",
+                    ms=3,
+                    lw=1,
+                    label=f"{n * step} generations",
+                )
+            ax.set(
+                xlabel="momentum eastwards of a row",
+                ylabel="row, from below",
+                title=f"{gas}, a stream in one row",
+            )
             ax.legend(fontsize=8)
 
 
@@ -49,7 +77,9 @@ def main():
     reader.option("--generations", common.whole(4, 100_000), 1000, 100, "in all")
     asked = reader.parse_args()
     if asked.size % 2:
-        raise fhpgas.Fault(f"the size is {asked.size}: with an odd width the slanted lines close upon lines of the other sign")
+        raise fhpgas.Fault(
+            f"the size is {asked.size}: with an odd width the slanted lines close upon lines of the other sign"
+        )
     step = asked.generations // 4
     momenta, _ = (past_a_disc(gas, asked.size, step) for gas in ("fhp1", "fhp-rest"))
     streams = {gas: stream(gas, asked.size, step) for gas in ("hpp", "fhp1")}

@@ -15,9 +15,13 @@ EVERY = 9  # odd: particles in a pocket of one cell turn in every generation, an
 
 
 def measured(asked, solid, force, seed):
-    lattice = fhpgas.gas(asked.filling, solid=solid, gas=asked.gas, seed=seed)
-    points = [*lattice.driven(EVERY * (asked.settled + asked.samples), EVERY, force=force, seed=seed)]
-    return np.mean([point.velocity for point in points[asked.settled + 1 :]]) * np.mean(~solid), points[-1].before.blocks(4, 4)
+    lattice = fhpgas.draw_gas(asked.filling, solid=solid, gas=asked.gas, seed=seed)
+    points = [
+        *lattice.driven(EVERY * (asked.settled + asked.samples), EVERY, force=force, seed=seed)
+    ]
+    return np.mean([point.velocity for point in points[asked.settled + 1 :]]) * np.mean(
+        ~solid
+    ), points[-1].before.blocks(4, 4)
 
 
 def predicted(asked, solid, force):
@@ -29,34 +33,80 @@ def predicted(asked, solid, force):
 
 def draw(path, asked, fluxes, slope, blocks):
     with common.axes(path, 1, 2, (4.6, 3.6)) as (left, right):
-        left.plot((0, max(asked.force)), (0, slope * max(asked.force)), "C1", lw=1, label="Darcy, Boltzmann's permeability")
+        left.plot(
+            (0, max(asked.force)),
+            (0, slope * max(asked.force)),
+            "C1",
+            lw=1,
+            label="Darcy, Boltzmann's permeability",
+        )
         left.errorbar(asked.force, *zip(*fluxes), fmt="C0o", ms=3, label="measured")
-        left.set(xlabel="force per fluid cell", ylabel="flux", title=f"{asked.gas}, d = {asked.filling}, {asked.seeds} seeds")
+        left.set(
+            xlabel="force per fluid cell",
+            ylabel="flux",
+            title=f"{asked.gas}, d = {asked.filling}, {asked.seeds} seeds",
+        )
         left.ticklabel_format(axis="x", scilimits=(0, 0)), left.legend(fontsize=8)
         blocks.plot("speed", right)
 
 
 @common.experiment
 def main():
-    reader = common.Options(__doc__, "fhp1", "fhp-rest", figure="the flux over the force, and the flow through the medium", seeds=(8, 4))
-    reader.option("--filling", common.number(0.1, 0.6), 0.3, 0.3, "the filling d", metavar="D")
+    reader = common.Options(
+        __doc__,
+        "fhp-rest",
+        "fhp1",
+        figure="the flux over the force, and the flow through the medium",
+        seeds=(8, 4),
+    )
+    reader.option("--filling", common.number(0.1, 0.6), 0.2, 0.2, "the filling d", metavar="D")
     reader.option("--width", common.whole(16, 4096), 128, 80, "columns")
     reader.option("--height", common.whole(16, 4096), 96, 32, "rows")
     reader.option("--share", common.number(0, 0.7), 0.2, 0.2, "of solid cells, at least")
     reader.option("--radius", common.whole(1, 64), 6, 4, "of the discs")
-    reader.option("--force", common.number(1e-5, 0.02), [0.001, 0.002, 0.004], [0.003], "on each fluid cell", nargs="+", metavar="F")
-    reader.option("--settled", common.whole(10, 10_000), 30, 15, f"turnings before the first sample, {EVERY} generations apart")
-    reader.option("--samples", common.whole(2, 100_000), 200, 85, "how many, at the turnings after these")
+    reader.option(
+        "--force",
+        common.number(1e-5, 0.02),
+        [0.0005, 0.001, 0.002],
+        [0.002],
+        "on each fluid cell",
+        nargs="+",
+        metavar="F",
+    )
+    reader.option(
+        "--settled",
+        common.whole(10, 10_000),
+        30,
+        15,
+        f"turnings before the first sample, {EVERY} generations apart",
+    )
+    reader.option(
+        "--samples", common.whole(2, 100_000), 200, 85, "how many, at the turnings after these"
+    )
     asked, fluxes = reader.parse_args(), []
-    solid = fhpgas.porous((asked.width, asked.height), asked.share, asked.radius, 1, asked.gas)
+    solid = fhpgas.porous(
+        fhpgas.Size(asked.width, asked.height), asked.share, asked.radius, 1, asked.gas
+    )
     pores, _ = label(~solid)
-    solid |= pores != np.bincount(pores[~solid]).argmax()  # in closed pores the force would act against nothing
+    solid |= (
+        pores != np.bincount(pores[~solid]).argmax()
+    )  # in closed pores the force would act against nothing
     print(f"porosity {np.mean(~solid):.3f}")
-    unit = theory.viscosity(asked.gas, asked.filling) * fhpgas.gas_named(asked.gas).directions * asked.filling
+    unit = (
+        theory.viscosity(asked.gas, asked.filling)
+        * fhpgas.gas_named(asked.gas).directions
+        * asked.filling
+    )
     theories = fhpgas.side_by_side(lambda force: predicted(asked, solid, force), asked.force)
     for force, expected in zip(asked.force, theories):
-        found, blocks = zip(*fhpgas.side_by_side(lambda seed: measured(asked, solid, force, seed), range(1, asked.seeds + 1)))
-        common.compare(f"force {force}: permeability", unit / force * np.array(found), unit / force * expected)
-        fluxes.append(fhpgas.mean(found))
+        found, blocks = zip(
+            *fhpgas.side_by_side(
+                lambda seed: measured(asked, solid, force, seed), range(1, asked.seeds + 1)
+            )
+        )
+        common.compare(
+            f"force {force}: permeability", unit / force * np.array(found), unit / force * expected
+        )
+        fluxes.append(fhpgas.mean_and_error(found))
     if asked.picture:
         draw(asked.picture, asked, fluxes, theories[0] / asked.force[0], sum(blocks[1:], blocks[0]))

@@ -17,16 +17,32 @@ class Wave:
     """A shear wave of a filling in a channel of so many rows. `times` are k^2 x generations."""
 
     def __init__(self, asked, filling, rows):
-        self.flow, self.seeds = dict(gas=asked.gas, chirality=asked.chirality), range(1, asked.seeds + 1)
-        self.filling, self.rows, self.sine = filling, rows, np.sin(np.pi * (np.arange(rows)[:, None] + 0.5) / rows)
-        self.east, self.published = asked.speed * self.sine, theory.viscosity(filling=filling, **self.flow)
+        self.flow, self.seeds = dict(gas=asked.gas, chirality=asked.chirality), range(
+            1, asked.seeds + 1
+        )
+        self.filling, self.rows, self.sine = (
+            filling,
+            rows,
+            np.sin(np.pi * (np.arange(rows)[:, None] + 0.5) / rows),
+        )
+        self.east, self.published = asked.speed * self.sine, theory.viscosity(
+            filling=filling, **self.flow
+        )
         k = np.pi / rows / fhpgas.gas_named(asked.gas).row_distance
         self.step = max(1, round(1 / self.published / k**2 / PARTS))
         self.times = k**2 * self.step * np.arange(PARTS + 1)
 
     def measured(self, seed):
-        lattice = fhpgas.gas(self.filling, self.east, size=(CELLS // self.rows, self.rows), seed=seed, **self.flow)
-        momenta = [later.blocks(CELLS // self.rows, 1).px for later in lattice.every(self.step, PARTS)]
+        lattice = fhpgas.draw_gas(
+            self.filling,
+            self.east,
+            size=fhpgas.Size(CELLS // self.rows, self.rows),
+            seed=seed,
+            **self.flow,
+        )
+        momenta = [
+            later.blocks(CELLS // self.rows, 1).px for later in lattice.every(self.step, PARTS)
+        ]
         return self.logarithms(momenta, f"seed {seed}")
 
     def predicted(self):
@@ -37,7 +53,9 @@ class Wave:
     def logarithms(self, momenta, name):
         sizes = (self.sine * momenta).sum((1, 2))
         if sizes.min() <= 0:
-            raise fhpgas.Fault(f"{name}: at filling {self.filling} the wave is lost in noise; a wider channel or fewer rows may show it")
+            raise fhpgas.Fault(
+                f"{name}: at filling {self.filling} the wave is lost in noise; a wider channel or fewer rows may show it"
+            )
         return np.log(sizes / sizes[0])
 
     def viscosity(self, logarithms):
@@ -47,28 +65,57 @@ class Wave:
 def draw(path, waves, title):
     with common.axes(path, 2, 1, (6, 2.9), sharex=True) as (above, below):
         for n, (wave, runs) in enumerate(waves):
-            mean, error = fhpgas.mean(runs)
+            mean, error = fhpgas.mean_and_error(runs)
             line = np.polyval(np.polyfit(wave.times, mean, 1), wave.times)
             name = f"d = {wave.filling}, {wave.rows} rows: viscosity {wave.viscosity(mean):.3f}"
-            above.errorbar(wave.times, np.exp(mean), np.exp(mean) * error, fmt=f"C{n}o", ms=3, label=name)
+            above.errorbar(
+                wave.times, np.exp(mean), np.exp(mean) * error, fmt=f"C{n}o", ms=3, label=name
+            )
             above.semilogy(wave.times, np.exp(line), f"C{n}", lw=1)
             below.errorbar(wave.times, mean - line, error, fmt=f"C{n}o-", ms=3, lw=0.7)
-        above.set(ylabel="amplitude / amplitude at 0", title=f"shear waves, {title}"), above.legend(fontsize=8)
+        above.set(ylabel="amplitude / amplitude at 0", title=f"shear waves, {title}"), above.legend(
+            fontsize=8
+        )
         below.set(xlabel="k² × generations", ylabel="logarithm − line")
 
 
 @common.experiment
 def main():
-    reader = common.Options(__doc__, "fhp1", "fhp-rest", figure="the decays on a logarithmic axis with their fits", seeds=(16, 4))
-    reader.option("--chirality", str, "seeded", "seeded", "seeded, left or right", choices=("seeded", "left", "right"))
-    reader.option("--filling", common.number(0.05, 0.6), [0.1, 0.2, 0.3, 0.4, 0.5], [0.2], "fillings", nargs="+", metavar="D")
-    reader.option("--height", common.whole(8, 512), [64], [32], "rows, one or more", nargs="+", metavar="ROWS")
-    reader.option("--speed", common.number(0.005, 0.3), 0.15, 0.15, "u, the speed in the middle", metavar="U")
+    reader = common.Options(
+        __doc__,
+        "fhp1",
+        "fhp-rest",
+        figure="the decays on a logarithmic axis with their fits",
+        seeds=(16, 4),
+    )
+    reader.chirality()
+    reader.option(
+        "--filling",
+        common.number(0.05, 0.6),
+        [0.1, 0.2, 0.3, 0.4, 0.5],
+        [0.2],
+        "fillings",
+        nargs="+",
+        metavar="D",
+    )
+    reader.option(
+        "--height", common.whole(8, 512), [64], [32], "rows, one or more", nargs="+", metavar="ROWS"
+    )
+    reader.option(
+        "--speed", common.number(0.005, 0.3), 0.15, 0.15, "u, the speed in the middle", metavar="U"
+    )
     asked, waves = reader.parse_args(), []
     print(f"{asked.gas} {asked.chirality}\n   d  rows   measured        channel  published")
     for wave in (Wave(asked, filling, rows) for filling in asked.filling for rows in asked.height):
         waves.append((wave, fhpgas.side_by_side(wave.measured, wave.seeds)))
-        numbers = *fhpgas.mean([wave.viscosity(run) for run in waves[-1][1]]), wave.viscosity(wave.predicted()), wave.published
-        print("{:4} {:5} {:8.4f} +- {:.4f} {:8.4f} {:8.4f}".format(wave.filling, wave.rows, *numbers), flush=True)
+        numbers = (
+            *fhpgas.mean_and_error([wave.viscosity(run) for run in waves[-1][1]]),
+            wave.viscosity(wave.predicted()),
+            wave.published,
+        )
+        print(
+            "{:4} {:5} {:8.4f} +- {:.4f} {:8.4f} {:8.4f}".format(wave.filling, wave.rows, *numbers),
+            flush=True,
+        )
     if asked.picture:
         draw(asked.picture, waves, f"{asked.gas} {asked.chirality}, {asked.seeds} seeds")
