@@ -14,32 +14,15 @@ needs_libc() {
     ldd "$folder/fhpgas" > "$room/needed" && ! grep -vE '^\s*(linux-vdso\.so\.1|(/lib64/)?ld-linux-x86-64\.so\.2|lib(c|m)\.so\.6) ' "$room/needed"
 }
 
-# draws: the package makes a PNG of what the program prints
-draws() {
-    alone ./fhpgas coarse --generations 12 --block-width 8 --block-height 4 < "$folder/scenes/wind.toml" > "$room/table" &&
-        alone python3 -m fhpgas picture speed "$room/wind.png" "$room/table" --scene scenes/wind.toml --block 8 4 > "$room/told" &&
-        [ "$(head -c 4 "$room/wind.png")" = $'\x89PNG' ]
+# runs_inside: the package runs a lattice by its own engine, and makes the cells that the program makes
+runs_inside() {
+    alone python3 -c 'import fhpgas
+start = fhpgas.draw_gas(0.2, size=fhpgas.Size(100, 40))
+assert fhpgas.engine.serves(start, 9) and start.run(9) == start.run(9, stages=1)'
 }
 
-# links_lead: every link of the unpacked documents leads to a place in the unpacked folder
-links_lead() {
-    PYTHONPATH=tests "$python" - "$folder" << 'END'
-import pathlib, sys
-import links
-links.ROOT = pathlib.Path(sys.argv[1]).resolve()
-all_links = [(document, link) for document in links.documents() for link, _ in links.links(document.read_text())]
-wrong = [(str(document), link) for document, link in all_links if not links.ELSEWHERE.match(link) and links.fault(document, link)]
-print(*wrong, sep="\n")
-sys.exit(len(wrong) > 0 or not all_links)
-END
-}
-
-# installs: pip makes commands from the wheel, without the network
-installs() {
-    (cd "$folder" && "$python" -m pip install -q --no-deps --no-index --target "$room/site" fhpgas-*.whl) > "$room/told" 2>&1 &&
-        env -i PATH="$path" PYTHONPATH="$room/site" "$room/site/bin/fhpgas-tools" --version > "$room/version" &&
-        grep -qx "fhpgas-tools $(sed -n 's/^version = "\(.*\)"/\1/p' python/pyproject.toml)" "$room/version" && [ -e "$room/site/fhpgas/py.typed" ]
-}
+# is_old_enough: the engine needs no newer C library than the wheel says
+is_old_enough() { [ "$({ grep -ahoP 'GLIBC_\K2[.0-9]+' "$folder"/python/fhpgas/*.so; echo 2.17; } | sort -V | tail -n 1)" = 2.17 ]; }
 
 python=$(tests/needs.py | sed -n 1p)
 mkdir "$room/other place"
@@ -58,13 +41,18 @@ try 'so it does for the scene that comes with it' prints "$room/wanted" "$folder
 try 'a scene of no text is refused' refuses
 try 'it needs the C library alone' needs_libc
 
-try 'the links of its documents lead to what is in it' links_lead
-
+try 'the links of its documents lead to what is in it' "$folder/tests/links.py"
 path=${python%/*}
-try 'the Python package says what it can do' alone python3 -m fhpgas --help > "$room/help"
-try 'and draws what the program computed' draws
-if "$python" -c 'import setuptools, pip, wheel' 2> /dev/null; then try 'pip installs its command' installs; fi
+try 'the Python package finds the program' alone python3 -m fhpgas over-time scenes/wind.toml 2 1 > "$room/told"
+try 'it has an engine of its own' runs_inside
+wheel=$(cd "$folder" && echo fhpgas-*.whl)
+try 'the wheel says its platform' [ "${wheel#*-py3-none-}" = manylinux_2_17_x86_64.whl ]
+try 'and is right' is_old_enough
+if command -v wasm-opt > /dev/null; then try 'the page has the engine' [ -s "$folder/page/engine.js" ]; else leave_out "the page's engine"; fi
+try 'C has the header and an example' [ -s "$folder/include/fhpgas.h" -a -s "$folder/examples/profile.c" ]
+FHPGAS=$folder/fhpgas part tests/wheel.py "$folder"/fhpgas-*.whl
 
+if "$python" -c 'import sphinx, numpydoc' 2> /dev/null; then try 'it has the reference of the package' grep -q fhpgas.lattice.draw_gas "$folder/docs/reference/index.html"; fi
 try 'README names the level' grep -qE 'built for x86-64-v[23]$' "$folder/README"
 try 'README says that there is no proof in hand' grep -q 'holds no proof' "$folder/README"
 for file in LICENSE-MIT LICENSE-APACHE; do try "$file" cmp "$file" "$folder/$file"; done

@@ -8,6 +8,7 @@ import itertools
 import os
 import pathlib
 import re
+import shutil
 import subprocess
 import sys
 import tempfile
@@ -21,10 +22,23 @@ MOST_CELLS = 400_000  # that the second reader takes
 
 # What `check` reads next to a scene that is refused, and the lines that refuse it.
 SYNTAX, UNKNOWN_KEY, BOTH_FORMS, MISSING, WRONG_TYPE, RANGE = (
-    f"scene: {reason}" for reason in ("not TOML", "unknown key", "both forms", "missing key", "wrong type", "out of range")
+    f"scene: {reason}"
+    for reason in (
+        "not TOML",
+        "unknown key",
+        "both forms",
+        "missing key",
+        "wrong type",
+        "out of range",
+    )
 )
 STAGES, CAPACITY, GENERATIONS = (
-    f"plan: {limit}" for limit in ("stages must be 1 to 64", "capacity must be 1 to 1024", "generations must be 0 to 1000000")
+    f"plan: {limit}"
+    for limit in (
+        "stages must be 1 to 64",
+        "capacity must be 1 to 1024",
+        "generations must be 0 to 1000000",
+    )
 )
 PASSES = "replay: the plan needs more than one pass"
 
@@ -37,35 +51,81 @@ WIDE = 'gas = "fhp1"\nwidth = 4096\nheight = 512\n'
 
 # What the program is refused as usage, with status 2.
 USAGE = [
-    "", "run", "dance --generations 1", "run --generations", "run --generations -1", "run --generations 1 --generations 1",
-    "run --generations 1 --capacity many", "check --generations 1", "coarse --generations 1 --block-width 2", "replay 0 1",
+    "",
+    "run",
+    "dance --generations 1",
+    "run --generations",
+    "run --generations -1",
+    "run --generations 1 --generations 1",
+    "run --generations 1 --capacity many",
+    "check --generations 1",
+    "coarse --generations 1 --block-width 2",
+    "replay 0 1",
     "replay --generations 18446744073709551616",
-    "replay --generations 1 0 feeder", "replay --generations 1 -- -1", "run extra --generations 1", "run -- --generations 1",
+    "replay --generations 1 0 feeder",
+    "replay --generations 1 -- -1",
+    "run extra --generations 1",
+    "run -- --generations 1",
 ]
-OPTIONS = {"--generations": "1", "--stages": "1", "--capacity": "1", "--block-width": "1", "--block-height": "1"}
+OPTIONS = {
+    "--generations": "1",
+    "--stages": "1",
+    "--capacity": "1",
+    "--block-width": "1",
+    "--block-height": "1",
+}
 NO_NUMBERS = ["", " 1", "-1", "1e3", "0x10", "1.0", "one", "99999999999999999999"]
 
 # The limits of the options: None if a value is taken, a line if it is refused, and USAGE if it is not such a number.
 LIMITS = {
     "stages": {0: STAGES, 1: None, 64: None, 65: STAGES, 2**32 - 1: STAGES, 2**32: USAGE},
-    "capacity": {0: CAPACITY, 1: None, 1024: None, 1025: CAPACITY, 2**32 - 1: CAPACITY, 2**32: USAGE},
-    "generations": {0: None, 1_000_000: None, 1_000_001: GENERATIONS, 2**64 - 1: GENERATIONS, 2**64: USAGE},
+    "capacity": {
+        0: CAPACITY,
+        1: None,
+        1024: None,
+        1025: CAPACITY,
+        2**32 - 1: CAPACITY,
+        2**32: USAGE,
+    },
+    "generations": {
+        0: None,
+        1_000_000: None,
+        1_000_001: GENERATIONS,
+        2**64 - 1: GENERATIONS,
+        2**64: USAGE,
+    },
     "block-width": {0: USAGE, 1: None, 4096: None, 4097: USAGE},
     "block-height": {0: USAGE, 1: None, 4096: None, 4097: USAGE},
 }
 
 # Words that the program reads with the scene DRIFT: the status and what it prints.
 WORDS = [
-    *((f"run {words}", 0, DRIFTED, "") for words in ("--generations 1", "--generations=1", "--generations 0001", "--generations +1",
-                                                     "--capacity 1 --stages=64 --generations 1")),
+    *(
+        (f"run {words}", 0, DRIFTED, "")
+        for words in (
+            "--generations 1",
+            "--generations=1",
+            "--generations 0001",
+            "--generations +1",
+            "--capacity 1 --stages=64 --generations 1",
+        )
+    ),
     # the scene's faults come before the plan's, and the plan's before the number of passes
     ("replay --generations 2 --stages 1", 1, "", PASSES + "\n"),
     ("replay --generations 2 --stages 1 --capacity 0", 1, "", CAPACITY + "\n"),
     ("replay --generations 1000001", 1, "", GENERATIONS + "\n"),
     # a turn is a number of 32 bits, and a turn of a missing member changes nothing
-    ("replay --generations 0 4294967295", 0, "done\n" + DRIFTED.replace("generation 1", "generation 0").replace("01......", "......01"), ""),
+    (
+        "replay --generations 0 4294967295",
+        0,
+        "done\n" + DRIFTED.replace("generation 1", "generation 0").replace("01......", "......01"),
+        "",
+    ),
     ("replay --generations 0 4294967296", 2, "", SOMETHING),
-    *((f"{command} --help", 0, SOMETHING, "") for command in ("", "run", "check", "coarse", "replay")),
+    *(
+        (f"{command} --help", 0, SOMETHING, "")
+        for command in ("", "run", "check", "coarse", "replay")
+    ),
     ("coars --generations 1", 2, "", re.compile(r"(?s).*'coarse'.*")),
     ("run --generation 1", 2, "", re.compile(r"(?s).*--generations.*")),
 ]
@@ -79,9 +139,18 @@ STREAMS = [
     ("./fhpgas run --generations 1 < drift >&-", 4, "", "write: failed after 0 bytes\n"),
     ("./fhpgas run --generations 1 --stages 0 < drift 2>&-", 1, "", ""),
     ("./fhpgas run --generations 1 < drift 2>&-", 0, DRIFTED, ""),
-    ("./fhpgas run --generations 0 < wide | head -c 10 > /dev/null; exit ${PIPESTATUS[0]}", 4, "", FAILED),
-    ("(trap '' XFSZ; ulimit -f 1; ./fhpgas run --generations 0 < wide > cut); status=$?; wc -c < cut; exit $status", 4, "1024\n",
-     "write: failed after 1024 bytes\n"),
+    (
+        "./fhpgas run --generations 0 < wide | head -c 10 > /dev/null; exit ${PIPESTATUS[0]}",
+        4,
+        "",
+        FAILED,
+    ),
+    (
+        "(trap '' XFSZ; ulimit -f 1; ./fhpgas run --generations 0 < wide > cut); status=$?; wc -c < cut; exit $status",
+        4,
+        "1024\n",
+        "write: failed after 1024 bytes\n",
+    ),
     ("./fhpgas run --generations 1 <&-", 1, "", "input: read failed\n"),
     ("./fhpgas run --generations 1 < .", 1, "", "input: read failed\n"),
     ("./fhpgas run --generations x < .", 2, "", SOMETHING),
@@ -100,12 +169,31 @@ def bad_cell(row, column):
 
 # What refuses texts, None if they are scenes: texts as they are, which may have several faults, of which the first in the order counts;
 TEXTS = {
-    SYNTAX: ["gas = ", b"\xff", 'gas = "fhp1"\nchirality = "left"\ncells = ["01"', 'gas = "fhp1"\ngas.a = 1\ncells = ["01"]', "colour = 1\ngas = "],
+    SYNTAX: [
+        "gas = ",
+        b"\xff",
+        'gas = "fhp1"\nchirality = "left"\ncells = ["01"',
+        'gas = "fhp1"\ngas.a = 1\ncells = ["01"]',
+        "colour = 1\ngas = ",
+    ],
     UNKNOWN_KEY: [MAP + "colour = 1", 'colour = 1\ncells = ["01"]\nwidth = 4'],
     BOTH_FORMS: ['cells = ["01"]\nwidth = 4'],
-    MISSING: ["", "[gas]\n", 'gas = "fhp1"', 'gas = "fhp1"\nchirality = "left"', 'gas = "fhp1"\nwidth = 4', 'gas = "fhp1"\nheight = 4', "cells = 1"],
-    WRONG_TYPE: [MAP + "seed = true", 'gas = "fhp1"\ncells = ["01", 1]', 'gas = 1\ncells = ["01"]', 'gas.a = 1\ncells = ["01"]',
-                 'gas = "fhp2"\ncells = [1]'],
+    MISSING: [
+        "",
+        "[gas]\n",
+        'gas = "fhp1"',
+        'gas = "fhp1"\nchirality = "left"',
+        'gas = "fhp1"\nwidth = 4',
+        'gas = "fhp1"\nheight = 4',
+        "cells = 1",
+    ],
+    WRONG_TYPE: [
+        MAP + "seed = true",
+        'gas = "fhp1"\ncells = ["01", 1]',
+        'gas = 1\ncells = ["01"]',
+        'gas.a = 1\ncells = ["01"]',
+        'gas = "fhp2"\ncells = [1]',
+    ],
     RANGE: [MAP + 'chirality = "both"', 'gas = "fhp2"\ncells = ["010"]'],
     row_length(1): ['gas = "fhp1"\ncells = ["0101", "0g"]'],
     row_length(2): ['gas = "fhp1"\ncells = ["0g01", "0101", "01"]'],
@@ -116,19 +204,60 @@ TEXTS = {
 # the keys of an area;
 AREAS = {
     None: ["solid = [[3, 0, 1, 2]]", STEPS + "rate = 1000", STEPS + "particles = [[0, 1, 63]]"],
-    RANGE: [STEPS + "particles = [[1, 0, 1]]", STEPS + "particles = [[0, 1, 64]]", "solid = [[3, 0, 2, 1]]", "solid = [[0, 1, 1, 2]]",
-            "solid = [[0, 0, 0, 1]]", "solid = [[0, -1, 1, 1]]", "solid = [[0, 0, 9223372036854775807, 1]]",
-            "solid = [[9223372036854775807, 0, 9223372036854775807, 1]]", "particles = [[4, 0, 1]]", "particles = [[-1, 0, 1]]",
-            "particles = [[0, 2, 1]]", "particles = [[0, 0, -1]]", "seed = -1", "rate = -1", "rate = 1001"],
-    WRONG_TYPE: ["rate = 1.0", "[[solid]]", "solid = [[0, 0, 1]]", "solid = [[0, 0, 1, 1, 1]]", "particles = [[0, 0, 1, 1]]", "particles = [[0, 0]]"],
+    RANGE: [
+        STEPS + "particles = [[1, 0, 1]]",
+        STEPS + "particles = [[0, 1, 64]]",
+        "solid = [[3, 0, 2, 1]]",
+        "solid = [[0, 1, 1, 2]]",
+        "solid = [[0, 0, 0, 1]]",
+        "solid = [[0, -1, 1, 1]]",
+        "solid = [[0, 0, 9223372036854775807, 1]]",
+        "solid = [[9223372036854775807, 0, 9223372036854775807, 1]]",
+        "particles = [[4, 0, 1]]",
+        "particles = [[-1, 0, 1]]",
+        "particles = [[0, 2, 1]]",
+        "particles = [[0, 0, -1]]",
+        "seed = -1",
+        "rate = -1",
+        "rate = 1001",
+    ],
+    WRONG_TYPE: [
+        "rate = 1.0",
+        "[[solid]]",
+        "solid = [[0, 0, 1]]",
+        "solid = [[0, 0, 1, 1, 1]]",
+        "particles = [[0, 0, 1, 1]]",
+        "particles = [[0, 0]]",
+    ],
     UNKNOWN_KEY: ["[x]"],
 }
 # what is next to a map or an area: the version decides whether there may be a generation, and an unknown version counts as 1;
 VERSIONS = {
-    None: ["version = 1", "version = 2", "generation = 3\nversion = 2", "generation = 1000000000000\nversion = 2"],
-    RANGE: ["version = 0", "version = 3", "version = -2", "generation = -1\nversion = 2", "generation = 1000000000001\nversion = 2"],
-    WRONG_TYPE: ['version = "1"', 'version = "2"', "version = 2.0", 'generation = "1"\nversion = 2'],
-    UNKNOWN_KEY: ["generation = 3", "generation = 3\nversion = 1", "generation = 3\nversion = 3", 'generation = 3\nversion = "2"'],
+    None: [
+        "version = 1",
+        "version = 2",
+        "generation = 3\nversion = 2",
+        "generation = 1000000000000\nversion = 2",
+    ],
+    RANGE: [
+        "version = 0",
+        "version = 3",
+        "version = -2",
+        "generation = -1\nversion = 2",
+        "generation = 1000000000001\nversion = 2",
+    ],
+    WRONG_TYPE: [
+        'version = "1"',
+        'version = "2"',
+        "version = 2.0",
+        'generation = "1"\nversion = 2',
+    ],
+    UNKNOWN_KEY: [
+        "generation = 3",
+        "generation = 3\nversion = 1",
+        "generation = 3\nversion = 3",
+        'generation = 3\nversion = "2"',
+    ],
 }
 # the width and the height of an area, and the cells of a row and the rows of a map, by the most that a version allows;
 SIDES = {
@@ -144,7 +273,16 @@ MOST_SIDE = {"": 4096, "version = 1\n": 4096, "version = 2\n": 65536}
 # and the cells of a row: two characters are a cell only if both are marks of one kind, or digits of a state that the gas has.
 CELLS = {
     None: ["hpp ##", "hpp ..", "hpp 0f", "fhp1 3f", "fhp-rest 7f"],
-    bad_cell(0, 0): ["hpp #.", "hpp .#", "hpp 10", "fhp1 40", "fhp1 0A", "fhp1 0g", "fhp1 é", "fhp-rest 80"],
+    bad_cell(0, 0): [
+        "hpp #.",
+        "hpp .#",
+        "hpp 10",
+        "fhp1 40",
+        "fhp1 0A",
+        "fhp1 0g",
+        "fhp1 é",
+        "fhp-rest 80",
+    ],
     bad_cell(0, 1): ["hpp ..#0", "hpp ##.0"],
     row_length(0): ["fhp1 é.", "fhp1 "],
 }
@@ -172,9 +310,15 @@ def scenes():
         yield from (('gas = "{}"\ncells = ["{}"]'.format(*row.split(" ")), wanted) for row in rows)
     for version, most in MOST_SIDE.items():
         for wanted, sides in SIDES.items():
-            yield from ((f'{version}gas = "fhp1"\nwidth = {width}\nheight = {height}', wanted) for width, height in sides(most))
+            yield from (
+                (f'{version}gas = "fhp1"\nwidth = {width}\nheight = {height}', wanted)
+                for width, height in sides(most)
+            )
         for wanted, sides in MAPS.items():
-            yield from ((f'{version}gas = "fhp1"\ncells = [' + f'"{".." * cells}",' * rows + "]", wanted) for cells, rows in sides(most))
+            yield from (
+                (f'{version}gas = "fhp1"\ncells = [' + f'"{".." * cells}",' * rows + "]", wanted)
+                for cells, rows in sides(most)
+            )
 
 
 def rectangles():
@@ -195,8 +339,14 @@ def usage():
         yield ["coarse", *itertools.chain(*({**OPTIONS, option: value}).items())]
     whole = ["coarse", *itertools.chain(*OPTIONS.items())]
     for option in OPTIONS:
-        others = [word for name, value in OPTIONS.items() if name != option for word in (name, value)]
-        yield from ([*whole, option, "1"], ["coarse", *others, option], ["coarse", *others, f"{option}="])
+        others = [
+            word for name, value in OPTIONS.items() if name != option for word in (name, value)
+        ]
+        yield from (
+            [*whole, option, "1"],
+            ["coarse", *others, option],
+            ["coarse", *others, f"{option}="],
+        )
 
 
 def drifted(generation):
@@ -209,22 +359,38 @@ def drifted(generation):
 def blocks(width, height):
     """The table of DRIFT after one generation, when its particle is at (0, 1)."""
     yield "  col   row    fluid particles         px         py\n"
-    for (row, top), (column, left) in itertools.product(enumerate(range(0, 3, height)), enumerate(range(0, 4, width))):
-        fluid, held = min(width, 4 - left) * min(height, 3 - top), left == 0 and top <= 1 < top + height
+    for (row, top), (column, left) in itertools.product(
+        enumerate(range(0, 3, height)), enumerate(range(0, 4, width))
+    ):
+        fluid, held = (
+            min(width, 4 - left) * min(height, 3 - top),
+            left == 0 and top <= 1 < top + height,
+        )
         yield f"{column:5} {row:5} {fluid:8} {held:9} {2 * held:10} {0:10}\n"
 
 
 def of_limits():
     for option, limits in LIMITS.items():
         for number, refusal in limits.items():
-            values = {"generations": 1, **({"block-width": 2, "block-height": 2} if option.startswith("block") else {}), option: number}
-            words = ["coarse" if len(values) > 2 else "run", *(f"--{name}={value}" for name, value in values.items())]
+            values = {
+                "generations": 1,
+                **({"block-width": 2, "block-height": 2} if option.startswith("block") else {}),
+                option: number,
+            }
+            words = [
+                "coarse" if len(values) > 2 else "run",
+                *(f"--{name}={value}" for name, value in values.items()),
+            ]
             if refusal is USAGE:
                 yield words, DRIFT, 2, "", SOMETHING
             elif refusal:
                 yield words, DRIFT, 1, "", refusal + "\n"
             else:
-                told = "".join(blocks(values["block-width"], values["block-height"])) if len(values) > 2 else drifted(values["generations"])
+                told = (
+                    "".join(blocks(values["block-width"], values["block-height"]))
+                    if len(values) > 2
+                    else drifted(values["generations"])
+                )
                 yield words, DRIFT, 0, told, ""
 
 
@@ -235,7 +401,9 @@ def many_turns():
         turns = "0 1 0 1 1 0 1 " + "0 0 1 1 " * (rows - 3) + "0 1 0 1 0"
         words = ["replay", "--generations", "1", "--stages", "1", "--capacity", "1", *turns.split()]
         belts = f"belt 0 put {rows} taken {rows}\nbelt 1 put {rows} taken "
-        yield words, scene, 0, f"done\n{belts}{rows}\ngeneration 1 particles 1\n" + "..\n" * (rows - 1) + "01\n", ""
+        yield words, scene, 0, f"done\n{belts}{rows}\ngeneration 1 particles 1\n" + "..\n" * (
+            rows - 1
+        ) + "01\n", ""
         yield words[:-1], scene, 0, f"not done\n{belts}{rows - 1}\n", ""
 
 
@@ -244,7 +412,9 @@ def examples():
     for wanted in sorted((needs.ROOT / "tests/examples").glob("*.wanted")):
         own = wanted.with_suffix(".toml")
         scene = own if own.exists() else needs.ROOT / "scenes" / own.name
-        yield wanted.with_suffix(".words").read_text().split(), scene.read_text(), 0, wanted.read_text(), ""
+        yield wanted.with_suffix(
+            ".words"
+        ).read_text().split(), scene.read_text(), 0, wanted.read_text(), ""
 
 
 def stored():
@@ -252,16 +422,27 @@ def stored():
     for path in sorted((needs.ROOT / "scenes").glob("*.toml")):
         scene = path.read_text()
         first = int((re.findall(r"^generation = (\d+)$", scene, re.M) or ["0"])[0])
-        yield ["run", "--generations", "3"], scene, 0, re.compile(rf"(?s)generation {first + 3} particles .+"), ""
+        yield ["run", "--generations", "3"], scene, 0, re.compile(
+            rf"(?s)generation {first + 3} particles .+"
+        ), ""
 
 
 def version():
-    """The version is cited and has the newest entry of the changes, and the kit is what README names and what proves it here."""
-    needs.command("rt", "see README.md")
+    """The version is cited and has the newest entry of the changes, and the kit is what README names and what proves it, if it is here."""
     cited = re.search(r"^version: (.*)$", (needs.ROOT / "CITATION.cff").read_text(), re.M).group(1)
-    kit = re.sub(r"^(rattle-kit-\d+)[a-z]* ", r"\1 ", subprocess.run(["rt", "version"], capture_output=True, text=True).stdout.strip())
-    told = re.search(rf"^## {re.escape(cited)}\b", (needs.ROOT / "CHANGELOG.md").read_text(), re.M) and kit in (needs.ROOT / "README.md").read_text()
-    yield ["--version"], "", 0, f"fhpgas {cited} ({kit})\n" if told else "what CHANGELOG and README tell", ""
+    kit = re.search(r"`(rattle-kit-[^`]*)`", (needs.ROOT / "README.md").read_text()).group(1)
+    here = (
+        subprocess.run(["rt", "version"], capture_output=True, text=True).stdout.strip()
+        if shutil.which("rt")
+        else kit
+    )
+    told = (
+        re.search(rf"^## {re.escape(cited)}\b", (needs.ROOT / "CHANGELOG.md").read_text(), re.M)
+        and re.sub(r"^(rattle-kit-\d+)[a-z]* ", r"\1 ", here) == kit
+    )
+    yield [
+        "--version"
+    ], "", 0, f"fhpgas {cited} ({kit})\n" if told else "what CHANGELOG and README tell", ""
 
 
 def programs():
@@ -270,7 +451,13 @@ def programs():
     yield from ((words.split(), DRIFT, *wanted) for words, *wanted in WORDS)
     yield ["run", "--generations", "1", "--stages", "0"], "", 1, "", MISSING + "\n"
     for text, wanted in scenes():
-        yield (["check"], text, 1, "", wanted + "\n") if wanted else (["check"], text, 0, re.compile("gas .*\n"), "")
+        yield (["check"], text, 1, "", wanted + "\n") if wanted else (
+            ["check"],
+            text,
+            0,
+            re.compile("gas .*\n"),
+            "",
+        )
     for text, line, cells in rectangles():
         yield ["check"], text, 0, line, ""
         yield ["run", "--generations", "0"], text, 0, cells, ""
@@ -279,7 +466,13 @@ def programs():
 
 
 def answer(words, text, room):
-    ran = subprocess.run(words, input=text if isinstance(text, bytes) else text.encode(), capture_output=True, timeout=120, cwd=room)
+    ran = subprocess.run(
+        words,
+        input=text if isinstance(text, bytes) else text.encode(),
+        capture_output=True,
+        timeout=120,
+        cwd=room,
+    )
     return ran.returncode, ran.stdout.decode(errors="replace"), ran.stderr.decode(errors="replace")
 
 
@@ -297,7 +490,9 @@ def fault(case, room):
 
 
 def main():
-    with tempfile.TemporaryDirectory() as folder, concurrent.futures.ThreadPoolExecutor(os.cpu_count()) as pool:
+    with tempfile.TemporaryDirectory() as folder, concurrent.futures.ThreadPoolExecutor(
+        os.cpu_count()
+    ) as pool:
         room = pathlib.Path(folder)
         (room / "fhpgas").symlink_to(PROGRAM)
         (room / "drift").write_text(DRIFT)

@@ -23,7 +23,9 @@ BLOCK = re.compile(r"^```(\w*)\n(.*?)^```$", re.M | re.S)
 def fault(commands, wanted, room):
     """What is wrong if a block does not end with 0, or prints other text than `wanted` (None: any), or something on standard error."""
     try:
-        ran = subprocess.run(["bash", "-ec", commands], cwd=room, capture_output=True, text=True, timeout=600)
+        ran = subprocess.run(
+            ["bash", "-ec", commands], cwd=room, capture_output=True, text=True, timeout=600
+        )
     except subprocess.TimeoutExpired as late:
         return str(late)
     if ran.returncode == 0 and not ran.stderr and wanted in (None, ran.stdout):
@@ -35,7 +37,10 @@ def tried(document):
     """Per block of a document its commands, and what is wrong with it."""
     blocks = BLOCK.findall(document.read_text())
     with tempfile.TemporaryDirectory() as room:
-        for name, path in {"fhpgas": PROGRAM, **{name: needs.ROOT / name for name in ("scenes", "python", "experiments")}}.items():
+        for name, path in {
+            "fhpgas": PROGRAM,
+            **{name: needs.ROOT / name for name in ("scenes", "python", "experiments")},
+        }.items():
             (pathlib.Path(room) / name).symlink_to(path)
         for (kind, commands), (after, text) in zip(blocks, blocks[1:] + [("", "")]):
             if kind == "sh":
@@ -45,7 +50,9 @@ def tried(document):
 def main():
     passed = failed = 0
     with concurrent.futures.ThreadPoolExecutor(os.cpu_count()) as pool:
-        for document, blocks in zip(DOCUMENTS, pool.map(lambda document: list(tried(document)), DOCUMENTS)):
+        for document, blocks in zip(
+            DOCUMENTS, pool.map(lambda document: list(tried(document)), DOCUMENTS)
+        ):
             for commands, wrong in blocks:
                 passed, failed = passed + (not wrong), failed + bool(wrong)
                 if wrong:

@@ -4,7 +4,7 @@
 # with the counts.
 . "$(dirname "$0")/try.sh"
 
-tar -c --exclude=out crates crates.txt CONTRIBUTING.md docs tests | tar -xC "$room"
+tar -c --exclude=out crates crates.txt CONTRIBUTING.md README.md docs tests | tar -xC "$room"
 cd "$room" || exit 1
 rm crates/gas_geom/must-fail/* # the gate has tried them
 mapfile -t quoted < <(sed -n '/^ *\/\/\/ /,/^ *}/s/^ *//p' CONTRIBUTING.md)
@@ -26,7 +26,7 @@ refuses() { grep -q "must-fail gas_geom/$1.edit: refused, as it must be: .*(\`$2
 # wants: whether the page of definitions lacks the new one, and takes it
 wants() {
     ! tests/definitions.py > told && tests/definitions.py --write && tests/definitions.py > told &&
-        grep -q "^- \`cells\`: " docs/DEFINITIONS.md
+        grep -q "^abbrev pub cells : " docs/DEFINITIONS.md
 }
 
 try 'the page quotes the contract' quotes

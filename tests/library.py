@@ -35,18 +35,33 @@ def quoted(calls):
 def comparisons():
     """What must be, and whether it is."""
     program, calls = re.findall(r"^```rust\n(.*?)^```$", PAGE, re.M | re.S)
-    yield "the program is that of the example", (EXAMPLE / "src/main.rt").read_text().endswith(f"\n{program}")
+    yield "the program is that of the example", (EXAMPLE / "src/main.rt").read_text().endswith(
+        f"\n{program}"
+    )
     invariant = re.search(r"^ *(invariant-.*)$", PAGE, re.M)[1]
-    yield "so is the invariant", invariant in (EXAMPLE / "proofs/in_column/Invariants.antt").read_text().splitlines()
+    yield "so is the invariant", invariant in (
+        EXAMPLE / "proofs/in_column/Invariants.antt"
+    ).read_text().splitlines()
     for crate, signature, *clauses in quoted(calls):
         alike = [function for function in functions(crate) if function.startswith(f"{signature} ")]
-        yield f"{crate} has the call {signature}", any(all(clause in function for clause in clauses) for function in alike)
+        yield f"{crate} has the call {signature}", any(
+            all(clause in function for clause in clauses) for function in alike
+        )
     scene = (EXAMPLE / "stdin").read_text()
-    yield "the example reads scenes/wind.toml", scene == (needs.ROOT / "scenes/wind.toml").read_text()
-    table = subprocess.run([PROGRAM, *COLUMNS.split()], input=scene, capture_output=True, text=True, check=True).stdout
+    yield "the example reads scenes/wind.toml", scene == (
+        needs.ROOT / "scenes/wind.toml"
+    ).read_text()
+    table = subprocess.run(
+        [PROGRAM, *COLUMNS.split()], input=scene, capture_output=True, text=True, check=True
+    ).stdout
     particles = [int(line.split()[3]) for line in table.splitlines()[1:]]
-    wanted = [f"generation 12: {sum(particles)} particles", *(f"column {x}: {n}" for x, n in enumerate(particles))]
-    yield "it prints the particles of the columns", (EXAMPLE / "stdout").read_text().splitlines() == wanted
+    wanted = [
+        f"generation 12: {sum(particles)} particles",
+        *(f"column {x}: {n}" for x, n in enumerate(particles)),
+    ]
+    yield "it prints the particles of the columns", (
+        EXAMPLE / "stdout"
+    ).read_text().splitlines() == wanted
 
 
 compared = list(comparisons())

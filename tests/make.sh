@@ -1,45 +1,60 @@
 #!/bin/bash
-# Tries ./fhpgas and the Makefile on three small crates, with stubs for the kit: its prover only notes which crate it was called for, and
-# "proves" a crate unless it contains a file `refused`, whose text it prints. A library states the first line of its source. At last the
-# kit itself refuses a wrong body. Ends with the counts.
+# Tries ./fhpgas and the Makefile on four small crates, with stubs for the kit and for wasm-opt: the prover only notes which crate it was called
+# for, and "proves" a crate unless it contains a file `refused`, whose text it prints. A library states the first line of its source. At last
+# the kit itself refuses a wrong body. Ends with the counts.
 . "$(dirname "$0")/try.sh"
 
 top=$room/top kit=$room/kit
-mkdir -p "$kit/bin" "$kit/rlibs" "$top"/crates/{low,high,fhpgas}/src
+mkdir -p "$kit"/{bin,rlibs,toolchain/bin} "$top"/crates/{low,high,inside,fhpgas}/src "$top"/{python/fhpgas,page}
 cp -r Makefile fhpgas tools "$top"
 cat > "$top/tools/archive.sh" << 'END'
 #!/bin/sh
 cp "$2" "$1"
 END
-printf '# the crates\nlow: core\nhigh: low clap\n\nfhpgas: high\n' > "$top/crates.txt"
-tee "$top"/crates/{low,high}/src/lib.rt > "$top/crates/fhpgas/src/main.rt" <<< $'stated\nproved'
+printf '# the crates\nlow: core\nhigh: low clap\ninside staticlib: high\n\nfhpgas: high\n' > "$top/crates.txt"
+tee "$top"/crates/{low,high,inside}/src/lib.rt > "$top/crates/fhpgas/src/main.rt" <<< $'stated\nproved'
 echo 1 | tee "$kit/KIT-ID" > "$kit/WHAT"
 cat > "$kit/bin/rt" << END
 #!/bin/sh
-[ -e "$room/no_kit" ] || echo "$kit/START-HERE.md"
+[ ! -e "$room/no_kit" ] || { cat "$room/no_kit" >&2; exit 127; }
+echo "$kit/START-HERE.md"
 END
 cat > "$kit/bin/rattle" << END
 #!/bin/bash
-echo "\${PWD##*/}" >> "$room/proved"
+[ -e out/new/proved ] || echo "\${PWD##*/}" >> "$room/proved"
+[[ \$* != *--incremental* ]] || mkdir -p out/new/proved
 [ ! -e refused ] || { cat refused; exit 1; }
 [ ! -e slow ] || { touch "$room/begun"; sleep 2; }
 while [ "\$1" != -o ]; do shift; done
-case \$2 in *.rlib) mkdir "\$2" && head -n 1 src/lib.rt > "\$2/format" ;; *) cp src/main.rt "\$2" ;; esac
+case \$2 in *.rlib) mkdir "\$2" && head -n 1 src/lib.rt > "\$2/format" ;; *) cat src/* > "\$2" ;; esac
+END
+cat > "$kit/toolchain/bin/ld.lld" << 'END'
+#!/bin/bash
+for word; do case $word in -Map=*) echo map > "${word#-Map=}" ;; esac; done
+while [ "$1" != -o ]; do shift; done
+echo "$*" > "$2"
+END
+cat > "$kit/bin/wasm-opt" << END
+#!/bin/bash
+[ -e "$room/lowers" ] || exit 127
+[ "\$1" != --version ] || exec cat "$room/lowers"
+while [ "\$1" != -o ]; do shift; done
+echo module > "\$2"
 END
 cat > "$kit/bin/rattle-link" << 'END'
 #!/bin/bash
 while [ "$1" != -o ]; do shift; done
 printf '#!/bin/sh\necho "words $*"\ncat\nexit 3\n' > "$2" && chmod +x "$2"
 END
-chmod +x "$kit"/bin/*
+chmod +x "$kit"/{,toolchain/}bin/*
 without_stubs=$PATH
 PATH=$kit/bin:$PATH
 cd "$top" || exit 1
 
-# proves WANTED COMMAND..: whether the command ends well and these crates are proved for it, one after another
+# proves WANTED COMMAND..: whether the command ends well and these crates are proved for it, each once
 proves() {
     : > "$room/proved"
-    if "${@:2}" && [ "$(paste -sd ' ' "$room/proved")" = "$1" ]; then return; fi
+    if "${@:2}" && [ "$(sort "$room/proved")" = "$(printf '%s' "$1" | tr ' ' '\n' | sort)" ]; then return; fi
     cat "$room/proved" "$room/told"
     return 1
 }
@@ -61,8 +76,16 @@ fails() {
     [ $? = 70 ] && [ ! -s "$room/printed" ] && grep -q "$1" "$room/told"
 }
 
-try 'a missing program is built' proves 'low high fhpgas' launch
-try 'each crate is told as it is done' grep -qE '^high proved in [0-9]+ s \(2 of 3, about [0-9]+ min left\)$' "$room/told"
+try 'a missing program is built' proves 'low high inside fhpgas' launch
+try 'each crate is told as it is done' grep -qE '^high proved in [0-9]+ s \(2 of 4, about [0-9]+ min left\)$' "$room/told"
+for level in x86-64-v2 x86-64-v3; do try "the package has the engine for $level" grep -q $level python/fhpgas/libfhpgas-$level.so; done
+try 'it says what the page lacks' grep -q 'page/engine.js is left out: apt-get install binaryen' "$room/told"
+try 'and leaves it out' [ ! -e page/engine.js ]
+echo 1 > "$room/lowers"
+try 'where wasm-opt is there the module is built' proves 'inside' build
+try 'beside the page, in base64' [ "$(cat page/engine.js)" = "globalThis.FHPGAS_ENGINE = \"$(echo module | base64)\";" ]
+rm page/engine.js
+try 'and again if it is gone' proves 'inside' build
 try 'what is built is run' proves '' quietly
 touch crates/low/src/lib.rt
 try 'a source with another time alone proves nothing' proves '' quietly
@@ -70,14 +93,20 @@ try 'and is looked at once' tools/is_built
 echo 'proved otherwise' >> crates/high/src/lib.rt
 try 'a crate is proved again where its source changed' proves 'high' launch
 sed -i 's/stated/stated otherwise/' crates/low/src/lib.rt
-try 'and those above where its statements did' proves 'low high fhpgas' launch
+try 'and those above where its statements did' proves 'low high inside fhpgas' launch
 echo 2 > "$kit/KIT-ID"
-try 'another kit proves all' proves 'low high fhpgas' build processors=1 costs='low:99 fhpgas:450'
+try 'another kit proves all' proves 'low high inside fhpgas' build processors=1 costs='low:99 fhpgas:450'
 try 'and the minutes left are those of the crates left' grep -q '^high .* about 10 min left)$' "$room/told"
 rm -r crates/low/out
 try 'what rt took away is built again' proves 'low' build
 rm crates/high/out/rlib/high.rlib/format
 try 'so is what was changed since' proves 'high' build
+rm -r crates/low/out
+echo 'edited' >> crates/inside/src/lib.rt
+mkdir -p crates/low/out/rlib/low.rlib && echo stated by rt > crates/low/out/rlib/low.rlib/format
+try 'a crate is built over what rt left' proves 'inside' build AS_IS=1 inside
+rm -r crates/low/out
+build
 try 'another level needs the program alone' proves 'fhpgas' build CPU=x86-64-v0
 try 'one of a level that no machine has is built again' proves 'fhpgas' launch
 try 'a crate is built by its name' proves '' build high
@@ -110,8 +139,8 @@ try 'and without a program one sentence says what is missing' fails 'the command
 try 'and no more' [ "$(wc -l < "$room/told")" = 1 ]
 mv "$room/fhpgas" crates/fhpgas/out/fhpgas
 PATH=$with_kit
-touch "$room/no_kit"
-try 'a kit that does not answer ends with status 70 too' fails 'rt is not on the PATH'
+echo "env: 'python3': No such file" > "$room/no_kit"
+try 'a kit that does not run ends with status 70 too, and what it said is shown' fails "the Rattle kit does not answer.*: env: 'python3': No such file"
 rm "$room/no_kit"
 touch crates/high/slow
 setsid make > "$room/told" 2>&1 &
@@ -140,7 +169,7 @@ try 'and then it is run' quietly
 
 # and the kit itself, if it is here, on a body that does not do what its contract says
 PATH=$without_stubs
-if command -v rt > /dev/null; then
+if has rt 'a wrong body'; then
     mkdir -p crates/wrong/src
     echo 'wrong:' > crates.txt
     printf '%s\n' '#![tactic(auto)]' 'ghost use Rattle.std.specs.Prelude.{◌≡◌};' '/// Two.' 'pub fn two() -> u32' \

@@ -16,21 +16,168 @@ from fhpgas import refusals
 PROGRAM = needs.built_program()
 MOST_CELLS = 1000
 UNSURE = "unsure"
-NUMBERS = ["0", "1", "-1", "4", "63", "64", "1000", "1001", "4096", "4097", "9223372036854775807", "9223372036854775808",
-           "1.0", "true", "\"1\"", "1979-05-27", "[]", "[1, 2]", "{ a = 1 }", "0x10", "1_000", "inf"]
-TEXTS = ["\"fhp1\"", "\"hpp\"", "\"fhp-rest\"", "\"fhp2\"", "\"left\"", "\"right\"", "\"seeded\"", "\"\"", "1", "'fhp1'", "[\"fhp1\"]"]
-EDGES = ["9223372036854775806", "-9223372036854775807", "-9223372036854775808", "-9223372036854775809", "18446744073709551615",
-         "18446744073709551616", "4294967296", "-4294967295", "0x7fffffffffffffff", "0x8000000000000000", "0o777777777777777777777",
-         "0o1000000000000000000000", "-0", "+1", "0b1", "1e0", "1.5", "-1.0", "nan", "-inf", "false", "07:32:00", "1979-05-27T07:32:00Z"]
-GRAMMAR = ["[", "]", "[[", "]]", "{", "}", "=", ",", ".", "#", "\n", "\r\n", "\r", "\t", " ", '"', "'", '"""', "'''", "\\", "\\n", "\\u00e9",
-           "\\U0001F600", "\\x41", "\\e", "\ufeff", "\0", "\x1f", "\x7f", "é", "Ж", "中", "０", "[a]", "[[a]]", "[gas]", "[[solid]]", "a.b", "gas.a",
-           '"gas"', "'gas'", '"\\u0067as"', "true", "false", "+1", "-0", "+0", "01", "1_0", "1__0", "_1", "0x3F", "0o17", "0b11", "-0x1", "1e3", "1.",
-           ".5", "1.5", "-1.5e-3", "nan", "-inf", "1979-05-27", "07:32:00", "07:32", "1979-05-27T07:32:00Z", "1979-05-27 07:32:00.5+01:00",
-           "1979-02-30", "9223372036854775807", "9223372036854775808", "-9223372036854775808", "-9223372036854775809",
-           "99999999999999999999999999", "[" * 70 + "]" * 70, "[" * 300 + "]" * 300, "{a=" * 60 + "1" + "}" * 60, "..", "##", "3f", "40", "3F"]
+NUMBERS = [
+    "0",
+    "1",
+    "-1",
+    "4",
+    "63",
+    "64",
+    "1000",
+    "1001",
+    "4096",
+    "4097",
+    "9223372036854775807",
+    "9223372036854775808",
+    "1.0",
+    "true",
+    '"1"',
+    "1979-05-27",
+    "[]",
+    "[1, 2]",
+    "{ a = 1 }",
+    "0x10",
+    "1_000",
+    "inf",
+]
+TEXTS = [
+    '"fhp1"',
+    '"hpp"',
+    '"fhp-rest"',
+    '"fhp2"',
+    '"left"',
+    '"right"',
+    '"seeded"',
+    '""',
+    "1",
+    "'fhp1'",
+    '["fhp1"]',
+]
+EDGES = [
+    "9223372036854775806",
+    "-9223372036854775807",
+    "-9223372036854775808",
+    "-9223372036854775809",
+    "18446744073709551615",
+    "18446744073709551616",
+    "4294967296",
+    "-4294967295",
+    "0x7fffffffffffffff",
+    "0x8000000000000000",
+    "0o777777777777777777777",
+    "0o1000000000000000000000",
+    "-0",
+    "+1",
+    "0b1",
+    "1e0",
+    "1.5",
+    "-1.0",
+    "nan",
+    "-inf",
+    "false",
+    "07:32:00",
+    "1979-05-27T07:32:00Z",
+]
+GRAMMAR = [
+    "[",
+    "]",
+    "[[",
+    "]]",
+    "{",
+    "}",
+    "=",
+    ",",
+    ".",
+    "#",
+    "\n",
+    "\r\n",
+    "\r",
+    "\t",
+    " ",
+    '"',
+    "'",
+    '"""',
+    "'''",
+    "\\",
+    "\\n",
+    "\\u00e9",
+    "\\U0001F600",
+    "\\x41",
+    "\\e",
+    "\ufeff",
+    "\0",
+    "\x1f",
+    "\x7f",
+    "é",
+    "Ж",
+    "中",
+    "０",
+    "[a]",
+    "[[a]]",
+    "[gas]",
+    "[[solid]]",
+    "a.b",
+    "gas.a",
+    '"gas"',
+    "'gas'",
+    '"\\u0067as"',
+    "true",
+    "false",
+    "+1",
+    "-0",
+    "+0",
+    "01",
+    "1_0",
+    "1__0",
+    "_1",
+    "0x3F",
+    "0o17",
+    "0b11",
+    "-0x1",
+    "1e3",
+    "1.",
+    ".5",
+    "1.5",
+    "-1.5e-3",
+    "nan",
+    "-inf",
+    "1979-05-27",
+    "07:32:00",
+    "07:32",
+    "1979-05-27T07:32:00Z",
+    "1979-05-27 07:32:00.5+01:00",
+    "1979-02-30",
+    "9223372036854775807",
+    "9223372036854775808",
+    "-9223372036854775808",
+    "-9223372036854775809",
+    "99999999999999999999999999",
+    "[" * 70 + "]" * 70,
+    "[" * 300 + "]" * 300,
+    "{a=" * 60 + "1" + "}" * 60,
+    "..",
+    "##",
+    "3f",
+    "40",
+    "3F",
+]
 SIDES = ["65535", "65536", "65537"]
 GENERATIONS = ["0", "1", "10", "-1", "999999999999", "1000000000000", "1000000000001"]
-KEYS = ["version", "generation", "gas", "chirality", "seed", "cells", "width", "height", "solid", "rate", "particles", "colour", "gas.a"]
+KEYS = [
+    "version",
+    "generation",
+    "gas",
+    "chirality",
+    "seed",
+    "cells",
+    "width",
+    "height",
+    "solid",
+    "rate",
+    "particles",
+    "colour",
+    "gas.a",
+]
 
 
 def number(rng):
@@ -45,7 +192,10 @@ def numbers(rng, count):
 def cells(rng):
     width = rng.randint(0, 4)
     pairs = ["..", "00", "##", "01", "3f", "09", "0f", "40", "0A", "é", ".#", "0"]
-    rows = ["".join(rng.choice(pairs[: 7 if rng.random() < 0.9 else 12]) for _ in range(width)) for _ in range(rng.randint(0, 4))]
+    rows = [
+        "".join(rng.choice(pairs[: 7 if rng.random() < 0.9 else 12]) for _ in range(width))
+        for _ in range(rng.randint(0, 4))
+    ]
     return "[" + ", ".join(f'"{row}"' for row in rows) + "]"
 
 
@@ -53,7 +203,11 @@ def value(rng, key):
     if rng.random() < 0.05:
         return rng.choice(NUMBERS + TEXTS)
     if key in ("gas", "chirality"):
-        return rng.choice(TEXTS[:3] if key == "gas" else TEXTS[4:7]) if rng.random() < 0.9 else rng.choice(TEXTS)
+        return (
+            rng.choice(TEXTS[:3] if key == "gas" else TEXTS[4:7])
+            if rng.random() < 0.9
+            else rng.choice(TEXTS)
+        )
     if key == "cells":
         return cells(rng)
     if key in ("solid", "particles"):
@@ -65,7 +219,11 @@ def value(rng, key):
 
 
 def scene(rng):
-    form = ["cells"] if rng.random() < 0.5 else ["width", "height"] + [k for k in ("solid", "rate", "particles") if rng.random() < 0.6]
+    form = (
+        ["cells"]
+        if rng.random() < 0.5
+        else ["width", "height"] + [k for k in ("solid", "rate", "particles") if rng.random() < 0.6]
+    )
     keys = ["gas"] + form + [k for k in ("version", "chirality", "seed") if rng.random() < 0.5]
     if rng.random() < (0.6 if "version" in keys else 0.05):
         keys.append("generation")
@@ -100,7 +258,11 @@ def spliced(rng, first, second):
     if rng.random() < 0.5:
         return first[: rng.randrange(len(first) + 1)] + second[rng.randrange(len(second) + 1) :]
     lines, others = first.splitlines(True), second.splitlines(True)
-    return b"".join(lines[: rng.randrange(len(lines) + 1)]) + b"\n" + b"".join(others[rng.randrange(len(others) + 1) :])
+    return (
+        b"".join(lines[: rng.randrange(len(lines) + 1)])
+        + b"\n"
+        + b"".join(others[rng.randrange(len(others) + 1) :])
+    )
 
 
 def fed_back(printed):
@@ -132,7 +294,9 @@ def expected(text):
 def explanation(text):
     """What `explain` says of a text: the status, the first line, and whether all its lines have reasons in one line."""
     found = refusals.explained(text)
-    is_told = bool(found) and all(reasons and all(map(str.isprintable, reasons)) for _, reasons in found)
+    is_told = bool(found) and all(
+        reasons and all(map(str.isprintable, reasons)) for _, reasons, _ in found
+    )
     return int(bool(found)), f"{found[0][0]}\n" if found else "", is_told
 
 
@@ -156,7 +320,10 @@ class Counts:
             self.failed += answer[0] != 0
             return
         checked, printed = wanted
-        answers = [(checked, answer), (explanation(text), (answer[0], answer[1] if answer[0] else "", answer[0] == 1))]
+        answers = [
+            (checked, answer),
+            (explanation(text), (answer[0], answer[1] if answer[0] else "", answer[0] == 1)),
+        ]
         if answer[0] == 0:
             answers.append((printed, run(text, "run", "--generations", "0")))
             self.printed.append(answers[-1][1][1].encode())
@@ -171,28 +338,88 @@ class Counts:
 
 def given_texts():
     """Every prefix of three scenes, the integers at the edges of 64 bits and of their ranges, past them and as other values, in both
-    versions, a generation with every kind of version, letters in a map, and maps at the limits of both versions."""
+    versions, a generation with every kind of version, letters in a map, and maps at the limits of both versions.
+    """
     for name in ("drift", "obstacle", "square"):
         text = (needs.ROOT / f"scenes/{name}.toml").read_bytes()
         yield from (text[:length] for length in range(len(text) + 1))
-    keys = {"version": "%s", "generation": "%s", "seed": "%s", "width": "%s", "height": "%s", "rate": "%s"}
-    keys |= {f"solid {k}": "[[" + ", ".join("%s" if i == k else "1" for i in range(4)) + "]]" for k in range(4)}
-    keys |= {f"particles {k}": "[[" + ", ".join("%s" if i == k else "1" for i in range(3)) + "]]" for k in range(3)}
+    keys = {
+        "version": "%s",
+        "generation": "%s",
+        "seed": "%s",
+        "width": "%s",
+        "height": "%s",
+        "rate": "%s",
+    }
+    keys |= {
+        f"solid {k}": "[[" + ", ".join("%s" if i == k else "1" for i in range(4)) + "]]"
+        for k in range(4)
+    }
+    keys |= {
+        f"particles {k}": "[[" + ", ".join("%s" if i == k else "1" for i in range(3)) + "]]"
+        for k in range(3)
+    }
     for place, form in keys.items():
         for number in NUMBERS + EDGES + SIDES + GENERATIONS:
             for version in ({}, {"version": "2"}):
-                area = {"gas": '"fhp1"', "width": "4", "height": "3"} | version | {place.split()[0]: form % number}
+                area = (
+                    {"gas": '"fhp1"', "width": "4", "height": "3"}
+                    | version
+                    | {place.split()[0]: form % number}
+                )
                 yield "\n".join(f"{key} = {value}" for key, value in area.items()).encode()
-    for version in ("", "version = 1", "version = 3", 'version = "2"', "version = 2.0", "version = [2]", "version = 2"):
+    for version in (
+        "",
+        "version = 1",
+        "version = 3",
+        'version = "2"',
+        "version = 2.0",
+        "version = [2]",
+        "version = 2",
+    ):
         for generation in GENERATIONS + ["'1'"]:
             yield f'gas = "fhp1"\ncells = ["01"]\n{version}\ngeneration = {generation}'.encode()
-    for letters in ("é", "éé", "Ж", "ЖЖ", "中", "中.", "中中", "０１", "٠١", "🙂", "🙂🙂", "e\u0301", "..é", "01Ж", "0\u00a0", "ｆｆ", "\u2028\u2028"):
+    for letters in (
+        "é",
+        "éé",
+        "Ж",
+        "ЖЖ",
+        "中",
+        "中.",
+        "中中",
+        "０１",
+        "٠١",
+        "🙂",
+        "🙂🙂",
+        "e\u0301",
+        "..é",
+        "01Ж",
+        "0\u00a0",
+        "ｆｆ",
+        "\u2028\u2028",
+    ):
         yield f'gas = "fhp1"\ncells = ["{letters}"]'.encode()
         yield f'gas = "{letters}"\ncells = [".."]'.encode()
         yield f'"{letters}" = 1'.encode()
-    for version, row, rows in ((1, 8192, 1), (1, 8194, 1), (1, 2, 4096), (1, 2, 4097), (1, 8191, 1), (1, 0, 1), (2, 8194, 1), (2, 2, 4097),
-                               (2, 131072, 1), (2, 131074, 1), (2, 2, 65536), (2, 2, 65537), (2, 131071, 1), (2, 0, 1)):
-        yield (f'version = {version}\ngas = "fhp1"\ncells = [' + f'"{"." * row}",' * rows + "]").encode()
+    for version, row, rows in (
+        (1, 8192, 1),
+        (1, 8194, 1),
+        (1, 2, 4096),
+        (1, 2, 4097),
+        (1, 8191, 1),
+        (1, 0, 1),
+        (2, 8194, 1),
+        (2, 2, 4097),
+        (2, 131072, 1),
+        (2, 131074, 1),
+        (2, 2, 65536),
+        (2, 2, 65537),
+        (2, 131071, 1),
+        (2, 0, 1),
+    ):
+        yield (
+            f'version = {version}\ngas = "fhp1"\ncells = [' + f'"{"." * row}",' * rows + "]"
+        ).encode()
 
 
 def text_of(rng, counts):
@@ -222,7 +449,9 @@ def main():
     missing = 9 - len(counts.kinds)
     if missing:
         print(f"FAILED: {missing} kinds of answers did not come")
-    print(f"{len(given) + how_many - counts.failed - counts.large - counts.unsure} passed, {counts.failed + missing} failed")
+    print(
+        f"{len(given) + how_many - counts.failed - counts.large - counts.unsure} passed, {counts.failed + missing} failed"
+    )
     sys.exit(1 if counts.failed or missing else 0)
 
 

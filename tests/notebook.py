@@ -1,14 +1,17 @@
 #!/usr/bin/env python3
-"""Runs the notebooks of notebooks/: no cell may fail or warn, and all texts must be those that the notebook keeps. With --keep the notebook
-keeps what this run shows, with pictures of few colours. Ends with the counts."""
+"""Runs the notebooks of notebooks/: no cell may fail or warn, and all texts must be those that the notebook keeps. The last section of the
+first one also runs with other values, which its text invites one to try. With --keep the notebook keeps what this run shows, with pictures
+of few colours. Ends with the counts."""
 
 import base64
+import contextlib
 import io
 import os
 import sys
 
 import needs
 
+os.environ["MPLBACKEND"] = "Agg"
 os.environ["PYDEVD_DISABLE_FILE_VALIDATION"] = "1"  # or the kernel's debugger warns
 needs.built_program()
 needs.libraries("nbclient", "nbformat", "ipykernel")
@@ -18,18 +21,28 @@ from nbclient import NotebookClient  # noqa: E402
 from PIL import Image  # noqa: E402
 
 MOST_BYTES = 600_000
+CHOSEN = 'GAS, CHIRALITY, ROWS, FILLING = "fhp1", "seeded", 64, 0.3'
+TRIED = [
+    *(("fhp1", side, d) for side in ("seeded", "left") for d in (0.05, 0.1, 0.15, 0.5)),
+    *(("fhp-rest", side, d) for side in ("seeded", "right") for d in (0.05, 0.5)),
+]
 
 
 def texts(cell):
     """What a cell shows as text."""
-    return "".join(out.get("text") or out.get("data", {}).get("text/plain", "") for out in cell.get("outputs", []))
+    return "".join(
+        out.get("text") or out.get("data", {}).get("text/plain", "")
+        for out in cell.get("outputs", [])
+    )
 
 
 def shrink(cell):
     """Leaves few colours in the pictures of a cell, and joins what it printed."""
     for out in cell.get("outputs", []):
         if "image/png" in out.get("data", {}):
-            small, picture = io.BytesIO(), Image.open(io.BytesIO(base64.b64decode(out["data"]["image/png"])))
+            small, picture = io.BytesIO(), Image.open(
+                io.BytesIO(base64.b64decode(out["data"]["image/png"]))
+            )
             picture.convert("RGB").quantize(160).save(small, "png", optimize=True)
             out["data"]["image/png"] = base64.b64encode(small.getvalue()).decode()
 
@@ -38,7 +51,12 @@ def wrong(path):
     """What is wrong with a notebook, after it ran."""
     before = nbformat.read(path, 4)
     after = nbformat.from_dict(before)
-    NotebookClient(after, timeout=600, kernel_name="python3", resources={"metadata": {"path": str(path.parent)}}).execute()
+    NotebookClient(
+        after,
+        timeout=600,
+        kernel_name="python3",
+        resources={"metadata": {"path": str(path.parent)}},
+    ).execute()
     if "--keep" in sys.argv[1:]:
         for cell in after.cells:
             shrink(cell)
@@ -53,13 +71,34 @@ def wrong(path):
     return f"it has {path.stat().st_size} bytes" if path.stat().st_size > MOST_BYTES else ""
 
 
+def fault_with(path, gas, side, filling):
+    """What fails if the gas, the chirality and the filling of the viscosity are others."""
+    cells = [cell.source for cell in nbformat.read(path, 4).cells if cell.cell_type == "code"]
+    first = next(n for n, source in enumerate(cells) if CHOSEN in source)
+    chosen = f"GAS, CHIRALITY, ROWS, FILLING = {gas!r}, {side!r}, 64, {filling}"
+    names = {}
+    try:
+        with contextlib.redirect_stdout(io.StringIO()):
+            for source in (cells[0], *cells[first:]):
+                exec(source.replace(CHOSEN, chosen), names)
+    except Exception as fault:
+        return f"{type(fault).__name__} {fault}: {names.get('nu')} +- {names.get('error')}"
+    return ""
+
+
 def main():
     failed, paths = 0, sorted((needs.ROOT / "notebooks").glob("*.ipynb"))
     for path in paths:
         if why := wrong(path):
             failed += 1
             print(f"FAILED: {path.name}: {why}")
-    print(f"{len(paths) - failed} passed, {failed} failed")
+    os.chdir(needs.ROOT / "notebooks")
+    tried = TRIED if "--keep" not in sys.argv[1:] else []
+    for values in tried:
+        if why := fault_with("first_class.ipynb", *values):
+            failed += 1
+            print(f"FAILED: {' '.join(map(str, values))}: {why}")
+    print(f"{len(paths) + len(tried) - failed} passed, {failed} failed")
     return 1 if failed or not paths else 0
 
 

@@ -18,8 +18,29 @@ PROGRAM = needs.built_program()
 MAPS = 20
 GASES = {"fhp1": 6, "fhp-rest": 7, "hpp": 4}  # and their directions
 CHIRALITIES = ["left", "right", "seeded"]
-SIZES = [(1024, 1024), (63, 700), (2701, 150), (64, 513), (777, 1000), (1, 300), (5000, 90), (130, 64), (1000, 999), (65, 2), (6500, 64)]
-PIPELINES = [(1, 1), (4, 2), (3, 1024), (64, 1), (16, 128), (2, 8), (7, 33), (33, 3)]  # stages, and places per belt
+SIZES = [
+    (1024, 1024),
+    (63, 700),
+    (2701, 150),
+    (64, 513),
+    (777, 1000),
+    (1, 300),
+    (5000, 90),
+    (130, 64),
+    (1000, 999),
+    (65, 2),
+    (6500, 64),
+]
+PIPELINES = [
+    (1, 1),
+    (4, 2),
+    (3, 1024),
+    (64, 1),
+    (16, 128),
+    (2, 8),
+    (7, 33),
+    (33, 3),
+]  # stages, and places per belt
 GENERATIONS = range(150, 500)
 
 
@@ -27,20 +48,31 @@ def drawn(rng, width, height, directions):
     """The rows of a map: cells whose directions are filled with one probability, single solid cells, and some solid rectangles."""
     states = range(1 << directions)
     rate = rng.choice([0.02, 0.1, 0.3, 0.6])
-    weights = [rate ** state.bit_count() * (1 - rate) ** (directions - state.bit_count()) for state in states]
+    weights = [
+        rate ** state.bit_count() * (1 - rate) ** (directions - state.bit_count())
+        for state in states
+    ]
     cells = [f"{state:02x}" if state else ".." for state in states] + ["##"]
     weights.append(rng.choice([0, 0.001, 0.02]))
     rows = [rng.choices(cells, weights, k=width) for _ in range(height)]
     for _ in range(rng.randrange(6)):
         left, top = rng.randrange(width), rng.randrange(height)
-        right, bottom = min(width, left + rng.randint(1, 200)), min(height, top + rng.randint(1, 100))
+        right, bottom = min(width, left + rng.randint(1, 200)), min(
+            height, top + rng.randint(1, 100)
+        )
         for row in rows[top:bottom]:
             row[left:right] = ["##"] * (right - left)
     return ["".join(row) for row in rows]
 
 
 def printed(words, text):
-    return subprocess.run([str(word) for word in words], input=text.encode(), capture_output=True, timeout=300, check=True).stdout
+    return subprocess.run(
+        [str(word) for word in words],
+        input=text.encode(),
+        capture_output=True,
+        timeout=300,
+        check=True,
+    ).stdout
 
 
 def fault(number, room):
@@ -49,22 +81,39 @@ def fault(number, room):
     (gas, directions), chirality = list(itertools.product(GASES.items(), CHIRALITIES))[number % 9]
     width, height = SIZES[number % len(SIZES)]
     stages, capacity = PIPELINES[number % len(PIPELINES)]
-    first, seed, generations = rng.choice([0, 1, 2**32 - 100, 10**12]), rng.randrange(2**63), rng.choice(GENERATIONS)
+    first, seed, generations = (
+        rng.choice([0, 1, 2**32 - 100, 10**12]),
+        rng.randrange(2**63),
+        rng.choice(GENERATIONS),
+    )
     rows = drawn(rng, width, height, directions)
     keys = f'version = 2\ngas = "{gas}"\nchirality = "{chirality}"\nseed = {seed}\ngeneration = {first}\n'
-    ours = printed([PROGRAM, "run", "--generations", generations, "--stages", stages, "--capacity", capacity], f"{keys}cells = {rows}\n")
+    ours = printed(
+        [PROGRAM, "run", "--generations", generations, "--stages", stages, "--capacity", capacity],
+        f"{keys}cells = {rows}\n",
+    )
     word = seed if chirality == "seeded" else chirality
-    programs = [[room / "bytes", generations, word, gas]] + [[room / "bands", generations, 3, word]] * (gas == "fhp1")
+    programs = [[room / "bytes", generations, word, gas]] + [
+        [room / "bands", generations, 3, word]
+    ] * (gas == "fhp1")
     start = "\n".join([f"generation {first} particles 0", *rows, ""])
     wrong = [words[0].name for words in programs if printed(words, start) != ours]
-    return f"map {number}: {gas}, {chirality}, {width} x {height}, {generations} generations, {stages} stages: {wrong}" if wrong else None
+    return (
+        f"map {number}: {gas}, {chirality}, {width} x {height}, {generations} generations, {stages} stages: {wrong}"
+        if wrong
+        else None
+    )
 
 
 def main():
-    with tempfile.TemporaryDirectory() as folder, concurrent.futures.ThreadPoolExecutor(os.cpu_count()) as pool:
+    with tempfile.TemporaryDirectory() as folder, concurrent.futures.ThreadPoolExecutor(
+        os.cpu_count()
+    ) as pool:
         room = pathlib.Path(folder)
         for name in "bytes", "bands":
-            needs.compiled(f"tests/oracles/{name}.c", room / name, "-O3", "-march=x86-64-v2", "-pthread")
+            needs.compiled(
+                f"tests/oracles/{name}.c", room / name, "-O3", "-march=x86-64-v2", "-pthread"
+            )
         faults = list(filter(None, pool.map(lambda number: fault(number, room), range(MAPS))))
     for found in faults:
         print(f"FAILED: {found}")

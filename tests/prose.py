@@ -16,7 +16,9 @@ def sentences(text):
     text = re.sub(r"^(\||#|\[[^\]]+\]:).*$", "", text, flags=re.M)
     for paragraph in re.split(r"\n\s*\n|\n\s*(?:[-*]|\d+\.)\s", "\n" + text):
         plain = re.sub(r"`[^`]*`", "CODE", " ".join(paragraph.split()))
-        yield from re.split(r"(?<=[.!?])[\"')*_]*\s+", re.sub(r"!?\[([^\]]*)\]\([^)]*\)", r"\1", plain))
+        yield from re.split(
+            r"(?<=[.!?])[\"')*_]*\s+", re.sub(r"!?\[([^\]]*)\]\([^)]*\)", r"\1", plain)
+        )
 
 
 def main():
@@ -24,7 +26,11 @@ def main():
     documents = links.documents()
     for document in documents:
         name = str(document.relative_to(links.ROOT))
-        found = [sentence for sentence in sentences(document.read_text()) if len(sentence.split()) > MOST_WORDS]
+        found = [
+            sentence
+            for sentence in sentences(document.read_text())
+            if len(sentence.split()) > MOST_WORDS
+        ]
         failed += bool(found) and name in SHORT
         print(f"{len(found):3} long sentences in {name}")
         if sys.argv[1:] == ["--list"] or found and name in SHORT:

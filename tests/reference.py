@@ -17,8 +17,28 @@ from oracle import CHIRALITIES, GASES
 
 FOLDER = needs.ROOT / "scenes/reference"
 RECORD = FOLDER / "SHA256"
-SIZES = [(33, 20), (64, 31), (65, 33), (127, 16), (1, 5), (7, 1), (96, 40), (63, 64), (2, 9), (129, 25), (31, 47), (100, 3), (66, 30),
-         (5, 90), (128, 24), (191, 12), (17, 17), (48, 48), (257, 11), (3, 2)]
+SIZES = [
+    (33, 20),
+    (64, 31),
+    (65, 33),
+    (127, 16),
+    (1, 5),
+    (7, 1),
+    (96, 40),
+    (63, 64),
+    (2, 9),
+    (129, 25),
+    (31, 47),
+    (100, 3),
+    (66, 30),
+    (5, 90),
+    (128, 24),
+    (191, 12),
+    (17, 17),
+    (48, 48),
+    (257, 11),
+    (3, 2),
+]
 FIRST = [0, 0, 1, 4_294_967_290, 999_999_000_000]  # generations of the first lattices
 
 
@@ -30,7 +50,13 @@ def drawn(rng, width, height, directions):
 
     def cell(column, row):
         state = sum((rng.random() < rate) << direction for direction in range(directions))
-        return "##" if rng.random() < solid or (column in columns and row in rows) else f"{state:02x}" if state else ".."
+        return (
+            "##"
+            if rng.random() < solid or (column in columns and row in rows)
+            else f"{state:02x}"
+            if state
+            else ".."
+        )
 
     return ["".join(cell(column, row) for column in range(width)) for row in range(height)]
 
@@ -41,7 +67,9 @@ def sha256_by_c(room, scene, generations):
     chirality = str(table["seed"]) if table["chirality"] == "seeded" else table["chirality"]
     start = "\n".join([f"generation {table['generation']} particles 0", *table["cells"], ""])
     words = [room / "bytes", str(generations), chirality, table["gas"]]
-    return hashlib.sha256(subprocess.run(words, input=start.encode(), capture_output=True, check=True).stdout).hexdigest()
+    return hashlib.sha256(
+        subprocess.run(words, input=start.encode(), capture_output=True, check=True).stdout
+    ).hexdigest()
 
 
 def make(room):
@@ -67,8 +95,16 @@ def main():
         passed, failed = 0, 0
         for recorded, generations, name in map(str.split, RECORD.read_text().splitlines()):
             scene = (FOLDER / name).read_text()
-            ours = subprocess.run([needs.built_program(), "run", "--generations", generations], input=scene.encode(), capture_output=True, check=True)
-            for program, found in ("fhpgas", hashlib.sha256(ours.stdout).hexdigest()), ("bytes.c", sha256_by_c(room, scene, generations)):
+            ours = subprocess.run(
+                [needs.built_program(), "run", "--generations", generations],
+                input=scene.encode(),
+                capture_output=True,
+                check=True,
+            )
+            for program, found in ("fhpgas", hashlib.sha256(ours.stdout).hexdigest()), (
+                "bytes.c",
+                sha256_by_c(room, scene, generations),
+            ):
                 passed, failed = passed + (found == recorded), failed + (found != recorded)
                 if found != recorded:
                     print(f"FAILED: {name}: {program} prints other cells")

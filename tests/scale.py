@@ -5,7 +5,7 @@ says so. Ends with the counts."""
 
 import hashlib
 import pathlib
-import re
+import resource
 import subprocess
 import sys
 import tempfile
@@ -20,7 +20,9 @@ GIGABYTE = 1 << 30
 
 def answer(words, path):
     """The status of the program on the text in a file, with the SHA-256 of its output and its message."""
-    with open(path, "rb") as text, subprocess.Popen([PROGRAM, *map(str, words)], stdin=text, stdout=subprocess.PIPE, stderr=subprocess.PIPE) as child:
+    with open(path, "rb") as text, subprocess.Popen(
+        [PROGRAM, *map(str, words)], stdin=text, stdout=subprocess.PIPE, stderr=subprocess.PIPE
+    ) as child:
         sums = hashlib.sha256()
         while block := child.stdout.read(1 << 20):
             sums.update(block)
@@ -44,61 +46,134 @@ def write_area(path, rows):
     """The same lattice as an area."""
     solid = [[0, y, 1, 1] for y in range(0, rows, 7)]
     particles = [[WIDTH - 1, y, 1] for y in range(rows)]
-    path.write_text(f'version = 2\ngas = "fhp1"\nchirality = "left"\nwidth = {WIDTH}\nheight = {rows}\nrate = 1000\n'
-                    f"solid = {solid}\nparticles = {particles}\n")
+    path.write_text(
+        f'version = 2\ngas = "fhp1"\nchirality = "left"\nwidth = {WIDTH}\nheight = {rows}\nrate = 1000\n'
+        f"solid = {solid}\nparticles = {particles}\n"
+    )
 
 
 def long_inputs(room):
     """Maps of 60 MB and of the most bytes print what their areas print, and a byte more is refused."""
     run = ["run", "--generations", 3, "--stages", 3, "--capacity", 16]
-    for rows, size in (60_000_000 // (2 * WIDTH), None), ((LONGEST_INPUT - 100) // (2 * WIDTH + 4), LONGEST_INPUT):
+    for rows, size in (60_000_000 // (2 * WIDTH), None), (
+        (LONGEST_INPUT - 100) // (2 * WIDTH + 4),
+        LONGEST_INPUT,
+    ):
         write_map(room / "map", rows, size)
         write_area(room / "area", rows)
         from_map, from_area = answer(run, room / "map"), answer(run, room / "area")
         bytes_read = (room / "map").stat().st_size
-        yield f"a map of {bytes_read} bytes", from_map == from_area and from_area[0] == 0 and bytes_read == (size or bytes_read)
+        yield f"a map of {bytes_read} bytes", from_map == from_area and from_area[
+            0
+        ] == 0 and bytes_read == (size or bytes_read)
     with open(room / "map", "ab") as text:
         text.write(b"\n")
-    yield "a byte more than the longest input", answer(run, room / "map") == (1, hashlib.sha256().hexdigest(), "input: too long\n")
+    yield "a byte more than the longest input", answer(run, room / "map") == (
+        1,
+        hashlib.sha256().hexdigest(),
+        "input: too long\n",
+    )
 
 
 def by_c(room, words, given=None):
     """The SHA-256 of what the C program prints."""
-    made = subprocess.run([room / "bytes", *map(str, words)], input=given, stdout=subprocess.PIPE, stderr=subprocess.DEVNULL, check=True)
+    made = subprocess.run(
+        [room / "bytes", *map(str, words)],
+        input=given,
+        stdout=subprocess.PIPE,
+        stderr=subprocess.DEVNULL,
+        check=True,
+    )
     return hashlib.sha256(made.stdout).hexdigest()
 
 
 def filled_area(room):
-    """An area with both sides above 4,096, filled and computed by the C program too."""
-    (room / "area").write_text('version = 2\ngas = "fhp-rest"\nseed = 11\nwidth = 4103\nheight = 4099\nrate = 250\n')
+    """An area with both sides above 5,000, filled and computed by the C program too."""
+    (room / "area").write_text(
+        'version = 2\ngas = "fhp-rest"\nseed = 11\nwidth = 5011\nheight = 5003\nrate = 250\n'
+    )
     ours = answer(["run", "--generations", 4], room / "area")
-    yield "a filled area of 4103 x 4099", ours == (0, by_c(room, [4, 11, "fhp-rest", 4103, 4099, 250, 11]), "")
+    yield "a filled area of 5011 x 5003", ours == (
+        0,
+        by_c(room, [4, 11, "fhp-rest", 5011, 5003, 250, 11]),
+        "",
+    )
 
 
 def many_blocks(room):
     """A full channel stays full, so all blocks of a cell are alike."""
-    (room / "area").write_text('gas = "fhp1"\nwidth = 1021\nheight = 1031\nrate = 1000\n')
-    lines = "".join(f"{column:5} {row:5} {1:8} {6:9} {0:10} {0:10}\n" for row in range(1031) for column in range(1021))
+    (room / "area").write_text('gas = "fhp1"\nwidth = 1453\nheight = 1447\nrate = 1000\n')
+    lines = "".join(
+        f"{column:5} {row:5} {1:8} {6:9} {0:10} {0:10}\n"
+        for row in range(1447)
+        for column in range(1453)
+    )
     words = ["coarse", "--generations", 2, "--block-width", 1, "--block-height", 1]
-    table = subprocess.run([PROGRAM, *map(str, words)], input=(room / "area").read_bytes(), capture_output=True, check=True).stdout.decode()
-    yield "a table of 1,052,651 blocks", table.partition("\n")[2] == lines
+    table = subprocess.run(
+        [PROGRAM, *map(str, words)],
+        input=(room / "area").read_bytes(),
+        capture_output=True,
+        check=True,
+    ).stdout.decode()
+    yield "a table of 2,102,491 blocks", table.partition("\n")[2] == lines
 
 
 def long_pipeline(room):
     """Thousands of rows are under way between 64 workers, in three passes."""
-    (room / "area").write_text('version = 2\ngas = "fhp1"\nseed = 9\nwidth = 70\nheight = 6000\nrate = 300\n'
-                               "solid = [[60, 500, 10, 9], [0, 5990, 3, 10]]\n")
-    start = subprocess.run([PROGRAM, "run", "--generations", "0"], input=(room / "area").read_bytes(), capture_output=True, check=True).stdout
+    (room / "area").write_text(
+        'version = 2\ngas = "fhp1"\nseed = 9\nwidth = 70\nheight = 6000\nrate = 300\n'
+        "solid = [[60, 500, 10, 9], [0, 5990, 3, 10]]\n"
+    )
+    start = subprocess.run(
+        [PROGRAM, "run", "--generations", "0"],
+        input=(room / "area").read_bytes(),
+        capture_output=True,
+        check=True,
+    ).stdout
     ours = answer(["run", "--generations", 150, "--stages", 64, "--capacity", 1024], room / "area")
-    yield "6,000 rows through 64 workers with 1,024 places", ours == (0, by_c(room, [150, 9, "fhp1"], start), "")
+    yield "6,000 rows through 64 workers with 1,024 places", ours == (
+        0,
+        by_c(room, [150, 9, "fhp1"], start),
+        "",
+    )
+
+
+def many_passes(room):
+    """A lone particle moves a cell per generation, and each pass of one worker makes one."""
+    (room / "area").write_text('gas = "hpp"\nwidth = 7\nheight = 1\nparticles = [[0, 0, 1]]\n')
+    ours = answer(["run", "--generations", 600_001, "--stages", 1], room / "area")
+    column = 600_001 % 7
+    text = f"generation 600001 particles 1\n{'..' * column}01{'..' * (6 - column)}\n"
+    yield "600,001 passes", ours == (0, hashlib.sha256(text.encode()).hexdigest(), "")
+
+
+def many_turns(room):
+    """A full channel stays full. A member makes at most one event in a turn, and each of the two has two events per row."""
+    rows, turns = 40_000, 200_000
+    (room / "area").write_text(
+        f'version = 2\ngas = "fhp1"\nwidth = 1\nheight = {rows}\nrate = 1000\n'
+    )
+    words = ["replay", "--generations", "1", "--stages", "1", *(["0", "1"] * (turns // 2))]
+    ended = subprocess.run(
+        [PROGRAM, *words],
+        input=(room / "area").read_bytes(),
+        capture_output=True,
+        preexec_fn=lambda: resource.setrlimit(resource.RLIMIT_STACK, (1 << 26, 1 << 26)),
+    )
+    belts = "".join(f"belt {belt} put {rows} taken {rows}\n" for belt in range(2))
+    text = f"done\n{belts}generation 1 particles {6 * rows}\n" + "3f\n" * rows
+    yield "200,000 turns", (ended.returncode, ended.stdout.decode()) == (0, text)
 
 
 # The parts, and the free memory that each wants.
-PARTS = {long_inputs: 4 * GIGABYTE, filled_area: GIGABYTE, many_blocks: GIGABYTE, long_pipeline: 4 * GIGABYTE}
-
-
-def free_memory():
-    return int(re.search(r"MemAvailable: +(\d+) kB", pathlib.Path("/proc/meminfo").read_text()).group(1)) << 10
+PARTS = {
+    long_inputs: 4 * GIGABYTE,
+    filled_area: GIGABYTE,
+    many_blocks: 2 * GIGABYTE,
+    many_passes: GIGABYTE,
+    many_turns: GIGABYTE,
+    long_pipeline: 4 * GIGABYTE,
+}
 
 
 def main():
@@ -107,15 +182,14 @@ def main():
         room = pathlib.Path(folder)
         needs.compiled("tests/oracles/bytes.c", room / "bytes", "-O3", "-march=x86-64-v2")
         for part, wanted in PARTS.items():
-            if free_memory() < wanted:
-                left_out.append(part.__name__)
+            if needs.free_memory() < wanted:
+                left_out.append(f"{part.__name__} for want of memory")
                 continue
             for name, is_right in part(room):
                 passed, failed = passed + is_right, failed + (not is_right)
                 if not is_right:
                     print(f"FAILED: {name}")
-    print(f"{passed} passed, {failed} failed" + (f", left out for want of memory: {', '.join(left_out)}" if left_out else ""))
-    return 1 if failed else 0
+    return needs.told(passed, failed, *left_out)
 
 
 sys.exit(main())

@@ -21,7 +21,11 @@ class Lattice:
         return f"gas {self.gas} width {len(self.rows[0])} height {len(self.rows)} solid {solid} particles {self.particles()}\n"
 
     def printed(self):
-        rows = ("".join("##" if cell is None else f"{cell:02x}" if cell else ".." for cell in row) + "\n" for row in self.rows)
+        rows = (
+            "".join("##" if cell is None else f"{cell:02x}" if cell else ".." for cell in row)
+            + "\n"
+            for row in self.rows
+        )
         return f"generation {self.generation} particles {self.particles()}\n" + "".join(rows)
 
 
@@ -30,21 +34,33 @@ def read(text, most_cells):
     table = keys_of(text)
     if "cells" not in table and table["width"] * table["height"] > most_cells:
         return None
-    return Lattice(table["gas"], table.get("generation", 0), map_rows(table) if "cells" in table else area_rows(table))
+    return Lattice(
+        table["gas"],
+        table.get("generation", 0),
+        map_rows(table) if "cells" in table else area_rows(table),
+    )
 
 
 def map_rows(table):
     pairs = ([row[at : at + 2] for at in range(0, len(row), 2)] for row in table["cells"])
-    return [[None if pair == "##" else 0 if pair == ".." else int(pair, 16) for pair in row] for row in pairs]
+    return [
+        [None if pair == "##" else 0 if pair == ".." else int(pair, 16) for pair in row]
+        for row in pairs
+    ]
 
 
 def area_rows(table):
     width, height, solid = table["width"], table["height"], table.get("solid", [])
-    rows = [[0 if covering(solid, x, y) is None else None for x in range(width)] for y in range(height)]
+    rows = [
+        [0 if covering(solid, x, y) is None else None for x in range(width)] for y in range(height)
+    ]
     for direction in range(STATES[table["gas"]].bit_length() - 1 if table.get("rate") else 0):
         words = iter(key_words(table.get("seed", 0), 2**63 + direction, width * height))
         for row in rows:
-            row[:] = [cell if word % 1000 >= table["rate"] or cell is None else cell | 1 << direction for cell, word in zip(row, words)]
+            row[:] = [
+                cell if word % 1000 >= table["rate"] or cell is None else cell | 1 << direction
+                for cell, word in zip(row, words)
+            ]
     for x, y, state in table.get("particles", []):
         rows[y][x] = state
     return rows
@@ -58,12 +74,29 @@ def key_words(seed, stream, count):
 
 def chacha_block(seed, stream, block):
     """The 16 words of a block of ChaCha20 under the key of a seed, with a 64-bit block number and a 64-bit stream number."""
-    start = [*struct.unpack("<4I", b"expand 32-byte k"), *struct.unpack("<8I", seed.to_bytes(8, "little") + bytes(24)),
-             *struct.unpack("<4I", struct.pack("<QQ", block, stream))]
+    start = [
+        *struct.unpack("<4I", b"expand 32-byte k"),
+        *struct.unpack("<8I", seed.to_bytes(8, "little") + bytes(24)),
+        *struct.unpack("<4I", struct.pack("<QQ", block, stream)),
+    ]
     words = start[:]
     for _ in range(10):
-        for a, b, c, d in ((0, 4, 8, 12), (1, 5, 9, 13), (2, 6, 10, 14), (3, 7, 11, 15), (0, 5, 10, 15), (1, 6, 11, 12), (2, 7, 8, 13), (3, 4, 9, 14)):
-            for here, other, turned, by in ((a, b, d, 16), (c, d, b, 12), (a, b, d, 8), (c, d, b, 7)):
+        for a, b, c, d in (
+            (0, 4, 8, 12),
+            (1, 5, 9, 13),
+            (2, 6, 10, 14),
+            (3, 7, 11, 15),
+            (0, 5, 10, 15),
+            (1, 6, 11, 12),
+            (2, 7, 8, 13),
+            (3, 4, 9, 14),
+        ):
+            for here, other, turned, by in (
+                (a, b, d, 16),
+                (c, d, b, 12),
+                (a, b, d, 8),
+                (c, d, b, 7),
+            ):
                 words[here] = words[here] + words[other] & 0xFFFFFFFF
                 mixed = words[turned] ^ words[here]
                 words[turned] = (mixed << by | mixed >> 32 - by) & 0xFFFFFFFF

@@ -1,30 +1,45 @@
 #!/bin/bash
-# Sets up what the tests want beside the kit. The libraries that Python lacks go, as tests/requirements.txt pins them, into the virtual
-# environment out/venv, if pip reaches an index. Says which Python and libraries the tests use, and which of Debian's packages have what is
-# still missing. With the word `packages` it only prints these packages.
+# Sets up what the tests want beside the kit: Debian's packages, as root or by `sudo -n`. Libraries that Python still lacks go into a virtual
+# environment, as requirements.txt pins them, if pip reaches an index. SETUP=no changes nothing. Says what it installs, which Python the
+# tests use, and what is still missing.
 cd "$(dirname "$0")/.." || exit 1
-venv=$PWD/out/venv
+tools='python3 shellcheck pyflakes3 black mypy spin bgolly:golly cc:gcc cc:libc6-dev ffmpeg chromium chromedriver:chromium-driver
+    firefox:firefox-esr node:nodejs tsc:node-typescript esbuild wasm-opt:binaryen'
+sudo=$([ "$(id -u)" = 0 ] || echo sudo -n)
+log=$(mktemp)
+trap 'rm "$log"' EXIT
 
-look() { { read -r python && read -r has && read -r -a lacks; } < <(tests/needs.py); }
-
-packages() {
-    local tool
-    for tool in make shellcheck pyflakes3 mypy spin chromium chromedriver:chromium-driver ffmpeg node:nodejs bgolly:golly cc:gcc \
-        cc:libc6-dev; do
-        command -v "${tool%:*}" > /dev/null || echo "${tool#*:}"
-    done
-    [ ${#lacks[@]} = 0 ] || { /usr/bin/python3 tests/needs.py own 2> /dev/null || cat tests/requirements.txt; } | tr ' ' '\n' |
-        sed -n 's/^pillow=/pil=/; s/^\(.*\)==.*/python3-\1/p'
+# look: finds the Python of the tests, what libraries it has and lacks, and the packages of all that is missing
+look() {
+    { read -r python && read -r has && read -r venv && read -r -a lacks; } < <(tests/needs.py)
+    mapfile -t missing < <(
+        for tool in $tools; do command -v "${tool%:*}" > /dev/null || echo "${tool#*:}"; done
+        [ ${#lacks[@]} = 0 ] || { /usr/bin/python3 tests/needs.py own 2> /dev/null || echo "${lacks[@]}"; } | tr ' ' '\n' |
+            sed -n 's/^pillow=/pil=/; s/^\(.*\)==.*/python3-\L\1/p'
+    )
 }
 
-look || lacks=(Python)
-if [ "${1-}" = packages ]; then packages; exit; fi
-if [ -n "$python" ] && [ ${#lacks[@]} -gt 0 ]; then
-    [ "$python" = "$venv/bin/python" ] || "$python" -m venv --clear --without-pip --system-site-packages "$venv"
-    "$python" -m pip --python "$venv" install -q --retries 1 --timeout 15 "${lacks[@]}" 2> /dev/null ||
-        echo "pip could not install ${lacks[*]}"
+# apt-get itself waits for dpkg's lock, but not for the lock of its lists
+apt() { $sudo env LC_ALL=C DEBIAN_FRONTEND=noninteractive apt-get -y -o DPkg::Lock::Timeout=300 "$@" > "$log" 2>&1 < /dev/null; }
+
+install() {
+    echo "installing by apt-get: $*"
+    until apt update || ! grep -q 'Could not get lock' "$log" || ((waits++ == 20)); do sleep 15; done
+    apt install --no-install-recommends "$@" ||
+        for package; do apt install --no-install-recommends "$package" || tail -n 1 "$log"; done
     look
+}
+
+look
+if [ "${SETUP-}" != no ]; then
+    [ ${#missing[@]} = 0 ] || ! command -v apt-get > /dev/null || ! $sudo true 2> /dev/null || install "${missing[@]}"
+    if [ ${#lacks[@]} -gt 0 ] && "$python" -m pip --version > /dev/null 2>&1; then
+        echo "installing by pip in $venv: ${lacks[*]}"
+        [ "$python" = "$venv/bin/python" ] || "$python" -m venv --clear --without-pip --system-site-packages "$venv"
+        "$python" -m pip --python "$venv" install -q --retries 1 --timeout 15 "${lacks[@]}" > "$log" 2>&1 || tail -n 1 "$log"
+        look
+    fi
 fi
 echo "the tests use ${python:-no Python}: $has"
-missing=$(packages | paste -sd ' ')
-[ -z "$missing" ] || echo "missing, and what wants them is left out or fails: apt-get install $missing"
+[ ${#missing[@]} = 0 ] || echo "missing, and what wants it is left out: apt-get install ${missing[*]}"
+[ -n "$python" ]

@@ -30,7 +30,9 @@ def read_to_end(terminal, told):
 def on_terminal(words):
     """The status, what came on standard output, and what the terminal showed."""
     ours, theirs = pty.openpty()
-    process = subprocess.Popen([PROGRAM, *words.split()], stdin=subprocess.PIPE, stdout=subprocess.PIPE, stderr=theirs)
+    process = subprocess.Popen(
+        [PROGRAM, *words.split()], stdin=subprocess.PIPE, stdout=subprocess.PIPE, stderr=theirs
+    )
     os.close(theirs)
     told = []
     reader = threading.Thread(target=read_to_end, args=(ours, told))
@@ -44,28 +46,44 @@ def on_terminal(words):
 def tells(told):
     """Whether the terminal showed growing numbers of generations with their shares, and the line was wiped in the end."""
     lines = [tuple(map(int, found.groups())) for found in LINE.finditer(told)]
-    right = all(total == GENERATIONS and part < total and share == part * 100 // total for part, total, share in lines)
+    right = all(
+        total == GENERATIONS and part < total and share == part * 100 // total
+        for part, total, share in lines
+    )
     return lines != [] and lines == sorted(lines) and right and LINE.sub("", told) == WIPE
 
 
 def is_told(words, is_long):
     plain = subprocess.run([PROGRAM, *words.split()], input=SCENE, capture_output=True)
     status, answer, told = on_terminal(words)
-    return (status, answer) == (plain.returncode, plain.stdout) == (0, plain.stdout) and not plain.stderr and (tells(told) if is_long else told == "")
+    return (
+        (status, answer) == (plain.returncode, plain.stdout) == (0, plain.stdout)
+        and not plain.stderr
+        and (tells(told) if is_long else told == "")
+    )
 
 
 def awaits_scene():
     ours, theirs = pty.openpty()
-    process = subprocess.Popen([PROGRAM, "check"], stdin=theirs, stdout=subprocess.PIPE, stderr=subprocess.PIPE)
+    process = subprocess.Popen(
+        [PROGRAM, "check"], stdin=theirs, stdout=subprocess.PIPE, stderr=subprocess.PIPE
+    )
     os.close(theirs)
     os.write(ours, SCENE.replace(b"rate = 300", b"rate = 0") + b"\x04")
     answer, told = process.communicate()
     os.close(ours)
     line = b"fhpgas: type a scene, and end it by Ctrl-D on a line of its own\n"
-    return (process.returncode, answer, told) == (0, b"gas fhp1 width 512 height 512 solid 0 particles 0\n", line)
+    return (process.returncode, answer, told) == (
+        0,
+        b"gas fhp1 width 512 height 512 solid 0 particles 0\n",
+        line,
+    )
 
 
-cases = {words: is_told(words, words.count(str(GENERATIONS))) for words in (f"run --generations {GENERATIONS}", BLOCKS, "check", "run --generations 0")}
+cases = {
+    words: is_told(words, words.count(str(GENERATIONS)))
+    for words in (f"run --generations {GENERATIONS}", BLOCKS, "check", "run --generations 0")
+}
 cases["a scene that is typed"] = awaits_scene()
 for name in (name for name, is_right in cases.items() if not is_right):
     print(f"FAILED: {name}")

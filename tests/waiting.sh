@@ -3,7 +3,7 @@
 # lines, and tries that it finds the ones of three wrong models. A model is not the program: it is kept like the code of the waiting by
 # hand. Ends with the counts.
 . "$(dirname "$0")/try.sh"
-command -v spin > /dev/null || { echo '0 passed, 0 failed, all left out, because spin is missing: apt-get install spin'; exit; }
+has spin 'all' || { tell; exit; }
 model=$PWD/tests/waiting.pml
 cd "$room" || exit 1
 

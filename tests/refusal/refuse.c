@@ -1,8 +1,8 @@
 /* Refuses requests for memory and for threads, which are the calls of malloc, realloc and pthread_create that the program itself makes;
    what its libraries ask for is let through. REFUSE_AT=n refuses the n-th, REFUSE_FROM=n that and all after it. At the end it writes to
    the file REFUSE_SEEN how many it saw, how many it refused, how many threads were started, how many of these were joined, how many bytes
-   the program has not given back, how many requests it saw between the last start of a thread and the first join, and how many bytes were
-   asked for in all. Loaded with LD_PRELOAD. */
+   the program has not given back, how many requests it saw between the last start of a thread and the first join, how many bytes were
+   asked for in all, at once, and at most held. Loaded with LD_PRELOAD. */
 #define _GNU_SOURCE
 #include <dlfcn.h>
 #include <errno.h>
@@ -16,7 +16,7 @@
 #include <sys/syscall.h>
 #include <unistd.h>
 
-static atomic_long seen, refused, started, joined, held, since_start, asked;
+static atomic_long seen, refused, started, joined, held, since_start, asked, largest, most_held;
 static atomic_int is_joining;
 static long refuse_at = -1, refuse_from;
 static char *low, *high; /* where the program's own code lies */
@@ -49,8 +49,8 @@ __attribute__((constructor)) static void begin(void) {
 __attribute__((destructor)) static void end(void) {
     const char *file = getenv("REFUSE_SEEN");
     if (!file) return;
-    const atomic_long *told[] = {&seen, &refused, &started, &joined, &held, &since_start, &asked};
-    char text[160];
+    const atomic_long *told[] = {&seen, &refused, &started, &joined, &held, &since_start, &asked, &largest, &most_held};
+    char text[240];
     int length = 0;
     for (size_t i = 0; i < sizeof told / sizeof *told; i++) length += sprintf(text + length, "%ld ", atomic_load(told[i]));
     int to = open(file, O_WRONLY | O_CREAT | O_TRUNC, 0644);
@@ -79,9 +79,16 @@ static int is_refused(void *caller) {
     return refuse;
 }
 
+static void raise_to(atomic_long *most, long value) {
+    long before = atomic_load(most);
+    while (before < value && !atomic_compare_exchange_weak(most, &before, value)) continue;
+}
+
 static void *kept(void *caller, void *block, size_t size) {
     if (block && is_own(caller)) {
-        atomic_fetch_add(&held, (long)malloc_usable_size(block));
+        long usable = (long)malloc_usable_size(block);
+        raise_to(&most_held, atomic_fetch_add(&held, usable) + usable);
+        raise_to(&largest, (long)size);
         atomic_fetch_add(&asked, (long)size);
     }
     return block;
