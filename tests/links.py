@@ -1,8 +1,8 @@
 #!/usr/bin/env python3
 """Looks up the links of the Markdown files that lead into the repository: the file must exist, and the anchor must be a heading's, by the
 rule of hosts such as GitHub. Links to other places are not tried. The table in docs/ARCHITECTURE.md must have the crates of crates.txt, and
-only these, and its last table names only files, folders and crates that exist. The help of the program must have the commands and the
-columns of docs/FORMATS.md. Ends with the counts."""
+only these. Its lists of where to put a change name only what exists, and for a gas and a key also places in page/ and python/. The help of
+the program must have the commands and the columns of docs/FORMATS.md. Ends with the counts."""
 
 import collections
 import pathlib
@@ -19,6 +19,7 @@ LINK = re.compile(
 )
 HEADING = re.compile(r"^#{1,6}[ \t]+(.*?)[ \t]*#*$", re.M)
 NAMED = re.compile(r"<\w+ (?:id|name)=\"([^\"]+)\"")
+SUFFIXES = (".rt", ".antt", ".py", ".js", ".mjs", ".c", ".h", ".md")
 ELSEWHERE = re.compile(r"[a-z][a-z0-9+.-]*:", re.I)
 
 
@@ -81,34 +82,40 @@ def crates():
     }
 
 
-def absent_places():
-    """What the last table of docs/ARCHITECTURE.md names and is not there. A file without a folder is in the folder that was named last."""
-    for row in re.findall(
-        r"^\|.*\|$",
-        (ROOT / "docs/ARCHITECTURE.md").read_text().split("## Where to put a change")[1],
-        re.M,
-    ):
-        for cell in row.split("|"):
-            folder = ROOT
-            for name in re.findall(r"`([\w./-]+)`", cell):
-                is_path = "/" in name or pathlib.Path(name).suffix in (
-                    ".rt",
-                    ".antt",
-                    ".py",
-                    ".c",
-                    ".h",
-                    ".md",
-                )
+def changes():
+    """The changes of docs/ARCHITECTURE.md with the places of each, where it says where to put a change: (heading, paths as written and on this
+    disk, or None for what is not there). A file without a folder is in the folder that was named last, in its item or before the first.
+    """
+    section = (ROOT / "docs/ARCHITECTURE.md").read_text().split("## Where to put a change")[1]
+    for change in re.split(r"^### ", section, flags=re.M)[1:]:
+        places, above = [], ROOT
+        for number, item in enumerate(re.split(r"^(?:- |\d+\. )", change, flags=re.M)):
+            folder = above
+            for name in re.findall(r"`([\w./-]+)`", item):
+                is_path = "/" in name or pathlib.Path(name).suffix in SUFFIXES
                 if not is_path and not re.fullmatch(r"(gas|tests)_\w+", name) or "NAME" in name:
                     continue
-                places = [
-                    base / name.removeprefix("C/") for base in (ROOT, ROOT / "crates", folder)
-                ]
-                there = next((place for place in places if place.exists()), None)
-                if not there:
-                    yield name
-                elif is_path:
+                bases = ROOT, ROOT / "crates", folder, folder.parent
+                found = (base / name.removeprefix("C/") for base in bases)
+                there = next((place for place in found if place.exists()), None)
+                places.append((name, there))
+                if there and is_path:
                     folder = there if there.is_dir() else there.parent
+            if number == 0:
+                above = folder
+        yield change.split("\n")[0], places
+
+
+def faults_of_the_map():
+    """What the changes name and is not there, and what the ones that go through every room leave out."""
+    listed = dict(changes())
+    for change, places in listed.items():
+        yield from (f"{name} is not there" for name, there in places if not there)
+    for change in "Another gas", "Another key of a scene":
+        named = [there for _, there in listed.get(change, []) if there]
+        for room in "crates", "python", "page":
+            if not any(ROOT / room in place.parents for place in named):
+                yield f"'{change}' names nothing in {room}/"
 
 
 def help_and_formats():
@@ -141,9 +148,9 @@ def faults_of_sources():
         print(
             f"FAILED: {name} stands in crates.txt or in the table of docs/ARCHITECTURE.md, and not in both"
         )
-    for name in absent_places():
+    for wrong in faults_of_the_map():
         failed += 1
-        print(f"FAILED: docs/ARCHITECTURE.md, 'Where to put a change': {name} is not there")
+        print(f"FAILED: docs/ARCHITECTURE.md, 'Where to put a change': {wrong}")
     for told, written in help_and_formats():
         failed += told != written or not told
         if told != written:
