@@ -21,7 +21,7 @@ has() { command -v "$1" > /dev/null || { leave_out "$2, because $1 is missing" &
 # part WORDS..: tries a script or a function, and prints its last line and its seconds, or all that it says if it fails. Status 77 says that
 # the script left something out. A script that hangs is aborted after an hour, and Python then says where it stood.
 part() {
-    local begun=$SECONDS status=0 limit=(env PYTHONFAULTHANDLER=1 timeout -v -s ABRT -k 60 3600)
+    local begun=$SECONDS status=0 limit=(env PYTHONFAULTHANDLER=1 timeout --foreground -v -s ABRT -k 60 3600)
     [ "$(type -t "$1")" != function ] || limit=()
     "${limit[@]}" "$@" > "$room/log" 2>&1 || status=$?
     case $status in
