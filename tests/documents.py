@@ -1,7 +1,7 @@
 #!/usr/bin/env python3
 """Runs the commands of the documents as they are printed: a block marked `sh` must end with 0, and if the block after it is marked `text`,
-it must print that. The package is on the path. The blocks of a document follow one another in one folder. Documents go side by side. Ends
-with the counts."""
+it must print that. The package is on the path. The blocks of a document follow one another in one folder. Documents go side by side. Each
+message that docs/TROUBLE.md explains must stand in a source. Ends with the counts."""
 
 import concurrent.futures
 import os
@@ -47,8 +47,35 @@ def tried(document):
                 yield commands, fault(commands, text if after == "text" else None, room)
 
 
+def words_of_sources():
+    """The sources that print messages, with literals that Python or Rust joins joined."""
+    folders = {"python/fhpgas": "*.py", "page/src": "*.js", "crates": "*/src/*.rt", "tools": "*"}
+    paths = [path for folder, name in folders.items() for path in (needs.ROOT / folder).glob(name)]
+    paths += [
+        needs.ROOT / name for name in ("fhpgas", "Makefile", "tests/setup.sh", "page/fhpgas.html")
+    ]
+    texts = [path.read_text(errors="replace") for path in paths if path.is_file()]
+    return [re.sub(r'"\s*f?"', "", " ".join(text.split())) for text in texts]
+
+
+def messages():
+    """The messages that docs/TROUBLE.md explains, and whether a source has them: the parts between `..` stand in one file, in this order. An
+    archive lacks the sources."""
+    sources = words_of_sources() if (needs.ROOT / "crates.txt").exists() else []
+    page = (needs.ROOT / "docs/TROUBLE.md").read_text() if sources else ""
+    for item in re.findall(r"^- (`.*?`(?:, `.*?`)*):", " ".join(page.split("\n  ")), re.M):
+        for message in re.findall(r"`(.*?)`", item):
+            parts = map(re.escape, (part.strip() for part in message.split("..")))
+            pattern = re.compile(".{1,80}?".join(parts))
+            yield message, any(map(pattern.search, sources))
+
+
 def main():
     passed = failed = 0
+    for message, is_known in messages():
+        passed, failed = passed + is_known, failed + (not is_known)
+        if not is_known:
+            print(f"FAILED: docs/TROUBLE.md: no source has {message}")
     with concurrent.futures.ThreadPoolExecutor(os.cpu_count()) as pool:
         for document, blocks in zip(
             DOCUMENTS, pool.map(lambda document: list(tried(document)), DOCUMENTS)
