@@ -20,7 +20,7 @@ examples() {
 # quick: for the time between edits. A program that FHPGAS names, or that is built and newer than the sources, is tried from outside, else a
 # few worked examples by `rt try`, in some minutes. Nothing is proved.
 quick() {
-    parts lint.sh links.py definitions.py proved.py derivation.py edges.py values.py
+    parts lint.sh links.py prose.py definitions.py proved.py derivation.py edges.py values.py
     if [ -n "${FHPGAS-}" ] || tools/is_built; then
         parts command_line.py help.py documents.py explanations.py python_package.py package_commands.py
         part tests/mutated_scenes.py 300

@@ -1,6 +1,8 @@
 #!/usr/bin/env python3
-"""Prints how many sentences of the documents have more than forty words, and with --list the sentences too. Code, tables and headings are
-left out. Paragraphs and items of lists begin sentences. Fails if a document of SHORT has a long one."""
+"""Reads the documents as text. Prints how many words each has, and how many sentences of more than forty words, with --list these too. A
+word has a letter or a digit, so bars of tables are none. Code, tables and headings have no sentences. Paragraphs and items of lists begin
+sentences. Fails if a document of SHORT has a long sentence, if a document has a word that is GONE, or if all of them, without MADE, which
+a script makes, and OWN, have more words than MOST. Ends with the counts."""
 
 import re
 import sys
@@ -8,12 +10,26 @@ import sys
 import links
 
 MOST_WORDS = 40
-SHORT = ["README.md", "docs/GUIDE.md", "docs/PHYSICS.md", "docs/EXPERIMENTS.md"]
+SHORT = ["README.md", "docs/GUIDE.md", "docs/PHYSICS.md", "docs/EXPERIMENTS.md", "docs/TROUBLE.md"]
+MOST = 26_000
+MADE, OWN = ["docs/DEFINITIONS.md"], ["docs/ANSWERS.md", "docs/DERIVATION.md"]
+GONE = {  # by docs/GLOSSARY.md each term has one meaning, and stands beside the field's word, in italics
+    r"(?<!\*)\bpipelines?\b": "line",
+    r"\blists? of turns\b(?!, the order)": "schedule",
+    r"\bblocks? of (?:64|256|8 KiB|16 KiB)\b": "word, part or chunk",
+    r"\b(?:whole|printed|program's) answers?\b": "output or result",
+    r"\b(?:draws?|drawn) (?:a|the|another) gas\b|\bgas is drawn\b": "lattice",
+    r"\bin place of\b": "instead of",
+    r"\bhas to\b": "must",
+}
+
+
+def without_code(text):
+    return re.sub(r"(?s)<!--.*?-->|<[^>\n]+>", "", links.FENCE.sub("\n\n", text))
 
 
 def sentences(text):
-    text = re.sub(r"(?s)<!--.*?-->|<[^>\n]+>", "", links.FENCE.sub("\n\n", text))
-    text = re.sub(r"^(\||#|\[[^\]]+\]:).*$", "", text, flags=re.M)
+    text = re.sub(r"^(\||#|\[[^\]]+\]:).*$", "", without_code(text), flags=re.M)
     for paragraph in re.split(r"\n\s*\n|\n\s*(?:[-*]|\d+\.)\s", "\n" + text):
         plain = re.sub(r"`[^`]*`", "CODE", " ".join(paragraph.split()))
         yield from re.split(
@@ -21,22 +37,41 @@ def sentences(text):
         )
 
 
+def gone(text):
+    """The words of a document that are gone, and the ones that took their place."""
+    plain = re.sub(r"`[^`\n]*`", "", without_code(text))
+    for pattern, instead in GONE.items():
+        yield from ((found[0], instead) for found in re.finditer(pattern, plain))
+
+
+def number_of_words(text):
+    return sum(bool(re.search(r"\w", word)) for word in text.split())
+
+
+def complaints(name, text):
+    """What is wrong with a document. Prints its line of counts."""
+    found = [it for it in sentences(text) if len(it.split()) > MOST_WORDS]
+    print(f"{number_of_words(text):6} words, {len(found):3} long sentences in {name}")
+    if sys.argv[1:] == ["--list"]:
+        print("\n".join(f"    {it}" for it in found))
+    yield from (f"a long sentence: {it}" for it in found if name in SHORT)
+    if name not in MADE:
+        yield from (f"'{word}' is gone: {instead}" for word, instead in gone(text))
+
+
 def main():
+    texts = {str(path.relative_to(links.ROOT)): path.read_text() for path in links.documents()}
     failed = 0
-    documents = links.documents()
-    for document in documents:
-        name = str(document.relative_to(links.ROOT))
-        found = [
-            sentence
-            for sentence in sentences(document.read_text())
-            if len(sentence.split()) > MOST_WORDS
-        ]
-        failed += bool(found) and name in SHORT
-        print(f"{len(found):3} long sentences in {name}")
-        if sys.argv[1:] == ["--list"] or found and name in SHORT:
-            print("\n".join(f"    {sentence}" for sentence in found))
-    print(f"{len(documents) - failed} passed, {failed} failed")
-    return 1 if failed else 0
+    for name, text in texts.items():
+        wrong = list(complaints(name, text))
+        failed += bool(wrong)
+        print("".join(f"FAILED: {name}: {it}\n" for it in wrong), end="")
+    number = sum(number_of_words(it) for name, it in texts.items() if name not in MADE + OWN)
+    if number > MOST:
+        print(f"FAILED: {number} words in all, more than {MOST}")
+    print(f"{number} words in all")
+    print(f"{len(texts) - failed + (number <= MOST)} passed, {failed + (number > MOST)} failed")
+    return 1 if failed or number > MOST else 0
 
 
 sys.exit(main())
