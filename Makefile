@@ -9,6 +9,7 @@
 #   make page             bundles page/src into page/fhpgas.html, by esbuild
 #   make wheel            packs the Python package into out/, with the engine for Linux, and without it for other systems
 #   make archive FILE=F   packs fhpgas, built apart for x86-64-v2, into F, a .tar.gz for machines without the kit
+#   make release          makes out/release with all that is handed out: archive, wheels, page, record, a sheet for a lesson, and their sums
 #   make clean            removes all that was built
 #
 # A crate is proved again only if the content of what its proof reads changed: kit, line of crates.txt, files, libraries below it.
@@ -31,8 +32,8 @@ help: ; @sed -n 's/^#   //p' Makefile
 
 # All below proves and builds. An unpacked archive, in which the rest works too, has no crates.
 ifneq ($(filter-out quick package test page clean help,$(or $(MAKECMDGOALS),all)),)
-CPU := $(if $(filter archive,$(MAKECMDGOALS)),x86-64-v2,$(shell tools/level))
-out := $(if $(filter archive,$(MAKECMDGOALS)),out/v2,out)
+CPU := $(if $(filter archive release,$(MAKECMDGOALS)),x86-64-v2,$(shell tools/level))
+out := $(if $(filter archive release,$(MAKECMDGOALS)),out/v2,out)
 kit := $(patsubst %/START-HERE.md,%,$(shell rt doc 2>&1 || :))
 
 # The crates in the order in which they begin, with the seconds that one processor takes to prove each: first the ones for which the longest
@@ -83,7 +84,7 @@ done = $(if $(is_program),touch -r $(begun) $(made);) echo $@ >> $(tally)
 $(shell mkdir -p crates/fhpgas/$(out) $(wanted:%=crates/%/out) && cd crates/fhpgas && rm -rf $(told) && : > $(tally) && touch $(begun))
 
 # While it is proved, a crate's folder has rt's lock, and the folders below a shared one.
-.PHONY: all engine wheel $(names)
+.PHONY: all engine wheel release $(names)
 all: fhpgas engine
 engine: $(statics)
 $(names):
@@ -122,4 +123,5 @@ $(names):
 
 wheel: engine ; @tools/wheel.sh out && tools/wheel.sh out any
 archive: $(if $(FILE),all) ; @tools/archive.sh "$(FILE)" crates/fhpgas/$(out)/fhpgas
+release: all ; @tools/release.sh out/release crates/fhpgas/$(out)/fhpgas
 endif

@@ -1,5 +1,6 @@
 #!/bin/bash
-# Packs the built program, unpacks it far from kit and sources, and runs the program and the Python package there. Ends with the counts.
+# Makes the release of the built program, unpacks its archive far from kit and sources, and runs the program and the Python package there.
+# Ends with the counts.
 . "$(dirname "$0")/try.sh"
 
 # alone WORDS..: a command in the unpacked folder, without this machine's environment
@@ -25,10 +26,20 @@ assert fhpgas.engine.serves(start, 9) and start.run(9) == start.run(9, stages=1)
 is_old_enough() { [ "$({ grep -ahoP 'GLIBC_\K2[.0-9]+' "$folder"/python/fhpgas/*.so; echo 2.17; } | sort -V | tail -n 1)" = 2.17 ]; }
 
 python=$(tests/needs.py | sed -n 1p)
+# number FILES..: how many they are
+number() { echo $#; }
+
+# has_files FILES..: whether the release has these files, which are not empty
+has_files() { local file; for file; do [ -s "$room/release/$file" ] || { echo "$file is missing"; return 1; }; done; }
+
 mkdir "$room/other place"
-try 'the archive is packed' tools/archive.sh "$room/packed.tar.gz"
-try 'nothing but the archive is left where it is written' [ "$(cd "$room" && echo *)" = 'other place packed.tar.gz' ]
-try 'it unpacks' tar -xzf "$room/packed.tar.gz" -C "$room/other place"
+try 'the release is made' tools/release.sh "$room/release"
+version=$(crates/fhpgas/out/fhpgas --version | cut -d ' ' -f 2)
+try 'it has archive, page and lesson' has_files "fhpgas-$version.tar.gz" fhpgas.html LESSON.md NOTICES.md LICENSE-MIT LICENSE-APACHE
+try 'it has a wheel for Linux and one for all systems' [ "$(number "$room/release"/*.whl)" = 2 ]
+try 'the sums are of all that is in it' [ "$(number "$room/release"/*)" = "$(($(grep -c '' "$room/release/SHA256SUMS") + 1))" ]
+try 'and are right' env -C "$room/release" sha256sum --check --quiet SHA256SUMS
+try 'the archive unpacks' tar -xzf "$room/release/fhpgas-$version.tar.gz" -C "$room/other place"
 folder=$(echo "$room/other place"/*)
 try 'it holds one folder' [ -d "$folder" ]
 try 'and in it nothing but files and folders' [ -z "$(find "$folder" ! -type f ! -type d)" ]
@@ -48,7 +59,7 @@ try 'it has an engine of its own' runs_inside
 wheel=$(cd "$folder" && echo fhpgas-*.whl)
 try 'the wheel says its platform' [ "${wheel#*-py3-none-}" = manylinux_2_17_x86_64.whl ]
 try 'and is right' is_old_enough
-if command -v wasm-opt > /dev/null; then try 'the page has the engine' [ -s "$folder/page/engine.js" ]; else leave_out "the page's engine"; fi
+if command -v wasm-opt > /dev/null; then try 'the page has the engine' cmp "$folder/page/engine.js" "$room/release/engine.js"; else leave_out "the page's engine"; fi
 try 'C has the header and an example' [ -s "$folder/include/fhpgas.h" -a -s "$folder/examples/profile.c" ]
 FHPGAS=$folder/fhpgas part tests/wheel.py "$folder"/fhpgas-*.whl
 

@@ -1,7 +1,8 @@
 #!/usr/bin/env python3
 """Runs the commands of the documents as they are printed: a block marked `sh` must end with 0, and if the block after it is marked `text`,
 it must print that. The package is on the path. The blocks of a document follow one another in one folder. Documents go side by side. Each
-message that docs/TROUBLE.md explains must stand in a source. Ends with the counts."""
+message that docs/TROUBLE.md explains must stand in a source, and each start of the page that LESSON and GUIDE name in the page's. Ends with
+the counts."""
 
 import concurrent.futures
 import os
@@ -70,12 +71,24 @@ def messages():
             yield message, any(map(pattern.search, sources))
 
 
+def starts():
+    """The starts of the page that docs/LESSON.md and docs/GUIDE.md name, and whether the page has them."""
+    sources = (needs.ROOT / "page/src/presets.js").read_text()
+    lesson, guide = ((needs.ROOT / f"docs/{name}.md").read_text() for name in ("LESSON", "GUIDE"))
+    for name in re.findall(
+        r'"([^"]+)"', lesson + guide.partition("## It moves")[2].split("```")[0]
+    ):
+        name = " ".join(name.split())
+        yield name, f'"{name}": {{' in sources
+
+
 def main():
     passed = failed = 0
-    for message, is_known in messages():
-        passed, failed = passed + is_known, failed + (not is_known)
-        if not is_known:
-            print(f"FAILED: docs/TROUBLE.md: no source has {message}")
+    for what, named in ("message of docs/TROUBLE.md", messages()), ("start of the page", starts()):
+        for name, is_known in named:
+            passed, failed = passed + is_known, failed + (not is_known)
+            if not is_known:
+                print(f"FAILED: no source has the {what}: {name}")
     with concurrent.futures.ThreadPoolExecutor(os.cpu_count()) as pool:
         for document, blocks in zip(
             DOCUMENTS, pool.map(lambda document: list(tried(document)), DOCUMENTS)

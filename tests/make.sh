@@ -7,9 +7,9 @@
 top=$room/top kit=$room/kit
 mkdir -p "$kit"/{bin,rlibs,toolchain/bin} "$top"/crates/{low,high,inside,fhpgas}/src "$top"/{python/fhpgas,page}
 cp -r Makefile fhpgas tools "$top"
-cat > "$top/tools/archive.sh" << 'END'
+tee "$top"/tools/{archive,release}.sh > /dev/null << 'END'
 #!/bin/sh
-cp "$2" "$1"
+mkdir -p "${1%/*}" && cp "$2" "$1"
 END
 printf '# the crates\nlow: core\nhigh: low clap\ninside staticlib: high\n\nfhpgas: high\n' > "$top/crates.txt"
 tee "$top"/crates/{low,high,inside}/src/lib.rt > "$top/crates/fhpgas/src/main.rt" <<< $'stated\nproved'
@@ -117,6 +117,8 @@ try 'with its level beside it' [ "$(cat crates/fhpgas/out/v2/level)" = x86-64-v2
 for file in fhpgas level sums; do try "the own $file is left as it was" cmp "$room/own/$file" "crates/fhpgas/out/$file"; done
 try 'and is run' proves '' quietly
 try 'a second archive proves nothing' proves '' build archive FILE="$room/packed"
+try 'so does a release' proves '' build release
+try 'which is of the same program' cmp out/release crates/fhpgas/out/v2/fhpgas
 
 { # what a real check said of a body that is wrong, before twenty lines about libraries
     echo 'note: src/rectangle.rt:29:5: it is not proved that what the function ensures holds when it returns'
