@@ -1,8 +1,8 @@
 #!/usr/bin/env python3
 """Reads the documents as text. Prints how many words each has, and how many sentences of more than forty words, with --list these too. A
 word has a letter or a digit, so bars of tables are none. Code, tables and headings have no sentences. Paragraphs and items of lists begin
-sentences. Fails if a document of SHORT has a long sentence, if a document has a word that is GONE, or if all of them, without MADE, which
-a script makes, and OWN, have more words than MOST. Ends with the counts."""
+sentences. Fails if a document has a long sentence and is not in LONG, or a word that is GONE, or more words than MOST_OF it, or if all of
+them, without MADE, which a script makes, and OWN, have more than MOST. Ends with the counts."""
 
 import re
 import sys
@@ -10,9 +10,10 @@ import sys
 import links
 
 MOST_WORDS = 40
-SHORT = ["README.md", "docs/GUIDE.md", "docs/PHYSICS.md", "docs/EXPERIMENTS.md", "docs/TROUBLE.md"]
-MOST = 26_000
+MOST = 25_500
 MADE, OWN = ["docs/DEFINITIONS.md"], ["docs/ANSWERS.md", "docs/DERIVATION.md"]
+LONG = [*MADE, "docs/ANSWERS.md", "docs/PROVED.md", "bench/LOG.md"]  # promises and figures in a row
+MOST_OF = {"docs/TROUBLE.md": 500, "docs/LESSON.md": 400, "README.md": 950}
 GONE = {  # by docs/GLOSSARY.md each term has one meaning, and stands beside the field's word, in italics
     r"(?<!\*)\bpipelines?\b": "line",
     r"\blists? of turns\b(?!, the order)": "schedule",
@@ -51,10 +52,13 @@ def number_of_words(text):
 def complaints(name, text):
     """What is wrong with a document. Prints its line of counts."""
     found = [it for it in sentences(text) if len(it.split()) > MOST_WORDS]
-    print(f"{number_of_words(text):6} words, {len(found):3} long sentences in {name}")
+    number = number_of_words(text)
+    print(f"{number:6} words, {len(found):3} long sentences in {name}")
     if sys.argv[1:] == ["--list"]:
         print("\n".join(f"    {it}" for it in found))
-    yield from (f"a long sentence: {it}" for it in found if name in SHORT)
+    yield from (f"a long sentence: {it}" for it in found if name not in LONG)
+    if number > MOST_OF.get(name, number):
+        yield f"more than {MOST_OF[name]} words"
     if name not in MADE:
         yield from (f"'{word}' is gone: {instead}" for word, instead in gone(text))
 
