@@ -5,6 +5,7 @@ largest area, and the widest rows through the longest line, if memory allows.
 Fails if an answer is not as docs/FORMATS.md says. The times and sizes are only shown.
 Usage: tests/large_scenes.py [MEBIBYTES], by default 1. The program reads at most 64.
 """
+import itertools
 import os
 import random
 import subprocess
@@ -38,82 +39,89 @@ def rectangle(rng):
     return f"[{x},{y},{rng.randint(1, SIDE - x)},{rng.randint(1, SIDE - y)}],"
 
 
-def texts(size):
-    """The texts as names, their pieces and the answers."""
-    rng = random.Random(1)
-    half, at_random = size // 2, "".join(rectangle(rng) for _ in range(2000))
-    yield "one particle, again and again", repeated(
-        AREA + "particles = [", "[0,0,1],", "]\n", size
-    ), SHOWN % (0, 1)
-    yield "particles in a column of solid cells", repeated(
-        AREA + f"solid = [[0,0,1,{SIDE}]]\nparticles = [", "[0,0,1],", "]\n", size
-    ), RANGE
+def areas(size):
+    """Areas with as many particles and rectangles as have room."""
+    at_random = random.Random(1)
     column = "".join(f"[{SIDE // 2 + y % 2048},{y},1]," for y in range(SIDE))
-    yield "particles all over the area", repeated(
-        AREA + "particles = [", column, "]\n", max(size, 2 * len(column))
-    ), SHOWN % (0, SIDE)
-    yield "rectangles of one cell", repeated(
-        AREA + "solid = [", "[0,0,1,1],", "]\n", size
-    ), SHOWN % (1, 0)
-    yield "rectangles of a row", repeated(
-        AREA + "solid = [", f"[0,0,{SIDE},1],", "]\n", size
-    ), SHOWN % (SIDE, 0)
-    yield "rectangles of a column", repeated(
-        AREA + "solid = [", f"[0,0,1,{SIDE}],", "]\n", size
-    ), SHOWN % (SIDE, 0)
-    yield "rectangles of the area", repeated(
-        AREA + "solid = [", f"[0,0,{SIDE},{SIDE}],", "]\n", size
-    ), SHOWN % (SIDE * SIDE, 0)
-    yield "rectangles at random", repeated(
-        AREA + "solid = [[0,0,4096,4096],", at_random, "]\n", size
-    ), SHOWN % (SIDE * SIDE, 0)
-    left = repeated(AREA + "solid = [", f"[0,0,{SIDE // 2},{SIDE}],", "]\n", half)
-    yield "half rectangles, half particles", left + repeated(
-        "particles = [", column, "]\n", max(half, 2 * len(column))
-    ), SHOWN % (SIDE * SIDE // 2, SIDE)
-    yield "empty arrays", repeated(AREA + "solid = [", "[],", "]\n", size), WRONG_TYPE
-    yield "empty rows", repeated('gas = "fhp1"\ncells = [', '"",', "]\n", size), RANGE
+    wall = AREA + f"solid = [[0,0,1,{SIDE}]]\nparticles = ["
+    several = "".join(rectangle(at_random) for _ in range(2000))
+    half = repeated(AREA + "solid = [", f"[0,0,{SIDE // 2},{SIDE}],", "]\n", size // 2)
+    wide = 'version = 2\ngas = "fhp1"\nwidth = 65536\nheight = 2\nrate = 1000\nsolid = ['
+
+    def listed(before, item, least=0):
+        return repeated(before, item, "]\n", max(size, least))
+
+    def rectangles(width, height):
+        return listed(AREA + "solid = [", f"[0,0,{width},{height}],"), SHOWN % (width * height, 0)
+
+    yield "one particle, again and again", listed(AREA + "particles = [", "[0,0,1],"), SHOWN % (
+        0,
+        1,
+    )
+    yield "particles in a column of solid cells", listed(wall, "[0,0,1],"), RANGE
+    all_over = listed(AREA + "particles = [", column, 2 * len(column))
+    yield "particles all over the area", all_over, SHOWN % (0, SIDE)
+    yield "rectangles of one cell", *rectangles(1, 1)
+    yield "rectangles of a row", *rectangles(SIDE, 1)
+    yield "rectangles of a column", *rectangles(1, SIDE)
+    yield "rectangles of the area", *rectangles(SIDE, SIDE)
+    shuffled = listed(AREA + "solid = [[0,0,4096,4096],", several)
+    yield "rectangles at random", shuffled, SHOWN % (SIDE * SIDE, 0)
+    half += repeated("particles = [", column, "]\n", max(size // 2, 2 * len(column)))
+    yield "half rectangles, half particles", half, SHOWN % (SIDE * SIDE // 2, SIDE)
+    shown = "gas fhp1 width 65536 height 2 solid 131070 particles 12"
+    yield "rectangles across the widest rows", listed(wide, "[0,0,65535,2],"), shown
+
+
+def maps(size):
+    """Maps with as many rows as have room."""
     rows = min(SIDE, size // (2 * SIDE + 4))
-    row = '"' + "3f" * SIDE + '",\n'
-    yield "a map", ['gas = "fhp1"\ncells = [\n'] + [row] * rows + [
-        "]\n"
-    ], f"gas fhp1 width {SIDE} height {rows} solid 0 particles {6 * SIDE * rows}"
+    text = ['gas = "fhp1"\ncells = [\n'] + ['"' + "3f" * SIDE + '",\n'] * rows + ["]\n"]
+    yield "a map", text, f"gas fhp1 width {SIDE} height {rows} solid 0 particles {6 * SIDE * rows}"
     wide = '"' + "##" * 65535 + '01",\n'
     rows = max(size // len(wide), 1)
-    wide_map = ['version = 2\ngas = "fhp1"\ncells = [\n'] + [wide] * rows + ["]\n"]
-    yield "a map of the widest rows", wide_map, f"gas fhp1 width 65536 height {rows} solid {65535 * rows} particles {rows}"
-    wide_area = 'version = 2\ngas = "fhp1"\nwidth = 65536\nheight = 2\nrate = 1000\nsolid = ['
-    yield "rectangles across the widest rows", repeated(
-        wide_area, "[0,0,65535,2],", "]\n", size
-    ), "gas fhp1 width 65536 height 2 solid 131070 particles 12"
-    yield "nested arrays", repeated("cells = ", "[", "", half) + repeated(
-        "", "]", "\n", half
-    ), SYNTAX
-    yield "nested inline tables", repeated("cells = ", "{a=", "1", 3 * size // 4) + repeated(
-        "", "}", "\n", size // 4
-    ), SYNTAX
+    text = ['version = 2\ngas = "fhp1"\ncells = [\n'] + [wide] * rows + ["]\n"]
+    shown = f"gas fhp1 width 65536 height {rows} solid {65535 * rows} particles {rows}"
+    yield "a map of the widest rows", text, shown
+    yield "empty arrays", repeated(AREA + "solid = [", "[],", "]\n", size), WRONG_TYPE
+    yield "empty rows", repeated('gas = "fhp1"\ncells = [', '"",', "]\n", size), RANGE
+
+
+def numbered(form, size):
+    """Lines with the numbers from 0 on, in pieces, of about as many bytes."""
+    number = max(size // len(form % 10**6), 1)
+    for first in range(0, number, 10000):
+        yield "".join(form % k for k in range(first, first + 10000))
+
+
+def documents(size):
+    """Texts that are hardly scenes: nested, never ended, with many keys, and with hardly any."""
+    half = size // 2
+    nested = repeated("cells = ", "[", "", half) + repeated("", "]", "\n", half)
+    yield "nested arrays", nested, SYNTAX
+    inline = repeated("cells = ", "{a=", "1", 3 * size // 4) + repeated("", "}", "\n", size // 4)
+    yield "nested inline tables", inline, SYNTAX
     yield "nested arrays that never end", repeated("cells = ", "[", "", size), SYNTAX
     yield "one text", repeated('gas = "', "a", '"\ncells = []\n', size), RANGE
     yield "one text that never ends", repeated('gas = "', "a", "", size), SYNTAX
-    yield "keys", [
-        "".join(f"k{k} = 1\n" for k in range(first, first + 10000))
-        for first in range(0, max(size // 13, 1), 10000)
-    ], UNKNOWN
+    yield "keys", list(numbered("k%d = 1\n", size)), UNKNOWN
     yield "one key", repeated("", "k", " = 1\n", size), UNKNOWN
     yield "one key twice", repeated("", "k", " = 1\n", half) * 2, SYNTAX
     yield "one dotted key", repeated("", "k.", "k = 1\n", size), SYNTAX
-    yield "tables", [
-        "".join(f"[t{t}]\n" for t in range(first, first + 10000))
-        for first in range(0, max(size // 11, 1), 10000)
-    ], UNKNOWN
+    yield "tables", list(numbered("[t%d]\n", size)), UNKNOWN
     yield "comments", repeated("", "#\n", "", size), MISSING
     yield "one comment", repeated("#", "a", "\n", size), MISSING
     yield "empty lines", repeated("", "\n", "", size), MISSING
     yield "bytes that are not UTF-8", [b"\xff" * min(size, BLOCK)] * (size // BLOCK), SYNTAX
+
+
+def texts(size):
+    """The texts as names, their pieces and what `check` must say of them."""
+    yield from itertools.chain(areas(size), maps(size), documents(size))
     if has_memory():
-        yield "the largest area", [
-            f'version = 2\ngas = "hpp"\nwidth = {MOST_SIDE}\nheight = {MOST_SIDE}\n'
-        ], f"gas hpp width {MOST_SIDE} height {MOST_SIDE} solid 0 particles 0"
+        side = MOST_SIDE
+        area = f'version = 2\ngas = "hpp"\nwidth = {side}\nheight = {side}\n'
+        yield "the largest area", [area], f"gas hpp width {side} height {side} solid 0 particles 0"
 
 
 def has_memory():

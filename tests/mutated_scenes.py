@@ -4,6 +4,8 @@
 same line and a reason. A text that may be TOML 1.1, which the second reader does not read, must be read or refused. Ends with the counts.
 Usage: tests/mutated_scenes.py [HOW_MANY [SEED]]
 """
+
+import itertools
 import random
 import re
 import subprocess
@@ -336,90 +338,62 @@ class Counts:
         self.kinds[kind] = self.kinds.get(kind, 0) + 1
 
 
-def given_texts():
-    """Every prefix of three scenes, the integers at the edges of 64 bits and of their ranges, past them and as other values, in both
-    versions, a generation with every kind of version, letters in a map, and maps at the limits of both versions.
-    """
+# what a version may be, letters of two bytes and more, and columns of bytes and rows at the limits of both versions
+VERSIONS = ["", *(f"version = {value}" for value in ("1", "3", '"2"', "2.0", "[2]", "2"))]
+LETTERS = "é éé Ж ЖЖ 中 中. 中中 ０１ ٠١ 🙂 🙂🙂 e\u0301 ..é 01Ж 0\u00a0 ｆｆ \u2028\u2028".split(" ")
+LIMITS = {
+    1: [(8192, 1), (8194, 1), (2, 4096), (2, 4097), (8191, 1), (0, 1)],
+    2: [
+        (8194, 1),
+        (2, 4097),
+        (131072, 1),
+        (131074, 1),
+        (2, 65536),
+        (2, 65537),
+        (131071, 1),
+        (0, 1),
+    ],
+}
+
+
+def prefixes():
+    """Every prefix of three scenes."""
     for name in ("drift", "obstacle", "square"):
         text = (needs.ROOT / f"scenes/{name}.toml").read_bytes()
         yield from (text[:length] for length in range(len(text) + 1))
-    keys = {
-        "version": "%s",
-        "generation": "%s",
-        "seed": "%s",
-        "width": "%s",
-        "height": "%s",
-        "rate": "%s",
-    }
-    keys |= {
-        f"solid {k}": "[[" + ", ".join("%s" if i == k else "1" for i in range(4)) + "]]"
-        for k in range(4)
-    }
-    keys |= {
-        f"particles {k}": "[[" + ", ".join("%s" if i == k else "1" for i in range(3)) + "]]"
-        for k in range(3)
-    }
-    for place, form in keys.items():
-        for number in NUMBERS + EDGES + SIDES + GENERATIONS:
-            for version in ({}, {"version": "2"}):
-                area = (
-                    {"gas": '"fhp1"', "width": "4", "height": "3"}
-                    | version
-                    | {place.split()[0]: form % number}
-                )
-                yield "\n".join(f"{key} = {value}" for key, value in area.items()).encode()
-    for version in (
-        "",
-        "version = 1",
-        "version = 3",
-        'version = "2"',
-        "version = 2.0",
-        "version = [2]",
-        "version = 2",
-    ):
-        for generation in GENERATIONS + ["'1'"]:
-            yield f'gas = "fhp1"\ncells = ["01"]\n{version}\ngeneration = {generation}'.encode()
-    for letters in (
-        "é",
-        "éé",
-        "Ж",
-        "ЖЖ",
-        "中",
-        "中.",
-        "中中",
-        "０１",
-        "٠١",
-        "🙂",
-        "🙂🙂",
-        "e\u0301",
-        "..é",
-        "01Ж",
-        "0\u00a0",
-        "ｆｆ",
-        "\u2028\u2028",
-    ):
+
+
+def areas():
+    """Areas in both versions with the integers at the edges of 64 bits and of their ranges, past them and as other values."""
+    keys = dict.fromkeys(("version", "generation", "seed", "width", "height", "rate"), "%s")
+    for key, length in ("solid", 4), ("particles", 3):
+        for k in range(length):
+            values = ", ".join("%s" if i == k else "1" for i in range(length))
+            keys[f"{key} {k}"] = f"[[{values}]]"
+    numbers = NUMBERS + EDGES + SIDES + GENERATIONS
+    for (place, form), number in itertools.product(keys.items(), numbers):
+        for version in ({}, {"version": "2"}):
+            area = {"gas": '"fhp1"', "width": "4", "height": "3"} | version
+            area[place.split()[0]] = form % number
+            yield "\n".join(f"{key} = {value}" for key, value in area.items()).encode()
+
+
+def maps():
+    """Maps with a generation and every kind of version, with letters, and at the limits of both versions."""
+    for version, generation in itertools.product(VERSIONS, GENERATIONS + ["'1'"]):
+        yield f'gas = "fhp1"\ncells = ["01"]\n{version}\ngeneration = {generation}'.encode()
+    for letters in LETTERS:
         yield f'gas = "fhp1"\ncells = ["{letters}"]'.encode()
         yield f'gas = "{letters}"\ncells = [".."]'.encode()
         yield f'"{letters}" = 1'.encode()
-    for version, row, rows in (
-        (1, 8192, 1),
-        (1, 8194, 1),
-        (1, 2, 4096),
-        (1, 2, 4097),
-        (1, 8191, 1),
-        (1, 0, 1),
-        (2, 8194, 1),
-        (2, 2, 4097),
-        (2, 131072, 1),
-        (2, 131074, 1),
-        (2, 2, 65536),
-        (2, 2, 65537),
-        (2, 131071, 1),
-        (2, 0, 1),
-    ):
-        yield (
-            f'version = {version}\ngas = "fhp1"\ncells = [' + f'"{"." * row}",' * rows + "]"
-        ).encode()
+    for version, sizes in LIMITS.items():
+        for row, rows in sizes:
+            cells = f'"{"." * row}",' * rows
+            yield f'version = {version}\ngas = "fhp1"\ncells = [{cells}]'.encode()
+
+
+def given_texts():
+    yield from itertools.chain(prefixes(), areas(), maps())
 
 
 def text_of(rng, counts):
