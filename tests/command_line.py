@@ -175,9 +175,10 @@ TEXTS = {
         'gas = "fhp1"\nchirality = "left"\ncells = ["01"',
         'gas = "fhp1"\ngas.a = 1\ncells = ["01"]',
         "colour = 1\ngas = ",
+        'gas = "fhp1"\ngas = "fhp1"',
     ],
     UNKNOWN_KEY: [MAP + "colour = 1", 'colour = 1\ncells = ["01"]\nwidth = 4'],
-    BOTH_FORMS: ['cells = ["01"]\nwidth = 4'],
+    BOTH_FORMS: ['cells = ["01"]\nwidth = 4', MAP + "width = 4"],
     MISSING: [
         "",
         "[gas]\n",
@@ -186,6 +187,7 @@ TEXTS = {
         'gas = "fhp1"\nwidth = 4',
         'gas = "fhp1"\nheight = 4',
         "cells = 1",
+        'cells = ["01"]',
     ],
     WRONG_TYPE: [
         MAP + "seed = true",
@@ -194,10 +196,15 @@ TEXTS = {
         'gas.a = 1\ncells = ["01"]',
         'gas = "fhp2"\ncells = [1]',
     ],
-    RANGE: [MAP + 'chirality = "both"', 'gas = "fhp2"\ncells = ["010"]'],
+    RANGE: [
+        MAP + 'chirality = "both"',
+        'gas = "fhp2"\ncells = ["010"]',
+        'gas = "fhp1"\ncells = []',
+    ],
     row_length(1): ['gas = "fhp1"\ncells = ["0101", "0g"]'],
     row_length(2): ['gas = "fhp1"\ncells = ["0g01", "0101", "01"]'],
     row_length(7): ['gas = "fhp1"\ncells = [' + '"..",' * 7 + '"....",]'],
+    bad_cell(1, 0): ['gas = "fhp1"\ncells = ["01", "0g"]'],
     bad_cell(1, 1): ['gas = "fhp1"\ncells = ["0101", "010g", "0g01"]'],
     bad_cell(7, 12): ['gas = "fhp1"\ncells = [' + f'"{".." * 13}",' * 7 + f'"{".." * 12}0.",]'],
 }
@@ -284,7 +291,7 @@ CELLS = {
         "fhp-rest 80",
     ],
     bad_cell(0, 1): ["hpp ..#0", "hpp ##.0"],
-    row_length(0): ["fhp1 é.", "fhp1 "],
+    row_length(0): ["fhp1 é.", "fhp1 010", "fhp1 "],
 }
 
 # Rectangles that overlap, and their seams at whole words of 64 columns and whole blocks of 256.
@@ -483,7 +490,10 @@ def is_like(came, wanted):
 def fault(case, room):
     """What is wrong with the output of a case, or None."""
     words, text, *wanted = case
-    came = answer(words, text, room)
+    try:
+        came = answer(words, text, room)
+    except subprocess.TimeoutExpired as late:
+        return f"{text[:200]!r}: {late}"
     if all(map(is_like, came, wanted)):
         return None
     return f"{words[:12]} on {text[:200]!r}: {wanted!r:.300} was expected, and came {came!r:.300}"
