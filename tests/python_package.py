@@ -831,7 +831,8 @@ class Package(unittest.TestCase):
     # -- costs
 
     def test_costs_grow_as_sizes_do(self):
-        """A doubled lattice takes at most 2.5 times the processor time, at best of some tries."""
+        """A lattice of four times the rows takes at most 2.5^2 times the processor time, at best
+        of up to twenty tries of both in turn."""
         room, figure = self.room, Figure()
 
         def lattice(rows):
@@ -841,20 +842,24 @@ class Package(unittest.TestCase):
         def film(source):
             fhpgas.film(room / "film.gif", [source] * 3, "speed", dpi=20)
 
-        known = {rows: lattice(rows) for rows in (1024, 2048)}
-        for name, call, times in (
-            ("porous", lambda rows: fhpgas.porous(Size(1024, rows), 0.3, 2), 3),
-            ("polygon", lambda rows: fhpgas.polygon(Size(1024, rows), wide(rows)), 5),
-            ("picture", lambda rows: known[rows].plot("speed", figure.subplots()), 5),
-            ("film", lambda rows: film(known[rows]), 3),
-            ("blocks", lambda rows: known[rows].blocks(), 9),
-            ("states", lambda rows: known[rows].replace(states=known[rows].states), 9),
+        known = {rows: lattice(rows) for rows in (512, 2048)}
+        for name, call in (
+            ("porous", lambda rows: fhpgas.porous(Size(1024, rows), 0.3, 2)),
+            ("polygon", lambda rows: fhpgas.polygon(Size(1024, rows), wide(rows))),
+            ("picture", lambda rows: known[rows].plot("speed", figure.subplots())),
+            ("film", lambda rows: film(known[rows])),
+            ("blocks", lambda rows: known[rows].blocks()),
+            ("states", lambda rows: known[rows].replace(states=known[rows].states)),
         ):
-            costs = [min(spent(call, rows) for _ in range(times)) for rows in (1024, 2048)]
-            self.assertLess(costs[1], 2.5 * costs[0], name)
-        later = known[1024].replace(seed=5, generation=7)
-        self.assertIs(later.states, known[1024].states)  # replace copies nothing that is checked
-        self.assertIs(later.replace(states=0 * later.states).solid, known[1024].solid)
+            least = {512: math.inf, 2048: math.inf}
+            for _ in range(20):
+                least = {rows: min(cost, spent(call, rows)) for rows, cost in least.items()}
+                if least[2048] < 2.5**2 * least[512]:
+                    break
+            self.assertLess(least[2048], 2.5**2 * least[512], name)
+        later = known[512].replace(seed=5, generation=7)
+        self.assertIs(later.states, known[512].states)  # replace copies nothing that is checked
+        self.assertIs(later.replace(states=0 * later.states).solid, known[512].solid)
 
     def test_theory_has_the_published_numbers(self):
         """By hand from the formulas of Frisch and others (1987)."""
