@@ -1,7 +1,8 @@
 #!/usr/bin/env python3
-"""Milliseconds of `Lattice.run` by the engine in Python's process, on one core, and by the program with its threads, of the gas with particles
-at rest at filling 0.2. They take turns in every round. A figure is the best of the rounds, followed by the middle one. Both must make the same
-cells. From this docs/PERFORMANCE.md has the rule that python/fhpgas/engine.py follows. At last four calls run in one thread and in four.
+"""Milliseconds of `Lattice.run` by the engine in Python's process, on one core, and by the program with its threads, at filling 0.2. They take
+turns in every round, and must make the same cells. A figure is the best of the rounds, followed by the middle one. Below each size stands from
+how many generations on the program was faster: the rule of python/fhpgas/engine.py and docs/PERFORMANCE.md. At last four calls run in one
+thread and in four.
 """
 import argparse
 import concurrent.futures
@@ -16,8 +17,9 @@ sys.path.append(str(ROOT / "python"))
 import fhpgas  # noqa: E402
 from fhpgas import engine  # noqa: E402
 
-SIZES = (256, 256), (1024, 512), (4096, 1024)
-GENERATIONS = 1, 50, 200, 500, 1000, 2000
+SIZES = (256, 256), (512, 512), (1024, 512), (2048, 1024), (4096, 1024)
+KINDS = ("fhp-rest", "left"), ("fhp-rest", "seeded"), ("fhp1", "left"), ("hpp", "left")
+GENERATIONS = 1, 50, 100, 200, 400, 700, 1000, 2000
 
 
 def timed(function):
@@ -32,7 +34,8 @@ def told(times):
 
 
 def compare(lattice, generations, rounds):
-    """Prints the times of a run by the engine and by the program."""
+    """Prints the times of a run by the engine and by the program, and returns whether the best
+    time of the program is shorter."""
     stages = fhpgas.plan(len(lattice.states), generations)[0]
     ours, theirs = [], []
     for _ in range(rounds):
@@ -41,9 +44,10 @@ def compare(lattice, generations, rounds):
         ours.append(in_process), theirs.append(by_program)
         if one != other:
             sys.exit("the cells differ")
-    columns, rows = lattice.size
-    name = f"{columns:5} x {rows:<4} {lattice.chirality:6} {generations:5}"
-    print(f"{name}  {told(ours)}  {told(theirs)}", flush=True)
+    print(
+        f"{generations:8}  {told(ours)}  {told(theirs)}  {min(ours) / min(theirs):5.2f}", flush=True
+    )
+    return min(theirs) < min(ours)
 
 
 def four(lattice, rounds):
@@ -54,22 +58,26 @@ def four(lattice, rounds):
             alone.append(timed(lambda: lattice.run(400))[1])
             together.append(timed(lambda: list(pool.map(lattice.run, [400] * 4)))[1])
     print(
-        f"four calls in four threads have {4 * min(alone) / min(together):.2f} times the speed of one"
+        f"four calls in four threads have {4 * min(alone) / min(together):.2f} times the speed"
+        " of one"
     )
 
 
-if __name__ == "__main__":
+def main():
     parser = argparse.ArgumentParser(
         description=__doc__, formatter_class=argparse.RawTextHelpFormatter
     )
-    parser.add_argument("--rounds", type=int, default=7)
-    asked = parser.parse_args()
+    parser.add_argument("--rounds", type=int, default=5)
+    rounds = parser.parse_args().rounds
     engine.serves = lambda lattice, generations: True
-    print("                            engine                program")
-    for size, chirality, generations in itertools.product(SIZES, ("left", "seeded"), GENERATIONS):
-        start = fhpgas.draw_gas(0.2, size=fhpgas.Size(*size), gas="fhp-rest", chirality=chirality)
-        compare(start, generations, asked.rounds)
-    four(
-        start.replace(states=start.states[:512, :1024], solid=start.solid[:512, :1024]),
-        asked.rounds,
-    )
+    for size, (gas, chirality) in itertools.product(SIZES, KINDS):
+        start = fhpgas.draw_gas(0.2, size=fhpgas.Size(*size), gas=gas, chirality=chirality, seed=1)
+        print(f"{size[0]} x {size[1]} {gas} {chirality}        engine              program  ratio")
+        faster = [compare(start, generations, rounds) for generations in GENERATIONS]
+        slower = max((k + 1 for k, is_faster in enumerate(faster) if not is_faster), default=0)
+        print(f"  the program is faster from {(*GENERATIONS, 'none')[slower]} generations on")
+    four(fhpgas.draw_gas(0.2, size=fhpgas.Size(1024, 512), gas="fhp-rest", seed=1), rounds)
+
+
+if __name__ == "__main__":
+    main()
