@@ -2,6 +2,7 @@
 # The tests, as `make quick`, `make package` and `make test` call them. Ends with the counts. `make test` leaves a record in out/record.
 . "$(dirname "$0")/try.sh"
 set -o pipefail
+package=(package_{lattices,blocks,drawing,flows,processes}.py) # the tests of the package that runs lattices
 
 parts() { local name; for name; do part "tests/$name"; done; }
 
@@ -22,7 +23,7 @@ examples() {
 quick() {
     parts lint.sh links.py prose.py definitions.py proved.py derivation.py edges.py values.py
     if [ -n "${FHPGAS-}" ] || tools/is_built; then
-        parts command_line.py help.py documents.py explanations.py python_package.py package_commands.py
+        parts command_line.py help.py documents.py explanations.py "${package[@]}" package_commands.py
         part tests/mutated_scenes.py 300
     elif has rt 'the program'; then
         part examples check_rectangles head_on_left obstacle_1 seeded_pairs filling coarse_uneven replay_done
@@ -31,7 +32,7 @@ quick() {
 
 # package: the package, the notebook, the page and the experiments, on the program that FHPGAS names, or on the engine and what make built
 package() {
-    parts engine.py python_package.py package_commands.py explanations.py wheel.py documents.py notebook.py page.py
+    parts engine.py "${package[@]}" package_commands.py explanations.py wheel.py documents.py notebook.py page.py
     ! has node "the page's kernels" || { part node tests/kernel.mjs; part node tests/page_model.mjs; }
     parts tiles.py experiments.py
 }
@@ -61,7 +62,7 @@ case $1 in
         parts command_line.py help.py oracle.py golly.py reference.py terminal.py library.py archive.sh large_scenes.py scale.py \
             first_change.sh refusals.py
         package
-        FHPGAS=$PWD/crates/fhpgas/out/fhpgas part tests/python_package.py
+        FHPGAS=$PWD/crates/fhpgas/out/fhpgas parts "${package[@]}"
         part tests/mutated_scenes.py 5000
         mkdir -p out
         tests/record.py "$room/gate" "$room/parts" "$SECONDS" > out/record

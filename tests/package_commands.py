@@ -141,6 +141,18 @@ drive a.toml 20 10 --force 2 | particles to turn
 }  # commands by status, and a part of what is said
 
 
+def uneven():
+    """Blocks of 8 x 9 cells of 30 x 20: the last column has 6 columns, the last row 2 rows."""
+    sums = (
+        [[72, 36, 35, 54], [72, 72, 72, 54], [16, 16, 16, 12]],
+        [[72] * 4] * 3,
+        [[36] * 4] * 3,
+        [[-9] * 4] * 3,
+    )
+    gas = fhpgas.gas_named("fhp1")
+    return fhpgas.Blocks(*map(np.array, sums), gas, (8, 9), fhpgas.Size(30, 20))
+
+
 class Commands(unittest.TestCase):
     @classmethod
     def setUpClass(cls):
@@ -187,18 +199,8 @@ class Commands(unittest.TestCase):
     # -- pictures
 
     def test_a_picture_shows_the_numbers_in_their_places(self):
-        """Blocks of 8 x 9 cells of 30 x 20: the last column has 6 columns, the last row 2 rows.
-        Less than half fluid is hidden."""
-        sums = (
-            [[72, 36, 35, 54], [72, 72, 72, 54], [16, 16, 16, 12]],
-            [[72] * 4] * 3,
-            [[36] * 4] * 3,
-            [[-9] * 4] * 3,
-        )
-        blocks = fhpgas.Blocks(
-            *map(np.array, sums), fhpgas.gas_named("fhp1"), (8, 9), fhpgas.Size(30, 20)
-        )
-        ax = Figure().add_subplot()
+        """Less than half fluid is hidden."""
+        blocks, ax = uneven(), Figure().add_subplot()
         image = blocks.plot("density", ax)
         self.assertEqual(
             image.get_array().mask.tolist(), [[False, False, True, False], [False] * 4, [False] * 4]
@@ -219,6 +221,9 @@ class Commands(unittest.TestCase):
             (ax.get_aspect(), ax.get_xlabel(), image.get_cmap()(np.ma.masked)[:3]),
             (1, "x (cells)", (0.55, 0.55, 0.55)),
         )
+
+    def test_a_picture_has_the_range_and_the_field_that_are_asked_for(self):
+        blocks = uneven()
         image = blocks.plot("north", Figure().add_subplot(), colorbar=False)
         self.assertTrue(
             np.allclose(image.get_clim(), np.multiply((-1, 1), np.sqrt(3) / 16))
@@ -413,23 +418,16 @@ class Commands(unittest.TestCase):
         self.assertTrue(
             14 < patch.particles < 40 and not patch.states[:3].any() and patch.solid.sum() == 1
         )
+
+    def test_a_wind_draws_the_gas_of_the_package(self):
         self.assertIn(
             "faster than sound, Mach 1.13\n",
             self.command("draw blocks --filling 0.02 --wind 0.8")[2],
         )
-        words = "draw discs --width 64 --height 47 --disc 20 20 8 --filling 0.3 --wind 0.2 0.1 --seed 5 --gas hpp"
-        drawn = fhpgas.Lattice.load(self.printed(words))
-        self.assertEqual(
-            drawn,
-            fhpgas.draw_gas(
-                0.3,
-                0.2,
-                0.1,
-                solid=fhpgas.disc(fhpgas.Size(64, 47), 20, 20, 8, "hpp"),
-                gas="hpp",
-                seed=5,
-            ),
-        )
+        words = "--disc 20 20 8 --filling 0.3 --wind 0.2 0.1 --seed 5 --gas hpp"
+        drawn = fhpgas.Lattice.load(self.printed("draw discs --width 64 --height 47", words))
+        solid = fhpgas.disc(fhpgas.Size(64, 47), 20, 20, 8, "hpp")
+        self.assertEqual(drawn, fhpgas.draw_gas(0.3, 0.2, 0.1, solid=solid, gas="hpp", seed=5))
 
     def test_commands_print_what_the_functions_return(self):
         self.assertEqual(self.printed("resume a.toml three"), self.start.run(3).scene())
@@ -447,7 +445,10 @@ class Commands(unittest.TestCase):
                 for word in (p.before.generation, f"{p.velocity:.5f}", f"{p.force:.3g}")
             ],
         )
-        wanted = r"^[\d,]+ MLUPS with 1 worker and 128 rows per belt\n1000 generations of 594 cells: about [\d.e-]+ seconds\n$"
+        wanted = (
+            r"^[\d,]+ MLUPS with 1 worker and 128 rows per belt\n"
+            r"1000 generations of 594 cells: about [\d.e-]+ seconds\n$"
+        )
         self.assertRegex(self.printed("how-long a.toml 1000 --seconds 1"), wanted)
         line = (
             self.printed("over-seeds --seeds 3 --generations 5 --block 66 9 a.toml")
@@ -461,8 +462,8 @@ class Commands(unittest.TestCase):
             np.allclose([float(word) for word in line[5:7]], (mean, error), rtol=0.1),
             (line, mean, error),
         )
-        words = "over-seeds --seeds 2 --generations 5 --block 64 24 --drawn discs --disc 9 9 3 --wind 0.2"
-        drawn = self.printed(words).split("\n")[1].split()
+        words = "--block 64 24 --drawn discs --disc 9 9 3 --wind 0.2"
+        drawn = self.printed("over-seeds --seeds 2 --generations 5", words).split("\n")[1].split()
         speeds = [
             fhpgas.draw_gas(0.2, 0.2, solid=fhpgas.disc(fhpgas.Size(64, 24), 9, 9, 3), seed=seed)
             .coarse(5, 64, 24)
@@ -505,7 +506,8 @@ class Commands(unittest.TestCase):
         self.assertRegex(
             told, r"mach +0\.4243\nreynolds +6\.533\n"
         )  # 0.3 sqrt(2), and (3/8) 0.3 40 / (1 / (12 0.2 0.8^3) - 1/8)
-        table = "  col   row    fluid particles         px         py\n 0 0 50 100 80 0\n 1 0 50 20 -8 0\n"
+        head = "  col   row    fluid particles         px         py\n"
+        table = head + " 0 0 50 100 80 0\n 1 0 50 20 -8 0\n"
         found = self.printed(
             "numbers --table - --length 40 --gas fhp1 --size 20 5 --block 10 5", text=table
         )

@@ -1,0 +1,64 @@
+"""What the tests of the package in python/ share: the program, small scenes, and how a call is
+tried."""
+
+import math
+import os
+import pathlib
+import shutil
+import sys
+import tempfile
+import unittest
+
+import needs
+
+needs.libraries("distributed", "xarray", "netCDF4", "zarr", "tqdm")
+PROGRAM = needs.built_program()
+os.environ["PYTHONPATH"] = str(needs.ROOT / "python")
+import fhpgas  # noqa: E402 - finds the program by the lines above
+import numpy as np  # noqa: E402
+
+GASES, ROOT3 = ("fhp1", "hpp", "fhp-rest"), math.sqrt(3)
+AREA = 'gas = "fhp1"\nseed = 7\nwidth = 66\nheight = 9\nrate = 300\nsolid = [[20, 2, 3, 4]]\n'
+TABLE = """\
+  col   row    fluid particles         px         py
+    0     0        3         8          3          1
+    1     0        4         0          0          0
+    2     0        0         0          0          0
+"""
+
+
+def wind(size, gas="fhp1", chirality="seeded", solid=None):
+    """A gas that flows to the north-east, with a disc if there is room."""
+    size = fhpgas.Size(*size)
+    solid = fhpgas.disc(size, 20, 20, 8, gas) if solid is None and min(size) > 30 else solid
+    return fhpgas.draw_gas(
+        0.3, 0.2, 0.1, size=size, solid=solid, gas=gas, chirality=chirality, seed=3
+    )
+
+
+class Package(unittest.TestCase):
+    def setUp(self):
+        self.room = pathlib.Path(tempfile.mkdtemp())
+        self.addCleanup(shutil.rmtree, self.room)
+
+    def fault(self, part, function, *words):
+        """The call has a Fault of one line with this part."""
+        with self.assertRaises(fhpgas.Fault) as caught:
+            function(*words)
+        self.assertIsInstance(caught.exception, ValueError)
+        self.assertIn(part, str(caught.exception))
+        self.assertNotIn("\n", str(caught.exception))
+
+    def same(self, found, wanted, places=12):
+        """Both are arrays of one shape whose numbers are close, with nan where the other has it."""
+        np.testing.assert_allclose(
+            np.asarray(found, float), np.asarray(wanted, float), rtol=0, atol=10.0**-places
+        )
+
+
+def run_tests():
+    """Runs the tests of the script that calls it, prints the counts, and ends it."""
+    ran = unittest.main(exit=False, verbosity=0).result
+    failed = len(ran.failures) + len(ran.errors)
+    print(f"{ran.testsRun - failed} passed, {failed} failed")
+    sys.exit(1 if failed else 0)
