@@ -1,9 +1,10 @@
 #!/usr/bin/env python3
-"""Collisions by hand: what the program makes of every state of a cell, compared with the rules, the conservation laws and theory.
+"""Collisions by hand: what the program makes of every state of a cell, compared with the rules, the
+conservation laws and theory.
 
-All states, three cells apart, run for one generation with both chiralities. Then a gas flows past a disc: its number of particles must
-stay, and only walls and disc may change its momentum. Sums over the collisions are compared with the published formulas (Frisch 1987).
-"""
+All states, three cells apart, run for one generation with both chiralities. Then a gas flows past a
+disc: its number of particles must stay, and only walls and disc may change its momentum. Sums over
+the collisions are compared with the published formulas (Frisch 1987)."""
 import common
 import fhpgas
 import numpy as np
@@ -16,7 +17,8 @@ VISCOSITIES = {
 
 
 def collided(gas, side):
-    """The states after a collision of all states, as the program computes them in cells of an odd row."""
+    """The states after a collision of all states, as the program computes them in cells of an odd
+    row."""
     number = 1 << gas.directions
     states, x = np.zeros((3, 3 * number), np.uint8), 1 + 3 * np.arange(number)
     states[1, x] = np.arange(number)
@@ -35,7 +37,8 @@ def summed_factor(gas, d, u=0.001):
 
 
 def in_a_channel(gas):
-    """The numbers of particles that occur, and in how many generations walls and disc account for the change of the momentum."""
+    """The numbers of particles that occur, and in how many generations walls and disc account for
+    the change of the momentum."""
     lattices = [
         *fhpgas.draw_gas(
             0.2, 0.2, solid=fhpgas.disc(fhpgas.Size(64, 24), 20, 12, 4, gas), gas=gas, seed=1
@@ -87,7 +90,8 @@ def main():
     for state in changed:
         print(f"   {state:02x}     {left[state]:02x}     {right[state]:02x}")
     print(
-        f"tables that are those of the rules: {rules} of 2\nstates that conserve particles and momentum: {kept} of {len(states)}"
+        f"tables that are those of the rules: {rules} of 2\nstates that conserve particles and"
+        f" momentum: {kept} of {len(states)}"
     )
     print(
         "past a disc: particles {}, momentum balanced in {} of 100 generations".format(
@@ -100,13 +104,9 @@ def main():
             theory.galilean_factor,
         )
         fillings = np.arange(1, 6) / 10
-        for row in zip(
-            fillings, *(of(gas, fillings) for pair in zip(sums, formulas) for of in pair)
-        ):
-            print(
-                "d {}: viscosity, summed {:.4f} formula {:.4f}, g, summed {:.4f} formula {:.4f}".format(
-                    *row
-                )
-            )
+        columns = (of(gas, fillings) for pair in zip(sums, formulas) for of in pair)
+        line = "d {}: viscosity, summed {:.4f} formula {:.4f}, g, summed {:.4f} formula {:.4f}"
+        for row in zip(fillings, *columns):
+            print(line.format(*row))
     if asked.picture:
         draw(asked.picture, gas, changed, left, right)

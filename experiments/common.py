@@ -1,4 +1,5 @@
-"""What the experiments share: the way to the package, a command line, lines of output, and axes for a figure."""
+"""What the experiments share: the way to the package, a command line, lines of output, and axes for
+a figure."""
 import argparse
 import contextlib
 import importlib.util
@@ -19,7 +20,8 @@ warnings.simplefilter("ignore", theory.Correlated)  # what is measured is printe
 
 
 class Options(fault.Parser):
-    """A command line whose faults are one line. `--small` chooses other defaults, with which the tests run the experiment."""
+    """A command line whose faults are one line. `--small` chooses other defaults, with which the
+    tests run the experiment."""
 
     def __init__(self, text, *gases, figure, seeds=None):
         super().__init__(description=text, allow_abbrev=False)
@@ -61,7 +63,8 @@ def experiment(main):
 
 
 def compare(name, values, theory, digits=3):
-    """Prints the mean of some values and its standard error, and what theory says. Returns the mean and the error."""
+    """Prints the mean of some values and its standard error, and what theory says. Returns the mean
+    and the error."""
     mean, error = fhpgas.mean_and_error(values)
     shown = (
         round(float(value), digits) + 0.0 for value in (mean, error, theory)

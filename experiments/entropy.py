@@ -1,10 +1,11 @@
 #!/usr/bin/env python3
-"""Entropy through the reversal: what a coarse view of a gas sees while the gas spreads, is turned, and comes back.
+"""Entropy through the reversal: what a coarse view of a gas sees while the gas spreads, is turned,
+and comes back.
 
-Entropy is that of the chances of the directions in blocks of 8 x 8 cells, -H per cell. The gas itself forgets nothing, so all turned it
-comes back and its entropy falls. With one particle of thousands not turned, the entropy falls for a while and rises again. "Filled evenly":
-the entropy of blocks that are filled at random with the gas's mean density, from the binomial distribution.
-"""
+Entropy is that of the chances of the directions in blocks of 8 x 8 cells, -H per cell. The gas
+itself forgets nothing, so all turned it comes back and its entropy falls. With one particle of
+thousands not turned, the entropy falls for a while and rises again. "Filled evenly": the entropy of
+blocks that are filled at random with the gas's mean density, from the binomial distribution."""
 import common
 import fhpgas
 import numpy as np
@@ -28,7 +29,8 @@ def highest(lattice):
 
 
 def measured(asked, seed):
-    """The entropies [3, time] forwards, back, and back with one particle not turned, by the generation that each state belongs to."""
+    """The entropies [3, time] forwards, back, and back with one particle not turned, by the
+    generation that each state belongs to."""
     there = [*reversal.letter(asked.gas, asked.size, seed).every(asked.generations // PARTS, PARTS)]
     found = [[entropy(lattice) for lattice in there]]
     for lattice in there[-1], reversal.turned(there[-1]):

@@ -1,9 +1,10 @@
 #!/usr/bin/env python3
-"""The approach to equilibrium: how fast collisions fill the directions of a gas as Fermi and Dirac say.
+"""The approach to equilibrium: how fast collisions fill the directions of a gas as Fermi and Dirac
+say.
 
-The particles of the directions are counted in the rows that the walls have not reached yet, and compared with the Boltzmann equation of a
-uniform gas and with 1 / (1 + exp(h + q.c)) of the same density and momentum. H is the sum of N ln N + (1 - N) ln (1 - N).
-"""
+The particles of the directions are counted in the rows that the walls have not reached yet, and
+compared with the Boltzmann equation of a uniform gas and with 1 / (1 + exp(h + q.c)) of the same
+density and momentum. H is the sum of N ln N + (1 - N) ln (1 - N)."""
 import common
 import fhpgas
 import numpy as np

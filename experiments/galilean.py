@@ -1,10 +1,11 @@
 #!/usr/bin/env python3
 """The Galilean factor: how fast a wind carries a wave of the flow across it, compared with g(d).
 
-In a wind u eastwards the gas moves north and south as v = 0.1 sin(k x). In a fluid the wave would move with u. Here it moves with g u. A
-line is fitted to its phase in the rows a wave's length from the walls. Theory: the same fit to the noise-free Boltzmann equation of a gas
-without walls. Published, for a slow wind and a long wave: g = (1 - 2d) / (2 (1 - d)) in fhp1 and 7/6 of it in fhp-rest (Frisch 1987).
-"""
+In a wind u eastwards the gas moves north and south as v = 0.1 sin(k x). In a fluid the wave would
+move with u. Here it moves with g u. A line is fitted to its phase in the rows a wave's length from
+the walls. Theory: the same fit to the noise-free Boltzmann equation of a gas without walls.
+Published, for a slow wind and a long wave: g = (1 - 2d) / (2 (1 - d)) in fhp1 and 7/6 of it in
+fhp-rest (Frisch 1987)."""
 import common
 import fhpgas
 import numpy as np
@@ -15,7 +16,8 @@ TIMES = STEP * np.arange(PARTS + 1)
 
 
 def places(asked, momenta):
-    """The place of the wave over time, from the momenta northwards [time, block] of blocks of columns."""
+    """The place of the wave over time, from the momenta northwards [time, block] of blocks of
+    columns."""
     turns = np.exp(-2j * np.pi * BLOCK * np.arange(np.shape(momenta)[1]) / asked.wave)
     phases = np.unwrap(np.angle(np.asarray(momenta) @ turns))
     return (phases[0] - phases) * asked.wave / 2 / np.pi
@@ -107,7 +109,8 @@ def main():
     asked, waves = reader.parse_args(), []
     if asked.wave % BLOCK or asked.width % asked.wave or asked.height <= 2 * asked.wave:
         raise fhpgas.Fault(
-            f"the wave, {asked.wave}, is a multiple of {BLOCK} and a part of the width, and less than half of the height"
+            f"the wave, {asked.wave}, is a multiple of {BLOCK} and a part of the width, and less"
+            " than half of the height"
         )
     asked.across = ACROSS * np.sin(2 * np.pi * np.arange(asked.wave) / asked.wave)
     for filling in asked.filling:

@@ -1,10 +1,11 @@
 #!/usr/bin/env python3
-"""Green and Kubo: the viscosity of a gas at rest from the noise of its stress, and sound from the noise of its density.
+"""Green and Kubo: the viscosity of a gas at rest from the noise of its stress, and sound from the
+noise of its density.
 
-C(t) is the sum over places of <s(0, 0) s(r, t)>, s the flux xy of momentum, over the cells that particles reach in t. The viscosity is
-(C(0) / 2 + C(1) + C(2) + ..) / (3 d (1 - d)), cut after `--lags`. In Boltzmann's equation C falls as (1 - lambda)^t. The waves of the
-density between the walls swing in the noise too: speed and damping are fitted to their correlation over time.
-"""
+C(t) is the sum over places of <s(0, 0) s(r, t)>, s the flux xy of momentum, over the cells that
+particles reach in t. The viscosity is (C(0) / 2 + C(1) + C(2) + ..) / (3 d (1 - d)), cut after
+`--lags`. In Boltzmann's equation C falls as (1 - lambda)^t. The waves of the density between the
+walls swing in the noise too: speed and damping are fitted to their correlation over time."""
 import common
 import fhpgas
 import numpy as np
@@ -19,7 +20,8 @@ K = np.pi * WAVES / SIDE / (3**0.5 / 2)
 
 
 def measured(asked, seed):
-    """The correlations of the stress [lag], and the amplitudes of the density's waves [time, wave]."""
+    """The correlations of the stress [lag], and the amplitudes of the density's waves [time,
+    wave]."""
     gas = fhpgas.draw_gas(asked.filling, size=fhpgas.Size(SIDE, SIDE), gas=asked.gas, seed=seed)
     shapes = np.cos(np.pi * np.outer(np.arange(SIDE) + 0.5, WAVES) / SIDE)
     amplitudes, past, products, correlations = [], [], 0, []
@@ -38,7 +40,8 @@ def measured(asked, seed):
 
 
 def sound(amplitudes, modes):
-    """The speeds and the dampings [2, wave], from a fit to the correlations until theory expects exp(-1.5)."""
+    """The speeds and the dampings [2, wave], from a fit to the correlations until theory expects
+    exp(-1.5)."""
     found, number = [], len(amplitudes)
     for series, mode in zip(amplitudes.T, modes):
         lags = np.arange(min(number // 4, int(1.5 / mode.real)))

@@ -1,9 +1,10 @@
 #!/usr/bin/env python3
-"""What these gases keep and a fluid does not (spurious invariants): three staggered momenta, and the momenta of the rows of HPP.
+"""What these gases keep and a fluid does not (spurious invariants): three staggered momenta, and
+the momenta of the rows of HPP.
 
-A staggered momentum is (-1)^t times the sum over the lines along an axis of (-1)^line times the momentum across the line. In hpp a stream
-in one row stays in its row. In fhp1 it spreads. These numbers are exact, so they have no errors.
-"""
+A staggered momentum is (-1)^t times the sum over the lines along an axis of (-1)^line times the
+momentum across the line. In hpp a stream in one row stays in its row. In fhp1 it spreads. These
+numbers are exact, so they have no errors."""
 import common
 import fhpgas
 import numpy as np
@@ -28,7 +29,8 @@ def stream(gas, size, step):
         [],
     )
     print(
-        f"{gas}, a stream in one row: momentum eastwards of the rows {MIDDLE - 3} to {MIDDLE + 3}\ngeneration"
+        f"{gas}, a stream in one row: momentum eastwards of the rows {MIDDLE - 3} to"
+        f" {MIDDLE + 3}\ngeneration"
     )
     for later in lattice.every(step, 4):
         found.append(later.gas.units[0] * later.blocks(16 * size, 1).px[:, 0])
@@ -78,7 +80,8 @@ def main():
     asked = reader.parse_args()
     if asked.size % 2:
         raise fhpgas.Fault(
-            f"the size is {asked.size}: with an odd width the slanted lines close upon lines of the other sign"
+            f"the size is {asked.size}: with an odd width the slanted lines close upon lines of the"
+            " other sign"
         )
     step = asked.generations // 4
     momenta, _ = (past_a_disc(gas, asked.size, step) for gas in ("fhp1", "fhp-rest"))

@@ -1,10 +1,11 @@
 #!/usr/bin/env python3
-"""Modes: the waves of the linear Boltzmann equation, how fast they move and fade, and which never fade.
+"""Modes: the waves of the linear Boltzmann equation, how fast they move and fade, and which never
+fade.
 
-A generation multiplies a plane wave of small deviations from an equal filling by a matrix, and a mode by its factor exp(-rate - i w).
-Viscosity: rate / k^2 of the shear. Sound: its speed w / k and its damping D = rate / k^2. Measured: a gas begins with a wave of speed and
-density between the walls, k = pi / height, and what it has of a mode is followed over time.
-"""
+A generation multiplies a plane wave of small deviations from an equal filling by a matrix, and a
+mode by its factor exp(-rate - i w). Viscosity: rate / k^2 of the shear. Sound: its speed w / k and
+its damping D = rate / k^2. Measured: a gas begins with a wave of speed and density between the
+walls, k = pi / height, and what it has of a mode is followed over time."""
 import common
 import fhpgas
 import numpy as np
@@ -18,7 +19,8 @@ def matrix(asked, wave):
 
 
 class Wave:
-    """The shear and the sound in a channel of so many rows. A half turn continues them behind a wall."""
+    """The shear and the sound in a channel of so many rows. A half turn continues them behind a
+    wall."""
 
     def __init__(self, asked, rows):
         self.asked, self.gas = asked, fhpgas.gas_named(asked.gas)
@@ -49,7 +51,8 @@ class Wave:
 
 
 def zone(asked, points):
-    """Wave vectors [n, n, 2] over a cell of their lattice, with 0 in its middle, and the largest moduli of their factors [n, n]."""
+    """Wave vectors [n, n, 2] over a cell of their lattice, with 0 in its middle, and the largest
+    moduli of their factors [n, n]."""
     s, t = np.meshgrid(*[np.arange(points) / points - 0.5] * 2)
     waves = 2 * np.pi * np.stack((s, (2 * t - s) / 3**0.5), -1)
     return waves, abs(np.linalg.eigvals(matrix(asked, waves))).max(-1)

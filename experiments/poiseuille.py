@@ -1,12 +1,13 @@
 #!/usr/bin/env python3
-"""Poiseuille flow: a driven gas between two walls, its viscosity, its slip at the walls, and the odd viscosity of a chiral gas.
+"""Poiseuille flow: a driven gas between two walls, its viscosity, its slip at the walls, and the
+odd viscosity of a chiral gas.
 
-`fhpgas.driven` turns particles, a force F on every cell, from west to east or along all directions (`--along`), which makes another slip. To
-the mean of the rows' velocities before and after the turnings a parabola
-u = F (zero^2 - y^2) / (2 b d viscosity) is fitted. In H rows it ends at zero^2 = H^2 / 4 + K squared rows, with one slip K for every H. In
-a chiral gas a shear changes the density by -b d odd viscosity / c^2 du/dy. Theory: the same with the noise-free Boltzmann equation.
-"Formula" is its stationary solution for a weak force in every generation (`fhpgas.theory.slip`).
-"""
+`fhpgas.driven` turns particles, a force F on every cell, from west to east or along all directions
+(`--along`), which makes another slip. To the mean of the rows' velocities before and after the
+turnings a parabola u = F (zero^2 - y^2) / (2 b d viscosity) is fitted. In H rows it ends at zero^2
+= H^2 / 4 + K squared rows, with one slip K for every H. In a chiral gas a shear changes the density
+by -b d odd viscosity / c^2 du/dy. Theory: the same with the noise-free Boltzmann equation.
+"Formula" is its stationary solution for a weak force in every generation (`fhpgas.theory.slip`)."""
 import common
 import fhpgas
 import numpy as np
@@ -17,7 +18,8 @@ SPAN = 8  # relaxation times, until the flow is steady
 
 
 class Channel:
-    """A channel of so many rows, with the force and the times for the asked speed in the middle, from theory."""
+    """A channel of so many rows, with the force and the times for the asked speed in the middle,
+    from theory."""
 
     def __init__(self, asked, rows):
         self.gas, self.filling, self.rows = fhpgas.gas_named(asked.gas), asked.filling, rows
@@ -41,7 +43,8 @@ class Channel:
         )
 
     def fits(self, flows, densities):
-        """The viscosity, the slip K and the odd viscosity, from the rows' velocities and densities."""
+        """The viscosity, the slip K and the odd viscosity, from the rows' velocities and
+        densities."""
         bend, middle = np.polyfit(self.places**2, flows, 1)
         if bend >= 0 or middle <= 0:
             raise fhpgas.Fault("the flow is not fastest in the middle: take more cells or seeds")

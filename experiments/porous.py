@@ -1,17 +1,20 @@
 #!/usr/bin/env python3
-"""Darcy's law: the flow through a porous medium, over the force that drives it, and the medium's permeability.
+"""Darcy's law: the flow through a porous medium, over the force that drives it, and the medium's
+permeability.
 
-`fhpgas.driven` drives the gas through discs at random places with a force F on every fluid cell. Darcy: the flux, velocity x porosity, is
-permeability x F / (particles of a fluid cell x viscosity), here Boltzmann's. Theory: the noise-free Boltzmann equation of the same medium.
-D. H. Rothman, Geophysics 53 (1988) 509, did such flows first.
-"""
+`fhpgas.driven` drives the gas through discs at random places with a force F on every fluid cell.
+Darcy: the flux, velocity x porosity, is permeability x F / (particles of a fluid cell x viscosity),
+here Boltzmann's. Theory: the noise-free Boltzmann equation of the same medium. D. H. Rothman,
+Geophysics 53 (1988) 509, did such flows first."""
 import common
 import fhpgas
 import numpy as np
 from fhpgas import boltzmann, theory
 from scipy.ndimage import label
 
-EVERY = 9  # odd: particles in a pocket of one cell turn in every generation, and after an even number the kicks would add up
+# Odd, because particles in a pocket of one cell turn in every generation, and after an even number
+# the kicks would add up.
+EVERY = 9
 
 
 def measured(asked, solid, force, seed):

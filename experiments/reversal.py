@@ -1,9 +1,10 @@
 #!/usr/bin/env python3
-"""Reversal: a gas runs, all its particles are turned, and it comes back bit for bit. With one of them not turned it does not.
+"""Reversal: a gas runs, all its particles are turned, and it comes back bit for bit. With one of
+them not turned it does not.
 
-A dense letter L in a thin gas spreads with chirality left, and runs back with chirality right (`Lattice.reverse`). In the table two gases
-that differ by one turned particle run forwards. After t generations at most 1 + 3 t (t + 1) cells differ, in hpp 1 + 2 t (t + 1).
-"""
+A dense letter L in a thin gas spreads with chirality left, and runs back with chirality right
+(`Lattice.reverse`). In the table two gases that differ by one turned particle run forwards. After t
+generations at most 1 + 3 t (t + 1) cells differ, in hpp 1 + 2 t (t + 1)."""
 import common
 import fhpgas
 import numpy as np
@@ -24,7 +25,8 @@ def letter(gas, size, seed=1):
 
 
 def turned(lattice):
-    """The lattice with one particle turned from east to west, in the first cell after the middle that has one."""
+    """The lattice with one particle turned from east to west, in the first cell after the middle
+    that has one."""
     states, east, west = lattice.states.copy(), 1, 1 << lattice.gas.opposite[0]
     y, x = np.argwhere(states[len(states) // 2 :] & (east | west) == east)[0]
     states[len(states) // 2 + y, x] ^= east | west
@@ -74,7 +76,8 @@ def main():
     start = letter(asked.gas, asked.size)
     shown = [start, late := start.run(asked.generations)]
     print(
-        f"{start.particles} particles in {asked.size**2} cells; there and back {asked.generations} generations each"
+        f"{start.particles} particles in {asked.size**2} cells; there and back {asked.generations}"
+        " generations each"
     )
     for name, lattice in (("all particles turned", late), ("and one of them not", turned(late))):
         shown.append(lattice.reverse().run(asked.generations).reverse())

@@ -1,10 +1,11 @@
 #!/usr/bin/env python3
 """A standing sound wave between the walls: its speed and its damping.
 
-At the start the filling of a row is d (1 + a cos k y), k = pi / height, and the gas is at rest. exp(-D k^2 t) (A cos(c k t) + B sin(c k t))
-is fitted to the amplitude of this cosine in the density. Theory: the same fit to the noise-free Boltzmann equation. In hpp a second wave is
-along the diagonals. Published: c = 1 / sqrt 2, in fhp-rest sqrt(3/7), and D = (viscosity + bulk viscosity) / 2 (Frisch 1987).
-"""
+At the start the filling of a row is d (1 + a cos k y), k = pi / height, and the gas is at rest.
+exp(-D k^2 t) (A cos(c k t) + B sin(c k t)) is fitted to the amplitude of this cosine in the
+density. Theory: the same fit to the noise-free Boltzmann equation. In hpp a second wave is along
+the diagonals. Published: c = 1 / sqrt 2, in fhp-rest sqrt(3/7), and D = (viscosity + bulk
+viscosity) / 2 (Frisch 1987)."""
 import common
 import fhpgas
 import numpy as np
@@ -16,7 +17,8 @@ TIMES = STEP * np.arange(SAMPLES + 1)
 
 
 def wave(asked, is_diagonal):
-    """The wave number, and the shape of the wave in the cells [y, x], or in the rows [y, 1] if it does not vary along x."""
+    """The wave number, and the shape of the wave in the cells [y, x], or in the rows [y, 1] if it
+    does not vary along x."""
     rows = asked.height
     k, shape = np.pi / rows / fhpgas.gas_named(asked.gas).row_distance, np.cos(
         np.pi * (np.arange(rows)[:, None] + 0.5) / rows

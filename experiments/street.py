@@ -1,12 +1,13 @@
 #!/usr/bin/env python3
 """A vortex street behind a cylinder: its Strouhal number, and a picture of its vorticity.
 
-The gas flows past a disc of diameter D in a channel that is periodic after `--length` D. Its mean speed is kept by turning particles. A
-gust to the north starts the street. In the last two thirds of the run are measured: the mean speed, the speed u that meets the disc (over
-its height, one to two D ahead of it), the changes of sign of the flow across in the wake (one to two D behind the disc), half a period
-apart, and the heights of the vortices. St = D / (T g u), Re = g u D / viscosity, for each half period with the speed during it. A free
-cylinder has St = 0.212 (1 - 21.2 / Re) (A. Roshko, NACA Report 1191, 1954) and sheds vortices from about Re = 47 on.
-"""
+The gas flows past a disc of diameter D in a channel that is periodic after `--length` D. Its mean
+speed is kept by turning particles. A gust to the north starts the street. In the last two thirds of
+the run are measured: the mean speed, the speed u that meets the disc (over its height, one to two D
+ahead of it), the changes of sign of the flow across in the wake (one to two D behind the disc),
+half a period apart, and the heights of the vortices. St = D / (T g u), Re = g u D / viscosity, for
+each half period with the speed during it. A free cylinder has St = 0.212 (1 - 21.2 / Re) (A.
+Roshko, NACA Report 1191, 1954) and sheds vortices from about Re = 47 on."""
 import common
 import fhpgas
 import numpy as np
@@ -16,7 +17,8 @@ GAS, FILLING, FIRST, BLOCK = "fhp-rest", 0.18, 47, (8, 9)
 
 
 class Street:
-    """The channel, and what was measured in it over time. Places are in diameters from the middle of the disc."""
+    """The channel, and what was measured in it over time. Places are in diameters from the middle
+    of the disc."""
 
     def __init__(self, asked):
         self.radius, self.across, self.part = asked.radius, 2 * asked.radius, asked.part
@@ -51,7 +53,8 @@ class Street:
         )
 
     def sampled(self, blocks):
-        """The speed that meets the disc and the flow across in the wake. Adds to the fields: the speed, the squared vorticity by sign."""
+        """The speed that meets the disc and the flow across in the wake. Adds to the fields: the
+        speed, the squared vorticity by sign."""
         self.x, self.y = self.places(*blocks.positions)
         curl = np.nan_to_num(blocks.smooth(2).vorticity)
         self.fields = self.fields + np.array(
@@ -61,13 +64,15 @@ class Street:
         return blocks.east[abs(self.y) < 0.5][:, (self.x > -2.5) & (self.x < -1.5)].mean(), wake
 
     def crossings(self):
-        """The times at which the flow across changes its sign, on straight lines between the samples."""
+        """The times at which the flow across changes its sign, on straight lines between the
+        samples."""
         side = self.sides - self.sides.mean()
         n = np.flatnonzero(side[:-1] * side[1:] < 0)
         return self.times[0] + self.part * (n + side[n] / (side[n] - side[n + 1]))
 
     def heights(self, behind):
-        """The mean heights, in radii, of the clockwise and the counter-clockwise vortices so far behind the disc."""
+        """The mean heights, in radii, of the clockwise and the counter-clockwise vortices so far
+        behind the disc."""
         inner, near = abs(self.y) < 1.5, abs(self.x - behind) < 0.25
         return [
             2 * np.average(self.y[inner], weights=field[inner][:, near].sum(1))
@@ -88,7 +93,8 @@ def report(street, times):
     for name, speeds in (("mean", street.speeds), ("incoming", street.incoming)):
         u, (first, *_, last) = speeds.mean(), (part.mean() for part in np.array_split(speeds, 4))
         print(
-            f"{name} speed {u:.3f}, first {first:.3f}, at last {last:.3f}, Mach {u / theory.sound_speed(GAS):.2f}"
+            f"{name} speed {u:.3f}, first {first:.3f}, at last {last:.3f}, Mach"
+            f" {u / theory.sound_speed(GAS):.2f}"
         )
         for wind in (0, u):
             g = theory.galilean_factor(GAS, FILLING, wind)
@@ -128,7 +134,8 @@ def draw(path, street, times):
         most = 3 * street.incoming.mean() / street.across
         street.last.plot("vorticity", field, block=BLOCK, smooth=2, vmin=-most, vmax=most)
         field.set_title(
-            f"{GAS}, d = {FILLING}, disc of {street.across} cells, generation {street.last.generation}"
+            f"{GAS}, d = {FILLING}, disc of {street.across} cells, generation"
+            f" {street.last.generation}"
         )
         wake.plot(street.times, street.sides, "C0", lw=1)
         wake.plot(times, np.full(len(times), street.sides.mean()), "C1.", label="changes of sign")
@@ -148,7 +155,8 @@ def draw(path, street, times):
 def main():
     reader = common.Options(
         __doc__,
-        figure="the vorticity at the end, the flow across in the wake, and the profile that meets the disc",
+        figure="the vorticity at the end, the flow across in the wake, and the profile that meets"
+        " the disc",
     )
     reader.option("--radius", common.whole(8, 400), 80, 16, "of the disc, in cells")
     reader.option("--height", common.number(2, 50), 5.5, 5.5, "of the channel, in diameters")
@@ -175,7 +183,8 @@ def main():
     asked = reader.parse_args()
     street = Street(asked)
     print(
-        f"{GAS}, d = {FILLING}, {street.size[0]} x {street.size[1]} cells, {asked.generations} generations, seed {asked.seed},",
+        f"{GAS}, d = {FILLING}, {street.size[0]} x {street.size[1]} cells, {asked.generations}"
+        f" generations, seed {asked.seed},",
         f"disc {street.across} cells across, {1 / asked.height:.0%} of the channel",
     )
     times = street.crossings()

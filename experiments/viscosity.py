@@ -1,10 +1,11 @@
 #!/usr/bin/env python3
-"""The viscosity, from a shear wave between two walls that dies away: over filling, chirality and width.
+"""The viscosity, from a shear wave between two walls that dies away: over filling, chirality and
+width.
 
-At the start row y flows east with u sin(k x distance from the wall), k = pi / height. The sine's amplitude falls as exp(-viscosity k^2 t).
-A line is fitted to its logarithm at nine times, until theory expects 1/e. It is compared with Boltzmann's value of an infinite gas (Frisch
-1987) and with the same fit to the noise-free Boltzmann equation of this very channel.
-"""
+At the start row y flows east with u sin(k x distance from the wall), k = pi / height. The sine's
+amplitude falls as exp(-viscosity k^2 t). A line is fitted to its logarithm at nine times, until
+theory expects 1/e. It is compared with Boltzmann's value of an infinite gas (Frisch 1987) and with
+the same fit to the noise-free Boltzmann equation of this very channel."""
 import common
 import fhpgas
 import numpy as np
@@ -54,7 +55,8 @@ class Wave:
         sizes = (self.sine * momenta).sum((1, 2))
         if sizes.min() <= 0:
             raise fhpgas.Fault(
-                f"{name}: at filling {self.filling} the wave is lost in noise; a wider channel or fewer rows may show it"
+                f"{name}: at filling {self.filling} the wave is lost in noise; a wider channel or"
+                " fewer rows may show it"
             )
         return np.log(sizes / sizes[0])
 

@@ -1,6 +1,7 @@
 #!/usr/bin/env python3
-"""Checks each formula of docs/DERIVATION.md, as it is printed there, against the Boltzmann equation of the package, for several fillings, and
-the slip and the viscosity at a wave number against the modes of a generation. Ends with the counts."""
+"""Checks each formula of docs/DERIVATION.md, as it is printed there, against the Boltzmann equation
+of the package, for several fillings, and the slip and the viscosity at a wave number against the
+modes of a generation. Ends with the counts."""
 
 import sys
 import warnings
@@ -66,7 +67,8 @@ def sound(d):
 
 
 def shear(d):
-    """4. The state of a uniform shear comes back after a generation, and its flux of momentum is that of the viscosity."""
+    """4. The state of a uniform shear comes back after a generation, and its flux of momentum is
+    that of the viscosity."""
     collide = np.eye(6) + boltzmann.collision_matrix("fhp1", d)
     state = lambda y: 2 * d * y * X - 2 * d / share(d) * X * Y
     is_close([(collide @ state(1 - y))[i] for i, y in enumerate(Y)], state(1))
@@ -104,7 +106,8 @@ def factor(d):
 
 
 def at_a_wave_number(d):
-    """A weak shear wave decays by the factor of its mode, with walls and without, and in a long wave with the viscosity."""
+    """A weak shear wave decays by the factor of its mode, with walls and without, and in a long
+    wave with the viscosity."""
     rows, size = 64, 1e-6
     k = np.pi / rows / GAS.row_distance
     factors = np.linalg.eigvals(boltzmann.generation_matrix("fhp1", d, (0, k)))
@@ -121,7 +124,8 @@ def at_a_wave_number(d):
 
 
 def at_the_edge(gas):
-    """Three waves at the edge of the zone of wave vectors never fade: the staggered momenta, one per axis."""
+    """Three waves at the edge of the zone of wave vectors never fade: the staggered momenta, one
+    per axis."""
     for angle in np.pi / 6 + np.pi / 3 * np.arange(3):
         wave = 2 * np.pi / 3**0.5 * np.array([np.cos(angle), np.sin(angle)])
         factors = np.linalg.eigvals(boltzmann.generation_matrix(gas, 0.3, wave))
@@ -130,7 +134,8 @@ def at_the_edge(gas):
 
 
 def slip(gas, d, side, along):
-    """7. The stationary flow under a weak force: the staggered sum, the parabola, its place at the wall, with the shares of the modes."""
+    """7. The stationary flow under a weak force: the staggered sum, the parabola, its place at the
+    wall, with the shares of the modes."""
     rows, flow = 10, boltzmann.Flow(gas, np.zeros((10, 1)), side)
     x, mass = flow.gas.velocities[:, 0], flow.gas.directions * d
     staggered, kappa = (

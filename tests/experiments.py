@@ -1,7 +1,8 @@
 #!/usr/bin/env python3
-"""Runs the small form of every experiment, whose seeds are fixed: what it measures must be what theory says within its error, and far from
-what theory says of another gas. Every figure must show something. Compares theory, the Boltzmann solution and published formulas, and
-checks that a wrong use is refused in one line. Ends with the counts."""
+"""Runs the small form of every experiment, whose seeds are fixed: what it measures must be what
+theory says within its error, and far from what theory says of another gas. Every figure must show
+something. Compares theory, the Boltzmann solution and published formulas, and checks that a wrong
+use is refused in one line. Ends with the counts."""
 
 import concurrent.futures
 import pathlib
@@ -63,7 +64,8 @@ def ran(words):
 
 
 def printed(words):
-    """The output of an experiment that draws its figure, which must have some ink and not be all ink."""
+    """The output of an experiment that draws its figure, which must have some ink and not be all
+    ink."""
     with tempfile.TemporaryDirectory() as folder:
         picture = pathlib.Path(folder, "figure.png")
         status, output, fault = ran(f"{words} --picture {picture}")
@@ -77,8 +79,8 @@ def printed(words):
 
 
 def are_as_in_theory(words, names, most_error=0.1):
-    """The measurements whose names begin with one of these are within their errors, which are small beside what is expected, or where that
-    is 0 beside the smallest other number."""
+    """The measurements whose names begin with one of these are within their errors, which are small
+    beside what is expected, or where that is 0 beside the smallest other number."""
     found = [
         (name, *map(float, numbers))
         for name, *numbers in LINE.findall(printed(words))
@@ -97,7 +99,8 @@ def are_as_in_theory(words, names, most_error=0.1):
 
 
 def slips(gas, chirality, filling, others):
-    """The slip and the odd viscosity of a channel are those of theory, with their signs, and not those of other gases or of no slip."""
+    """The slip and the odd viscosity of a channel are those of theory, with their signs, and not
+    those of other gases or of no slip."""
     words = (
         f"poiseuille.py --small --seeds 16 --gas {gas} --chirality {chirality} --filling {filling}"
     )
@@ -141,13 +144,15 @@ def warns():
 
 
 def remembers(gas):
-    """Noise has the viscosity and the sound of theory, and a collision undoes its share of the stress."""
+    """Noise has the viscosity and the sound of theory, and a collision undoes its share of the
+    stress."""
     names = ["stress after 1", "viscosity", "speed of sound", "damping D"]
     are_as_in_theory(f"green_kubo.py --small --gas {gas}", names, 0.2)
 
 
 def swings(gas):
-    """Waves fade and move as the modes say, and never fade only at rest and in three waves at the edge of the zone."""
+    """Waves fade and move as the modes say, and never fade only at rest and in three waves at the
+    edge of the zone."""
     words = f"modes.py --small --gas {gas}"
     are_as_in_theory(words, [f"{n} rows: {name}" for n in (8, 16) for name in ("visc", "speed")])
     line = printed(words).splitlines()[-1]
@@ -160,7 +165,8 @@ def swings(gas):
 
 
 def forgets(gas):
-    """Entropy rises, falls again to its start if all particles are turned, and if one is not only on a part of the way."""
+    """Entropy rises, falls again to its start if all particles are turned, and if one is not only
+    on a part of the way."""
     output = printed(f"entropy.py --small --gas {gas}")
     rows = [
         [float(n) for n in line.replace("+-", "").split()] for line in output.splitlines()[1:12]
@@ -172,7 +178,8 @@ def forgets(gas):
 
 
 def is_viscous(gas, chirality):
-    """The viscosity is between Boltzmann's in this channel and a little above, unlike the viscosities of the other gases."""
+    """The viscosity is between Boltzmann's in this channel and a little above, unlike the
+    viscosities of the other gases."""
     row = (
         printed(f"viscosity.py --small --gas {gas} --chirality {chirality}")
         .splitlines()[-1]
@@ -238,8 +245,9 @@ def keeps():
 
 
 def decays_as_published(gas, chirality):
-    """A long slow shear wave of the Boltzmann equation decays with the published viscosity, its particles stay, and a wind carries it with
-    the Galilean factor of that wind, and not with that of a slow one."""
+    """A long slow shear wave of the Boltzmann equation decays with the published viscosity, its
+    particles stay, and a wind carries it with the Galilean factor of that wind, and not with that
+    of a slow one."""
     length, d, wind = 256, 0.2, 0.25
     k, x = 2 * np.pi / length, np.arange(length)
     flow, shape = boltzmann.Flow(gas, np.zeros((2, length)), chirality, has_walls=False), np.sin(
@@ -296,7 +304,8 @@ def street():
 
 
 def finds_periods():
-    """The changes of sign of a wave that is sampled every 200 generations, about a mean that is not 0."""
+    """The changes of sign of a wave that is sampled every 200 generations, about a mean that is not
+    0."""
     wave = object.__new__(street_script.Street)
     wave.part, wave.times = 200, 20_000 + 200 * np.arange(200)
     wave.sides = 0.03 + 0.2 * np.sin(np.pi * (wave.times - 20_100) / 2_345)

@@ -1,6 +1,6 @@
 #!/usr/bin/env python3
-"""Tries `fhpgas.explain`: it says the program's line, the place and the reason of a refused scene, also on a Python without libraries. Ends
-with the counts."""
+"""Tries `fhpgas.explain`: it says the program's line, the place and the reason of a refused scene,
+also on a Python without libraries. Ends with the counts."""
 import subprocess
 import sys
 
@@ -89,7 +89,10 @@ CASES = [  # a scene, the line that refuses it, and a part of the reason
         "line 4, column 6: `3F` has a capital digit",
     ),
 ]
-BARE = "import sys; sys.path.insert(0, sys.argv[1]); import fhpgas; print(fhpgas.explain(sys.argv[2]), end=''); fhpgas.draw_gas"
+BARE = """\
+import sys; sys.path.insert(0, sys.argv[1]); import fhpgas
+print(fhpgas.explain(sys.argv[2]), end=''); fhpgas.draw_gas
+"""
 
 
 def refused(text):

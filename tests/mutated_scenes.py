@@ -1,9 +1,9 @@
 #!/usr/bin/env python3
-"""Runs the built program on random, mutated and spliced scenes, and compares its output with a second reading of the texts
-(second_reader.py): the line that refuses a text, or the line of `check` and the printed cells. If a text is refused, `explain` must say the
-same line and a reason. A text that may be TOML 1.1, which the second reader does not read, must be read or refused. Ends with the counts.
-Usage: tests/mutated_scenes.py [HOW_MANY [SEED]]
-"""
+"""Runs the built program on random, mutated and spliced scenes, and compares its output with a
+second reading of the texts (second_reader.py): the line that refuses a text, or the line of `check`
+and the printed cells. If a text is refused, `explain` must say the same line and a reason. A text
+that may be TOML 1.1, which the second reader does not read, must be read or refused. Ends with the
+counts. Usage: tests/mutated_scenes.py [HOW_MANY [SEED]]"""
 
 import itertools
 import random
@@ -285,7 +285,8 @@ def run(text, *words):
 
 
 def expected(text):
-    """What `check` and `run --generations 0` must print, by the second reading: None for a large area, UNSURE for what may be TOML 1.1."""
+    """What `check` and `run --generations 0` must print, by the second reading: None for a large
+    area, UNSURE for what may be TOML 1.1."""
     try:
         lattice = second_reader.read(text, MOST_CELLS)
     except second_reader.Refused as refused:
@@ -294,7 +295,8 @@ def expected(text):
 
 
 def explanation(text):
-    """What `explain` says of a text: the status, the first line, and whether all its lines have reasons in one line."""
+    """What `explain` says of a text: the status, the first line, and whether all its lines have
+    reasons in one line."""
     found = refusals.explained(text)
     is_told = bool(found) and all(
         reasons and all(map(str.isprintable, reasons)) for _, reasons, _ in found
@@ -338,7 +340,8 @@ class Counts:
         self.kinds[kind] = self.kinds.get(kind, 0) + 1
 
 
-# what a version may be, letters of two bytes and more, and columns of bytes and rows at the limits of both versions
+# what a version may be, letters of two bytes and more, and columns of bytes and rows at the limits
+# of both versions
 VERSIONS = ["", *(f"version = {value}" for value in ("1", "3", '"2"', "2.0", "[2]", "2"))]
 LETTERS = "é éé Ж ЖЖ 中 中. 中中 ０１ ٠١ 🙂 🙂🙂 e\u0301 ..é 01Ж 0\u00a0 ｆｆ \u2028\u2028".split(" ")
 LIMITS = {
@@ -364,7 +367,8 @@ def prefixes():
 
 
 def areas():
-    """Areas in both versions with the integers at the edges of 64 bits and of their ranges, past them and as other values."""
+    """Areas in both versions with the integers at the edges of 64 bits and of their ranges, past
+    them and as other values."""
     keys = dict.fromkeys(("version", "generation", "seed", "width", "height", "rate"), "%s")
     for key, length in ("solid", 4), ("particles", 3):
         for k in range(length):
@@ -379,7 +383,8 @@ def areas():
 
 
 def maps():
-    """Maps with a generation and every kind of version, with letters, and at the limits of both versions."""
+    """Maps with a generation and every kind of version, with letters, and at the limits of both
+    versions."""
     for version, generation in itertools.product(VERSIONS, GENERATIONS + ["'1'"]):
         yield f'gas = "fhp1"\ncells = ["01"]\n{version}\ngeneration = {generation}'.encode()
     for letters in LETTERS:
@@ -424,7 +429,8 @@ def main():
     if missing:
         print(f"FAILED: {missing} kinds of answers did not come")
     print(
-        f"{len(given) + how_many - counts.failed - counts.large - counts.unsure} passed, {counts.failed + missing} failed"
+        f"{len(given) + how_many - counts.failed - counts.large - counts.unsure} passed,"
+        f" {counts.failed + missing} failed"
     )
     sys.exit(1 if counts.failed or missing else 0)
 

@@ -1,9 +1,10 @@
 #!/usr/bin/env python3
-"""What the scripts of this folder share. They may import the package in python/. A script that lacks a tool or a library says so in its last
-line and ends with LEFT_OUT. One that imports this module continues in the tests' Python: of the Python that tests/setup.sh makes, the
-caller's and the system's, the one that lacks the fewest libraries of tests/requirements.txt. As a script it prints this Python, the versions
-of the libraries, where setup.sh makes its Python, and the lines of what is lacking, or with the word `own` the lines of what the Python that
-runs it lacks."""
+"""What the scripts of this folder share. They may import the package in python/. A script that
+lacks a tool or a library says so in its last line and ends with LEFT_OUT. One that imports this
+module continues in the tests' Python: of the Python that tests/setup.sh makes, the caller's and the
+system's, the one that lacks the fewest libraries of tests/requirements.txt. As a script it prints
+this Python, the versions of the libraries, where setup.sh makes its Python, and the lines of what
+is lacking, or with the word `own` the lines of what the Python that runs it lacks."""
 
 import importlib.metadata
 import os
@@ -50,9 +51,9 @@ def told(passed, failed, *left_out):
 
 
 def built_program(name="fhpgas"):
-    """The path of a program: of fhpgas the one that FHPGAS names or an unpacked archive has, of all others the one that make leaves. The
-    programs that a script starts use it too. The package uses its own engine, unless FHPGAS names a program or make would build another.
-    """
+    """The path of a program: of fhpgas the one that FHPGAS names or an unpacked archive has, of all
+    others the one that make leaves. The programs that a script starts use it too. The package uses
+    its own engine, unless FHPGAS names a program or make would build another."""
     path = ROOT / f"crates/{name}/out/{name}"
     if name == "fhpgas":
         is_archive = not (ROOT / "crates.txt").exists()

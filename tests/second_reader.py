@@ -1,5 +1,5 @@
-"""The lattice of a scene by docs/FORMATS.md only, slow on large ones: what `check` and `run --generations 0` must print. The module `needs`
-puts the package on the path."""
+"""The lattice of a scene by docs/FORMATS.md only, slow on large ones: what `check` and `run
+--generations 0` must print. The module `needs` puts the package on the path."""
 import struct
 
 from fhpgas.reader import STATES, Refused, covering, read as keys_of
@@ -8,7 +8,8 @@ __all__ = ["Lattice", "Refused", "read"]
 
 
 class Lattice:
-    """A gas, a generation, and the rows of cells from the top: a state, or None for a solid cell."""
+    """A gas, a generation, and the rows of cells from the top: a state, or None for a solid
+    cell."""
 
     def __init__(self, gas, generation, rows):
         self.gas, self.generation, self.rows = gas, generation, rows
@@ -18,7 +19,8 @@ class Lattice:
 
     def check_line(self):
         solid = sum(row.count(None) for row in self.rows)
-        return f"gas {self.gas} width {len(self.rows[0])} height {len(self.rows)} solid {solid} particles {self.particles()}\n"
+        size = f"width {len(self.rows[0])} height {len(self.rows)}"
+        return f"gas {self.gas} {size} solid {solid} particles {self.particles()}\n"
 
     def printed(self):
         rows = (
@@ -30,7 +32,8 @@ class Lattice:
 
 
 def read(text, most_cells):
-    """The lattice of the bytes of a text, None for an area of more cells than that, or the first refusal as a Refused."""
+    """The lattice of the bytes of a text, None for an area of more cells than that, or the first
+    refusal as a Refused."""
     table = keys_of(text)
     if "cells" not in table and table["width"] * table["height"] > most_cells:
         return None
@@ -73,7 +76,8 @@ def key_words(seed, stream, count):
 
 
 def chacha_block(seed, stream, block):
-    """The 16 words of a block of ChaCha20 under the key of a seed, with a 64-bit block number and a 64-bit stream number."""
+    """The 16 words of a block of ChaCha20 under the key of a seed, with a 64-bit block number and a
+    64-bit stream number."""
     start = [
         *struct.unpack("<4I", b"expand 32-byte k"),
         *struct.unpack("<8I", seed.to_bytes(8, "little") + bytes(24)),

@@ -1,7 +1,7 @@
 #!/usr/bin/env python3
-"""Builds the package's wheel, if the engine is built also without it, or takes the one that is named, installs it into an empty folder outside
-the repository, and runs a command of each kind from there: with the program, without one, and on a system that is not Linux. Ends with the
-counts."""
+"""Builds the package's wheel, if the engine is built also without it, or takes the one that is
+named, installs it into an empty folder outside the repository, and runs a command of each kind from
+there: with the program, without one, and on a system that is not Linux. Ends with the counts."""
 
 import ast
 import os
@@ -17,9 +17,13 @@ needs.libraries("pip", "setuptools", "wheel")
 
 SCENE = 'gas = "fhp1"\nchirality = "left"\nseed = 1\nwidth = 64\nheight = 36\nrate = 300\n'
 CELLS = "generation 1 particles 2\n....02..\n........\n##10....\n"
-TABLE = "  col   row    fluid particles         px         py\n    0     0       12         8          3          1\n"
+TABLE = """\
+  col   row    fluid particles         px         py
+    0     0       12         8          3          1
+"""
 LATE = "import fhpgas; print(fhpgas.draw_gas(0.2, size=fhpgas.Size(64, 36)).run(1).generation)"
-# A command of each kind that the wheel offers, and what it prints or how the file begins that it writes.
+# A command of each kind that the wheel offers, and what it prints or how the file begins that it
+# writes.
 ALONE = [
     ("fhpgas-tools --version", "fhpgas-tools "),
     ("fhpgas-tools draw discs --width 64 --height 36 --disc 20 16 5 --filling 0.2", "width = 64"),
@@ -103,7 +107,8 @@ class Room:
         check(command, is_right, out + err)
 
     def refuses(self, words, why, *folders, is_traced=False):
-        """A command that must end with one line that says why, which follows a traceback where Python raised it."""
+        """A command that must end with one line that says why, which follows a traceback where
+        Python raised it."""
         status, out, err = self.ran(words, folders)
         is_one = err.count("\n") == 1 or is_traced
         check(words, status and not out and is_one and why in err.split("\n")[-2], out + err)
