@@ -43,42 +43,11 @@ if importlib.util.find_spec("numpy"):
     from .shapes import bitmap, disc, nozzle, polygon, porous
     from .theory import Numbers, numbers
 
-    __all__ += [
-        "Blocks",
-        "GASES",
-        "Gas",
-        "Lattice",
-        "Numbers",
-        "Point",
-        "SeriesMean",
-        "Size",
-        "bitmap",
-        "boltzmann",
-        "coarse",
-        "disc",
-        "draw_gas",
-        "driven",
-        "equilibrium",
-        "film",
-        "flux",
-        "forces",
-        "gas_named",
-        "mean_and_error",
-        "mean_of_series",
-        "nozzle",
-        "numbers",
-        "plot",
-        "polygon",
-        "porous",
-        "positions",
-        "read_cells",
-        "read_table",
-        "run",
-        "shapes",
-        "staggered",
-        "strip",
-        "theory",
-    ]
+    __all__ += ["Blocks", "GASES", "Gas", "Lattice", "Numbers", "Point", "SeriesMean", "Size"]
+    __all__ += ["bitmap", "boltzmann", "coarse", "disc", "draw_gas", "driven", "equilibrium"]
+    __all__ += ["film", "flux", "forces", "gas_named", "mean_and_error", "mean_of_series", "nozzle"]
+    __all__ += ["numbers", "plot", "polygon", "porous", "positions", "read_cells", "read_table"]
+    __all__ += ["run", "shapes", "staggered", "strip", "theory"]
 else:
 
     def __getattr__(name: str) -> object:

@@ -8,6 +8,7 @@ from __future__ import annotations
 
 import argparse
 import importlib
+import inspect
 import os
 import pathlib
 import sys
@@ -20,7 +21,7 @@ from typing import Any
 import fhpgas
 
 from . import drawing
-from .fault import Fault, Parser, Usage, number, one_line_faults, whole
+from .fault import Fault, Parser, Usage, add_words, number, one_line_faults, whole, word
 from .program import MOST_SEED, naming, read_bytes
 from .refusals import NOT_REFUSED
 
@@ -85,31 +86,34 @@ def to_write(*suffixes: str) -> Callable[[str], str]:
 
 
 def draw(asked: argparse.Namespace) -> None:
+    """Draws a scene."""
     print(drawing.drawn(asked), end="")
 
 
 def explain(asked: argparse.Namespace) -> None:
+    """Says where and why a scene is refused."""
     told = fhpgas.explain(asked.scene)
     print(told, end="")
     if told != NOT_REFUSED:
         sys.exit(1)
 
 
+def given(**words: Any) -> dict[str, Any]:
+    """The words that have a value."""
+    return {name: value for name, value in words.items() if value is not None}
+
+
 def looks(asked: argparse.Namespace) -> dict[str, Any]:
     """The options of a picture."""
     if asked.low is not None and asked.high is not None and asked.low >= asked.high:
         raise Usage(f"--low {asked.low:g} is not below --high {asked.high:g}")
-    limits = {
-        name: limit
-        for name, limit in (("vmin", asked.low), ("vmax", asked.high))
-        if limit is not None
-    }
+    limits = given(vmin=asked.low, vmax=asked.high)
     return {"block": asked.block or (8, 9), "smooth": asked.smooth} | limits
 
 
 def picture(asked: argparse.Namespace) -> None:
-    """A figure of one source or a strip of several, or if the file is .gif, .webp, .apng or .mp4 a
-    film of them."""
+    """Makes a figure of a scene, of cells or of a table, or of several. These are a strip, or if
+    the file is .gif, .webp, .apng or .mp4 a film."""
     from .pictures import axes_of
 
     options = looks(asked)
@@ -127,23 +131,17 @@ def picture(asked: argparse.Namespace) -> None:
 
 
 def film(asked: argparse.Namespace) -> None:
-    """Runs a scene, and shows it every so many generations, from its start on. A flow is kept at
-    each frame by turning particles."""
+    """Runs a scene and writes a film. It shows every so many generations, from the start on. A flow
+    is kept at each frame by turning particles."""
     count, options = steps(asked.until, asked.every), looks(asked)
-    how = {
-        name: value
-        for name, value in (("force", asked.force), ("flow", asked.flow))
-        if value is not None
-    }
+    how = given(force=asked.force, flow=asked.flow)
     if len(how) > 1:
         raise Usage("a flow is driven by a force or towards a mean flow: --force or --flow")
     start = fhpgas.Lattice.load(asked.scene)
-    points = (
-        start.driven(asked.until, asked.every, along=asked.along, seed=asked.seed, **how)
-        if how
-        else ()
-    )
-    frames = (point.before for point in points) if how else start.every(asked.every, count)
+    frames = start.every(asked.every, count)
+    if how:
+        how |= {"along": asked.along, "seed": asked.seed}
+        frames = (point.before for point in start.driven(asked.until, asked.every, **how))
     fhpgas.film(asked.file, frames, asked.what, fps=asked.fps, dpi=asked.dpi, **options)
     print(
         f"{asked.file}: {count + 1} frames, generations {start.generation} to"
@@ -152,8 +150,8 @@ def film(asked: argparse.Namespace) -> None:
 
 
 def how_long(asked: argparse.Namespace) -> None:
-    """Times a few short runs with the same plan, and scales. On a busy machine the figure changes
-    every minute."""
+    """Says how long a run will take. It times a few short runs with the same plan, and scales. On a
+    busy machine the figure changes every minute."""
     scene = often(asked.scene)
     size = fhpgas.check(scene)
     stages, capacity = fhpgas.plan(size.height, asked.generations)
@@ -183,10 +181,12 @@ def how_long(asked: argparse.Namespace) -> None:
 
 
 def resume(asked: argparse.Namespace) -> None:
+    """Prints the scene that continues a run from printed cells."""
     print(fhpgas.Lattice.load(asked.scene).resume(read_bytes(asked.cells)).scene(), end="")
 
 
 def long_run(asked: argparse.Namespace) -> None:
+    """Runs in parts, each kept in a file. The same command continues an ended run."""
     files = asked.scene, pathlib.Path(asked.kept)
     if all(map(os.path.exists, files)) and os.path.samefile(*files):
         raise Usage(f"{asked.kept} is the scene itself, which the run would overwrite")
@@ -199,6 +199,7 @@ def long_run(asked: argparse.Namespace) -> None:
 
 
 def over_time(asked: argparse.Namespace) -> None:
+    """Prints tables every STEP generations up to LAST."""
     start = fhpgas.Lattice.load(asked.scene)
     if asked.last < start.generation:
         raise Usage(f"{asked.scene} has generation {start.generation}, which is past {asked.last}")
@@ -208,19 +209,13 @@ def over_time(asked: argparse.Namespace) -> None:
 
 
 def drive(asked: argparse.Namespace) -> None:
-    """Turns particles from west to east between short runs, and says how fast the gas flows and
-    which force acts until the next point."""
+    """Runs a scene under a force or towards a mean flow. Particles turn from west to east between
+    short runs. Prints how fast the gas flows and which force acts until the next point."""
     steps(asked.generations, asked.every)
     if (asked.flow is None) == (asked.force is None):
         raise Usage("a flow is driven either by a force or towards a mean flow: --force or --flow")
-    points = fhpgas.Lattice.load(asked.scene).driven(
-        asked.generations,
-        asked.every,
-        force=asked.force,
-        flow=asked.flow,
-        along=asked.along,
-        seed=asked.seed,
-    )
+    how = {name: getattr(asked, name) for name in ("force", "flow", "along", "seed")}
+    points = fhpgas.Lattice.load(asked.scene).driven(asked.generations, asked.every, **how)
     for done, point in enumerate(points):
         print("generation    velocity       force\n" * (done == 0), end="")
         print(
@@ -229,11 +224,12 @@ def drive(asked: argparse.Namespace) -> None:
 
 
 def over_seeds(asked: argparse.Namespace) -> None:
+    """Prints the mean over seeds of a table of an area, with standard errors."""
     if asked.drawn is None:
         scene = often(asked.scene)
     else:
         words = Parser("--drawn")
-        drawing.add_words(words)
+        drawing.add_shapes(words)
         drawn = words.parse_args(asked.drawn)
 
     def columns(seed: int) -> Any:
@@ -259,6 +255,7 @@ def over_seeds(asked: argparse.Namespace) -> None:
 
 
 def page(asked: argparse.Namespace) -> None:
+    """Opens a page on which a gas moves, and prints its path."""
     own = (
         pathlib.Path(__file__).resolve().parent
     )  # of a wheel, which has the page, or of the repository
@@ -269,6 +266,7 @@ def page(asked: argparse.Namespace) -> None:
 
 
 def numbers(asked: argparse.Namespace) -> None:
+    """Prints Mach and Reynolds number of a flow, and the rest."""
     gas, flow = asked.gas or "fhp1", {"filling": asked.filling, "speed": asked.speed}
     if [value is None for value in flow.values()] != [asked.table is not None] * 2:
         raise Usage("a flow has --filling and --speed, or a --table")
@@ -288,8 +286,7 @@ def numbers(asked: argparse.Namespace) -> None:
         print(f"{name.replace('_', ' '):16}{value:12.4g}")
 
 
-FIELD: dict[str, Any] = {"choices": (*FIELDS, "particles")}
-SCENE: dict[str, Any] = {"metavar": "SCENE", "type": pathlib.Path}
+FIELDS_OF, SCENE = {"choices": (*FIELDS, "particles")}, word(kind=pathlib.Path, metavar="SCENE")
 SIDES: dict[str, Any] = {"nargs": 2, "metavar": ("COLUMNS", "ROWS")}
 FINITE, MANY, STEP, COUNT = (
     number(-1e300, 1e300),
@@ -300,137 +297,85 @@ FINITE, MANY, STEP, COUNT = (
 WORDS: dict[str, dict[str, Any]] = {
     "scene": SCENE,
     "scene:optional": SCENE | {"nargs": "?"},
-    "sources": {"metavar": "SOURCE", "nargs": "+"},
-    "cells": {"metavar": "CELLS"},
-    "kept": {"metavar": "KEPT", "help": "the file, a scene"},
-    "file:picture": {
-        "metavar": "FILE",
-        "type": to_write(*FIGURES, *FILMS),
-        "help": ", ".join(FIGURES + FILMS),
-    },
-    "file:film": {"metavar": "FILE", "type": to_write(*FILMS), "help": ", ".join(FILMS)},
-    "what": FIELD,
-    "generations": {"metavar": "GENERATIONS", "type": MANY},
-    "last": {"metavar": "LAST", "type": MANY, "help": "the last generation"},
-    "step": {"metavar": "STEP", "type": STEP},
-    "every": {"metavar": "EVERY", "type": STEP},
-    "--along": {
-        "choices": drawing.DRIVES,
-        "default": "rows",
-        "help": "the particles that turn: W to E (rows), or NW to NE and SW to SE too (directions);"
-        " default rows",
-    },
-    "--block": SIDES
-    | {"type": whole(1, 4096), "help": "of a block; default 8 9, but a table needs its own"},
-    "--capacity": {"type": whole(1, 1024), "help": "rows per belt"},
-    "--chirality": {"choices": drawing.CHIRALITIES, "default": "seeded", "help": "default seeded"},
-    "--dpi": {"type": whole(10, 1000), "default": 100, "help": "dots per inch; default 100"},
-    "--drawn": {
-        "metavar": "WORD",
-        "nargs": "...",
-        "help": "words of `draw` to the end of the line, for every seed",
-    },
-    "--every": {
-        "metavar": "STEP",
-        "type": STEP,
-        "required": True,
-        "help": "generations from frame to frame",
-    },
-    "--filling": {"type": number(1e-4, 0.9999), "help": "the chance per direction"},
-    "--flow": {"type": number(-1, 1), "help": "mean velocity"},
-    "--force": {"type": number(-2, 2), "help": "momentum per fluid cell and generation"},
-    "--fps": {"type": number(0.1, 100), "default": 10, "help": "frames per second; default 10"},
-    "--gas": {"choices": drawing.GASES},
-    "--generations": {"metavar": "GENERATIONS", "type": COUNT, "required": True},
-    "--high": {"type": FINITE, "help": "the value of the last colour"},
-    "--length": {"type": number(1e-3, 1e9), "required": True, "help": "in cells' widths"},
-    "--low": {"type": FINITE, "help": "the value of the first colour"},
+    "sources": word(metavar="SOURCE", nargs="+"),
+    "cells": word(metavar="CELLS"),
+    "kept": word("the file, a scene", metavar="KEPT"),
+    "file:picture": word(", ".join(FIGURES + FILMS), to_write(*FIGURES, *FILMS), metavar="FILE"),
+    "file:film": word(", ".join(FILMS), to_write(*FILMS), metavar="FILE"),
+    "what": word(**FIELDS_OF),
+    "generations": word(kind=MANY, metavar="GENERATIONS"),
+    "last": word("the last generation", MANY, metavar="LAST"),
+    "step": word(kind=STEP, metavar="STEP"),
+    "every": word(kind=STEP, metavar="EVERY"),
+    "--along": word(
+        "the particles that turn: W to E (rows), or NW to NE and SW to SE too (directions)",
+        default="rows",
+        choices=drawing.DRIVES,
+    ),
+    "--block": word("of a block; default 8 9, but a table needs its own", whole(1, 4096), **SIDES),
+    "--capacity": word("rows per belt", whole(1, 1024)),
+    "--chirality": drawing.WORDS["--chirality"],
+    "--dpi": word("dots per inch", whole(10, 1000), 100),
+    "--drawn": word(
+        "words of `draw` to the end of the line, for every seed", nargs="...", metavar="WORD"
+    ),
+    "--every": word("generations from frame to frame", STEP, required=True, metavar="STEP"),
+    "--filling": word("the chance per direction", number(1e-4, 0.9999)),
+    "--flow": word("mean velocity", number(-1, 1)),
+    "--force": word("momentum per fluid cell and generation", number(-2, 2)),
+    "--fps": word("frames per second", number(0.1, 100), 10),
+    "--gas": word(choices=drawing.GASES),
+    "--generations": word(kind=COUNT, required=True, metavar="GENERATIONS"),
+    "--high": word("the value of the last colour", FINITE),
+    "--length": word("in cells' widths", number(1e-3, 1e9), required=True),
+    "--low": word("the value of the first colour", FINITE),
     "--no-browser": {"action": "store_true", "help": "only print the path"},
     "--scene": SCENE | {"help": "the scene of the run, for its gas and its size"},
-    "--seconds": {
-        "type": whole(1, 3600),
-        "default": 2,
-        "help": "the least that is timed; default 2",
-    },
-    "--seed": {
-        "type": whole(0, MOST_SEED),
-        "default": 0,
-        "help": "of the particles that are turned; default 0",
-    },
-    "--seeds": {"type": whole(2, 10**6), "default": 8, "help": "default 8"},
-    "--size": SIDES | {"type": whole(1, 65536), "help": "of the lattice"},
-    "--smooth": {
-        "metavar": "BLOCKS",
-        "type": number(0, 100),
-        "default": 0,
-        "help": "width of a Gaussian that smooths, in blocks",
-    },
-    "--speed": {"type": number(0, 1), "help": "in cells' widths per generation"},
-    "--stages": {"type": whole(1, 64), "help": "workers"},
-    "--table": {"metavar": "SOURCE", "help": "for its filling and mean speed"},
-    "--until": {
-        "metavar": "GENERATIONS",
-        "type": COUNT,
-        "required": True,
-        "help": "generations in all",
-    },
-    "--what": FIELD | {"help": "default speed, or particles if the lattice is small"},
+    "--seconds": word("the least that is timed", whole(1, 3600), 2),
+    "--seed": word("of the particles that are turned", whole(0, MOST_SEED), 0),
+    "--seeds": word(kind=whole(2, 10**6), default=8),
+    "--size": word("of the lattice", whole(1, 65536), **SIDES),
+    "--smooth": word(
+        "width of a Gaussian that smooths, in blocks", number(0, 100), 0, metavar="BLOCKS"
+    ),
+    "--speed": word("in cells' widths per generation", number(0, 1)),
+    "--stages": word("workers", whole(1, 64)),
+    "--table": word("for its filling and mean speed", metavar="SOURCE"),
+    "--until": word("generations in all", COUNT, required=True, metavar="GENERATIONS"),
+    "--what": word("default speed, or particles if the lattice is small", **FIELDS_OF),
 }
-COMMANDS: tuple[tuple[Callable[[argparse.Namespace], None], str, str], ...] = (
-    (draw, "draw a scene", ""),
-    (explain, "say where and why a scene is refused", "scene"),
-    (
-        picture,
-        "a figure of a scene, of cells or of a table, or of several",
-        "what file:picture sources --scene --gas --size --block --low --high --smooth --dpi",
-    ),
-    (
-        film,
-        "run a scene and write a film",
+COMMANDS: dict[Callable[[argparse.Namespace], None], str] = {
+    draw: "",
+    explain: "scene",
+    picture: "what file:picture sources --scene --gas --size --block --low --high --smooth --dpi",
+    film: (
         "scene file:film --every --until --what --block --low --high --smooth --dpi --fps --force"
-        " --flow --along --seed",
+        " --flow --along --seed"
     ),
-    (page, "open a page on which a gas moves, and print its path", "--no-browser"),
-    (how_long, "say how long a run will take", "scene generations --stages --capacity --seconds"),
-    (resume, "print the scene that continues a run from printed cells", "scene cells"),
-    (
-        long_run,
-        "run in parts, each kept in a file; the same command continues an ended run",
-        "scene generations step kept",
-    ),
-    (
-        drive,
-        "run a scene under a force or towards a mean flow",
-        "scene generations every --force --flow --along --seed",
-    ),
-    (over_time, "tables every STEP generations up to LAST", "scene last step --block"),
-    (
-        over_seeds,
-        "the mean over seeds of a table of an area, with standard errors",
-        "scene:optional --seeds --generations --block --drawn",
-    ),
-    (
-        numbers,
-        "Mach and Reynolds number of a flow, and the rest",
-        "--filling --speed --length --chirality --gas --table --scene --size --block",
-    ),
-)
+    page: "--no-browser",
+    how_long: "scene generations --stages --capacity --seconds",
+    resume: "scene cells",
+    long_run: "scene generations step kept",
+    drive: "scene generations every --force --flow --along --seed",
+    over_time: "scene last step --block",
+    over_seeds: "scene:optional --seeds --generations --block --drawn",
+    numbers: "--filling --speed --length --chirality --gas --table --scene --size --block",
+}
 
 
 def reader(name: str) -> Parser:
     top = Parser(name, description=__doc__)
     top.add_argument("--version", action="version", version=f"fhpgas-tools {fhpgas.__version__}")
     commands = top.add_subparsers(required=True, metavar="COMMAND")
-    for function, about, words in COMMANDS:
-        more = drawing.__doc__ if function is draw else function.__doc__ or about
-        made = commands.add_parser(
-            function.__name__.replace("_", "-"), help=about, description=more
-        )
+    for function, words in COMMANDS.items():
+        about = inspect.getdoc(function) or ""
+        name = function.__name__.replace("_", "-")
+        made = commands.add_parser(name, help=about.split(".")[0], description=about)
         made.set_defaults(function=function)
-        for word in words.split():
-            made.add_argument(word.split(":")[0], **WORDS[word])
+        add_words(made, {word: WORDS[word] for word in words.split()})
         if function is draw:
-            drawing.add_words(made)
+            made.description = drawing.__doc__
+            drawing.add_shapes(made)
     return top
 
 
@@ -452,8 +397,10 @@ def main(words: list[str] | None = None) -> None:
                 f" python3-{name}"
             ) from None
         except OSError as fault:
-            raise fault if isinstance(fault, BrokenPipeError) else Fault(
-                f"{fault.filename or 'a file'}: {fault.strerror}"
+            raise (
+                fault
+                if isinstance(fault, BrokenPipeError)
+                else Fault(f"{fault.filename or 'a file'}: {fault.strerror}")
             ) from None
 
 

@@ -81,19 +81,14 @@ class Value:
         return type(self), self._values()
 
     def __eq__(self, other: object) -> bool:
-        return (
-            isinstance(other, Value)
-            and type(self) is type(other)
-            and all(map(np.array_equal, self._values(), other._values()))
-        )
+        is_same = isinstance(other, Value) and type(self) is type(other)
+        return is_same and all(map(np.array_equal, self._values(), other._values()))
 
     def __hash__(self) -> int:
-        return hash(
-            tuple(
-                value.tobytes() if isinstance(value, np.ndarray) else value
-                for value in self._values()
-            )
+        parts = (
+            each.tobytes() if isinstance(each, np.ndarray) else each for each in self._values()
         )
+        return hash(tuple(parts))
 
     def plot(self: Any, what: Any = None, ax: Any = None, **options: Any) -> Any:
         """Shows the value on Axes of matplotlib.
@@ -290,10 +285,8 @@ class Blocks(Value):
     def most(self) -> dict[str, Array]:
         """The largest sums that the cells, the fluid ones and their particles allow."""
         of_one, of_cell = np.abs(self.gas.momenta).max(0), np.abs(self.gas.momenta).sum(0) // 2
-        momenta = (
-            np.minimum(one * self.particles, cell * self.fluid)
-            for one, cell in zip(of_one, of_cell)
-        )
+        most = zip(of_one, of_cell)
+        momenta = (np.minimum(one * self.particles, cell * self.fluid) for one, cell in most)
         numbers = {"fluid": self.cells, "particles": self.gas.directions * self.fluid}
         return numbers | dict(zip(MOMENTA, momenta))
 
@@ -311,14 +304,8 @@ class Blocks(Value):
     def velocity(self) -> Array:
         """The mean velocities [2, row, column] of the particles, eastwards and northwards, in
         cells' widths per generation."""
-        return read_only(
-            np.stack(
-                [
-                    _ratio(unit * sums, self.particles)
-                    for unit, sums in zip(self.gas.units, (self.px, self.py))
-                ]
-            )
-        )
+        momenta = (unit * sums for unit, sums in zip(self.gas.units, (self.px, self.py)))
+        return read_only(np.stack([_ratio(sums, self.particles) for sums in momenta]))
 
     @property
     def east(self) -> Array:
@@ -357,9 +344,8 @@ class Blocks(Value):
         edged = np.pad(self.east, ((1, 1), (0, 0)), constant_values=np.nan)
         wrapped = np.pad(self.north, ((0, 0), (1, 1)), mode="wrap").T
         around = np.array([x[-1] - self.size[0], *x, x[0] + self.size[0]])
-        curl = _slope(wrapped, around).T - _slope(
-            edged, np.array([y[0] + 1, *y, y[-1] - 1])
-        )  # past a wall is nothing, at any distance
+        past = np.array([y[0] + 1, *y, y[-1] - 1])  # nothing is past a wall, at any distance
+        curl = _slope(wrapped, around).T - _slope(edged, past)
         return read_only(np.where(np.isnan(self.east), np.nan, curl))
 
     @property
@@ -428,15 +414,9 @@ class Blocks(Value):
         rows, columns = np.indices(self.fluid.shape)
         if self.fluid.dtype.kind == "f":
             raise Fault("a table has whole numbers, and smoothed sums have fractions")
-        table = (
-            np.stack([columns, rows, *(getattr(self, name) for name in SUMS)], -1)
-            .reshape(-1, 6)
-            .tolist()
-        )
-        return (
-            "\n".join([HEADER, *("%5d %5d %8d %9d %10d %10d" % tuple(line) for line in table)])
-            + "\n"
-        )
+        table = np.stack([columns, rows, *(getattr(self, name) for name in SUMS)], -1)
+        lines = ("%5d %5d %8d %9d %10d %10d\n" % tuple(line) for line in table.reshape(-1, 6))
+        return HEADER + "\n" + "".join(lines)
 
 
 def _mirrored(is_fluid: Array, reach: int) -> tuple[tuple[Array, Array], Array]:
@@ -471,19 +451,14 @@ def _slope(values: Array, places: Array) -> Array:
     steps = np.diff(values, axis=0) / apart
     weights = np.where(np.isnan(steps), 0, np.abs(1 / apart))
     before, after = weights[:-1], weights[1:]
+    steps = np.nan_to_num(steps)
     with np.errstate(invalid="ignore"):
-        slopes = (np.nan_to_num(steps[:-1]) * before + np.nan_to_num(steps[1:]) * after) / (
-            before + after
-        )
+        slopes = (steps[:-1] * before + steps[1:] * after) / (before + after)
     return np.nan_to_num(slopes)
 
 
 def read_table(
-    text: str | bytes,
-    gas: str | Gas,
-    block: tuple[int, int],
-    size: Any,
-    generation: int = 0,
+    text: str | bytes, gas: str | Gas, block: tuple[int, int], size: Any, generation: int = 0
 ) -> Blocks:
     """The blocks of a table that `fhpgas coarse` printed.
 

@@ -75,11 +75,8 @@ class Flow:
         if len(self.solid) % 2 and not has_walls:
             raise Fault(f"a gas without walls has an even number of rows, not {len(self.solid)}")
         collide = (change := self.gas.changes(chirality)).any(1)
-        self._full, self._change, self._sources = (
-            self.gas.bits[collide] > 0,
-            change[collide],
-            self._streaming(has_walls),
-        )
+        self._full, self._change = self.gas.bits[collide] > 0, change[collide]
+        self._sources = self._streaming(has_walls)
 
     def _streaming(self, has_walls: bool) -> Array:
         """Where, in all chances one after the other, the chance of a direction of a cell streams
@@ -92,10 +89,8 @@ class Flow:
         is_outside = has_walls & (row != y + down)
         bounces = ~self.solid[y, x] & (is_outside | self.solid[row, column])
         stays = bounces | self.solid[y, x]
-        return np.ravel_multi_index(
-            (np.where(bounces, back, i), np.where(stays, y, row), np.where(stays, x, column)),
-            i.shape,
-        )
+        source = np.where(bounces, back, i), np.where(stays, y, row), np.where(stays, x, column)
+        return np.ravel_multi_index(source, i.shape)
 
     def at(self, filling: Any, east: Any = 0.0, north: Any = 0.0) -> Array:
         """The chances at equilibrium, for a filling and a velocity that numpy spreads over the

@@ -16,148 +16,90 @@ from typing import Any
 
 import fhpgas
 
-from .fault import Fault, Parser, Usage, number, whole
+from .fault import Fault, Usage, add_words, number, repeated, whole, word
 from .program import MOST_BYTES, MOST_SEED, text_of
 
 GASES, CHIRALITIES = ("fhp1", "fhp-rest", "hpp"), ("seeded", "left", "right")
 DRIVES, MOST_SIDE = ("rows", "directions"), 65536
 
 
-def add_words(reader: argparse.ArgumentParser) -> None:
-    """The words that draw a scene."""
-    place, far = whole(0, MOST_SIDE), number(-2 * MOST_SIDE, 2 * MOST_SIDE)
-    common = Parser(add_help=False)
-    common.add_argument("--gas", choices=GASES, default="fhp1", help="default fhp1")
-    common.add_argument("--chirality", choices=CHIRALITIES, default="seeded", help="default seeded")
-    common.add_argument(
-        "--seed",
-        type=whole(0, MOST_SEED),
-        help="of the scene, and of all that is drawn at random here; default 0",
-    )
-    common.add_argument(
-        "--width",
-        type=whole(1, MOST_SIDE),
-        default=64,
-        metavar="COLUMNS",
-        help="1 to 65536; default 64",
-    )
-    common.add_argument(
-        "--height",
-        type=whole(1, MOST_SIDE),
-        default=24,
-        metavar="ROWS",
-        help="1 to 65536; default 24",
-    )
-    common.add_argument(
-        "--filling",
-        type=number(0, 1),
-        default=0.2,
-        help="the chance per direction, 0 to 1; default 0.2",
-    )
-    common.add_argument(
-        "--patch",
-        type=number(0, MOST_SIDE),
-        nargs=5,
-        action="append",
-        default=[],
-        metavar=("X", "Y", "W", "H", "FILLING"),
-        help="fill these columns and rows otherwise; may be repeated",
-    )
-    common.add_argument(
-        "--wind",
-        type=number(-1, 1),
+PLACE, SIDE, CORNER = (
+    whole(0, MOST_SIDE),
+    whole(1, MOST_SIDE),
+    number(-2 * MOST_SIDE, 2 * MOST_SIDE),
+)
+WORDS = {
+    "--gas": word(default="fhp1", choices=GASES),
+    "--chirality": word(default="seeded", choices=CHIRALITIES),
+    "--seed": word(
+        "of the scene, and of all that is drawn at random here; default 0", whole(0, MOST_SEED)
+    ),
+    "--width": word("1 to 65536", SIDE, 64, metavar="COLUMNS"),
+    "--height": word("1 to 65536", SIDE, 24, metavar="ROWS"),
+    "--filling": word("the chance per direction, 0 to 1", number(0, 1), 0.2),
+    "--patch": repeated(
+        "fill these columns and rows otherwise", number(0, MOST_SIDE), *"XYWH", "FILLING"
+    ),
+    "--wind": word(
+        (
+            "the mean velocity of the particles, eastwards and, if a second number is given,"
+            " northwards"
+        ),
+        number(-1, 1),
+        (0.0,),
         nargs="+",
-        default=[0.0],
         metavar="SPEED",
-        help="the mean velocity of the particles, eastwards and, if a second number is given,"
-        " northwards; default 0",
-    )
-    common.add_argument(
-        "--closed",
-        action="store_true",
-        help="make the first column solid, so that nothing passes the ends",
-    )
-    common.add_argument(
-        "--block",
-        type=place,
-        nargs=4,
-        action="append",
-        default=[],
-        metavar=("X", "Y", "W", "H"),
-        help="a solid rectangle; may be repeated",
-    )
+    ),
+    "--closed": {
+        "action": "store_true",
+        "help": "make the first column solid, so that nothing passes the ends",
+    },
+    "--block": repeated("a solid rectangle", PLACE, *"XYWH"),
+}
+ABOUT_DISCS = (
+    "middle (column and row) and radius in cells' widths: a disc of radius 16 takes 33 columns and"
+    " 37 rows of the triangular lattice; goes on past the last column, is cut at the walls"
+)
+CORNERS = word("the corners; may be repeated", CORNER, nargs="+", action="append", metavar="X Y")
+SHAPES: dict[str, tuple[str, dict[str, Any]]] = {
+    "blocks": ("rectangles", {}),
+    "discs": (
+        "discs, round as the lattice lies",
+        {"--disc": repeated(ABOUT_DISCS, PLACE, "X", "Y", "RADIUS")},
+    ),
+    "polygons": ("polygons", {"--polygon": CORNERS | {"default": []}}),
+    "bitmap": (
+        "the dark pixels of a picture",
+        {
+            "picture": word("a PBM or PNG file, or another that Pillow reads", metavar="PICTURE"),
+            "--pixel": word(
+                "of a pixel in cells' widths", number(0.01, MOST_SIDE), 1, metavar="WIDTH"
+            ),
+            "--at": word("the cell of its upper left", PLACE, (0, 0), nargs=2, metavar=("X", "Y")),
+        },
+    ),
+    "nozzle": (
+        "the channel narrows to a throat and widens again",
+        {
+            "--throat": word("open rows of the narrowest column", PLACE, 6, metavar="ROWS"),
+            "--length": word("from full to full height", PLACE, 40, metavar="COLUMNS"),
+        },
+    ),
+    "porous": (
+        "discs at random places, until the share of solid cells is reached",
+        {
+            "--share": word("of all cells that are solid, at least", number(0, 1), 0.3),
+            "--radius": word("of each disc", PLACE, 2),
+        },
+    ),
+}
+
+
+def add_shapes(reader: argparse.ArgumentParser) -> None:
+    """The words that draw a scene."""
     kinds = reader.add_subparsers(dest="shape", required=True, metavar="SHAPE")
-    kinds.add_parser("blocks", parents=[common], help="rectangles")
-    discs = kinds.add_parser("discs", parents=[common], help="discs, round as the lattice lies")
-    discs.add_argument(
-        "--disc",
-        type=place,
-        nargs=3,
-        action="append",
-        default=[],
-        metavar=("X", "Y", "RADIUS"),
-        help="middle (column and row) and radius in cells' widths: a disc of radius 16 takes 33"
-        " columns and 37 rows of the"
-        " triangular lattice; may be repeated; goes on past the last column, is cut at the walls",
-    )
-    polygons = kinds.add_parser("polygons", parents=[common], help="polygons")
-    polygons.add_argument(
-        "--polygon",
-        type=far,
-        nargs="+",
-        action="append",
-        default=[],
-        metavar="X Y",
-        help="the corners; may be repeated",
-    )
-    bitmap = kinds.add_parser("bitmap", parents=[common], help="the dark pixels of a picture")
-    bitmap.add_argument(
-        "picture", metavar="PICTURE", help="a PBM or PNG file, or another that Pillow reads"
-    )
-    bitmap.add_argument(
-        "--pixel",
-        type=number(0.01, MOST_SIDE),
-        default=1,
-        metavar="WIDTH",
-        help="of a pixel in cells' widths; default 1",
-    )
-    bitmap.add_argument(
-        "--at",
-        type=place,
-        nargs=2,
-        default=(0, 0),
-        metavar=("X", "Y"),
-        help="the cell of its upper left; default 0 0",
-    )
-    nozzle = kinds.add_parser(
-        "nozzle", parents=[common], help="the channel narrows to a throat and widens again"
-    )
-    nozzle.add_argument(
-        "--throat",
-        type=place,
-        default=6,
-        metavar="ROWS",
-        help="open rows of the narrowest column; default 6",
-    )
-    nozzle.add_argument(
-        "--length",
-        type=place,
-        default=40,
-        metavar="COLUMNS",
-        help="from full to full height; default 40",
-    )
-    porous = kinds.add_parser(
-        "porous",
-        parents=[common],
-        help="discs at random places, until the share of solid cells is reached",
-    )
-    porous.add_argument(
-        "--share",
-        type=number(0, 1),
-        default=0.3,
-        help="of all cells that are solid, at least; default 0.3",
-    )
-    porous.add_argument("--radius", type=place, default=2, help="of each disc; default 2")
+    for name, (about, more) in SHAPES.items():
+        add_words(kinds.add_parser(name, help=about), WORDS | more)
 
 
 def drawn(asked: argparse.Namespace, seed: int | None = None) -> str:
@@ -171,11 +113,8 @@ def drawn(asked: argparse.Namespace, seed: int | None = None) -> str:
     solid, thousandths = shape(asked, size, seed), 1000 * asked.filling
     if any(asked.wind) or asked.patch or abs(thousandths - round(thousandths)) > 1e-9:
         return windy(asked, size, seed, blocks, solid)
-    keys = ({"version": 2} if max(size) > 4096 else {}) | {
-        "gas": asked.gas,
-        "chirality": asked.chirality,
-        "seed": seed,
-    }
+    keys = {"version": 2} if max(size) > 4096 else {}
+    keys |= {"gas": asked.gas, "chirality": asked.chirality, "seed": seed}
     keys |= {"width": asked.width, "height": asked.height, "rate": round(thousandths)}
     blocks += [] if solid is None else fhpgas.shapes.rectangles(solid)
     return text_of(keys | ({"solid": blocks} if blocks else {}))
@@ -191,11 +130,8 @@ def shape(asked: argparse.Namespace, size: Any, seed: int) -> Any:
         return fhpgas.nozzle(size, asked.throat, asked.length)
     if asked.shape == "porous":
         return fhpgas.porous(size, asked.share, asked.radius, seed, asked.gas)
-    many = (
-        [fhpgas.disc(size, x, y, radius, asked.gas) for x, y, radius in asked.disc]
-        if asked.shape == "discs"
-        else []
-    )
+    discs = asked.disc if asked.shape == "discs" else ()
+    many = [fhpgas.disc(size, x, y, radius, asked.gas) for x, y, radius in discs]
     for numbers in asked.polygon if asked.shape == "polygons" else ():
         if len(numbers) % 2:
             raise Usage(f"a polygon has corners of two numbers each, and these are {len(numbers)}")
@@ -216,10 +152,8 @@ def windy(
             f"a wind makes a map, and this one would be longer than the {MOST_BYTES} bytes that the"
             " program reads"
         )
-    filling, walls = (
-        np.full(size.shape, asked.filling),
-        np.zeros(size.shape, bool) if solid is None else solid,
-    )
+    filling = np.full(size.shape, asked.filling)
+    walls = np.zeros(size.shape, bool) if solid is None else solid
     for x, y, w, h in blocks:
         walls[y : y + h, x : x + w] = True
     for *patch, chance in asked.patch:
@@ -231,13 +165,6 @@ def windy(
                 f" {' '.join(f'{n:g}' for n in (*patch, chance))}"
             )
         filling[y : y + h, x : x + w] = chance
-    drawn = filling if asked.patch else asked.filling
-    return fhpgas.draw_gas(
-        drawn,
-        *asked.wind,
-        size=size,
-        solid=walls,
-        gas=asked.gas,
-        chirality=asked.chirality,
-        seed=seed,
-    ).scene()
+    drawn, known = filling if asked.patch else asked.filling, {"size": size, "solid": walls}
+    known |= {"gas": asked.gas, "chirality": asked.chirality, "seed": seed}
+    return fhpgas.draw_gas(drawn, *asked.wind, **known).scene()

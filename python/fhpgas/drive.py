@@ -139,13 +139,8 @@ def _points(
         wanted = (flow or 0) * before.particles - momentum if force is None else force
         states, turned, given = kicks.kicked(before.states, wanted, keeps_rest=force is not None)
         lattice = before.replace(states=Checked(read_only(states)))
-        yield Point(
-            before,
-            lattice,
-            turned,
-            given / every / before.fluid,
-            (momentum + given / 2) / before.particles,
-        )
+        acts, velocity = given / every / before.fluid, (momentum + given / 2) / before.particles
+        yield Point(before, lattice, turned, acts, velocity)
 
 
 class _Kicks:
@@ -181,9 +176,8 @@ class _Kicks:
         if debt > self.debt and debt > self.owed.size + asked / 2:
             raise Fault(
                 f"the rows owe {debt:.0f} turns of {asked:.0f} per kick, and have no more particles"
-                " to turn: the flow is too fast, the force"
-                " too large, or the gas too thin. A flow from rest needs them all at once: begin"
-                " with a gas that moves (east=..)"
+                " to turn: the flow is too fast, the force too large, or the gas too thin. A flow"
+                " from rest needs them all at once: begin with a gas that moves (east=..)"
             )
         self.debt = debt
         if not keeps_rest:

@@ -105,3 +105,24 @@ def within(kind: Callable[[str], float], least: float, most: float) -> Callable[
 
 
 whole, number = functools.partial(within, int), functools.partial(within, float)
+
+
+def word(
+    about: str = "", kind: Callable[[str], Any] = str, default: Any = None, **more: Any
+) -> dict[str, Any]:
+    """The options of a word of argparse, whose help ends with its default."""
+    shown = f"default {' '.join(map(str, default)) if isinstance(default, tuple) else default}"
+    parts = [about] * bool(about) + [shown] * (default is not None)
+    return {"help": "; ".join(parts), "type": kind, "default": default} | more
+
+
+def repeated(about: str, kind: Callable[[str], Any], *names: str) -> dict[str, Any]:
+    """The options of a word with a value of each name, which may be there several times."""
+    sides = {"nargs": len(names), "metavar": names, "action": "append", "default": []}
+    return word(f"{about}; may be repeated", kind) | sides
+
+
+def add_words(reader: argparse.ArgumentParser, words: dict[str, dict[str, Any]]) -> None:
+    """Adds words with their options. What follows a colon in a name tells equal words apart."""
+    for name, options in words.items():
+        reader.add_argument(name.split(":")[0], **options)

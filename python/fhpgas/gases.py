@@ -12,11 +12,8 @@ from .fault import Fault
 Array = np.ndarray[Any, np.dtype[Any]]
 Pairs = Sequence[tuple[int, int]]
 ROOT3 = 3**0.5
-SIDES = {
-    "seeded": ("left", "right"),
-    "left": ("left",),
-    "right": ("right",),
-}  # of the pairs that turn, by chirality
+# The sides to which pairs turn, by chirality.
+SIDES = {"seeded": ("left", "right"), "left": ("left",), "right": ("right",)}
 STATES = np.arange(128, dtype=np.uint8)
 DRIVES = "rows", "directions"  # along which a force turns particles
 EXCHANGES = {
@@ -130,16 +127,10 @@ class Gas:
         "right"."""
         if side not in ("left", "right"):
             raise Fault(f"head-on pairs turn left or right, not {side!r}")
-        pairs = (
-            (0x05, 0x0A)
-            if self.is_square
-            else (0x09, 0x12, 0x24)
-            if side == "left"
-            else (0x24, 0x12, 0x09)
-        )
-        changes = dict(zip(pairs, (*pairs[1:], pairs[0]))) | (
-            {} if self.is_square else {0x15: 0x2A, 0x2A: 0x15}
-        )
+        pairs = (0x05, 0x0A) if self.is_square else (0x09, 0x12, 0x24)
+        pairs = pairs if side == "left" else pairs[::-1]
+        changes = dict(zip(pairs, (*pairs[1:], pairs[0])))
+        changes |= {} if self.is_square else {0x15: 0x2A, 0x2A: 0x15}
         if self.name == "fhp-rest":
             changes |= {before | 0x40: after | 0x40 for before, after in changes.items()}
             changes |= EXCHANGES | {two: one for one, two in EXCHANGES.items()}
@@ -167,12 +158,8 @@ class Gas:
 
     def changes(self, chirality: str) -> Array:
         """What a collision adds to the particles [128, b] of a state, on average over the sides."""
-        return (
-            np.mean(
-                [self.bits[self.collisions(side)] for side in SIDES[chirality_named(chirality)]], 0
-            )
-            - self.bits
-        )
+        sides = SIDES[chirality_named(chirality)]
+        return np.mean([self.bits[self.collisions(side)] for side in sides], 0) - self.bits
 
 
 _HEXAGON = (2, 0), (1, 1), (-1, 1), (-2, 0), (-1, -1), (1, -1)

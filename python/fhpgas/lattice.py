@@ -21,14 +21,9 @@ from .theory import sound_speed
 SOLID = 0x80  # in a byte per cell: a solid cell. Any other cell's byte is its state
 NO_CELL = 0xFF
 MOST_SIDE, LAST_OF_SCENE = 65536, 10**12
-MOST_GENERATION = (
-    LAST_OF_SCENE + MOST_GENERATIONS
-)  # after a run, which no further run can begin with
-PAIRS = np.array(
-    [b"##" if c & SOLID else b"%02x" % c if c else b".." for c in range(256)], "S2"
-).view(
-    "<u2"
-)  # the characters of a byte
+MOST_GENERATION = LAST_OF_SCENE + MOST_GENERATIONS  # after a run, with which none can begin
+TEXTS = [b"##" if code & SOLID else b"%02x" % code if code else b".." for code in range(256)]
+PAIRS = np.array(TEXTS, "S2").view("<u2")  # the characters of a byte
 CODES = np.full(1 << 16, NO_CELL, np.uint8)  # the byte of two characters
 CODES[PAIRS[: SOLID + 1]] = range(SOLID + 1)
 CODES[ord("0") * 257] = 0
@@ -39,7 +34,7 @@ OTHER = {"left": "right", "right": "left", "seeded": "seeded"}
 @dataclasses.dataclass(frozen=True, init=False, eq=False, repr=False)
 class Lattice(Value):
     """The cells of a gas at a generation. A lattice does not change: `run` and its like return
-    another.
+    another. numpy takes its states for it.
 
     Parameters
     ----------
@@ -100,8 +95,7 @@ class Lattice(Value):
         ):
             raise Fault(
                 f"states and solid cells are arrays [y, x] of one shape, 1 to {MOST_SIDE} each way,"
-                f" not {cells.shape} and"
-                f" {walls.shape}"
+                f" not {cells.shape} and {walls.shape}"
             )
         if not isinstance(states, Checked):
             cells = _states_of(cells, named)
@@ -172,6 +166,9 @@ class Lattice(Value):
         if "gas" not in changes:
             kept["states"] = Checked(self.states)
         return Lattice(**kept | changes)
+
+    def __array__(self, dtype: Any = None, copy: bool | None = None) -> Array:
+        return np.array(self.states, dtype) if copy else np.asarray(self.states, dtype)
 
     @property
     def size(self) -> fields.Size:
@@ -259,10 +256,8 @@ class Lattice(Value):
 
     def text(self) -> str:
         """The cells as `fhpgas run` prints them."""
-        return (
-            f"generation {self.generation} particles {self.particles}\n"
-            + lines_of(self._codes()).decode()
-        )
+        first = f"generation {self.generation} particles {self.particles}\n"
+        return first + lines_of(self._codes()).decode()
 
     def scene(self) -> str:
         """The text of the scene that has this lattice, a map."""
@@ -301,21 +296,10 @@ class Lattice(Value):
 
     def _scene(self) -> bytes:
         integer("the generation of a scene", self.generation, 0, LAST_OF_SCENE)
-        keys = {
-            "version": 2,
-            "gas": self.gas.name,
-            "chirality": self.chirality,
-            "seed": self.seed,
-            "generation": self.generation,
-        }
-        return b"".join(
-            [
-                program.text_of(keys).encode(),
-                b"cells = [\n",
-                lines_of(self._codes(), b'    "', b'",\n'),
-                b"]\n",
-            ]
-        )
+        keys = {"version": 2, "gas": self.gas.name, "chirality": self.chirality}
+        keys |= {"seed": self.seed, "generation": self.generation}
+        rows = lines_of(self._codes(), b'    "', b'",\n')
+        return b"".join([program.text_of(keys).encode(), b"cells = [\n", rows, b"]\n"])
 
     def run(
         self, generations: int, stages: int | None = None, capacity: int | None = None
@@ -347,12 +331,9 @@ class Lattice(Value):
             states = Checked(read_only(engine.run(self, generations)))
             return self.replace(states=states, generation=self.generation + generations)
         words = program.planned(len(self.states), generations, stages, capacity)
-        return _lattice_of(
-            *cells_of(program.call(self._scene(), "run", *words, is_checked=True)),
-            gas=self.gas,
-            chirality=self.chirality,
-            seed=self.seed,
-        )
+        text = program.call(self._scene(), "run", *words, is_checked=True)
+        keys = {"gas": self.gas, "chirality": self.chirality, "seed": self.seed}
+        return _lattice_of(*cells_of(text), **keys)
 
     def _span(self, generations: int) -> int:
         """The number of generations of a run that begins here."""
@@ -508,14 +489,10 @@ class Lattice(Value):
                 raise Fault(f"{why}{name} is {theirs}, and not {own}")
         if not np.array_equal(later.solid, self.solid):
             raise Fault(why + "other cells are solid")
-        if (
-            later.generation < self.generation
-            or later.generation == self.generation
-            and later != self
-        ):
+        first, last = self.generation, later.generation
+        if last < first or last == first and later != self:
             raise Fault(
-                f"{why}they are of generation {later.generation}, and it is of {self.generation},"
-                " with other cells"
+                f"{why}they are of generation {last}, and it is of {first}, with other cells"
             )
         return later
 
@@ -581,10 +558,8 @@ def _states_of(values: Array, gas: Gas) -> Array:
 
 def _lattice_of(codes: Array, generation: int, **keys: Any) -> Lattice:
     """The lattice of cells that the program printed for a scene of these keys."""
-    states, solid = (
-        Checked(read_only(part)) for part in (codes & (SOLID - 1), (codes >> 7).view(bool))
-    )
-    return Lattice(states, solid, generation=generation, **keys)
+    parts = codes & SOLID - 1, (codes >> 7).view(bool)
+    return Lattice(*(Checked(read_only(part)) for part in parts), generation=generation, **keys)
 
 
 def number_of(codes: Array) -> Array:
@@ -621,10 +596,8 @@ def cells_of(text: bytes, size: tuple[int, int] | None = None) -> tuple[Array, i
             f"these are no printed cells: row {np.argwhere(wrong)[0][0]} contains something else"
         )
     if size is not None and codes.shape != size[::-1]:
-        raise Fault(
-            f"the cells are {codes.shape[1]} x {codes.shape[0]} (columns x rows), and not {size[0]}"
-            f" x {size[1]}"
-        )
+        found = f"{codes.shape[1]} x {codes.shape[0]} (columns x rows)"
+        raise Fault(f"the cells are {found}, and not {size[0]} x {size[1]}")
     if (found := int(number_of(codes)[:SOLID] @ NUMBER)) != int(head[2]):
         raise Fault(
             f"the cells contain {found} particles, and their first line says {int(head[2])}"
@@ -633,11 +606,7 @@ def cells_of(text: bytes, size: tuple[int, int] | None = None) -> tuple[Array, i
 
 
 def read_cells(
-    text: str | bytes,
-    gas: str | Gas,
-    size: Any,
-    chirality: str = "seeded",
-    seed: int = 0,
+    text: str | bytes, gas: str | Gas, size: Any, chirality: str = "seeded", seed: int = 0
 ) -> Lattice:
     """The lattice of cells that `fhpgas run` printed.
 
@@ -667,9 +636,8 @@ def read_cells(
     >>> fhpgas.read_cells(text, "fhp1", fhpgas.Size(2, 1)).states.tolist()
     [[0, 1]]
     """
-    codes, generation = cells_of(
-        text.encode() if isinstance(text, str) else text, fields.size_of(size)
-    )
+    given = text.encode() if isinstance(text, str) else text
+    codes, generation = cells_of(given, fields.size_of(size))
     return Lattice(codes & (SOLID - 1), codes >> 7, gas, chirality, seed, generation)
 
 
@@ -727,14 +695,10 @@ def draw_gas(
     """
     named, walls = gas_named(gas), mask(False if solid is None else solid)
     known = {"filling": filling, "east": east, "north": north}
-    rows, columns = _shape_of(
-        size, walls, [np.shape(field) for field in known.values() if not callable(field)]
-    )
-    places = (
-        fields.positions(fields.Size(columns, rows), named)
-        if any(map(callable, known.values()))
-        else ()
-    )
+    shapes = [np.shape(field) for field in known.values() if not callable(field)]
+    rows, columns = _shape_of(size, walls, shapes)
+    if any(map(callable, known.values())):
+        places = fields.positions(fields.Size(columns, rows), named)
     values = [
         fields.numbers_of(name, field(*places) if callable(field) else field)
         for name, field in known.items()
@@ -750,13 +714,8 @@ def draw_gas(
     states = fields.drawn(named, values, (rows, columns), integer("a seed", seed, 0, MOST_SEED))
     if (mach := float(np.hypot(values[1], values[2]).max()) / sound_speed(named)) > 1:
         warnings.warn(f"the gas is faster than sound, Mach {mach:.2f}", stacklevel=2)
-    return Lattice(
-        np.where(walls, np.uint8(0), states),
-        np.broadcast_to(walls, states.shape),
-        named,
-        chirality,
-        seed,
-    )
+    cells = np.where(walls, np.uint8(0), states)
+    return Lattice(cells, np.broadcast_to(walls, cells.shape), named, chirality, seed)
 
 
 def _shape_of(size: Any, solid: Array, shapes: list[tuple[int, ...]]) -> tuple[int, ...]:
@@ -784,9 +743,8 @@ def _coarse(
     plan: dict[str, Any],
 ) -> Blocks:
     words = program.planned(size[1], generations, **plan)
-    table = program.call(
-        scene, "coarse", *words, "--block-width", block[0], "--block-height", block[1]
-    )
+    sides = "--block-width", block[0], "--block-height", block[1]
+    table = program.call(scene, "coarse", *words, *sides)
     return read_table(table, gas, block, size, first + generations)
 
 
@@ -817,9 +775,8 @@ def run(
     with program.naming(scene):
         words = program.planned(program.height_of(text), generations, stages, capacity)
         cells, keys = cells_of(program.call(text, "run", *words)), keys_of(text)
-    return _lattice_of(
-        *cells, **{name: keys[name] for name in ("gas", "chirality", "seed") if name in keys}
-    )
+    known = {name: keys[name] for name in ("gas", "chirality", "seed") if name in keys}
+    return _lattice_of(*cells, **known)
 
 
 def coarse(
@@ -858,15 +815,8 @@ def coarse(
     """
     text = program.scene_bytes(scene)
     with program.naming(scene):
-        of = program.summary(text)
-        return _coarse(
-            text,
-            of.gas,
-            fields.Size(of.width, of.height),
-            keys_of(text).get("generation", 0),
-            generations,
-            block_checked(
-                of.width if width is None else width, of.height if height is None else height, 4096
-            ),
-            program.plan_of(stages, capacity),
-        )
+        of, first = program.summary(text), keys_of(text).get("generation", 0)
+        wide, high = (of.width if width is None else width, of.height if height is None else height)
+        block, size = block_checked(wide, high, 4096), fields.Size(of.width, of.height)
+        plan = program.plan_of(stages, capacity)
+        return _coarse(text, of.gas, size, first, generations, block, plan)

@@ -41,10 +41,8 @@ def flux(gas: str | Gas, numbers: Any) -> Array:
     """
     c, given = gas_named(gas).velocities, array_of("numbers by direction", numbers)
     if given.shape[:1] != c.shape[:1]:
-        raise Fault(
-            f"{gas_named(gas)} has {len(c)} directions, and these numbers have the shape"
-            f" {given.shape}"
-        )
+        has = f"{gas_named(gas)} has {len(c)} directions"
+        raise Fault(f"{has}, and these numbers have the shape {given.shape}")
     return np.asarray(np.einsum("i...,ia,ib->ab...", given, c, c))
 
 
@@ -144,9 +142,8 @@ def staggered(lattice: Lattice) -> tuple[int, ...]:
         across = gas.bits.astype(int) @ [
             (0, 1, 1, 0, -1, -1, 0)[(i - axis) % 6] if i < 6 else 0 for i in range(gas.directions)
         ]
-        found.append(
-            (-1) ** lattice.generation * int(((1 - 2 * is_odd) * across[lattice.states]).sum())
-        )
+        of_lines = int(((1 - 2 * is_odd) * across[lattice.states]).sum())
+        found.append((-1) ** lattice.generation * of_lines)
     return tuple(found)
 
 

@@ -37,14 +37,13 @@ FIELDS = {  # the unit and the colours of what is shown
     "filling": ("particles per direction", PLAIN),
     "pressure": ("per cell", PLAIN),
 }
-PARTICLES, SMALL, MOST = (
-    "particles",
-    2_000,
-    20_000,
-)  # cells of a lattice that shows its particles if no field is named, and that can at all
+PARTICLES = "particles"
+SMALL, MOST = 2_000, 20_000  # cells of a lattice that shows its particles unasked, and that can
 FINEST = 1024  # pixels of the solid cells each way
 PILLOW, FFMPEG = (".gif", ".webp", ".apng"), (".mp4",)
 PALE, GREY, INK = "0.88", "0.55", "#1f4e79"
+IN_CELLS = {"angles": "xy", "scale_units": "xy", "units": "xy", "scale": 1, "minlength": 0}
+ARROW = {"width": 0.06, "headwidth": 3, "headlength": 3.5, "headaxislength": 3}
 
 
 class Shown(NamedTuple):
@@ -64,15 +63,13 @@ def chosen(source: Source, what: Any, block: tuple[int, int], smooth: float) -> 
     cells = source.states.size if isinstance(source, Lattice) else MOST + 1
     if what is None:
         what = PARTICLES if cells <= SMALL else "speed"
-    if isinstance(what, str) and what not in (
-        can := [*FIELDS, PARTICLES] if cells <= MOST else [*FIELDS]
-    ):
+    can = [*FIELDS, *[PARTICLES] * (cells <= MOST)]
+    if isinstance(what, str) and what not in can:
         raise Fault(f"there is no picture of {what!r} of {source!r}: {', '.join(can)}")
     if isinstance(what, str) and what == PARTICLES:
         return PARTICLES, Shown(source)
-    blocks = (
-        source if isinstance(source, Blocks) else source.blocks(*pair_checked(block, "a block"))
-    )
+    sides = pair_checked(block, "a block")
+    blocks = source if isinstance(source, Blocks) else source.blocks(*sides)
     smoothed = blocks.smooth(smooth) if smooth else blocks
     values = getattr(smoothed, what) if isinstance(what, str) else np.ma.asarray(what)
     if values.shape != blocks.fluid.shape or values.dtype.kind not in "biuf":
@@ -117,11 +114,8 @@ def prepared(
         least, most = min(least, -most), max(most, -least)
     limits = {} if "norm" in options else {"vmin": least, "vmax": most}
     shades = colormaps.get_cmap(options.get("cmap", name)).with_extremes(bad=GREY)
-    return (
-        f"{what}\n({unit})" if unit else "",
-        many,
-        {"interpolation": "nearest"} | limits | options | {"cmap": shades},
-    )
+    options = {"interpolation": "nearest"} | limits | options | {"cmap": shades}
+    return f"{what}\n({unit})" if unit else "", many, options
 
 
 def solid_of(source: Source) -> Any:
@@ -133,9 +127,8 @@ def solid_of(source: Source) -> Any:
         return None
     side = -(-max(solid.shape) // FINEST)
     (number,) = block_sums(solid.view(np.uint8), np.array([[0, 1]]), side, side)
-    return np.ma.masked_array(
-        np.full(number.shape, 255 * float(GREY), np.uint8), 2 * number < side**2
-    )
+    grey = np.full(number.shape, 255 * float(GREY), np.uint8)
+    return np.ma.masked_array(grey, 2 * number < side**2)
 
 
 def draw(shown: Shown, ax: Axes, options: dict[str, Any]) -> Any:
@@ -144,19 +137,18 @@ def draw(shown: Shown, ax: Axes, options: dict[str, Any]) -> Any:
     if shown.values is None:
         return particles(shown.source, ax)
     blocks = shown.source
-    (x, y), (rows, columns), (width, height) = blocks.edges, blocks.fluid.shape, blocks.block
-    full = (
-        x[0],
-        x[0] + columns * width,
-        y[0] - rows * height * blocks.gas.row_distance,
-        y[0],
-    )  # as if the last blocks were not smaller
-    image = ax.imshow(shown.values, extent=full, **options)
+    x, y = blocks.edges
+
+    def shown_as(values: Any, width: int, height: int, **options: Any) -> Any:
+        """An image of blocks of this size, as if the last ones were not smaller."""
+        rows, columns = values.shape
+        below = y[0] - rows * height * blocks.gas.row_distance
+        return ax.imshow(values, extent=(x[0], x[0] + columns * width, below, y[0]), **options)
+
+    image = shown_as(shown.values, *blocks.block, **options)
     if shown.solid is not None:
         side = -(-max(blocks.size) // FINEST)
-        wide, high = (side * pixels for pixels in shown.solid.shape[::-1])
-        full = x[0], x[0] + wide, y[0] - high * blocks.gas.row_distance, y[0]
-        ax.imshow(shown.solid, cmap="gray", vmin=0, vmax=255, extent=full)
+        shown_as(shown.solid, side, side, cmap="gray", vmin=0, vmax=255)
     ax.set(xlim=(x[0], x[-1]), ylim=(y[-1], y[0]), xlabel="x (cells)", ylabel="y (cells)")
     return image
 
@@ -170,47 +162,17 @@ def particles(lattice: Lattice, ax: Axes) -> Axes:
     corners = 4 if gas.is_square else 6
     turns = np.exp(2j * np.pi * (np.arange(corners) + 0.5) / corners) / 2 / np.cos(np.pi / corners)
     outlines = np.stack([X.reshape(-1, 1) + turns.real, Y.reshape(-1, 1) + turns.imag], 2)
-    ax.add_collection(
-        PolyCollection(
-            outlines,
-            facecolors=np.where(lattice.solid.ravel(), GREY, "white"),
-            edgecolors=PALE,
-            linewidths=0.8,
-        )
-    )
+    inside = np.where(lattice.solid.ravel(), GREY, "white")
+    ax.add_collection(PolyCollection(outlines, facecolors=inside, edgecolors=PALE, linewidths=0.8))
     for i, (u, v) in enumerate(gas.velocities):
         here = lattice.states >> i & 1 > 0
+        x, y, looks = X[here], Y[here], {"units": "xy", "color": INK}
         if u or v:
-            ax.quiver(
-                X[here],
-                Y[here],
-                0.46 * u,
-                0.46 * v,
-                angles="xy",
-                scale_units="xy",
-                scale=1,
-                units="xy",
-                width=0.06,
-                headwidth=3,
-                headlength=3.5,
-                headaxislength=3,
-                minlength=0,
-                color=INK,
-                zorder=3,
-            )
+            ax.quiver(x, y, 0.46 * u, 0.46 * v, zorder=3, **IN_CELLS | ARROW | looks)
         else:
-            at, sizes = np.column_stack([X[here], Y[here]]), np.full(here.sum(), 0.24)
-            ax.add_collection(
-                EllipseCollection(
-                    sizes,
-                    sizes,
-                    0 * sizes,
-                    units="xy",
-                    offsets=at,
-                    offset_transform=ax.transData,
-                    color=INK,
-                )
-            )
+            sizes, looks["offsets"] = np.full(here.sum(), 0.24), np.column_stack([x, y])
+            looks["offset_transform"] = ax.transData
+            ax.add_collection(EllipseCollection(sizes, sizes, 0 * sizes, **looks))
     top, right = lattice.size[1] * gas.row_distance, X.max() + 0.6
     ax.hlines((0, top), -0.6, right, "black", linewidth=2)
     ax.set(aspect="equal", xlim=(-0.6, right), ylim=(-0.2, top + 0.2), xticks=[], yticks=[])
@@ -224,9 +186,8 @@ def bar(image: Any, label: str | None, ax: Axes) -> None:
     if label is not None:
         room = ax.get_window_extent()
         share = min(1.0, 0.85 * ax.get_data_ratio() * room.width / room.height)
-        ax.figure.colorbar(
-            image, ax=ax, label=label, shrink=share, aspect=max(5, 25 * share), pad=0.02
-        )
+        size = {"shrink": share, "aspect": max(5, 25 * share), "pad": 0.02}
+        ax.figure.colorbar(image, ax=ax, label=label, **size)
 
 
 def plot(
@@ -323,25 +284,13 @@ def strip(
 
     label, many, options = prepared(sources, what, block, smooth, options)
     n, aspect = len(many), aspect_of(many[0].source)
-    across = (
-        integer("the number of columns", columns, 1, n)
-        if columns is not None
-        else min(
-            (k for k in range(1, n + 1) if n % k == 0),
-            key=lambda k: abs(np.log(k * k / n / aspect / 3)),
-        )
-    )
+    divisors = (k for k in range(1, n + 1) if n % k == 0)
+    good = min(divisors, key=lambda k: abs(np.log(k * k / n / aspect / 3)))
+    across = integer("the number of columns", good if columns is None else columns, 1, n)
     down = -(-n // across)
-    high = max(2.2, down * (7.6 / across * aspect + 0.4) + 0.5)
-    figure, grid = pyplot.subplots(
-        down,
-        across,
-        figsize=(9, high),
-        layout="constrained",
-        squeeze=False,
-        sharex=True,
-        sharey=True,
-    )
+    size = 9, max(2.2, down * (7.6 / across * aspect + 0.4) + 0.5)
+    shared = {"squeeze": False, "sharex": True, "sharey": True}
+    figure, grid = pyplot.subplots(down, across, figsize=size, layout="constrained", **shared)
     for shown, ax in zip(many, grid.flat):
         image = draw(shown, ax, options)
         ax.set_title(f"generation {shown.source.generation}", fontsize="medium")
@@ -410,9 +359,8 @@ def film(
     >>> start = fhpgas.draw_gas(0.2, size=fhpgas.Size(64, 36), seed=1)
     >>> fhpgas.film("rest.gif", start.every(5, 2), "density")
     """
-    writer, dpi = film_writer(path, real("the frames per second", fps, 0.1, 100)), integer(
-        "the dots per inch", dpi, 10, 1000
-    )
+    writer = film_writer(path, real("the frames per second", fps, 0.1, 100))
+    dpi = integer("the dots per inch", dpi, 10, 1000)
     label, many, options = prepared(sources, what, block, smooth, options)
     ax = axes_of(many[0].source)
     ax.set_title("generation")
@@ -438,9 +386,7 @@ def film_writer(path: str | os.PathLike[str], fps: float) -> Any:
         def grab_frame(self, **options: Any) -> None:
             super().grab_frame(**options)
             frame = self._frames[-1].convert("RGB")
-            if (
-                suffix == ".gif"
-            ):  # all frames have the 256 colours of the first one, which shows the bar
+            if suffix == ".gif":  # all frames have the 256 colours of the first, which has the bar
                 self.palette = self.palette or frame.quantize()
                 frame = frame.quantize(palette=self.palette, dither=0)
             self._frames[-1] = frame

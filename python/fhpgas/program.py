@@ -26,14 +26,8 @@ HEIGHT = re.compile(rb"^[ \t]*height[ \t]*=[ \t]*(\d+)", re.M)
 ROWS = re.compile(
     r"^[ \t]*cells[ \t]*=[ \t]*\[[^\]#]*(?:##[^\]#]*)*\]", re.M
 )  # the key of a map, without comments
-MOST_BYTES, MOST_GENERATIONS, MOST_STAGES, CAPACITY, MOST_SEED = (
-    67_108_864,
-    1_000_000,
-    64,
-    128,
-    2**63 - 1,
-)
-MOST_CAPACITY = 1024
+MOST_BYTES, MOST_GENERATIONS, MOST_SEED = 67_108_864, 1_000_000, 2**63 - 1
+MOST_STAGES, CAPACITY, MOST_CAPACITY = 64, 128, 1024
 BARS: list[str] = []  # the units of the bars that are shown
 _cores = contextvars.ContextVar("cores", default=0)  # of a run of `side_by_side`, 0 for any other
 TIED = "setpriv", "--pdeathsig", "KILL"  # of util-linux
@@ -91,22 +85,14 @@ def _program_path() -> pathlib.Path:
         raise Fault(
             f"a run needs the program fhpgas, which needs Linux, and this is {sys.platform}"
         )
-    named, own, found = os.environ.get("FHPGAS"), ABOVE / "fhpgas", shutil.which("fhpgas")
-    path = (
-        pathlib.Path(named).absolute()
-        if named
-        else own
-        if own.is_file()
-        else pathlib.Path(found)
-        if found
-        else None
-    )
-    if path is None:
+    named, own = os.environ.get("FHPGAS"), ABOVE / "fhpgas"
+    found = named or (str(own) if own.is_file() else shutil.which("fhpgas"))
+    if not found:
         raise Fault(
             "the program fhpgas is not found, which reads scenes, and runs lattices where the"
-            " package has no engine for this"
-            " machine: set FHPGAS to its path, or put it on the PATH"
+            " package has no engine for this machine: set FHPGAS to its path, or put it on the PATH"
         )
+    path = pathlib.Path(found).absolute()
     if not path.is_file():
         raise Fault(f"{path} is missing")
     try:
@@ -226,10 +212,8 @@ def call(scene: bytes, *words: object, is_checked: bool = False) -> bytes:
         found = answer.read()
     if process.returncode:
         runs.get().go_on()
-        line = (
-            said.decode(errors="replace").split("\n")[0]
-            or f"fhpgas ended with status {process.returncode}"
-        )
+        line = said.decode(errors="replace").split("\n")[0]
+        line = line or f"fhpgas ended with status {process.returncode}"
         raise Fault(line + " (`explain` says where)" * line.startswith("scene: "))
     return found
 
@@ -293,10 +277,8 @@ def keys_of(scene: bytes) -> dict[str, Any]:
 def text_of(keys: dict[str, Any]) -> str:
     """The scene of a dictionary of keys and values, texts, integers (also numpy's) and lists of
     them, with a line per entry of a list."""
-    toml, lines = (
-        functools.partial(json.dumps, ensure_ascii=False, default=operator.index),
-        list[str](),
-    )
+    toml = functools.partial(json.dumps, ensure_ascii=False, default=operator.index)
+    lines: list[str] = []
     for key, value in keys.items():
         if isinstance(value, (list, tuple)):
             lines += [f"{key} = [", *(f"    {toml(entry)}," for entry in value), "]"]
@@ -338,8 +320,7 @@ def with_seed(scene: Scene, seed: int) -> str:
     if kept := "cells" if "width" not in keys else "particles" if keys.get("particles") else "":
         raise Fault(
             f"another seed would leave `{kept}` as they are: draw the scene again, by"
-            " `fhpgas.draw_gas(.., seed=..)` or"
-            " `over-seeds --drawn`"
+            " `fhpgas.draw_gas(.., seed=..)` or `over-seeds --drawn`"
         )
     if not keys.get("rate"):
         raise Fault(

@@ -1,7 +1,6 @@
 """A second reading of scenes, on Python's own TOML reader, by docs/FORMATS.md alone: the line that
 refuses a text, the reasons, and what else is wrong. It shares nothing with the program. The tests
 compare the program with it, and `explain` prints its reasons."""
-import collections
 import difflib
 import itertools
 import json
@@ -13,37 +12,20 @@ from typing import Any
 
 STATES = {"fhp1": 64, "hpp": 16, "fhp-rest": 128}
 CHIRALITIES = ("seeded", "left", "right")
-WORDS: dict[str, Iterable[str]] = {
-    "gas": STATES,
-    "chirality": CHIRALITIES,
-}  # of the keys that are texts
+WORDS: dict[str, Iterable[str]] = {"gas": STATES, "chirality": CHIRALITIES}  # keys with texts
 # What gases are called in print, in small letters and without hyphens; None if the program lacks
 # the gas.
-PUBLISHED = {
-    "fhpi": "fhp1",
-    "fhp2": "fhp-rest",
-    "fhpii": "fhp-rest",
-    "fhp3": None,
-    "fhpiii": None,
-    "hpp": "hpp",
-}
+PUBLISHED: dict[str, str | None] = {"fhp3": None, "fhpiii": None, "hpp": "hpp"}
+PUBLISHED |= {"fhpi": "fhp1", "fhp2": "fhp-rest", "fhpii": "fhp-rest"}
 MOST_SIDE = {1: 4096, 2: 65536}
 INTEGERS = ("version", "generation", "seed", "width", "height", "rate")
 LISTS = {"solid": (4, "[x, y, w, h]"), "particles": (3, "[x, y, state]")}
 AREA = ("width", "height", "solid", "rate", "particles")
 KEYS = (*INTEGERS, "gas", "chirality", "cells", *LISTS)
-TYPES = collections.defaultdict(
-    lambda: "a date or a time",
-    {
-        bool: "a truth value",
-        int: "an integer",
-        float: "a float",
-        str: "a text",
-        list: "a list",
-        dict: "a table",
-    },
-)
+TYPES = {bool: "a truth value", int: "an integer", float: "a float", str: "a text"}
+TYPES |= {list: "a list", dict: "a table"}  # any other is a date or a time
 MOST_BYTES, DEEPEST, MOST_ROWS = 67_108_864, 80, 8
+TOO_DEEP = f"lists, tables or keys are nested more than {DEEPEST} deep"
 SYNTAX = "scene: not TOML"
 Reasons = Iterator[tuple[tuple, str]]
 # What only TOML 1.1 has: Python's reader takes 1.0, and refuses more than the program does.
@@ -74,36 +56,25 @@ class Refused(Exception):
 def read(text: bytes) -> dict:
     """The keys of the bytes of a scene and their values, or the first refusal as a Refused."""
     if len(text) > MOST_BYTES:
-        raise Refused(
-            "input: too long",
-            [((), f"the text has {len(text)} bytes, and the program reads {MOST_BYTES}")],
-        )
+        why = f"the text has {len(text)} bytes, and the program reads {MOST_BYTES}"
+        raise Refused("input: too long", [((), why)])
     try:
         letters = text.decode("utf-8-sig")
         table = tomllib.loads(letters, parse_float=finite)
     except UnicodeDecodeError as fault:
-        line, byte = text.count(b"\n", 0, fault.start) + 1, fault.start - text.rfind(
-            b"\n", 0, fault.start
-        )
+        line = text.count(b"\n", 0, fault.start) + 1
+        byte = fault.start - text.rfind(b"\n", 0, fault.start)
         raise Refused(SYNTAX, [((), f"line {line}, byte {byte}: no UTF-8")]) from None
     except tomllib.TOMLDecodeError as fault:
-        raise Refused(
-            SYNTAX, [((), sentence(str(fault), letters))], unsure=bool(NEWER.search(letters))
-        ) from None
+        why, unsure = sentence(str(fault), letters), bool(NEWER.search(letters))
+        raise Refused(SYNTAX, [((), why)], unsure=unsure) from None
     except ValueError:  # Python reads integers of up to 4300 digits
-        line = next(
-            k
-            for k, line in enumerate(letters.split("\n"), start=1)
-            if re.search(r"[\d_]{4300}", line)
-        )
-        raise Refused(
-            SYNTAX,
-            [((), f"line {line}: an integer of thousands of digits is no integer of 64 bits")],
-        ) from None
+        before, *_ = re.split(r"[\d_]{4300}", letters, maxsplit=1)
+        line = before.count("\n") + 1
+        why = f"line {line}: an integer of thousands of digits is no integer of 64 bits"
+        raise Refused(SYNTAX, [((), why)]) from None
     except RecursionError:
-        raise Refused(
-            SYNTAX, [((), f"lists, tables or keys are nested more than {DEEPEST} deep")]
-        ) from None
+        raise Refused(SYNTAX, [((), TOO_DEEP)]) from None
     if reasons := list(beyond(table)):
         raise Refused(SYNTAX, reasons)
     if found := faults(table):
@@ -122,7 +93,7 @@ def beyond(value: Any, path: tuple = (), deep: int = 0) -> Reasons:
     """What Python's reader takes and the program does not: integers of more than 64 bits, and what
     is nested too deep."""
     if deep > DEEPEST:
-        yield path[:1], f"lists, tables or keys are nested more than {DEEPEST} deep"
+        yield path[:1], TOO_DEEP
     elif type(value) in (dict, list):
         for key, entry in value.items() if type(value) is dict else enumerate(value):
             yield from beyond(entry, (*path, key), deep + (type(entry) in (dict, list)))
@@ -134,12 +105,8 @@ def beyond(value: Any, path: tuple = (), deep: int = 0) -> Reasons:
 def sentence(message: str, text: str) -> str:
     """Where and why a text is not TOML, from what Python's reader says."""
     what, _, where = message.removesuffix(")").rpartition(" (at ")
-    hint = MISTAKES.get(
-        what,
-        "the text may be TOML 1.1, which the program reads and Python does not"
-        if NEWER.search(text)
-        else "",
-    )
+    newer = "the text may be TOML 1.1, which the program reads and Python does not"
+    hint = MISTAKES.get(what, newer if NEWER.search(text) else "")
     if place := re.fullmatch(r"line (\d+), column (\d+)", where):
         line, column = text.split("\n")[int(place[1]) - 1], int(place[2]) - 1
         if line[column : column + 1] in {*"“”„‘’"}:
@@ -186,9 +153,8 @@ def nearest(word: str, known: Iterable[str]) -> str:
     found, is_published = closest(word, known)
     if found:
         return f"{'its name here' if is_published else 'the nearest'} is `{found}`"
-    return f"there {'is none here, only' if is_published else 'are'} " + ", ".join(
-        f"`{name}`" for name in known
-    )
+    names = ", ".join(f"`{name}`" for name in known)
+    return f"there {'is none here, only' if is_published else 'are'} {names}"
 
 
 def shown(value: Any) -> str:
@@ -199,9 +165,11 @@ def shown(value: Any) -> str:
 
 
 def is_tuple(value: Any, count: int) -> bool:
-    return (
-        type(value) is list and len(value) == count and all(type(entry) is int for entry in value)
-    )
+    return type(value) is list and [type(entry) for entry in value] == [int] * count
+
+
+def type_of(value: Any) -> str:
+    return TYPES.get(type(value), "a date or a time")
 
 
 def version_of(table: dict) -> int:
@@ -214,11 +182,8 @@ def unknown_keys(table: dict) -> Reasons:
         if key == "generation" and version_of(table) == 1:
             yield (key,), "`generation` is a key of version 2 alone, with `version = 2` beside it"
         elif key not in KEYS:
-            heading = (
-                ", and all keys stand at the top level, under no heading"
-                if type(value) is dict
-                else ""
-            )
+            heading = ", and all keys stand at the top level, under no heading"
+            heading *= type(value) is dict
             yield (key,), f"{shown(key)} is no key of a scene{heading}; {nearest(key, KEYS)}"
 
 
@@ -235,16 +200,15 @@ def missing_keys(table: dict) -> Reasons:
     elif "gas" not in table:
         yield (), "`gas` is missing: " + ", ".join(f'"{name}"' for name in STATES)
     if table and "cells" not in table and sides:
-        yield (), f"`{sides[0]}` is missing" if len(
-            sides
-        ) == 1 else "`cells` is missing, or `width` and `height`"
+        both = "`cells` is missing, or `width` and `height`"
+        yield (), both if len(sides) == 2 else f"`{sides[0]}` is missing"
 
 
 def wrong_types(table: dict) -> Reasons:
     for key, value in table.items():
         wanted = "an integer" if key in INTEGERS else "a text" if key in WORDS else "a list"
         count, form = LISTS.get(key, (0, ""))
-        if (kind := TYPES[type(value)]) != wanted:
+        if (kind := type_of(value)) != wanted:
             yield (key,), f"`{key}` is {kind}, {shown(value)}, and must be {wanted}"
         elif count and is_tuple(value, count):
             one = shown(value)
@@ -252,10 +216,8 @@ def wrong_types(table: dict) -> Reasons:
         elif wanted == "a list":
             for place, entry in enumerate(value):
                 if not count and type(entry) is not str:
-                    yield (
-                        key,
-                        place,
-                    ), f"row {place} is {TYPES[type(entry)]}, {shown(entry)}, and must be a text"
+                    why = f"row {place} is {type_of(entry)}, {shown(entry)}, and must be a text"
+                    yield (key, place), why
                 if count and not is_tuple(entry, count):
                     why = f"`{key}`, {shown(entry)}, must be a list of {count} integers, {form}"
                     yield (key, place), f"entry {place} of {why}"
@@ -263,25 +225,17 @@ def wrong_types(table: dict) -> Reasons:
 
 def out_of_range(table: dict) -> Reasons:
     version, sides = version_of(table), ("width", "height", "cells")
-    ranges = {
-        "version": (1, 2),
-        "seed": (0, 2**63 - 1),
-        "generation": (0, 10**12),
-        "rate": (0, 1000),
-    }
-    ranges |= dict.fromkeys(sides, (1, MOST_SIDE[version]))
+    ranges = {"version": (1, 2), "seed": (0, 2**63 - 1), "generation": (0, 10**12)}
+    ranges |= {"rate": (0, 1000)} | dict.fromkeys(sides, (1, MOST_SIDE[version]))
     for key, (least, most) in ranges.items():
         value = len(table.get(key, ())) if key == "cells" else table.get(key, least)
         if key in table and not least <= value <= most:
-            what = (
-                f"`cells` has {value} rows, and must have"
-                if key == "cells"
-                else f"`{key}` is {value}, and must be"
+            has = (
+                f"has {value} rows, and must have" if key == "cells" else f"is {value}, and must be"
             )
             longer = key in sides and version == 1 and most < value <= MOST_SIDE[2]
-            yield (
-                key,
-            ), f"{what} {least} to {most}" + f" (with `version = 2` to {MOST_SIDE[2]})" * longer
+            more = f" (with `version = 2` to {MOST_SIDE[2]})" * longer
+            yield (key,), f"`{key}` {has} {least} to {most}{more}"
     for key, known in WORDS.items():
         if key in table and table[key] not in known:
             yield (key,), f"`{key}` is {shown(table[key])}; {nearest(table[key], known)}"
@@ -292,12 +246,9 @@ def misplaced(table: dict) -> Reasons:
     rectangle, or with a state that the gas lacks."""
     if "width" not in table or "height" not in table:
         return
-    width, height, solid, states = (
-        table["width"],
-        table["height"],
-        table.get("solid", []),
-        STATES.get(table.get("gas", ""), 256),
-    )
+    width, height, solid = table["width"], table["height"], table.get("solid", [])
+    gas = table.get("gas", "")
+    states = STATES.get(gas, 256)
     area = f"the area of columns 0 to {width - 1} and rows 0 to {height - 1}"
     for place, (x, y, w, h) in enumerate(solid):
         if w < 1 or h < 1:
@@ -310,24 +261,18 @@ def misplaced(table: dict) -> Reasons:
         if not (0 <= x < width and 0 <= y < height):
             yield ("particles", place), f"{name} is outside {area}"
         elif not 0 <= state < states:
-            yield (
-                "particles",
-                place,
-            ), f"{name} has state {state}, and those of {table.get('gas')} are 0 to {states - 1}"
+            why = f"{name} has state {state}, and those of {gas} are 0 to {states - 1}"
+            yield ("particles", place), why
         elif (cover := covering(solid, x, y)) is not None:
             yield ("particles", place), f"{name} stands in rectangle {cover}, {solid[cover]}"
 
 
 def covering(solid: list, x: int, y: int) -> int | None:
     """The place of the first rectangle that covers a cell, or None."""
-    return next(
-        (
-            k
-            for k, (left, top, w, h) in enumerate(solid)
-            if left <= x < left + w and top <= y < top + h
-        ),
-        None,
-    )
+    for place, (left, top, w, h) in enumerate(solid):
+        if left <= x < left + w and top <= y < top + h:
+            return place
+    return None
 
 
 # The checks before a map's rows, in their order, with the lines that refuse.
@@ -355,10 +300,8 @@ def row_faults(table: dict) -> Iterator[tuple[str, list]]:
         found = cell.match(rows[number])
         length = found.end() if found else 0  # up to the first pair that is not a cell
         if length + 1 < len(rows[number]):
-            why = cell_fault(rows[number][length : length + 2], gas)
-            yield f"scene: row {number} cell {length // 2} is not a cell", [
-                (("cells", number, length // 2), why)
-            ]
+            reason = ("cells", number, length // 2), cell_fault(rows[number][length:][:2], gas)
+            yield f"scene: row {number} cell {length // 2} is not a cell", [reason]
 
 
 def length_fault(rows: list[bytes], number: int, most: int) -> str | None:
@@ -367,22 +310,14 @@ def length_fault(rows: list[bytes], number: int, most: int) -> str | None:
     if number == 0:
         if length % 2:
             return f"row 0 has {length} characters, an odd number, and a cell has two"
-        return (
-            None
-            if 2 <= length <= 2 * most
-            else f"row 0 has {length // 2} cells, and must have 1 to {most}"
-        )
-    alike = sum(len(row) == length for row in rows) if length != first else 0
-    others = (
-        f"; as many have {alike} of the {len(rows)} rows, so row 0 may be the wrong one"
-        if 2 * alike > len(rows)
-        else ""
-    )
-    return (
-        None
-        if length == first
-        else f"row {number} has {length} characters, and row 0 has {first}{others}"
-    )
+        why = f"row 0 has {length // 2} cells, and must have 1 to {most}"
+        return None if 2 <= length <= 2 * most else why
+    if length == first:
+        return None
+    alike = sum(len(row) == length for row in rows)
+    others = f"; as many have {alike} of the {len(rows)} rows, so row 0 may be the wrong one"
+    others *= 2 * alike > len(rows)
+    return f"row {number} has {length} characters, and row 0 has {first}{others}"
 
 
 def cell_fault(pair: bytes, gas: str) -> str:

@@ -26,13 +26,12 @@ def explained(text: bytes) -> list[tuple[str, list[str], int]]:
     except reader.Refused as refused:
         source = text.decode("utf-8-sig", errors="replace").replace("\r\n", "\n")
         found = [(str(refused), refused.reasons), *refused.later]
+        first = (
+            [position(source, path) + why for path, why in reasons[:MOST_REASONS]]
+            for _, reasons in found
+        )
         return [
-            (
-                line,
-                [position(source, path) + why for path, why in reasons[:MOST_REASONS]],
-                max(0, len(reasons) - MOST_REASONS),
-            )
-            for line, reasons in found
+            (line, told, len(reasons) - len(told)) for (line, reasons), told in zip(found, first)
         ]
     return []
 
@@ -69,25 +68,15 @@ def position(source: str, path: tuple) -> str:
     """The line and the column of a path, from 1, as the beginning of a sentence, or "" if the key
     is not found. A path is a key, the place of an entry of its list, and for a map the place of a
     cell in its row."""
-    key = (
-        re.search(
-            rf"""^[ \t]*(?:\[+[ \t]*)?(["']?{re.escape(path[0])}\b["']?)[ \t]*([.=\]])""",
-            source,
-            re.M,
-        )
-        if path
-        else None
-    )
-    if not key:
+    name = re.escape(path[0]) if path else ""
+    line_of = rf"""^[ \t]*(?:\[+[ \t]*)?(["']?{name}\b["']?)[ \t]*([.=\]])"""
+    if not path or not (key := re.search(line_of, source, re.M)):
         return ""
     offset = key.start(1)
     if len(path) > 1 and key[2] == "=":
         offset = entry(source, key.end(), path[1]) or offset
-    if (
-        path[0] == "cells"
-        and len(path) == 3
-        and re.match(r"[\"'][^\"'\\]", source[offset : offset + 2])
-    ):
+    is_cell = path[0] == "cells" and len(path) == 3
+    if is_cell and re.match(r"[\"'][^\"'\\]", source[offset : offset + 2]):
         offset += 1 + 2 * path[2]
     line, column = source.count("\n", 0, offset) + 1, offset - source.rfind("\n", 0, offset)
     return f"line {line}, column {column}: "

@@ -249,9 +249,8 @@ def bitmap(
     y, x = np.ogrid[:rows, :columns]
     right = np.floor((x - column + named.shift * (y % 2)) / pixel + 1e-9).astype(int)
     down = np.floor((y - row + 0.5) * named.row_distance / pixel).astype(int)
-    wide, tall = math.ceil(pixel * dark.shape[1] - 1e-9), math.ceil(
-        pixel * len(dark) / named.row_distance - 0.5 - 1e-9
-    )
+    wide = math.ceil(pixel * dark.shape[1] - 1e-9)
+    tall = math.ceil(pixel * len(dark) / named.row_distance - 0.5 - 1e-9)
     check_inside("the picture", (column, row, wide, tall), (columns, rows))
     inside = (0 <= right) & (right < dark.shape[1]) & (0 <= down) & (down < len(dark))
     return inside & dark[down.clip(0, len(dark) - 1), right.clip(0, dark.shape[1] - 1)]
@@ -271,11 +270,8 @@ def _dark(picture: Any) -> Array:
 
     try:
         with Image.open(picture) as image:
-            grey = (
-                image.point(lambda shade: shade / 256).convert("L")
-                if image.mode.startswith("I")
-                else image
-            )
+            is_deep = image.mode.startswith("I")
+            grey = image.point(lambda shade: shade / 256).convert("L") if is_deep else image
             shades = np.asarray(grey.convert("RGBA")).astype(int)
     except (OSError, ValueError, SyntaxError, Image.DecompressionBombError) as fault:
         raise Fault(f"{picture}: {getattr(fault, 'strerror', None) or fault}") from None
@@ -298,10 +294,8 @@ def rectangles(solid: Array) -> list[list[int]]:
     last, found = dict[tuple[int, int], list[int]](), list[list[int]]()
     for y, row in enumerate(np.pad(solid, ((0, 0), (1, 1))).astype(np.int8)):
         ends = np.flatnonzero(np.diff(row)).tolist()
-        here = {
-            run: last.get(run) or [run[0], y, run[1] - run[0], 0]
-            for run in zip(ends[::2], ends[1::2])
-        }
+        runs = zip(ends[::2], ends[1::2])
+        here = {run: last.get(run) or [run[0], y, run[1] - run[0], 0] for run in runs}
         for run, rectangle in here.items():
             rectangle[3] += 1
             found += [rectangle] if run not in last else []

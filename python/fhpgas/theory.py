@@ -58,9 +58,8 @@ def galilean_factor(gas: str | Gas, filling: Any, wind: float = 0.0) -> Any:
         return named.directions / 12 * (1 - 2 * d) / (1 - d)
     across = 1e-4
     numbers = equilibrium(named, d, real("a wind", wind, -1, 1), across)
-    return np.tensordot(named.velocities.prod(1), numbers, 1) / (
-        named.directions * d * wind * across
-    )
+    flux = np.tensordot(named.velocities.prod(1), numbers, 1)
+    return flux / (named.directions * d * wind * across)
 
 
 def isotropic(gas: str | Gas) -> Gas:
@@ -93,16 +92,14 @@ def relaxed(gas: str | Gas, filling: Any, chirality: str, mode: Array) -> Any:
 def _turning(gas: Gas, times: int) -> Array:
     """The mode [b] of the moving directions that turns so many times as the direction turns once: 2
     is the shear, 3 the staggered mode."""
-    return np.where(
-        np.arange(gas.directions) < 6, np.exp(1j * np.pi / 3 * times * np.arange(gas.directions)), 0
-    )
+    i = np.arange(gas.directions)
+    return np.where(i < 6, np.exp(1j * np.pi / 3 * times * i), 0)
 
 
 def _shear(gas: str | Gas, filling: Any, chirality: str) -> Any:
     named = isotropic(gas)
-    return (
-        1 / relaxed(named, filling, chirality, _turning(named, 2)) - 1 / 2
-    ) / 4  # c^2 / (dimensions + 2), where c = 1
+    share = relaxed(named, filling, chirality, _turning(named, 2))
+    return (1 / share - 1 / 2) / 4  # c^2 / (dimensions + 2), where c = 1
 
 
 def viscosity(gas: str | Gas, filling: Any, chirality: str = "seeded") -> Any:
@@ -178,8 +175,7 @@ def _warn(gas: str | Gas, filling: Any, chirality: str) -> None:
     if np.any(is_correlated(gas, filling, chirality)):
         warnings.warn(
             f"measured viscosities of {gas_named(gas)} ({chirality}) exceed Boltzmann's by more"
-            " than a tenth at this filling:"
-            " docs/EXPERIMENTS.md, Viscosity",
+            " than a tenth at this filling: docs/EXPERIMENTS.md, Viscosity",
             Correlated,
             stacklevel=3,
         )
@@ -331,26 +327,12 @@ def numbers(
     >>> round(fhpgas.numbers("fhp1", 0.3, 0.1, 80).mach, 4)
     0.1414
     """
-    d, u, size = (
-        real("a filling", filling, 0, 1),
-        abs(real("a speed", speed, -1, 1)),
-        real("a length", length),
-    )
-    g, nu, sound = (
-        float(galilean_factor(gas, d)),
-        float(_shear(gas, d, chirality).real),
-        sound_speed(gas),
-    )
+    d, size = real("a filling", filling, 0, 1), real("a length", length)
+    u, g = abs(real("a speed", speed, -1, 1)), float(galilean_factor(gas, d))
+    nu, sound = float(_shear(gas, d, chirality).real), sound_speed(gas)
     _warn(gas, d, chirality)
     if size <= 0:
         raise Fault(f"a length is above 0, not {length!r}")
     carried = abs(g * u)
-    return Numbers(
-        sound,
-        g,
-        nu,
-        u / sound,
-        carried * size / nu,
-        size**2 / nu,
-        size / carried if carried else float("inf"),
-    )
+    turnover = size / carried if carried else float("inf")
+    return Numbers(sound, g, nu, u / sound, carried * size / nu, size**2 / nu, turnover)
