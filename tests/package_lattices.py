@@ -260,6 +260,12 @@ class Lattices(Package):
                 Size(6, 2),
             )
 
+    def test_a_key_that_only_a_later_program_reads_is_refused(self):
+        printed = program.call(AREA.encode(), "run", "--generations", 0)
+        with unittest.mock.patch.object(program, "call", return_value=printed):
+            self.fault("the key `later`", fhpgas.run, AREA + "later = 1\n", 0)
+            self.fault("the key `later`", fhpgas.Lattice.load, AREA + "later = 1\n")
+
     def test_a_scene_is_passed_as_its_text_or_its_path(self):
         (self.room / "d=0.3.toml").write_text(AREA)
         start = fhpgas.Lattice.load(AREA)

@@ -16,6 +16,7 @@ from .blocks import CACHED, Blocks, Value, block_checked, block_sums, read_table
 from .fault import Fault, integer
 from .gases import Array, Checked, Gas, array_of, chirality_named, gas_named, mask, read_only
 from .program import MOST_GENERATIONS, MOST_SEED, Scene, keys_of
+from .reader import KEYS
 from .theory import sound_speed
 
 SOLID = 0x80  # in a byte per cell: a solid cell. Any other cell's byte is its state
@@ -748,6 +749,14 @@ def _coarse(
     return read_table(table, gas, block, size, first + generations)
 
 
+def _kept(keys: dict[str, Any]) -> dict[str, Any]:
+    """The keys of a scene that its lattice has too. One that a later program reads and this package
+    does not know would be lost without a word, so it is refused."""
+    if strange := sorted(keys.keys() - set(KEYS)):
+        raise Fault(f"the package does not know the key `{strange[0]}`, which a lattice would lose")
+    return {name: keys[name] for name in ("gas", "chirality", "seed") if name in keys}
+
+
 def run(
     scene: Scene, generations: int, stages: int | None = None, capacity: int | None = None
 ) -> Lattice:
@@ -774,9 +783,8 @@ def run(
     text = program.scene_bytes(scene)
     with program.naming(scene):
         words = program.planned(program.height_of(text), generations, stages, capacity)
-        cells, keys = cells_of(program.call(text, "run", *words)), keys_of(text)
-    known = {name: keys[name] for name in ("gas", "chirality", "seed") if name in keys}
-    return _lattice_of(*cells, **known)
+        cells, keys = cells_of(program.call(text, "run", *words)), _kept(keys_of(text))
+    return _lattice_of(*cells, **keys)
 
 
 def coarse(
