@@ -39,7 +39,7 @@ kit := $(patsubst %/START-HERE.md,%,$(shell rt doc 2>&1 || :))
 # The crates in the order in which they begin, with the seconds that one processor takes to prove each: first the ones for which the longest
 # chains of others wait. A crate that has several processors is proved sooner with a third more work, so the one that has time takes one.
 costs := gas_geom:30 gas_bits:60 gas_rows:120 gas_tool_cli:120 gas_layout:55 gas_cells:20 gas_scene:175 gas_belt:90 gas_stage:65 \
-    gas_pipe_model:10 gas_pipe_members:115 gas_pipe_replay:70 gas_pipe:190 gas_tool_io:95 gas_tool:80 gas_export:75 fhpgas:70
+    gas_pipe_model:10 gas_pipe_members:115 gas_pipe_replay:70 gas_pipe:190 gas_blocks:40 gas_tool_io:60 gas_tool:80 gas_export:75 fhpgas:70
 order := $(foreach c,$(costs),$(firstword $(subst :, ,$c)))
 jobs = $(if $(filter gas_tool_cli,$@),1,$(processors))
 

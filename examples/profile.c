@@ -8,7 +8,6 @@
 #include <stdlib.h>
 
 enum { WIDTH = 200, HEIGHT = 40, CELLS = WIDTH * HEIGHT, GAS = FHPGAS_FHP1, DIRECTIONS = 6, SEED = 1 };
-static const int east[DIRECTIONS] = {2, 1, -1, -2, -1, 1}; /* E, NE, NW, W, SW, SE, in halves of a particle's momentum */
 
 static void done(uint32_t status) {
     if (status == FHPGAS_DONE) return;
@@ -27,13 +26,7 @@ int main(int count, char **words) {
     done(fhpgas_pack(1, WIDTH, HEIGHT, walls, CELLS, solid, one));
     done(fhpgas_pack(DIRECTIONS, WIDTH, HEIGHT, cells, CELLS, states, all));
     done(fhpgas_advance(GAS, FHPGAS_SEEDED, SEED, 0, generations, WIDTH, HEIGHT, 0, 0, WIDTH, solid, one, states, all, work, more));
-    done(fhpgas_unpack(DIRECTIONS, WIDTH, HEIGHT, states, all, cells, CELLS));
-    for (int y = 0; y < HEIGHT; y++) {
-        int fluid = 0, particles = 0, momentum = 0;
-        for (int i = y * WIDTH; i < (y + 1) * WIDTH; i++) {
-            fluid += !walls[i];
-            for (int b = 0; b < DIRECTIONS; b++) particles += cells[i] >> b & 1, momentum += (cells[i] >> b & 1) * east[b];
-        }
-        printf("%d %d %d\n", fluid, particles, momentum);
-    }
+    int64_t sums[HEIGHT][4]; /* of blocks that are a row each */
+    done(fhpgas_sums(GAS, WIDTH, HEIGHT, WIDTH, 1, solid, one, states, all, sums[0], 4 * HEIGHT));
+    for (int y = 0; y < HEIGHT; y++) printf("%d %d %d\n", (int)sums[y][0], (int)sums[y][1], (int)sums[y][2]);
 }

@@ -42,6 +42,7 @@ enum {
     FHPGAS_SIZE = 3,        /* width or height is not 1 to 65536 */
     FHPGAS_PLACE = 4,       /* first_row is odd, first_column no multiple of 32, or first_column + width above whole_width */
     FHPGAS_GENERATIONS = 5, /* first + generations is not below 2^64 */
+    FHPGAS_BLOCK = 6,       /* block_width or block_height is 0 */
     FHPGAS_LENGTH = 7,      /* an array has not the length that is asked for */
     FHPGAS_BYTE = 8         /* a byte is not below 2^planes */
 };
@@ -79,6 +80,18 @@ uint32_t fhpgas_unpack(uint32_t planes, uint32_t width, uint32_t height, const u
 uint32_t fhpgas_advance(uint32_t gas, uint32_t chirality, uint64_t seed, uint64_t first, uint64_t generations, uint32_t width,
                         uint32_t height, uint32_t first_row, uint32_t first_column, uint32_t whole_width, const uint64_t *solid,
                         size_t solid_length, uint64_t *states, size_t states_length, uint64_t *work, size_t work_length);
+
+/* Turns every particle of a lattice to the opposite direction. A particle at rest stays. states has the length of fhpgas_advance.
+ * Refuses with GAS, SIZE, LENGTH. */
+uint32_t fhpgas_turn(uint32_t gas, uint32_t width, uint32_t height, uint64_t *states, size_t states_length);
+
+/* Sums the cells of a lattice over blocks of block_width columns and block_height rows, from the top left. Blocks at the right and at the
+ * bottom are smaller if the lattice ends there. sums gets four numbers per block: its fluid cells, its particles, and the particles' momenta
+ * eastwards and northwards in the units of `fhpgas coarse`, by rows of blocks from the top, each from the left. It has
+ * 4 * (width / block_width rounded up) * (height / block_height rounded up) numbers, solid and states have the lengths of fhpgas_advance.
+ * Refuses with GAS, SIZE, BLOCK, LENGTH. */
+uint32_t fhpgas_sums(uint32_t gas, uint32_t width, uint32_t height, uint32_t block_width, uint32_t block_height, const uint64_t *solid,
+                     size_t solid_length, const uint64_t *states, size_t states_length, int64_t *sums, size_t sums_length);
 
 #ifdef __cplusplus
 }

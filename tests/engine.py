@@ -218,6 +218,26 @@ class Refusals(unittest.TestCase):
 
         self.try_all("advance", draw)
 
+    def test_turn(self):
+        def draw():
+            gas, directions = self.gas()
+            return gas, *self.size(), self.planes(directions)
+
+        self.try_all("turn", draw)
+
+    def test_sums(self):
+        def draw():
+            gas, directions = self.gas()
+            sides = self.size()
+            block = [self.number("BLOCK", [1, 2, 64, 200, 2**32 - 1], 0) for _ in "xy"]
+            columns, rows = (
+                -(-side // max(1, step)) for side, step in zip((self.width, self.height), block)
+            )
+            planes = self.planes(1), self.planes(directions)
+            return gas, *sides, *block, *planes, self.array(np.int64, 4 * columns * rows)
+
+        self.try_all("sums", draw)
+
     def test_lengths(self):
         words, work = engine.library().fhpgas_words, engine.library().fhpgas_work_words
         for planes in (0, 1, 7, 8, 9, 2**32 - 1):
@@ -261,10 +281,54 @@ class Engine(unittest.TestCase):
         self.assertGreater(min(cells, others), 10_000)
         self.assertRaisesRegex(fhpgas.Fault, "even", engine.run, whole, 1, engine.Place(1))
 
+    def test_sums_by_hand(self):
+        """East and north-east, west, two that cancel out, none in a solid cell, and one at rest."""
+        lattice = fhpgas.Lattice([[3, 8, 9], [0, 0, 64]], [[0, 0, 0], [1, 0, 0]], "fhp-rest")
+        found = engine.sums(lattice, 0, 2, 1).tolist()
+        fluid, particles, px, py = (
+            [[2, 1], [1, 1]],
+            [[3, 2], [0, 1]],
+            [[1, 0], [0, 0]],
+            [[1, 0], [0, 0]],
+        )
+        self.assertEqual(found, [fluid, particles, px, py])
+
+    def test_sums_are_those_of_the_program(self):
+        rng = np.random.default_rng(6)
+
+        def is_so(case):
+            (lattice, generations), block = case
+            table = lattice.coarse(generations, *block, stages=2)
+            wanted = [table.fluid, table.particles, table.px, table.py]
+            return np.array_equal(engine.sums(lattice, generations, *block), wanted)
+
+        blocks = rng.choice([1, 2, 3, 8, 9, 63, 64, 65, 400, 4096], (LATTICES, 2)).tolist()
+        found = side_by_side(is_so, list(zip(cases(), blocks))[::4])
+        self.assertEqual(found, [True] * (LATTICES // 4))
+
+    def test_every_particle_is_turned(self):
+        """To the direction half a turn away. A particle at rest stays."""
+        turn = ctypes.CDLL(engine.library()._name).fhpgas_turn
+        rng = np.random.default_rng(7)
+        for number in range(100):
+            gas, half = [*GASES.items()][number % 3]
+            directions, turned = half, half // 2
+            lattice = drawn(rng, tuple(rng.integers(1, 200, 2).tolist()), gas)
+            words = engine._packed(directions, lattice.states)
+            given = (engine.GASES[gas], *lattice.size, ctypes.c_void_p(words.ctypes.data))
+            self.assertEqual(turn(*given, ctypes.c_size_t(words.size)), 0)
+            states, moving = lattice.states.astype(int), 2 * turned
+            wanted = states & (1 << moving) - 1
+            wanted = (wanted >> turned | wanted << turned) & (
+                1 << moving
+            ) - 1 | states >> moving << moving
+            found = engine._unpacked(directions, words, lattice.states.shape)
+            np.testing.assert_array_equal(found, wanted, str(lattice))
+
     def test_calls_are_cut(self):
         """In parts of one generation and one row at least, which together make the same."""
         lattice = drawn(np.random.default_rng(4), (100, 37), "fhp-rest", "seeded")
-        states, calls = engine.run(lattice, 9), []
+        states, sums, calls = engine.run(lattice, 9), engine.sums(lattice, 9, 7, 5), []
         call = engine._call
         watched = lambda name, *given: (calls.append(name), call(name, *given))[1]
         for cut, runs, packs in ((1, 9, 37), (100 * 37 * 2, 5, 1), (100 * 10, 9, 4)):
@@ -273,6 +337,7 @@ class Engine(unittest.TestCase):
                 np.testing.assert_array_equal(engine.run(lattice, 9), states)
                 counts = [calls.count(name) for name in ("advance", "pack")]
                 self.assertEqual(counts, [runs, packs])
+                np.testing.assert_array_equal(engine.sums(lattice, 9, 7, 5), sums)
 
     def test_four_threads_have_equal_cells(self):
         lattices = [drawn(np.random.default_rng(k), (1000, 300), "fhp-rest") for k in range(4)]
@@ -283,8 +348,9 @@ class Engine(unittest.TestCase):
 
     def test_an_interrupt_comes_between_calls(self):
         script = (
-            "import fhpgas, signal\nsignal.signal(signal.SIGINT, signal.default_int_handler)\n"
-            "lattice = fhpgas.draw_gas(0.2, size=fhpgas.Size(4096, 1024))\nprint('begun', flush=True)\nfhpgas.engine.run(lattice, 10**6)"
+            "import fhpgas, signal\nsignal.signal(signal.SIGINT,"
+            " signal.default_int_handler)\nlattice = fhpgas.draw_gas(0.2, size=fhpgas.Size(4096,"
+            " 1024))\nprint('begun', flush=True)\nfhpgas.engine.run(lattice, 10**6)"
         )
         words = [sys.executable, "-c", script]
         pipes = dict(stdout=subprocess.PIPE, stderr=subprocess.PIPE, text=True)
@@ -427,9 +493,10 @@ class Choice(unittest.TestCase):
 
     def test_without_library_and_program_one_fault_says_so(self):
         script = (
-            "import fhpgas\nstart = fhpgas.draw_gas(0.2, size=fhpgas.Size(20, 20))\nprint(start.blocks(5, 5).particles.sum())\n"
-            "for call in (start.run, start.coarse, lambda n: fhpgas.run(start.scene(), n)):\n"
-            "    try:\n        print(call(1))\n    except fhpgas.Fault as fault:\n        print(fault)"
+            "import fhpgas\nstart = fhpgas.draw_gas(0.2, size=fhpgas.Size(20,"
+            " 20))\nprint(start.blocks(5, 5).particles.sum())\nfor call in (start.run,"
+            " start.coarse, lambda n: fhpgas.run(start.scene(), n)):\n    try:\n       "
+            " print(call(1))\n    except fhpgas.Fault as fault:\n        print(fault)"
         )
         with tempfile.TemporaryDirectory() as room:
             shutil.copytree(

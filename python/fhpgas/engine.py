@@ -32,19 +32,22 @@ INTERFACE = 1
 GASES = {"fhp1": 0, "hpp": 1, "fhp-rest": 2}
 CHIRALITIES = {"seeded": 0, "left": 1, "right": 2}
 REFUSALS = {
-    4: "the first row of a part is even, its first column a multiple of 32, and its last column in"
-    " the whole",
+    4: (
+        "the first row of a part is even, its first column a multiple of 32, and its last column in"
+        " the whole"
+    ),
     5: "the last generation is not below 2^64",
 }
 U32, U64, SIZE = ctypes.c_uint32, ctypes.c_uint64, ctypes.c_size_t
 BYTES, WORDS = ((ndpointer(kind, flags="C"), SIZE) for kind in (np.uint8, np.uint64))
-NEW_WORDS = ndpointer(np.uint64, flags=("C", "W")), SIZE
+NEW_WORDS, NEW_SUMS = ((ndpointer(kind, flags=("C", "W")), SIZE) for kind in (np.uint64, np.int64))
 CALLS: dict[str, tuple[Any, ...]] = {
     "interface": (U32,),
     "words": (SIZE, U32, U32, U32),
     "work_words": (SIZE, U32, U32),
     "pack": (U32, U32, U32, U32, *BYTES, *NEW_WORDS),
     "advance": (U32, U32, U32, *[U64] * 3, *[U32] * 5, *WORDS, *NEW_WORDS, *NEW_WORDS),
+    "sums": (U32, U32, U32, U32, U32, U32, *WORDS, *WORDS, *NEW_SUMS),
 }
 # The flags of Linux for what a level of x86-64 needs, the best level first.
 V2 = {"cx16", "lahf_lm", "pni", "popcnt", "sse4_1", "sse4_2", "ssse3"}
@@ -127,6 +130,27 @@ def _has_program() -> bool:
 
 def run(lattice: Lattice, generations: int, place: Place = Place()) -> Array:
     """The states [y, x] of a lattice after some generations."""
+    _, states = _advanced(lattice, generations, place)
+    return _unpacked(lattice.gas.directions, states, lattice.states.shape)
+
+
+def sums(lattice: Lattice, generations: int, width: int, height: int) -> Array:
+    """The sums [k, row, column] over blocks of `width` x `height` cells of a lattice after some
+    generations: fluid cells, particles, and momenta eastwards and northwards."""
+    (columns, rows), gas = lattice.size, GASES[lattice.gas.name]
+    solid, states = _advanced(lattice, generations, Place())
+    width, height = min(width, columns), min(height, rows)
+    found = np.empty((-(-rows // height), -(-columns // width), 4), np.int64)
+    many = max(1, CUT // (columns * height))
+    for row in range(0, len(found), many):
+        part = slice(row * height, min((row + many) * height, rows))
+        size = columns, part.stop - part.start, width, height
+        _done("sums", gas, *size, solid[part], states[part], found[row : row + many])
+    return np.moveaxis(found, -1, 0)
+
+
+def _advanced(lattice: Lattice, generations: int, place: Place) -> tuple[Array, Array]:
+    """The solid cells and the states after some generations, as words of planes [y, word]."""
     (columns, rows), gas, directions = lattice.size, GASES[lattice.gas.name], lattice.gas.directions
     solid, states = _packed_solid(lattice.solid), _packed(directions, lattice.states)
     work = np.empty(_call("work_words", gas, columns), np.uint64)
@@ -141,7 +165,7 @@ def run(lattice: Lattice, generations: int, place: Place = Place()) -> Array:
         _done("advance", *source, *span, *size, solid, states, work)
     if generations > step:
         show_progress("")
-    return _unpacked(directions, states, lattice.states.shape)
+    return solid, states
 
 
 def _strips(shape: tuple[int, ...], most: int) -> Iterator[slice]:

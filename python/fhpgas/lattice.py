@@ -236,14 +236,17 @@ class Lattice(Value):
         >>> fhpgas.Lattice([[1, 9, 0], [0, 0, 32]]).blocks(None, 1).particles.tolist()
         [[3], [1]]
         """
-        width, height = self._block(width, height)
-        (fluid,) = block_sums(self.solid.view(np.uint8), np.array([[1, 0]]), width, height)
-        particles, px, py = block_sums(
-            self.states, np.stack([self.gas.number, self.gas.px, self.gas.py]), width, height
-        )
-        return Blocks(
-            fluid, particles, px, py, self.gas, (width, height), self.size, self.generation
-        )
+        block = block_checked(*self._block(width, height))
+        if engine.library():
+            return self._blocks(engine.sums(self, 0, *block), block, self.generation)
+        weights = np.stack([self.gas.number, self.gas.px, self.gas.py])
+        fluid = block_sums(self.solid.view(np.uint8), np.array([[1, 0]]), *block)
+        sums = np.concatenate([fluid, block_sums(self.states, weights, *block)])
+        return self._blocks(sums, block, self.generation)
+
+    def _blocks(self, sums: Array, block: tuple[int, int], generation: int) -> Blocks:
+        fluid, particles, px, py = sums
+        return Blocks(fluid, particles, px, py, self.gas, block, self.size, generation)
 
     def _block(self, width: int | None, height: int | None) -> tuple[int, int]:
         return self.size[0] if width is None else width, self.size[1] if height is None else height
@@ -416,7 +419,8 @@ class Lattice(Value):
         block = block_checked(*self._block(width, height), 4096)
         plan, generations = program.plan_of(stages, capacity), self._span(generations)
         if stages is None and capacity is None and engine.serves(self, generations):
-            return self.run(generations).blocks(*block)
+            sums = engine.sums(self, generations, *block)
+            return self._blocks(sums, block, self.generation + generations)
         return _coarse(
             self._scene(), self.gas, self.size, self.generation, generations, block, plan
         )

@@ -14,7 +14,6 @@ use Rattle.gas_geom.specs.Moves.{row_after}
 use Rattle.gas_geom.specs.declared.moves.Move.TheVariants.{Back, On}
 use Rattle.gas_bits.specs.Words.{words_in, bit}
 use Rattle.gas_bits.specs.Planes.{state}
-use Rattle.gas_bits.proofs.Cells.{part_get, part_length}
 use Rattle.gas_bits.proofs.Words.{bit-all_zero}
 use Rattle.gas_rows.specs.Planes.{cells_of}
 use Rattle.gas_rows.proofs.Cells.{get_or-cells}
@@ -30,47 +29,52 @@ zero_bits words zero = bit-all_zero words zero
 pub row-within : (w h y : ℕ) → y < h → y * w + w ≤ h * w
 row-within w h y lt = omega (arith, mul-le (y + 1) w h w (omega (arith, lt)) (omega arith))
 
-row-get : (m rows k j : ℕ) (xs : List ℕ) → length xs ≡ rows * m → k < rows → j < m → get_or (row_words m xs k) j 0 ≡ get_or xs (k * m + j) 0
-row-get m rows k j xs long in_rows lt = part_get xs (k * m) m j lt (omega (arith, row-within m rows k in_rows, long))
+row-get : {A : Type 0} (d : A) (m rows k j : ℕ) (xs : List A) → length xs ≡ rows * m → k < rows → j < m → get_or (row_words m xs k) j d ≡ get_or xs (k * m + j) d
+row-get d m rows k j xs long in_rows lt =
+    let within : k * m + m ≤ length xs = omega (arith, row-within m rows k in_rows, long) in
+    grind (arith, places)
 
-row-long : (m rows k : ℕ) (xs : List ℕ) → length xs ≡ rows * m → k < rows → length (row_words m xs k) ≡ m
-row-long m rows k xs long in_rows = part_length xs (k * m) m (omega (arith, row-within m rows k in_rows, long))
+row-long : {A : Type 0} (m rows k : ℕ) (xs : List A) → length xs ≡ rows * m → k < rows → length (row_words m xs k) ≡ m
+row-long m rows k xs long in_rows =
+    let within : k * m + m ≤ length xs = omega (arith, row-within m rows k in_rows, long) in
+    grind (arith, places)
 
-pub put-long : (a m : ℕ) (xs ys : List ℕ) → length ys ≡ m → a + m ≤ length xs → length (put_mid a m xs ys) ≡ length xs
+pub put-long : {A : Type 0} (a m : ℕ) (xs ys : List A) → length ys ≡ m → a + m ≤ length xs → length (put_mid a m xs ys) ≡ length xs
 put-long a m xs ys wide within = grind (arith, places)
 
-pub put-get : (a m j : ℕ) (xs ys : List ℕ) → length ys ≡ m → a + m ≤ length xs → j < m → get_or (put_mid a m xs ys) (a + j) 0 ≡ get_or ys j 0
-put-get a m j xs ys wide within lt = grind (arith, places)
+pub put-get : {A : Type 0} (d : A) (a m j : ℕ) (xs ys : List A) → length ys ≡ m → a + m ≤ length xs → j < m → get_or (put_mid a m xs ys) (a + j) d ≡ get_or ys j d
+put-get d a m j xs ys wide within lt = grind (arith, places)
 
-pub put-apart : (a m j : ℕ) (xs ys : List ℕ) → length ys ≡ m → a + m ≤ length xs → (j < a) ⊎ (a + m ≤ j) → get_or (put_mid a m xs ys) j 0 ≡ get_or xs j 0
-put-apart a m j xs ys wide within apart = grind (arith, places)
+pub put-apart : {A : Type 0} (d : A) (a m j : ℕ) (xs ys : List A) → length ys ≡ m → a + m ≤ length xs → (j < a) ⊎ (a + m ≤ j) → get_or (put_mid a m xs ys) j d ≡ get_or xs j d
+put-apart d a m j xs ys wide within apart = grind (arith, places)
 
 -- a row that is written: it, and the others
-pub put-here : (m rows y s e : ℕ) (xs ys : List ℕ) → s ≡ y * m → e ≡ m → length xs ≡ rows * m → length ys ≡ m → y < rows → row_words m (put_mid s e xs ys) y ≡ ys
-put-here m rows y s e xs ys es ee long wide in_rows =
+pub put-here : {A : Type 0} (d : A) (m rows y s e : ℕ) (xs ys : List A) → s ≡ y * m → e ≡ m → length xs ≡ rows * m → length ys ≡ m → y < rows
+    → row_words m (put_mid s e xs ys) y ≡ ys
+put-here d m rows y s e xs ys es ee long wide in_rows =
     let within : y * m + m ≤ length xs = omega (arith, row-within m rows y in_rows, long) in
     let new_long : length (put_mid (y * m) m xs ys) ≡ rows * m = put-long (y * m) m xs ys wide within ∙ long in
     ap₂ (λ a b. row_words m (put_mid a b xs ys) y) es ee
-    ∙ ext_get_or 0 (row_words m (put_mid (y * m) m xs ys) y) ys (row-long m rows y (put_mid (y * m) m xs ys) new_long in_rows ∙ sym wide)
+    ∙ ext_get_or d (row_words m (put_mid (y * m) m xs ys) y) ys (row-long m rows y (put_mid (y * m) m xs ys) new_long in_rows ∙ sym wide)
     (λ j lt.
     let j_in : j < m = omega (arith, lt, row-long m rows y (put_mid (y * m) m xs ys) new_long in_rows) in
-    row-get m rows y j (put_mid (y * m) m xs ys) new_long in_rows j_in ∙ put-get (y * m) m j xs ys wide within j_in)
+    row-get d m rows y j (put_mid (y * m) m xs ys) new_long in_rows j_in ∙ put-get d (y * m) m j xs ys wide within j_in)
 
-pub put-other : (m rows y k s e : ℕ) (xs ys : List ℕ) → s ≡ y * m → e ≡ m → length xs ≡ rows * m → length ys ≡ m → y < rows → k < rows → k ≢ y
+pub put-other : {A : Type 0} (d : A) (m rows y k s e : ℕ) (xs ys : List A) → s ≡ y * m → e ≡ m → length xs ≡ rows * m → length ys ≡ m → y < rows → k < rows → k ≢ y
     → row_words m (put_mid s e xs ys) k ≡ row_words m xs k
-put-other m rows y k s e xs ys es ee long wide in_rows k_in ne =
+put-other d m rows y k s e xs ys es ee long wide in_rows k_in ne =
     let within : y * m + m ≤ length xs = omega (arith, row-within m rows y in_rows, long) in
     let new_long : length (put_mid (y * m) m xs ys) ≡ rows * m = put-long (y * m) m xs ys wide within ∙ long in
     ap₂ (λ a b. row_words m (put_mid a b xs ys) k) es ee
-    ∙ ext_get_or 0 (row_words m (put_mid (y * m) m xs ys) k) (row_words m xs k) (row-long m rows k (put_mid (y * m) m xs ys) new_long k_in ∙ sym (row-long m rows k xs long k_in))
+    ∙ ext_get_or d (row_words m (put_mid (y * m) m xs ys) k) (row_words m xs k) (row-long m rows k (put_mid (y * m) m xs ys) new_long k_in ∙ sym (row-long m rows k xs long k_in))
     (λ j lt.
     let j_in : j < m = omega (arith, lt, row-long m rows k (put_mid (y * m) m xs ys) new_long k_in) in
-    row-get m rows k j (put_mid (y * m) m xs ys) new_long k_in j_in
-    ∙ put-apart (y * m) m (k * m + j) xs ys wide within (elim (cases_lt k y) [
+    row-get d m rows k j (put_mid (y * m) m xs ys) new_long k_in j_in
+    ∙ put-apart d (y * m) m (k * m + j) xs ys wide within (elim (cases_lt k y) [
       | inl lt ↦ inl (omega (arith, row-within m y k lt, j_in))
       | inr le ↦ inr (omega (arith, row-within m k y (omega (arith, le, ne))))
     ])
-    ∙ sym (row-get m rows k j xs long k_in j_in))
+    ∙ sym (row-get d m rows k j xs long k_in j_in))
 
 -- ---- the solid cells of the row above row y, of it, and of the row below it
 pub solid-above : (w h y x : ℕ) (solid wall above : List ℕ) → y < h → ((x : ℕ) → x < w → bit wall x ≡ true)

@@ -1,17 +1,22 @@
 //! The calls, as `include/fhpgas.h` has them.
 ghost use Rattle.std.specs.Prelude.{◌≡◌, ◌≢◌, ◌+◌, ◌*◌, ◌<◌, ◌&&◌, ℕ, nat_lt, if◌then◌else◌, length, slice_index};
+ghost use Rattle.std.specs.Int.{div_ceil};
+ghost use Rattle.gas_blocks.specs.Blocks.{block_at};
 ghost use Rattle.gas_stage.specs.Evolution.{lattice_after};
-ghost use Rattle.gas_export.specs.Planes.{lattice_in, gas_numbered, chirality_numbered, state_at};
+ghost use Rattle.gas_export.specs.Planes.{lattice_in, gas_numbered, chirality_numbered, state_at, turned, row_words};
+ghost use Rattle.gas_export.specs.Sums.{sums_of};
 ghost use Rattle.gas_export.specs.Part.{part_after};
-ghost use Rattle.gas_export.specs.Statuses.{is_planes, is_size, words_of, work_of, advance_status, pack_status, unpack_status};
+ghost use Rattle.gas_export.specs.Statuses.{is_planes, is_size, words_of, work_of, advance_status, pack_status, unpack_status, turn_status, sums_status};
 
 use crate::advance::advance;
 use crate::bytes::{pack, unpack};
 use crate::draw::Place;
 use crate::status::{
-    DONE, advance_status, directions_of, is_planes, is_size, pack_status, unpack_status, words_of,
-    work_of,
+    DONE, advance_status, directions_of, is_planes, is_size, pack_status, sums_status, turn_status,
+    unpack_status, words_of, work_of,
 };
+use crate::sums::sum_blocks;
+use crate::turn::turn;
 use gas_geom::fhp_rest::FhpRest;
 use gas_geom::fhp1::Fhp1;
 use gas_geom::hpp::Hpp;
@@ -124,6 +129,112 @@ fn unpack_lawful(planes: u32, width: u32, height: u32, words: &[u64], bytes: &mu
         return;
     };
     unpack(size, planes as usize, words, bytes);
+}
+
+// Turns the particles of a lattice whose arguments are lawful.
+fn turn_lawful(gas: u32, width: u32, height: u32, states: &mut [u64])
+    requires lawful { turn_status gas width height (length states.old) ≡ 0 }
+    ensures turned { (x y : ℕ) → x < width → y < height →
+        state_at (gas_numbered gas).dirs width states.new x y
+        ≡ turned (gas_numbered gas) (state_at (gas_numbered gas).dirs width states.old x y) }
+{
+    let Some(size) = Size::new(width, height) else {
+        return;
+    };
+    match gas {
+        0 => turn::<Fhp1>(size, states),
+        1 => turn::<Hpp>(size, states),
+        _ => turn::<FhpRest>(size, states),
+    }
+}
+
+/// Turns every particle of a lattice to the opposite direction.
+#[unsafe(no_mangle)]
+pub extern "C" fn fhpgas_turn(gas: u32, width: u32, height: u32, states: &mut [u64]) -> u32
+    ensures status { result ≡ turn_status gas width height (length states.old) }
+    ensures kept { result ≢ 0 → states.new ≡ states.old }
+    ensures turned { result ≡ 0 → (x y : ℕ) → x < width → y < height →
+        state_at (gas_numbered gas).dirs width states.new x y
+        ≡ turned (gas_numbered gas) (state_at (gas_numbered gas).dirs width states.old x y) }
+{
+    let status = turn_status(gas, width, height, states.len());
+    if status == DONE {
+        turn_lawful(gas, width, height, states);
+    }
+    status
+}
+
+// Sums the blocks of a lattice whose arguments are lawful.
+fn sums_lawful(
+    gas: u32,
+    width: u32,
+    height: u32,
+    block_width: u32,
+    block_height: u32,
+    solid: &[u64],
+    states: &[u64],
+    sums: &mut [i64],
+)
+    requires lawful { sums_status gas width height block_width block_height (length solid.now)
+        (length states.now) (length sums.old) ≡ 0 }
+    ensures summed { (col row : ℕ) → col < div_ceil width block_width →
+        row < div_ceil height block_height → row_words 4 sums.new (row * div_ceil width block_width + col)
+        ≡ sums_of (block_at (gas_numbered gas) (lattice_in (gas_numbered gas) width height solid.now
+        states.now) block_width block_height row col) }
+{
+    let Some(size) = Size::new(width, height) else {
+        return;
+    };
+    match gas {
+        0 => sum_blocks::<Fhp1>(size, block_width, block_height, solid, states, sums),
+        1 => sum_blocks::<Hpp>(size, block_width, block_height, solid, states, sums),
+        _ => sum_blocks::<FhpRest>(size, block_width, block_height, solid, states, sums),
+    }
+}
+
+/// Sums the cells of a lattice by blocks.
+#[unsafe(no_mangle)]
+pub extern "C" fn fhpgas_sums(
+    gas: u32,
+    width: u32,
+    height: u32,
+    block_width: u32,
+    block_height: u32,
+    solid: &[u64],
+    states: &[u64],
+    sums: &mut [i64],
+) -> u32
+    ensures status { result ≡ sums_status gas width height block_width block_height
+        (length solid.now) (length states.now) (length sums.old) }
+    ensures kept { result ≢ 0 → sums.new ≡ sums.old }
+    ensures summed { result ≡ 0 → (col row : ℕ) → col < div_ceil width block_width →
+        row < div_ceil height block_height → row_words 4 sums.new (row * div_ceil width block_width + col)
+        ≡ sums_of (block_at (gas_numbered gas) (lattice_in (gas_numbered gas) width height solid.now
+        states.now) block_width block_height row col) }
+{
+    let status = sums_status(
+        gas,
+        width,
+        height,
+        block_width,
+        block_height,
+        solid.len(),
+        states.len(),
+        sums.len(),
+    );
+    if status == DONE {
+        sums_lawful(
+            gas,
+            width,
+            height,
+            block_width,
+            block_height,
+            solid,
+            states,
+            sums,
+        );
+    }
+    status
 }
 
 // The chirality of a number.

@@ -9,3 +9,5 @@ mod draw;
 mod rows;
 mod status;
 mod step;
+mod sums;
+mod turn;

@@ -2,7 +2,7 @@
 ghost use Rattle.std.specs.Prelude.{◌≡◌, ◌≤◌, ◌^◌, nat_lt, length};
 ghost use Rattle.std.specs.List.{list_all};
 ghost use Rattle.gas_export.specs.Planes.{gas_numbered};
-ghost use Rattle.gas_export.specs.Statuses.{unless, is_planes, is_size, is_place, words_of, work_of, advance_status, pack_status, unpack_status};
+ghost use Rattle.gas_export.specs.Statuses.{unless, is_planes, is_size, is_place, words_of, work_of, blocks_in, advance_status, pack_status, unpack_status, turn_status, sums_status};
 
 use crate::draw::Place;
 use gas_bits::word::words_for;
@@ -22,6 +22,8 @@ const SIZE: u32 = 3;
 const PLACE: u32 = 4;
 
 const GENERATIONS: u32 = 5;
+
+const BLOCK: u32 = 6;
 
 const LENGTH: u32 = 7;
 
@@ -111,6 +113,53 @@ pub(crate) fn advance_status(
         unless(is_place(place, width), PLACE, rest),
     );
     unless(gas < 3, GAS, unless(chirality < 3, CHIRALITY, rest))
+}
+
+/// The status of `fhpgas_turn`, by its arguments and the length of its words.
+pub(crate) fn turn_status(gas: u32, width: u32, height: u32, states: usize) -> u32
+    ensures value { result ≡ turn_status gas width height states }
+{
+    let long = states == words_of(directions_of(gas), width, height);
+    let rest = unless(long, LENGTH, DONE);
+    unless(gas < 3, GAS, unless(is_size(width, height), SIZE, rest))
+}
+
+// The number of blocks.
+fn blocks_in(width: u32, height: u32, block_width: u32, block_height: u32) -> usize
+    requires some_columns { 1 ≤ block_width }
+    requires some_rows { 1 ≤ block_height }
+    ensures value { result ≡ blocks_in width height block_width block_height }
+{
+    height.div_ceil(block_height) as usize * width.div_ceil(block_width) as usize
+}
+
+/// The status of `fhpgas_sums`, by its arguments and the lengths of its arrays.
+pub(crate) fn sums_status(
+    gas: u32,
+    width: u32,
+    height: u32,
+    block_width: u32,
+    block_height: u32,
+    solid: usize,
+    states: usize,
+    sums: usize,
+) -> u32
+    ensures value { result ≡ sums_status gas width height block_width block_height solid states sums }
+{
+    if gas >= 3 {
+        return GAS;
+    }
+    if !is_size(width, height) {
+        return SIZE;
+    }
+    if block_width == 0 || block_height == 0 {
+        return BLOCK;
+    }
+    let words = solid == words_of(1, width, height)
+        && states == words_of(directions_of(gas), width, height);
+    let fours = blocks_in(width, height, block_width, block_height);
+    let long = words && (sums % 4 == 0 && sums / 4 == fours);
+    unless(long, LENGTH, DONE)
 }
 
 // Whether every byte has bits in so many planes alone.

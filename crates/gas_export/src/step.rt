@@ -1,5 +1,5 @@
 //! One generation in place. Three rows beside the lattice keep the collided rows that streaming reads.
-ghost use Rattle.std.specs.Prelude.{◌≡◌, ◌≢◌, ◌+◌, ◌*◌, ◌/◌, ◌%◌, ◌<◌, ◌≤◌, ℕ, Bool, true, false, if◌then◌else◌, IsTrue, length};
+ghost use Rattle.std.specs.Prelude.{◌≡◌, ◌≢◌, ◌+◌, ◌-◌, ◌*◌, ◌/◌, ◌%◌, ◌<◌, ◌≤◌, ℕ, Bool, true, false, if◌then◌else◌, IsTrue, length};
 ghost use Rattle.gas_geom.specs.Lattice.{streamed, collided};
 ghost use Rattle.gas_bits.specs.Words.{words_in, bit};
 ghost use Rattle.gas_bits.specs.Planes.{state};
@@ -7,6 +7,7 @@ ghost use Rattle.gas_layout.specs.Layout.{channel_of};
 ghost use Rattle.gas_rows.specs.declared.chirality.Chirality.{Chirality};
 ghost use Rattle.gas_export.specs.Planes.{row_words, state_at, solid_at};
 ghost use Rattle.gas_export.specs.Part.{part_bit};
+ghost use Rattle.gas_export.specs.Inner.Fluid.{AreFluidAbout};
 ghost use Rattle.gas_export.specs.Inner.Source.{IsSourceOf};
 
 use crate::draw::{Place, draw_row};
@@ -24,12 +25,19 @@ const KEPT: usize = 3;
 
 // Collides row `k` of the kept ones.
 #[inline(always)]
-#[tactic(auto, using(crate::proofs::Planes::zero_bits))]
-fn collide_at<G: Gas>(kept: &mut [u64], k: usize, words_each: usize, solid: &[u64], bits: &[u64])
+fn collide_at<G: Gas>(
+    kept: &mut [u64],
+    k: usize,
+    words_each: usize,
+    solid: &[u64],
+    all_fluid: bool,
+    bits: &[u64],
+)
     requires row { k < 3 }
     requires few_words { words_each ≤ words_in 65536 }
     requires kept { length kept.old ≡ 3 * (G.rules.dirs * words_each) }
     requires solid { length solid.now ≡ words_each }
+    requires fluid { IsTrue all_fluid → (x : ℕ) → bit solid.now x ≡ false }
     requires bits { length bits.now ≡ words_each }
     ensures long { length kept.new ≡ length kept.old }
     ensures here { (x : ℕ) → x / 64 < words_each →
@@ -46,29 +54,32 @@ fn collide_at<G: Gas>(kept: &mut [u64], k: usize, words_each: usize, solid: &[u6
         words_each,
         solid,
         chi: bits,
-        all_fluid: are_zero(solid),
+        all_fluid,
     };
     collision.collide::<G>(&mut kept[start..start + n]);
 }
 
-// Copies row `y` of a lattice to its place among the kept rows, and collides it there.
+// Copies row `y` of a lattice to its place among the kept rows, and collides it there. `solid` has the
+// solid cells of the row.
 #[inline(always)]
 fn collide_row<G: Gas>(
     size: Size,
     states: &[u64],
     solid: &[u64],
+    all_fluid: bool,
     y: u32,
     bits: &[u64],
     kept: &mut [u64],
 )
     requires row { y < size.height }
     requires states { length states.now ≡ size.height * (G.rules.dirs * words_in size.width) }
-    requires solid { length solid.now ≡ size.height * words_in size.width }
+    requires solid { length solid.now ≡ words_in size.width }
+    requires fluid { IsTrue all_fluid → (x : ℕ) → bit solid.now x ≡ false }
     requires bits { length bits.now ≡ words_in size.width }
     requires kept { length kept.old ≡ 3 * (G.rules.dirs * words_in size.width) }
     ensures long { length kept.new ≡ length kept.old }
     ensures here { (x : ℕ) → x < size.width → state_at G.rules.dirs size.width kept.new x (y % 3)
-        ≡ (if solid_at size.width solid.now x y then 0 else G.rules.collide
+        ≡ (if bit solid.now x then 0 else G.rules.collide
         (state_at G.rules.dirs size.width states.now x y) (bit bits.now x)) }
     ensures others { (x j : ℕ) → j < 3 → j ≢ y % 3 →
         state_at G.rules.dirs size.width kept.new x j
@@ -79,19 +90,7 @@ fn collide_row<G: Gas>(
     let rows = size.height() as usize;
     let row = y as usize;
     copy_row(states, rows, row, kept, KEPT, row % KEPT, n);
-    let here = row_at(solid, rows, row, words_each);
-    collide_at::<G>(kept, row % KEPT, words_each, here, bits);
-}
-
-// True only if no bit is set in three rows.
-#[inline(always)]
-#[tactic(auto, using(crate::proofs::Planes::zero_bits))]
-fn are_fluid(above: &[u64], middle: &[u64], below: &[u64]) -> bool
-    ensures above { IsTrue result → (x : ℕ) → bit above.now x ≡ false }
-    ensures middle { IsTrue result → (x : ℕ) → bit middle.now x ≡ false }
-    ensures below { IsTrue result → (x : ℕ) → bit below.now x ≡ false }
-{
-    are_zero(middle) && are_zero(above) && are_zero(below)
+    collide_at::<G>(kept, row % KEPT, words_each, solid, all_fluid, bits);
 }
 
 // Streams row `y` of a lattice from the kept rows. `wall` has every cell solid. Not inlined, so that a
@@ -105,6 +104,7 @@ fn stream_row<G: Gas>(
     y: u32,
     rows: usize,
     n: usize,
+    all_fluid: bool,
     states: &mut [u64],
 )
     requires row { y < rows }
@@ -114,6 +114,7 @@ fn stream_row<G: Gas>(
     requires solid { length solid.now ≡ rows * words_in size.width }
     requires wall { length wall.now ≡ words_in size.width }
     requires all_wall { (x : ℕ) → x < size.width → bit wall.now x ≡ true }
+    requires fluid { IsTrue all_fluid → AreFluidAbout size.width size.height solid.now y }
     requires states { length states.old ≡ rows * n }
     ensures long { length states.new ≡ length states.old }
     ensures here { (at : ℕ → ℕ → ℕ) →
@@ -143,7 +144,7 @@ fn stream_row<G: Gas>(
         solid_below,
         width,
         y,
-        all_fluid: are_fluid(solid_above, solid_middle, solid_below),
+        all_fluid,
     };
     let start = row * n;
     neighbourhood.stream::<G>(&mut states[start..start + n]);
@@ -157,6 +158,7 @@ fn stream_above<G: Gas>(
     solid: &[u64],
     wall: &[u64],
     y: u32,
+    all_fluid: bool,
     states: &mut [u64],
 )
     requires row { y ≤ size.height }
@@ -164,6 +166,7 @@ fn stream_above<G: Gas>(
     requires solid { length solid.now ≡ size.height * words_in size.width }
     requires wall { length wall.now ≡ words_in size.width }
     requires all_wall { (x : ℕ) → x < size.width → bit wall.now x ≡ true }
+    requires fluid { IsTrue all_fluid → AreFluidAbout size.width size.height solid.now (y - 1) }
     requires states { length states.old ≡ size.height * (G.rules.dirs * words_in size.width) }
     ensures long { length states.new ≡ length states.old }
     ensures here { (at : ℕ → ℕ → ℕ) →
@@ -180,7 +183,7 @@ fn stream_above<G: Gas>(
     }
     let rows = size.height() as usize;
     let n = directions::<G>() * words_for(size.width());
-    stream_row::<G>(size, kept, solid, wall, y - 1, rows, n, states);
+    stream_row::<G>(size, kept, solid, wall, y - 1, rows, n, all_fluid, states);
 }
 
 /// One generation of a part. `wall` has every cell solid, `bits` has the random bits of a row if none
@@ -220,10 +223,18 @@ pub(crate) fn step<G: Gas>(
         (collided G.rules (channel_of size.width size.height (solid_at size.width solid.now))
         (part_bit chirality place.whole_width place.first_column place.first_row generation) at) x y }
 {
+    let words_each = words_for(size.width());
+    let rows = size.height() as usize;
+    // Whether the last row but one and the last row have no solid cell. The wall above has some.
+    let (mut before, mut last) = (false, false);
     for y in 0..size.height() {
         draw_row::<G>(seeded, generator, place, generation, y, size.width(), bits);
-        collide_row::<G>(size, states, solid, y, bits, kept);
-        stream_above::<G>(size, kept, solid, wall, y, states);
+        let row = row_at(solid, rows, y as usize, words_each);
+        let here = are_zero(row);
+        collide_row::<G>(size, states, row, here, y, bits, kept);
+        stream_above::<G>(size, kept, solid, wall, y, before & last & here, states);
+        before = last;
+        last = here;
     }
-    stream_above::<G>(size, kept, solid, wall, size.height(), states);
+    stream_above::<G>(size, kept, solid, wall, size.height(), false, states);
 }

@@ -15,7 +15,7 @@ use Rattle.gas_pipe_members.specs.Plan.{plan_refusal}
 use Rattle.gas_pipe_replay.specs.Replay.{replay_of}
 use Rattle.gas_pipe_members.specs.declared.plan.PlanError.{PlanError}
 use Rattle.gas_tool_io.specs.Text.{cells_text, check_text}
-use Rattle.gas_tool_io.specs.Blocks.{blocks_of}
+use Rattle.gas_blocks.specs.Blocks.{blocks_of}
 use Rattle.gas_tool_io.specs.Table.{table_text}
 use Rattle.gas_tool_io.specs.Replay.{replay_text}
 use Rattle.gas_tool.specs.declared.faults.ToolError.{ToolError}

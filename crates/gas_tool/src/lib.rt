@@ -16,8 +16,8 @@ pub mod program;
 mod requests;
 
 pub use faults::{InputFault, ToolError, UsageFault, WriteFault};
+pub use gas_blocks::blocks::{Block, coarse};
 pub use gas_tool_cli::words::{Request, Turns, parse_words};
-pub use gas_tool_io::blocks::{Block, coarse};
 pub use gas_tool_io::input::{LONGEST_INPUT, slurp};
 pub use gas_tool_io::replay::write_replay;
 pub use gas_tool_io::text::{write_cells, write_summary, write_table};

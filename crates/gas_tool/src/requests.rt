@@ -10,13 +10,13 @@ ghost use Rattle.gas_tool_cli.specs.declared.words.Request.TheVariants as reques
 ghost use Rattle.gas_tool.specs.Outcome.{Performs, gas_outcome, outcome, scene_after};
 
 use crate::faults::ToolError;
+use gas_blocks::blocks::coarse;
 use gas_geom::gas::Gas;
 use gas_pipe::{Gate, Plan, Run, RunError, replay, run};
 use gas_rows::lattice::Lattice;
 use gas_scene::scene::{Scene, read};
 use gas_scene::with_lattice;
 use gas_tool_cli::words::Request;
-use gas_tool_io::blocks::coarse;
 use gas_tool_io::replay::write_replay;
 use gas_tool_io::text::{write_cells, write_summary, write_table};
 use std::alloc::Global;

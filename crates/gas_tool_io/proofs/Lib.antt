@@ -1,5 +1,2 @@
 pub mod Lines
 pub mod Sinks
-pub mod Counts
-pub mod Ranges
-pub mod Tallies

@@ -3,7 +3,7 @@ use Rattle.std.specs.Prelude.{ℕ, ◌-◌, List, ◌++◌, length, replicate, c
 use Rattle.std.specs.Fmt.{decimal, signed_decimal}
 use Rattle.std.specs.List.{flat_map}
 use Rattle.gas_tool_io.specs.Text.{line_feed}
-use Rattle.gas_tool_io.specs.declared.blocks.Block.{Block}
+use Rattle.gas_blocks.specs.declared.blocks.Block.{Block}
 
 -- a text aligned to the right in a number of places, or the text itself if it needs more
 abbrev pub right_aligned : ℕ → List ℕ → List ℕ

@@ -1,7 +1,6 @@
 //! The bytes that come in and the texts that go out.
 #![tactic(auto)]
 
-pub mod blocks;
 pub mod input;
 mod output;
 pub mod replay;

@@ -8,8 +8,8 @@ ghost use Rattle.gas_tool_io.specs.Inner.Sink.{Adds};
 ghost use Rattle.gas_tool_io.specs.Table.{block_line, table_text};
 ghost use Rattle.gas_tool_io.specs.Text.{cells_text, check_text, line_feed};
 
-use crate::blocks::Block;
 use crate::output::{Sink, put_line};
+use gas_blocks::blocks::Block;
 use gas_cells::cells::{row_block, row_blocks};
 use gas_geom::gas::Gas;
 use gas_rows::lattice::Lattice;

@@ -30,7 +30,7 @@ returns-clause-here c = λ i x in_planes lt.
     let part : y * v + v - y * v ≡ w = omega (arith, wide) in
     let long : length c.load_states.new.words ≡ m = c.load_states.auto.words
     ∙ part_length c.args.words.now (y * n) (y * n + n - y * n) (omega (arith, cut, ap (λ (k : ℕ). y * k) many, row-within m h y c.requires.row, c.requires.words)) ∙ cut in
-    ap (λ ws. has ws (words_in w) i x) (put-here m h y _ _ c.args.words.now c.load_states.new.words (ap (λ (k : ℕ). y * k) many) cut c.requires.words long c.requires.row)
+    ap (λ ws. has ws (words_in w) i x) (put-here 0 m h y _ _ c.args.words.now c.load_states.new.words (ap (λ (k : ℕ). y * k) many) cut c.requires.words long c.requires.row)
     ∙ subst (λ (k : ℕ). x / 64 < k → has c.load_states.new.words k i x ≡ holds (slice_index (take (y * v + v - y * v) (drop (y * v) bytes)) x) i) each
     (c.load_states.ensures.loaded i x in_planes) (omega (arith, lt))
     ∙ ap (λ b. holds b i) (part_get bytes (y * v) (y * v + v - y * v) x (omega (arith, part, lt))
@@ -47,7 +47,7 @@ returns-clause-others c = λ k k_in ne.
     let each : c.words_for-words_each.result ≡ words_in w = c.words_for-words_each.ensures.value ∙ ap words_in c.width.ensures.value in
     let many : n ≡ m = ap (λ (k : ℕ). c.args.planes * k) each in
     let cut : y * n + n - y * n ≡ m = omega (arith, many) in
-    put-other m h y k _ _ c.args.words.now c.load_states.new.words (ap (λ (j : ℕ). y * j) many) cut c.requires.words
+    put-other 0 m h y k _ _ c.args.words.now c.load_states.new.words (ap (λ (j : ℕ). y * j) many) cut c.requires.words
     (c.load_states.auto.words
     ∙ part_length c.args.words.now (y * n) (y * n + n - y * n) (omega (arith, cut, ap (λ (j : ℕ). y * j) many, row-within m h y c.requires.row, c.requires.words)) ∙ cut)
     c.requires.row k_in ne

@@ -25,7 +25,7 @@ returns-clause-here c = λ x lt.
     let each : c.words_for.result ≡ words_in w = c.words_for.ensures.value ∙ ap words_in c.width.ensures.value in
     let many : c.args.planes * c.words_for.result ≡ c.args.planes * words_in w = ap (λ (k : ℕ). c.args.planes * k) each in
     ap (λ (k : ℕ). slice_index (put_mid (y * v) (y * v + v - y * v) bytes new) (y * k + x)) (sym wide)
-    ∙ put-get (y * v) (y * v + v - y * v) x bytes new (c.unpack_row.ensures.long ∙ part_length bytes (y * v) (y * v + v - y * v) within) within (omega (arith, part, lt))
+    ∙ put-get 0 (y * v) (y * v + v - y * v) x bytes new (c.unpack_row.ensures.long ∙ part_length bytes (y * v) (y * v + v - y * v) within) within (omega (arith, part, lt))
     ∙ c.unpack_row.ensures.unpacked x (omega (arith, lt, c.width-2.ensures.value))
     ∙ ap (λ (k : ℕ). state c.row_at-row.result.now (words_in k) c.args.planes x) c.width-2.ensures.value
     ∙ ap (λ ws. state ws (words_in w) c.args.planes x) (c.row_at-row.ensures.part ∙ ap (λ n. row_words n c.args.words.now y) many)
@@ -40,7 +40,7 @@ returns-clause-others c = λ x k lt k_in ne.
     let part : y * v + v - y * v ≡ w = omega (arith, wide) in
     let start : y * v ≡ y * w = ap (λ (i : ℕ). y * i) wide in
     let within : y * v + (y * v + v - y * v) ≤ length bytes = omega (arith, part, c.requires.bytes, start, row-within w c.args.size.height y c.requires.row) in
-    put-apart (y * v) (y * v + v - y * v) (k * w + x) bytes c.unpack_row.new.bytes
+    put-apart 0 (y * v) (y * v + v - y * v) (k * w + x) bytes c.unpack_row.new.bytes
     (c.unpack_row.ensures.long ∙ part_length bytes (y * v) (y * v + v - y * v) within) within
     (elim (cases_lt k y) [
       | inl before ↦ inl (omega (arith, start, lt, row-within w y k before))

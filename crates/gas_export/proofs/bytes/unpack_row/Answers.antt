@@ -25,7 +25,7 @@ loop-j-preserved c =
     record {
       long = put-long (64 * j) n bytes new wide within ∙ c.loop-j.invariant.long;
       unpacked = λ x lt in_row. elim (cases_lt x (64 * j)) [
-        | inl before ↦ put-apart (64 * j) n x bytes new wide within (inl before) ∙ c.loop-j.invariant.unpacked x before in_row
+        | inl before ↦ put-apart 0 (64 * j) n x bytes new wide within (inl before) ∙ c.loop-j.invariant.unpacked x before in_row
         | inr from ↦
             let b : ℕ = x - 64 * j in
             let at : 64 * j + b ≡ x = omega (arith, from) in
@@ -34,7 +34,7 @@ loop-j-preserved c =
             let copied = c.copy_from_slice.ensures.after in
             let taken : slice_index new b ≡ slice_index c.states_of-states.result b = grind (arith, places) in
             subst (λ u. slice_index (put_mid (64 * j) n bytes new) u ≡ state c.args.words.now (words_in w) c.args.planes u) at
-            (put-get (64 * j) n b bytes new wide within b_in ∙ taken ∙ c.states_of-states.ensures.states b b_lt
+            (put-get 0 (64 * j) n b bytes new wide within b_in ∙ taken ∙ c.states_of-states.ensures.states b b_lt
             ∙ word-state c.args.words.now c.planes_at.result c.words_for-words_each.result c.args.planes j b b_lt c.planes_at.ensures.planes
             ∙ ap (λ (k : ℕ). state c.args.words.now k c.args.planes (64 * j + b)) each)
       ];

@@ -6,7 +6,7 @@ pub returns-clause-here : goal.returns-clause-here
 returns-clause-here c =
     let n : ℕ = c.args.n in
     let cut : c.args.k * n + n - c.args.k * n ≡ n = omega arith in
-    put-here n c.args.to_rows c.args.k _ _ c.args.to.now c.copy_from_slice.new.self refl cut c.requires.to_rows
+    put-here 0 n c.args.to_rows c.args.k _ _ c.args.to.now c.copy_from_slice.new.self refl cut c.requires.to_rows
     (ap (λ (ws : List ℕ). length ws) c.copy_from_slice.ensures.after ∙ c.row_at-row.ensures.long) c.requires.to_row
     ∙ c.copy_from_slice.ensures.after ∙ c.row_at-row.ensures.part
 
@@ -14,5 +14,5 @@ pub returns-clause-others : goal.returns-clause-others
 returns-clause-others c = λ j j_in ne.
     let n : ℕ = c.args.n in
     let cut : c.args.k * n + n - c.args.k * n ≡ n = omega arith in
-    put-other n c.args.to_rows c.args.k j _ _ c.args.to.now c.copy_from_slice.new.self refl cut c.requires.to_rows
+    put-other 0 n c.args.to_rows c.args.k j _ _ c.args.to.now c.copy_from_slice.new.self refl cut c.requires.to_rows
     (ap (λ (ws : List ℕ). length ws) c.copy_from_slice.ensures.after ∙ c.row_at-row.ensures.long) c.requires.to_row j_in ne

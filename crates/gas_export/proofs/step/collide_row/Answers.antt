@@ -1,4 +1,4 @@
-use Rattle.std.proofs.Common.{◌≡◌, ◌≢◌, ◌<◌, ◌/◌, ◌*◌, ◌%◌, ℕ, Bool, if◌then◌else◌, ap, ap₂, subst, ◌∙◌, List, arith}
+use Rattle.std.proofs.Common.{◌≡◌, ◌≢◌, ◌<◌, ◌/◌, ◌*◌, ◌%◌, ℕ, if◌then◌else◌, ap, ap₂, subst, ◌∙◌, List, arith}
 use Rattle.gas_bits.specs.Words.{words_in, bit}
 use Rattle.gas_bits.specs.Planes.{state}
 use Rattle.gas_export.specs.Planes.{row_words}
@@ -14,10 +14,9 @@ returns-clause-here g c = λ x lt.
     let each : c.words_for-words_each.result ≡ words_in w = c.words_for-words_each.ensures.value ∙ ap words_in c.width.ensures.value in
     let many : c.directions.result * c.words_for-words_each.result ≡ gas.dirs * words_in w = ap₂ (λ (d n : ℕ). d * n) c.directions.ensures.value each in
     subst (λ n. (x : ℕ) → x / 64 < n → state (row_words (gas.dirs * n) new (y % 3)) n gas.dirs x
-    ≡ (if bit c.row_at-here.result.now x then 0 else gas.collide (state (row_words (gas.dirs * n) copied (y % 3)) n gas.dirs x) (bit c.args.bits.now x)))
+    ≡ (if bit c.args.solid.now x then 0 else gas.collide (state (row_words (gas.dirs * n) copied (y % 3)) n gas.dirs x) (bit c.args.bits.now x)))
     each c.collide_at.ensures.here x (omega (arith, lt))
-    ∙ ap₂ (λ (q : Bool) (s : ℕ). if q then 0 else gas.collide s (bit c.args.bits.now x))
-    (ap (λ ws. bit ws x) (c.row_at-here.ensures.part ∙ ap (λ n. row_words n c.args.solid.now y) each))
+    ∙ ap (λ (s : ℕ). if bit c.args.solid.now x then 0 else gas.collide s (bit c.args.bits.now x))
     (ap (λ ws. state ws (words_in w) gas.dirs x) (subst (λ n. row_words n copied (y % 3) ≡ row_words n c.args.states.now y) many c.copy_row.ensures.here))
 
 pub returns-clause-others : goal.returns-clause-others

@@ -1,8 +1,10 @@
-use Rattle.std.proofs.Common.{◌≡◌, ◌<◌, ◌≤◌, ◌+◌, ◌%◌, ℕ, length}
+use Rattle.std.proofs.Common.{◌≡◌, ◌<◌, ◌≤◌, ◌+◌, ◌-◌, ◌%◌, ℕ, false, length}
+use Rattle.std.specs.Prelude.{IsTrue}
 use Rattle.gas_geom.specs.Lattice.{streamed, collided}
 use Rattle.gas_layout.specs.Layout.{channel_of}
 use Rattle.gas_rows.specs.declared.chirality.Chirality.{Chirality}
-use Rattle.gas_export.specs.Planes.{state_at, solid_at}
+use Rattle.gas_bits.specs.Words.{words_in, bit}
+use Rattle.gas_export.specs.Planes.{row_words, state_at, solid_at}
 use Rattle.gas_export.specs.Part.{part_bit}
 use Rattle.gas_export.specs.Inner.Source.{IsSourceOf}
 use Rattle.gas_export.proofs.step.step.Given as goal
@@ -13,6 +15,8 @@ invariant-loop-y g l = record {
   states : length l.states ≡ length l.initial.states;
   bits : length l.bits ≡ length l.initial.bits;
   kept : length l.kept ≡ length l.initial.kept;
+  before : IsTrue l.before → (2 ≤ l.y) × ((x : ℕ) → bit (row_words (words_in l.fn.size.width) l.solid (l.y - 2)) x ≡ false);
+  last : IsTrue l.last → (1 ≤ l.y) × ((x : ℕ) → bit (row_words (words_in l.fn.size.width) l.solid (l.y - 1)) x ≡ false);
   source : (chirality : Chirality) → IsSourceOf chirality l.seeded l.initial.generator.key l.fn.size.width l.initial.bits
       → IsSourceOf chirality l.seeded l.generator.key l.fn.size.width l.bits;
   fresh : (x k : ℕ) → l.y ≤ k + 1 → k < l.fn.size.height → state_at g.G.Gas.rules.dirs l.fn.size.width l.states x k ≡ state_at g.G.Gas.rules.dirs l.fn.size.width l.initial.states x k;

@@ -34,7 +34,7 @@ returns-clause-here g c = λ at same x lt.
     let long : length c.args.states.now ≡ h * (dirs * words_in w) = c.requires.states ∙ ap₂ (λ (a b : ℕ). a * b) rows many in
     let wide : length new ≡ dirs * words_in w = c.stream.ensures.long
     ∙ part_length c.args.states.now (y * n) (y * n + n - y * n) (omega (arith, cut, ap (λ k. y * k) many, row-within (dirs * words_in w) h y in_rows, long)) ∙ cut in
-    ap (λ ws. state ws (words_in w) dirs x) (put-here (dirs * words_in w) h y _ _ c.args.states.now new (ap (λ k. y * k) many) cut long wide in_rows)
+    ap (λ ws. state ws (words_in w) dirs x) (put-here 0 (dirs * words_in w) h y _ _ c.args.states.now new (ap (λ k. y * k) many) cut long wide in_rows)
     ∙ subst (λ v. state new (words_in v) dirs x ≡ streamed g.G.Gas.rules ch at x y) width
     (c.stream.ensures.streamed ch at (record {
       wide = width;
@@ -65,6 +65,6 @@ returns-clause-others g c = λ x k k_in ne.
     let many : n ≡ dirs * words_in w = c.requires.row_long in
     let cut : y * n + n - y * n ≡ dirs * words_in w = omega (arith, many) in
     ap (λ ws. state ws (words_in w) dirs x)
-    (put-other (dirs * words_in w) h y k _ _ c.args.states.now c.stream.new.out (ap (λ m. y * m) many) cut long
+    (put-other 0 (dirs * words_in w) h y k _ _ c.args.states.now c.stream.new.out (ap (λ m. y * m) many) cut long
     (c.stream.ensures.long ∙ part_length c.args.states.now (y * n) (y * n + n - y * n)
     (omega (arith, cut, ap (λ m. y * m) many, row-within (dirs * words_in w) h y in_rows, long)) ∙ cut) in_rows (omega (arith, k_in, c.requires.height)) ne)

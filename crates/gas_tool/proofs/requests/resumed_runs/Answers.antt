@@ -2,7 +2,7 @@ use Rattle.std.proofs.Common.{◌≡◌, ◌∙◌, ◌+◌, ℕ, List, Option, 
 use Rattle.gas_geom.specs.Lattice.{LatticeModel}
 use Rattle.gas_stage.specs.Evolution.{lattice_after}
 use Rattle.gas_stage.proofs.Additions.{lattice_after-add}
-use Rattle.gas_tool_io.specs.Blocks.{blocks_of}
+use Rattle.gas_blocks.specs.Blocks.{blocks_of}
 use Rattle.gas_tool_io.specs.Table.{table_text}
 use Rattle.gas_tool_io.specs.Text.{cells_text}
 use Rattle.gas_pipe_members.specs.declared.plan.PlanError.{PlanError}

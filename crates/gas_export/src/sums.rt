@@ -1,0 +1,115 @@
+//! Sums over blocks of cells.
+ghost use Rattle.std.specs.Prelude.{◌≡◌, ◌≢◌, ◌+◌, ◌*◌, ◌/◌, ◌%◌, ◌<◌, ◌≤◌, ◌^◌, ℕ, length};
+ghost use Rattle.std.specs.Int.{div_ceil};
+ghost use Rattle.gas_bits.specs.Words.{words_in};
+ghost use Rattle.gas_blocks.specs.Blocks.{block_at};
+ghost use Rattle.gas_export.specs.Planes.{lattice_in, row_words};
+ghost use Rattle.gas_export.specs.Sums.{sums_of};
+
+use crate::rows::row_at;
+use gas_bits::word::words_for;
+use gas_blocks::blocks::Block;
+use gas_blocks::rows::Rows;
+use gas_geom::gas::Gas;
+use gas_geom::size::Size;
+use gas_rows::collision::directions;
+use std::marker::PhantomData;
+
+// A lattice in the words of its solid cells and of its states.
+#[derive(Drop)]
+struct Words<'a, G: Gas> {
+    size: Size,
+    solid: &'a [u64],
+    states: &'a [u64],
+    gas: PhantomData<G>,
+    ghost solid_long: { length solid.now ≡ size.height * words_in size.width },
+    ghost states_long: { length states.now ≡ size.height * (G.rules.dirs * words_in size.width) },
+}
+
+impl<'a, G: Gas> Rows<G> for Words<'a, G> {
+    ghost lattice = { λ w. lattice_in G.rules w.size.width w.size.height w.solid.now w.states.now };
+
+    fn size(&self) -> Size {
+        self.size
+    }
+
+    fn solid(&self, y: u32) -> &[u64] {
+        let rows = self.size.height() as usize;
+        row_at(self.solid, rows, y as usize, words_for(self.size.width()))
+    }
+
+    fn states(&self, y: u32) -> &[u64] {
+        let rows = self.size.height() as usize;
+        let n = directions::<G>() * words_for(self.size.width());
+        row_at(self.states, rows, y as usize, n)
+    }
+}
+
+// Writes the sums of a block as the fours of `sums` at `k`.
+fn put_block(sums: &mut [i64], number: usize, k: usize, block: Block)
+    requires within { k < number }
+    requires long { length sums.old ≡ number * 4 }
+    requires fluid { block.fluid < 2 ^ 63 }
+    requires particles { block.particles < 2 ^ 63 }
+    ensures here { row_words 4 sums.new k ≡ sums_of block }
+    ensures others { (j : ℕ) → j < number → j ≢ k → row_words 4 sums.new j ≡ row_words 4 sums.old j }
+{
+    let four = [
+        block.fluid as i64,
+        block.particles as i64,
+        block.px,
+        block.py,
+    ];
+    let start = k * 4;
+    sums[start..start + 4].copy_from_slice(&four);
+}
+
+// Writes the sums of all blocks.
+fn put_blocks<'a, G: Gas>(words: &Words<'a, G>, width: u32, height: u32, sums: &mut [i64])
+    requires some_columns { 1 ≤ width }
+    requires some_rows { 1 ≤ height }
+    requires long { length sums.old
+        ≡ div_ceil words.now.size.height height * div_ceil words.now.size.width width * 4 }
+    ensures sums { (col row : ℕ) → col < div_ceil words.now.size.width width →
+        row < div_ceil words.now.size.height height →
+        row_words 4 sums.new (row * div_ceil words.now.size.width width + col)
+        ≡ sums_of (block_at G.rules (lattice_in G.rules words.now.size.width words.now.size.height
+        words.now.solid.now words.now.states.now) width height row col) }
+{
+    let columns = words.size.width().div_ceil(width) as usize;
+    let rows = words.size.height().div_ceil(height) as usize;
+    for k in 0..rows * columns {
+        let (row, col) = ((k / columns) as u32, (k % columns) as u32);
+        let block = Block::of::<G, Words<'a, G>>(words, col, row, width, height);
+        put_block(sums, rows * columns, k, block);
+    }
+}
+
+/// Writes the sums of the blocks of a lattice, by rows of blocks from the top, each from the left. A
+/// block has `width` columns and `height` rows, and fewer at the right and at the bottom if the lattice
+/// ends there.
+pub(crate) fn sum_blocks<G: Gas>(
+    size: Size,
+    width: u32,
+    height: u32,
+    solid: &[u64],
+    states: &[u64],
+    sums: &mut [i64],
+)
+    requires some_columns { 1 ≤ width }
+    requires some_rows { 1 ≤ height }
+    requires solid { length solid.now ≡ size.height * words_in size.width }
+    requires states { length states.now ≡ size.height * (G.rules.dirs * words_in size.width) }
+    requires sums { length sums.old ≡ div_ceil size.height height * div_ceil size.width width * 4 }
+    ensures sums { (col row : ℕ) → col < div_ceil size.width width → row < div_ceil size.height height →
+        row_words 4 sums.new (row * div_ceil size.width width + col) ≡ sums_of (block_at G.rules
+        (lattice_in G.rules size.width size.height solid.now states.now) width height row col) }
+{
+    let words = Words::<G> {
+        size,
+        solid,
+        states,
+        gas: PhantomData,
+    };
+    put_blocks(&words, width, height, sums);
+}
