@@ -1,18 +1,24 @@
 #!/usr/bin/env python3
-"""Tests fhpgas.tiles with four workers of Dask on this machine. All lattices are compared bit for bit with one run, and the largest with
-the program's own table of the same area. Ends with the counts, and says what was left out for want of memory."""
+"""Tests fhpgas.tiles with four workers of Dask on this machine. All lattices are compared bit for
+bit with one run, and the largest with the program's own table of the same area. Ends with the
+counts, and says what was left out for want of memory."""
 
+import concurrent.futures
+import functools
 import os
 import pathlib
 import random
 import re
+import signal
 import sys
 import tempfile
+import time
 import warnings
 
 import needs
 
 needs.built_program()
+GASES = "fhp1", "fhp-rest", "hpp"
 COUNTS = {True: 0, False: 0}
 LARGE = 4 << 30  # bytes that the largest comparison may take
 
@@ -32,39 +38,28 @@ def refused(what, call):
         told(f"{what} is refused", False)
 
 
-def random_tilings(client):
-    """Tilings of small lattices with obstacles: split and run, and drawn by the workers."""
+def random_tilings(client, folder):
+    """Tilings of small lattices with obstacles: split and run, drawn by the workers, and kept."""
     for number in range(30):
         rng = random.Random(number)
-        gas, chirality = rng.choice(["fhp1", "fhp-rest", "hpp"]), rng.choice(["left", "right"])
-        size, tile = (rng.choice([5, 17, 64, 70]), rng.choice([20, 34, 64])), (
-            rng.choice([16, 35, 100]),
-            rng.choice([10, 16, 20]),
-        )
-        shortest = min(
-            [length % side or side for length, side in zip(size, tile) if length > side], default=20
-        )
-        margin, generations = max(1, shortest // 2 * 2 - rng.randint(0, 1)), rng.randint(1, 12)
-        size = fhpgas.Size(*size)
+        gas, chirality = rng.choice(GASES), rng.choice(chiralities())
+        size = fhpgas.Size(rng.choice([5, 17, 64, 70]), rng.choice([20, 34, 64]))
+        tile = rng.choice([16, 35, 100]), rng.choice([10, 16, 21])
+        if chirality == "seeded" and gas != "hpp":
+            tile = 100, tile[1]
         solid = numpy.random.default_rng(number).random(size.shape) < 0.05
         whole = fhpgas.draw_gas(
             0.3, 0.2, 0.1, size=size, solid=solid, gas=gas, chirality=chirality, seed=number
         )
         tiles = fhpgas.tiles.split(client, whole, tile)
-        if shortest == 1:
-            refused(f"tiling {number}", lambda: tiles.run(generations))
-        else:
-            told(
-                f"tiling {number} is one run",
-                tiles.run(generations, margin).gather() == whole.run(generations),
-            )
-
-        def wave(X, Y):
-            return 0.1 * numpy.sin(Y / 9) + 0.01 * numpy.cos(X)
-
-        def round_body(X, Y):
-            return numpy.hypot(X - 9, Y - 8) < 3
-
+        told(f"tiling {number} has tiles of at most {tile}", is_even(tiles, tile))
+        sides = [min(chunks) for chunks in tiles.cells.chunks if len(chunks) > 1]
+        margin = max(1, min(sides, default=20) // 2 * 2 - rng.randint(0, 1))
+        generations = rng.randint(1, 12) if min(sides, default=2) > 1 else 0
+        later = tiles.run(generations, min(margin, rng.randint(1, 12)), folder, rng.randint(1, 3))
+        told(f"tiling {number} is one run", later.gather() == whole.run(generations))
+        block = rng.randint(1, 20), rng.randint(1, 20)
+        told(f"tiling {number} has its blocks", tiles.blocks(*block) == whole.blocks(*block))
         known = dict(size=size, gas=gas, chirality=chirality, seed=number)
         X, Y = fhpgas.positions(size, gas)
         told(
@@ -74,40 +69,67 @@ def random_tilings(client):
         )
 
 
-def refusals(client):
-    tiles = fhpgas.tiles.draw_gas(client, 0.2, size=fhpgas.Size(64, 48), tile=(32, 16))
+def chiralities():
+    """The chiralities that can be tiled here: random bits need the engine."""
+    return ["left", "right", "seeded"] if fhpgas.engine.library() else ["left", "right"]
+
+
+def is_even(tiles, tile):
+    """All tiles but the last ones have one size, which is at most the given one, and as few rows
+    and columns of tiles as these have."""
+    heights, widths = tiles.cells.chunks
+    counts = -(-tiles.size.rows // (tile[1] // 2 * 2)), -(-tiles.size.columns // tile[0])
+    return (
+        (len(heights), len(widths)) == counts
+        and max(heights) <= tile[1]
+        and max(widths) <= tile[0]
+        and all(len({*sides[:-1]}) < 2 and sides[-1] <= sides[0] for sides in (heights, widths))
+        and all(height % 2 == 0 for height in heights[:-1])
+        and all(max(sides) - min(sides) < 2 * len(sides) for sides in (heights, widths))
+    )
+
+
+def wave(X, Y):
+    return 0.1 * numpy.sin(Y / 9) + 0.01 * numpy.cos(X)
+
+
+def round_body(X, Y):
+    return numpy.hypot(X - 9, Y - 8) < 3
+
+
+def refusals(client, folder):
+    """What does not fit is refused before a worker draws."""
+
+    def filling(X, Y):
+        if X.size > 1:
+            (folder / "drawn").touch()
+        return 0.2 + 0 * X
+
+    size, tile = fhpgas.Size(64, 48), (32, 16)
+    draw = functools.partial(fhpgas.tiles.draw_gas, client, size=size, tile=tile)
+    tiles = draw(filling)
     refused("a margin larger than a tile", lambda: tiles.run(100, margin=17))
-    refused("blocks across tiles", lambda: tiles.blocks(8, 9))
-    refused(
-        "tiles of an odd number of rows",
-        lambda: fhpgas.tiles.draw_gas(client, 0.2, size=fhpgas.Size(64, 48), tile=(64, 15)),
-    )
-    refused(
-        "a tile that no scene can have",
-        lambda: fhpgas.tiles.draw_gas(
-            client, 0.0, size=fhpgas.Size(65536, 1200), tile=(65536, 600)
-        ).run(100),
-    )
+    refused("no interval", lambda: tiles.run(100, 2, folder, 0))
+    refused("tiles of one row", lambda: draw(0.2, tile=(64, 1)))
+    refused("a filling of more than 1", lambda: draw(1.2))
+    refused("a velocity that no gas has", lambda: draw(filling, lambda X, Y: 2 + 0 * X))
     for gas in "fhp1", "fhp-rest":
-        refused(
-            f"{gas} with random bits",
-            lambda: fhpgas.tiles.draw_gas(
-                client, 0.2, size=fhpgas.Size(64, 48), tile=(64, 16), gas=gas, chirality="seeded"
-            ),
-        )
-    refused("a folder without tiles", lambda: fhpgas.tiles.load(client, "/"))
-    told(
-        "blocks are those of the lattice",
-        tiles.run(7, 5).blocks(8, 8) == tiles.gather().run(7).blocks(8, 8),
-    )
+        refused(f"{gas} with random bits", lambda: draw(0.2, gas=gas, chirality="seeded"))
+    vast = draw(filling, size=fhpgas.Size(140_000, 4), tile=(70_000, 4))
+    refused("a tile that no lattice can be", lambda: vast.run(100, 4))
+    refused("a folder without tiles", lambda: fhpgas.tiles.load(client, folder))
+    told("nothing is drawn before", not (folder / "drawn").exists())
     told("particles are counted", tiles.particles == tiles.gather().particles)
+    told("the tiles are drawn then", (folder / "drawn").exists())
     told(
         "steps are those of one run",
         [each.gather() for each in tiles.every(3, 2)][2] == tiles.gather().run(6),
     )
+    wrong = draw(lambda X, Y: numpy.where(X.size > 1, 2.0, 0.2) + 0 * X)
+    refused("what fails in a worker", wrong.wait)
 
 
-def printed_examples(client):
+def printed_examples(client, folder):
     """The sizes of the printed examples fit, and the same examples run, a fiftieth as long."""
     for path in "docs/GUIDE.md", "python/fhpgas/tiles.py":
         text = (needs.ROOT / path).read_text()
@@ -116,13 +138,10 @@ def printed_examples(client):
             found = re.search(before + ", ".join([r"([\d_]+)"] * count), text)
             return tuple(map(int, found.groups()))
 
-        size, tile, block = (
-            numbers(before, 2) for before in (r"Size\(", r"tile=\(", r"later\.blocks\(")
-        )
+        size, tile = (numbers(before, 2) for before in (r"Size\(", r"tile=\("))
         (margin,) = numbers("margin=", 1)
-        whole = fhpgas.tiles.Tiles(None, (), (), fhpgas.Size(*size), tile, fhpgas.GASES["fhp1"])
-        whole._check_margin(margin)
-        told(f"tiles begin where blocks do: {path}", tile[0] % block[0] == tile[1] % block[1] == 0)
+        known = {"size": fhpgas.Size(*size), "tile": tile}
+        fhpgas.tiles.draw_gas(client, 0.2, **known)._check_margin(margin)
         size, tile = fhpgas.Size(*(side // 50 for side in size)), (tile[0] // 50, tile[1] // 50)
         drawn = fhpgas.tiles.draw_gas(client, 0.2, east=0.1, size=size, tile=tile)
         told(
@@ -130,17 +149,40 @@ def printed_examples(client):
             drawn.run(12, margin // 50).gather() == drawn.gather().run(12),
         )
     part = fhpgas.Lattice(numpy.zeros((64, 1024), numpy.uint8))
-    told("Dask knows how long a tile is", 131072 <= dask.sizeof.sizeof(part) < 132000)
+    told("Dask knows how long a lattice is", 131072 <= dask.sizeof.sizeof(part) < 132000)
 
 
-def killed_worker(client):
-    """A worker is killed in the middle of a run, and its tiles are computed again."""
+def killed_worker(client, folder):
+    """A worker is killed in the middle of a run that keeps its tiles, and costs at most one
+    interval: 8 tiles, 2 exchanges, 40 of the run."""
+
+    class Counted(distributed.SchedulerPlugin):
+        steps = 0
+
+        def transition(self, key, start, finish, *words, **more):
+            self.steps += "_trim" in str(key) and (start, finish) == ("processing", "memory")
+
+    counted = Counted()
+    client.cluster.scheduler.add_plugin(counted)
     tiles = fhpgas.tiles.draw_gas(
-        client, 0.2, 0.1, size=fhpgas.Size(512, 512), tile=(256, 64), seed=3
+        client,
+        0.2,
+        0.1,
+        size=fhpgas.Size(512, 512),
+        tile=(512, 64),
+        chirality=chiralities()[-1],
+        seed=3,
     )
-    later = tiles.run(100, margin=20)
-    os.kill(client.submit(os.getpid, workers=[later.homes[0]], pure=False).result(), 9)
-    told("a lost tile is computed again", later.gather() == tiles.gather().run(100))
+    whole = tiles.gather().run(400)
+    counted.steps = 0
+    with concurrent.futures.ThreadPoolExecutor(1) as threads:
+        later = threads.submit(tiles.run, 400, 10, folder, 2)
+        while counted.steps < 8 * 15 and not later.done():
+            time.sleep(0.001)
+        worker = min(client.nthreads())
+        os.kill(client.submit(os.getpid, workers=[worker], pure=False).result(), signal.SIGKILL)
+        told("a run goes on when a worker is killed", later.result().gather() == whole)
+    told("it costs at most an interval", 8 * 40 <= counted.steps <= 8 * (40 + 2))
 
 
 def saved_half(client, folder):
@@ -150,7 +192,7 @@ def saved_half(client, folder):
     )
     half = tiles.run(20, margin=6).save(folder).run(30, margin=8).save(folder)
     told("saved tiles are those that were computed", half.gather() == tiles.gather().run(50))
-    told("old files are gone", len([*folder.iterdir()]) == len(half.parts) + 1)
+    told("old tiles are gone", len([path for path in folder.iterdir() if path.is_dir()]) == 1)
 
 
 def rest_of_a_run(client, folder):
@@ -161,21 +203,21 @@ def rest_of_a_run(client, folder):
     )
 
 
-def little_memory(client):
+def little_memory(client, folder):
     """A lattice of 537 million bytes, of which no worker may have more than 450 million."""
-    tiles = fhpgas.tiles.draw_gas(
-        client, 0.2, size=fhpgas.Size(16384, 16384), tile=(4096, 1024), seed=5
-    )
+    size, tile = fhpgas.Size(32768, 16384), (4096, 1024)
+    tiles = fhpgas.tiles.draw_gas(client, 0.2, size=size, tile=tile, seed=5).wait()
     before = tiles.particles
     tiles = tiles.run(4)
     told(
         "a lattice that no worker could have keeps its particles",
-        tiles.particles == before > 2**28,
+        tiles.particles == before > 2**29,
     )
 
 
-def large_area(client):
-    """8192 x 8192 cells, full at regular places and with an obstacle, beside the program's table of the same area."""
+def large_area(client, folder):
+    """8192 x 8192 cells, full at regular places and with an obstacle, beside the program's table of
+    the same area."""
     side, generations, block = 8192, 80, 64
     particles = [
         [x, y, 63]
@@ -184,8 +226,8 @@ def large_area(client):
         if not (1000 <= x < 1400 and 3000 <= y < 4200)
     ]
     area = (
-        f'version = 2\ngas = "fhp1"\nchirality = "left"\nwidth = {side}\nheight = {side}\nsolid = [[1000, 3000, 400, 1200]]\n'
-        f"particles = {particles}\n"
+        f'version = 2\ngas = "fhp1"\nchirality = "left"\nwidth = {side}\nheight = {side}\n'
+        f"solid = [[1000, 3000, 400, 1200]]\nparticles = {particles}\n"
     )
 
     def cell(X, Y):
@@ -208,36 +250,34 @@ def large_area(client):
     )
 
 
+def with_workers(*parts, memory=2_000_000_000):
+    with distributed.LocalCluster(
+        n_workers=4, threads_per_worker=1, dashboard_address=None, memory_limit=memory
+    ) as cluster, distributed.Client(cluster) as client, tempfile.TemporaryDirectory() as name:
+        for part, *words in parts:
+            part(client, *words or [pathlib.Path(name)])
+
+
 def main():
-    from distributed import Client, LocalCluster
-
-    def with_workers(*parts, memory=2_000_000_000):
-        with LocalCluster(
-            n_workers=4, threads_per_worker=1, dashboard_address=None, memory_limit=memory
-        ) as cluster, Client(cluster) as client:
-            for part, *words in parts:
-                part(client, *words)
-
     has_memory = needs.free_memory() >= LARGE
     with tempfile.TemporaryDirectory() as name:
         folder = pathlib.Path(name)
-        with_workers(
-            [random_tilings], [refusals], [printed_examples], [saved_half, folder], [killed_worker]
-        )
-        with_workers([rest_of_a_run, folder])
+        with_workers([saved_half, folder], [random_tilings], [refusals], [killed_worker])
+        with_workers([rest_of_a_run, folder], [printed_examples])
     if has_memory:
         with_workers([large_area])
         with_workers([little_memory], memory=450_000_000)
-    return needs.told(
-        COUNTS[True], COUNTS[False], *["the largest lattices for want of memory"] * (not has_memory)
-    )
+    left_out = ["the largest lattices for want of memory"] * (not has_memory)
+    left_out += ["random bits for want of the engine"] * (len(chiralities()) < 3)
+    return needs.told(COUNTS[True], COUNTS[False], *left_out)
 
 
 if __name__ == "__main__":  # not in the workers, which import this file
-    needs.libraries("distributed")
+    needs.libraries("distributed", "zarr")
     os.environ["PYTHONPATH"] = str(needs.ROOT / "python")
     warnings.simplefilter("ignore")
     import dask.sizeof
+    import distributed
     import numpy
 
     import fhpgas

@@ -2,185 +2,219 @@
 whole::
 
     size = fhpgas.Size(100_000, 80_000)
-    tiles = fhpgas.tiles.draw_gas(client, 0.2, east=0.1, size=size, tile=(8192, 2000), seed=1)
-    later = tiles.run(10_000, margin=256).wait()
+    tiles = fhpgas.tiles.draw_gas(client, 0.2, east=0.1, size=size, tile=(8192, 4096), seed=1)
+    later = tiles.run(10_000, margin=256, kept="kept")
     later.blocks(64, 50).plot("speed")
-    fhpgas.film("wake.gif", (each.blocks(64, 50) for each in tiles.every(500, 20)), "speed")
+    fhpgas.film("wake.gif", (each.blocks(64, 50) for each in later.every(500, 20)), "speed")
 
 A particle moves at most one row and one column per generation. So a tile with a margin of k cells
 around it is right after k generations, and the result is the whole lattice, bit for bit. A tile
 begins at an even row, because odd rows lie half a cell to the east.
 
-`seeded` is refused: its random bits belong to places of the whole lattice, and a scene cannot say
-where it lies. There is no `driven`, because its rule chooses particles of the whole.
-docs/PERFORMANCE.md says which tiles and margins to take."""
+The random bits of "seeded" belong to places. A part of a lattice that has whole rows draws those of
+its place, so "seeded" takes tiles of whole rows. There is no `driven`, because its rule chooses
+particles of the whole. docs/PERFORMANCE.md says which tiles and margins to take."""
 import dataclasses
+import functools
 import itertools
-import json
-import operator
 import os
 import pathlib
-from collections.abc import Callable, Iterator
-from typing import Any
+from collections.abc import Iterator
+from typing import Any, NamedTuple
 
+import dask.array
+import distributed
 import numpy as np
 
-from . import fields, program
+from . import engine, fields, program
 from .blocks import Blocks
 from .fault import Fault, integer
-from .gases import Array, Gas, gas_named
-from .lattice import MOST_SIDE, Lattice
+from .gases import Array, Gas, chirality_named, gas_named
+from .lattice import MOST_SIDE, SOLID, Lattice
+from .program import MOST_BYTES, MOST_SEED
 
-STAGES = 8  # of a run in a worker: few, because the other workers use the other cores
-MANIFEST = "tiles.json"
-Place = tuple[slice, slice]  # the rows and the columns of a tile
+MOST_TASKS, OF_A_TILE = 5000, 16  # that wait in the scheduler, and those of a tile and an exchange
+NO_CELLS = np.empty((0, 0), np.uint8)  # by which Dask knows the type without a call
+
+
+class Rules(NamedTuple):
+    """What a lattice has beside its cells and their generation."""
+
+    gas: Gas
+    chirality: str
+    seed: int
+
+    @property
+    def is_seeded(self) -> bool:
+        return self.chirality == "seeded" and not self.gas.is_square
+
+    def lattice(self, cells: Array, generation: int = 0) -> Lattice:
+        return Lattice(cells & SOLID - 1, cells >> 7, *self, generation)
+
+
+def _rules(gas: str | Gas, chirality: str, seed: int) -> Rules:
+    return Rules(gas_named(gas), chirality_named(chirality), integer("a seed", seed, 0, MOST_SEED))
 
 
 @dataclasses.dataclass(frozen=True)
 class Tiles:
-    """A lattice of a `size` (columns, rows) in tiles of the size `tile`, the last ones smaller.
-    `parts` are the futures of their Lattices, row by row, and `homes` the addresses of the workers
-    that compute them. It does not change: `run` returns another."""
+    """A lattice in tiles. It does not change: `run` returns another.
+
+    Parameters
+    ----------
+    client : distributed.Client
+        Whose workers compute.
+    cells : dask.array.Array of uint8 of shape (rows, columns)
+        The state of a cell, or 128 if it is solid, a chunk per tile. All that Dask does with arrays
+        can be done with it.
+    rules : Rules
+        The gas, chirality and seed.
+    generation : int, optional
+        Of all cells.
+    """
 
     client: Any
-    parts: tuple[Any, ...] = dataclasses.field(repr=False)
-    homes: tuple[str, ...] = dataclasses.field(repr=False)
-    size: fields.Size
-    tile: tuple[int, int]
-    gas: Gas
+    cells: Any
+    rules: Rules
     generation: int = 0
 
     @property
-    def shape(self) -> tuple[int, int]:
-        """The numbers of rows and columns of tiles."""
-        return -(-self.size[1] // self.tile[1]), -(-self.size[0] // self.tile[0])
+    def size(self) -> fields.Size:
+        """The numbers of columns and rows, a `Size`."""
+        return fields.Size(*self.cells.shape[::-1])
 
-    def run(self, generations: int, margin: int = 256) -> "Tiles":
-        """The tiles after some generations, `margin` of them at a time. The call returns at once,
-        and the workers compute. A margin is at most as long as the shortest side of a tile with a
-        neighbour there, and a tile with its margins is a scene of at most 64 MiB."""
-        tiles, margin = self, min(
-            integer("a margin", margin, 1),
-            max(1, integer("the number of generations", generations)),
-        )
+    @property
+    def tile(self) -> tuple[int, int]:
+        """The columns and rows of a tile. The last ones may have fewer."""
+        rows, columns = self.cells.chunksize
+        return columns, rows
+
+    def run(
+        self,
+        generations: int,
+        margin: int = 256,
+        kept: str | os.PathLike[str] | None = None,
+        interval: int = 4,
+    ) -> "Tiles":
+        """The tiles after some generations.
+
+        Parameters
+        ----------
+        generations : int
+            In all.
+        margin : int, optional
+            Generations from one exchange of margins to the next, at most as many as the shortest
+            side of a tile with a neighbour there has cells.
+        kept : path, optional
+            A folder that the workers and this process see. The run keeps its tiles there, so a lost
+            worker costs one interval. Else its tiles are computed again from the start.
+        interval : int, optional
+            Exchanges from one keeping to the next. It is shortened so that some thousands of tasks
+            wait in the scheduler at most.
+
+        Returns
+        -------
+        Tiles
+            The call returns when the last interval is sent to the workers.
+
+        Raises
+        ------
+        Fault
+            If the margin does not fit, before anything is drawn or computed.
+        """
+        generations = integer("the number of generations", generations)
+        margin = min(integer("a margin", margin, 1), max(1, generations))
         self._check_margin(margin)
+        most = max(1, MOST_TASKS // (OF_A_TILE * self.cells.npartitions))
+        span = margin * min(integer("an interval", interval, 1), most)
+        tiles = self
+        for done in range(0, generations, span):
+            if done:
+                tiles = tiles.wait() if kept is None else tiles.save(kept)
+            tiles = tiles._part(min(span, generations - done), margin)
+        return tiles if kept is None or tiles is self else tiles.save(kept)
+
+    def _part(self, generations: int, margin: int) -> "Tiles":
+        tiles = self
         for done in range(0, generations, margin):
             tiles = tiles._step(min(margin, generations - done))
-        return tiles
+        return dataclasses.replace(tiles, cells=self.client.persist(tiles.cells))
 
     def _check_margin(self, margin: int) -> None:
-        sides = [
-            min(side, length % side or side)
-            for length, side in zip(self.size, self.tile)
-            if length > side
-        ]
-        if sides and margin + margin % 2 > min(sides):
+        even = margin + margin % 2
+        sides = [min(chunks) for chunks in self.cells.chunks if len(chunks) > 1]
+        if sides and even > min(sides):
             raise Fault(
                 f"a margin of {margin}, made even, does not fit: the shortest side of a tile is"
                 f" {min(sides)}"
             )
-        columns, rows = (
-            side + 2 * (margin + margin % 2) if length > side else length
-            for length, side in zip(self.size, self.tile)
-        )
-        if max(columns, rows) > MOST_SIDE or rows * (2 * columns + 10) + 200 > program.MOST_BYTES:
+        rows, columns = (max(chunks) + 2 * even * (len(chunks) > 1) for chunks in self.cells.chunks)
+        text = 0 if engine.library() else rows * (2 * columns + 10) + 200
+        if max(columns, rows) > MOST_SIDE or text > MOST_BYTES:
             raise Fault(
-                f"a tile with its margins, {columns} x {rows}, is too large for a scene,"
-                f" {program.MOST_BYTES} bytes"
+                f"a tile with its margins, {columns} x {rows}, is too large: a lattice has at most"
+                f" {MOST_SIDE} columns and rows, and a scene {MOST_BYTES} bytes"
             )
 
     def _step(self, steps: int) -> "Tiles":
         """The tiles after at most as many generations as the margin that they exchange."""
-        (rows, columns), even = self.shape, steps + steps % 2
-        down = {-1: slice(-even, None), 0: slice(None), 1: slice(even)}
-        across = {-1: slice(-steps, None), 0: slice(None), 1: slice(steps)}
-
-        def piece(y: int, x: int, dy: int, dx: int) -> Any:
-            is_there = 0 <= y + dy < rows and (dx == 0 or columns > 1) and (dy, dx) != (0, 0)
-            return (
-                self._submit((y + dy) * columns + (x + dx) % columns, _piece, down[dy], across[dx])
-                if is_there
-                else None
-            )
-
-        parts = [
-            self._submit(
-                y * columns + x,
-                _advanced,
-                [[piece(y, x, dy, dx) for dx in across] for dy in down],
-                steps,
-            )
-            for y, x in itertools.product(range(rows), range(columns))
-        ]
-        return dataclasses.replace(self, parts=tuple(parts), generation=self.generation + steps)
-
-    def _submit(self, tile: int, function: Callable[..., Any], *words: Any) -> Any:
-        """The future of the function of a tile, computed by the worker that has the tile, or by
-        another if that one is gone."""
-        return self.client.submit(
-            function,
-            self.parts[tile],
-            *words,
-            workers=[self.homes[tile]],
-            allow_other_workers=True,
-            pure=False,
+        heights, widths = self.cells.chunks
+        even, around = steps + steps % 2 if len(heights) > 1 else 0, len(widths) > 1
+        starts = itertools.accumulate(heights, initial=0)
+        first_rows = [max(0, start - even) for start in starts]
+        cells = dask.array.map_overlap(
+            functools.partial(_advanced, self.rules, self.generation, steps, first_rows),
+            self.cells,
+            depth={0: even, 1: steps if around else 0},
+            boundary={0: "none", 1: "periodic" if around else "none"},
+            meta=NO_CELLS,
+            allow_rechunk=False,
         )
+        return dataclasses.replace(self, cells=cells, generation=self.generation + steps)
 
     def every(self, step: int, count: int, margin: int = 256) -> Iterator["Tiles"]:
         """Yields these tiles, and then `count` times the tiles `step` generations later."""
-        tiles = self
+        tiles = self.wait()
         yield tiles
         for _ in range(integer("the number of steps", count)):
             tiles = tiles.run(step, margin)
             yield tiles
 
     def wait(self) -> "Tiles":
-        """These tiles when all are computed. A terminal shows how many are. What failed in a worker
+        """These tiles when all are computed, in the memory of the workers. What failed in a worker
         is raised."""
-        from distributed import as_completed
+        cells = self.client.persist(self.cells)
+        futures = distributed.futures_of(cells)
+        for each in program.counted(distributed.as_completed(futures), len(futures), "tile"):
+            if each.status == "error":
+                each.result()
+        return dataclasses.replace(self, cells=cells)
 
-        for done, part in enumerate(as_completed(self.parts), start=1):
-            part.result() if part.status == "error" else None
-            program.show_progress(
-                f"{done} of {len(self.parts)} tiles" if done < len(self.parts) else ""
-            )
-        return self
-
-    def _map(self, function: Callable[..., Any], *words: Any) -> list[Any]:
-        return self.client.gather(
-            [self._submit(tile, function, *words) for tile in range(len(self.parts))]
-        )
+    def _computed(self, cells: Any) -> Any:
+        return self.client.compute(cells).result()
 
     @property
     def particles(self) -> int:
         """The number of particles."""
-        return sum(self._map(operator.attrgetter("particles")))
+        return int(self.blocks(*self.tile).particles.sum())
 
     def blocks(self, width: int = 64, height: int = 64) -> Blocks:
-        """Sums over blocks of so many columns and rows, as of a Lattice. Tiles must begin where
-        blocks do."""
-        if any(
-            side % block and length > side
-            for length, side, block in zip(self.size, self.tile, (width, height))
-        ):
-            raise Fault(
-                f"tiles of {self.tile[0]} x {self.tile[1]} do not begin where blocks of {width} x"
-                f" {height} do"
-            )
-        tiles = self._map(Lattice.blocks, width, height)
-        fluid, particles, px, py = (
-            self._joined([getattr(each, name) for each in tiles])
-            for name in ("fluid", "particles", "px", "py")
-        )
+        """Sums over blocks of so many columns and rows, as of a Lattice. Cells travel to other
+        workers where tiles do not begin with blocks."""
+        columns, rows = fields.pair_checked((width, height), "a block")
+        sides = [
+            max(block, side // block * block)
+            for block, side in zip((rows, columns), self.cells.chunksize)
+        ]
+        cells = self.cells.rechunk(tuple(sides))
+        counts = [
+            tuple(-(-side // block) for side in chunks)
+            for chunks, block in zip(cells.chunks, (rows, columns))
+        ]
+        call = functools.partial(_sums, self.rules, (columns, rows))
+        sums = cells.map_blocks(call, new_axis=0, chunks=((4,), *counts), dtype=int)
         return Blocks(
-            fluid, particles, px, py, self.gas, (width, height), self.size, self.generation
-        )
-
-    def _joined(self, arrays: list[Array]) -> Array:
-        """Arrays [row, column] of the tiles as one."""
-        columns = self.shape[1]
-        return np.block(
-            [arrays[first : first + columns] for first in range(0, len(arrays), columns)]
+            *self._computed(sums), self.rules.gas, (columns, rows), self.size, self.generation
         )
 
     def plot(
@@ -191,34 +225,24 @@ class Tiles:
 
     def gather(self) -> Lattice:
         """The whole lattice, if it fits into this process and the sides of a Lattice."""
-        parts = self.client.gather(list(self.parts))
-        return parts[0].replace(
-            states=self._joined([part.states for part in parts]),
-            solid=self._joined([part.solid for part in parts]),
-        )
+        return self.rules.lattice(self._computed(self.cells), self.generation)
 
     def save(self, folder: str | os.PathLike[str]) -> "Tiles":
-        """Lets the workers write the tiles, each a scene, to a folder that they and this process
-        see. Returns the tiles as read from there, so one that a worker loses later is computed
-        again from its file. `load` continues from the folder, also after the scheduler ended. What
-        the folder had before stays whole until the new files are."""
-        folder = pathlib.Path(folder).absolute()
-        folder.mkdir(parents=True, exist_ok=True)
-        names = [f"{self.generation}-{tile}.toml" for tile in range(len(self.parts))]
-        self.client.gather(
-            [self._submit(tile, Lattice.save, folder / name) for tile, name in enumerate(names)]
+        """Lets the workers write the tiles to a folder of zarr that they and this process see.
+        Returns the tiles as read from there, so one that a worker loses is read again, until other
+        tiles are saved there. `load` continues from the folder, also after the scheduler ended.
+        What the folder had before stays whole until the new tiles are."""
+        import zarr
+
+        group, name = zarr.open_group(str(pathlib.Path(folder).absolute())), self.cells.name
+        made = group.create_dataset(
+            name, shape=self.cells.shape, chunks=self.cells.chunksize, dtype="u1", overwrite=True
         )
-        kept = dict(
-            size=self.size,
-            tile=self.tile,
-            gas=self.gas.name,
-            generation=self.generation,
-            files=names,
-        )
-        (folder / f"{MANIFEST}.part").write_text(json.dumps(kept))
-        os.replace(folder / f"{MANIFEST}.part", folder / MANIFEST)
-        for path in {*folder.glob("*-*.toml")} - {folder / name for name in names}:
-            path.unlink()
+        self._computed(dask.array.store(self.cells, made, lock=False, compute=False))
+        kept = {"cells": name, "generation": self.generation, "gas": self.rules.gas.name}
+        group.attrs.put(kept | {"chirality": self.rules.chirality, "seed": self.rules.seed})
+        for old in {*group.array_keys()} - {name}:
+            del group[old]
         return load(self.client, folder)
 
 
@@ -235,133 +259,100 @@ def draw_gas(
     chirality: str = "left",
     seed: int = 0,
 ) -> Tiles:
-    """The tiles of `fhpgas.draw_gas` of the same arguments, drawn by the workers. Fields are
-    numbers or functions of the places X, Y, and `solid` is such a function. They are sent to the
-    workers."""
-    _refuse_seeded(gas_named(gas), chirality)
-    size = fields.size_of(size)
-    known = filling, east, north, solid, gas_named(gas), chirality, integer("a seed", seed)
-    return _submitted(
-        client, size, tile, gas_named(gas), 0, lambda number, place: (_drawn, size, place, *known)
-    )
+    """The tiles of `fhpgas.draw_gas` of the same arguments, drawn by the workers when they are
+    needed. Fields are numbers or functions of the places X, Y, and `solid` is such a function. They
+    are sent to the workers. The lattice is divided evenly, into tiles of at most `tile` columns and
+    rows."""
+    rules, size = _rules(gas, chirality, seed), fields.size_of(size)
+    draw = functools.partial(_drawn, rules, size, (filling, east, north), solid)
+    draw({None: {"array-location": [(0, 1), (0, 1)]}})  # refuses here what workers would refuse
+    chunks = _divided(size, tile, rules)
+    cells = dask.array.map_blocks(draw, chunks=chunks, dtype=np.uint8, meta=NO_CELLS)
+    return Tiles(client, cells, rules)
 
 
 def split(client: Any, lattice: Lattice, tile: tuple[int, int]) -> Tiles:
-    """The tiles of a lattice, sent to the workers. A tile that a worker loses is sent again."""
-    _refuse_seeded(lattice.gas, lattice.chirality)
-    known = lattice.gas, lattice.chirality, lattice.seed, lattice.generation
-    return _submitted(
-        client,
-        lattice.size,
-        tile,
-        lattice.gas,
-        lattice.generation,
-        lambda number, place: (Lattice, lattice.states[place], lattice.solid[place], *known),
-    )
+    """The tiles of a lattice, sent to the workers. `save` keeps them for the case that a worker is
+    lost."""
+    rules = _rules(lattice.gas, lattice.chirality, lattice.seed)
+    chunks, codes = _divided(lattice.size, tile, rules), lattice._codes()
+    parts = [codes[place] for place in dask.array.core.slices_from_chunks(chunks)]
+    blocks = [
+        dask.array.from_delayed(sent, part.shape, meta=NO_CELLS)
+        for sent, part in zip(client.scatter(parts), parts)
+    ]
+    columns = len(chunks[1])
+    rows = [blocks[first : first + columns] for first in range(0, len(blocks), columns)]
+    return Tiles(client, dask.array.block(rows), rules, lattice.generation)
 
 
 def load(client: Any, folder: str | os.PathLike[str]) -> Tiles:
     """The tiles that `Tiles.save` wrote to a folder."""
-    folder = pathlib.Path(folder).absolute()
+    import zarr
+
     try:
-        kept = json.loads((folder / MANIFEST).read_text())
-        size, tile, named, generation, files = (
-            kept[name] for name in ("size", "tile", "gas", "generation", "files")
-        )
-        size = fields.Size(*size)
-    except (OSError, ValueError, KeyError, TypeError) as fault:
+        group = zarr.open_group(str(pathlib.Path(folder).absolute()), mode="r")
+        names = "cells", "generation", "gas", "chirality", "seed"
+        name, generation, *known = (group.attrs[key] for key in names)
+        cells = dask.array.from_zarr(group[name])
+    except (OSError, ValueError, KeyError) as fault:
         raise Fault(f"{folder} has no saved tiles: {fault}") from None
-    return _submitted(
-        client,
-        size,
-        tile,
-        gas_named(named),
-        generation,
-        lambda number, place: (Lattice.load, folder / files[number]),
-    )
+    return Tiles(client, client.persist(cells), _rules(*known), generation)
 
 
-def _submitted(
-    client: Any,
-    size: fields.Size,
-    tile: tuple[int, int],
-    gas: Gas,
-    generation: int,
-    task: Callable[[int, Place], tuple[Any, ...]],
-) -> Tiles:
-    """Tiles of futures, of which `task` returns the function and its arguments for the number and
-    the place of a tile."""
-    size, tile = fields.size_of(size), fields.pair_checked(tile, "a tile")
-    if tile[1] % 2:
-        raise Fault(f"a tile has an even number of rows, not {tile[1]}")
-    places = [
-        (slice(y, min(y + tile[1], size[1])), slice(x, min(x + tile[0], size[0])))
-        for y in range(0, size[1], tile[1])
-        for x in range(0, size[0], tile[0])
-    ]
-    workers = sorted(client.nthreads())
-    homes = tuple(workers[number * len(workers) // len(places)] for number in range(len(places)))
-    parts = (
-        client.submit(*task(number, place), workers=[home], allow_other_workers=True, pure=False)
-        for number, (place, home) in enumerate(zip(places, homes))
-    )
-    return Tiles(client, tuple(parts), homes, size, tile, gas, generation)
-
-
-def _refuse_seeded(gas: Gas, chirality: str) -> None:
-    if chirality == "seeded" and not gas.is_square:
+def _divided(size: fields.Size, tile: Any, rules: Rules) -> tuple[tuple[int, ...], ...]:
+    """The heights and widths of tiles of at most some columns and rows, which divide a lattice
+    evenly."""
+    columns, rows = fields.pair_checked(tile, "a tile")
+    if rows < min(2, size.rows):
+        raise Fault("a tile has at least two rows, because it has an even number of them")
+    if rules.is_seeded and columns < size.columns:
         raise Fault(
-            'tiles need the chirality "left" or "right": the random bits of "seeded" belong to'
-            " places of the whole lattice"
+            f'tiles of "seeded" have whole rows, {size.columns} columns, because their random bits'
+            " belong to places"
         )
+    sides = [
+        -(-length // -(-length // most) // unit) * unit
+        for length, most, unit in ((size.rows, rows - rows % 2 or 1, 2), (size.columns, columns, 1))
+    ]
+    return dask.array.core.normalize_chunks(sides, size.shape)
 
 
 # -- what workers compute
 
 
 def _drawn(
-    size: fields.Size,
-    place: Place,
-    filling: Any,
-    east: Any,
-    north: Any,
-    solid: Any,
-    gas: Gas,
-    chirality: str,
-    seed: int,
-) -> Lattice:
-    """A tile of the gas that `fhpgas.draw_gas` draws."""
-    rows, columns = place
-    shape = rows.stop - rows.start, columns.stop - columns.start
-    X, Y = fields.positions(size, gas, rows, columns)
-    values = tuple(
-        fields.numbers_of("a field", field(X, Y) if callable(field) else field)
-        for field in (filling, east, north)
-    )
-    states = fields.drawn(gas, values, shape, seed, (rows.start, columns.start), size[0])
-    walls = np.broadcast_to(False if solid is None else solid(X, Y), shape)
-    return Lattice(np.where(walls, np.uint8(0), states), walls, gas, chirality, seed)
+    rules: Rules, size: fields.Size, values: tuple[Any, ...], solid: Any, block_info: Any
+) -> Array:
+    """The cells of a block of what `fhpgas.draw_gas` draws."""
+    (top, below), (left, right) = block_info[None]["array-location"]
+    X, Y = fields.positions(size, rules.gas, slice(top, below), slice(left, right))
+    numbers = [
+        fields.numbers_of("a field", value(X, Y) if callable(value) else value) for value in values
+    ]
+    states = fields.drawn(rules.gas, numbers, X.shape, rules.seed, (top, left), size.columns)
+    return np.where(False if solid is None else solid(X, Y), np.uint8(SOLID), states)
 
 
-def _piece(tile: Lattice, rows: slice, columns: slice) -> Array:
-    """Some cells of a tile, a byte each: all that travels."""
-    part = rows, columns
-    return tile.states[part] | tile.solid[part].view(np.uint8) << 7
+def _advanced(
+    rules: Rules,
+    generation: int,
+    steps: int,
+    first_rows: list[int],
+    cells: Array,
+    block_id: tuple[int, int],
+) -> Array:
+    """The cells of a tile and its margins after some generations, of which the tile is right."""
+    part = rules.lattice(cells, generation)
+    if engine.library():
+        states = engine.run(part, steps, engine.Place(first_rows[block_id[0]]))
+    elif rules.is_seeded:
+        raise Fault('tiles of "seeded" need the engine of the package in the workers')
+    else:
+        states = program._alone(lambda lattice: lattice.run(steps), part).states
+    return states | cells & SOLID
 
 
-def _advanced(tile: Lattice, around: list[list[Array | None]], generations: int) -> Lattice:
-    """A tile after some generations, with the margins around it: the pieces of three rows of tiles,
-    None where there is no neighbour."""
-    (_, above, _), (left, _, _), _ = around
-    around[1][1] = _piece(tile, slice(None), slice(None))
-    cells: Array = np.block(
-        [present for row in around if (present := [piece for piece in row if piece is not None])]
-    )
-    whole = tile.replace(states=cells & 0x7F, solid=cells >> 7)
-    after = program._alone(
-        lambda lattice: lattice.run(generations, stages=min(STAGES, generations)), whole
-    )
-    top, first = 0 if above is None else len(above), 0 if left is None else left.shape[1]
-    return after.replace(
-        states=after.states[top:, first:][: tile.size[1], : tile.size[0]], solid=tile.solid
-    )
+def _sums(rules: Rules, block: tuple[int, int], cells: Array) -> Array:
+    blocks = rules.lattice(cells).blocks(*block)
+    return np.stack([blocks.fluid, blocks.particles, blocks.px, blocks.py])
