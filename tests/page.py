@@ -35,7 +35,7 @@ WORDS = (
     "--disable-sync",
 )
 FILE = needs.ROOT / "page/fhpgas.html"
-PATIENCE = 120  # seconds: far more than anything takes, and nothing here depends on it
+PATIENCE = 600  # seconds: far more than anything takes, and nothing here depends on it
 SOLID = [0x78, 0x82, 0x8C]
 NAMES = "const { $, chosen, live, look, marks, motion, said, shown, speeds } = fhpgas, head = fhpgas.head(), view = $('view');"
 KNOWN = 'gas = "fhp1"\nchirality = "left"\ncells = ["01........##", "..09......##", "......04..##", "..........##"]\n'
@@ -61,6 +61,7 @@ class Page:
         metrics |= {"touch": has_fingers, "mobile": has_fingers}
         options.add_experimental_option("mobileEmulation", {"deviceMetrics": metrics})
         self.driver, self.room = webdriver.Chrome(options=options), room
+        self.driver.set_script_timeout(PATIENCE)
         self.go(after)
 
     def go(self, after):
@@ -162,7 +163,7 @@ class Page:
         )
 
     def ended(self, way):
-        """Nothing was asked of other hosts, and there is no error but that engine.js is missing, if it is."""
+        """Nothing was asked of other hosts, and there is no error."""
         messages = [
             json.loads(one["message"])["message"] for one in self.driver.get_log("performance")
         ]
@@ -176,11 +177,6 @@ class Page:
         ]
         check(f"{way}: no request leaves this computer", not strangers, strangers)
         errors = [one for one in self.driver.get_log("browser") if one["level"] == "SEVERE"]
-        errors = [
-            one
-            for one in errors
-            if (FILE.parent / "engine.js").exists() or "engine.js" not in one["message"]
-        ]
         check(f"{way}: no error in the console", not errors, errors)
         self.driver.quit()
 
@@ -188,10 +184,13 @@ class Page:
 def begins(page):
     """What is seen first."""
     page.wait("head.generation > 20")
+    moved = page.js("return performance.getEntriesByName('moved')[0]")
+    check("one of the first two pictures has moved", moved["detail"] <= 2, moved["detail"])
+    print(f"first motion after {moved['startTime']:.0f} ms")
     wanted = "proved" if (FILE.parent / "engine.js").exists() else "script"
     check(
         "the kernel is the one that is there, and the page says which",
-        page.js("return live.engine") == wanted,
+        page.wait("live.engine") == wanted,
     )
     check(
         "it says so",
@@ -224,7 +223,8 @@ def begins(page):
 
 
 def edits(page):
-    """Obstacles are drawn, erased, undone and cleared. Returns the generation of a pause, and the scene of then."""
+    """Obstacles are drawn, erased, undone and cleared. Returns the generation of a pause, the scene of then, and an address with
+    the number of solid cells that were there."""
     page.choose("change", keep=False)
     particles, solid = page.wait(
         "head.wind === null && [head.particles, head.width * head.height - head.fluid]"
@@ -252,6 +252,10 @@ def edits(page):
         "a click is shown before the gas has it", page.pixel(200, 90) == SOLID, page.pixel(200, 90)
     )
     page.js("fhpgas.worker.onmessage = kept, held.forEach(kept)")
+    solid = page.wait(
+        "location.hash.includes('runs=') && head.width * head.height - head.fluid"
+    )
+    link = page.js("return location.hash")
     page.drag("dense", (200, 40))
     check("particles stay as many", particles == page.js("return head.particles"))
     page.choose("change", chirality="right")
@@ -261,7 +265,7 @@ def edits(page):
         "how pairs turn changes in the same cells",
         generation > 100 and page.js("return head.particles") == particles,
     )
-    return generation, page.saved("save", ".toml")
+    return generation, page.saved("save", ".toml"), link, solid
 
 
 def continues(page, first, scene):
@@ -438,6 +442,13 @@ def phone(room):
     check("a drawer opens", page.driver.find_element(By.ID, "gas").is_displayed())
     page.click("drawer")
     check("and closes", not page.driver.find_element(By.ID, "gas").is_displayed())
+    page.driver.execute_cdp_cmd(
+        "Emulation.setDeviceMetricsOverride",
+        {"width": 844, "height": 390, "deviceScaleFactor": 2, "mobile": True},
+    )
+    page.go("")
+    wide = page.js("return head.width * look.place.scale / innerWidth")
+    check("on its side too", 0.9 <= wide <= 1, wide)
     page.click("turn")
     check("the gas turns", page.wait("head.direction < 0 || head.found === 0"))
     page.ended("phone")
@@ -478,7 +489,7 @@ const until = async (isSo) => { for (let n = 0; n < 2000 && !isSo(); n++) await 
   said("a stroke is drawn", await until(() => head().width * head().height - head().fluid > solid));
   $("turn").click();
   said("it comes back", await until(() => head().found === 0 && head().generation === 0));
-  said(`the kernel is ${live.engine}`, live.engine === "@ENGINE@");
+  said("the kernel is the one that is there", await until(() => live.engine === "@ENGINE@"));
   dump("RESULT end\\n");
 })();
 """
@@ -532,7 +543,11 @@ def main():
         page = Page(room)
         begins(page)
         page.go(QUICK)
-        continues(page, *edits(page))
+        *paused, link, solid = edits(page)
+        continues(page, *paused)
+        page.go(link)
+        found = page.js("return head.width * head.height - head.fluid")
+        check("the address keeps what was drawn", found == solid, (found, solid))
         seeded(page)
         cells(page)
         keyboard(page)

@@ -4,7 +4,7 @@ import { collideAll, turnAll } from "./kernel.js";
 
 /**
  * @typedef {import("./flow.js").Flow} Flow
- * @typedef {ReturnType<import("./history.js").History["pop"]>} Flips
+ * @typedef {import("./history.js").Flip} Flip
  */
 
 /**
@@ -24,17 +24,15 @@ export function reverse(flow) {
 /** On the way back: undoes what was done in this generation. @param {Flow} flow */
 export function undo(flow) {
   const { history } = flow;
-  while (!history.isEmpty && history.lastGeneration === flow.generation && history.top.length) {
+  while (!history.isEmpty && history.lastGeneration === flow.generation && history.top.generations.length) {
     const flips = history.pop();
     if (flow.isDisturbed) undoWalls(flow, flips);
     else undoFlips(flow, flips);
+    if (flips.some(({ bits }) => bits & SOLID)) flow.kernel.wallsChanged();
   }
 }
 
-/**
- * Cell by cell, since a collision and a turn need no neighbours.
- * @param {Flow} flow @param {Flips} flips
- */
+/** Cell by cell, since a collision and a turn need no neighbours. @param {Flow} flow @param {Flip[]} flips */
 function undoFlips(flow, flips) {
   const { turned, cells } = flow;
   for (const { place, bits, turning } of flips) {
@@ -44,13 +42,9 @@ function undoFlips(flow, flips) {
       cells.flip(place, state ^ turned[flow.sideOf(OTHER[flow.chirality])[before]]);
     }
   }
-  if (flips.some(({ bits }) => bits & SOLID)) flow.kernel.wallsChanged();
 }
 
-/**
- * Before this generation pairs turned otherwise.
- * @param {Flow} flow @param {import("./gases.js").Chirality} turning
- */
+/** Before this generation pairs turned otherwise. @param {Flow} flow @param {import("./gases.js").Chirality} turning */
 function turnOtherwise(flow, turning) {
   reverse(flow);
   flow.chirality = turning;
@@ -59,7 +53,7 @@ function turnOtherwise(flow, turning) {
 
 /**
  * Once cells have been disturbed, the particles that an edit moved are others, and only its obstacles are undone.
- * @param {Flow} flow @param {Flips} flips
+ * @param {Flow} flow @param {Flip[]} flips
  */
 function undoWalls(flow, flips) {
   const { cells } = flow, walls = flips.filter(({ bits }) => bits & SOLID).map(({ place }) => place);
@@ -70,5 +64,4 @@ function undoWalls(flow, flips) {
   walls.filter(isSolid).forEach((at) => cells.flip(at, SOLID));
   cells.occupied(drawn)?.flips.forEach((bits, at) => cells.flip(at, bits));
   reverse(flow);
-  flow.kernel.wallsChanged();
 }

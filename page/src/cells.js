@@ -1,7 +1,8 @@
 // The cells of a lattice, one by one: places, states and edits on a kernel's planes.
 import { SOLID } from "./gases.js";
+import { bits } from "./sums.js";
 
-/** @typedef {[x: number, y: number]} Place eastwards from the first cell and southwards from the first row, in cells' widths */
+/** @typedef {[x: number, y: number]} Place eastwards and southwards from the first cell, in cells' widths */
 
 export class Cells {
   /** @param {import("./kernel.js").Kernel} kernel */
@@ -16,18 +17,19 @@ export class Cells {
 
   /** The state of a cell. Cells are numbered by rows from the top. @param {number} at */
   state(at) {
-    const { kernel: { cells, solid, per }, width, gas: { directions } } = this, y = Math.floor(at / width), x = at - y * width;
-    const word = x >> 5, bit = x & 31;
+    const { kernel: { cells, solid, per }, width, gas: { directions } } = this;
+    const y = Math.floor(at / width), x = at - y * width, word = x >> 5, bit = x & 31;
     if (solid[y * per + word] >>> bit & 1) return SOLID;
     let state = 0;
-    for (let i = 0, k = y * directions * per + word; i < directions; i++, k += per) state |= (cells[k] >>> bit & 1) << i;
+    const first = y * directions * per + word;
+    for (let i = 0, k = first; i < directions; i++, k += per) state |= (cells[k] >>> bit & 1) << i;
     return state;
   }
 
   /** Changes bits of a cell's state. @param {number} at @param {number} bits */
   flip(at, bits) {
-    const { kernel: { cells, solid, per }, width, gas: { directions } } = this, y = Math.floor(at / width), x = at - y * width;
-    const word = x >> 5, mask = 1 << (x & 31);
+    const { kernel: { cells, solid, per }, width, gas: { directions } } = this;
+    const y = Math.floor(at / width), x = at - y * width, word = x >> 5, mask = 1 << (x & 31);
     if (bits & SOLID) {
       solid[y * per + word] ^= mask;
       this.isBuilt = true;
@@ -43,16 +45,9 @@ export class Cells {
 
   /** Sets all cells. @param {Uint8Array} states */
   fill(states) {
-    const { kernel: { cells, solid, per }, width, height, gas: { directions } } = this;
-    cells.fill(0);
-    solid.fill(0);
-    for (let y = 0, at = 0; y < height; y++) {
-      for (let x = 0; x < width; x++, at++) {
-        const state = states[at], word = x >> 5, mask = 1 << (x & 31);
-        if (state === SOLID) solid[y * per + word] |= mask;
-        for (let i = 0, k = y * directions * per + word; i < directions; i++, k += per) if (state >> i & 1) cells[k] |= mask;
-      }
-    }
+    this.kernel.cells.fill(0);
+    this.kernel.solid.fill(0);
+    states.forEach((state, at) => state && this.flip(at, state));
     this.isBuilt = true;
   }
 
@@ -61,23 +56,20 @@ export class Cells {
     return { cells: this.kernel.cells.slice(), solid: this.kernel.solid.slice() };
   }
 
-  /** A plane of the cells that differ from a copy. @param {{ cells: Int32Array, solid: Int32Array }} kept */
+  /** A plane of the cells that differ from a copy. @param {ReturnType<Cells["kept"]>} kept */
   difference(kept) {
-    const { kernel: { cells, solid, per }, height, gas: { directions } } = this;
-    const plane = solid.map((word, k) => word ^ kept.solid[k]);
-    for (let y = 0; y < height; y++) {
-      for (let j = 0; j < per; j++) {
-        for (let i = 0, k = y * directions * per + j; i < directions; i++, k += per) plane[y * per + j] |= cells[k] ^ kept.cells[k];
-      }
-    }
-    return plane;
+    const { kernel: { cells, solid, per }, gas: { directions } } = this;
+    return solid.map((word, k) => {
+      const first = Math.floor(k / per) * directions * per + k % per, end = first + directions * per;
+      let unlike = word ^ kept.solid[k];
+      for (let at = first; at < end; at += per) unlike |= cells[at] ^ kept.cells[at];
+      return unlike;
+    });
   }
 
-  /** How many cells differ from a copy. @param {{ cells: Int32Array, solid: Int32Array }} kept */
+  /** How many cells differ from a copy. @param {ReturnType<Cells["kept"]>} kept */
   differing(kept) {
-    let found = 0;
-    for (let word of this.difference(kept)) for (; word; word &= word - 1) found++;
-    return found;
+    return this.difference(kept).reduce((sum, word) => sum + bits(word), 0);
   }
 
   /** Where a cell is. @param {number} at @returns {Place} */
@@ -96,7 +88,8 @@ export class Cells {
       for (let x = west; x <= Math.min(east, west + width - 1); x++) {
         const px = x + (isHexagonal ? (row & 1) / 2 : 0) - x0, py = row * apart - y0;
         const part = Math.max(0, Math.min(1, (px * dx + py * dy) / (dx * dx + dy * dy || 1)));
-        if (Math.hypot(px - part * dx, py - part * dy) <= radius) found.push(row * width + (((x % width) + width) % width));
+        if (Math.hypot(px - part * dx, py - part * dy) > radius) continue;
+        found.push(row * width + (((x % width) + width) % width));
       }
     }
     return found;
@@ -112,20 +105,19 @@ export class Cells {
   }
 
   /**
-   * What makes cells solid: bits to flip by cell. The particles in them go to the nearest free places of their direction,
-   * ring by ring. Null if there is no room.
+   * What makes cells solid: bits to flip by cell. The particles in them go to the nearest free places of their
+   * direction, ring by ring. Null if there is no room.
    * @param {number[]} places
    */
   occupied(places) {
     const { gas: { directions } } = this, waiting = Array(directions).fill(0), flips = new Map();
-    let left = 0;
     for (const at of places) {
       const state = this.state(at);
       for (let i = 0; i < directions; i++) waiting[i] += state >> i & 1;
       flips.set(at, state ^ SOLID);
     }
-    for (const number of waiting) left += number;
-    const moved = left, reached = new Set(places);
+    const moved = waiting.reduce((a, b) => a + b), reached = new Set(places);
+    let left = moved;
     for (const at of reached) {
       if (!left) break;
       const state = flips.has(at) ? SOLID : this.state(at);

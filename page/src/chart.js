@@ -19,7 +19,7 @@ function periodNow(turnover) {
 /** What the chart says. @param {import("./numbers.js").Numbers} numbers @returns {[text: string, colour?: string][]} */
 export function linesOf(numbers) {
   const { g, turnover, speed } = numbers;
-  const { radius } = marks.probe ?? { radius: 0 }, { measured: { blockage, incoming } } = head(), length = amount("length");
+  const { blockage, incoming } = head().measured, radius = marks.probe?.radius ?? 0, length = amount("length");
   const period = g && turnover ? periodNow(turnover) : null, percent = `${Math.round(100 * blockage)} %`;
   /** @type {[string, string?][]} */
   const lines = [["u, east", U], ["v, north", V], [`of a disc of ${round(2 * radius)} cells`]];
@@ -42,7 +42,8 @@ export function paintChart(numbers) {
   if (!marks.probe || !samples.length) return;
   const { width, height, context: c } = contextOf(canvas, true), words = Math.min(270, width / 2);
   const box = { left: 58, right: width - words - 14, top: 10, bottom: height - 24 };
-  const values = samples.flatMap(({ u, v }) => [u, v]), least = Math.min(0, ...values), largest = Math.max(0.01, ...values);
+  const values = samples.flatMap(({ u, v }) => [u, v]);
+  const least = Math.min(0, ...values), largest = Math.max(0.01, ...values);
   const step = nice((largest - least) / 2.5), low = Math.floor(least / step), high = Math.ceil(largest / step);
   const first = samples[0].generation, last = Math.max(first + 1, samples[samples.length - 1].generation);
   const X = (at) => box.left + ((at - first) / (last - first)) * (box.right - box.left);
@@ -59,6 +60,6 @@ export function paintChart(numbers) {
   line(c, samples.map(({ generation, u }) => [X(generation), Y(u)]), U, 2);
   line(c, samples.map(({ generation, v }) => [X(generation), Y(v)]), V, 2);
   linesOf(numbers).forEach(([text, colour], k) => {
-    write(c, text, box.right + 12, box.top + 14 + 21 * k, { font: k < 2 ? "600 14px" : "14px", colour: colour ?? theme.ink });
+    write(c, text, box.right + 12, box.top + 14 + 21 * k, { font: k < 2 ? "600 14px" : "14px", colour });
   });
 }

@@ -1,9 +1,10 @@
 // Controls: from one table come their elements, keys and names.
-import { $, setText } from "./state.js";
+import { $, element, setText } from "./state.js";
 
 /**
- * @typedef {{ id: string, key: string, label: string, kind: "button" | "list" | "range" | "number" | "check", style?: string,
- *   options?: [value: string, text: string][], attributes?: Record<string, string | number>, act?: () => void, isLate?: boolean,
+ * @typedef {"button" | "list" | "range" | "number" | "check"} Kind
+ * @typedef {{ id: string, key: string, label: string, kind: Kind, style?: string, act?: () => void, isLate?: boolean,
+ *   options?: [value: string, text: string][], attributes?: Record<string, string | number>,
  *   said?: (value: number) => string, isPressed?: () => boolean, isOff?: () => boolean, text?: () => string }} Control
  *   a slider that `isLate` acts when it is let go; `said` are the words for a value, `text` is a label that changes
  * @typedef {{ title: string, place: string, controls: Control[] }} Group
@@ -12,18 +13,11 @@ import { $, setText } from "./state.js";
 const KEY_NAMES = { " ": "space", ArrowLeft: "←", ArrowRight: "→", Enter: "↵", Backspace: "⌫" };
 let isByPointer = false; // what was used last
 
-/** @param {string} tag @param {Record<string, string | number>} attributes @param {(Node | string)[]} children */
-function element(tag, attributes, ...children) {
-  const made = document.createElement(tag);
-  for (const [name, value] of Object.entries(attributes)) made.setAttribute(name, String(value));
-  made.append(...children);
-  return made;
-}
-
 /** @param {Control} control */
 function made({ id, key, label, kind, style = "", options = [], attributes = {} }) {
   const shortcut = element("kbd", { "aria-hidden": "true" }, KEY_NAMES[key] ?? key);
-  const name = element("span", {}, label), own = { id, "aria-label": label, "aria-keyshortcuts": key === " " ? "Space" : key };
+  const name = element("span", {}, label), shortcuts = key === " " ? "Space" : key;
+  const own = { id, "aria-label": label, "aria-keyshortcuts": shortcuts };
   if (kind === "button") return element("button", { ...own, class: style, type: "button" }, name, shortcut);
   const list = options.map(([value, text]) => element("option", { value }, text));
   const type = kind === "check" ? "checkbox" : kind;
@@ -105,6 +99,6 @@ function listen(keys) {
   });
   // a control that the mouse used must not take the keys
   const leave = ({ target }) => isByPointer && target.closest?.("button, select, input")?.blur();
-  document.addEventListener("click", ({ target }) => /** @type {any} */ (target).closest("button") && leave({ target }));
+  document.addEventListener("click", (event) => /** @type {any} */ (event.target).closest("button") && leave(event));
   document.addEventListener("change", leave);
 }

@@ -14,24 +14,20 @@ export function readTheme() {
   }
 }
 
-/** Gives a canvas the pixels that it has on the screen: its size, and pixels per CSS pixel. @param {HTMLCanvasElement} canvas */
-export function sizeOf(canvas) {
+/** The context of a canvas in CSS pixels, with the pixels of the screen. @param {HTMLCanvasElement} canvas */
+export function contextOf(canvas, alpha) {
   const ratio = window.devicePixelRatio || 1, { width, height } = canvas.getBoundingClientRect();
   const [w, h] = [Math.round(width * ratio), Math.round(height * ratio)];
   if (canvas.width !== w || canvas.height !== h) Object.assign(canvas, { width: w, height: h });
-  return { width, height, ratio };
-}
-
-/** The context of a canvas, in CSS pixels. @param {HTMLCanvasElement} canvas @param {boolean} alpha */
-export function contextOf(canvas, alpha) {
-  const size = sizeOf(canvas), context = /** @type {CanvasRenderingContext2D} */ (canvas.getContext("2d", { alpha }));
-  context.setTransform(size.ratio, 0, 0, size.ratio, 0, 0);
-  return { ...size, context };
+  const context = /** @type {CanvasRenderingContext2D} */ (canvas.getContext("2d", { alpha }));
+  context.setTransform(ratio, 0, 0, ratio, 0, 0);
+  return { width, height, context };
 }
 
 /** A canvas of pixels, which are words of their bytes. */
 export function imageOf(width, height, put) {
-  const canvas = Object.assign(document.createElement("canvas"), { width, height }), image = new ImageData(width, height);
+  const canvas = Object.assign(document.createElement("canvas"), { width, height });
+  const image = new ImageData(width, height);
   put(new Int32Array(image.data.buffer));
   /** @type {CanvasRenderingContext2D} */ (canvas.getContext("2d")).putImageData(image, 0, 0);
   return canvas;

@@ -1,14 +1,12 @@
-// The drive: in every generation particles are turned from west to east, at random fluid cells, until the mean velocity is
-// the wind. What it does therefore does not depend on how many generations a frame has.
+// The drive: in every generation particles are turned from west to east, at random fluid cells, until the mean velocity
+// is the wind. What it does therefore does not depend on how many generations a frame has.
 
 const MEMORY = 1000; // generations of a mean over time
 
 /** A mean over the last generations, of all if they are few. */
-export class Mean {
-  constructor() {
-    this.value = 0;
-    this.count = 0;
-  }
+class Mean {
+  value = 0;
+  count = 0;
 
   /** @param {number} value */
   add(value) {
@@ -25,7 +23,7 @@ export class Drive {
   /** @param {number | null} wind cells per generation that the flow keeps, or null if it decays @param {string} seed */
   constructor(wind, seed) {
     this.random = Number(BigInt(seed) % 0xfffffffbn) + 1 | 0;
-    this.lot = () => this.draw();
+    this.fluid = this.particles = this.px = 0;
     this.keep(wind);
   }
 
@@ -37,25 +35,32 @@ export class Drive {
   }
 
   /** A random number below 1, by xorshift. */
-  draw() {
+  draw = () => {
     this.random ^= this.random << 13;
     this.random ^= this.random >>> 17;
     this.random ^= this.random << 5;
     return (this.random >>> 0) / 2 ** 32;
+  };
+
+  /** Measures a flow, whose momentum then only walls and the drive change. @param {import("./flow.js").Flow} flow */
+  measure(flow) {
+    [this.fluid, this.particles, this.px] = flow.totals();
   }
 
   /** Brings a flow to the wind. Returns whether there were particles to turn. @param {import("./flow.js").Flow} flow */
   act(flow) {
-    const { cells, turned } = flow, [fluid, particles, px] = flow.totals(), unit = flow.gas.units[0];
-    const wanted = ((this.wind ?? 0) * particles - px * unit) / 2, sign = Math.sign(wanted);
+    const { cells, turned, kernel, gas: { units: [unit], momenta: [[east]] } } = flow;
+    this.px += kernel.pushed();
+    const wanted = ((this.wind ?? 0) * this.particles - this.px * unit) / 2, sign = Math.sign(wanted);
     const pair = 1 | turned[1], old = sign > 0 ? turned[1] : 1, steps = Math.round(Math.abs(wanted));
-    this.velocity.add((px * unit) / (particles || 1));
+    this.velocity.add((this.px * unit) / (this.particles || 1));
     for (let kick = 0; kick < steps; kick++) {
-      const at = cells.pick(this.lot, pair, old);
+      const at = cells.pick(this.draw, pair, old);
       if (at === undefined) return false;
       flow.flip(at, pair);
     }
-    this.force.add((2 * sign * steps) / fluid);
+    this.px += 2 * east * sign * steps;
+    this.force.add((2 * sign * steps) / this.fluid);
     return true;
   }
 }

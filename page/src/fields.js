@@ -17,15 +17,18 @@ const RED_BLUE = [palette("053061 2166ac 4393c3 92c5de d1e5f0 f7f7f7 fddbc7 f4a5
 const ORANGE_PURPLE = [palette("2d004b 542788 8073ac b2abd2 d8daeb f7f7f7 fee0b6 fdb863 e08214 b35806 7f3b08"),
   palette("d8b8f5 a98bd6 7c62ad 513f78 2c2444 16161c 33220f 5e3d12 905f17 c68a2f ffc46b")];
 
+const fromZero = (most) => [0, most / 2, most];
+
 /** @type {Record<string, Field>} the fields, by name: all that there is of each. */
 export const FIELDS = {
   speed: { key: "1", label: "speed", legend: "speed |u|, cells per generation", palette: SEQUENTIAL, isSigned: false,
-    ends: (most) => [0, most / 2, most], values: ({ u, v }) => u.map((east, i) => Math.sqrt(east * east + v[i] * v[i])) },
+    ends: fromZero, values: ({ u, v }) => u.map((east, i) => Math.sqrt(east * east + v[i] * v[i])) },
   vorticity: { key: "2", label: "vorticity", legend: "vorticity, 1/generation: red anticlockwise", palette: RED_BLUE,
     isSigned: true, ends: (most) => [-most, 0, most], values: vorticity },
-  difference: { key: "6", label: "difference", legend: "cells that differ from the gas without the turn", palette: SEQUENTIAL,
-    isSigned: false, ends: (most) => [0, most / 2, most],
-    values: ({ difference, grid: { parts: [cells] } }) => cells.map((number, i) => (number ? (difference?.[i] ?? 0) / number : NaN)) },
+  difference: { key: "6", label: "difference", legend: "cells that differ from the gas without the turn",
+    palette: SEQUENTIAL, isSigned: false, ends: fromZero,
+    values: ({ difference, grid: { parts: [cells] } }) =>
+      cells.map((number, i) => (number ? (difference?.[i] ?? 0) / number : NaN)) },
   density: { key: "3", label: "density", legend: "filling d, from its mean", palette: ORANGE_PURPLE, isSigned: true,
     ends: (most, middle) => [-most, middle, most], values: ({ filling, middle }) => filling.map((d) => d - middle) },
 };
@@ -119,7 +122,8 @@ export class TimeMean {
   /** What is shown of a field: a byte per block, 0 if it is solid, and the largest value of the colours. */
   shown(name, means) {
     const { values, isSigned } = FIELDS[name], all = values(means), pixels = new Uint8Array(all.length);
-    const most = (this.ranges[name] = rangeOf(all, this.ranges[name])), [zero, scale] = isSigned ? [128, 127] : [1, 254];
+    const most = (this.ranges[name] = rangeOf(all, this.ranges[name]));
+    const [zero, scale] = isSigned ? [128, 127] : [1, 254];
     for (let i = 0; i < all.length; i++) {
       if (all[i] === all[i]) pixels[i] = Math.max(1, Math.min(255, zero + (scale * all[i]) / most));
     }

@@ -4,6 +4,8 @@ import { Cells } from "./cells.js";
 import { Drive } from "./drive.js";
 import { SOLID, collisions, turns } from "./gases.js";
 import { History } from "./history.js";
+import { copied } from "./kernel.js";
+import { totalsOf } from "./sums.js";
 
 /**
  * @typedef {import("./gases.js").Chirality} Chirality
@@ -33,6 +35,8 @@ export class Flow {
     this.notes = [];
     /** @type {{ at: [number, number], generation: number } | null} the particle that was turned */
     this.mark = null;
+    /** @type {Int32Array | null} the solid cells that the preset has */
+    this.shape = null;
     this.turned = turns(this.gas);
     this.sides = { left: collisions(this.gas, "left"), right: collisions(this.gas, "right") };
     this.drive = new Drive(wind, seed);
@@ -48,9 +52,14 @@ export class Flow {
     this.kernel.wallsChanged();
   }
 
+  /** Goes on in another kernel, with the same cells. @param {import("./kernel.js").MakeKernel} make */
+  moveTo(make) {
+    this.kernel = this.cells.kernel = copied(this.kernel, make);
+  }
+
   /** Of all cells: fluid, particles, and momenta as multiples of the gas's units. */
   totals() {
-    return this.kernel.totals();
+    return totalsOf(this.kernel.sums(32, this.cells.height));
   }
 
   /** What pairs do. @param {Chirality} chirality */
@@ -121,6 +130,7 @@ export class Flow {
   /** Some generations on, or back, where the gas stops at the start and compares its cells. @param {number} wanted */
   advance(wanted) {
     this.changes++;
+    if (this.direction > 0 && this.drive.wind !== null) this.drive.measure(this);
     for (let left = wanted; left > 0; ) {
       const isDriven = this.direction > 0 && this.drive.wind !== null, before = this.generation;
       const most = this.direction > 0 ? Infinity : this.generation - this.history.lastGeneration;
@@ -144,7 +154,8 @@ export class Flow {
   /** The gas is back where the way back ends. */
   arrive() {
     const { began, isCut, origin } = this.history;
-    if (isCut) this.notes.push(`The way back begins at generation ${count(origin)}: what was done before took more than 64 MB.`);
+    const begins = `The way back begins at generation ${count(origin)}`;
+    if (isCut) this.notes.push(`${begins}: what was done before took more than 64 MB.`);
     this.turn();
     this.found = this.cells.differing(began);
     this.begin();

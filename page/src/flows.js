@@ -3,13 +3,13 @@ import { Flow } from "./flow.js";
 import { Watched } from "./frames.js";
 import { GASES, SOLID } from "./gases.js";
 import { ProvedKernel, ScriptKernel } from "./kernel.js";
+import { MOST_CELLS } from "./messages.js";
 import { readScene } from "./scenes.js";
 import { drawn } from "./starts.js";
 import { Stroke, cleared } from "./tools.js";
 
 /** @typedef {import("./messages.js").Commands} Commands */
 
-const MOST_CELLS = 1 << 22;
 const MOST_UNDO = 50;
 const count = (value) => value.toLocaleString("en");
 
@@ -42,17 +42,16 @@ export class Flows {
     this.strokes = new Map();
   }
 
-  /**
-   * Takes the engine, if there is one.
-   * @param {string} engine @returns {import("./messages.js").Answers["hello"]}
-   */
-  begin(engine) {
+  /** Takes the engine: all flows go on in it. @param {Commands["engine"]} engine @returns {{ fault: string }} */
+  take({ text }) {
     try {
-      if (engine) this.make = provedOf(engine);
-      return { engine: engine ? "proved" : "script", most: MOST_CELLS, fault: "" };
+      this.make = provedOf(text);
     } catch (refused) {
-      return { engine: "script", most: MOST_CELLS, fault: refused.message };
+      return { fault: String(refused) };
     }
+    const kept = this.past.flatMap((one) => ("watched" in one ? one.watched : []));
+    for (const { flow, twin } of [...this.watched, ...kept]) [flow, twin].forEach((one) => one?.moveTo(this.make));
+    return { fault: "" };
   }
 
   /** New flows. The ones before can be had again. @param {Flow[]} flows @param {string} state */
@@ -93,12 +92,16 @@ export class Flows {
     const gas = GASES[name];
     if (!this.watched.every(({ flow }) => fits(flow, gas))) {
       this.start({ flows, state });
-      return this.watched[0].flow.notes.push(`These cells cannot be cells of ${name}, so this is a new start. Undo brings the old gas back.`);
+      const why = `These cells cannot be cells of ${name}, so this is a new start.`;
+      return this.watched[0].flow.notes.push(`${why} Undo brings the old gas back.`);
     }
     this.past = [];
-    this.watched = this.watched.map(({ flow: { cells, chirality, seed, sceneGeneration: generation, drive: { wind } } }) => {
-      const states = Uint8Array.from({ length: cells.number }, (_, at) => cells.state(at)), { width, height } = cells;
-      return new Watched(this.flowOf({ gas, width, height, states, chirality, seed, generation, wind }));
+    this.watched = this.watched.map(({ flow: old }) => {
+      const { cells, chirality, seed, sceneGeneration: generation, drive: { wind }, shape } = old;
+      const { width, height } = cells;
+      const states = Uint8Array.from({ length: cells.number }, (_, at) => cells.state(at));
+      const flow = this.flowOf({ gas, width, height, states, chirality, seed, generation, wind });
+      return new Watched(Object.assign(flow, { shape }));
     });
   }
 

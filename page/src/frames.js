@@ -3,8 +3,10 @@ import { blocks, keyStream } from "./keystream.js";
 import { SOLID } from "./gases.js";
 import { TimeMean } from "./fields.js";
 import { Flow } from "./flow.js";
+import { copied } from "./kernel.js";
+import { runsOf } from "./runs.js";
 import { Stream } from "./stream.js";
-import { sumsOf } from "./sums.js";
+import { sumsOf, totalsOf } from "./sums.js";
 
 /**
  * @typedef {import("./messages.js").Frame} Frame
@@ -12,7 +14,7 @@ import { sumsOf } from "./sums.js";
  * @typedef {import("./cells.js").Place} Place
  */
 
-/** The rows of a block of so many columns, so that it is about square. @param {import("./gases.js").Gas} gas @param {number} columns */
+/** The rows of a block that is about square. @param {import("./gases.js").Gas} gas @param {number} columns */
 const rowsOf = ({ apart }, columns) => Math.max(1, Math.round(columns / apart));
 
 /** A flow as it is looked at. */
@@ -30,12 +32,9 @@ export class Watched {
 
   /** The gas goes on beside itself, to be compared. @param {import("./kernel.js").MakeKernel} make */
   split(make) {
-    const { gas, cells, kernel, chirality, seed, generation, drive, direction } = this.flow;
+    const { kernel, chirality, seed, generation, drive, direction } = this.flow;
     if (this.twin || direction < 0) return;
-    const twin = make(gas, cells.width, cells.height);
-    twin.cells.set(kernel.cells);
-    twin.solid.set(kernel.solid);
-    this.twin = new Flow(twin, { chirality, seed, generation, wind: drive.wind });
+    this.twin = new Flow(copied(kernel, make), { chirality, seed, generation, wind: drive.wind });
     this.twin.drive.random = drive.random;
   }
 
@@ -50,7 +49,8 @@ export class Watched {
     if (!this.twin) return undefined;
     const { kernel, cells, gas } = this.flow, { width, height, per, solid } = kernel;
     const one = { ...gas, directions: 1, momenta: /** @type {[number, number][]} */ ([[0, 0]]) };
-    return sumsOf({ ...kernel, width, height, per, solid, gas: one, cells: cells.difference(this.twin.kernel) }, wide, tall).parts[1];
+    const unlike = cells.difference(this.twin.kernel);
+    return sumsOf({ width, height, per, solid, gas: one, cells: unlike }, wide, tall).parts[1];
   }
 
   /** @param {Place} at @param {number} radius */
@@ -82,7 +82,8 @@ export class Watched {
     const x0 = Math.max(0, left), y0 = Math.max(0, top);
     const width = Math.min(cells.width, left + wide) - x0, height = Math.min(cells.height, top + tall) - y0;
     if (width < 1 || height < 1) return null;
-    const before = new Uint8Array(width * height), words = Math.ceil(cells.width / 32), bits = blocks(words * cells.height);
+    const before = new Uint8Array(width * height), words = Math.ceil(cells.width / 32);
+    const bits = blocks(words * cells.height);
     if (chirality === "seeded") keyStream(seed, sceneGeneration, bits);
     else bits.fill(chirality === "left" ? -1 : 0);
     const after = before.map((_, to) => {
@@ -96,21 +97,24 @@ export class Watched {
   /** @param {View} view @param {number} generations since the last frame @returns {Frame} */
   frame(view, generations) {
     const { flow, stream } = this, { gas, cells, kernel, drive, history } = flow, isDriven = drive.wind !== null;
-    this.mean.add(kernel.sums(view.block, rowsOf(gas, view.block)), view.span > 1 ? Math.exp(-generations / view.span) : 0);
+    const sums = kernel.sums(view.block, rowsOf(gas, view.block)), [fluid, particles, px, py] = totalsOf(sums);
+    this.mean.add(sums, view.span > 1 ? Math.exp(-generations / view.span) : 0);
     if (cells.isBuilt) stream.look();
     if (generations || !stream.generations) stream.add(generations);
-    const [fluid, particles, px, py] = flow.totals(), means = this.mean.means(gas, cells.height, view.smooth);
+    const means = this.mean.means(gas, cells.height, view.smooth);
     if (view.field === "difference") means.difference = this.differences(view.block, rowsOf(gas, view.block));
     const walls = cells.isBuilt ? kernel.solid.slice() : null, { columns, rows, width, height } = means.grid;
+    const { generation, direction, found, canTurn, mark, notes } = flow, { origin, isCut } = history;
     const frame = {
-      gas: gas.name, chirality: flow.chirality, seed: flow.seed, width: cells.width, height: cells.height, apart: gas.apart,
-      directions: gas.directions, generation: flow.generation, direction: flow.direction, found: flow.found,
-      canTurn: flow.canTurn, origin: history.origin, isCut: history.isCut, fluid, particles,
+      gas: gas.name, apart: gas.apart, directions: gas.directions, width: cells.width, height: cells.height,
+      per: kernel.per, chirality: flow.chirality, seed: flow.seed, generation, direction, found, canTurn, origin, isCut,
+      fluid, particles,
       u: (isDriven ? drive.velocity.found : null) ?? (px * gas.units[0]) / (particles || 1),
       v: (py * gas.units[1]) / (particles || 1), wind: drive.wind, force: drive.force.found,
       fastest: stream.fastest, measured: stream.measured, flow: stream.found, field: view.field,
       ...this.mean.shown(view.field, means), middle: means.middle, columns, rows, block: width, blockRows: height,
-      cells: this.windowed(view.window), walls, per: kernel.per, probe: this.probed, mark: flow.mark, notes: flow.notes,
+      cells: this.windowed(view.window), walls, runs: flow.shape ? runsOf(kernel.solid, flow.shape) : "",
+      probe: this.probed, mark, notes,
     };
     cells.isBuilt = false;
     flow.notes = [];

@@ -1,19 +1,20 @@
-// The gases: their directions and collisions, and what a state is. docs/FORMATS.md has the rules. A state is a byte: a bit
-// per direction, counterclockwise from east, the seventh at rest, or SOLID.
+// The gases: their directions and collisions, and what a state is. docs/FORMATS.md has the rules. A state is a byte: a
+// bit per direction, counterclockwise from east, the seventh at rest, or SOLID.
 //
-// PLANES. A lattice has a bit per direction and cell, 32 cells to a word. Each row has an even number of words, so the same
-// memory is rows of 64 bits: the words of direction 0, then of direction 1, and so on, as in include/fhpgas.h.
+// PLANES. A lattice has a bit per direction and cell, 32 cells to a word. Each row has an even number of words, so the
+// same memory is rows of 64 bits: the words of direction 0, then of direction 1, and so on, as in include/fhpgas.h.
 export const SOLID = 0x80;
 const ROOT3 = Math.sqrt(3);
 
 /**
  * @typedef {[down: number, even: number, odd: number]} Move rows down to the cell that a particle comes from, and the
  *   columns that it moves from an even and from an odd row
- * @typedef {(cells: Int32Array, at: number, per: number, words: number, bits: Int32Array, from: number) => void} Collide
+ * @typedef {(cells: Int32Array, at: number, per: number, words: number, bits: Int32Array, from: number) => void
+ *   } Collide
  *   collides the words of a row that begins at `at`, where `bits` has a 1 if a pair rotates to the left
  * @typedef {"seeded" | "left" | "right"} Chirality
- * @typedef {{ name: string, number: number, directions: number, moves: Move[], apart: number, collide: Collide, sound: number,
- *   isHexagonal: boolean, units: [number, number], momenta: [number, number][] }} Gas
+ * @typedef {{ name: string, number: number, directions: number, moves: Move[], apart: number, collide: Collide,
+ *   sound: number, isHexagonal: boolean, units: [number, number], momenta: [number, number][] }} Gas
  *   the distance of rows, the speed of sound, and the momenta of the directions as multiples of the two units
  */
 

@@ -1,26 +1,25 @@
-// What was done to the cells and when, so that the way back can undo it: bits that were flipped, by cell and generation.
+// What was done to the cells and when, so that the way back can undo it: flipped bits, by cell and generation.
 
 /**
  * @typedef {import("./gases.js").Chirality} Chirality
- * @typedef {{ generation: number, kept: ReturnType<import("./cells.js").Cells["kept"]>, places: Uint32Array, bits: Uint8Array,
- *   length: number }} Segment
- *   the cells of a generation, and the flips from then on: of each patch the flips, and then its generation, counted from
- *   the segment's, with no bits
+ * @typedef {ReturnType<import("./cells.js").Cells["kept"]>} Kept
+ * @typedef {{ generation: number, kept: Kept, generations: number[], begins: number[], flips: number[] }} Segment
+ *   the cells of a generation, and the patches from then on: their generations, where their flips begin, and all flips
+ * @typedef {{ place: number, bits: number, turning?: Chirality }} Flip `turning` is how pairs turned before
  */
 
-const ENTRY = 5; // bytes of a flip
+const ENTRY = 8; // bytes of a number
+const MOST_SEGMENTS = 4;
 const CHIRALITIES = /** @type {Chirality[]} */ (["seeded", "left", "right"]);
 const TURNING = 2 ** 32 - 1; // in the place of a cell: how pairs turned before, as bits
 
 export class History {
-  /** @param {number} most bytes of flips that are kept */
+  /** @param {number} most bytes of patches that are kept */
   constructor(most) {
     this.most = most;
     /** @type {Segment[]} */
     this.segments = [];
-    this.isOpen = false;
-    this.last = 0; // the generation of the last patch
-    this.isCut = false; // old flips were given up
+    this.isCut = false; // old patches were given up
   }
 
   /** The generation that the way back reaches. */
@@ -32,79 +31,61 @@ export class History {
     return this.segments[0].kept;
   }
 
-  /** From here on the way back is exact. @param {number} generation @param {Segment["kept"]} kept */
-  begin(generation, kept) {
-    this.segments = [];
-    this.isOpen = this.isCut = false;
-    this.grow(generation, kept);
-  }
-
-  /** @param {number} generation @param {Segment["kept"]} kept */
-  grow(generation, kept) {
-    this.segments.push({ generation, kept, places: new Uint32Array(256), bits: new Uint8Array(256), length: 0 });
-    if (this.segments.length <= 4) return;
-    this.segments.shift();
-    this.isCut = true;
-  }
-
-  /** A patch of this generation begins, if none is open. @param {number} generation @param {() => Segment["kept"]} keep */
-  open(generation, keep) {
-    if (this.isOpen && this.last === generation) return;
-    this.close();
-    const top = this.top;
-    if (top.length * ENTRY > this.most / 4 && top.generation < generation) this.grow(generation, keep());
-    this.isOpen = true;
-    this.last = generation;
-  }
-
   get top() {
     return this.segments[this.segments.length - 1];
   }
 
-  close() {
-    if (this.isOpen) this.push(this.last - this.top.generation, 0);
-    this.isOpen = false;
+  /** From here on the way back is exact. @param {number} generation @param {Kept} kept */
+  begin(generation, kept) {
+    this.segments = [];
+    this.grow(generation, kept);
+    this.isCut = false;
+  }
+
+  /** @param {number} generation @param {Kept} kept */
+  grow(generation, kept) {
+    this.segments.push({ generation, kept, generations: [], begins: [], flips: [] });
+    this.isCut ||= this.segments.length > MOST_SEGMENTS;
+    this.segments.splice(0, this.segments.length - MOST_SEGMENTS);
+  }
+
+  /** A patch of this generation begins, if none has. @param {number} generation @param {() => Kept} keep */
+  open(generation, keep) {
+    const { generations, flips, generation: first } = this.top;
+    if (generations[generations.length - 1] === generation) return;
+    const isFull = ENTRY * (flips.length + 2 * generations.length) > this.most / MOST_SEGMENTS;
+    if (isFull && first < generation) this.grow(generation, keep());
+    this.top.generations.push(generation);
+    this.top.begins.push(this.top.flips.length);
   }
 
   /** @param {number} place @param {number} bits */
   push(place, bits) {
-    const top = this.top;
-    if (top.length === top.places.length) {
-      const [places, kinds] = [new Uint32Array(2 * top.length), new Uint8Array(2 * top.length)];
-      places.set(top.places);
-      kinds.set(top.bits);
-      Object.assign(top, { places, bits: kinds });
-    }
-    top.places[top.length] = place;
-    top.bits[top.length++] = bits;
+    this.top.flips.push(256 * place + bits);
   }
 
   /** How pairs turned before this. @param {Chirality} before */
   pushTurning(before) {
-    this.push(TURNING, 1 + CHIRALITIES.indexOf(before));
+    this.push(TURNING, CHIRALITIES.indexOf(before));
   }
 
   /** The generation of the last patch, or that of the origin. */
   get lastGeneration() {
-    this.close();
-    const { segments } = this;
-    while (segments.length > 1 && !this.top.length) segments.pop();
-    const { generation, places, length } = this.top;
-    return length ? generation + places[length - 1] : generation;
+    while (this.segments.length > 1 && !this.top.generations.length) this.segments.pop();
+    return this.top.generations[this.top.generations.length - 1] ?? this.top.generation;
   }
 
   get isEmpty() {
-    return this.segments.length === 1 && !this.top.length && !this.isOpen;
+    return this.segments.length === 1 && !this.top.generations.length;
   }
 
-  /** Takes the last patch away: its flips, the last one first, and how pairs turned before. */
+  /** Takes the last patch away: its flips, the last one first. @returns {Flip[]} */
   pop() {
-    this.close();
-    const top = this.top, flips = [];
-    for (top.length--; top.length && top.bits[top.length - 1]; top.length--) {
-      const place = top.places[top.length - 1], bits = top.bits[top.length - 1];
-      flips.push(place === TURNING ? { turning: CHIRALITIES[bits - 1] } : { place, bits });
-    }
-    return flips;
+    const { generations, begins, flips } = this.top;
+    generations.pop();
+    return flips.splice(begins.pop() ?? 0).reverse().map((flip) => {
+      const place = Math.floor(flip / 256), bits = flip % 256;
+      return place === TURNING ? { place: 0, bits: 0, turning: CHIRALITIES[bits] } : { place, bits };
+    });
   }
 }

@@ -1,58 +1,32 @@
-// The kernels: they own a lattice's planes and advance them. Both have one interface; the cells are the same, bit for bit.
+// The kernels: they own a lattice's planes and advance them. Their cells are the same, bit for bit.
 import { blocks, keyStream } from "./keystream.js";
-import { sumsOf, totalsOf } from "./sums.js";
+import { bits, sumsOf } from "./sums.js";
 
 /**
  * @typedef {import("./gases.js").Gas} Gas
  * @typedef {import("./gases.js").Chirality} Chirality
  * @typedef {import("./sums.js").Sums} Sums
- * @typedef {{ gas: Gas, width: number, height: number, per: number, cells: Int32Array, solid: Int32Array,
- *   wallsChanged: () => void, sums: (wide: number, tall: number) => Sums, totals: () => number[],
- *   advance: (count: number, generation: number, chirality: Chirality, seed: string) => void }} Kernel
- *   `per` words of 32 cells a row and plane; cells and solid are the planes now; wallsChanged is called after an edit of
- *   solid; sums are of blocks of wide x tall cells, totals of all
  * @typedef {(gas: Gas, width: number, height: number) => Kernel} MakeKernel
+ * @typedef {(count: number, generation: number, chirality: Chirality, seed: string) => void} Advance
  */
 
-/** Words of 32 cells of a row of a plane. @param {number} width */
-export const wordsPer = (width) => 2 * Math.ceil(width / 64);
+const LINK = 5; // numbers of an entry of Kernel.links
 
-/** The kernel in JavaScript: its own copy of the rules, for browsers without the engine. */
-export class ScriptKernel {
+/** A lattice's planes: `per` words of 32 cells a row and plane. */
+export class Kernel {
   /** @param {Gas} gas @param {number} width @param {number} height */
   constructor(gas, width, height) {
     this.gas = gas;
     this.width = width;
     this.height = height;
-    this.per = wordsPer(width);
+    this.per = 2 * Math.ceil(width / 64);
     this.words = Math.ceil(width / 32);
     this.top = (width - 1) & 31;
     this.last = -1 >>> (31 - this.top) | 0;
-    this.cells = new Int32Array(height * gas.directions * this.per);
-    this.moved = new Int32Array(this.cells.length);
-    this.solid = new Int32Array(height * this.per);
-    this.blocked = new Int32Array(height * gas.moves.length * this.per);
-    this.near = new Uint8Array(height);
-    this.bits = blocks(this.words * height);
-    this.wall = new Int32Array(this.per).fill(-1, 0, this.words); // the row above the first, and below the last
-    this.wall[this.words - 1] = this.last;
-    this.wallsChanged();
-  }
-
-  /** Finds which particles would have come out of a solid cell, and which rows have such. */
-  wallsChanged() {
-    const { per, height, solid, blocked, near, gas: { moves } } = this;
-    near.fill(0);
-    for (let y = 0; y < height; y++) {
-      for (let i = 0; i < moves.length; i++) {
-        const to = (y * moves.length + i) * per, row = y + moves[i][0], isOut = row < 0 || row >= height;
-        this.shift(isOut ? this.wall : solid, isOut ? 0 : row * per, blocked, to, moves[i][row & 1 ? 2 : 1]);
-        for (let k = 0; k < this.words; k++) {
-          if (blocked[to + k] | solid[y * per + k]) near[y] = 1;
-          blocked[to + k] &= ~solid[y * per + k];
-        }
-      }
-    }
+    this.cells = this.solid = new Int32Array(0);
+    /** Where walls are near: a word of a plane, that of the opposite direction, its solid cells, those to which
+     * particles of the opposite direction come back, and the momentum of the direction eastwards. */
+    this.links = new Int32Array(0);
   }
 
   /** A row's particles move a column to the east (1), to the west (-1), or none. */
@@ -72,52 +46,92 @@ export class ScriptKernel {
     } else for (let j = 0; j < words; j++) target[t + j] = source[s + j];
   }
 
-  /** Some generations: all particles collide, then move. Two sets of planes take turns. */
+  /** Finds the links, after an edit of solid cells. */
+  wallsChanged() {
+    const { gas: { moves, directions, momenta }, solid, height, per, words, last } = this, found = [];
+    const wall = new Int32Array(per).fill(-1), ahead = new Int32Array(per); // above the first row, and below the last
+    wall[words - 1] = last;
+    for (let y = 0; y < height; y++) {
+      for (let i = 0; i < moves.length; i++) {
+        const [down, even, odd] = moves[i], row = y + down, isIn = row >= 0 && row < height;
+        const at = (y * directions + i) * per, back = (y * directions + (i + moves.length / 2) % moves.length) * per;
+        this.shift(isIn ? solid : wall, isIn ? row * per : 0, ahead, 0, row & 1 ? odd : even);
+        for (let k = 0; k < words; k++) {
+          const inside = solid[y * per + k];
+          if (ahead[k] | inside) found.push(at + k, back + k, inside, ahead[k] & ~inside, momenta[i][0]);
+        }
+      }
+    }
+    this.links = Int32Array.from(found);
+  }
+
+  /** The momentum eastwards that walls gave in the last generation, as a multiple of the gas's unit. */
+  pushed() {
+    const { links, cells } = this;
+    let sum = 0;
+    for (let k = 0; k < links.length; k += LINK) sum += 2 * links[k + 4] * bits(cells[links[k]] & links[k + 3]);
+    return sum;
+  }
+
+  /** Sums of blocks, 1, 2, 4, 8, 16 or 32 columns wide. @param {number} wide @param {number} tall @returns {Sums} */
+  sums(wide, tall) {
+    return sumsOf(this, wide, tall);
+  }
+
+  /** Some generations: all particles collide, then move. @type {Advance} */
+  advance() {
+    throw new Error("each kernel has its own");
+  }
+}
+
+/** The kernel in JavaScript: its own copy of the rules, for browsers without the engine. */
+export class ScriptKernel extends Kernel {
+  /** @param {Gas} gas @param {number} width @param {number} height */
+  constructor(gas, width, height) {
+    super(gas, width, height);
+    this.cells = new Int32Array(height * gas.directions * this.per);
+    this.moved = new Int32Array(this.cells.length);
+    this.solid = new Int32Array(height * this.per);
+    this.bits = blocks(this.words * height);
+    this.wallsChanged();
+  }
+
+  /** @override */
   advance(count, generation, chirality, seed) {
     const isSeeded = chirality === "seeded" && this.gas.isHexagonal;
     if (!isSeeded) this.bits.fill(chirality === "left" ? -1 : 0);
     for (let g = generation; g < generation + count; g++) {
       if (isSeeded) keyStream(seed, g, this.bits);
       collideRows(this, this.bits, this.words);
-      for (let y = 0; y < this.height; y++) this.moveRow(y);
-      [this.cells, this.moved] = [this.moved, this.cells];
+      this.move();
     }
   }
 
-  /** A particle that would enter a solid cell stays and reverses: `back` has the particles of the opposite direction. */
-  moveRow(y) {
-    const { per, words, cells, moved, solid, blocked, height, gas: { moves, directions } } = this, here = y * directions * per;
-    for (let i = 0; i < moves.length; i++) {
-      const row = y + moves[i][0], to = here + i * per, from = (row * directions + i) * per;
-      if (row < 0 || row >= height) moved.fill(0, to, to + per);
-      else this.shift(cells, from, moved, to, moves[i][row & 1 ? 2 : 1]);
-      if (!this.near[y]) continue;
-      const back = here + ((i + moves.length / 2) % moves.length) * per, stop = (y * moves.length + i) * per;
-      for (let k = 0; k < words; k++) {
-        moved[to + k] = moved[to + k] & ~solid[y * per + k] | cells[back + k] & blocked[stop + k];
-      }
+  /** Two sets of planes take turns. A particle that would enter a solid cell stays and reverses. */
+  move() {
+    const { per, cells, moved, links, height, gas: { moves, directions } } = this, all = directions * per;
+    for (let y = 0; y < height; y++) {
+      moves.forEach(([down, even, odd], i) => {
+        const row = y + down, to = y * all + i * per;
+        if (row < 0 || row >= height) moved.fill(0, to, to + per);
+        else this.shift(cells, row * all + i * per, moved, to, row & 1 ? odd : even);
+      });
+      for (let k = y * all + moves.length * per; k < (y + 1) * all; k++) moved[k] = cells[k];
     }
-    const rest = here + moves.length * per, end = here + directions * per;
-    for (let k = rest; k < end; k++) moved[k] = cells[k];
-  }
-
-  /** @param {number} wide @param {number} tall */
-  sums(wide, tall) {
-    return sumsOf(this, wide, tall);
-  }
-
-  totals() {
-    return totalsOf(this);
+    for (let k = 0; k < links.length; k += LINK) {
+      moved[links[k]] = moved[links[k]] & ~links[k + 2] | cells[links[k + 1]] & links[k + 3];
+    }
+    this.cells = moved;
+    this.moved = cells;
   }
 }
 
 /** Collides all rows: `bits` has `words` words a row. @param {Kernel} kernel */
-function collideRows({ gas, cells, per, height, width }, bits, words) {
-  const used = Math.ceil(width / 32);
+function collideRows({ gas, cells, per, height, words: used }, bits, words) {
   for (let y = 0; y < height; y++) gas.collide(cells, y * gas.directions * per, per, used, bits, y * words);
 }
 
-/** Collides all cells to one side, without moving them. */
+/** Collides all cells to one side, without moving them. @param {Kernel} kernel @param {Chirality} side */
 export function collideAll(kernel, side) {
   collideRows(kernel, new Int32Array(kernel.per).fill(side === "left" ? -1 : 0), 0);
 }
@@ -131,69 +145,84 @@ export function turnAll({ gas, cells, per, height }) {
   }
 }
 
+/** The same cells in another kernel. @param {Kernel} kernel @param {MakeKernel} make */
+export function copied({ gas, width, height, cells, solid }, make) {
+  const kernel = make(gas, width, height);
+  kernel.cells.set(cells);
+  kernel.solid.set(solid);
+  kernel.wallsChanged();
+  return kernel;
+}
+
 const CHIRALITIES = { seeded: 0, left: 1, right: 2 }; // of include/fhpgas.h
 const INTERFACE = 1;
 
-/** The proved engine, a WebAssembly module with the calls of include/fhpgas.h. Only this class knows its memory's layout. */
-export class ProvedKernel {
+/** The proved engine, a module with the calls of include/fhpgas.h. Only this class knows its memory's layout. */
+export class ProvedKernel extends Kernel {
   /** @param {WebAssembly.Module} module @param {Gas} gas @param {number} width @param {number} height */
   constructor(module, gas, width, height) {
-    this.gas = gas;
-    this.width = width;
-    this.height = height;
-    this.per = wordsPer(width);
+    super(gas, width, height);
     /** @type {any} */
     this.calls = new WebAssembly.Instance(module).exports;
     if (this.calls.fhpgas_interface() !== INTERFACE) throw new Error("engine.js is of another version than this page");
     this.end = Math.ceil(Number(this.calls.__heap_base.value) / 64) * 64;
-    this.states = this.place((height * gas.directions * this.per) / 2);
-    this.walls = this.place((height * this.per) / 2);
-    this.work = this.place(Number(this.calls.fhpgas_work_words(gas.number, width)));
+    this.states = this.room((height * gas.directions * this.per) / 2);
+    this.walls = this.room((height * this.per) / 2);
+    this.work = this.room(Number(this.calls.fhpgas_work_words(gas.number, width)));
+    /** @type {{ number: number, given: bigint[] }} where sums of so many blocks go */
+    this.table = { number: 0, given: [] };
+    this.look();
+    this.wallsChanged();
   }
 
-  /** An array of words of 64 bits: where it is, and what a call is given for it. @param {number} words */
-  place(words) {
+  /** Room for words of 64 bits, as a call is given it: where it is, and the number. @param {number} words */
+  room(words) {
     const at = this.end, { memory } = this.calls;
     this.end += 64 * Math.ceil(words / 8);
-    const pages = Math.ceil((this.end - memory.buffer.byteLength) / 65536);
-    if (pages > 0) memory.grow(pages);
-    return { at, words, given: [BigInt(at), BigInt(words)], view: new Int32Array(memory.buffer, at, 2 * words) };
+    memory.grow(Math.max(0, Math.ceil((this.end - memory.buffer.byteLength) / 65536)));
+    return [BigInt(at), BigInt(words)];
   }
 
-  /** The words of 32 bits of an array, anew if the memory is another buffer, because it grew. */
-  wordsOf(place) {
-    const { buffer } = this.calls.memory;
-    if (place.view.buffer !== buffer) place.view = new Int32Array(buffer, place.at, 2 * place.words);
-    return place.view;
+  /** The words of 32 bits of a room. @param {bigint[]} room */
+  wordsOf(room) {
+    const [at, words] = room.map(Number);
+    return new Int32Array(this.calls.memory.buffer, at, 2 * words);
   }
 
-  get cells() {
-    return this.wordsOf(this.states);
+  /** Sees the planes, anew each time that the memory has grown. */
+  look() {
+    this.cells = this.wordsOf(this.states);
+    this.solid = this.wordsOf(this.walls);
   }
 
-  get solid() {
-    return this.wordsOf(this.walls);
+  /** Makes a call with the lattice's arrays. It returns 0 if it refuses nothing. */
+  call(name, numbers, ...rooms) {
+    const status = this.calls[name](this.gas.number, ...numbers, ...rooms.flat());
+    if (status) throw new Error(`the engine refuses ${name} with status ${status}`);
   }
 
-  wallsChanged() {}
-
+  /** @override */
   advance(count, generation, chirality, seed) {
-    const { gas, width, height, walls, states, work } = this, first = [BigInt(seed), BigInt(generation), BigInt(count)];
-    lawful(this.calls.fhpgas_advance(gas.number, CHIRALITIES[chirality], ...first, width, height, 0, 0, width, ...walls.given,
-      ...states.given, ...work.given));
+    const { width, height, walls, states, work } = this, when = [BigInt(seed), BigInt(generation), BigInt(count)];
+    this.call("fhpgas_advance", [CHIRALITIES[chirality], ...when, width, height, 0, 0, width], walls, states, work);
   }
 
-  /** @param {number} wide @param {number} tall */
+  /** @override */
   sums(wide, tall) {
-    return sumsOf(this, wide, tall);
+    if (!this.calls.fhpgas_sums) return super.sums(wide, tall);
+    const { width, height, walls, states } = this;
+    const columns = Math.ceil(width / wide), rows = Math.ceil(height / tall), number = columns * rows;
+    if (this.table.number < number) {
+      this.table = { number, given: this.room(4 * number) };
+      this.look();
+    }
+    const room = [this.table.given[0], BigInt(4 * number)];
+    this.call("fhpgas_sums", [width, height, wide, tall], walls, states, room);
+    const words = this.wordsOf(room), parts = [0, 1, 2, 3].map((part) => {
+      const found = new Float32Array(number);
+      for (let i = 0; i < number; i++) found[i] = words[8 * i + 2 * part]; // of 64 bits the lower ones
+      return found;
+    });
+    return { columns, rows, width: wide, height: tall, parts };
   }
-
-  totals() {
-    return totalsOf(this);
-  }
-}
-
-/** A call of the engine returns 0, if it refuses nothing. @param {number} status */
-function lawful(status) {
-  if (status) throw new Error(`the engine refuses a call with status ${status}`);
 }

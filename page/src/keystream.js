@@ -1,5 +1,5 @@
-// The key stream: ChaCha20 with a counter and a stream of 64 bits each. The random bits of collisions and the filling of a
-// scene are taken from it, as docs/FORMATS.md says.
+// The key stream: ChaCha20 with a counter and a stream of 64 bits each. The random bits of collisions and the filling
+// of a scene are taken from it, as docs/FORMATS.md says.
 
 /** Writes the 16 words of a block (RFC 8439, 2.3) of this state, 16 words. */
 export function block(state, out, at) {
@@ -38,7 +38,7 @@ const high = (value) => Number(BigInt(value) >> 32n) | 0;
 /** Room for whole blocks with so many words. @param {number} words */
 export const blocks = (words) => new Int32Array(Math.ceil(words / 16) * 16);
 
-/** Fills whole blocks of words from a stream of a seed. @param {string | bigint} seed @param {bigint | number} stream */
+/** Fills whole blocks from a stream of a seed. @param {string | bigint} seed @param {bigint | number} stream */
 export function keyStream(seed, stream, out) {
   const state = Int32Array.of(0x61707865, 0x3320646e, 0x79622d32, 0x6b206574, low(seed), high(seed), 0, 0, 0, 0, 0, 0,
     0, 0, low(stream), high(stream));

@@ -3,19 +3,22 @@ import { GASES } from "./gases.js";
 
 /**
  * @typedef {import("./messages.js").Frame} Frame
- * @typedef {{ filling: number, speed: number, mach: number, fastestMach: number, g?: number, nu?: number, reynolds?: number, isCorrelated?: boolean,
- *   turnover?: number, warnings: string[] }} Numbers
+ * @typedef {{ filling: number, speed: number, mach: number, fastestMach: number, g?: number, nu?: number,
+ *   reynolds?: number, isCorrelated?: boolean, turnover?: number, warnings: string[] }} Numbers
  */
 
 const FEW = 100; // particles that are no fluid
 export const MOST_MACH = 0.4; // above it the density follows the speed
 
-/** The fillings at which measured viscosities exceed Boltzmann's by more than a tenth, as python/fhpgas/theory.py has them. */
-export const CORRELATED = { fhp1: { seeded: [0, 0.19], left: [0, 0.2] }, "fhp-rest": { seeded: [0.08, 0.65], left: [0.05, 0.65] } };
+/** Where measured viscosities exceed Boltzmann's by more than a tenth, as python/fhpgas/theory.py has it. */
+export const CORRELATED = {
+  fhp1: { seeded: [0, 0.19], left: [0, 0.2] },
+  "fhp-rest": { seeded: [0.08, 0.65], left: [0.05, 0.65] },
+};
 
 /**
- * Boltzmann's shear viscosity, (1 / lambda - 1/2) / 4: collisions undo the share lambda of a shear in a generation. It has
- * an imaginary part if all pairs turn to one side (Frisch and others, Complex Systems 1 (1987) 649).
+ * Boltzmann's shear viscosity, (1 / lambda - 1/2) / 4: collisions undo the share lambda of a shear in a generation. It
+ * has an imaginary part if all pairs turn to one side (Frisch and others, Complex Systems 1 (1987) 649).
  */
 export function viscosity(gas, d, chirality) {
   const pairs = d * (1 - d) ** 3, re = (gas === "fhp1" ? 3 : 7 - 4 * d) * pairs;
@@ -34,12 +37,15 @@ export function numbersOf({ gas, directions, particles, fluid, u, v, chirality, 
   const filling = particles / fluid / directions, speed = Math.hypot(u, v), { sound } = GASES[gas], warnings = [];
   const found = { filling, speed, mach: speed / sound, fastestMach: fastest / sound, warnings };
   if (found.fastestMach > MOST_MACH) {
-    warnings.push(`Mach ${found.fastestMach.toFixed(2)} in the fastest block: above ${MOST_MACH} the gas is no incompressible fluid.`);
+    const fast = `Mach ${found.fastestMach.toFixed(2)} in the fastest block`;
+    warnings.push(`${fast}: above ${MOST_MACH} the gas is no incompressible fluid.`);
   }
   if (gas === "hpp") warnings.push("hpp is no fluid: it has no viscosity and no Reynolds number.");
   if (gas === "hpp" || particles < FEW || !(filling > 0.01 && filling < 0.99)) return found;
   const g = galilean(directions, filling), nu = viscosity(gas, filling, chirality), carried = Math.abs(g) * speed;
-  const [low, high] = CORRELATED[gas][chirality === "right" ? "left" : chirality], isCorrelated = low < filling && filling < high;
-  if (isCorrelated) warnings.push(`At this filling ${gas} is measured to be more viscous than ν by a tenth or more, so Reynolds is too high.`);
-  return { ...found, isCorrelated, g, nu, reynolds: length > 0 ? (carried * length) / nu : undefined, turnover: carried ? length / carried : undefined };
+  const [low, high] = CORRELATED[gas][chirality === "right" ? "left" : chirality];
+  const isCorrelated = low < filling && filling < high, more = "more viscous than ν by a tenth or more";
+  if (isCorrelated) warnings.push(`At this filling ${gas} is measured to be ${more}, so Reynolds is too high.`);
+  const reynolds = length > 0 ? (carried * length) / nu : undefined, turnover = carried ? length / carried : undefined;
+  return { ...found, isCorrelated, g, nu, reynolds, turnover };
 }

@@ -1,16 +1,18 @@
 // The page: what it tells the worker, and what it does with its answers. What is done with a gas is done in the worker.
-import { applyState, isForeign, setControl, stateText, writeAddress } from "./address.js";
+import { applyState, isForeign, isShort, setControl, stateText, writeAddress } from "./address.js";
 import { paintChart } from "./chart.js";
 import { makeControls, showControls } from "./controls.js";
 import { contextOf, count, readTheme, theme, write } from "./draw.js";
 import { record, save, takeScenes } from "./files.js";
 import { GASES } from "./gases.js";
+import { MOST_CELLS } from "./messages.js";
 import { numbersOf } from "./numbers.js";
-import { paintNumbers, said, say, speeds } from "./panel.js";
+import { paintNumbers, said, speeds } from "./panel.js";
 import { paintLattice, wallsOf } from "./picture.js";
 import { listenToPointers, setProbe, zoom } from "./pointer.js";
 import { PRESETS } from "./presets.js";
-import { $, GAP, NEAR, amount, chosen, head, look, marks, motion, paneWidth, setText, shown, view } from "./state.js";
+import { $, GAP, NEAR, amount, chosen, element, head, look, marks, motion } from "./state.js";
+import { paneWidth, setText, shown, view } from "./state.js";
 import { paintStrip, stripHeight } from "./strip.js";
 import { BLOCKS, SPANS, tableOf } from "./table.js";
 import { Tracers } from "./tracers.js";
@@ -18,25 +20,41 @@ import { Tracers } from "./tracers.js";
 /**
  * @typedef {import("./messages.js").Commands} Commands
  * @typedef {import("./messages.js").Answers} Answers
+ * @typedef {import("./messages.js").Frame} Frame
  * @typedef {<K extends keyof Commands>(name: K, value: Commands[K]) => void} Tell
  */
 
-const worker = new Worker(URL.createObjectURL(new Blob([$("worker").textContent], { type: "text/javascript" })));
-const live = { notes: [], engine: "", errors: 0, isScheduled: false, noteTimer: 0, addressTimer: 0,
-  pending: { at: null, probe: null } }; // of the address, for the first frame
+const live = {
+  /** @type {string[]} */
+  notes: [],
+  engine: "", // "proved" or "script", once it is known whether there is an engine
+  hasMoved: false,
+  isScheduled: false,
+  noteTimer: 0,
+  addressTimer: 0,
+  /** @type {{ at: number[] | null, probe: number[] | null }} of the address, for the first frame */
+  pending: { at: null, probe: null },
+};
+const SCRIPT = "The kernel in this page computes the cells";
+const COPY = "a copy in JavaScript, free to pass on, compared with fhpgas bit for bit";
+const MOST = `At most ${count(MOST_CELLS)} cells.`;
 const tracers = [new Tracers(), new Tracers()];
 const isStill = matchMedia("(prefers-reduced-motion: reduce)").matches;
-
-/** @type {Tell} */
-const tell = (name, value) => worker.postMessage({ name, value });
 const preset = () => PRESETS[$("scene").value];
 const isSlow = () => $("pace").value.endsWith(" s");
 
 // -- what the worker says
 
+const worker = new Worker(URL.createObjectURL(new Blob([$("worker").textContent], { type: "text/javascript" })));
+/** @type {Tell} */
+const tell = (name, value) => worker.postMessage({ name, value });
 /** @type {{ [K in keyof Answers]: (value: Answers[K]) => void }} */
 const answers = {
-  hello: greeted,
+  engine: ({ fault }) => {
+    live.engine = fault ? "script" : "proved";
+    if (fault) note(`engine.js does not serve: ${fault}. ${SCRIPT}.`, "bad", 9);
+    else said.engine = `The proved engine computes the cells (engine.js). ${MOST}`;
+  },
   frames: arrived,
   files: ({ files }) => files.forEach(({ text, name }) => save(new Blob([text]), `${name}.toml`)),
   hashes: ({ hashes }) => {
@@ -51,25 +69,30 @@ const answers = {
 worker.onmessage = ({ data }) => answers[/** @type {keyof Answers} */ (data.name)](data.value);
 worker.onerror = ({ message }) => note(`A mistake in this page: ${message}`, "bad");
 
-/** @param {Answers["hello"]} hello */
-function greeted({ engine, most, fault }) {
-  live.engine = engine;
-  const kernel = engine === "proved" ? "The proved engine computes the cells (engine.js)."
-    : "The kernel in this page computes the cells: a copy in JavaScript, free to pass on, compared with fhpgas bit for bit.";
-  say({ engine: `${kernel} At most ${count(most)} cells.` });
-  if (fault) note(`engine.js does not serve: ${fault}. The kernel in this page computes the cells.`, "bad", 9);
-  begin();
+/** Looks for engine.js beside the page. A script that is missing is an error in the console, an object is none. */
+function seekEngine() {
+  const object = /** @type {HTMLObjectElement} */ (element("object", { data: "engine.js" }));
+  object.onerror = () => {
+    live.engine = "script";
+    object.remove();
+  };
+  object.onload = () => {
+    const script = /** @type {HTMLScriptElement} */ (element("script", { src: "engine.js" }));
+    script.onload = () => tell("engine", { text: /** @type {any} */ (globalThis).FHPGAS_ENGINE });
+    object.replaceWith(script);
+  };
+  document.body.append(object);
 }
 
 /** @param {Answers["frames"]} data */
-function arrived(data) {
-  const { frames } = data, isNew = data.serial !== shown.serial, before = isNew ? null : head();
-  const isMoved = !before || frames[0].generation !== before.generation;
+function arrived({ frames, serial, canUndo, took, isRunning, strokes, state }) {
+  const isNew = serial !== shown.serial, before = isNew ? null : head();
+  const isMoved = frames[0].generation !== before?.generation;
   const walls = frames.map((frame, k) => (frame.walls ? wallsOf(frame, frame.walls) : shown.walls[k]));
-  Object.assign(shown, { frames, walls, serial: data.serial, canUndo: data.canUndo, took: data.took, hashes: [], unseen: shown.unseen + 1 });
-  if (!isSlow()) shown.isRunning = data.isRunning;
-  marks.pieces.splice(0, data.strokes);
-  if (isNew) beginAnew(data.state);
+  Object.assign(shown, { frames, walls, serial, canUndo, took, hashes: [], unseen: shown.unseen + 1 });
+  if (!isSlow()) shown.isRunning = isRunning;
+  marks.pieces.splice(0, strokes);
+  if (isNew) beginAnew(state);
   for (const text of frames.flatMap(({ notes }) => notes)) {
     marks.touched = null;
     note(text, "", 9);
@@ -82,14 +105,14 @@ function arrived(data) {
   repaint();
 }
 
-/** Keeps what the probe measured; of many samples every second one. @param {import("./messages.js").Frame} frame */
+/** Keeps what the probe measured; of many samples every second one. @param {Frame} frame */
 function sample({ probe, generation, measured: { incoming } }) {
   if (!marks.probe || String(probe?.at) !== String(marks.probe.at) || !probe) return;
   marks.samples.push({ generation, u: probe.u, v: probe.v, incoming });
   if (marks.samples.length > 8000) marks.samples = marks.samples.filter((_, k) => k % 2);
 }
 
-/** @param {import("./messages.js").Frame | null} before */
+/** @param {Frame | null} before */
 function tellReturn(before) {
   const { found, generation, width, height } = head();
   if (found === null || !before || before.found !== null) return;
@@ -104,18 +127,17 @@ function beginAnew(state) {
     applyState(state);
     introduce();
   }
+  const { wind, chirality, gas } = head(), { at, probe } = live.pending;
   Object.assign(marks, { samples: [], pieces: [], probe: null, touched: null });
   shown.times = [];
   shown.frames.forEach((frame, k) => tracers[k].spread(frame));
-  setControl("keep", head().wind !== null);
-  setControl("chirality", head().chirality);
-  setControl("gas", head().gas);
+  Object.entries({ keep: wind !== null, chirality, gas }).forEach(([id, value]) => setControl(id, value));
   fit();
-  const { at, probe } = live.pending;
   live.pending = { at: null, probe: null };
   if (probe) setProbe(tell, { at: [probe[0], probe[1]], radius: probe[2] });
-  if (at) Object.assign(look, { place: { x: at[0], y: at[1], scale: at[2] }, isWhole: false });
-  if (at) looked();
+  if (!at) return;
+  Object.assign(look, { place: { x: at[0], y: at[1], scale: at[2] }, isWhole: false });
+  looked();
 }
 
 /** @param {string} text @param {"" | "good" | "bad"} kind @param {number} [lasting] seconds */
@@ -130,17 +152,6 @@ function hideNote() {
   $("note").hidden = true;
 }
 
-/** A note with a button. @param {string} text @param {string} label @param {() => void} act */
-function offer(text, label, act) {
-  note(text, "bad", 20);
-  const button = Object.assign(document.createElement("button"), { textContent: label, id: "offer" });
-  button.onclick = () => {
-    hideNote();
-    act();
-  };
-  $("note").append(button);
-}
-
 // -- painting
 
 function repaint() {
@@ -152,25 +163,17 @@ function repaint() {
 /** @param {number} now */
 function paint(now) {
   live.isScheduled = false;
-  const begun = performance.now(), { width, height, context: c } = contextOf(view(), false), { frames } = shown;
-  const place = /** @type {import("./state.js").Corner} */ (look.place), wide = paneWidth(width), frame = head();
+  const begun = performance.now(), { width, height, context: c } = contextOf(view(), false), frame = head();
+  const { y, scale } = /** @type {import("./state.js").Corner} */ (look.place);
   const part = motion.isOn ? Math.min(1, (now - motion.begun) / motion.span) : motion.phase / 2;
   const moment = { isCollided: part > 0.25, glide: Math.max(0, 2 * part - 1) };
-  const bottom = Math.min(height - stripHeight(width), Math.max(60, ((frame.height - 0.5) * frame.apart - place.y) * place.scale + 3));
+  const end = ((frame.height - 0.5) * frame.apart - y) * scale + 3; // of the lattice
+  const bottom = Math.min(height - stripHeight(width), Math.max(60, end));
   c.fillStyle = theme.paper;
   c.fillRect(0, 0, width, height);
-  frames.forEach((one, k) => {
-    c.save();
-    c.beginPath();
-    c.rect(k * (wide + GAP), 0, wide, bottom);
-    c.clip();
-    c.translate(k * (wide + GAP) - place.x * place.scale, -place.y * place.scale);
-    paintLattice({ c, frame: one, scale: place.scale }, shown.walls[k], $("tracers").checked ? tracers[k] : null, moment);
-    c.restore();
-    const caption = frames.length > 1 ? preset().captions[k] ?? "" : "";
-    write(c, caption, k * (wide + GAP) + Math.max(0, -place.x * place.scale) + 10, Math.max(0, (-one.apart / 2 - place.y) * place.scale) + 28, { font: wide < 300 ? "600 14px" : "600 19px" });
-  });
-  paintStrip(c, { width, top: bottom, stage: moment.glide ? "streaming" : moment.isCollided ? "after the collision" : "before the collision" });
+  shown.frames.forEach((_, k) => paintPane(c, k, paneWidth(width), bottom, moment));
+  const stage = moment.glide ? "streaming" : moment.isCollided ? "after the collision" : "before the collision";
+  paintStrip(c, { width, top: bottom, stage });
   if (shown.unseen) painted(begun);
   if (motion.isOn && part < 1) repaint();
   else if (motion.isOn) {
@@ -179,25 +182,44 @@ function paint(now) {
   }
 }
 
+/** One of the pictures. @param {CanvasRenderingContext2D} c */
+function paintPane(c, k, wide, bottom, moment) {
+  const { x, y, scale } = /** @type {import("./state.js").Corner} */ (look.place), left = k * (wide + GAP);
+  const frame = shown.frames[k], font = wide < 300 ? "600 14px" : "600 19px";
+  c.save();
+  c.beginPath();
+  c.rect(left, 0, wide, bottom);
+  c.clip();
+  c.translate(left - x * scale, -y * scale);
+  paintLattice({ c, frame, scale }, shown.walls[k], $("tracers").checked ? tracers[k] : null, moment);
+  c.restore();
+  if (shown.frames.length === 1) return;
+  const caption = [left + Math.max(0, -x * scale) + 10, Math.max(0, (-frame.apart / 2 - y) * scale) + 28];
+  write(c, preset().captions[k] ?? "", caption[0], caption[1], { font });
+}
+
 /** A frame is on the screen: the worker may send the next. @param {number} begun */
 function painted(begun) {
+  const { generation } = head();
   tell("seen", { frames: shown.unseen });
   shown.unseen = 0;
-  shown.times.push([begun, head().generation]);
+  shown.times.push([begun, generation]);
   if (shown.times.length > 50) shown.times.shift();
   paintNumbers();
   paintChart(numbersOf(head(), amount("length")));
   update();
   shown.painted++;
   shown.took.paint = performance.now() - begun;
+  if (generation > 0 && !live.hasMoved) performance.mark("moved", { detail: shown.painted });
+  live.hasMoved ||= generation > 0;
 }
 
 // -- where one looks
 
 /** Shows cells of so many pixels, with a place in the middle of the picture. */
 function lookAt(scale, x, y) {
-  const { clientWidth, clientHeight } = view();
-  look.place = { scale, x: x - paneWidth(clientWidth) / scale / 2, y: y - (clientHeight - stripHeight(clientWidth)) / scale / 2 };
+  const { clientWidth, clientHeight } = view(), high = clientHeight - stripHeight(clientWidth);
+  look.place = { scale, x: x - paneWidth(clientWidth) / scale / 2, y: y - high / scale / 2 };
   look.isWhole = false;
   looked();
 }
@@ -212,7 +234,8 @@ function near() {
 
 function fit() {
   const { clientWidth, clientHeight } = view(), { width, height, apart } = head();
-  const scale = Math.min((paneWidth(clientWidth) - 4) / (width + 0.5), (clientHeight - stripHeight(clientWidth) - 8) / (height * apart), 150);
+  const high = (clientHeight - stripHeight(clientWidth) - 8) / (height * apart);
+  const scale = Math.min((paneWidth(clientWidth) - 4) / (width + 0.5), high, 150);
   lookAt(scale, (width - 0.5) / 2, ((height - 1) * apart) / 2);
   // the picture begins at the top
   if (look.place) look.place.y = Math.max(look.place.y, -apart / 2 - 4 / scale);
@@ -234,7 +257,8 @@ function looked() {
   if (place && shown.frames.length && place.scale >= NEAR) {
     const { clientWidth, clientHeight } = view(), { x, y, scale } = place, { apart } = head();
     const [left, top] = [x, y / apart].map((part) => Math.floor(part) - 1);
-    wanted.window = [left, top, Math.ceil(paneWidth(clientWidth) / scale) + 3, Math.ceil(clientHeight / apart / scale) + 3];
+    const [wide, tall] = [paneWidth(clientWidth), clientHeight / apart].map((part) => Math.ceil(part / scale) + 3);
+    wanted.window = [left, top, wide, tall];
   }
   const text = JSON.stringify(wanted);
   if (text !== look.sent) tell("view", { view: wanted });
@@ -246,30 +270,31 @@ function looked() {
 // -- what the controls do
 
 /** The flows of the controls. @returns {import("./starts.js").Start[]} */
-function startsOf() {
+function startsOf(runs = "") {
   const { gases, shapes } = preset(), [width, height] = $("size").value.split(" x ").map(Number);
-  return shapes.map((shape, k) => ({ width, height, shape, gas: gases.length > 1 ? gases[k] : $("gas").value,
-    chirality: $("chirality").value, keep: $("keep").checked, seed: String(Math.round(amount("seed"))), filling: amount("fill"),
-    wind: amount("wind"), radius: amount("radius") }));
+  return shapes.map((shape, k) => ({ width, height, shape, runs, gas: gases.length > 1 ? gases[k] : $("gas").value,
+    chirality: $("chirality").value, keep: $("keep").checked, seed: String(Math.round(amount("seed"))),
+    filling: amount("fill"), wind: amount("wind"), radius: amount("radius") }));
 }
 
 /** Says what to look at, and what the length of Re is. */
 function introduce() {
   setText($("sentence"), preset().look);
-  say({ length: preset().length || "the channel's height" });
+  said.length = preset().length || "the channel's height";
 }
 
-/** @param {boolean} [hasLength] */
-function start(hasLength = false) {
-  const { shapes, length, flips } = preset(), flows = startsOf(), [{ width, height, gas }] = flows;
+/** @param {boolean} [hasLength] @param {string} [runs] what was drawn */
+function start(hasLength = false, runs = "") {
+  const { shapes, length, flips } = preset(), flows = startsOf(runs), [{ width, height, gas }] = flows;
+  const { apart } = GASES[gas];
   introduce();
-  if (!hasLength) setControl("length", Math.round(length ? 2 * amount("radius") : height * GASES[gas].apart));
+  if (!hasLength) setControl("length", Math.round(length ? 2 * amount("radius") : height * apart));
   hideNote();
   marks.probe = null;
   look.isWhole = true;
   looked();
   tell("start", { flows, state: stateText() });
-  if (flips) tell("flip", { at: [width / 2, (height * GASES[gas].apart) / 2], radius: 1 });
+  if (flips) tell("flip", { at: [width / 2, (height * apart) / 2], radius: 1 });
   go(!isStill && !["pair", "triple"].includes(shapes[0]));
   if (shown.frames.length) note("A new start. Undo (⌫) brings the old gas back.", "", 4);
   if (isStill) note("Your system asks for less motion: Run starts the gas.", "", 12);
@@ -312,23 +337,34 @@ function halfStep() {
   repaint();
 }
 
-/** Goes back, if all gases can. @param {"turn" | "back"} command */
+/** Goes back, if all gases can, or offers a way on. @param {"turn" | "back"} command */
 function back(command) {
+  hideNote();
   if (shown.frames.some(({ canTurn }) => !canTurn)) {
     const why = "Pairs turn at random here, and their random bits only run forwards.";
-    return offer(`${why} If they turn left from these cells on, the gas can come back to here.`, "Go on with left", () => {
+    note(`${why} If they turn left from these cells on, the gas can come back to here.`, "bad", 20);
+    const offer = element("button", { id: "offer" }, "Go on with left");
+    offer.onclick = () => {
+      hideNote();
       setControl("chirality", "left");
       acts.chirality();
-    });
+    };
+    return $("note").append(offer);
   }
-  hideNote();
-  const { isCut, origin, direction } = head();
-  if (isCut && direction > 0) note(`The way back goes to generation ${count(origin)}: older turnings took more than 64 MB.`, "", 9);
+  const { isCut, origin, direction } = head(), oldest = `The way back goes to generation ${count(origin)}`;
+  if (isCut && direction > 0) note(`${oldest}: older turnings took more than 64 MB.`, "", 9);
   tell(command, {});
   go(command === "turn");
 }
 
-const keptWind = () => ($("keep").checked ? amount("wind") : null);
+function link() {
+  writeAddress();
+  const less = isShort() ? "" : ", without what was drawn, which is too much: save the scene";
+  const told = () => note(`The link to this start is copied${less}.`, "good", 4);
+  navigator.clipboard?.writeText(location.href).then(told, () => 0);
+}
+
+const bodyClass = document.body.classList, keptWind = () => ($("keep").checked ? amount("wind") : null);
 const acts = {
   preset: () => {
     applyState(`scene=${$("scene").value}`);
@@ -348,22 +384,19 @@ const acts = {
   tool: (tool) => {
     chosen.tool = tool;
     view().style.cursor = tool === "move" ? "grab" : "crosshair";
-    document.body.classList.remove("opened");
+    bodyClass.remove("opened");
   },
   look: looked,
   fit,
   near,
   closer: () => closer(1.5),
   farther: () => closer(1 / 1.5),
-  bare: () => document.body.classList.toggle("bare") && note("The key q shows the controls again.", "", 4),
-  drawer: () => document.body.classList.toggle("opened"),
+  bare: () => bodyClass.toggle("bare") && note("The key q shows the controls again.", "", 4),
+  drawer: () => bodyClass.toggle("opened"),
   save: () => tell("save", {}),
   film: () => record(update),
   picture: () => view().toBlob((blob) => blob && save(blob, `${head().gas}-${head().generation}.png`)),
-  link: () => {
-    writeAddress();
-    navigator.clipboard?.writeText(location.href).then(() => note("The link to this start is copied.", "good", 4), () => 0);
-  },
+  link,
   numbers: () => {
     $("all").hidden = !$("all").hidden;
     paintNumbers();
@@ -375,7 +408,6 @@ const acts = {
   pace: () => go(shown.isRunning),
   turn: () => back("turn"),
 };
-
 const controls = makeControls(tableOf(acts), update);
 
 /** Shows what the controls say, and soon writes the address. */
@@ -389,24 +421,21 @@ function update() {
 
 /** Begins with what the address says, or with the first preset. */
 function begin() {
-  const { hasLength, at, probe } = applyState(location.hash.slice(1));
-  live.pending = { at, probe };
-  start(hasLength);
+  const { hasLength, runs, ...pending } = applyState(location.hash.slice(1));
+  live.pending = pending;
+  start(hasLength, runs);
 }
 
-function open(text) {
+takeScenes((text) => {
   hideNote();
   setText($("sentence"), "A scene that was opened. Run starts it.");
-  say({ length: "the channel's height" });
+  said.length = "the channel's height";
   go(false);
   tell("open", { text, state: stateText() });
-}
-
-takeScenes(open);
+});
 listenToPointers({ tell, looked, repaint, hideNote });
 new ResizeObserver(() => shown.frames.length && look.place && (look.isWhole ? fit() : looked())).observe(view());
-const schemes = matchMedia("(prefers-color-scheme: dark)");
-schemes.onchange = () => {
+matchMedia("(prefers-color-scheme: dark)").onchange = () => {
   readTheme();
   repaint();
 };
@@ -414,5 +443,8 @@ readTheme();
 window.onhashchange = () => isForeign() && begin();
 document.onvisibilitychange = repaint; // a hidden tab paints nothing, so the worker rests
 if (matchMedia("(pointer: coarse)").matches) chosen.tool = "draw";
-tell("begin", { engine: /** @type {any} */ (globalThis).FHPGAS_ENGINE ?? "" });
-Object.assign(globalThis, { fhpgas: { $, chosen, head, live, look, marks, motion, said, shown, speeds, tell, worker } }); // for tests
+said.engine = `${SCRIPT}: ${COPY}. ${MOST}`;
+begin();
+seekEngine();
+const forTests = { $, chosen, head, live, look, marks, motion, said, shown, speeds, tell, worker };
+Object.assign(globalThis, { fhpgas: forTests });

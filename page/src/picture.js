@@ -137,13 +137,11 @@ function paintCells({ c, frame, scale }, { isCollided, glide }) {
   }
   Object.assign(c, { strokeStyle: theme.faint, lineWidth: 1.5 });
   c.stroke(grid);
-  for (const [path, colour] of /** @type {[Path2D, string][]} */ ([[solid, theme.wall], [dots, "#8b98a3"], [rest, theme.arrow]])) {
-    c.fillStyle = colour;
-    c.fill(path);
-  }
+  /** @type {[Path2D, string][]} */
+  const fills = [[solid, theme.wall], [dots, "#8b98a3"], [rest, theme.arrow]];
+  /** @type {[Path2D, string][]} */
+  const strokes = [[still, theme.arrow], [meeting, theme.meets]];
+  for (const [path, fillStyle] of fills) Object.assign(c, { fillStyle }).fill(path);
   Object.assign(c, { lineWidth: Math.max(1.3, 0.07 * scale), lineCap: "round", lineJoin: "round" });
-  for (const [path, colour] of /** @type {[Path2D, string][]} */ ([[still, theme.arrow], [meeting, theme.meets]])) {
-    c.strokeStyle = colour;
-    c.stroke(path);
-  }
+  for (const [path, strokeStyle] of strokes) Object.assign(c, { strokeStyle }).stroke(path);
 }

@@ -24,7 +24,8 @@ function placeOf(x, y) {
 
 /** Zooms about a point of the canvas, and moves it. */
 export function zoom(factor, x, y, dx = 0, dy = 0) {
-  const place = /** @type {import("./state.js").Corner} */ (look.place), scale = Math.max(0.1, Math.min(200, place.scale * factor));
+  const place = /** @type {import("./state.js").Corner} */ (look.place);
+  const scale = Math.max(0.1, Math.min(200, place.scale * factor));
   const [left, top] = [x / place.scale - (x + dx) / scale, y / place.scale - (y + dy) / scale];
   look.place = { scale, x: place.x + left, y: place.y + top };
   look.isWhole = false;

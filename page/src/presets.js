@@ -1,17 +1,18 @@
-// What the page can begin with: what differs from the first. `length` says what the length of Re is; without it, it is the
-// channel's height.
+// What the page can begin with: what differs from the first. `length` says what the length of Re is; without it, it is
+// the channel's height.
 
 /**
- * @typedef {{ gases: string[], shapes: string[], chirality: string, size: string, fill: number, wind: number, keep: boolean,
- *   radius: number, pace: string, field: string, smooth: number, span: number, length: string, captions: string[], tall?: string,
- *   isNear?: boolean, flips?: boolean, look: string }} Preset
+ * @typedef {{ gases: string[], shapes: string[], chirality: string, size: string, fill: number, wind: number,
+ *   keep: boolean, radius: number, pace: string, field: string, smooth: number, span: number, length: string,
+ *   captions: string[], tall?: string, flips?: boolean, look: string }} Preset
  *   `tall` is the size in a window that is higher than wide; `look` says what to look at
  */
 
 /** @type {Preset} */
-const FIRST = { gases: ["fhp-rest"], shapes: ["disc"], chirality: "left", size: "1024 x 512", tall: "512 x 768", fill: 0.18,
-  wind: 0.14, keep: true, radius: 44, pace: "10", field: "vorticity", smooth: 4, span: 5, length: "the disc's diameter",
-  captions: [], look: "The gas parts before the disc. Blue turns clockwise, red anticlockwise: both are born at the disc's skin." };
+const FIRST = { gases: ["fhp-rest"], shapes: ["disc"], chirality: "left", size: "1024 x 512", tall: "512 x 768",
+  fill: 0.18, wind: 0.14, keep: true, radius: 44, pace: "10", field: "vorticity", smooth: 4, span: 5,
+  length: "the disc's diameter", captions: [],
+  look: "The gas parts before the disc. Blue turns clockwise, red anticlockwise: both are born at the disc's skin." };
 /** @type {Partial<Preset>} */
 const SMALL = { gases: ["fhp1"], size: "512 x 256", tall: "256 x 384", smooth: 3 };
 /** @type {Partial<Preset>} */
@@ -20,30 +21,35 @@ const AT_REST = { ...SMALL, wind: 0, keep: false, radius: 22, field: "density", 
 /** @type {Record<string, Partial<Preset>>} */
 const OTHERS = {
   "flow past a disc": {},
-  "vortex street": { shapes: ["street"], size: "3200 x 1016", tall: "3200 x 1016", wind: 0.3, radius: 80, pace: "20", smooth: 5,
-    look: "After 33,000 generations vortices leave in turn. EXPERIMENTS: St = 0.247 ± 0.003 (mean u, pairs at random)." },
-  "flow past a plate": { shapes: ["plate"], length: "the plate's height", look: "Behind the plate the gas flows backwards." },
+  "vortex street": { shapes: ["street"], size: "3200 x 1016", tall: "3200 x 1016", wind: 0.3, radius: 80, pace: "20",
+    smooth: 5, look: "After 33,000 generations vortices leave in turn. " +
+      "EXPERIMENTS: St = 0.247 ± 0.003 (mean u, pairs at random)." },
+  "flow past a plate": { shapes: ["plate"], length: "the plate's height",
+    look: "Behind the plate the gas flows backwards." },
   "flow past two discs": { shapes: ["discs"], radius: 30, length: "the diameter of a disc",
     look: "Through the gap the gas is fastest. Draw a wall into it (d)." },
-  "porous medium": { ...SMALL, shapes: ["porous"], radius: 8, wind: 0.04, fill: 0.3, field: "speed", length: "a grain's diameter",
-    look: "The gas finds few fast ways. Its force is what Darcy's law asks for." },
-  "empty channel": { shapes: ["none"], length: "", field: "speed", look: "The walls hold the gas back: the speed becomes a parabola." },
+  "porous medium": { ...SMALL, shapes: ["porous"], radius: 8, wind: 0.04, fill: 0.3, field: "speed",
+    length: "a grain's diameter", look: "The gas finds few fast ways. Its force is what Darcy's law asks for." },
+  "empty channel": { shapes: ["none"], length: "", field: "speed",
+    look: "The walls hold the gas back: the speed becomes a parabola." },
   "noise at one cell": { smooth: 0, span: 0, field: "speed",
     look: "One cell, one generation: nothing but noise. Raise both means (s, a), and a fluid comes out of it." },
-  "sound ring": { ...AT_REST, shapes: ["sound"], look: "A dense disc sends out a ring: sound, at 0.71 cells per generation." },
-  "HPP's square beside FHP's ring": { ...AT_REST, gases: ["hpp", "fhp1"], shapes: ["sound", "sound"], size: "256 x 256", tall: "256 x 256",
-    captions: ["HPP, four directions", "FHP, six directions"],
+  "sound ring": { ...AT_REST, shapes: ["sound"],
+    look: "A dense disc sends out a ring: sound, at 0.71 cells per generation." },
+  "HPP's square beside FHP's ring": { ...AT_REST, gases: ["hpp", "fhp1"], shapes: ["sound", "sound"],
+    size: "256 x 256", tall: "256 x 256", captions: ["HPP, four directions", "FHP, six directions"],
     look: "The same burst in both. Four directions make a square, six a ring: this is why FHP has hexagons." },
-  "HPP past a disc: a cross": { gases: ["hpp"], size: "512 x 256", tall: "256 x 384", radius: 22, smooth: 3, field: "speed",
+  "HPP past a disc: a cross": { ...SMALL, gases: ["hpp"], radius: 22, field: "speed",
     look: "No fluid: the disc's shadow is a cross along the four directions." },
   "an L that comes back": { ...AT_REST, shapes: ["letter"], fill: 0.12, smooth: 2, pace: "5",
     look: "The L dissolves. Turn all particles (r): it comes back, to the last cell. Draw something meanwhile (d)." },
   "one particle turned, and its cone": { ...AT_REST, shapes: ["none"], field: "difference", smooth: 2, flips: true,
     look: "One particle was turned. Yellow is where the gas differs from what it would be: never outside the circle." },
-  "a pair, and a triple": { ...AT_REST, gases: ["fhp1", "fhp1"], shapes: ["pair", "triple"],
-    captions: ["a head-on pair", "three at equal angles"], size: "4 x 3", tall: "4 x 3", smooth: 0, pace: "1 s",
+  "a pair, and a triple": { ...AT_REST, gases: ["fhp1", "fhp1"], shapes: ["pair", "triple"], size: "4 x 3",
+    tall: "4 x 3", smooth: 0, pace: "1 s", captions: ["a head-on pair", "three at equal angles"],
     look: "Orange particles collide: the pair turns left, the triple goes back. Half steps (h) show it." },
 };
 
 /** @type {Record<string, Preset>} */
-export const PRESETS = Object.fromEntries(Object.entries(OTHERS).map(([name, preset]) => [name, { ...FIRST, ...preset }]));
+export const PRESETS = Object.fromEntries(
+  Object.entries(OTHERS).map(([name, preset]) => [name, { ...FIRST, ...preset }]));

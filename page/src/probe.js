@@ -2,8 +2,8 @@
 
 /**
  * @typedef {{ generation: number, u: number, v: number, incoming: number | null }} Sample
- * @typedef {{ period: number, error: number, count: number, incoming: number | null }} Period in generations, with its standard
- *   error; how many periods; and the mean speed that met the obstacle during them
+ * @typedef {{ period: number, error: number, count: number, incoming: number | null }} Period in generations, with its
+ *   standard error; how many periods; and the mean speed that met the obstacle during them
  */
 
 export const LEAST_PERIODS = 8;
@@ -15,7 +15,7 @@ const STROUHAL = [0.05, 1]; // no wake sheds more slowly or more often
 
 const mean = (values) => values.reduce((a, b) => a + b, 0) / values.length;
 
-/** The mean flow across in equal parts of the time, on straight lines where a part has no sample. @param {Sample[]} samples */
+/** The mean flow across in equal parts of the time, on lines where a part has no sample. @param {Sample[]} samples */
 function parted(samples) {
   const first = samples[0].generation, last = samples[samples.length - 1].generation, long = (last - first) / PARTS;
   const parts = [];
@@ -36,7 +36,8 @@ function parted(samples) {
 function spectrum(values) {
   const middle = mean(values), n = values.length, center = (n - 1) / 2;
   const slope = values.reduce((sum, value, i) => sum + value * (i - center), 0) / ((n * (n * n - 1)) / 12);
-  const faded = values.map((value, i) => (value - middle - slope * (i - center)) * Math.sin((Math.PI * (i + 0.5)) / n) ** 2);
+  const fade = (i) => Math.sin((Math.PI * (i + 0.5)) / n) ** 2;
+  const faded = values.map((value, i) => (value - middle - slope * (i - center)) * fade(i));
   return Array.from({ length: n / 4 }, (_, k) => {
     let real = 0, imaginary = 0;
     for (let i = 0; i < n; i++) {
@@ -57,12 +58,13 @@ function peakOf(power, least, most) {
   return near / all >= SHARE ? peak : 0;
 }
 
-/** The lengths between crossings of the mean upwards, if the values were clearly below it between. @param {number[]} values */
+/** The lengths between crossings of the mean upwards, with values clearly below it between. @param {number[]} values */
 function lengths(values) {
   const middle = mean(values), clear = Math.sqrt(mean(values.map((value) => (value - middle) ** 2))) / 2, times = [];
   let isBelow = false;
   values.forEach((value, i) => {
-    if (isBelow && value > middle && values[i - 1] <= middle) times.push(i - (value - middle) / (value - values[i - 1]));
+    const before = values[i - 1];
+    if (isBelow && value > middle && before <= middle) times.push(i - (value - middle) / (value - before));
     if (value < middle - clear) isBelow = true;
     else if (value > middle + clear) isBelow = false;
   });
@@ -86,9 +88,11 @@ export function periodOf(samples, turnover) {
   const least = Math.max(LEAST_PERIODS, (STROUHAL[0] * span) / turnover), most = (STROUHAL[1] * span) / turnover;
   const peak = peakOf(spectrum(parts), least, most);
   if (!peak) return null;
-  const found = lengths(rolling(parts, Math.floor(PARTS / peak / 8))).map((length) => length * long), count = found.length;
-  const period = mean(found), spread = Math.sqrt(mean(found.map((length) => (length - period) ** 2)) * (count / (count - 1)));
+  const found = lengths(rolling(parts, Math.floor(PARTS / peak / 8))).map((length) => length * long);
+  const count = found.length, period = mean(found);
+  const spread = Math.sqrt(mean(found.map((length) => (length - period) ** 2)) * (count / (count - 1)));
   if (count < LEAST_PERIODS || Math.abs((period * peak) / span - 1) > WIDE || spread > SPREAD * period) return null;
   const met = kept.map(({ incoming }) => incoming).filter((value) => value !== null);
-  return { period, error: spread / Math.sqrt(count), count, incoming: met.length ? mean(/** @type {number[]} */ (met)) : null };
+  const incoming = met.length ? mean(/** @type {number[]} */ (met)) : null;
+  return { period, error: spread / Math.sqrt(count), count, incoming };
 }

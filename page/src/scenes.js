@@ -5,7 +5,7 @@ import { blocks, keyStream } from "./keystream.js";
 /**
  * @typedef {import("./gases.js").Gas} Gas
  * @typedef {import("./flow.js").Flow} Flow
- * @typedef {import("./flow.js").Course & { gas: Gas, width: number, height: number, states: Uint8Array }} Scene a byte per cell
+ * @typedef {import("./flow.js").Course & { gas: Gas, width: number, height: number, states: Uint8Array }} Scene
  */
 
 const SPELLED = Array.from({ length: SOLID + 1 }, (_, state) => state.toString(16).padStart(2, "0"));
@@ -27,14 +27,15 @@ export function fillStates(gas, states, seed, rates) {
 }
 
 /**
- * The keys and values of a scene as this page, a checkpoint and `draw` write it: lines with a text, an integer, or a list
- * of them. They become JSON, with integers as texts.
+ * The keys and values of a scene as this page, a checkpoint and `draw` write it: lines with a text, an integer, or a
+ * list of them. They become JSON, with integers as texts.
  * @param {string} text
  */
 function readKeys(text) {
   const token = /("[^"\\\n]*")|'([^'\\\n]*)'|#.*|(0x[\da-f]+|\d+(?:_\d+)*)|(?<=^[ \t]*)([a-z]+)[ \t]*=/gim;
   const json = text.replace(token, (_, quoted, literal, number, key) =>
-    quoted ?? (literal !== undefined ? `"${literal}"` : number ? `"${BigInt(number.replaceAll("_", ""))}"` : key ? `,"${key}":` : ""));
+    quoted ?? (literal !== undefined ? `"${literal}"` : number ? `"${BigInt(number.replaceAll("_", ""))}"`
+      : key ? `,"${key}":` : ""));
   try {
     return JSON.parse(`{${json.replace(/^[\s,]*/, "").replace(/,\s*\]/g, "]")}}`);
   } catch {
@@ -46,7 +47,7 @@ function check(isRead, what) {
   if (!isRead) throw new Error(`this page does not read ${what}`);
 }
 
-/** The lattice of a scene's text, of at most `most` cells. @param {string} text @param {number} most @returns {Scene} */
+/** The lattice of a scene, of at most so many cells. @param {string} text @param {number} most @returns {Scene} */
 export function readScene(text, most) {
   const keys = readKeys(text), { gas: name, cells: rows, chirality = "seeded", seed = "0", rate = 0 } = keys;
   const stray = Object.keys(keys).find((key) => !KEYS.includes(key));

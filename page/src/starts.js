@@ -1,17 +1,19 @@
 // Starts: what a channel begins with.
 import { Flow } from "./flow.js";
 import { GASES, SOLID, equilibrium } from "./gases.js";
+import { bitsOf } from "./runs.js";
 import { fillStates } from "./scenes.js";
 import { dense } from "./tools.js";
 
 /**
  * @typedef {import("./cells.js").Place} Place
- * @typedef {{ gas: string, chirality: import("./gases.js").Chirality, width: number, height: number, filling: number, wind: number,
- *   keep: boolean, shape: string, radius: number, seed: string }} Start
- * @typedef {(wide: number, tall: number, radius: number) => (x: number, y: number) => boolean} Shape whether a place is in it
+ * @typedef {{ gas: string, chirality: import("./gases.js").Chirality, width: number, height: number, filling: number,
+ *   wind: number, keep: boolean, shape: string, radius: number, seed: string, runs?: string }} Start
+ *   `runs` has the cells that are solid, or fluid, unlike in the shape
+ * @typedef {(wide: number, tall: number, radius: number) => (x: number, y: number) => boolean} Shape
  */
 
-/** @type {Record<string, Shape>} what is solid in a channel. */
+/** @type {Record<string, Shape>} whether a place is solid in a channel. */
 const SOLIDS = {
   disc: (W, T, R) => (x, y) => Math.hypot(x - W / 5, y - T / 2) <= R,
   plate: (W, T, R) => (x, y) => Math.abs(x - W / 5) <= 2 && Math.abs(y - T / 2) <= R,
@@ -25,7 +27,8 @@ const letterL = (W, T) => (x, y) =>
   x > 0.4 * W && x < 0.6 * W && y > 0.2 * T && y < 0.8 * T && (x < 0.46 * W || y > 0.66 * T);
 
 /** A flow as a start has it. @param {import("./kernel.js").MakeKernel} make @param {Start} start */
-export function drawn(make, { gas: name, chirality, width, height, filling, wind, keep, shape, radius, seed }) {
+export function drawn(make, { runs = "", ...start }) {
+  const { gas: name, chirality, width, height, filling, wind, keep, shape, radius, seed } = start;
   const gas = GASES[name], tall = (height - 1) * gas.apart, states = new Uint8Array(width * height);
   const flow = new Flow(make(gas, width, height), { chirality, seed, generation: 0, wind: keep ? wind : null });
   const all = (inside, change) => {
@@ -41,6 +44,12 @@ export function drawn(make, { gas: name, chirality, width, height, filling, wind
       if (states[at] !== SOLID) solid++;
       states[at] = SOLID;
     }
+  }
+  flow.cells.fill(states);
+  flow.shape = flow.kernel.solid.slice();
+  const across = 32 * flow.kernel.per;
+  for (const bit of bitsOf(runs, across * height)) {
+    if (bit % across < width) states[Math.floor(bit / across) * width + (bit % across)] ^= SOLID;
   }
   if (shape in PARTICLES) states[width + 1] = PARTICLES[shape];
   else fillStates(gas, states, seed, wind ? thousandths(equilibrium(gas, filling, wind)) : evenly(filling));

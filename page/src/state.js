@@ -61,10 +61,21 @@ export const view = () => /** @type {HTMLCanvasElement} */ ($("view"));
 export const amount = (id) => Number($(id).value);
 export const head = () => shown.frames[0];
 
+/** @param {string} tag @param {Record<string, string | number>} attributes @param {(Node | string)[]} children */
+export function element(tag, attributes, ...children) {
+  const made = document.createElement(tag);
+  for (const [name, value] of Object.entries(attributes)) made.setAttribute(name, String(value));
+  made.append(...children);
+  return made;
+}
+
 /** Changes the text of a node, if it is another. @param {Node} node @param {string} text */
 export function setText(node, text) {
   if (node.textContent !== text) node.textContent = text;
 }
+
+/** Each value once, of all pictures. @param {(frame: Frame) => string} text */
+export const each = (text) => [...new Set(shown.frames.map(text))].join(" | ");
 
 /** The width of each picture. @param {number} width of the canvas */
 export const paneWidth = (width) => (width - GAP * (shown.frames.length - 1)) / shown.frames.length;

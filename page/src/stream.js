@@ -1,11 +1,12 @@
-// The mean flow, on blocks of its own, whatever is shown: it carries the tracers, and the fastest block and the stream that
-// meets an obstacle are read from it.
+// The mean flow, on blocks of its own, whatever is shown: it carries the tracers, and the fastest block and the stream
+// that meets an obstacle are read from it.
 import { TimeMean } from "./fields.js";
 
 /**
- * @typedef {{ columns: number, rows: number, width: number, height: number, u: Float32Array, v: Float32Array }} MeanFlow
- * @typedef {{ blockage: number, incoming: number | null }} Measured the solid part of the highest column, and the speed over an
- *   obstacle's height, one to two heights ahead of it, or null if there is not one obstacle
+ * @typedef {Pick<import("./sums.js").Sums, "columns" | "rows" | "width" | "height">} Grid
+ * @typedef {Grid & { u: Float32Array, v: Float32Array }} MeanFlow
+ * @typedef {{ blockage: number, incoming: number | null }} Measured the solid part of the highest column, and the speed
+ *   over an obstacle's height, one to two heights ahead of it, or null if there is not one obstacle
  */
 
 const MEMORY = 300; // generations of the mean
@@ -41,7 +42,7 @@ export class Stream {
         for (let bit = 0; bit < 32; bit++) if (word >>> bit & 1) tall[32 * j + bit]++;
       }
     }
-    const west = tall.findIndex((number) => number > 0), east = width - 1 - tall.slice().reverse().findIndex((number) => number > 0);
+    const west = tall.findIndex(Boolean), east = width - 1 - tall.slice().reverse().findIndex(Boolean);
     this.blockage = Math.max(...tall) / height;
     this.box = bottom < 0 || east - west > width / 3 ? null : { west, east, top, bottom };
   }
@@ -52,7 +53,8 @@ export class Stream {
     this.waiting = this.generations && generations < STEP ? generations : 0;
     if (this.waiting) return;
     this.generations += generations;
-    this.mean.add(kernel.sums(this.block, this.tall), Math.exp(-generations / Math.min(MEMORY, Math.max(1, this.generations))));
+    const memory = Math.min(MEMORY, Math.max(1, this.generations));
+    this.mean.add(kernel.sums(this.block, this.tall), Math.exp(-generations / memory));
     const { grid, u, v } = this.mean.means(gas, cells.height, 1);
     const { columns, rows, width, height } = grid;
     this.found = { columns, rows, width, height, u, v };

@@ -2,18 +2,16 @@
 import { coloursOf } from "./picture.js";
 import { count, fixed, imageOf, line, nice, round, theme, write } from "./draw.js";
 import { FIELDS } from "./fields.js";
-import { head, look, shown } from "./state.js";
+import { each, head, look } from "./state.js";
 
 /** Pixels of its height: in a narrow picture the legend has lines of its own. */
 export const stripHeight = (width) => (width < 560 ? 108 : 62);
 const SIDES = { seeded: "at random", left: "left", right: "right" };
 
-/** Each value once, of both pictures. @param {(frame: import("./messages.js").Frame) => string} text */
-export const each = (text) => [...new Set(shown.frames.map(text))].join(" | ");
-
 /** @param {CanvasRenderingContext2D} c @param {{ width: number, top: number, stage: string }} where */
 export function paintStrip(c, { width, top, stage }) {
-  const isNarrow = width < 560, bar = isNarrow ? width - 28 : Math.min(340, width * 0.36), left = width - bar - 14, scale = look.place?.scale ?? 1;
+  const isNarrow = width < 560, bar = isNarrow ? width - 28 : Math.min(340, width * 0.36), left = width - bar - 14;
+  const scale = look.place?.scale ?? 1;
   const cells = nice(Math.max(1, 110 / scale)), end = 14 + cells * scale, frame = head();
   c.fillStyle = theme.paper;
   c.fillRect(0, top, width, stripHeight(width));
@@ -37,7 +35,8 @@ function paintWords(c, x, top, stage, isNarrow) {
   if (frame.cells) write(c, `${stage}: orange particles collide`, x, top + 22, { font: "14px" });
   else write(c, direction < 0 ? `${arrow}, on the way back` : arrow, x, top + 22, { font: "600 15px" });
   const gas = each((one) => one.gas + sides(one)), filling = each(({ middle }) => middle.toFixed(3));
-  const name = isNarrow ? each((one) => one.gas) : gas, when = isNarrow ? "" : `, generation ${count(frame.generation)}`;
+  const name = isNarrow ? each((one) => one.gas) : gas;
+  const when = isNarrow ? "" : `, generation ${count(frame.generation)}`;
   const text = `${name}, d = ${filling}, ${frame.width} × ${frame.height} cells${when}`;
   write(c, text, 14, top + 48, { font: "14px" });
 }
@@ -49,7 +48,8 @@ function paintLegend(c, frame, left, top, bar) {
   Object.assign(c, { globalAlpha: 1, lineWidth: 1, strokeStyle: theme.ink });
   c.strokeRect(left + 0.5, top + 24.5, bar - 1, 13);
   write(c, legend, left + bar, top + 18, { font: "600 13px", align: "right" });
-  const texts = ends(frame.most, frame.middle).map((value) => (value === frame.middle && isSigned ? fixed(value, 3) : round(value)));
+  const textOf = (value) => (value === frame.middle && isSigned ? fixed(value, 3) : round(value));
+  const texts = ends(frame.most, frame.middle).map(textOf);
   const aligns = /** @type {CanvasTextAlign[]} */ (["left", "center", "right"]);
   aligns.forEach((align, k) => write(c, texts[k], left + (bar * k) / 2, top + 54, { font: "13px", align }));
 }

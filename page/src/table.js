@@ -5,14 +5,13 @@ import { isFilming } from "./files.js";
 import { PRESETS } from "./presets.js";
 import { $, chosen, head, shown } from "./state.js";
 
-export const SIZES = "4 x 3,64 x 32,256 x 128,256 x 256,256 x 384,512 x 256,512 x 512,512 x 768,1024 x 512,2048 x 512,2048 x 1024,3200 x 1016,4096 x 1024";
-export const PACES = "3 s,1 s,0.3 s,1,2,5,10,20,40,50,100,200".split(","); // seconds of a generation, generations of a frame
+const SIZES = ["4 x 3", "64 x 32", "256 x 128", "256 x 256", "256 x 384", "512 x 192", "512 x 256", "512 x 512",
+  "512 x 768", "1024 x 384", "1024 x 512", "2048 x 512", "2048 x 1024", "3200 x 1016", "4096 x 1024"];
+// seconds of a generation, or generations of a frame
+const PACES = ["3 s", "1 s", "0.3 s", "1", "2", "5", "10", "20", "40", "50", "100", "200"];
 export const BLOCKS = [[1, 0], [2, 0], [2, 2], [4, 2], [8, 2], [16, 2], [32, 2]]; // columns, and how often smoothed
 export const SPANS = [1, 3, 10, 30, 100, 300, 1000, 3000, 10000, 30000];
-const TURNS = [["left", "left"], ["right", "right"], ["seeded", "at random"]];
-const NAMED = [["fhp1", "fhp1 (FHP-I)"], ["fhp-rest", "fhp-rest (FHP-II)"], ["hpp", "HPP"]];
-const TOOLS = [["m", "move", "move"], ["d", "draw", "draw"], ["e", "erase", "erase"], ["n", "dense", "dense"], ["t", "flip", "turn 1"],
-  ["p", "probe", "probe"]];
+const GAS_NAMES = { fhp1: "fhp1 (FHP-I)", "fhp-rest": "fhp-rest (FHP-II)", hpp: "HPP" };
 
 const cells = (value) => `${count(value)} cell${value > 1 ? "s" : ""}`;
 const wide = (value) => cells(BLOCKS[value][0] * (BLOCKS[value][1] ? 2 : 1));
@@ -20,57 +19,78 @@ const wide = (value) => cells(BLOCKS[value][0] * (BLOCKS[value][1] ? 2 : 1));
 /**
  * @typedef {import("./controls.js").Group} Group
  * @typedef {import("./controls.js").Control} Control
- * @param {Record<string, (value?: any) => void>} acts
- * @returns {Group[]}
+ * @typedef {Partial<Control>} More
  */
+
+/** @param {string} key @param {string} id @param {string} label @param {More} more @returns {Control} */
+const button = (key, id, label, act, more = {}) => ({ key, id, label, kind: "button", act, ...more });
+const half = (key, id, label, act, more = {}) => button(key, id, label, act, { style: "wide", ...more });
+/** @param {Record<string, string>} named the texts of values @returns {Control} */
+const list = (key, id, label, named, act, more = {}) =>
+  ({ key, id, label, kind: "list", options: Object.entries(named), act, ...more });
+/** @returns {Control} */
+const slider = (key, id, label, [min, max, step, value = NaN], act, said, more = {}) =>
+  ({ key, id, label, kind: "range", attributes: { min, max, step, ...(value ? { value } : {}) }, act, said, ...more });
+/** @returns {Control} */
+const check = (key, id, label, act, attributes = {}) => ({ key, id, label, kind: "check", attributes, act });
+/** @returns {Control} */
+const number = (key, id, label, attributes, more) => ({ key, id, label, kind: "number", attributes, ...more });
+/** @param {string[]} values @param {(value: string) => string} text */
+const named = (values, text) => Object.fromEntries(values.map((value) => [value, text(value)]));
+const SCENES = named(Object.keys(PRESETS), String);
+const SIZE_NAMES = named(SIZES, (size) => size.replace("x", "×"));
+// a key that looks like a number would come first in an object
+/** @type {[value: string, text: string][]} */
+const PACE_NAMES = PACES.map((pace) => [pace, pace.endsWith(" s") ? `one in ${pace}` : `${pace} a frame`]);
+
+/** @param {Record<string, (value?: any) => void>} acts @returns {Group[]} */
 export const tableOf = (acts) => [
   { title: "A new start", place: "panel", controls: [
-    { id: "scene", key: "l", label: "scene", kind: "list", options: Object.keys(PRESETS).map((name) => [name, name]), act: acts.preset },
-    { id: "size", key: "k", label: "cells", kind: "list", options: SIZES.split(",").map((size) => [size, size.replace("x", "×")]), act: acts.start },
-    { id: "fill", key: "f", label: "filling d", kind: "range", attributes: { min: 0.05, max: 0.45, step: 0.01 }, said: String,
-      isLate: true, act: acts.start },
-    { id: "radius", key: "u", label: "obstacle", kind: "range", attributes: { min: 4, max: 120, step: 2 }, isLate: true,
-      said: (value) => `R = ${value}`, act: acts.start },
-    { id: "seed", key: "5", label: "seed", kind: "number", attributes: { min: 0, max: 9e15, step: 1, value: 1 }, act: acts.start },
-    { id: "start", key: "Enter", label: "Start", kind: "button", style: "wide main", act: acts.start },
-    { id: "open", key: "o", label: "Open", kind: "button", style: "wide", act: () => $("file").click() }] },
+    list("l", "scene", "scene", SCENES, acts.preset),
+    list("k", "size", "cells", SIZE_NAMES, acts.start),
+    slider("f", "fill", "filling d", [0.05, 0.45, 0.01], acts.start, String, { isLate: true }),
+    slider("u", "radius", "obstacle", [4, 120, 2], acts.start, (value) => `R = ${value}`, { isLate: true }),
+    number("5", "seed", "seed", { min: 0, max: 9e15, step: 1, value: 1 }, { act: acts.start }),
+    button("Enter", "start", "Start", acts.start, { style: "wide main" }),
+    half("o", "open", "Open", () => $("file").click())] },
   { title: "Change it, cells stay", place: "panel", controls: [
-    { id: "gas", key: "g", label: "gas", kind: "list", options: /** @type {any} */ (NAMED), act: acts.gas, isOff: () => shown.frames.length > 1 },
-    { id: "chirality", key: "c", label: "pairs turn", kind: "list", options: /** @type {any} */ (TURNS), act: acts.chirality },
-    { id: "keep", key: "j", label: "keep wind", kind: "check", act: acts.keep },
-    { id: "wind", key: "w", label: "wind u", kind: "range", attributes: { min: 0, max: 0.4, step: 0.02 }, said: String, act: acts.wind },
-    { id: "undo", key: "Backspace", label: "undo", kind: "button", style: "wide", act: acts.undo, isOff: () => !shown.canUndo },
-    { id: "clear", key: "4", label: "clear", kind: "button", style: "wide", act: acts.clear }] },
+    list("g", "gas", "gas", GAS_NAMES, acts.gas, { isOff: () => shown.frames.length > 1 }),
+    list("c", "chirality", "pairs turn", { left: "left", right: "right", seeded: "at random" }, acts.chirality),
+    check("j", "keep", "keep wind", acts.keep),
+    slider("w", "wind", "wind u", [0, 0.4, 0.02], acts.wind, String),
+    half("Backspace", "undo", "undo", acts.undo, { isOff: () => !shown.canUndo }),
+    half("4", "clear", "clear", acts.clear)] },
   { title: "See", place: "panel", controls: [
-    ...Object.entries(FIELDS).map(([id, { key, label }]) => /** @type {Control} */ ({ id, key, label, kind: "button", style: "wide",
-      isPressed: () => chosen.field === id, act: () => acts.field(id) })),
-    { id: "smooth", key: "s", label: "mean of", kind: "range", attributes: { min: 0, max: BLOCKS.length - 1 }, said: wide, act: acts.look },
-    { id: "span", key: "a", label: "and of", kind: "range", attributes: { min: 0, max: SPANS.length - 1 }, act: acts.look,
-      said: (value) => `${count(SPANS[value])} gen.` },
-    { id: "tracers", key: "y", label: "tracers", kind: "check", attributes: { checked: "" }, act: acts.look }] },
+    ...Object.entries(FIELDS).map(([id, { key, label }]) =>
+      half(key, id, label, () => acts.field(id), { isPressed: () => chosen.field === id })),
+    slider("s", "smooth", "mean of", [0, BLOCKS.length - 1, 1], acts.look, wide),
+    slider("a", "span", "and of", [0, SPANS.length - 1, 1], acts.look, (value) => `${count(SPANS[value])} gen.`),
+    check("y", "tracers", "tracers", acts.look, { checked: "" })] },
   { title: "Do, on the picture", place: "panel", controls: [
-    ...TOOLS.map(([key, id, label]) => /** @type {Control} */ ({ id, key, label, kind: "button", isPressed: () => chosen.tool === id,
-      act: () => acts.tool(id) })),
-    { id: "brush", key: "b", label: "brush", kind: "range", attributes: { min: 1, max: 60, value: 10 }, said: (value) => `R = ${value}` },
-    { id: "fit", key: "0", label: "whole", kind: "button", act: acts.fit }, { id: "near", key: "z", label: "cells", kind: "button", act: acts.near },
-    { id: "bare", key: "q", label: "only it", kind: "button", act: acts.bare },
-    { id: "closer", key: "+", label: "closer", kind: "button", style: "wide", act: acts.closer },
-    { id: "farther", key: "-", label: "farther", kind: "button", style: "wide", act: acts.farther }] },
+    ...["m move", "d draw", "e erase", "n dense", "t flip turn 1", "p probe"].map((tool) => {
+      const [key, id, ...words] = tool.split(" "), isPressed = () => chosen.tool === id;
+      return button(key, id, words.join(" ") || id, () => acts.tool(id), { isPressed });
+    }),
+    slider("b", "brush", "brush", [1, 60, 1, 10], undefined, (value) => `R = ${value}`),
+    button("0", "fit", "whole", acts.fit),
+    button("z", "near", "cells", acts.near),
+    button("q", "bare", "only it", acts.bare),
+    half("+", "closer", "closer", acts.closer),
+    half("-", "farther", "farther", acts.farther)] },
   { title: "Measure and take along", place: "panel", controls: [
-    { id: "length", key: "i", label: "length L", kind: "number", attributes: { min: 1, step: 1 }, said: () => "cells" },
-    { id: "save", key: "x", label: "scene", kind: "button", style: "wide", act: acts.save },
-    { id: "film", key: "v", label: "film", kind: "button", style: "wide", act: acts.film, isPressed: isFilming, text: () => (isFilming() ? "stop" : "film") },
-    { id: "picture", key: "8", label: "picture", kind: "button", style: "wide", act: acts.picture },
-    { id: "link", key: "9", label: "link", kind: "button", style: "wide", act: acts.link },
-    { id: "numbersAll", key: "=", label: "all numbers", kind: "button", style: "full", act: acts.numbers, isPressed: () => !$("all").hidden }] },
+    number("i", "length", "length L", { min: 1, step: 1 }, { said: () => "cells" }),
+    half("x", "save", "scene", acts.save),
+    half("v", "film", "film", acts.film, { isPressed: isFilming, text: () => (isFilming() ? "stop" : "film") }),
+    half("8", "picture", "picture", acts.picture),
+    half("9", "link", "link", acts.link),
+    button("=", "numbersAll", "all numbers", acts.numbers, { style: "full", isPressed: () => !$("all").hidden })] },
   { title: "", place: "transport", controls: [
-    { id: "back", key: "ArrowLeft", label: "1 back", kind: "button", act: acts.back },
-    { id: "play", key: " ", label: "Run", kind: "button", style: "main", act: acts.play, text: () => (shown.isRunning ? "Pause" : "Run") },
-    { id: "step", key: "ArrowRight", label: "1 on", kind: "button", act: acts.step },
-    { id: "half", key: "h", label: "half a step", kind: "button", act: acts.half },
-    { id: "pace", key: ".", label: "pace", kind: "list", act: acts.pace,
-      options: PACES.map((pace) => [pace, pace.endsWith(" s") ? `one in ${pace}` : `${pace} a frame`]) },
-    { id: "turn", key: "r", label: "Turn all particles", kind: "button", style: "turn", act: acts.turn,
-      text: () => (head()?.direction < 0 ? "Turn all again" : "Turn all particles") },
-    { id: "drawer", key: "F2", label: "Controls", kind: "button", act: acts.drawer, isPressed: () => document.body.classList.contains("opened") }] },
+    button("ArrowLeft", "back", "1 back", acts.back),
+    button(" ", "play", "Run", acts.play, { style: "main", text: () => (shown.isRunning ? "Pause" : "Run") }),
+    button("ArrowRight", "step", "1 on", acts.step),
+    button("h", "half", "half a step", acts.half),
+    { key: ".", id: "pace", label: "pace", kind: "list", options: PACE_NAMES, act: acts.pace },
+    button("r", "turn", "Turn all particles", acts.turn,
+      { style: "turn", text: () => (head()?.direction < 0 ? "Turn all again" : "Turn all particles") }),
+    button("F2", "drawer", "Controls", acts.drawer, { isPressed: () => document.body.classList.contains("opened") })] },
 ];

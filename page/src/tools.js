@@ -57,7 +57,7 @@ export class Stroke {
       : `${cells} solid cells are fluid now, and empty.`);
   }
 
-  /** If nothing happened since the stroke all that it moved goes back, later only its obstacles do. @param {Flow} flow */
+  /** If nothing happened since, all that the stroke moved goes back, else its obstacles do. @param {Flow} flow */
   undo(flow) {
     if (!this.isMixed && this.after === flow.changes) {
       flow.edit(this.flips);
@@ -89,7 +89,7 @@ export function dense(flow, at, radius) {
   for (let bit = 1; bit < 1 << gas.directions; bit *= 2) {
     for (const to of inside) {
       if (cells.state(to) & (SOLID | bit) || drive.draw() > 0.7) continue;
-      const from = cells.pick(drive.lot, bit, bit, isIn);
+      const from = cells.pick(drive.draw, bit, bit, isIn);
       if (from === undefined) break;
       flow.edit([[from, bit], [to, bit]]);
       moved++;

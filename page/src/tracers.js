@@ -52,7 +52,7 @@ export class Tracers {
     }
   }
 
-  /** Paints the marks as streaks along the flow. @param {CanvasRenderingContext2D} c @param {Frame} frame @param {number} scale */
+  /** Paints streaks along the flow. @param {CanvasRenderingContext2D} c @param {Frame} frame @param {number} scale */
   paint(c, frame, scale) {
     const { flow, fastest } = frame;
     if (!flow.columns || fastest < STILL) return;

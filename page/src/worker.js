@@ -9,7 +9,8 @@ import { dense, flipOne } from "./tools.js";
  */
 
 const AHEAD = 2; // frames that are sent before one was painted
-const LOOKS = ["run", "step", "view", "probe", "save", "flip"]; // what leaves the gas alone, or turns one particle
+// what leaves the gas alone, or turns one particle
+const LOOKS = ["engine", "run", "step", "view", "probe", "save", "flip"];
 
 /** The SHA-256 of what `fhpgas run` prints for the cells of a flow. @param {import("./flow.js").Flow} flow */
 async function hashOf(flow) {
@@ -40,7 +41,7 @@ export class Work {
   table() {
     const { flows } = this;
     return {
-      begin: ({ engine }) => this.post("hello", flows.begin(engine)),
+      engine: (command) => this.post("engine", flows.take(command)),
       start: (command) => this.begin(() => flows.start(command)),
       open: (command) => this.begin(() => flows.open(command)),
       run: ({ on, pace }) => Object.assign(this, { isRunning: on, pace }),
@@ -131,13 +132,14 @@ export class Work {
     this.generations = this.pieces = 0;
     this.took.fields = performance.now() - begun;
     this.sent++;
-    this.post("frames", { frames, isRunning, serial, state, strokes: pieces, took: this.took, canUndo: past.length > 0 });
+    const canUndo = past.length > 0;
+    this.post("frames", { frames, isRunning, serial, state, strokes: pieces, took: this.took, canUndo });
     if (!isRunning) this.hash();
   }
 
   save() {
-    const files = this.flows.watched.map(({ flow }) => ({ text: sceneOf(flow), name: `${flow.gas.name}-${flow.generation}` }));
-    this.post("files", { files });
+    const nameOf = ({ gas, generation }) => `${gas.name}-${generation}`;
+    this.post("files", { files: this.flows.watched.map(({ flow }) => ({ text: sceneOf(flow), name: nameOf(flow) })) });
   }
 
   /** Hashes the cells that are shown, once they stay. */
