@@ -5,6 +5,7 @@ import { LEAST_PERIODS, periodOf } from "./probe.js";
 import { $, amount, head, marks } from "./state.js";
 
 const U = "#2b8cd6", V = "#e0702a", PATIENCE = 500; // milliseconds between two searches for a period
+/** @type {{ at: number, samples: object[], period: import("./probe.js").Period | null }} */
 const found = { at: 0, samples: marks.samples, period: null };
 
 /** The period of the probe's flow across, searched for now and then. @param {number} turnover */

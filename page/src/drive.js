@@ -24,6 +24,8 @@ export class Drive {
   constructor(wind, seed) {
     this.random = Number(BigInt(seed) % 0xfffffffbn) + 1 | 0;
     this.fluid = this.particles = this.px = 0;
+    this.wind = wind;
+    this.velocity = this.force = new Mean();
     this.keep(wind);
   }
 

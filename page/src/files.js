@@ -1,6 +1,7 @@
 // Files: what is saved, filmed, opened, dropped and pasted.
 import { $, view } from "./state.js";
 
+/** @type {{ recorder: MediaRecorder | null }} */
 const film = { recorder: null };
 export const isFilming = () => film.recorder !== null;
 

@@ -7,7 +7,6 @@ import { bits, sumsOf } from "./sums.js";
  * @typedef {import("./gases.js").Chirality} Chirality
  * @typedef {import("./sums.js").Sums} Sums
  * @typedef {(gas: Gas, width: number, height: number) => Kernel} MakeKernel
- * @typedef {(count: number, generation: number, chirality: Chirality, seed: string) => void} Advance
  */
 
 const LINK = 5; // numbers of an entry of Kernel.links
@@ -78,9 +77,12 @@ export class Kernel {
     return sumsOf(this, wide, tall);
   }
 
-  /** Some generations: all particles collide, then move. @type {Advance} */
-  advance() {
-    throw new Error("each kernel has its own");
+  /**
+   * Some generations: all particles collide, then move.
+   * @param {number} count @param {number} generation @param {Chirality} chirality @param {string} seed
+   */
+  advance(count, generation, chirality, seed) {
+    throw new Error(`no kernel for ${[count, generation, chirality, seed]}`);
   }
 }
 

@@ -25,7 +25,9 @@ export class Stream {
     this.waiting = 0; // generations that it has not
     /** @type {MeanFlow} */
     this.found = { columns: 0, rows: 0, width: 1, height: 1, u: new Float32Array(0), v: new Float32Array(0) };
-    this.fastest = 0;
+    this.fastest = this.blockage = 0;
+    /** @type {{ west: number, east: number, top: number, bottom: number } | null} of one obstacle */
+    this.box = null;
     this.look();
   }
 

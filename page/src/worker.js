@@ -98,7 +98,7 @@ export class Work {
       } catch (fault) {
         this.rest();
         this.isNew = false;
-        this.post("fault", { fault: fault.message });
+        this.post("fault", { fault: /** @type {Error} */ (fault).message });
       }
       await new Promise((go) => {
         this.channel.port1.onmessage = go;
