@@ -286,7 +286,8 @@ def numbers(asked: argparse.Namespace) -> None:
         print(f"{name.replace('_', ' '):16}{value:12.4g}")
 
 
-FIELDS_OF, SCENE = {"choices": (*FIELDS, "particles")}, word(kind=pathlib.Path, metavar="SCENE")
+FIELDS_OF: dict[str, Any] = {"choices": (*FIELDS, "particles")}
+SCENE = word(kind=pathlib.Path, metavar="SCENE")
 SIDES: dict[str, Any] = {"nargs": 2, "metavar": ("COLUMNS", "ROWS")}
 FINITE, MANY, STEP, COUNT = (
     number(-1e300, 1e300),

@@ -81,8 +81,9 @@ class Value:
         return type(self), self._values()
 
     def __eq__(self, other: object) -> bool:
-        is_same = isinstance(other, Value) and type(self) is type(other)
-        return is_same and all(map(np.array_equal, self._values(), other._values()))
+        if not isinstance(other, Value) or type(self) is not type(other):
+            return False
+        return all(map(np.array_equal, self._values(), other._values()))
 
     def __hash__(self) -> int:
         parts = (

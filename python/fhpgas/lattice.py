@@ -336,7 +336,7 @@ class Lattice(Value):
             return self.replace(states=states, generation=self.generation + generations)
         words = program.planned(len(self.states), generations, stages, capacity)
         text = program.call(self._scene(), "run", *words, is_checked=True)
-        keys = {"gas": self.gas, "chirality": self.chirality, "seed": self.seed}
+        keys: dict[str, Any] = {"gas": self.gas, "chirality": self.chirality, "seed": self.seed}
         return _lattice_of(*cells_of(text), **keys)
 
     def _span(self, generations: int) -> int:
@@ -563,8 +563,10 @@ def _states_of(values: Array, gas: Gas) -> Array:
 
 def _lattice_of(codes: Array, generation: int, **keys: Any) -> Lattice:
     """The lattice of cells that the program printed for a scene of these keys."""
-    parts = codes & SOLID - 1, (codes >> 7).view(bool)
-    return Lattice(*(Checked(read_only(part)) for part in parts), generation=generation, **keys)
+    states, solid = (
+        Checked(read_only(part)) for part in (codes & SOLID - 1, (codes >> 7).view(bool))
+    )
+    return Lattice(states, solid, generation=generation, **keys)
 
 
 def number_of(codes: Array) -> Array:
@@ -603,9 +605,9 @@ def cells_of(text: bytes, size: tuple[int, int] | None = None) -> tuple[Array, i
     if size is not None and codes.shape != size[::-1]:
         found = f"{codes.shape[1]} x {codes.shape[0]} (columns x rows)"
         raise Fault(f"the cells are {found}, and not {size[0]} x {size[1]}")
-    if (found := int(number_of(codes)[:SOLID] @ NUMBER)) != int(head[2]):
+    if (particles := int(number_of(codes)[:SOLID] @ NUMBER)) != int(head[2]):
         raise Fault(
-            f"the cells contain {found} particles, and their first line says {int(head[2])}"
+            f"the cells contain {particles} particles, and their first line says {int(head[2])}"
         )
     return codes, int(head[1])
 

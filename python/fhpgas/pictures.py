@@ -166,7 +166,8 @@ def particles(lattice: Lattice, ax: Axes) -> Axes:
     ax.add_collection(PolyCollection(outlines, facecolors=inside, edgecolors=PALE, linewidths=0.8))
     for i, (u, v) in enumerate(gas.velocities):
         here = lattice.states >> i & 1 > 0
-        x, y, looks = X[here], Y[here], {"units": "xy", "color": INK}
+        x, y = X[here], Y[here]
+        looks: dict[str, Any] = {"units": "xy", "color": INK}
         if u or v:
             ax.quiver(x, y, 0.46 * u, 0.46 * v, zorder=3, **IN_CELLS | ARROW | looks)
         else:

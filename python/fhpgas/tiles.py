@@ -213,9 +213,8 @@ class Tiles:
         ]
         call = functools.partial(_sums, self.rules, (columns, rows))
         sums = cells.map_blocks(call, new_axis=0, chunks=((4,), *counts), dtype=int)
-        return Blocks(
-            *self._computed(sums), self.rules.gas, (columns, rows), self.size, self.generation
-        )
+        (fluid, particles, px, py), gas = self._computed(sums), self.rules.gas
+        return Blocks(fluid, particles, px, py, gas, (columns, rows), self.size, self.generation)
 
     def plot(
         self, what: str = "speed", ax: Any = None, block: tuple[int, int] = (64, 64), **options: Any
@@ -330,7 +329,9 @@ def _drawn(
     numbers = [
         fields.numbers_of("a field", value(X, Y) if callable(value) else value) for value in values
     ]
-    states = fields.drawn(rules.gas, numbers, X.shape, rules.seed, (top, left), size.columns)
+    states = fields.drawn(
+        rules.gas, numbers, (below - top, right - left), rules.seed, (top, left), size.columns
+    )
     return np.where(False if solid is None else solid(X, Y), np.uint8(SOLID), states)
 
 
