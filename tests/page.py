@@ -252,10 +252,10 @@ def edits(page):
         "a click is shown before the gas has it", page.pixel(200, 90) == SOLID, page.pixel(200, 90)
     )
     page.js("fhpgas.worker.onmessage = kept, held.forEach(kept)")
-    solid = page.wait(
-        "location.hash.includes('runs=') && head.width * head.height - head.fluid"
+    link, solid = page.wait(
+        "!marks.pieces.length && head.runs && location.hash.endsWith(`&runs=${head.runs}`)"
+        " && [location.hash, head.width * head.height - head.fluid]"
     )
-    link = page.js("return location.hash")
     page.drag("dense", (200, 40))
     check("particles stay as many", particles == page.js("return head.particles"))
     page.choose("change", chirality="right")
