@@ -211,7 +211,6 @@ export class ProvedKernel extends Kernel {
 
   /** @override */
   sums(wide, tall) {
-    if (!this.calls.fhpgas_sums) return super.sums(wide, tall);
     const { width, height, walls, states } = this;
     const columns = Math.ceil(width / wide), rows = Math.ceil(height / tall), number = columns * rows;
     if (this.table.number < number) {
