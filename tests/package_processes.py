@@ -207,7 +207,8 @@ class Processes(Package):
         KeyboardInterrupt there."""
         script = (
             "import fhpgas, signal\nsignal.signal(signal.SIGINT, signal.default_int_handler)  # in"
-            " the background it is ignored\n"
+            " the background it is ignored\nsignal.signal(signal.SIGHUP, signal.SIG_DFL)  # and this"
+            " by nohup\n"
             "long = lambda seed: fhpgas.draw_gas(0.2, size=fhpgas.Size(4096, 64),"
             " seed=seed).run(10**6, 16)\n"
         )
