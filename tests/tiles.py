@@ -117,7 +117,9 @@ def refusals(client, folder):
         refused(f"{gas} with random bits", lambda: draw(0.2, gas=gas, chirality="seeded"))
     vast = draw(filling, size=fhpgas.Size(140_000, 4), tile=(70_000, 4))
     refused("a tile that no lattice can be", lambda: vast.run(100, 4))
-    refused("a folder without tiles", lambda: fhpgas.tiles.load(client, folder))
+    (folder / "empty").mkdir()
+    for name in "empty", "missing":
+        refused(f"a folder that is {name}", lambda: fhpgas.tiles.load(client, folder / name))
     told("nothing is drawn before", not (folder / "drawn").exists())
     told("particles are counted", tiles.particles == tiles.gather().particles)
     told("the tiles are drawn then", (folder / "drawn").exists())
