@@ -162,7 +162,8 @@ def killed_worker(client, folder):
         steps = 0
 
         def transition(self, key, start, finish, *words, **more):
-            self.steps += "_trim" in str(key) and (start, finish) == ("processing", "memory")
+            is_tile = str(key).startswith("('_trim")  # not what only tells a tile its place
+            self.steps += is_tile and (start, finish) == ("processing", "memory")
 
     counted = Counted()
     client.cluster.scheduler.add_plugin(counted)
