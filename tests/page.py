@@ -468,8 +468,8 @@ def large(room):
     page.choose("change", scene="HPP's square beside FHP's ring")
     check(
         "two gases have both their numbers",
-        page.wait("shown.frames.length === 2 && $('numbers').children[1].textContent").startswith(
-            "–"
+        page.wait(
+            "shown.frames.length === 2 && $('numbers').children[1].textContent.startsWith('–')"
         ),
     )
     page.ended("large")
