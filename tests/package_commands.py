@@ -447,7 +447,7 @@ class Commands(unittest.TestCase):
                 for word in (p.before.generation, f"{p.velocity:.5f}", f"{p.force:.3g}")
             ],
         )
-        wanted = r"^[\d,]+ MLUPS with 1 worker and 128 rows per belt\n1000 generations of 594 cells: about [\d.e-]+ seconds\n$"
+        wanted = r"^[\d,]+ MLUPS with 1 worker on 1 thread and 128 rows per belt\n1000 generations of 594 cells: about [\d.e-]+ seconds\n$"
         self.assertRegex(self.printed("how-long a.toml 1000 --seconds 1"), wanted)
         line = (
             self.printed("over-seeds --seeds 3 --generations 5 --block 66 9 a.toml")

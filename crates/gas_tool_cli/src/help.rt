@@ -36,24 +36,24 @@ Example: fhpgas check < scene.toml",
 };
 
 pub(crate) const RUN: Help = Help {
-    usage: "fhpgas run --generations G [--stages N] [--capacity C] < SCENE
+    usage: "fhpgas run --generations G [--threads T] [--stages N] [--capacity C] < SCENE
        (put `<` before the scene's file)",
     about: "Compute generations of the scene and print the cells",
     notes: "\
-A pipeline of N workers computes the generations. Each worker has a thread of its own and computes
-one generation, row by row, from the rows of the worker before it. The output does not depend on N
-and C.
+A pipeline of N workers computes the generations. Each worker computes one generation, row by row,
+from the rows of the worker before it. It has a thread of its own, or T threads share the workers:
+the fastest is one thread per core. The output does not depend on T, N and C.
 
 The first line has the generation reached and the number of particles. Then come the rows of the
 channel from the top, two characters per cell: `..` is empty, `##` is solid, and other cells show
 the set of directions of their particles in hexadecimal, bit i for direction i.
 
-Example: fhpgas run --generations 100 < scene.toml",
+Example: fhpgas run --generations 100 --threads 4 < scene.toml",
 };
 
 pub(crate) const COARSE: Help = Help {
-    usage: "fhpgas coarse --generations G [--stages N] [--capacity C] --block-width BW --block-height BH \
-     < SCENE
+    usage: "fhpgas coarse --generations G --block-width BW --block-height BH [--threads T] [--stages N] \
+     [--capacity C] < SCENE
        (put `<` before the scene's file)",
     about: "Compute generations of the scene and print a table of its blocks of cells",
     notes: "\
@@ -90,9 +90,15 @@ Example: fhpgas replay --generations 1 --stages 1 0 1 0 1 < scene.toml",
 
 pub(crate) const GENERATIONS: &str = "Generations (time steps) to compute: 0 to 1000000";
 
-pub(crate) const STAGES: &str = "Workers (pipeline stages), one generation each: 1 to 64";
+pub(crate) const STAGES: &str =
+    "Workers (pipeline stages), one generation each: 1 to 64 [default: 4]";
 
-pub(crate) const CAPACITY: &str = "Rows in a belt, the queue between two workers: 1 to 1024";
+pub(crate) const CAPACITY: &str =
+    "Rows in a belt, the queue between two workers: 1 to 1024 [default: 2]";
+
+pub(crate) const THREADS: &str = "\
+Threads that share the workers: 1 to N [default: N]. With --threads
+the default N is 8 T, at most 64, and the default C 128";
 
 pub(crate) const BLOCK_WIDTH: &str = "Columns of cells in a block: 1 to 4096";
 

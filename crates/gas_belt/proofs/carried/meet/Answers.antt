@@ -44,7 +44,6 @@ invariant_of-result g c =
     sym (parts-append (cells_of dirs r.width) size r.count (received r.end.ring) rest enough)
     ∙ ap (rows_in dirs r.width r.count) all
     ∙ ap₂ (λ w n. rows_in dirs w n went) same (sym c.if-spent-rx.false) in record {
-      one_belt = search rules;
       same_rows = ap (λ x. x.taken) c.of-2.ensures ∙ ap (rows_in dirs r.width r.count) look.looked.1 ∙ taken ∙ ap (λ x. x.put) (sym c.of.ensures);
       count = sym (parts_length (cells_of dirs s.width) (row_words dirs s.width) s.count went)
           ∙ ap (λ x. length x.put) (sym c.of.ensures);
