@@ -7,5 +7,6 @@ pub mod PlaneWrites
 pub mod Scatters
 pub mod Sets
 pub mod ShiftedBits
+pub mod Sides
 pub mod Shifts
 pub mod Words
