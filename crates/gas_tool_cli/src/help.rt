@@ -1,7 +1,7 @@
 //! The texts of the help: what each command does, its usage, and notes, and what its options are.
 
 /// The program's version, and the kit that proves it, without the letter of the kit's release.
-pub(crate) const VERSION: &str = "1.0.0 (rattle-kit-13 logic dac8208d650f15bf)";
+pub(crate) const VERSION: &str = "2.0.0 (rattle-kit-13 logic dac8208d650f15bf)";
 
 /// The texts of a command's help: its usage, what it does, and notes.
 #[derive(Clone, Copy)]
