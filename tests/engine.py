@@ -95,23 +95,26 @@ class Header(unittest.TestCase):
     def test_the_binding_has_its_calls_and_numbers(self):
         self.assertIn(f"#define FHPGAS_INTERFACE {engine.INTERFACE}\n", HEADER)
         for name, number in (engine.GASES | engine.CHIRALITIES).items():
-            self.assertIn(f"FHPGAS_{name.upper().replace('-', '_')} = {number}", HEADER)
+            with self.subTest(name=name):
+                self.assertIn(f"FHPGAS_{name.upper().replace('-', '_')} = {number}", HEADER)
         for name, (result, *taken) in engine.CALLS.items():
-            wanted, pairs = prototypes()[name]
-            self.assertIs(result, NUMBERS[wanted], name)
-            for kind, (c, called) in zip(taken, pairs, strict=True):
-                if array := re.fullmatch(r"(const )?(\w+) \*", c):
-                    is_written = "" if array[1] else "_W"
-                    name = f"ndpointer_{ARRAYS[array[2]]}_C{is_written}"
-                    self.assertEqual(kind.__name__, name, called)
-                else:
-                    self.assertIs(kind, NUMBERS[c], called)
+            with self.subTest(call=name):
+                wanted, pairs = prototypes()[name]
+                self.assertIs(result, NUMBERS[wanted], name)
+                for kind, (c, called) in zip(taken, pairs, strict=True):
+                    if array := re.fullmatch(r"(const )?(\w+) \*", c):
+                        is_written = "" if array[1] else "_W"
+                        name = f"ndpointer_{ARRAYS[array[2]]}_C{is_written}"
+                        self.assertEqual(kind.__name__, name, called)
+                    else:
+                        self.assertIs(kind, NUMBERS[c], called)
 
     def test_it_is_c_and_cpp(self):
         needs.command("cc")
         for language in ("-xc -std=c99", "-xc++ -std=c++11"):
-            words = f"cc {language} -Wall -Wextra -Wpedantic -Werror -fsyntax-only -".split()
-            subprocess.run(words, input=HEADER, text=True, check=True)
+            with self.subTest(language=language):
+                words = f"cc {language} -Wall -Wextra -Wpedantic -Werror -fsyntax-only -".split()
+                subprocess.run(words, input=HEADER, text=True, check=True)
 
 
 class Notices(unittest.TestCase):
@@ -120,10 +123,11 @@ class Notices(unittest.TestCase):
         maps = [*(needs.ROOT / "crates").glob("*/out/libfhpgas-*.map")]
         own = {path.name for path in (needs.ROOT / "crates").glob("*")}
         for path in maps:
-            named = re.findall(r"\(\.text\.(\w+)", path.read_text())
-            calls = {name for name in named if name.startswith("fhpgas_")}
-            self.assertEqual(calls, {f"fhpgas_{name}" for name in prototypes()})
-            self.assertLessEqual({*named} - calls, own)
+            with self.subTest(path=path):
+                named = re.findall(r"\(\.text\.(\w+)", path.read_text())
+                calls = {name for name in named if name.startswith("fhpgas_")}
+                self.assertEqual(calls, {f"fhpgas_{name}" for name in prototypes()})
+                self.assertLessEqual({*named} - calls, own)
 
 
 class Refusals(unittest.TestCase):
@@ -241,13 +245,15 @@ class Refusals(unittest.TestCase):
     def test_lengths(self):
         words, work = engine.library().fhpgas_words, engine.library().fhpgas_work_words
         for planes in (0, 1, 7, 8, 9, 2**32 - 1):
-            for width in (0, 1, 64, 65, 65536, 65537, 2**32 - 1):
-                for height in (0, 1, 3, 65536, 65537):
-                    lawful = 1 <= planes <= 8 and 1 <= width <= 65536 and 1 <= height <= 65536
-                    size = planes * -(-width // 64) * height if lawful else 0
-                    self.assertEqual(words(planes, width, height), size)
+            with self.subTest(planes=planes):
+                for width in (0, 1, 64, 65, 65536, 65537, 2**32 - 1):
+                    for height in (0, 1, 3, 65536, 65537):
+                        lawful = 1 <= planes <= 8 and 1 <= width <= 65536 and 1 <= height <= 65536
+                        size = planes * -(-width // 64) * height if lawful else 0
+                        self.assertEqual(words(planes, width, height), size)
         for gas, width in ((3, 1), (0, 0), (0, 65537), (2**32 - 1, 64)):
-            self.assertEqual(work(gas, width), 0)
+            with self.subTest(gas=gas, width=width):
+                self.assertEqual(work(gas, width), 0)
 
 
 class Engine(unittest.TestCase):
@@ -332,12 +338,13 @@ class Engine(unittest.TestCase):
         call = engine._call
         watched = lambda name, *given: (calls.append(name), call(name, *given))[1]
         for cut, runs, packs in ((1, 9, 37), (100 * 37 * 2, 5, 1), (100 * 10, 9, 4)):
-            calls.clear()
-            with unittest.mock.patch.multiple(engine, CUT=cut, CACHED=cut, _call=watched):
-                np.testing.assert_array_equal(engine.run(lattice, 9), states)
-                counts = [calls.count(name) for name in ("advance", "pack")]
-                self.assertEqual(counts, [runs, packs])
-                np.testing.assert_array_equal(engine.sums(lattice, 9, 7, 5), sums)
+            with self.subTest(cut=cut):
+                calls.clear()
+                with unittest.mock.patch.multiple(engine, CUT=cut, CACHED=cut, _call=watched):
+                    np.testing.assert_array_equal(engine.run(lattice, 9), states)
+                    counts = [calls.count(name) for name in ("advance", "pack")]
+                    self.assertEqual(counts, [runs, packs])
+                    np.testing.assert_array_equal(engine.sums(lattice, 9, 7, 5), sums)
 
     def test_four_threads_have_equal_cells(self):
         lattices = [drawn(np.random.default_rng(k), (1000, 300), "fhp-rest") for k in range(4)]
@@ -430,13 +437,15 @@ class Choice(unittest.TestCase):
             ({"capacity": 8}, {}),
             ({}, {"FHPGAS": program}),
         ):
-            found = self.by_engine(lambda: lattice.run(5, **plan), **environment)
-            self.assertEqual(found, (run, False))
+            with self.subTest(plan=plan, environment=environment):
+                found = self.by_engine(lambda: lattice.run(5, **plan), **environment)
+                self.assertEqual(found, (run, False))
         coarse, is_ours = self.by_engine(lambda: lattice.coarse(5))
         self.assertTrue(is_ours)
         for plan, environment in (({"stages": 1}, {}), ({}, {"FHPGAS": program})):
-            found = self.by_engine(lambda: lattice.coarse(5, **plan), **environment)
-            self.assertEqual(found, (coarse, False))
+            with self.subTest(plan=plan, environment=environment):
+                found = self.by_engine(lambda: lattice.coarse(5, **plan), **environment)
+                self.assertEqual(found, (coarse, False))
         self.assertEqual(self.by_engine(lambda: [*lattice.every(5, 1)][1]), (run, True))
 
     def test_a_large_lattice_runs_long_by_the_program(self):
@@ -456,9 +465,10 @@ class Choice(unittest.TestCase):
             (blank(8200, 4096, "left"), 700, 16, True),
         ]
         for lattice, generations, stages, is_ours in cases:
-            with unittest.mock.patch.object(engine, "plan", lambda *words: (stages, 128)):
-                found = self.by_engine(lambda: engine.serves(lattice, generations))[0]
-            self.assertEqual(found, is_ours, (lattice, generations, stages))
+            with self.subTest(lattice=lattice, generations=generations, stages=stages):
+                with unittest.mock.patch.object(engine, "plan", lambda *words: (stages, 128)):
+                    found = self.by_engine(lambda: engine.serves(lattice, generations))[0]
+                self.assertEqual(found, is_ours, (lattice, generations, stages))
         missing = unittest.mock.Mock(side_effect=fhpgas.Fault("none"))
         with unittest.mock.patch.multiple(engine, program_path=missing, plan=lambda *_: (16, 128)):
             self.assertTrue(self.by_engine(lambda: engine.serves(large, 10**6))[0])
@@ -486,10 +496,13 @@ class Choice(unittest.TestCase):
     def test_every_level_that_runs_here_has_equal_cells(self):
         states, flags = engine.run(self.lattice, 50), engine.flags_of_processors()
         for level, needed in engine.LEVELS.items():
-            if needed <= flags:
-                path = pathlib.Path(engine.__file__).with_name(f"libfhpgas-{level}.so")
-                with unittest.mock.patch.object(engine, "library", lambda: engine._opened(path)):
-                    np.testing.assert_array_equal(engine.run(self.lattice, 50), states)
+            with self.subTest(level=level):
+                if needed <= flags:
+                    path = pathlib.Path(engine.__file__).with_name(f"libfhpgas-{level}.so")
+                    with unittest.mock.patch.object(
+                        engine, "library", lambda: engine._opened(path)
+                    ):
+                        np.testing.assert_array_equal(engine.run(self.lattice, 50), states)
 
     def test_without_library_and_program_one_fault_says_so(self):
         script = (
@@ -517,6 +530,4 @@ class Choice(unittest.TestCase):
 
 
 if __name__ == "__main__":
-    ran = unittest.main(exit=False, verbosity=0).result
-    failed, skipped = len(ran.failures) + len(ran.errors), [why for _, why in ran.skipped]
-    sys.exit(needs.told(ran.testsRun - failed - len(skipped), failed, *skipped))
+    needs.run_tests()

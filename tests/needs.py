@@ -14,6 +14,7 @@ import shutil
 import signal
 import subprocess
 import sys
+import unittest
 
 ROOT = pathlib.Path(__file__).resolve().parent.parent
 LEFT_OUT = 77  # the exit status of a script that left something out
@@ -48,6 +49,25 @@ def told(passed, failed, *left_out):
     more = f", left out: {', '.join(left_out)}" if left_out else ""
     print(f"{passed} passed, {failed} failed{more}")
     return 1 if failed or not passed else LEFT_OUT if left_out else 0
+
+
+class Cases(unittest.TextTestResult):
+    """Counts each case of a test, its `subTest`, for itself."""
+
+    number = 0
+
+    def addSubTest(self, test, case, outcome):
+        super().addSubTest(test, case, outcome)
+        self.number += 1
+
+
+def run_tests():
+    """Runs the unit tests of the script that calls it, prints the counts of tests and of their
+    cases, and ends it."""
+    runner = unittest.TextTestRunner(verbosity=0, resultclass=Cases)
+    ran = unittest.main(exit=False, testRunner=runner).result
+    failed, skipped = len(ran.failures) + len(ran.errors), [why for _, why in ran.skipped]
+    sys.exit(told(ran.testsRun + ran.number - failed - len(skipped), failed, *skipped))
 
 
 def built_program(name="fhpgas"):

@@ -5,7 +5,6 @@ import math
 import os
 import pathlib
 import shutil
-import sys
 import tempfile
 import unittest
 
@@ -54,11 +53,3 @@ class Package(unittest.TestCase):
         np.testing.assert_allclose(
             np.asarray(found, float), np.asarray(wanted, float), rtol=0, atol=10.0**-places
         )
-
-
-def run_tests():
-    """Runs the tests of the script that calls it, prints the counts, and ends it."""
-    ran = unittest.main(exit=False, verbosity=0).result
-    failed = len(ran.failures) + len(ran.errors)
-    print(f"{ran.testsRun - failed} passed, {failed} failed")
-    sys.exit(1 if failed else 0)

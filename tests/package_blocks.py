@@ -6,7 +6,8 @@ import dataclasses
 import itertools
 import math
 
-from package import ROOT3, TABLE, Package, run_tests, wind
+import needs
+from package import ROOT3, TABLE, Package, wind
 
 import fhpgas
 import numpy as np
@@ -24,38 +25,39 @@ class Blocks(Package):
             ("hpp", 3 / 8, 1 / 8, 2 / 3, 4 / 3),
             ("fhp-rest", 3 / 16, ROOT3 / 16, 8 / 21, 8 / 7 * (1 - 5 / 6 * 35 / 156 * u**2)),
         ):
-            blocks, late = (
-                fhpgas.read_table(TABLE, gas, (2, 2), Size(6, 2), generation)
-                for generation in (0, 5)
-            )
-            for name, wanted in (
-                ("fluid", [3, 4, 0]),
-                ("particles", [8, 0, 0]),
-                ("px", [3, 0, 0]),
-                ("py", [1, 0, 0]),
-                ("density", [8 / 3, 0, nan]),
-                ("filling", [filling, 0, nan]),
-                ("pressure", [pressure, 0, nan]),
-                ("east", [east, nan, nan]),
-                ("north", [north, nan, nan]),
-                ("speed", [math.hypot(east, north), nan, nan]),
-            ):
-                self.same(getattr(blocks, name), [wanted])
-            self.same(blocks.velocity, [[[east, nan, nan]], [[north, nan, nan]]])
-            self.assertEqual(
-                (
-                    repr(blocks),
-                    (blocks + blocks).particles.tolist(),
-                    sum([blocks] * 3).px.tolist(),
-                    blocks.text(),
-                ),
-                (
-                    f"<Blocks 3 x 1 of 2 x 2 cells of {gas}, generation 0>",
-                    [[16, 0, 0]],
-                    [[9, 0, 0]],
-                    TABLE,
-                ),
-            )
+            with self.subTest(gas=gas):
+                blocks, late = (
+                    fhpgas.read_table(TABLE, gas, (2, 2), Size(6, 2), generation)
+                    for generation in (0, 5)
+                )
+                for name, wanted in (
+                    ("fluid", [3, 4, 0]),
+                    ("particles", [8, 0, 0]),
+                    ("px", [3, 0, 0]),
+                    ("py", [1, 0, 0]),
+                    ("density", [8 / 3, 0, nan]),
+                    ("filling", [filling, 0, nan]),
+                    ("pressure", [pressure, 0, nan]),
+                    ("east", [east, nan, nan]),
+                    ("north", [north, nan, nan]),
+                    ("speed", [math.hypot(east, north), nan, nan]),
+                ):
+                    self.same(getattr(blocks, name), [wanted])
+                self.same(blocks.velocity, [[[east, nan, nan]], [[north, nan, nan]]])
+                self.assertEqual(
+                    (
+                        repr(blocks),
+                        (blocks + blocks).particles.tolist(),
+                        sum([blocks] * 3).px.tolist(),
+                        blocks.text(),
+                    ),
+                    (
+                        f"<Blocks 3 x 1 of 2 x 2 cells of {gas}, generation 0>",
+                        [[16, 0, 0]],
+                        [[9, 0, 0]],
+                        TABLE,
+                    ),
+                )
         self.assertEqual(
             [(one + two).generation for one, two in ((blocks, late), (late, blocks))], [5, 0]
         )
@@ -95,13 +97,14 @@ class Blocks(Package):
             ("fhp1", (4, 24, 16, -8), (4, 3, -6, 3)),
             ("hpp", (4, 16, 4, 4), (4, 3, 3, -3)),
         ):
-            for sums in (largest, small):
-                self.assertEqual(read(gas, *sums).px[0, 0], sums[2])
-                self.assertEqual(read(gas, *sums).most()["fluid"].tolist(), [[4, 4]])
-                for k in range(4) if sums is largest else (2, 3):
-                    more = [n + (n > 0) - (n < 0) if i == k else n for i, n in enumerate(sums)]
-                    name = ("fluid", "particles", "px", "py")[k]
-                    self.fault(f"column 0 row 0 has {name} {more[k]}", read, gas, *more)
+            with self.subTest(gas=gas):
+                for sums in (largest, small):
+                    self.assertEqual(read(gas, *sums).px[0, 0], sums[2])
+                    self.assertEqual(read(gas, *sums).most()["fluid"].tolist(), [[4, 4]])
+                    for k in range(4) if sums is largest else (2, 3):
+                        more = [n + (n > 0) - (n < 0) if i == k else n for i, n in enumerate(sums)]
+                        name = ("fluid", "particles", "px", "py")[k]
+                        self.fault(f"column 0 row 0 has {name} {more[k]}", read, gas, *more)
         table = wind((31, 16)).blocks(8, 8).text()
         self.fault(
             "of another gas, size or block", fhpgas.read_table, table, "fhp1", (8, 8), Size(31, 15)
@@ -145,10 +148,11 @@ class Blocks(Package):
         x, y = of(0, 0).positions
         y = y[:, None]
         for fluid in (1 + 0 * holed, holed):
-            self.same(
-                of(-0.01 * y, 0.01 * x, fluid).vorticity[:, 1:4],
-                np.where(fluid, 0.02, math.nan)[:, 1:4],
-            )
+            with self.subTest(fluid=fluid.tolist()):
+                self.same(
+                    of(-0.01 * y, 0.01 * x, fluid).vorticity[:, 1:4],
+                    np.where(fluid, 0.02, math.nan)[:, 1:4],
+                )
         self.same(of(y**2, 0 * x).vorticity[1:5], -2 * y[1:5] * np.ones(5))
         north = np.cos(2 * math.pi * x / 40)
         self.same(of(0 * y, north).vorticity, [(np.roll(north, -1) - np.roll(north, 1)) / 16] * 6)
@@ -204,26 +208,30 @@ class Blocks(Package):
         for sigma, (first, last, surface, fluid) in itertools.product(
             (0.7, 1, 3), ((24, 40, 0, whole), (15, 24, 225, whole * (np.arange(40) > 14)[:, None]))
         ):
-            east, blocks = of(lambda y: 0.001 * (y - surface), fluid)
-            smooth, rows = blocks.smooth(sigma), slice(first, last)
-            self.same(smooth.east[rows], east[rows])
-            self.same(smooth.density, blocks.density)
-            self.same(smooth.vorticity[first + 1 : last], np.full((last - first - 1, 5), -0.001))
+            with self.subTest(sigma=sigma, first=first):
+                east, blocks = of(lambda y: 0.001 * (y - surface), fluid)
+                smooth, rows = blocks.smooth(sigma), slice(first, last)
+                self.same(smooth.east[rows], east[rows])
+                self.same(smooth.density, blocks.density)
+                self.same(
+                    smooth.vorticity[first + 1 : last], np.full((last - first - 1, 5), -0.001)
+                )
 
     def test_values_come_back_from_other_forms(self):
         """From netCDF, zarr and .npz, with gas, sizes and generation, which a table lacks."""
         start = wind((64, 47), "fhp-rest", "left").replace(generation=10**11, seed=2**62 + 1)
         summed = start.blocks(7, 5) + start.blocks(7, 5)
         for value in (start, summed, summed.smooth(1)):
-            kind, path = type(value), self.room / "kept.nc"
-            dataset = value.to_xarray()
-            dataset.to_netcdf(path)
-            dataset.to_zarr(self.room / "kept.zarr", mode="w")
-            for back in (xarray.open_dataset(path), xarray.open_zarr(self.room / "kept.zarr")):
-                self.assertEqual(kind.from_xarray(back), value)
-                back.close()
-            value.save(self.room / "kept.npz")
-            self.assertEqual(kind.load(self.room / "kept.npz"), value)
+            with self.subTest(value=value):
+                kind, path = type(value), self.room / "kept.nc"
+                dataset = value.to_xarray()
+                dataset.to_netcdf(path)
+                dataset.to_zarr(self.room / "kept.zarr", mode="w")
+                for back in (xarray.open_dataset(path), xarray.open_zarr(self.room / "kept.zarr")):
+                    self.assertEqual(kind.from_xarray(back), value)
+                    back.close()
+                value.save(self.room / "kept.npz")
+                self.assertEqual(kind.load(self.room / "kept.npz"), value)
         with np.load(self.room / "kept.npz") as found:  # by numpy alone
             self.assertEqual((str(found["gas"]), found["size"].tolist()), ("fhp-rest", [64, 47]))
         dataset, (x, y) = summed.to_xarray(), summed.positions
@@ -251,15 +259,16 @@ class Blocks(Package):
         a) / (1 + a)."""
         noise, number = np.random.default_rng(1).normal(size=(20_000, 3)), 20_000
         for a in (0, 0.5, 0.9):
-            series = noise.copy()
-            for before, after in zip(series, series[1:]):
-                after += a * before
-            found = fhpgas.mean_of_series(series)
-            wanted, tau = number * (1 - a) / (1 + a), (1 + a) / (1 - a) / 2
-            apart = 4 * math.sqrt(2 * (10 * tau + 1) / number)  # by the rule's source
-            self.assertLess(abs(found.independent / wanted - 1).max(), apart)
-            self.assertLess(abs(found.error * (1 - a) * math.sqrt(number) - 1).max(), apart)
-            self.same(found.mean, series.mean(0))
+            with self.subTest(a=a):
+                series = noise.copy()
+                for before, after in zip(series, series[1:]):
+                    after += a * before
+                found = fhpgas.mean_of_series(series)
+                wanted, tau = number * (1 - a) / (1 + a), (1 + a) / (1 - a) / 2
+                apart = 4 * math.sqrt(2 * (10 * tau + 1) / number)  # by the rule's source
+                self.assertLess(abs(found.independent / wanted - 1).max(), apart)
+                self.assertLess(abs(found.error * (1 - a) * math.sqrt(number) - 1).max(), apart)
+                self.same(found.mean, series.mean(0))
         of_one = fhpgas.mean_of_series(series[:, 0])
         self.assertAlmostEqual(of_one.independent, found.independent[0])
         self.assertEqual(fhpgas.mean_of_series([2, 2, 2]), (2, 0, 3))
@@ -267,4 +276,4 @@ class Blocks(Package):
 
 
 if __name__ == "__main__":
-    run_tests()
+    needs.run_tests()

@@ -243,8 +243,9 @@ class Commands(unittest.TestCase):
             (np.zeros(3), "[row, column]"),
             (np.array([["a"] * 4] * 3), "[row, column]"),
         ):
-            with self.assertRaisesRegex(fhpgas.Fault, re.escape(part)):
-                blocks.plot(what, Figure().add_subplot())
+            with self.subTest(part=part, what=str(what)):
+                with self.assertRaisesRegex(fhpgas.Fault, re.escape(part)):
+                    blocks.plot(what, Figure().add_subplot())
 
     def test_arrows_stand_where_particles_are(self):
         """A pair on an even row, a particle on an odd one, half a cell to the east, one at rest,
@@ -300,19 +301,20 @@ class Commands(unittest.TestCase):
             [True] * 3 + [False, True],
         )  # and the bar
         for suffix in ("gif", "webp", "apng"):
-            path = self.room / f"film.{suffix}"
-            fhpgas.film(path, (lattice for lattice in many), "vorticity", smooth=1, dpi=50)
-            with Image.open(path) as film:
-                frames = [
-                    np.asarray(frame.convert("RGB")) for frame in ImageSequence.Iterator(film)
-                ]
-            self.assertEqual((len(frames), frames[0].shape[1]), (4, 350))
-            self.assertTrue(
-                all((a != b).any() for a, b in itertools.combinations(frames, 2)), suffix
-            )
-            self.assertTrue(
-                all((frame[:, 310:] == frames[0][:, 310:]).all() for frame in frames), suffix
-            )  # the bar of colours
+            with self.subTest(suffix=suffix):
+                path = self.room / f"film.{suffix}"
+                fhpgas.film(path, (lattice for lattice in many), "vorticity", smooth=1, dpi=50)
+                with Image.open(path) as film:
+                    frames = [
+                        np.asarray(frame.convert("RGB")) for frame in ImageSequence.Iterator(film)
+                    ]
+                self.assertEqual((len(frames), frames[0].shape[1]), (4, 350))
+                self.assertTrue(
+                    all((a != b).any() for a, b in itertools.combinations(frames, 2)), suffix
+                )
+                self.assertTrue(
+                    all((frame[:, 310:] == frames[0][:, 310:]).all() for frame in frames), suffix
+                )  # the bar of colours
         fhpgas.film(self.room / "few.gif", self.start.replace(states=self.start.states).every(1, 2))
         for call, part in (
             (lambda: fhpgas.film("a.gif", []), "a state or more"),
@@ -323,8 +325,9 @@ class Commands(unittest.TestCase):
             (lambda: fhpgas.plot(start, "particles"), "no picture of 'particles'"),
             (lambda: fhpgas.film("a.gif", many, fps=0), "frames per second"),
         ):
-            with self.assertRaisesRegex(fhpgas.Fault, part):
-                call()
+            with self.subTest(part=part):
+                with self.assertRaisesRegex(fhpgas.Fault, part):
+                    call()
 
     @unittest.skipUnless(shutil.which("ffmpeg"), "ffmpeg is missing")
     def test_a_film_is_written_as_mp4(self):
@@ -344,7 +347,8 @@ class Commands(unittest.TestCase):
 
     def test_every_command_has_help_and_refuses_what_does_not_fit(self):
         for words in COMMANDS:
-            self.assertIn("usage: ", self.printed(words, "--help"))
+            with self.subTest(words=words):
+                self.assertIn("usage: ", self.printed(words, "--help"))
         self.assertEqual(self.printed("--version"), f"fhpgas-tools {fhpgas.__version__}\n")
         (self.room / "a.gif").unlink(missing_ok=True)
         refused = [(2, f"{words} --colour", "fhpgas-tools: ") for words in COMMANDS]
@@ -354,9 +358,10 @@ class Commands(unittest.TestCase):
             for line in lines.split("\n")[1:-1]
         ]
         for status, words, part in refused:
-            ended, out, err = self.command(words)
-            self.assertEqual((ended, out, err.count("\n")), (status, "", 1), (words, out, err))
-            self.assertIn(part, err, words)
+            with self.subTest(words=words):
+                ended, out, err = self.command(words)
+                self.assertEqual((ended, out, err.count("\n")), (status, "", 1), (words, out, err))
+                self.assertIn(part, err, words)
         self.assertFalse((self.room / "a.gif").exists())
 
     def test_the_parser_knows_the_names_of_the_package(self):
@@ -374,13 +379,14 @@ class Commands(unittest.TestCase):
             ("--version", 0, fhpgas.__version__),
             ("film a.toml a.gif --every 1 --until 1", 1, "lacks the package numpy"),
         ):
-            words = [sys.executable, "-S", "-m", "fhpgas", *words.split()]
-            done = subprocess.run(
-                words, input="x = " + "9" * 10_000, capture_output=True, text=True
-            )
-            self.assertEqual(
-                (done.returncode, part in done.stdout + done.stderr), (status, True), done
-            )
+            with self.subTest(words=words):
+                words = [sys.executable, "-S", "-m", "fhpgas", *words.split()]
+                done = subprocess.run(
+                    words, input="x = " + "9" * 10_000, capture_output=True, text=True
+                )
+                self.assertEqual(
+                    (done.returncode, part in done.stdout + done.stderr), (status, True), done
+                )
 
     def test_drawn_scenes_are_as_asked(self):
         """The second reader counts the same cells as the program, and the scenes have what was
@@ -395,13 +401,14 @@ class Commands(unittest.TestCase):
             ("porous --share 1 --height 5 --wind 0.1", 320),
             ("blocks --filling 0.20005 --closed", 24),
         ):
-            text = self.printed("draw", words)
-            summary = fhpgas.check(text)
-            self.assertEqual(
-                (summary.solid, summary.particles),
-                (solid, second_reader.read(text.encode(), 10_000).particles()),
-                words,
-            )
+            with self.subTest(words=words):
+                text = self.printed("draw", words)
+                summary = fhpgas.check(text)
+                self.assertEqual(
+                    (summary.solid, summary.particles),
+                    (solid, second_reader.read(text.encode(), 10_000).particles()),
+                    words,
+                )
         self.assertEqual(
             self.printed("draw blocks --gas hpp --filling 0.03 --seed 9 --width 4999"),
             'version = 2\ngas = "hpp"\nchirality = "seeded"\nseed = 9\nwidth = 4999\nheight ='
@@ -480,10 +487,11 @@ class Commands(unittest.TestCase):
         self.assertEqual(self.printed("long-run a.toml 10 4 kept"), wanted)
         self.assertEqual(fhpgas.Lattice.load(self.room / "kept"), self.start.run(10))
         for generations in 10, 4:
-            self.assertEqual(
-                self.printed(f"long-run a.toml {generations} 4 kept"),
-                "kept has generation 10, so there was nothing to run\n",
-            )
+            with self.subTest(generations=generations):
+                self.assertEqual(
+                    self.printed(f"long-run a.toml {generations} 4 kept"),
+                    "kept has generation 10, so there was nothing to run\n",
+                )
 
     def test_the_last_table_over_time_is_of_the_last_generation(self):
         heads = re.findall(r"generation \d+", self.printed("over-time later.toml 7 2"))
@@ -515,10 +523,11 @@ class Commands(unittest.TestCase):
             found, f"{'filling':16}{0.2:12}\n{'speed':16}{0.3:12}\n{told}"
         )  # 120 particles in 100 cells, 72 halves eastwards
         for words in ("three --scene a.toml", "table --scene a.toml --block 11 9", "later.toml"):
-            self.assertIn(
-                f"filling{self.start.particles / 6 / self.start.fluid:21.4g}",
-                self.printed("numbers --length 9 --table", words),
-            )
+            with self.subTest(words=words):
+                self.assertIn(
+                    f"filling{self.start.particles / 6 / self.start.fluid:21.4g}",
+                    self.printed("numbers --length 9 --table", words),
+                )
 
     def test_pictures_of_a_scene_of_its_cells_and_of_its_table_are_one(self):
         high = self.start.run(3).blocks(11, 9).density.max()
@@ -527,33 +536,34 @@ class Commands(unittest.TestCase):
             "three --gas fhp1 --size 66 9 --block 11 9",
             "table --scene a.toml --block 11 9",
         ):
-            self.assertRegex(
-                self.printed("picture density a.png", words),
-                f"^density from [.0-9]+ to {high:.4g}\n$",
-            )
+            with self.subTest(words=words):
+                self.assertRegex(
+                    self.printed("picture density a.png", words),
+                    f"^density from [.0-9]+ to {high:.4g}\n$",
+                )
         for name, begins in (
             ("a.svg", b"<?xml"),
             ("a.pdf", b"%PDF"),
             ("a.webp", b"RIFF"),
             ("a.png", b"\x89PNG"),
         ):
-            self.printed("picture speed", name, "later.toml a.toml")
-            self.assertEqual((self.room / name).read_bytes()[: len(begins)], begins)
+            with self.subTest(name=name):
+                self.printed("picture speed", name, "later.toml a.toml")
+                self.assertEqual((self.room / name).read_bytes()[: len(begins)], begins)
         self.assertEqual(self.printed("picture particles a.svg three --scene a.toml"), "")
 
     def test_a_film_computes_each_generation_once(self):
         for more in ("", "--flow 0.1"):
-            run = fhpgas.Lattice.run
-            with unittest.mock.patch.object(fhpgas.Lattice, "run", autospec=True) as call:
-                call.side_effect = run
-                told = self.printed(
-                    "film a.toml a.gif --every 5 --until 40 --what density --block 11 9", more
-                )
-            self.assertEqual(told, "a.gif: 9 frames, generations 0 to 40\n")
-            self.assertEqual(sum(each.args[1] for each in call.call_args_list), 40)
+            with self.subTest(more=more):
+                run = fhpgas.Lattice.run
+                with unittest.mock.patch.object(fhpgas.Lattice, "run", autospec=True) as call:
+                    call.side_effect = run
+                    told = self.printed(
+                        "film a.toml a.gif --every 5 --until 40 --what density --block 11 9", more
+                    )
+                self.assertEqual(told, "a.gif: 9 frames, generations 0 to 40\n")
+                self.assertEqual(sum(each.args[1] for each in call.call_args_list), 40)
 
 
 if __name__ == "__main__":
-    ran = unittest.main(exit=False, verbosity=0).result
-    failed, skipped = len(ran.failures) + len(ran.errors), [why for _, why in ran.skipped]
-    sys.exit(needs.told(ran.testsRun - failed - len(skipped), failed, *skipped))
+    needs.run_tests()

@@ -9,7 +9,8 @@ import os
 import subprocess
 import sys
 
-from package import GASES, ROOT3, Package, run_tests
+import needs
+from package import GASES, ROOT3, Package
 
 import fhpgas
 import numpy as np
@@ -86,46 +87,50 @@ class Drawing(Package):
             ]
         ).T
         for gas in map(fhpgas.gas_named, GASES):
-            chances = fhpgas.equilibrium(gas, d, u, v)
-            self.same(
-                (chances.sum(0), *(gas.velocities.T @ chances)),
-                gas.directions * d * np.array([np.ones(6), u, v]),
-            )
-            odds = np.log(chances[:, :4] / (1 - chances[:, :4]))
-            states = slice(1 << gas.directions)
-            self.same(gas.bits[states] @ odds, gas.bits[gas.collisions("left")[states]] @ odds, 10)
+            with self.subTest(gas=gas.name):
+                chances = fhpgas.equilibrium(gas, d, u, v)
+                self.same(
+                    (chances.sum(0), *(gas.velocities.T @ chances)),
+                    gas.directions * d * np.array([np.ones(6), u, v]),
+                )
+                odds = np.log(chances[:, :4] / (1 - chances[:, :4]))
+                states = slice(1 << gas.directions)
+                self.same(
+                    gas.bits[states] @ odds, gas.bits[gas.collisions("left")[states]] @ odds, 10
+                )
         self.same(fhpgas.equilibrium("hpp", 0.2), [0.2] * 4)
 
     def test_a_gas_is_drawn_from_the_raw_bits_of_pcg64(self):
         """As plain integers give it, with or without vector instructions, row by row or at once."""
         seed, shear = (1 << 40) + 5, (0.2, 0.3 * np.cos(np.arange(500) / 9)[:, None], 0.0)
         for name in GASES:
-            gas = fhpgas.gas_named(name)
-            found = fhpgas.draw_gas(
-                0.2, shear[1][:11], size=Size(37, 11), gas=name, seed=seed
-            ).states
-            self.assertEqual(
-                found.tolist(),
-                plainly_drawn(
-                    fhpgas.equilibrium(gas, 0.2, shear[1][:11])[..., 0], 37, 11, seed
-                ).tolist(),
-            )
-            self.assertEqual(hashlib.sha256(found.tobytes()).hexdigest(), DRAWN[name])
-            values = [np.array(field) for field in shear]
-            whole = fhpgas.fields.drawn(gas, values, (500, 130), 9)
-            for first, last, left, right in (
-                (0, 1, 0, 130),
-                (1, 300, 0, 129),
-                (300, 500, 3, 8),
-                (2, 9, 4, 130),
-                (499, 500, 129, 130),
-            ):
-                part = [value[first:last] if value.ndim else value for value in values]
-                shape = last - first, right - left
+            with self.subTest(gas=name):
+                gas = fhpgas.gas_named(name)
+                found = fhpgas.draw_gas(
+                    0.2, shear[1][:11], size=Size(37, 11), gas=name, seed=seed
+                ).states
                 self.assertEqual(
-                    fhpgas.fields.drawn(gas, part, shape, 9, (first, left), 130).tolist(),
-                    whole[first:last, left:right].tolist(),
+                    found.tolist(),
+                    plainly_drawn(
+                        fhpgas.equilibrium(gas, 0.2, shear[1][:11])[..., 0], 37, 11, seed
+                    ).tolist(),
                 )
+                self.assertEqual(hashlib.sha256(found.tobytes()).hexdigest(), DRAWN[name])
+                values = [np.array(field) for field in shear]
+                whole = fhpgas.fields.drawn(gas, values, (500, 130), 9)
+                for first, last, left, right in (
+                    (0, 1, 0, 130),
+                    (1, 300, 0, 129),
+                    (300, 500, 3, 8),
+                    (2, 9, 4, 130),
+                    (499, 500, 129, 130),
+                ):
+                    part = [value[first:last] if value.ndim else value for value in values]
+                    shape = last - first, right - left
+                    self.assertEqual(
+                        fhpgas.fields.drawn(gas, part, shape, 9, (first, left), 130).tolist(),
+                        whole[first:last, left:right].tolist(),
+                    )
         script = (
             "import fhpgas, hashlib, numpy as np; east = 0.3 * np.cos(np.arange(11) / 9)[:,"
             " None]\nfor gas in fhpgas.GASES:\n"
@@ -176,18 +181,26 @@ class Drawing(Package):
         for row, (radius, hexagon, square) in itertools.product(
             (8, 9), ((0, 1, 1), (1, 7, 5), (2, 19, 13))
         ):
-            self.assertEqual(
-                [fhpgas.disc(Size(40, 24), 39, row, radius, gas).sum() for gas in ("fhp1", "hpp")],
-                [hexagon, square],
-            )
+            with self.subTest(row=row, radius=radius):
+                self.assertEqual(
+                    [
+                        fhpgas.disc(Size(40, 24), 39, row, radius, gas).sum()
+                        for gas in ("fhp1", "hpp")
+                    ],
+                    [hexagon, square],
+                )
         for gas, (row, radius) in itertools.product(
             ("fhp1", "hpp"), ((0, 5.5), (7, 11), (22, 7 * ROOT3), (23, 60), (12, math.sqrt(43)))
         ):
-            X, Y = fhpgas.positions(Size(40, 24), gas)
-            apart = [np.hypot(X - X[row, 33] + turn, Y - Y[row]) for turn in (-80, -40, 0, 40, 80)]
-            self.same(
-                fhpgas.disc(Size(40, 24), 33, row, radius, gas), np.min(apart, 0) <= radius + 1e-9
-            )
+            with self.subTest(gas=gas, row=row, radius=radius):
+                X, Y = fhpgas.positions(Size(40, 24), gas)
+                apart = [
+                    np.hypot(X - X[row, 33] + turn, Y - Y[row]) for turn in (-80, -40, 0, 40, 80)
+                ]
+                self.same(
+                    fhpgas.disc(Size(40, 24), 33, row, radius, gas),
+                    np.min(apart, 0) <= radius + 1e-9,
+                )
 
     def test_shapes_have_their_cells(self):
         corners = [(5, 5), (60, 12), (30, 55)]
@@ -226,10 +239,11 @@ class Drawing(Package):
         )
         self.assertEqual(openings[:33], sorted(openings[:33])[::-1])
         for solid in (porous, nozzle | fhpgas.disc(Size(64, 31), 0, 15, 3), box, ~box):
-            again = np.zeros_like(solid, int)
-            for x, y, w, h in fhpgas.shapes.rectangles(solid):
-                again[y : y + h, x : x + w] += 1
-            self.assertEqual(again.tolist(), solid.astype(int).tolist())
+            with self.subTest(solid=solid.shape):
+                again = np.zeros_like(solid, int)
+                for x, y, w, h in fhpgas.shapes.rectangles(solid):
+                    again[y : y + h, x : x + w] += 1
+                self.assertEqual(again.tolist(), solid.astype(int).tolist())
         self.assertEqual(
             fhpgas.shapes.rectangles(~box),
             [[0, 0, 12, 2], [0, 2, 3, 3], [7, 2, 5, 3], [0, 5, 12, 4]],
@@ -255,10 +269,11 @@ class Drawing(Package):
         for k, image in enumerate((grey, grey.convert("P"), grey.convert("RGB"), clear, deep)):
             image.save(self.room / f"{k}.png")
         for picture in (*self.room.iterdir(), dark, dark.tolist()):
-            found = fhpgas.bitmap(Size(12, 9), picture, 1, 2, 3, "hpp")
-            self.assertEqual(
-                (found[3:8, 2:6].tolist(), found.sum()), (dark.tolist(), dark.sum()), picture
-            )
+            with self.subTest(picture=str(picture)):
+                found = fhpgas.bitmap(Size(12, 9), picture, 1, 2, 3, "hpp")
+                self.assertEqual(
+                    (found[3:8, 2:6].tolist(), found.sum()), (dark.tolist(), dark.sum()), picture
+                )
         drawn = fhpgas.bitmap(Size(64, 40), dark, 6, 10, 4)
         self.assertEqual(
             [drawn[y][x] for y, x in ((5, 12), (30, 12), (25, 24), (5, 30), (3, 12), (15, 20))],
@@ -266,20 +281,22 @@ class Drawing(Package):
         )
         self.assertAlmostEqual(drawn.sum(), dark.sum() * 36 / (ROOT3 / 2), delta=40)
         for column, row in ((41, 4), (10, 6), (-1, 4), (10, -1)):
-            self.fault(
-                "the picture leaves the channel of 64 x 40 cells",
-                fhpgas.bitmap,
-                Size(64, 40),
-                dark,
-                6,
-                column,
-                row,
-            )
+            with self.subTest(column=column, row=row):
+                self.fault(
+                    "the picture leaves the channel of 64 x 40 cells",
+                    fhpgas.bitmap,
+                    Size(64, 40),
+                    dark,
+                    6,
+                    column,
+                    row,
+                )
         for data in (b"GIF", (self.room / "0.png").read_bytes()[:50], b"P1\n4"):
-            (self.room / "letter").write_bytes(data)
-            self.fault(
-                f"{self.room / 'letter'}: ", fhpgas.bitmap, Size(64, 40), self.room / "letter"
-            )
+            with self.subTest(data=data):
+                (self.room / "letter").write_bytes(data)
+                self.fault(
+                    f"{self.room / 'letter'}: ", fhpgas.bitmap, Size(64, 40), self.room / "letter"
+                )
 
     def test_equal_seeds_of_different_calls_are_separate_streams(self):
         """Their raw bits differ in half of all places, and `gas` has the ones of PCG64(seed)."""
@@ -293,4 +310,4 @@ class Drawing(Package):
 
 
 if __name__ == "__main__":
-    run_tests()
+    needs.run_tests()

@@ -5,7 +5,8 @@ laws, or published formulas. Ends with the counts."""
 import itertools
 import math
 
-from package import GASES, Package, run_tests, wind
+import needs
+from package import GASES, Package, wind
 
 import fhpgas
 import numpy as np
@@ -50,16 +51,19 @@ class Flows(Package):
         """All states, three cells apart on an odd row: after a generation their particles are
         where the program moved them."""
         for gas, side in itertools.product(map(fhpgas.gas_named, GASES), ("left", "right")):
-            states = np.zeros((3, 3 << gas.directions), int)
-            states[1, 1::3] = range(1 << gas.directions)
-            after = fhpgas.Lattice(states, None, gas, side).run(1).states
-            found = sum(
-                np.roll(after[1 + dy], -1 - dx)[::3] & 1 << i
-                for i, (dx, dy) in enumerate(gas.steps[1])
-            )
-            self.assertEqual(
-                found.tolist(), gas.collisions(side)[: 1 << gas.directions].tolist(), (gas, side)
-            )
+            with self.subTest(gas=gas.name, side=side):
+                states = np.zeros((3, 3 << gas.directions), int)
+                states[1, 1::3] = range(1 << gas.directions)
+                after = fhpgas.Lattice(states, None, gas, side).run(1).states
+                found = sum(
+                    np.roll(after[1 + dy], -1 - dx)[::3] & 1 << i
+                    for i, (dx, dy) in enumerate(gas.steps[1])
+                )
+                self.assertEqual(
+                    found.tolist(),
+                    gas.collisions(side)[: 1 << gas.directions].tolist(),
+                    (gas, side),
+                )
 
     def test_a_reversed_run_comes_back_bit_for_bit(self):
         for gas, side in (
@@ -69,26 +73,28 @@ class Flows(Package):
             ("fhp-rest", "right"),
             ("hpp", "seeded"),
         ):
-            start = wind((64, 47), gas, side)
-            late = start.run(100)
-            self.assertEqual(late.reverse().run(100).reverse(), start.replace(generation=200))
-            self.assertGreater(np.count_nonzero(late.states != start.states), 1000)
+            with self.subTest(gas=gas, side=side):
+                start = wind((64, 47), gas, side)
+                late = start.run(100)
+                self.assertEqual(late.reverse().run(100).reverse(), start.replace(generation=200))
+                self.assertGreater(np.count_nonzero(late.states != start.states), 1000)
 
     def test_walls_and_obstacles_receive_what_the_gas_loses(self):
         """All of it, in every generation, and the staggered momenta stay as they are."""
         for gas in GASES:
-            before, parts = wind((64, 47), gas), np.arange(64) < 20
-            kept = fhpgas.staggered(before) if gas != "hpp" else ()
-            for after in itertools.islice(before.every(1, 20), 1, None):
-                forces = fhpgas.forces(after)
-                self.same(sum(forces.values()), before.momentum - after.momentum, 9)
-                halves = [
-                    fhpgas.forces(after, np.broadcast_to(parts ^ flip, (47, 64)))["solid"]
-                    for flip in (False, True)
-                ]
-                self.same(sum(halves), forces["solid"], 9)
-                self.assertEqual(fhpgas.staggered(after) if gas != "hpp" else (), kept)
-                before = after
+            with self.subTest(gas=gas):
+                before, parts = wind((64, 47), gas), np.arange(64) < 20
+                kept = fhpgas.staggered(before) if gas != "hpp" else ()
+                for after in itertools.islice(before.every(1, 20), 1, None):
+                    forces = fhpgas.forces(after)
+                    self.same(sum(forces.values()), before.momentum - after.momentum, 9)
+                    halves = [
+                        fhpgas.forces(after, np.broadcast_to(parts ^ flip, (47, 64)))["solid"]
+                        for flip in (False, True)
+                    ]
+                    self.same(sum(halves), forces["solid"], 9)
+                    self.assertEqual(fhpgas.staggered(after) if gas != "hpp" else (), kept)
+                    before = after
         gas, numbers = fhpgas.GASES["fhp1"], np.arange(12).reshape(6, 2)
         plain = sum(number * np.outer(c, c) for number, c in zip(numbers[:, 1], gas.velocities))
         self.same(fhpgas.flux(gas, numbers)[..., 1], plain)
@@ -116,33 +122,34 @@ class Flows(Package):
 
     def test_a_driven_run_is_repeatable_and_tells_its_force(self):
         for gas in GASES:
-            start = wind((64, 47), gas)
-            points = [*start.driven(60, 10, force=0.001, seed=4)]
-            self.assertEqual(points, [*fhpgas.driven(start, 60, 10, force=0.001, seed=4)])
-            self.assertNotEqual(points, [*start.driven(60, 10, force=0.001, seed=5)])
-            self.assertEqual(
-                [point.before for point in points],
-                [start, *(point.after.run(10) for point in points[:-1])],
-            )
-            for point in points:
-                given = point.after.momentum - point.before.momentum
-                self.same(given, (2 * point.turned, 0), 9)
-                self.assertEqual(point.after.particles, start.particles)
-                self.assertAlmostEqual(point.force, given[0] / 10 / start.fluid)
-                self.assertAlmostEqual(
-                    point.velocity,
-                    (point.before.momentum + point.after.momentum)[0] / 2 / start.particles,
+            with self.subTest(gas=gas):
+                start = wind((64, 47), gas)
+                points = [*start.driven(60, 10, force=0.001, seed=4)]
+                self.assertEqual(points, [*fhpgas.driven(start, 60, 10, force=0.001, seed=4)])
+                self.assertNotEqual(points, [*start.driven(60, 10, force=0.001, seed=5)])
+                self.assertEqual(
+                    [point.before for point in points],
+                    [start, *(point.after.run(10) for point in points[:-1])],
                 )
-            self.assertAlmostEqual(
-                sum(point.force for point in points) / 7, 0.001, delta=47 * 2 / 70 / start.fluid
-            )
-            for flow in (0.05, -0.05):
-                after = [
-                    *fhpgas.draw_gas(0.3, solid=start.solid, gas=gas).driven(20, 10, flow=flow)
-                ][-1].after
+                for point in points:
+                    given = point.after.momentum - point.before.momentum
+                    self.same(given, (2 * point.turned, 0), 9)
+                    self.assertEqual(point.after.particles, start.particles)
+                    self.assertAlmostEqual(point.force, given[0] / 10 / start.fluid)
+                    self.assertAlmostEqual(
+                        point.velocity,
+                        (point.before.momentum + point.after.momentum)[0] / 2 / start.particles,
+                    )
                 self.assertAlmostEqual(
-                    after.momentum[0] / after.particles, flow, delta=47 / after.particles
+                    sum(point.force for point in points) / 7, 0.001, delta=47 * 2 / 70 / start.fluid
                 )
+                for flow in (0.05, -0.05):
+                    after = [
+                        *fhpgas.draw_gas(0.3, solid=start.solid, gas=gas).driven(20, 10, flow=flow)
+                    ][-1].after
+                    self.assertAlmostEqual(
+                        after.momentum[0] / after.particles, flow, delta=47 / after.particles
+                    )
 
     def test_a_kick_turns_the_particles_that_its_rule_names(self):
         """As a plain second implementation turns them, which owes what a row lacks to the next
@@ -150,21 +157,25 @@ class Flows(Package):
         for gas, along, filling in itertools.product(
             GASES, ("rows", "directions"), (0.3, 0.04, 0.01)
         ):
-            solid = np.arange(21 * 40).reshape(21, 40) % 3 == 1
-            start = fhpgas.draw_gas(filling, solid=solid, gas=gas, seed=7)
-            force = 0.1 * filling
-            plain, most = PlainKicks(start, along, 6), 0.0
-            for point in start.driven(60, 3, force=force, along=along, seed=6):
-                wanted = plain.kicked(point.before, 3 * force * start.fluid)
-                self.assertEqual(point.after.states.tolist(), wanted.tolist())
-                most = max(most, abs(plain.owed).max())
-            self.assertTrue(filling == 0.3 or most > 0.6, (gas, along, most))
+            with self.subTest(gas=gas, along=along, filling=filling):
+                solid = np.arange(21 * 40).reshape(21, 40) % 3 == 1
+                start = fhpgas.draw_gas(filling, solid=solid, gas=gas, seed=7)
+                force = 0.1 * filling
+                plain, most = PlainKicks(start, along, 6), 0.0
+                for point in start.driven(60, 3, force=force, along=along, seed=6):
+                    wanted = plain.kicked(point.before, 3 * force * start.fluid)
+                    self.assertEqual(point.after.states.tolist(), wanted.tolist())
+                    most = max(most, abs(plain.owed).max())
+                self.assertTrue(filling == 0.3 or most > 0.6, (gas, along, most))
         for flow in (0.1, -0.2):
-            plain, points = PlainKicks(start, along, 0), start.driven(12, 4, flow=flow, along=along)
-            for before, after, *_ in points:
-                wanted = flow * start.particles - before.momentum[0]
-                self.assertEqual(after.states.tolist(), plain.kicked(before, wanted).tolist())
-                plain.owed = plain.owed.clip(-0.5, 0.5)
+            with self.subTest(flow=flow):
+                plain, points = PlainKicks(start, along, 0), start.driven(
+                    12, 4, flow=flow, along=along
+                )
+                for before, after, *_ in points:
+                    wanted = flow * start.particles - before.momentum[0]
+                    self.assertEqual(after.states.tolist(), plain.kicked(before, wanted).tolist())
+                    plain.owed = plain.owed.clip(-0.5, 0.5)
 
     def test_a_force_along_the_directions_changes_each_by_its_velocity(self):
         """c_i to the east: E by twice as much as NE and SE, which is two thirds of the momentum.
@@ -174,15 +185,17 @@ class Flows(Package):
             ("rows", [1 / 2, 0, 0, -1 / 2, 0, 0, 0]),
             ("directions", [1 / 3, 1 / 6, -1 / 6, -1 / 3, -1 / 6, 1 / 6, 0]),
         ):
-            (point,) = start.driven(0, 1, force=0.02, along=along)
-            gained = point.after.counts() - point.before.counts()
-            self.same(gained / (0.02 * start.fluid), shares, 2)
-            given = point.after.momentum - point.before.momentum
-            self.same(given, [point.force * start.fluid, 0], 9)
+            with self.subTest(along=along):
+                (point,) = start.driven(0, 1, force=0.02, along=along)
+                gained = point.after.counts() - point.before.counts()
+                self.same(gained / (0.02 * start.fluid), shares, 2)
+                given = point.after.momentum - point.before.momentum
+                self.same(given, [point.force * start.fluid, 0], 9)
         for force in (0.1, -0.1):
-            flow = fhpgas.boltzmann.Flow("fhp-rest", start.solid[:2, :3])
-            gained = flow.forced(flow.at(0.3), force, "directions") - flow.at(0.3)
-            self.same(gained, force * np.reshape(shares, (7, 1, 1)) * np.ones((2, 3)))
+            with self.subTest(force=force):
+                flow = fhpgas.boltzmann.Flow("fhp-rest", start.solid[:2, :3])
+                gained = flow.forced(flow.at(0.3), force, "directions") - flow.at(0.3)
+                self.same(gained, force * np.reshape(shares, (7, 1, 1)) * np.ones((2, 3)))
 
     def test_a_kick_turns_every_place_of_a_row_as_often(self):
         row, counts = fhpgas.Lattice(np.full((1, 16), 8)), np.zeros(16, int)
@@ -193,11 +206,12 @@ class Flows(Package):
 
     def test_driven_flows_in_thin_porous_gases_run_to_their_end(self):
         for share, every, seed in itertools.product((0.4, 0.5), (1, 4), (1, 2)):
-            solid = fhpgas.porous(Size(96, 64), share, 3, seed)
-            start = fhpgas.draw_gas(0.1, solid=solid, seed=seed)
-            *_, last = start.driven(120, every, force=0.001, seed=seed)
-            self.assertEqual(last.before.generation, 120)
+            with self.subTest(share=share, every=every, seed=seed):
+                solid = fhpgas.porous(Size(96, 64), share, 3, seed)
+                start = fhpgas.draw_gas(0.1, solid=solid, seed=seed)
+                *_, last = start.driven(120, every, force=0.001, seed=seed)
+                self.assertEqual(last.before.generation, 120)
 
 
 if __name__ == "__main__":
-    run_tests()
+    needs.run_tests()

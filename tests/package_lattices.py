@@ -13,7 +13,8 @@ import re
 import subprocess
 import unittest.mock
 
-from package import AREA, GASES, PROGRAM, TABLE, Package, run_tests, wind
+import needs
+from package import AREA, GASES, PROGRAM, TABLE, Package, wind
 
 import fhpgas
 import numpy as np
@@ -165,7 +166,8 @@ class Lattices(Package):
         )
         names |= {"start": fhpgas.Lattice.load(AREA), "solid": wind((64, 47)).solid}
         for call, part in re.findall(r"^(\S.*?)\s{2,}(.+)$", FAULTS, re.M):
-            self.fault(part, lambda: eval(call, names))
+            with self.subTest(call=call):
+                self.fault(part, lambda: eval(call, names))
 
     def test_a_lattice_does_not_change_and_is_equal_by_value(self):
         states = np.array([[0, 0, 2, 0], [0] * 4, [0, 16, 0, 0]])
@@ -197,40 +199,47 @@ class Lattices(Package):
             "states": 0 * states,
         }
         for name, value in changes.items():
-            self.assertNotEqual(lattice.replace(**{name: value}), lattice, name)
+            with self.subTest(name=name):
+                self.assertNotEqual(lattice.replace(**{name: value}), lattice, name)
         self.assertNotEqual(dataclasses.replace(blocks, generation=8), blocks)
 
     def test_runs_equal_the_program(self):
         """Its bytes for a scene written by hand: also in parts, from a file, and in blocks."""
         for gas, chirality, size in itertools.product(GASES, CHIRALITIES, SIZES):
-            start = wind(size, gas, chirality)
-            late = start.run(7, stages=3, capacity=2)
-            self.assertEqual(late.text(), printed(start, "run", "--generations", 7))
-            self.assertEqual(fhpgas.read_cells(late.text(), gas, size, chirality, 3), late)
-            self.assertEqual([*start.run(3).every(2, 2)], [start.run(3), start.run(3).run(2), late])
-            start.save(self.room / "start.toml")
-            self.assertEqual(
-                (fhpgas.Lattice.load(self.room / "start.toml"), fhpgas.Lattice.load(late.scene())),
-                (start, late),
-            )
-            for block in ((7, 5), (64, 47), (1, 1)):
-                text = printed(
-                    start,
-                    "coarse",
-                    "--generations",
-                    7,
-                    "--block-width",
-                    block[0],
-                    "--block-height",
-                    block[1],
-                )
+            with self.subTest(gas=gas, chirality=chirality, size=size):
+                start = wind(size, gas, chirality)
+                late = start.run(7, stages=3, capacity=2)
+                self.assertEqual(late.text(), printed(start, "run", "--generations", 7))
+                self.assertEqual(fhpgas.read_cells(late.text(), gas, size, chirality, 3), late)
                 self.assertEqual(
-                    (start.coarse(7, *block), fhpgas.read_table(text, gas, block, size, 7)),
-                    (late.blocks(*block),) * 2,
+                    [*start.run(3).every(2, 2)], [start.run(3), start.run(3).run(2), late]
                 )
-                self.assertEqual(late.blocks(*block).text(), text)
-            whole = (start.coarse(7, None, None), fhpgas.coarse(start.scene(), 7, None, None))
-            self.assertEqual(whole, (late.blocks(None, None),) * 2)
+                start.save(self.room / "start.toml")
+                self.assertEqual(
+                    (
+                        fhpgas.Lattice.load(self.room / "start.toml"),
+                        fhpgas.Lattice.load(late.scene()),
+                    ),
+                    (start, late),
+                )
+                for block in ((7, 5), (64, 47), (1, 1)):
+                    text = printed(
+                        start,
+                        "coarse",
+                        "--generations",
+                        7,
+                        "--block-width",
+                        block[0],
+                        "--block-height",
+                        block[1],
+                    )
+                    self.assertEqual(
+                        (start.coarse(7, *block), fhpgas.read_table(text, gas, block, size, 7)),
+                        (late.blocks(*block),) * 2,
+                    )
+                    self.assertEqual(late.blocks(*block).text(), text)
+                whole = (start.coarse(7, None, None), fhpgas.coarse(start.scene(), 7, None, None))
+                self.assertEqual(whole, (late.blocks(None, None),) * 2)
 
     def test_printed_texts_are_read_whole_or_not_at_all(self):
         cells = fhpgas.read_cells(CELLS, "fhp1", Size(4, 3))
@@ -241,7 +250,8 @@ class Lattices(Package):
         wrong = [CELLS.replace("02", pair) for pair in ("0g", "0A", "80", "#.", "2", " 2", "03")]
         wrong += [CELLS + "........\n", CELLS.replace("........\n", ""), CELLS + "\n", TABLE]
         for text in (*(CELLS[:end] for end in range(len(CELLS))), *wrong):
-            self.fault("cells", fhpgas.read_cells, text, "fhp1", Size(4, 3))
+            with self.subTest(text=text):
+                self.fault("cells", fhpgas.read_cells, text, "fhp1", Size(4, 3))
         wrong = [
             TABLE.replace(*pair)
             for pair in (
@@ -251,14 +261,15 @@ class Lattices(Package):
             )
         ]
         for text in (*(TABLE[:end] for end in range(len(TABLE))), TABLE + "\n", *wrong, CELLS):
-            self.fault(
-                "this is no whole table of `coarse` with 3 columns and 1 rows",
-                fhpgas.read_table,
-                text,
-                "hpp",
-                (2, 2),
-                Size(6, 2),
-            )
+            with self.subTest(text=text):
+                self.fault(
+                    "this is no whole table of `coarse` with 3 columns and 1 rows",
+                    fhpgas.read_table,
+                    text,
+                    "hpp",
+                    (2, 2),
+                    Size(6, 2),
+                )
 
     def test_a_key_that_only_a_later_program_reads_is_refused(self):
         printed = program.call(AREA.encode(), "run", "--generations", 0)
@@ -274,13 +285,14 @@ class Lattices(Package):
             ("fhp1", "seeded", 7, 0, 12),
         )
         for scene in (AREA, self.room / "d=0.3.toml", str(self.room / "d=0.3.toml"), start.scene()):
-            self.assertEqual(
-                fhpgas.check(scene), fhpgas.Summary("fhp1", 66, 9, 12, start.particles)
-            )
-            self.assertEqual(
-                (fhpgas.run(scene, 5), fhpgas.coarse(scene, 5, 11, 4)),
-                (start.run(5), start.run(5).blocks(11, 4)),
-            )
+            with self.subTest(scene=scene):
+                self.assertEqual(
+                    fhpgas.check(scene), fhpgas.Summary("fhp1", 66, 9, 12, start.particles)
+                )
+                self.assertEqual(
+                    (fhpgas.run(scene, 5), fhpgas.coarse(scene, 5, 11, 4)),
+                    (start.run(5), start.run(5).blocks(11, 4)),
+                )
         text = (
             'version = 2\ngas = "hpp" # cells = ["##"]\ncells = [\n  "##01", # a ] mark\n'
             '  "0100",\n]\nchirality = "left"\nseed = 4\n'
@@ -343,7 +355,8 @@ class Lattices(Package):
                 "they are of generation 3, and it is of 3, with other cells",
             ),
         ):
-            self.fault(part, fhpgas.Lattice.load(AREA.replace(old, new)).long_run, 10, 4, kept)
+            with self.subTest(part=part):
+                self.fault(part, fhpgas.Lattice.load(AREA.replace(old, new)).long_run, 10, 4, kept)
         empty = start.replace(states=0 * start.states)
         self.fault(
             "other cells are solid",
@@ -376,10 +389,11 @@ class Lattices(Package):
             (fhpgas.mean_and_error, [np.ma.masked_equal([1.0, 2.0], 2.0), np.array([1.0, 3.0])]),
             (fhpgas.polygon, Size(64, 47), np.ma.masked_equal([(0, 0), (9, 0), (0, 9)], 9)),
         ):
-            call = functools.partial(function, *words)
-            if function is fhpgas.draw_gas and callable(words[0]):
-                call = functools.partial(call, size=Size(64, 47))
-            self.fault("a masked value is none", call)
+            with self.subTest(function=function):
+                call = functools.partial(function, *words)
+                if function is fhpgas.draw_gas and callable(words[0]):
+                    call = functools.partial(call, size=Size(64, 47))
+                self.fault("a masked value is none", call)
 
     def test_a_file_is_saved_where_a_link_points_and_never_over_what_is_no_file(self):
         start, room = fhpgas.Lattice.load(AREA), self.room / "saved"
@@ -393,8 +407,13 @@ class Lattices(Package):
         self.assertEqual(fhpgas.Lattice.load(target), start.run(1))
         os.mkfifo(room / "fifo.toml")
         for name in ("fifo.toml", "there", "/dev/null"):
-            for call in (start.save, lambda path: start.long_run(2, 1, path), start.blocks().save):
-                self.fault(f"{name} is no plain file", call, room / name)
+            with self.subTest(name=name):
+                for call in (
+                    start.save,
+                    lambda path: start.long_run(2, 1, path),
+                    start.blocks().save,
+                ):
+                    self.fault(f"{name} is no plain file", call, room / name)
         lattices = [start.run(number) for number in range(8)]
         shared = room / "shared.toml"
         fhpgas.side_by_side(lambda lattice: [lattice.save(shared) for _ in range(20)], lattices)
@@ -412,37 +431,39 @@ class Lattices(Package):
             lambda path: fhpgas.coarse(path, 1),
             lambda path: fhpgas.Lattice.load(AREA).long_run(2, 1, path),
         ):
-            self.fault(f"{path}: scene: not TOML", call, path)
+            with self.subTest(call=call):
+                self.fault(f"{path}: scene: not TOML", call, path)
         fhpgas.Lattice.load(AREA.replace("fhp1", "hpp")).save(path)
         self.fault(f"{path}: the cells are", fhpgas.Lattice.load(AREA).long_run, 2, 1, path)
 
     def test_sums_by_direction_are_counted(self):
         for gas in GASES:
-            lattice = wind((65, 33), gas).run(2)
-            parts = [
-                [
-                    lattice.states[top : top + 20, left : left + 30].ravel().tolist()
-                    for left in (0, 30, 60)
+            with self.subTest(gas=gas):
+                lattice = wind((65, 33), gas).run(2)
+                parts = [
+                    [
+                        lattice.states[top : top + 20, left : left + 30].ravel().tolist()
+                        for left in (0, 30, 60)
+                    ]
+                    for top in (0, 20)
                 ]
-                for top in (0, 20)
-            ]
-            counts = [
-                [[sum(state >> i & 1 for state in part) for part in row] for row in parts]
-                for i in range(lattice.gas.directions)
-            ]
-            self.assertEqual(
-                (lattice.counts(30, 20).tolist(), lattice.counts().tolist()),
-                (counts, np.sum(counts, (1, 2)).tolist()),
-            )
-            self.same(lattice.counts(None, 20), np.sum(counts, 2, keepdims=True))
-            self.assertEqual(lattice.blocks(None, 9), lattice.blocks(65, 9))
-            self.same(lattice.momentum, np.sum(counts, (1, 2)) @ lattice.gas.velocities)
-            self.same(
-                lattice.momentum,
-                lattice.gas.units * [lattice.blocks().px.sum(), lattice.blocks().py.sum()],
-                9,
-            )
+                counts = [
+                    [[sum(state >> i & 1 for state in part) for part in row] for row in parts]
+                    for i in range(lattice.gas.directions)
+                ]
+                self.assertEqual(
+                    (lattice.counts(30, 20).tolist(), lattice.counts().tolist()),
+                    (counts, np.sum(counts, (1, 2)).tolist()),
+                )
+                self.same(lattice.counts(None, 20), np.sum(counts, 2, keepdims=True))
+                self.assertEqual(lattice.blocks(None, 9), lattice.blocks(65, 9))
+                self.same(lattice.momentum, np.sum(counts, (1, 2)) @ lattice.gas.velocities)
+                self.same(
+                    lattice.momentum,
+                    lattice.gas.units * [lattice.blocks().px.sum(), lattice.blocks().py.sum()],
+                    9,
+                )
 
 
 if __name__ == "__main__":
-    run_tests()
+    needs.run_tests()

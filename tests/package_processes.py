@@ -19,7 +19,7 @@ import time
 import unittest.mock
 
 import needs
-from package import PROGRAM, Package, run_tests, wind
+from package import PROGRAM, Package, wind
 
 import distributed
 import fhpgas
@@ -102,7 +102,8 @@ class Processes(Package):
             ("/bin/false", "does not start"),
             ("/bin/ls", "or is another program"),
         ):
-            self.assertRegex(ran(FHPGAS=other), f"{other} .*{part}")
+            with self.subTest(other=other):
+                self.assertRegex(ran(FHPGAS=other), f"{other} .*{part}")
         (self.room / "bin").mkdir()
         (self.room / "fhpgas").rename(self.room / "bin/fhpgas")
         self.assertIn("the program fhpgas is not found", ran())
@@ -153,8 +154,9 @@ class Processes(Package):
         inner = fhpgas.side_by_side(lambda _: fhpgas.side_by_side(particles_of, range(5)), range(3))
         self.assertEqual(inner, [alone] * 3)
         for pool in (concurrent.futures.ThreadPoolExecutor, concurrent.futures.ProcessPoolExecutor):
-            with pool(2) as executor:
-                self.assertEqual(fhpgas.side_by_side(particles_of, range(5), executor), alone)
+            with self.subTest(pool=pool):
+                with pool(2) as executor:
+                    self.assertEqual(fhpgas.side_by_side(particles_of, range(5), executor), alone)
         with distributed.Client(
             n_workers=2, threads_per_worker=1, dashboard_address=":0"
         ) as client, client.get_executor() as executor:
@@ -217,40 +219,46 @@ class Processes(Package):
             ("long(0)", "fhpgas.side_by_side(long, range(2))"),
         )
         for number, call in cases:
-            words = [sys.executable, "-c", script + call]
-            with subprocess.Popen(
-                words,
-                stderr=subprocess.PIPE,
-                text=True,
-                start_new_session=True,
-                env=os.environ | {"FHPGAS": str(PROGRAM)},
-            ) as process:
-                while not (runs := programs_of("sid", process.pid)):
-                    self.assertIsNone(process.poll())
+            with self.subTest(number=number, call=call):
+                words = [sys.executable, "-c", script + call]
+                with subprocess.Popen(
+                    words,
+                    stderr=subprocess.PIPE,
+                    text=True,
+                    start_new_session=True,
+                    env=os.environ | {"FHPGAS": str(PROGRAM)},
+                ) as process:
+                    while not (runs := programs_of("sid", process.pid)):
+                        self.assertIsNone(process.poll())
+                        time.sleep(0.01)
+                    process.send_signal(number)
+                    said = process.communicate()[1]
+                    self.assertEqual("KeyboardInterrupt" in said, number == signal.SIGINT)
+                while runs & programs_of("sid", process.pid):
                     time.sleep(0.01)
-                process.send_signal(number)
-                said = process.communicate()[1]
-                self.assertEqual("KeyboardInterrupt" in said, number == signal.SIGINT)
-            while runs & programs_of("sid", process.pid):
-                time.sleep(0.01)
 
     def test_examples_run_and_public_calls_have_their_sections(self):
         self.addCleanup(os.chdir, os.getcwd())
         os.chdir(self.room)
         tried, modules = 0, {name for name in sys.modules if name.startswith("fhpgas.")}
         for name in sorted(modules):
-            done = doctest.testmod(sys.modules[name], extraglobs={"fhpgas": fhpgas, "np": np})
-            self.assertEqual(done.failed, 0, name)
-            tried += done.attempted
+            with self.subTest(module=name):
+                done = doctest.testmod(sys.modules[name], extraglobs={"fhpgas": fhpgas, "np": np})
+                self.assertEqual(done.failed, 0, name)
+                tried += done.attempted
         self.assertGreater(tried, 90)
         calls = {name: getattr(fhpgas, name) for name in fhpgas.__all__}
         for kind in (fhpgas.Lattice, fhpgas.Blocks):
             known = {name: getattr(kind, name) for name in vars(kind) if name[0] != "_"}
             calls |= {name: call for name, call in known.items() if is_function(call)}
         for name, call in calls.items():
-            if is_function(call) and [*inspect.signature(call).parameters] not in ([], ["self"]):
-                for section in ("Parameters", "Examples"):
-                    self.assertIn(f"\n{section}\n", inspect.getdoc(call), name)
+            with self.subTest(call=name):
+                if is_function(call) and [*inspect.signature(call).parameters] not in (
+                    [],
+                    ["self"],
+                ):
+                    for section in ("Parameters", "Examples"):
+                        self.assertIn(f"\n{section}\n", inspect.getdoc(call), name)
 
     def test_costs_grow_as_sizes_do(self):
         """A lattice of four times the rows takes at most 2.5^2 times the processor time, at best
@@ -273,16 +281,17 @@ class Processes(Package):
             ("blocks", lambda rows: known[rows].blocks()),
             ("states", lambda rows: known[rows].replace(states=known[rows].states)),
         ):
-            least = {512: math.inf, 2048: math.inf}
-            for _ in range(20):
-                least = {rows: min(cost, spent(call, rows)) for rows, cost in least.items()}
-                if least[2048] < 2.5**2 * least[512]:
-                    break
-            self.assertLess(least[2048], 2.5**2 * least[512], name)
+            with self.subTest(name=name):
+                least = {512: math.inf, 2048: math.inf}
+                for _ in range(20):
+                    least = {rows: min(cost, spent(call, rows)) for rows, cost in least.items()}
+                    if least[2048] < 2.5**2 * least[512]:
+                        break
+                self.assertLess(least[2048], 2.5**2 * least[512], name)
         later = known[512].replace(seed=5, generation=7)
         self.assertIs(later.states, known[512].states)  # replace copies nothing that is checked
         self.assertIs(later.replace(states=0 * later.states).solid, known[512].solid)
 
 
 if __name__ == "__main__":
-    run_tests()
+    needs.run_tests()
