@@ -8,6 +8,7 @@ import { GASES, SOLID } from "../page/src/gases.js";
 import { ProvedKernel, ScriptKernel } from "../page/src/kernel.js";
 import { block } from "../page/src/keystream.js";
 import { fillStates, printed, readScene, sceneOf } from "../page/src/scenes.js";
+import { check, end, tried } from "./checks.mjs";
 import { lots } from "./lots.mjs";
 
 const root = new URL("..", import.meta.url).pathname, program = process.env.FHPGAS ?? `${root}fhpgas`;
@@ -18,9 +19,6 @@ if (existsSync(`${root}page/engine.js`)) {
   kernels.proved = (...size) => new ProvedKernel(module, ...size);
 } else console.log("the engine is left out, because page/engine.js is missing: run make");
 const MAPS = 200, AREAS = 18;
-let passed = 0, failed = 0;
-
-const check = (what, isSo) => (isSo ? passed++ : (failed++, console.log(`FAILED: ${what}`)));
 
 // The line that the program prints first, and its rows.
 function run(scene, generations) {
@@ -60,7 +58,7 @@ function drawn(random, gas, width, height) {
 }
 
 const WIDTHS = [1, 2, 3, 7, 31, 32, 33, 47, 63, 64, 65, 95, 96, 97, 128, 129, 161, 255, 257], HEIGHTS = [1, 2, 3, 5, 8, 16, 33, 64];
-for (let number = 0; number < MAPS; number++) {
+function map(number) {
   const random = lots(number), gas = Object.values(GASES)[number % 3];
   const chirality = ["seeded", "left", "right"][Math.floor(number / 3) % 3];
   const width = random.of(WIDTHS), height = random.of(HEIGHTS), generations = 100 + random.below(400);
@@ -80,9 +78,10 @@ for (let number = 0; number < MAPS; number++) {
     check(`sums of ${name}`, sameSums(flow, wide, tall));
   }
 }
+for (let number = 0; number < MAPS; number++) tried(`map ${number}`, () => map(number));
 
 // the filling of areas
-for (let number = 0; number < AREAS; number++) {
+function area(number) {
   const random = lots(1000 + number), gas = Object.values(GASES)[number % 3];
   const width = random.of(WIDTHS), height = random.of(HEIGHTS), rate = random.of([0, 1, 200, 500, 999, 1000]);
   const seed = random.of([0n, 7n, 2n ** 63n - 1n]);
@@ -92,12 +91,14 @@ for (let number = 0; number < AREAS; number++) {
   const [, ...theirs] = run(textOf({ gas: `"${gas.name}"`, width, height, rate, seed, solid: "[[0, 0, 1, 1]]" }), 0);
   check(`area ${number}: ${gas.name}, ${width} x ${height}`, rowsOf(cells, width, height).join("\n") === theirs.join("\n"));
 }
+for (let number = 0; number < AREAS; number++) tried(`area ${number}`, () => area(number));
 
 // the scenes of the repository, as the page reads them
-for (const name of readdirSync(`${root}scenes`).filter((file) => file.endsWith(".toml"))) {
+function scene(name) {
   const text = readFileSync(`${root}scenes/${name}`, "utf8"), { states, width, height } = readScene(text, 1 << 20);
   check(`scenes/${name}`, rowsOf(states, width, height).join("\n") === run(text, 0).slice(1).join("\n"));
 }
+for (const name of readdirSync(`${root}scenes`).filter((file) => file.endsWith(".toml"))) tried(name, () => scene(name));
 
 // RFC 8439: the block of 2.3.2, and the test vectors 1 to 5 of appendix A.1
 const hex = (text) => Uint8Array.from(text.match(/../g), (two) => parseInt(two, 16));
@@ -125,5 +126,4 @@ for (const [key, counter, nonce, wanted] of VECTORS) {
   block(state, out, 0);
   check(`RFC 8439, counter ${counter}`, Buffer.from(out.buffer).equals(Buffer.from(hex(wanted))));
 }
-console.log(`${passed} passed, ${failed} failed`);
-process.exit(failed || passed < MAPS ? 1 : 0);
+end(MAPS);

@@ -20,6 +20,7 @@ PROGRAM = needs.built_program()
 needs.command("chromium")
 needs.libraries("selenium")
 from selenium import webdriver
+from selenium.common.exceptions import WebDriverException
 from selenium.webdriver.common.action_chains import ActionChains
 from selenium.webdriver.common.by import By
 from selenium.webdriver.common.keys import Keys
@@ -46,6 +47,18 @@ counts = {True: 0, False: 0}
 def check(what, is_so, more=""):
     counts[bool(is_so)] += 1
     print("" if is_so else f"FAILED: {what} {more}\n", end="", flush=True)
+
+
+class Late(Exception):
+    """What was waited for did not come."""
+
+
+def tried(part, *words):
+    """What a part returns. One that does not come to its end has failed, and the next ones go on."""
+    try:
+        return part(*words)
+    except (Late, WebDriverException) as fault:
+        return check(part.__name__, False, fault)
 
 
 class Page:
@@ -77,7 +90,7 @@ class Page:
         end = time.monotonic() + PATIENCE
         while not (found := self.js(f"return {condition}")):
             if time.monotonic() > end:
-                raise SystemExit(f"{condition} did not come: {self.js('return live.notes')}")
+                raise Late(f"{condition} did not come: {self.js('return live.notes')}")
             time.sleep(0.02)
         return found
 
@@ -147,7 +160,7 @@ class Page:
                 if file.stat().st_size:
                     return file.read_bytes()
             time.sleep(0.05)
-        raise SystemExit(f"{button} saved nothing")
+        raise Late(f"{button} saved nothing")
 
     def open(self, text):
         file = self.room / "given.toml"
@@ -366,7 +379,7 @@ def cells(page):
 
 
 def keyboard(page):
-    """Focused controls keep their keys, and the address keeps the state."""
+    """Focused controls keep their keys."""
     page.go(QUICK)
     page.js("$('erase').focus()")
     page.key(Keys.SPACE)
@@ -393,6 +406,10 @@ def keyboard(page):
     )
     page.wait(f"shown.serial > {serial}")
     page.js("document.activeElement.blur()")
+
+
+def address(page):
+    """The address keeps the state. Controls have names and keys of their own. A page that nobody sees rests."""
     page.choose("change", scene="porous medium"), page.wait("head.wind === 0.04")
     page.choose("input", wind="0.06"), page.wait(
         "head.wind === 0.06 && location.hash.includes('wind=0.06')"
@@ -537,23 +554,26 @@ def firefox(room):
     return []
 
 
-def main():
-    with tempfile.TemporaryDirectory() as folder:
-        room = pathlib.Path(folder)
-        page = Page(room)
-        begins(page)
-        page.go(QUICK)
-        *paused, link, solid = edits(page)
-        continues(page, *paused)
+def desk(room):
+    """A window on a desk."""
+    page = Page(room)
+    tried(begins, page)
+    page.go(QUICK)
+    if edited := tried(edits, page):
+        *paused, link, solid = edited
+        tried(continues, page, *paused)
         page.go(link)
         found = page.js("return head.width * head.height - head.fluid")
         check("the address keeps what was drawn", found == solid, (found, solid))
-        seeded(page)
-        cells(page)
-        keyboard(page)
-        page.ended("desk")
-        phone(room)
-        large(room)
+    for part in seeded, cells, keyboard, address:
+        tried(part, page)
+    page.ended("desk")
+
+
+def main():
+    with tempfile.TemporaryDirectory() as folder:
+        for part in desk, phone, large:
+            tried(part, pathlib.Path(folder))
     with tempfile.TemporaryDirectory() as folder, contextlib.suppress(OSError):
         left_out = firefox(pathlib.Path(folder))
     return needs.told(counts[True], counts[False], *left_out)

@@ -22,18 +22,11 @@ import { periodOf } from "../page/src/probe.js";
 import { readScene, sceneOf } from "../page/src/scenes.js";
 import { drawn } from "../page/src/starts.js";
 import { Stroke, cleared, dense, flipOne } from "../page/src/tools.js";
+import { check, end, near, tried } from "./checks.mjs";
 import { lots } from "./lots.mjs";
 
 const root = new URL("..", import.meta.url).pathname, [histories = 60, noises = 12] = process.argv.slice(2).map(Number);
 const make = (...size) => new ScriptKernel(...size);
-let passed = 0, failed = 0;
-
-function check(what, isSo, more = "") {
-  if (isSo) return void passed++;
-  failed++;
-  console.log(`FAILED: ${what} ${more}`);
-}
-const near = (what, found, wanted, error) => check(what, Math.abs(found - wanted) <= error, `${found}, not ${wanted}`);
 
 // -- the way back, through whatever was done
 
@@ -69,11 +62,10 @@ function history(number) {
   check(`history ${number}: back at its start`, flow.found === 0 && flow.generation === 0 && flow.cells.differing(first) === 0,
     `${flow.found} cells differ at ${flow.generation}`);
 }
-for (let number = 0; number < histories; number++) history(number);
-if (process.env.ONLY) process.exit(console.log(passed, failed));
+for (let number = 0; number < histories; number++) tried(`history ${number}`, () => history(number));
 
 // A small memory of patches is cut, and the gas comes back to where it still reaches.
-{
+tried("a way back that was cut", () => {
   const flow = drawn(make, { gas: "fhp1", chirality: "left", width: 128, height: 64, filling: 0.2, wind: 0.1, keep: true, shape: "porous", radius: 4, seed: "3" });
   flow.history.most = 20000;
   flow.advance(300);
@@ -82,17 +74,17 @@ if (process.env.ONLY) process.exit(console.log(passed, failed));
   flow.advance(1000);
   check("a way back that was cut", origin > 0 && flow.generation === origin && flow.found === 0 && flow.notes.some((note) => note.includes("64 MB")),
     [origin, flow.generation, flow.found]);
-}
+});
 
 // One particle turned on the way changes what comes back.
-{
+tried("one particle turned on the way back", () => {
   const flow = drawn(make, { gas: "fhp1", chirality: "left", width: 128, height: 64, filling: 0.2, wind: 0, keep: false, shape: "letter", radius: 4, seed: "3" });
   flow.advance(200);
   flow.turn();
   flipOne(flow, [60, 30]);
   flow.advance(1000);
   check("one particle turned on the way back", flow.generation === 0 && flow.found > 100, flow.found);
-}
+});
 
 // -- the drive
 
@@ -102,8 +94,10 @@ const atPace = (pace) => {
   for (let g = 0; g < 400; g += pace) flow.advance(pace);
   return [flow.drive.velocity.value, flow.drive.force.value];
 };
-const forces = [1, 10, 200].map(atPace);
-check("porous flow at paces 1, 10 and 200 has one force", forces.every((one) => String(one) === String(forces[0])) && forces[0][1] > 0.001, forces);
+tried("porous flow", () => {
+  const forces = [1, 10, 200].map(atPace);
+  check("porous flow at paces 1, 10 and 200 has one force", forces.every((one) => String(one) === String(forces[0])) && forces[0][1] > 0.001, forces);
+});
 
 // -- numbers
 
@@ -130,8 +124,7 @@ for (const [gas, sides] of Object.entries(CORRELATED)) {
 const thin = (gas, particles) => numbersOf({ ...street, gas, directions: 6, particles, u: 0.1, fastest: 0.1 }, 100).warnings.length;
 check("a thin fhp1 warns, a dense one does not", thin("fhp1", 600) === 1 && thin("fhp1", 1200) === 0);
 check("hpp has no Reynolds number", numbersOf({ ...street, gas: "hpp", directions: 4 }, 100).reynolds === undefined);
-{
-  // what the program says of the same cells
+tried("the program's sums of the same cells", () => {
   const start = { gas: "fhp-rest", chirality: "seeded", width: 256, height: 128, filling: 0.18, wind: 0.2, keep: true, shape: "disc", radius: 11, seed: "1" };
   const program = process.env.FHPGAS ?? `${root}fhpgas`, flow = drawn(make, start), input = sceneOf(flow);
   const words = ["coarse", "--generations", "1", "--block-width", "256", "--block-height", "128"];
@@ -144,9 +137,10 @@ check("hpp has no Reynolds number", numbersOf({ ...street, gas: "hpp", direction
   near("the force", frame.force, (2 * kicks) / fluid, 1e-9);
   near("filling", frame.middle, 0.18, 0.003);
   near("blocked part", frame.measured.blockage, 22 / (128 * Math.sqrt(0.75)), 0.02);
-}
-{
-  // a flow that is one cell per generation ahead of a plate, and rests elsewhere
+});
+
+// a flow that is one cell per generation ahead of a plate, and rests elsewhere
+tried("a flow ahead of a plate", () => {
   const flow = new Flow(make(GASES.fhp1, 256, 64), { chirality: "left", seed: "0", generation: 0 });
   const isAhead = (at) => at % 256 < 100, isPlate = (at) => at % 256 >= 100 && at % 256 < 104 && Math.abs(Math.floor(at / 256) - 32) < 8;
   flow.cells.fill(Uint8Array.from({ length: 256 * 64 }, (_, at) => (isPlate(at) ? SOLID : isAhead(at) ? 0x01 : 0x09)));
@@ -155,7 +149,7 @@ check("hpp has no Reynolds number", numbersOf({ ...street, gas: "hpp", direction
   near("incoming speed", frame.measured.incoming, 1, 1e-6);
   near("fastest block", frame.fastest, 1, 1e-6);
   near("blocked part of a plate", frame.measured.blockage, 15 / 64, 1e-9);
-}
+});
 
 // -- the probe
 
@@ -163,11 +157,11 @@ const wave = (period, noise, random) => Array.from({ length: 6000 }, (_, k) => {
   const v = Math.sin((2 * Math.PI * 10 * k) / period) + noise * (random.chance() + random.chance() + random.chance() - 1.5);
   return { generation: 10 * k, u: 0, v, incoming: 0.3 };
 });
-for (const period of [1000, 2500, 4766]) {
+for (const period of [1000, 2500, 4766]) tried(`a wave of ${period} generations`, () => {
   const found = periodOf(wave(period, 1, lots(period)), period / 3);
   check(`a wave of ${period} generations`, found && Math.abs(found.period / period - 1) < 0.02 && found.error < 0.05 * period, JSON.stringify(found));
   check("its incoming speed", Math.abs((found?.incoming ?? 0) - 0.3) < 1e-9);
-}
+});
 check("seven periods are too few", periodOf(wave(8000, 0, lots(1)), 2500) === null);
 
 // Noise with a memory shows a period in at most 1 % of runs, looked at every 1,000 of 40,000 generations.
@@ -201,5 +195,4 @@ const types = spawnSync("tsc", ["-p", `${root}page`], { encoding: "utf8" });
 if (types.error) console.log("the types of the page are left out, because tsc is missing: apt-get install node-typescript");
 else check("the types of the page", types.status === 0, types.stdout);
 
-console.log(`${passed} passed, ${failed} failed`);
-process.exit(failed || !passed ? 1 : 0);
+end();
