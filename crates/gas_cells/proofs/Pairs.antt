@@ -136,6 +136,6 @@ row_cells-part channel rows y a p n f le place few same =
     ∙ pairs-part g (λ x. cell_text-long (is_solid channel x y) (cell rows x y)) channel.width a 64 n le few
     ∙ sym (texts-same f g 0 a n (λ b h. ap f (let e : 0 + b ≡ b = omega arith in e) ∙ same b h))
 
--- one more block of a row's characters
-pub blocks-next : (row : List ℕ) (j : ℕ) → take (128 * j) row ++ take 128 (drop (128 * j) row) ≡ take (128 * (j + 1)) row
-blocks-next row j = sym (take-add (128 * j) 128 row) ∙ ap (λ k. take k row) (let e : 128 * j + 128 ≡ 128 * (j + 1) = omega arith in e)
+-- one more part of a row's characters
+pub parts-next : (row : List ℕ) (j : ℕ) → take (128 * j) row ++ take 128 (drop (128 * j) row) ≡ take (128 * (j + 1)) row
+parts-next row j = sym (take-add (128 * j) 128 row) ∙ ap (λ k. take k row) (let e : 128 * j + 128 ≡ 128 * (j + 1) = omega arith in e)

@@ -1,4 +1,4 @@
-//! Writing cells: the two characters of a cell, and the characters of a row, block by block.
+//! Writing cells: the two characters of a cell, and the characters of a row, part by part.
 
 ghost use Rattle.std.specs.Prelude.{◌≡◌, ◌<◌, ◌≤◌, ◌*◌, ℕ, false, length, slice_index, take, drop};
 ghost use Rattle.std.specs.Fmt.{digit_glyph};
@@ -53,26 +53,26 @@ fn cell_pairs(solid: u64, states: [u8; 64]) -> [u8; CHARACTERS * 64]
     pairs
 }
 
-/// A block of a row: the characters of 64 cells, or of the last cells of the row.
+/// A part of a row: the characters of 64 cells, or of the last cells of the row.
 #[derive(Drop)]
-pub struct RowBlock {
+pub struct RowPart {
     pairs: [u8; CHARACTERS * 64],
     cells: usize,
 }
 
-impl Model for RowBlock {
+impl Model for RowPart {
     ghost use Rattle.std.specs.Prelude.{◌*◌, ◌≤◌, ℕ, List, take};
     ghost use Rattle.gas_cells.specs.declared.cells.TheConstants.{CHARACTERS};
 
     ghost Value = { List ℕ };
 
-    ghost view = { λ b. take (CHARACTERS * b.cells) b.pairs };
+    ghost view = { λ p. take (CHARACTERS * p.cells) p.pairs };
 
-    ghost invariant = { λ b. b.cells ≤ 64 };
+    ghost invariant = { λ p. p.cells ≤ 64 };
 }
 
-impl RowBlock {
-    /// The characters of the block, two per cell.
+impl RowPart {
+    /// The characters of the part, two per cell.
     pub fn as_bytes(&self) -> &[u8]
         ensures value { result.now ≡ self.now }
         ensures short { length result.now ≤ 128 }
@@ -81,25 +81,25 @@ impl RowBlock {
     }
 }
 
-/// The number of blocks in a row of a lattice.
-pub fn row_blocks<G: Gas>(lattice: &Lattice<G>) -> u32
-    ensures blocks { result ≡ words_in lattice.now.channel.width }
+/// The number of parts of a row of a lattice.
+pub fn row_parts<G: Gas>(lattice: &Lattice<G>) -> u32
+    ensures parts { result ≡ words_in lattice.now.channel.width }
     ensures all { (y : ℕ) →
         length (row_cells lattice.now.channel lattice.now.rows y) ≤ 128 * result }
 {
     lattice.channel().size().width().div_ceil(64)
 }
 
-/// Block `j` of row `y` of a lattice: the characters from `128 * j` on, at most 128.
-pub fn row_block<G: Gas>(lattice: &Lattice<G>, y: u32, j: u32) -> RowBlock
+/// Part `j` of row `y` of a lattice: the characters from `128 * j` on, at most 128.
+pub fn row_part<G: Gas>(lattice: &Lattice<G>, y: u32, j: u32) -> RowPart
     requires row { y < lattice.now.channel.height }
-    requires block { j < words_in lattice.now.channel.width }
+    requires part { j < words_in lattice.now.channel.width }
     ensures text { result
         ≡ take 128 (drop (128 * j) (row_cells lattice.now.channel lattice.now.rows y)) }
 {
     let row = lattice.row(y);
     let solid = lattice.channel().mask(y);
-    RowBlock {
+    RowPart {
         pairs: cell_pairs(solid.word(j), row.states64(j)),
         cells: (row.width() - 64 * j).min(64) as usize,
     }

@@ -17,7 +17,7 @@ use crate::catalog::{AnyLattice, KnownGas};
 use crate::error::SceneError;
 use crate::scene_table::LAST_GENERATION;
 use crate::with_lattice;
-use gas_cells::cells::{CHARACTERS, row_block, row_blocks};
+use gas_cells::cells::{CHARACTERS, row_part, row_parts};
 use gas_geom::gas::Gas;
 use gas_rows::chirality::Chirality;
 use gas_rows::lattice::Lattice;
@@ -32,8 +32,8 @@ fn row_bytes<G: Gas>(alloc: Global, lattice: &Lattice<G>, y: u32) -> Result<Vec<
 {
     let width = lattice.channel().size().width() as usize;
     let mut text = Vec::with_capacity(alloc, CHARACTERS * width)?;
-    for j in 0..row_blocks(lattice) {
-        text.extend_from_slice(row_block(lattice, y, j).as_bytes())?;
+    for j in 0..row_parts(lattice) {
+        text.extend_from_slice(row_part(lattice, y, j).as_bytes())?;
     }
     Ok(text)
 }

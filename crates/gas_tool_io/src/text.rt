@@ -10,7 +10,7 @@ ghost use Rattle.gas_tool_io.specs.Text.{cells_text, check_text, line_feed};
 
 use crate::output::{Sink, put_line};
 use gas_blocks::blocks::Block;
-use gas_cells::cells::{row_block, row_blocks};
+use gas_cells::cells::{row_part, row_parts};
 use gas_geom::gas::Gas;
 use gas_rows::lattice::Lattice;
 use std::io::Write;
@@ -28,8 +28,8 @@ fn put_row<G: Gas, W: Write>(sink: &mut Sink, out: &mut W, lattice: &Lattice<G>,
     ensures { Adds (W.contents out.old) (W.contents out.new) sink.old sink.new
         (row_cells lattice.now.channel lattice.now.rows y ++ line_feed) }
 {
-    for j in 0..row_blocks(lattice) {
-        sink.push(out, row_block(lattice, y, j).as_bytes());
+    for j in 0..row_parts(lattice) {
+        sink.push(out, row_part(lattice, y, j).as_bytes());
     }
     sink.push(out, b"\n");
 }

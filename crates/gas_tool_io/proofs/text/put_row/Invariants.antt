@@ -3,7 +3,7 @@ use Rattle.gas_tool_io.specs.Inner.Sink.{Adds}
 use Rattle.gas_cells.specs.Cells.{row_cells}
 use Rattle.gas_tool_io.proofs.text.put_row.Given as goal
 
--- the blocks so far were added
+-- the parts so far were added
 abbrev pub invariant-loop-j : goal.invariant-loop-j
 invariant-loop-j g l =
     Adds (g.W.Write.contents l.initial.out) (g.W.Write.contents l.out) l.initial.sink l.sink

@@ -4,7 +4,7 @@ use Rattle.gas_geom.specs.Gas.{holds}
 use Rattle.gas_geom.specs.Channel.{ChannelModel}
 use Rattle.gas_cells.specs.Cells.{cell_text}
 use Rattle.gas_cells.proofs.Pairs.{row_cells-part}
-use Rattle.gas_cells.proofs.cells.row_block.Goals as goal
+use Rattle.gas_cells.proofs.cells.row_part.Goals as goal
 
 pub returns : goal.returns
 returns g c = record {
@@ -15,7 +15,7 @@ returns g c = record {
       let cells : ℕ = c.min.result in
       let solid = c.mask-solid.ensures.row ∙ ap (λ (ch : ChannelModel). slice_index_or ch.solid y []) c.channel.ensures.channel in
       let wide = c.row-row.ensures.wide in
-      let inside : a < l.channel.width = omega (arith, c.requires.block) in
+      let inside : a < l.channel.width = omega (arith, c.requires.part) in
       let few : cells ≡ min (l.channel.width - a) 64 = omega (arith, c.min.ensures, c.width.ensures.value, wide) in
       c.cell_pairs.ensures cells (omega (arith, few))
       ∙ sym (row_cells-part l.channel l.rows y a (128 * c.args.j) cells (λ b. cell_text (holds c.word.result b) (slice_index c.states64.result b))

@@ -1,7 +1,7 @@
 use Rattle.std.proofs.Common.{ap, arith}
 use Rattle.gas_geom.specs.Channel.{ChannelModel}
 use Rattle.gas_cells.proofs.Pairs.{length-row_cells}
-use Rattle.gas_cells.proofs.cells.row_blocks.Goals as goal
+use Rattle.gas_cells.proofs.cells.row_parts.Goals as goal
 
 pub returns-clause-all : goal.returns-clause-all
 returns-clause-all g c = λ y.
