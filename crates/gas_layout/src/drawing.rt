@@ -2,7 +2,7 @@
 //!
 //! A rectangle is a strip of columns that is solid from its first row on. A skyline is how far down
 //! each column is solid, as strips are added from the top. A strip sets one number for each whole
-//! block of 256 columns in it, and one for each column before and after these blocks. Each of the
+//! band of 256 columns in it, and one for each column before and after these bands. Each of the
 //! three parts has at most 256 numbers.
 
 ghost use Rattle.std.specs.Prelude.{◌≡◌, ℕ, ◌+◌, ◌*◌, ◌/◌, ◌<◌, ◌≤◌, ◌&&◌, ◌||◌, [], ◌∷◌, ◌++◌, false, true, List, length, slice_index, slice_index_or, IfOk, OnOk, OnErr, All, nat_le, nat_lt, if◌then◌else◌};
@@ -11,12 +11,16 @@ ghost use Rattle.gas_geom.specs.declared.size.TheConstants.{MOST_SIDE};
 ghost use Rattle.gas_layout.specs.Layout.{drawn, fits};
 ghost use Rattle.gas_layout.specs.Inner.Strips.{reaches, IsInside, IsStrip, strip_of, first_row, IsSkyline, passes};
 ghost use Rattle.gas_layout.specs.declared.area.Rectangle.{Rectangle};
+ghost use Rattle.gas_layout.specs.declared.drawing.TheConstants.{BAND};
 
 use crate::area::Rectangle;
 use gas_geom::size::Size;
 use gas_rows::channel::Channel;
 use std::alloc::{AllocError, Global};
 use std::marker::Model;
+
+// The number of columns of a band.
+const BAND: usize = 256;
 
 // The columns `start..end`, solid from some row down to the row above `bottom`.
 #[derive(Clone, Copy)]
@@ -46,12 +50,19 @@ impl Strip {
     {
         rectangle.y as u32
     }
+
+    // The strip with these columns.
+    fn columns(self, start: u32, end: u32) -> Strip
+        ensures { result ≡ record self { start = start; end = end } }
+    {
+        Strip { start, end, ..self }
+    }
 }
 
-// Extends the columns of a strip down to its bottom. It sets at most 256 numbers.
+// Extends the columns of a strip down to its bottom. They are at most as many as those of a band.
 fn extend(depths: &mut [u32], strip: Strip)
     requires columns { IsStrip (length depths.old) strip }
-    requires few { strip.end ≤ strip.start + 256 }
+    requires few { strip.end ≤ strip.start + BAND }
     ensures { (x y : ℕ) → nat_lt y (slice_index depths.new x)
         ≡ (nat_lt y (slice_index depths.old x) || reaches strip x y) }
 {
@@ -60,45 +71,30 @@ fn extend(depths: &mut [u32], strip: Strip)
     }
 }
 
-// Extends the columns of a strip before and after its whole blocks of 256 columns. The result is the
-// whole blocks as a strip of blocks, which is empty if there is none.
+// Extends the columns of a strip before and after its whole bands. The result is the whole bands as
+// a strip of bands, which is empty if there is none.
 fn extend_ends(depths: &mut [u32], strip: Strip) -> Strip
     requires columns { IsStrip (length depths.old) strip }
     requires few { length depths.old ≤ MOST_SIDE }
-    ensures few { result.end ≤ result.start + 256 }
-    ensures within { (n : ℕ) → length depths.old ≤ 256 * n → IsStrip n result }
+    ensures few { result.end ≤ result.start + BAND }
+    ensures within { (n : ℕ) → length depths.old ≤ BAND * n → IsStrip n result }
     ensures cells { (x y : ℕ)
-        → (nat_lt y (slice_index depths.new x) || reaches result (x / 256) y)
+        → (nat_lt y (slice_index depths.new x) || reaches result (x / BAND) y)
         ≡ (nat_lt y (slice_index depths.old x) || reaches strip x y) }
 {
-    let first = strip.start.div_ceil(256);
-    let last = first.max(strip.end / 256);
-    let before = strip.end.min(256 * first);
-    let after = strip.end.min(256 * last);
-    extend(
-        depths,
-        Strip {
-            end: before,
-            ..strip
-        },
-    );
-    extend(
-        depths,
-        Strip {
-            start: after,
-            ..strip
-        },
-    );
-    Strip {
-        start: first,
-        end: last,
-        ..strip
-    }
+    let band = BAND as u32;
+    let first = strip.start.div_ceil(band);
+    let last = first.max(strip.end / band);
+    let before = strip.end.min(band * first);
+    let after = strip.end.min(band * last);
+    extend(depths, strip.columns(strip.start, before));
+    extend(depths, strip.columns(after, strip.end));
+    strip.columns(first, last)
 }
 
 // Marks which of the columns `from..to` are solid in row `y`: all if `whole` is set, else by their
 // numbers. It has no branch, so that the loop vectorises.
-fn mark_block(solid: &mut [bool], depths: &[u32], from: usize, to: usize, y: u32, whole: bool)
+fn mark_band(solid: &mut [bool], depths: &[u32], from: usize, to: usize, y: u32, whole: bool)
     requires long { length solid.old ≡ length depths.now }
     requires order { from ≤ to }
     requires within { to ≤ length depths.now }
@@ -111,12 +107,11 @@ fn mark_block(solid: &mut [bool], depths: &[u32], from: usize, to: usize, y: u32
     }
 }
 
-// How far down each column is solid: to the greater of its own number and the number of its block
-// of 256 columns.
+// How far down each column is solid: to the greater of its own number and the number of its band.
 #[derive(Drop)]
 pub(crate) struct Skyline {
     columns: Vec<u32>,
-    blocks: Vec<u32>,
+    bands: Vec<u32>,
 }
 
 impl Skyline {
@@ -128,7 +123,7 @@ impl Skyline {
     {
         Ok(Skyline {
             columns: vec![in alloc; 0; width]?,
-            blocks: vec![in alloc; 0; width / 256 + 1]?,
+            bands: vec![in alloc; 0; width / BAND + 1]?,
         })
     }
 
@@ -140,8 +135,8 @@ impl Skyline {
         ensures cells { (x y : ℕ)
             → passes self.new x y ≡ (passes self.old x y || reaches strip x y) }
     {
-        let blocks = extend_ends(self.columns.as_mut_slice(), strip);
-        extend(self.blocks.as_mut_slice(), blocks);
+        let bands = extend_ends(self.columns.as_mut_slice(), strip);
+        extend(self.bands.as_mut_slice(), bands);
     }
 
     // Extends the columns of each strip down to its bottom.
@@ -165,11 +160,12 @@ impl Skyline {
             → slice_index_or solid.new x false ≡ passes self.now x y }
     {
         let columns = self.columns.as_slice();
-        let blocks = self.blocks.as_slice();
+        let bands = self.bands.as_slice();
         let width = columns.len();
-        for block in 0..width.div_ceil(256) {
-            let to = width.min(256 * block + 256);
-            mark_block(solid, columns, 256 * block, to, y, y < blocks[block]);
+        for band in 0..width.div_ceil(BAND) {
+            let from = BAND * band;
+            let to = width.min(from + BAND);
+            mark_band(solid, columns, from, to, y, y < bands[band]);
         }
     }
 }

@@ -40,13 +40,13 @@ reaches s x y = (nat_le s.start x && nat_lt x s.end) && nat_lt y s.bottom
 -- whether the skyline of column x is below row y
 abbrev pub passes : Skyline → ℕ → ℕ → Bool
 passes s x y =
-    nat_lt y (slice_index s.columns.items x) || nat_lt y (slice_index s.blocks.items (x / 256))
+    nat_lt y (slice_index s.columns.items x) || nat_lt y (slice_index s.bands.items (x / 256))
 
--- a number for each of at most MOST_SIDE columns, and for each of their blocks
+-- a number for each of at most MOST_SIDE columns, and for each of their bands
 pub record IsSkyline (width : ℕ) (s : Skyline) : Type 0 where
   pub columns : length s.columns.items ≡ width
   pub few : width ≤ MOST_SIDE
-  pub blocks : width ≤ 256 * length s.blocks.items
+  pub bands : width ≤ 256 * length s.bands.items
 
 -- the strips of each row
 abbrev pub strips_of : List (Vec Strip Global) → List (List Strip)

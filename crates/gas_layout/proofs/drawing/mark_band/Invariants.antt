@@ -1,5 +1,5 @@
 use Rattle.std.proofs.Common.{◌≡◌, ℕ, ◌||◌, ◌&&◌, false, nat_le, nat_lt, get_or, if◌then◌else◌}
-use Rattle.gas_layout.proofs.drawing.mark_block.Given as goal
+use Rattle.gas_layout.proofs.drawing.mark_band.Given as goal
 
 abbrev pub invariant-loop-x : goal.invariant-loop-x
 invariant-loop-x l =
