@@ -43,7 +43,7 @@ Adds-failed a b before after bytes e w f = subst (λ (x : Option (List ℕ)). Ad
   };
 })
 
--- a block was handed over, and its first `sent` bytes went out
+-- a chunk was handed over, and its first `sent` bytes went out
 pub Adds-handed : (a b : Option (List ℕ)) (before after : SinkModel) (sent : ℕ) → before.failed ≡ false → sent ≤ length before.waiting
     → Appends a b (take sent before.waiting) → after.written ≡ before.written + sent → after.failed ≡ nat_lt sent (length before.waiting) → after.waiting ≡ []
     → Adds a b before after []

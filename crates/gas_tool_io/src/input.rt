@@ -35,7 +35,7 @@ impl InputFault {
 /// The most bytes that an input may have: 64 MiB.
 pub const LONGEST_INPUT: usize = 67_108_864;
 
-const BLOCK: usize = 16_384;
+const CHUNK: usize = 16_384;
 
 /// Reads all bytes up to the end of `reader`. Each read except the last returns a byte or more, so
 /// there are at most `LONGEST_INPUT + 1` reads. Any error of the reader is `Read`. An input of more
@@ -49,9 +49,9 @@ pub fn slurp<R: Read>(alloc: Global, reader: &mut R) -> Result<Vec<u8>, InputFau
         IfSome (R.remaining reader.old) (λ xs. 67108864 < length xs) }
 {
     let mut text = Vec::new(alloc);
-    let mut block = [0u8; BLOCK];
+    let mut chunk = [0u8; CHUNK];
     for reads in 0..LONGEST_INPUT + 1 {
-        let Ok(count) = reader.read(&mut block) else {
+        let Ok(count) = reader.read(&mut chunk) else {
             return Err(InputFault::Read);
         };
         if count == 0 {
@@ -60,7 +60,7 @@ pub fn slurp<R: Read>(alloc: Global, reader: &mut R) -> Result<Vec<u8>, InputFau
         if count > LONGEST_INPUT - text.len() {
             return Err(InputFault::TooLong);
         }
-        if text.extend_from_slice(&block[..count]).is_err() {
+        if text.extend_from_slice(&chunk[..count]).is_err() {
             return Err(InputFault::Memory);
         }
     }

@@ -1,4 +1,4 @@
-//! Printing in blocks, with the exact count of the bytes that went out.
+//! Printing in chunks, with the exact count of the bytes that went out.
 
 ghost use Rattle.std.specs.Prelude.{◌≡◌, ◌≤◌, ℕ, List, [], length, take, false, Option, IfSome};
 ghost use Rattle.std.specs.Io.KnownBytes.{Appends};
@@ -13,16 +13,16 @@ use std::io::Write;
 use std::marker::Model;
 
 // The most bytes that a sink collects before it hands them to its writer.
-const BLOCK: usize = 8192;
+const CHUNK: usize = 8192;
 
 // The most bytes of a line that `put_line` prints.
 const LINE: usize = 128;
 
-/// Collects a text in blocks, hands each full block to a writer, and counts the bytes that went
+/// Collects a text in chunks, hands each full chunk to a writer, and counts the bytes that went
 /// out. After a failure nothing more goes out. It takes no memory.
 #[derive(Drop)]
 pub(crate) struct Sink {
-    block: ArrayVec<u8, BLOCK>,
+    chunk: ArrayVec<u8, CHUNK>,
     written: u64,
     failed: bool,
 }
@@ -33,7 +33,7 @@ impl Model for Sink {
     ghost Value = { SinkModel };
 
     ghost view = { λ s. record {
-      waiting = s.block.items;
+      waiting = s.chunk.items;
       written = s.written;
       failed = s.failed;
     } };
@@ -45,39 +45,39 @@ impl Sink {
         ensures fresh { result.failed ≡ false }
     {
         Sink {
-            block: ArrayVec::new(),
+            chunk: ArrayVec::new(),
             written: 0,
             failed: false,
         }
     }
 
-    /// Adds bytes to the text, at most a block of 8192.
+    /// Adds bytes to the text, at most a chunk of 8192.
     #[inline]
     pub(crate) fn push<W: Write>(&mut self, out: &mut W, bytes: &[u8])
         requires short { length bytes.now ≤ 8192 }
         ensures { Adds (W.contents out.old) (W.contents out.new) self.old self.new bytes.now }
     {
-        if self.block.remaining_capacity() < bytes.len() {
+        if self.chunk.remaining_capacity() < bytes.len() {
             self.hand_over(out);
         }
         // There is room now.
-        let _ = self.block.try_extend_from_slice(bytes);
+        let _ = self.chunk.try_extend_from_slice(bytes);
     }
 
-    // Hands the block to the writer and empties it. If the count could pass `u64::MAX`, this fails
-    // before a byte of the block goes out.
+    // Hands the chunk to the writer and empties it. If the count could pass `u64::MAX`, this fails
+    // before a byte of the chunk goes out.
     fn hand_over<W: Write>(&mut self, out: &mut W)
         ensures adds { Adds (W.contents out.old) (W.contents out.new) self.old self.new [] }
         ensures empty { self.new.waiting ≡ [] }
     {
-        if self.failed || u64::MAX - self.written < BLOCK as u64 {
+        if self.failed || u64::MAX - self.written < CHUNK as u64 {
             self.failed = true;
         } else {
-            let sent = send(out, self.block.as_slice());
-            self.failed = sent < self.block.len();
+            let sent = send(out, self.chunk.as_slice());
+            self.failed = sent < self.chunk.len();
             self.written += sent as u64;
         }
-        self.block.clear();
+        self.chunk.clear();
     }
 
     /// Marks the text as failed from here on.
@@ -88,7 +88,7 @@ impl Sink {
         self.failed = true;
     }
 
-    /// Hands over the last block and flushes the writer once. A failed flush is a fault after the
+    /// Hands over the last chunk and flushes the writer once. A failed flush is a fault after the
     /// whole text.
     pub(crate) fn finish<W: Write>(mut self, out: &mut W) -> Result<(), WriteFault>
         ensures { (start : Option (List ℕ)) (text : List ℕ) →

@@ -3,7 +3,7 @@
 use Rattle.std.specs.Prelude.{◌≡◌, ◌≤◌, ℕ, List, ◌++◌, length, take, drop, Bool, false, Option}
 use Rattle.std.specs.Io.KnownBytes.{Appends}
 
--- a sink: the bytes that wait in its block, the count of the bytes that went out, and whether the writer failed
+-- a sink: the bytes that wait in its chunk, the count of the bytes that went out, and whether the writer failed
 pub record SinkModel : Type 0 where
   pub waiting : List ℕ
   pub written : ℕ
