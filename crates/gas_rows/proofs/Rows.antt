@@ -1,5 +1,5 @@
 -- A row and its words: what the words of a row say, and what rows they are after a write.
-use Rattle.std.proofs.Common.{◌≡◌, ◌≢◌, ◌⊎◌, ℕ, ◌+◌, ◌*◌, ◌/◌, ◌%◌, ◌^◌, ◌<◌, ◌≤◌, false, ◌&&◌, ◌==◌, if◌then◌else◌, List, length, get_or, set, take, drop, ltb, refl, sym, ap, ◌∙◌, subst, arith, inl, inr}
+use Rattle.std.proofs.Common.{◌≡◌, ◌≢◌, ◌⊎◌, ℕ, ◌+◌, ◌*◌, ◌/◌, ◌%◌, ◌^◌, ◌<◌, ◌≤◌, false, ◌&&◌, ◌==◌, if◌then◌else◌, List, length, get_or, set, ltb, refl, sym, ap, ◌∙◌, subst, arith, inl, inr}
 use Rattle.std.proofs.lemmas.Bool.{cases_lt}
 use Rattle.std.proofs.lemmas.Bool.Decides.{nat_tests}
 use Rattle.std.proofs.lemmas.List.{get_or_past, length-set}
@@ -8,13 +8,13 @@ use Rattle.gas_geom.specs.Gas.{holds}
 use Rattle.gas_geom.specs.Lattice.{row_of}
 use Rattle.gas_geom.specs.Planes.{set_at}
 use Rattle.gas_geom.specs.declared.size.TheConstants.{MOST_SIDE}
-use Rattle.gas_bits.specs.Words.{words_in, bit}
+use Rattle.gas_bits.specs.Words.{words_in}
 use Rattle.gas_bits.specs.Planes.{has, state}
 use Rattle.gas_rows.specs.Inner.Planes.{ArePlanes, IsClear}
 use Rattle.gas_rows.specs.Planes.{cells_of, AreWordsOf}
 use Rattle.gas_bits.proofs.Sets.{set_from}
 use Rattle.gas_rows.proofs.Cells.{length-cells, cells-lt, holds-cells, width_of, get_or-cells, holds-cells_all, cells-from, cells-written, IsClear-written}
-use Rattle.gas_bits.proofs.Cells.{has-set, place_in, state-lt, state-same, state-from, has_word, part_get, part_length, whole_plane}
+use Rattle.gas_bits.proofs.Cells.{has-set, place_in, state-lt, state-same, state-from, has_word}
 use Rattle.gas_geom.proofs.Holds.{holds-zero, holds-above}
 
 -- a fact on each cell and direction, at other names of the two counts
@@ -61,27 +61,6 @@ module _ (d width : ℕ) (words row : List ℕ) (inside : ArePlanes d width word
         (λ w. j < words_in w → holds (get_or words (i * words_in w + j) 0) b ≡ holds (get_or row (64 * j + b) 0) i)
         (sym wide) (λ h. held_word i j b hi h hb) hj;
   }
-
-  pub plane-long : (i : ℕ) → i < d → length (take (words_in width) (drop (i * words_in width) words)) ≡ words_in (length row)
-  plane-long i hi =
-      part_length words (i * words_in width) (words_in width) (let e = whole_plane (words_in width) d i hi in omega (arith, inside.long))
-      ∙ ap words_in (sym wide)
-
-  pub plane-bits : (i : ℕ) → i < d → (x : ℕ) →
-      bit (take (words_in width) (drop (i * words_in width) words)) x ≡ holds (get_or row x 0) i
-  unfolding bit has
-  plane-bits i hi x = elim (cases_lt (x / 64) (words_in width)) [
-    | inl lt ↦ ap (λ w. holds w (x % 64)) (part_get words (i * words_in width) (words_in width) (x / 64) lt fits) ∙ held i x hi (omega arith)
-    | inr le ↦ ap (λ w. holds w (x % 64)) (get_or_past part (x / 64) 0 (omega (arith, part_length words (i * words_in width) (words_in width) fits)))
-        ∙ holds-zero (x % 64)
-        ∙ sym (ap (λ s. holds s i) (get_or_past row x 0 (let e = wide in omega arith)) ∙ holds-zero i)
-  ]
-    where
-      part : List ℕ
-      part = take (words_in width) (drop (i * words_in width) words)
-
-      fits : i * words_in width + words_in width ≤ length words
-      fits = let e = whole_plane (words_in width) d i hi in omega (arith, inside.long)
 
   -- a row with one cell written
   module _ (new : List ℕ) (n dirs x s : ℕ) (en : n ≡ words_in width) (ed : dirs ≡ d) (same_long : length new ≡ length words)

@@ -1,5 +1,5 @@
 //! The collision of the words of a row, four words of each direction at a time.
-ghost use Rattle.std.specs.Prelude.{◌≡◌, ◌≤◌, ℕ, false, IsTrue, length};
+ghost use Rattle.std.specs.Prelude.{◌≡◌, ◌+◌, ◌*◌, ◌/◌, ◌<◌, ◌≤◌, ℕ, false, IsTrue, length, slice_index};
 ghost use Rattle.gas_geom.specs.declared.size.TheConstants.{MOST_SIDE};
 ghost use Rattle.gas_bits.specs.Words.{words_in, bit};
 
@@ -24,7 +24,6 @@ pub struct Collision<'a> {
 }
 
 impl<'a> Collision<'a> {
-    ghost use Rattle.std.specs.Prelude.{◌≡◌, ◌+◌, ◌*◌, ◌/◌, ◌<◌, ℕ, IsTrue, length, slice_index};
     ghost use Rattle.gas_geom.specs.Gas.{holds};
     ghost use Rattle.gas_bits.specs.Planes.{state};
     ghost use Rattle.gas_rows.specs.Collision.{collided_state};

@@ -1,5 +1,5 @@
 //! Masks: a truth value for each cell of a row.
-ghost use Rattle.std.specs.Prelude.{◌≡◌, ◌<◌, ◌≤◌, ◌+◌, ◌-◌, ◌*◌, ◌/◌, ◌%◌, ◌^◌, ℕ, Bool, false, List, length, map, replicate, slice_index, slice_index_or, slice_set, count_by, IfOk, IsTrue};
+ghost use Rattle.std.specs.Prelude.{◌≡◌, ◌<◌, ◌≤◌, ◌+◌, ◌*◌, ◌/◌, ◌%◌, ◌^◌, ℕ, Bool, false, List, length, map, replicate, slice_index, slice_index_or, slice_set, count_by, IfOk, IsTrue};
 ghost use Rattle.std.specs.List.{range_with_len};
 ghost use Rattle.gas_geom.specs.Gas.{holds};
 ghost use Rattle.gas_rows.specs.Key.{drawn_bit};
@@ -7,7 +7,6 @@ ghost use Rattle.gas_bits.specs.Words.{words_in, bit};
 
 use crate::key;
 use gas_bits::plane;
-use gas_bits::plane::count_in;
 use gas_bits::word::{has_bit, with_bit, words_for};
 use rand_chacha::ChaCha20Rng;
 use std::alloc::{AllocError, Global};
@@ -145,16 +144,6 @@ impl Mask {
     pub fn count(&self) -> u32
         ensures count { result ≡ count_by (λ b. b) self.now }
     {
-        count_in(&self.words, 0, self.width)
-    }
-
-    /// The number of true cells in the columns from `from` to `to - 1`.
-    pub fn count_in(&self, from: u32, to: u32) -> u32
-        requires order { from ≤ to }
-        requires within { to ≤ length self.now }
-        ensures count { result
-            ≡ count_by (λ x. slice_index_or self.now x false) (range_with_len from (to - from)) }
-    {
-        count_in(&self.words, from, to)
+        plane::count_in(&self.words, 0, self.width)
     }
 }

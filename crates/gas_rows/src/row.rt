@@ -1,17 +1,15 @@
 //! Rows: a state for each cell, held as bit planes.
-ghost use Rattle.std.specs.Prelude.{◌≡◌, ◌≢◌, ◌⊎◌, ◌+◌, ◌-◌, ◌*◌, ◌/◌, ◌<◌, ◌≤◌, ◌^◌, ℕ, List, length, replicate, slice_index, slice_index_or, slice_set, false, IsTrue, count_by, sum_by, if◌then◌else◌, vec_len, IfOk};
-ghost use Rattle.std.specs.List.{range_with_len};
+ghost use Rattle.std.specs.Prelude.{◌≡◌, ◌≢◌, ◌⊎◌, ◌+◌, ◌*◌, ◌/◌, ◌<◌, ◌≤◌, ◌^◌, ℕ, List, length, replicate, slice_index, slice_index_or, slice_set, false, IsTrue, sum_by, if◌then◌else◌, vec_len, IfOk};
 ghost use Rattle.gas_geom.specs.Gas.{holds, particles};
 ghost use Rattle.gas_geom.specs.Channel.{ChannelModel};
 ghost use Rattle.gas_geom.specs.Lattice.{row_of, streamed};
-ghost use Rattle.gas_bits.specs.Words.{words_in, bit};
+ghost use Rattle.gas_bits.specs.Words.{words_in};
 ghost use Rattle.gas_rows.specs.Planes.{AreWordsOf, cells_of};
 ghost use Rattle.gas_rows.specs.Streaming.{AreRowsLong, AreWordsAbout};
 
 use crate::collision::{Collision, directions};
 use crate::mask::Mask;
 use crate::stream::Neighbourhood;
-use gas_bits::plane::count_in;
 use gas_bits::planes::{
     clear_planes_past, empty_solid, load_states, load_words, planes_at, read_cell, write_cell,
 };
@@ -131,17 +129,6 @@ impl<G: Gas> Row<G> {
         total
     }
 
-    /// The number of cells that hold direction `i` in the columns from `from` to `to - 1`.
-    pub fn count_in(&self, i: u32, from: u32, to: u32) -> u32
-        requires direction { i < G.rules.dirs }
-        requires order { from ≤ to }
-        requires within { to ≤ length self.now }
-        ensures count { result
-            ≡ count_by (λ x. holds (slice_index self.now x) i) (range_with_len from (to - from)) }
-    {
-        count_in(self.plane_of_width(i, self.width()), from, to)
-    }
-
     /// All words: those of direction 0, from the first cell on, then those of direction 1, and so
     /// on. A direction has a word for each 64 cells, the last one filled up with zeros.
     pub fn as_words(&self) -> &[u64]
@@ -182,21 +169,6 @@ impl<G: Gas> Row<G> {
         clear_planes_past(&mut self.words, directions::<G>(), self.width);
     }
 
-    /// The words of direction `i`: bit `b` of word `j` is 1 if cell `64 * j + b` holds it. Bits
-    /// past the width are 0. The caller has the row's width at hand.
-    #[inline(always)]
-    pub fn plane_of_width(&self, i: u32, width: u32) -> &[u64]
-        requires direction { i < G.rules.dirs }
-        requires wide { width ≡ length self.now }
-        ensures long { length result.now ≡ words_in (length self.now) }
-        ensures bits { (x : ℕ) → bit result.now x ≡ holds (slice_index self.now x) i }
-    {
-        let words = self.words.as_slice();
-        let words_each = words_for(width);
-        let start = i as usize * words_each;
-        &words[start..start + words_each]
-    }
-
     /// Word `j` of direction `i`, for the cells from `64 * j` on.
     pub fn plane_word(&self, i: u32, j: u32) -> u64
         requires direction { i < G.rules.dirs }
@@ -204,7 +176,7 @@ impl<G: Gas> Row<G> {
         ensures bits { (b : ℕ) → b < 64 → holds result b
             ≡ holds (slice_index self.now (64 * j + b)) i }
     {
-        self.plane_of_width(i, self.width())[j as usize]
+        self.words[i as usize * words_for(self.width) + j as usize]
     }
 
     /// Sets word `j` of direction `i`. Bits past the width are dropped.

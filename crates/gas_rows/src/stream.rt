@@ -1,6 +1,6 @@
 //! The streaming of a row, wherever walls and solid cells are: every particle moves along its link,
 //! or is sent back if the link ends at a solid cell or the wall.
-ghost use Rattle.std.specs.Prelude.{◌≡◌, ◌*◌, ◌<◌, ◌≤◌, ℕ, false, take, drop, IsTrue, length};
+ghost use Rattle.std.specs.Prelude.{◌≡◌, ◌+◌, ◌*◌, ◌<◌, ◌≤◌, ℕ, false, take, drop, IsTrue, length};
 ghost use Rattle.gas_geom.specs.declared.size.TheConstants.{MOST_SIDE};
 ghost use Rattle.gas_bits.specs.Words.{words_in, bit};
 ghost use Rattle.gas_rows.specs.Inner.Beside.{row_beside};
@@ -63,10 +63,8 @@ fn plane(words: &[u64], dirs: usize, i: u32, words_each: usize) -> &[u64]
 }
 
 impl<'a> Neighbourhood<'a> {
-    ghost use Rattle.std.specs.Prelude.{◌≡◌, ◌+◌, ◌*◌, ◌<◌, ◌≤◌, ℕ, false, IsTrue, length};
     ghost use Rattle.gas_geom.specs.Channel.{ChannelModel};
     ghost use Rattle.gas_geom.specs.Lattice.{streamed};
-    ghost use Rattle.gas_bits.specs.Words.{words_in};
     ghost use Rattle.gas_bits.specs.Planes.{has, state};
     ghost use Rattle.gas_rows.specs.Streaming.{AreWordsAbout, AreRowsLong};
     ghost use Rattle.gas_rows.specs.Inner.Streaming.{AreStreamed, AreClearBelow};
