@@ -2,12 +2,12 @@
 ghost use Rattle.std.specs.Prelude.{◌≡◌, ℕ, ◌+◌, ◌*◌, ◌<◌, ◌≤◌, ◌++◌, ◌∷◌, [], List, length, map, IfOk, IfSome, Option, Some, None, if◌then◌else◌, true};
 ghost use Rattle.std.specs.List.{range_with_len};
 ghost use Rattle.gas_geom.specs.declared.size.TheConstants.{MOST_SIDE};
-ghost use Rattle.gas_pipe_model.specs.Line.{State, is_done};
+ghost use Rattle.gas_pipe_model.specs.Line.{is_done};
 ghost use Rattle.gas_pipe_model.specs.Pass.{RunInputModel, IsRunInput, line_of, after, rows_on};
 ghost use Rattle.gas_pipe_members.specs.Feeder.{FeederModel};
 ghost use Rattle.gas_pipe_members.specs.Worker.{WorkerModel};
 ghost use Rattle.gas_pipe_replay.specs.Replay.{counts_of};
-ghost use Rattle.gas_pipe_replay.specs.Inner.LocalLine.{IsAt, HaveBegun, AreUnused, Shows};
+ghost use Rattle.gas_pipe_replay.specs.Inner.LocalLine.{HaveBegun, AreUnused, Shows};
 
 use crate::answer::Counts;
 use gas_geom::gas::Gas;
@@ -96,13 +96,13 @@ pub struct LocalLine<'a, G: Gas> {
 }
 
 impl<'a, G: Gas> LocalLine<'a, G> {
+    ghost use Rattle.gas_pipe_replay.specs.Inner.Made.{HasMade};
+
     /// The line of a plan's first pass before its first turn.
     pub(crate) fn new(alloc: Global, input: &RunInput<'a, G>) -> Result<Self, AllocError>
         requires some { 0 < input.now.plan.generations }
         ensures input { IfOk result (λ _. IsRunInput G.rules input.now) }
-        ensures shows { IfOk result (λ c.
-            Shows G.rules input.now c.feeder c.workers.items c.belts.items
-            (after G.rules input.now 0 [])) }
+        ensures begun { IfOk result (λ line. HasMade G.rules input.now line []) }
     {
         let mut feeder = Feeder::new(alloc, input.lattice)?;
         feeder.begin();
@@ -115,11 +115,8 @@ impl<'a, G: Gas> LocalLine<'a, G> {
 
     /// Makes one turn of a member. A number above the workers' is no member's.
     pub(crate) fn turn(&mut self, who: u32)
-        ensures { (input : RunInputModel) (turns : List ℕ) →
-            Shows G.rules input self.old.feeder self.old.workers.items self.old.belts.items
-            (after G.rules input 0 turns) →
-            Shows G.rules input self.new.feeder self.new.workers.items self.new.belts.items
-            (after G.rules input 0 (turns ++ who ∷ [])) }
+        ensures { (input : RunInputModel) (turns : List ℕ) → HasMade G.rules input self.old turns →
+            HasMade G.rules input self.new (turns ++ who ∷ []) }
     {
         let who = who as usize;
         if who == 0 {
@@ -131,11 +128,8 @@ impl<'a, G: Gas> LocalLine<'a, G> {
 
     /// Makes these turns, one after another.
     pub(crate) fn run(&mut self, turns: &[u32])
-        ensures { (input : RunInputModel) →
-            Shows G.rules input self.old.feeder self.old.workers.items self.old.belts.items
-            (after G.rules input 0 []) →
-            Shows G.rules input self.new.feeder self.new.workers.items self.new.belts.items
-            (after G.rules input 0 turns.now) }
+        ensures { (input : RunInputModel) → HasMade G.rules input self.old [] →
+            HasMade G.rules input self.new turns.now }
     {
         for who in turns {
             self.turn(*who);
@@ -146,9 +140,9 @@ impl<'a, G: Gas> LocalLine<'a, G> {
     // after the last of them.
     fn count_taken(&self, k: usize) -> u32
         requires { k ≤ length self.now.workers.items }
-        ensures value { (input : RunInputModel) (s : State) →
-            Shows G.rules input self.now.feeder self.now.workers.items self.now.belts.items s →
-            result ≡ length (s.taken k) }
+        ensures value { (input : RunInputModel) (turns : List ℕ) →
+            HasMade G.rules input self.now turns →
+            result ≡ length ((after G.rules input 0 turns).taken k) }
         ensures few { result ≤ MOST_SIDE }
     {
         match self.workers.get(k) {
@@ -160,9 +154,9 @@ impl<'a, G: Gas> LocalLine<'a, G> {
     /// The numbers of rows that were put on each belt and taken from it.
     pub(crate) fn counts(&self, alloc: Global) -> Result<Vec<Counts>, AllocError>
         ensures few { IfOk result (λ counts. length counts.items ≤ 65) }
-        ensures value { IfOk result (λ counts. (input : RunInputModel) (s : State) →
-            Shows G.rules input self.now.feeder self.now.workers.items self.now.belts.items s →
-            counts.items ≡ map (counts_of s) (range_with_len 0 (input.plan.stages + 1))) }
+        ensures value { IfOk result (λ counts. (input : RunInputModel) (turns : List ℕ) →
+            HasMade G.rules input self.now turns → counts.items
+            ≡ map (counts_of (after G.rules input 0 turns)) (range_with_len 0 (input.plan.stages + 1))) }
     {
         let mut counts = Vec::with_capacity(alloc, self.belts.len())?;
         for k in 0..self.belts.len() {
@@ -175,9 +169,7 @@ impl<'a, G: Gas> LocalLine<'a, G> {
 
     /// The lattice of the last belt, if the pass is done.
     pub(crate) fn finish(self) -> Option<Lattice<G>>
-        ensures { (input : RunInputModel) (turns : List ℕ) →
-            Shows G.rules input self.entry.feeder self.entry.workers.items self.entry.belts.items
-            (after G.rules input 0 turns) →
+        ensures { (input : RunInputModel) (turns : List ℕ) → HasMade G.rules input self.entry turns →
             result ≡ (if is_done (line_of G.rules input 0) (after G.rules input 0 turns)
             then Some (record input.lattice { rows = rows_on G.rules input 0 input.plan.stages })
             else None) }

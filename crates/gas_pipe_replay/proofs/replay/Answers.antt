@@ -14,18 +14,18 @@ pub returns-clause-state : goal.returns-clause-state
 returns-clause-state g c =
     let input : RunInputModel = record { chirality = c.args.chirality; first = c.args.first; lattice = c.args.lattice.now; plan = c.args.plan } in
     let turns = c.args.turns.now in
-    let shows = c.run.ensures input c.in_ok-line.ensures.shows in
+    let shows = c.run.ensures input c.in_ok-line.ensures.begun in
     let enough = one_pass c.args.plan.generations c.args.plan.stages shows.some (omega (arith, c.passes.ensures.value, c.if-passes-gt1.false)) in
     stands g.G.Gas.rules input turns c.new-3.result
     (λ none. omega (arith, none, c.generations.ensures.value, c.if-generations-eq0.false)) enough
     (ap (λ (r : ReplayModel). r.lattice) c.new-3.ensures ∙ c.finish.ensures input turns shows)
-    (ap (λ (r : ReplayModel). r.belts) c.new-3.ensures ∙ c.in_ok-belts.ensures.value input (after g.G.Gas.rules input 0 turns) shows)
+    (ap (λ (r : ReplayModel). r.belts) c.new-3.ensures ∙ c.in_ok-belts.ensures.value input turns shows)
 
 pub returns-clause-done : goal.returns-clause-done
 returns-clause-done g c rounds =
     let input : RunInputModel = record { chirality = c.args.chirality; first = c.args.first; lattice = c.args.lattice.now; plan = c.args.plan } in
     let turns = c.args.turns.now in
-    let shows = c.run.ensures input c.in_ok-line.ensures.shows in
+    let shows = c.run.ensures input c.in_ok-line.ensures.begun in
     let high : c.args.lattice.now.channel.height ≡ length (rows_on g.G.Gas.rules input 0 0) = sym (rows_high g.G.Gas.rules input shows.is_input 0 0) in
     let last : LatticeModel = record c.args.lattice.now { rows = rows_on g.G.Gas.rules input 0 input.plan.stages } in
     done_is_some (is_done (line_of g.G.Gas.rules input 0) (after g.G.Gas.rules input 0 turns)) last c.new-3.result.lattice

@@ -23,7 +23,7 @@ returns g c =
     } in
     record {
       input = is;
-      shows =
+      begun =
           begun_shows g.G.Gas.rules input c.begin.new.self c.in_ok-begin_workers.field-0.items c.in_ok-make_belts.field-0.items is
           c.begin_workers.ensures.some c.in_ok-begin_workers.ensures.begun
           (subst (λ (q : RunInputModel). AreUnused q.plan.capacity c.in_ok-make_belts.field-0.items (q.plan.stages + 1)) c.input.view_is c.in_ok-make_belts.ensures.unused)
