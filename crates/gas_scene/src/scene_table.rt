@@ -1,7 +1,7 @@
 //! The table of a scene: its values as texts and numbers, and in their ranges the ones that maps and
 //! areas share.
 
-ghost use Rattle.std.specs.Prelude.{◌≡◌, ◌&&◌, ◌||◌, not, pos, codes, string_bytes, ◌≤◌, Some, None, is_some, is_ok, nat_abs, int_le, IfSome, IfErr, IfOk};
+ghost use Rattle.std.specs.Prelude.{◌≡◌, ◌&&◌, ◌||◌, not, pos, codes, string_bytes, ◌≤◌, Some, None, is_some, nat_abs, int_le, IfSome, IfErr, IfOk};
 ghost use Rattle.std.specs.BTreeMap.{keys as map_keys};
 ghost use Rattle.std.specs.List.{list_all, list_any};
 ghost use Rattle.std.specs.Ordering.{int_eq};
@@ -15,11 +15,10 @@ ghost use Rattle.gas_scene.specs.Inner.Models.{is_known, table_model};
 ghost use Rattle.gas_layout.specs.Layout.{between};
 ghost use Rattle.gas_scene.specs.Scene.{scene_of};
 ghost use Rattle.gas_scene.specs.declared.scene_table.TheConstants.{LAST_GENERATION};
-ghost use Rattle.gas_scene.specs.declared.error.SceneError.TheVariants.{WrongType};
 
 use crate::catalog::KnownGas;
 use crate::error::SceneError;
-use crate::toml_values::{integer_at, text_at, texts_at, tuples_at, value_at};
+use crate::toml_values::{ValueType, elements_at, integer_at, text_at, texts_at, value_at};
 use gas_geom::size::MOST_SIDE;
 use gas_layout::area::is_between;
 use gas_rows::chirality::Chirality;
@@ -31,11 +30,24 @@ pub const LAST_GENERATION: u64 = 1_000_000_000_000;
 // The most columns of a scene of version 1, and the most rows.
 const FIRST_MOST_SIDE: u32 = 4096;
 
-// The keys of both forms, and the one of a map.
-const KEYS: [&str; 6] = ["version", "generation", "seed", "gas", "chirality", "cells"];
+// The keys of both forms, and the one of a map, each with the type of its value.
+const KEYS: [(&str, ValueType); 6] = [
+    ("version", ValueType::Integer),
+    ("generation", ValueType::Integer),
+    ("seed", ValueType::Integer),
+    ("gas", ValueType::Text),
+    ("chirality", ValueType::Text),
+    ("cells", ValueType::Texts),
+];
 
 // The keys of an area.
-const AREA_KEYS: [&str; 5] = ["width", "height", "rate", "solid", "particles"];
+const AREA_KEYS: [(&str, ValueType); 5] = [
+    ("width", ValueType::Integer),
+    ("height", ValueType::Integer),
+    ("rate", ValueType::Integer),
+    ("solid", ValueType::Tuples(4)),
+    ("particles", ValueType::Tuples(3)),
+];
 
 /// The table of a scene: the rows of a map, from the top, or none and an area. An absent key has
 /// its default. The values have their types, but their ranges are not checked yet.
@@ -54,16 +66,6 @@ pub struct SceneTable<'a> {
     pub particles: &'a [Value],
 }
 
-// The version. A value that is no integer counts as an absent one.
-fn version(table: &Table) -> i64
-    ensures { result ≡ (table_of (table_view table.now)).version }
-{
-    match value_at(table, "version") {
-        Some(version) => version.as_integer().unwrap_or(1),
-        None => 1,
-    }
-}
-
 // Whether there is a value at the key.
 fn has(table: &Table, key: &str) -> bool
     ensures { result ≡ has key.now (table_view table.now) }
@@ -75,7 +77,7 @@ fn has(table: &Table, key: &str) -> bool
 fn has_area(table: &Table) -> bool
     ensures { result ≡ list_any (λ k. has k.0 (table_view table.now)) area_keys }
 {
-    AREA_KEYS.iter().any(|key| has(table, key))
+    AREA_KEYS.iter().any(|(key, _)| has(table, key))
 }
 
 // Whether a scene can have the key.
@@ -84,7 +86,7 @@ fn is_known(key: &str) -> bool
 {
     KEYS.iter()
         .chain(AREA_KEYS.iter())
-        .any(|known| key == *known)
+        .any(|(known, _)| key == *known)
 }
 
 // Whether the keys of the table are keys of a scene.
@@ -100,7 +102,7 @@ fn has_known_keys(table: &Table) -> bool
         && (int_eq (table_of (table_view table.now)).version (pos 2)
         || not (has (codes "generation") (table_view table.now)))) }
 {
-    are_known(table) && (version(table) == 2 || !has(table, "generation"))
+    are_known(table) && (integer_at(table, "version", 1) == 2 || !has(table, "generation"))
 }
 
 // Whether there is a gas, and a map or the size of an area.
@@ -110,6 +112,15 @@ fn is_complete(table: &Table) -> bool
         || (has (codes "width") (table_view table.now) && has (codes "height") (table_view table.now)))) }
 {
     has(table, "gas") && (has(table, "cells") || has(table, "width") && has(table, "height"))
+}
+
+// Whether each value has the type of its key.
+fn is_typed(table: &Table) -> bool
+    ensures { result ≡ is_typed (table_view table.now) }
+{
+    KEYS.iter()
+        .chain(AREA_KEYS.iter())
+        .all(|(key, value_type)| value_type.is_at(table, key))
 }
 
 /// The values that maps and areas share.
@@ -147,26 +158,23 @@ fn chirality(name: &str, seed: u64) -> Option<Chirality>
 }
 
 impl<'a> SceneTable<'a> {
-    // The scene's table. The error is `WrongType` if a value has another type than its key.
-    #[tactic(auto, unfolding(crate::specs::Keys::is_typed))]
-    fn typed(table: &'a Table) -> Result<SceneTable<'a>, SceneError>
-        ensures typed { is_ok result ≡ is_typed (table_view table.now) }
-        ensures wrong { IfErr result (λ e. e ≡ WrongType) }
-        ensures value { IfOk result (λ t. table_model t ≡ table_of (table_view table.now)) }
+    // The values of a table, in which each has the type of its key.
+    fn read(table: &'a Table) -> SceneTable<'a>
+        ensures { table_model result ≡ table_of (table_view table.now) }
     {
-        Ok(SceneTable {
-            version: integer_at(table, "version", 1)?,
-            generation: integer_at(table, "generation", 0)?,
-            seed: integer_at(table, "seed", 0)?,
-            gas: text_at(table, "gas", "")?,
-            chirality: text_at(table, "chirality", "seeded")?,
-            cells: texts_at(table, "cells")?,
-            width: integer_at(table, "width", 0)?,
-            height: integer_at(table, "height", 0)?,
-            rate: integer_at(table, "rate", 0)?,
-            solid: tuples_at(table, "solid", 4)?,
-            particles: tuples_at(table, "particles", 3)?,
-        })
+        SceneTable {
+            version: integer_at(table, "version", 1),
+            generation: integer_at(table, "generation", 0),
+            seed: integer_at(table, "seed", 0),
+            gas: text_at(table, "gas", ""),
+            chirality: text_at(table, "chirality", "seeded"),
+            cells: texts_at(table, "cells"),
+            width: integer_at(table, "width", 0),
+            height: integer_at(table, "height", 0),
+            rate: integer_at(table, "rate", 0),
+            solid: elements_at(table, "solid"),
+            particles: elements_at(table, "particles"),
+        }
     }
 
     /// The scene's table, or the first fault of the keys and the types.
@@ -185,7 +193,10 @@ impl<'a> SceneTable<'a> {
         if !is_complete(table) {
             return Err(SceneError::Missing);
         }
-        SceneTable::typed(table)
+        if !is_typed(table) {
+            return Err(SceneError::WrongType);
+        }
+        Ok(SceneTable::read(table))
     }
 
     // Whether the numbers are in their ranges.

@@ -1,14 +1,13 @@
 //! Values read as the types of their keys.
 
-ghost use Rattle.std.specs.Prelude.{◌≡◌, true, [], is_ok, map, option_map, IfOk, IfErr};
+ghost use Rattle.std.specs.Prelude.{◌≡◌, true, [], map, option_map};
 ghost use Rattle.std.specs.Option.{option_map_or};
 ghost use Rattle.toml.specs.Data.{get_member, as_str, as_integer};
 ghost use Rattle.toml.specs.View.{view, table_view};
 ghost use Rattle.gas_scene.specs.Table.{text_of, elements_of, number, rectangle_of, placement_of, value_at};
-ghost use Rattle.gas_scene.specs.Keys.{has_type, is_array_of, is_tuple};
-ghost use Rattle.gas_scene.specs.declared.error.SceneError.TheVariants.{WrongType};
+ghost use Rattle.gas_scene.specs.Keys.{is_tuple};
+ghost use Rattle.gas_scene.specs.Inner.Models.{is_of};
 
-use crate::error::SceneError;
 use gas_layout::area::{Placement, Rectangle};
 use toml::{Table, Value};
 
@@ -19,36 +18,22 @@ pub(crate) fn value_at<'a>(table: &'a Table, key: &str) -> Option<&'a Value>
     table.get(key)
 }
 
-/// The integer at a key, or `otherwise` if the key is absent. The error is `WrongType`.
-pub(crate) fn integer_at(table: &Table, key: &str, otherwise: i64) -> Result<i64, SceneError>
-    ensures typed { is_ok result
-        ≡ option_map_or (has_type as_integer) (get_member key.now (table_view table.now)) true }
-    ensures wrong { IfErr result (λ e. e ≡ WrongType) }
-    ensures value { IfOk result (λ z.
-        z ≡ value_at as_integer key.now otherwise (table_view table.now)) }
+/// The integer at a key, or `otherwise` if there is none.
+pub(crate) fn integer_at(table: &Table, key: &str, otherwise: i64) -> i64
+    ensures { result ≡ value_at as_integer key.now otherwise (table_view table.now) }
 {
-    match value_at(table, key) {
-        Some(value) => value.as_integer().ok_or(SceneError::WrongType),
-        None => Ok(otherwise),
-    }
+    value_at(table, key)
+        .and_then(|value| value.as_integer())
+        .unwrap_or(otherwise)
 }
 
-/// The text at a key, or `otherwise` if the key is absent. The error is `WrongType`.
-pub(crate) fn text_at<'a>(
-    table: &'a Table,
-    key: &str,
-    otherwise: &'a str,
-) -> Result<&'a str, SceneError>
-    ensures typed { is_ok result
-        ≡ option_map_or (has_type as_str) (get_member key.now (table_view table.now)) true }
-    ensures wrong { IfErr result (λ e. e ≡ WrongType) }
-    ensures value { IfOk result (λ s.
-        s.now ≡ value_at as_str key.now otherwise.now (table_view table.now)) }
+/// The text at a key, or `otherwise` if there is none.
+pub(crate) fn text_at<'a>(table: &'a Table, key: &str, otherwise: &'a str) -> &'a str
+    ensures { result.now ≡ value_at as_str key.now otherwise.now (table_view table.now) }
 {
-    match value_at(table, key) {
-        Some(value) => value.as_str().ok_or(SceneError::WrongType),
-        None => Ok(otherwise),
-    }
+    value_at(table, key)
+        .and_then(|value| value.as_str())
+        .unwrap_or(otherwise)
 }
 
 // The elements of an array, and no element for another type.
@@ -69,52 +54,54 @@ fn is_tuple(value: &Value, n: usize) -> bool
     numbers.len() == n && (value.is_array() && numbers.iter().all(|number| number.is_integer()))
 }
 
-// Whether the value is an array of texts.
-fn is_array_of_texts(value: &Value) -> bool
-    ensures { result ≡ is_array_of (has_type as_str) (view value.now) }
+/// The elements of the array of texts at a key, if there is a value.
+pub(crate) fn texts_at<'a>(table: &'a Table, key: &str) -> Option<&'a [Value]>
+    ensures { option_map (λ vs. map text_of (map view vs.now)) result
+        ≡ option_map (λ d. map text_of (elements_of d)) (get_member key.now (table_view table.now)) }
 {
-    value.is_array() && elements(value).iter().all(|text| text.is_str())
+    value_at(table, key).map(elements)
 }
 
-// Whether the value is an array of arrays of `n` integers.
-fn is_array_of_tuples(value: &Value, n: usize) -> bool
-    ensures { result ≡ is_array_of (is_tuple n) (view value.now) }
+/// The elements of the array at a key, or no element if there is none.
+pub(crate) fn elements_at<'a>(table: &'a Table, key: &str) -> &'a [Value]
+    ensures { map view result.now
+        ≡ option_map_or elements_of (get_member key.now (table_view table.now)) [] }
 {
-    value.is_array() && elements(value).iter().all(|tuple| is_tuple(tuple, n))
+    value_at(table, key).map_or(&[], elements)
 }
 
-/// The elements of the array of texts at a key, if there is one. The error is `WrongType`.
-pub(crate) fn texts_at<'a>(table: &'a Table, key: &str) -> Result<Option<&'a [Value]>, SceneError>
-    ensures typed { is_ok result ≡ option_map_or (is_array_of (has_type as_str))
-        (get_member key.now (table_view table.now)) true }
-    ensures wrong { IfErr result (λ e. e ≡ WrongType) }
-    ensures value { IfOk result (λ o. option_map (λ vs. map text_of (map view vs.now)) o
-        ≡ option_map (λ d. map text_of (elements_of d)) (get_member key.now (table_view table.now))) }
-{
-    match value_at(table, key) {
-        Some(value) if is_array_of_texts(value) => Ok(Some(elements(value))),
-        Some(_) => Err(SceneError::WrongType),
-        None => Ok(None),
+/// The type of the value at a key.
+#[derive(Clone, Copy)]
+pub(crate) enum ValueType {
+    Integer,
+    Text,
+    /// An array of texts.
+    Texts,
+    /// An array of arrays of this many integers.
+    Tuples(usize),
+}
+
+impl ValueType {
+    // Whether the value has this type.
+    fn is_of(self, value: &Value) -> bool
+        ensures { result ≡ is_of self (view value.now) }
+    {
+        match self {
+            ValueType::Integer => value.is_integer(),
+            ValueType::Text => value.is_str(),
+            ValueType::Texts => value.is_array()
+                && elements(value).iter().all(|text| text.is_str()),
+            ValueType::Tuples(n) => {
+                value.is_array() && elements(value).iter().all(|tuple| is_tuple(tuple, n))
+            }
+        }
     }
-}
 
-/// The elements of the array of arrays of `n` integers at a key, or no element if the key is
-/// absent. The error is `WrongType`.
-pub(crate) fn tuples_at<'a>(
-    table: &'a Table,
-    key: &str,
-    n: usize,
-) -> Result<&'a [Value], SceneError>
-    ensures typed { is_ok result ≡ option_map_or (is_array_of (is_tuple n))
-        (get_member key.now (table_view table.now)) true }
-    ensures wrong { IfErr result (λ e. e ≡ WrongType) }
-    ensures value { IfOk result (λ vs. map view vs.now
-        ≡ option_map_or elements_of (get_member key.now (table_view table.now)) []) }
-{
-    match value_at(table, key) {
-        Some(value) if is_array_of_tuples(value, n) => Ok(elements(value)),
-        Some(_) => Err(SceneError::WrongType),
-        None => Ok(&[]),
+    /// Whether the value at a key has this type, if there is one.
+    pub(crate) fn is_at(self, table: &Table, key: &str) -> bool
+        ensures { result ≡ option_map_or (is_of self) (get_member key.now (table_view table.now)) true }
+    {
+        value_at(table, key).is_none_or(|value| self.is_of(value))
     }
 }
 

@@ -1,8 +1,9 @@
 -- Inner words: what functions of this crate promise one another. No public contract cites them.
--- Here: whether a key is one of a scene, the code's table as the table of a scene, and areas that are drawn.
+-- Here: whether a key is one of a scene, the types of values, the code's table as the table of a scene, and areas that are drawn.
 use Rattle.std.specs.Prelude.{◌≡◌, ◌≤◌, ℕ, ℤ, Bool, true, List, map, nat_abs, option_map}
 use Rattle.std.specs.List.{list_all, list_any}
 use Rattle.std.specs.Str.{bytes_eq}
+use Rattle.toml.specs.Data.{Data, as_str, as_integer}
 use Rattle.toml.specs.View.{view}
 use Rattle.toml.specs.declared.value.Value.{Value}
 use Rattle.gas_geom.specs.Channel.{ChannelModel, is_solid}
@@ -10,11 +11,20 @@ use Rattle.gas_geom.specs.Size.{IsSize}
 use Rattle.gas_layout.specs.Layout.{can_place, drawn}
 use Rattle.gas_scene.specs.declared.area_form.DrawnArea.{DrawnArea}
 use Rattle.gas_scene.specs.declared.scene_table.SceneTable.{SceneTable}
-use Rattle.gas_scene.specs.Keys.{keys}
+use Rattle.gas_scene.specs.declared.toml_values.ValueType.{ValueType}
+use Rattle.gas_scene.specs.declared.toml_values.ValueType.TheVariants as value_type
+use Rattle.gas_scene.specs.Keys.{keys, has_type, is_array_of, is_tuple}
 use Rattle.gas_scene.specs.Table.{TableModel, text_of, rectangle_of, placement_of}
 
 unfoldable pub is_known : List ℕ → Bool
 is_known key = list_any (λ k. bytes_eq key k.0) keys
+
+-- whether a value has a type
+abbrev pub is_of : ValueType → Data → Bool
+is_of value_type.Integer = has_type as_integer
+is_of value_type.Text = has_type as_str
+is_of value_type.Texts = is_array_of (has_type as_str)
+is_of (value_type.Tuples n) = is_array_of (is_tuple n)
 
 -- the texts of these values
 abbrev pub texts_of : List Value → List (List ℕ)
