@@ -266,15 +266,10 @@ VERSIONS = {
         'generation = 3\nversion = "2"',
     ],
 }
-# the width and the height of an area, and the cells of a row and the rows of a map, by the most that a version allows;
+# the width and the height of an area, by the most that a version allows (mutated_scenes.py has the sides of maps);
 SIDES = {
     None: lambda most: [(most, 1), (1, most)],
     RANGE: lambda most: [(most + 1, 1), (1, most + 1), (0, 1), (1, 0), (1, -1)],
-}
-MAPS = {
-    None: lambda most: [(most, 1), (1, most)],
-    row_length(0): lambda most: [(most + 1, 1)],
-    RANGE: lambda most: [(1, most + 1)],
 }
 MOST_SIDE = {"": 4096, "version = 1\n": 4096, "version = 2\n": 65536}
 # and the cells of a row: two characters are a cell only if both are marks of one kind, or digits of a state that the gas has.
@@ -320,11 +315,6 @@ def scenes():
             yield from (
                 (f'{version}gas = "fhp1"\nwidth = {width}\nheight = {height}', wanted)
                 for width, height in sides(most)
-            )
-        for wanted, sides in MAPS.items():
-            yield from (
-                (f'{version}gas = "fhp1"\ncells = [' + f'"{".." * cells}",' * rows + "]", wanted)
-                for cells, rows in sides(most)
             )
 
 

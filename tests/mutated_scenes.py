@@ -344,9 +344,11 @@ class Counts:
 # of both versions
 VERSIONS = ["", *(f"version = {value}" for value in ("1", "3", '"2"', "2.0", "[2]", "2"))]
 LETTERS = "é éé Ж ЖЖ 中 中. 中中 ０１ ٠١ 🙂 🙂🙂 e\u0301 ..é 01Ж 0\u00a0 ｆｆ \u2028\u2028".split(" ")
+FIRST = [(8192, 1), (8194, 1), (2, 4096), (2, 4097), (8191, 1), (0, 1)]
 LIMITS = {
-    1: [(8192, 1), (8194, 1), (2, 4096), (2, 4097), (8191, 1), (0, 1)],
-    2: [
+    "": FIRST,
+    "version = 1": FIRST,
+    "version = 2": [
         (8194, 1),
         (2, 4097),
         (131072, 1),
@@ -394,7 +396,7 @@ def maps():
     for version, sizes in LIMITS.items():
         for row, rows in sizes:
             cells = f'"{"." * row}",' * rows
-            yield f'version = {version}\ngas = "fhp1"\ncells = [{cells}]'.encode()
+            yield f'{version}\ngas = "fhp1"\ncells = [{cells}]'.encode()
 
 
 def given_texts():
