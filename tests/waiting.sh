@@ -1,7 +1,7 @@
 #!/bin/bash
-# Has the model checker spin look for a wake-up that can be lost in a model of how the members of a line wait (waiting.pml), in four small
-# lines, and tries that it finds the ones of three wrong models. A model is not the program: it is kept like the code of the waiting by
-# hand. Ends with the counts.
+# Has the model checker spin look for a wake-up that can be lost in a model of how the threads of a line wait (waiting.pml), in four short
+# lines, two of which have fewer threads than workers, and tries that it finds the ones of three wrong models. A model is not the program:
+# it is kept like the code of the waiting by hand. Ends with the counts.
 . "$(dirname "$0")/try.sh"
 has spin 'all' || { tell; exit; }
 model=$PWD/tests/waiting.pml
@@ -19,12 +19,12 @@ loses() {
         spin -run -O2 -m100000 wrong.pml 2>&1 | grep -q 'invalid end state (at depth'
 }
 
-try 'rows gather, two places' searches "$model"
-try 'no row gathers, one place' searches "$model" -DPLACES=1 -DENOUGH=1
-try 'rows gather, four places, one pass of four rows' searches "$model" -DPLACES=4 -DENOUGH=2 -DROWS=4 -DPASSES=1
-try 'one worker, three passes' searches "$model" -DWORKERS=1 -DPASSES=3
-try 'a member that does not look again before it parks' loses ':: !announced -> parking[m] = true; announced = true' \
-    ':: !announced -> parking[m] = true; asleep[m] = true; !asleep[m]'
-try 'rows that gathered and are not shown before a wait' loses ':: gathered[m] > 0 -> show_rows(m)' ':: false -> skip'
-try 'a wake that looks whether the member sleeps already' loses ':: parking[who] ->' ':: asleep[who] ->'
+try 'two workers, rows gather, two places' searches "$model"
+try 'two workers, no row gathers, one place' searches "$model" -DPLACES=1 -DENOUGH=1
+try 'three workers on two threads, rows gather, two places' searches "$model" -DWORKERS=3 -DTHREADS=2
+try 'five workers on three threads, no row gathers, one place' searches "$model" -DWORKERS=5 -DTHREADS=3 -DPLACES=1 -DENOUGH=1
+try 'a thread that does not look again before it parks' loses ':: !announced -> parking[t] = true; announced = true' \
+    ':: !announced -> parking[t] = true; asleep[t] = true; !asleep[t]'
+try 'rows that gathered and are not shown before a wait' loses ':: gathered[t] > 0 -> show_rows()' ':: false -> skip'
+try 'a wake that looks whether the thread sleeps already' loses ':: parking[who] ->' ':: asleep[who] ->'
 tell

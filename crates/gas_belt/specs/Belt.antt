@@ -28,3 +28,15 @@ pub record Receiver : Type 0 where
 pub record CarriedModel : Type 0 where
   pub put : List RowModel
   pub taken : List RowModel
+
+-- a belt with both its ends on one thread: the width of its rows, its capacity in rows, and all rows put on it and all rows taken from it, in
+-- order
+pub record InnerModel : Type 0 where
+  pub width : ℕ
+  pub capacity : ℕ
+  pub put : List RowModel
+  pub taken : List RowModel
+
+-- what it carried
+abbrev pub carried_within : InnerModel → CarriedModel
+carried_within b = record { put = b.put; taken = b.taken }

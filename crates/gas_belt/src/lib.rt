@@ -5,6 +5,8 @@
 #![tactic(auto)]
 
 pub mod carried;
+mod history;
+pub mod inner_belt;
 mod ring_ends;
 pub mod rx;
 pub mod tx;

@@ -1,4 +1,11 @@
-pub mod Passes
+pub mod Hands
+pub mod Fed
+pub mod Rotations
+pub mod Ended
 pub mod Chains
 pub mod Meetings
 pub mod Settled
+pub mod Own
+pub mod Shares
+pub mod Sends
+pub mod Made

@@ -1,3 +1,6 @@
 -- Inner words: what functions of this crate promise one another. No public contract cites them.
-pub mod Job
+pub mod Hand
+pub mod Fed
+pub mod Chain
+pub mod Shares
 pub mod Links

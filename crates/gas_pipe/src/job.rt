@@ -1,13 +1,12 @@
-//! A worker with its ends, as the job of a thread, and how a thread is started for a job.
+//! How a thread is started for a job, and what it returns.
 ghost use Rattle.std.specs.Prelude.{◌≡◌, IfSome};
 
 use crate::Gate;
 use crate::wake_ups::WakeUps;
+use gas_belt::inner_belt::InnerBelt;
 use gas_belt::rx::Rx;
-use gas_belt::tx::{Spent, Tx};
+use gas_belt::tx::Spent;
 use gas_geom::gas::Gas;
-use gas_pipe_members::plan::Schedule;
-use gas_pipe_members::worker::Worker;
 use std::marker::Model;
 use std::snapshot::Snapshot;
 use std::sync::Wait;
@@ -72,30 +71,19 @@ pub(crate) fn start_job<
     started.ok()
 }
 
-/// The end that a worker took from and the closed end that it put on, once its passes are over.
-pub type Ended<G> = (Rx<G>, Spent<G>);
-
-/// A worker of a plan with the ends that it takes from and puts on. Its number is counted from 1.
+/// What the members of a thread worked between, once they are over: the end that the first took
+/// from, the belts within, and the closed end that the last put on.
 #[derive(Drop)]
-pub struct Job<'a, G: Gas> {
-    pub who: u32,
-    pub schedule: Schedule,
-    pub worker: Worker<'a, G>,
+pub struct Ended<G: Gas> {
     pub rx: Rx<G>,
-    pub tx: Tx<G>,
+    pub belts: Vec<InnerBelt<G>>,
+    pub spent: Spent<G>,
 }
 
-impl<'a, G: Gas> Model for Job<'a, G> {
-    ghost use Rattle.gas_pipe.specs.Inner.Job.{JobModel};
+impl<G: Gas> Model for Ended<G> {
+    ghost use Rattle.gas_pipe.specs.Inner.Chain.{EndedModel};
 
-    ghost Value = { JobModel };
+    ghost Value = { EndedModel };
 
-    ghost view = { λ j. record {
-      who = j.who;
-      first = j.schedule.first;
-      plan = j.schedule.plan;
-      worker = j.worker;
-      rx = j.rx;
-      tx = j.tx;
-    } };
+    ghost view = { λ e. record { rx = e.rx; belts = e.belts.items; spent = e.spent } };
 }

@@ -1,9 +1,9 @@
 //! The line of workers, for other programs: plans, runs by threads, a pass turn by turn, and the
 //! members of the line over any ends of belts.
 //!
-//! Each worker of a run has a thread of its own and computes one generation from another, and rows go
-//! from worker to worker over belts. What a run gives depends on neither the number of workers nor
-//! the room on a belt.
+//! Each worker of a run computes one generation from another, and rows go from worker to worker over
+//! belts. Each has a thread of its own, or consecutive workers share one. What a run gives depends
+//! neither on the number of workers or threads nor on the room on a belt.
 //!
 //! Runs are defined here. The other items are named here, and promise what the contracts in their
 //! own crates say. The functions of `pass` do nothing: their contracts are the laws of a pass, for
@@ -13,9 +13,11 @@
 
 mod answer;
 pub mod backoff;
+mod chain;
+mod ends;
+mod hand;
 mod job;
 mod line;
-mod turns;
 mod waiter;
 pub mod wake_ups;
 
@@ -44,12 +46,15 @@ use std::alloc::Global;
 use std::sync::Wait;
 use std::thread::Threads;
 
-/// A gate that each worker's thread enters and leaves. It may wait.
+/// A gate that each worker enters and leaves. It may wait. With fewer threads than workers, a gate in
+/// which one worker waits for another of its thread, or for one that wants a row of its thread, waits
+/// for ever.
 pub trait Gate {
-    /// Called by worker `who`, counted from 1, once before its first turn of each pass.
+    /// Called for worker `who`, counted from 1, on its thread, once before its first turn of each
+    /// pass.
     fn enter(&self, who: u32);
 
-    /// Called by worker `who` once, as the last act of its thread, even if it stops early.
+    /// Called for worker `who` once, among the last acts of its thread, even if it stops early.
     fn leave(&self, who: u32);
 }
 
@@ -65,9 +70,10 @@ impl Gate for NoGate {
 
 /// Advances a lattice of generation `first` by the generations of a plan. It blocks until all passes
 /// are over. It makes the belts, starts a thread for each worker, makes the feeder's turns on the
-/// caller's thread, and joins all threads. Each worker's thread enters the gate before each of its
-/// passes, and leaves it as its last act. The rows of a pass follow the rows of the pass before on
-/// the same belts. Each belt carries one list of rows: all that was put on it and all that was taken
+/// caller's thread, and joins all threads. With fewer threads than workers, the workers are shared out
+/// evenly in their order, and the feeder and the first of them are on the caller's thread. Each
+/// worker enters the gate before each of its passes, and leaves it at the end of its thread. The rows
+/// of a pass follow the rows of the pass before on the same belts. Each belt carries one list of rows: all that was put on it and all that was taken
 /// from it. No memory is taken between the last start of a thread and the first join. `Memory` if a
 /// request for memory, or the start of a thread, was refused.
 pub fn run<G: Gas + Send, H: Gate + Sync, R: Threads + Wait + Sync>(

@@ -1,15 +1,14 @@
-//! How a member of the line waits for its neighbours and wakes them.
+//! How a thread of a run waits for its neighbours and wakes them.
 ghost use Rattle.std.specs.Prelude.{◌≡◌};
 
 use crate::backoff::{Backoff, Phase};
 use crate::wake_ups::WakeUps;
 use gas_belt::tx::Tx;
 use gas_geom::gas::Gas;
-use gas_pipe_members::ends::Turned;
 use std::sync::Wait;
 use std::{hint, thread};
 
-/// A member of the line that waits for its neighbours and wakes them.
+/// A thread that waits for its neighbours and wakes them.
 #[derive(Drop)]
 pub struct Waiter<'a> {
     wake_ups: &'a WakeUps,
@@ -20,7 +19,7 @@ pub struct Waiter<'a> {
 }
 
 impl<'a> Waiter<'a> {
-    /// The waiter of the feeder, 0, or of a worker.
+    /// The waiter of a thread. The feeder's is number 0.
     pub(crate) fn new(wake_ups: &'a WakeUps, member: u32) -> Self {
         let member = member as usize;
         let last = wake_ups.last_member();
@@ -58,56 +57,44 @@ impl<'a> Waiter<'a> {
         }
     }
 
-    // A row was put, so the wait is over. Wakes the member behind, which may wait for the row, once it
-    // is shown the row.
-    fn wake_behind<G: Gas>(&mut self, tx: &Tx<G>) {
+    /// A row was taken, so the wait is over. Wakes the thread before, which may wait for the place.
+    #[inline(always)]
+    pub(crate) fn note_taken(&mut self) {
+        self.end_wait();
+        self.wake_ups.wake(self.before);
+    }
+
+    /// A row was put, so the wait is over. Wakes the thread behind, which may wait for the row, once
+    /// it is shown the row.
+    #[inline(always)]
+    pub(crate) fn note_put<G: Gas>(&mut self, tx: &Tx<G>) {
         self.end_wait();
         if !tx.has_gathered() {
             self.wake_ups.wake(self.behind);
         }
     }
 
-    /// Shows the member behind the rows that gathered on the belt. Returns whether there were any.
+    /// Shows the thread behind the rows that gathered on the belt. Returns whether there were any.
     pub(crate) fn show<G: Gas>(&mut self, tx: &mut Tx<G>) -> bool
         ensures { tx.new ≡ tx.old }
     {
         let any = tx.show();
         if any {
-            self.wake_behind(tx);
+            self.note_put(tx);
         }
         any
     }
 
-    // After a turn in which nothing could be done. Rows that gathered are shown first, because the
-    // member behind may wait for them. If there are none, the member waits a little.
-    fn show_or_wait<G: Gas, R: Wait>(&mut self, rt: &R, tx: &mut Tx<G>) -> bool
+    /// After turns in which nothing could be done. Rows that gathered are shown first, because the
+    /// thread behind may wait for them. If there are none, the thread waits a little. Returns whether
+    /// to go on: not if the stop flag is raised.
+    pub(crate) fn show_or_wait<G: Gas, R: Wait>(&mut self, rt: &R, tx: &mut Tx<G>) -> bool
         ensures { tx.new ≡ tx.old }
     {
         if self.show(tx) {
             !self.wake_ups.is_stopped()
         } else {
             self.wait(rt)
-        }
-    }
-
-    /// After a turn that did not end the passes: wakes the neighbour that may wait for what was done
-    /// or, if nothing was, waits a little. Returns whether to go on: not if nothing was done and the
-    /// stop flag is raised.
-    #[inline(always)]
-    pub(crate) fn follow<G: Gas, R: Wait>(&mut self, rt: &R, turned: Turned, tx: &mut Tx<G>) -> bool
-        ensures { tx.new ≡ tx.old }
-    {
-        match turned {
-            Turned::Took => {
-                self.end_wait();
-                self.wake_ups.wake(self.before);
-                true
-            }
-            Turned::Put => {
-                self.wake_behind(tx);
-                true
-            }
-            _ => self.show_or_wait(rt, tx),
         }
     }
 }

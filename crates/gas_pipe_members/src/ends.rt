@@ -2,6 +2,7 @@
 ghost use Rattle.std.specs.Prelude.{◌≡◌, ◌++◌, ◌∷◌, ℕ, List, [], length, refl, OnOk, IfErr, IfSome, IfNone, OnErr, IsOk, IsSome};
 ghost use Rattle.std.proofs.Common.{◌∙◌};
 
+use gas_belt::inner_belt::InnerBelt;
 use gas_belt::rx::Rx;
 use gas_belt::tx::Tx;
 use gas_geom::gas::Gas;
@@ -75,6 +76,7 @@ impl<G: Gas> PutEnd<Row<G>> for Tx<G> {
 
     ghost puts_and_rests = { λ a row b c step rests. (rests.0 ∙ step.0, rests.1 ∙ step.1) };
 
+    #[inline(always)]
     fn try_put(&mut self, row: Row<G>) -> Result<(), Row<G>> {
         Tx::try_gather(self, row)
     }
@@ -103,6 +105,52 @@ impl<G: Gas> TakeEnd<Row<G>> for Rx<G> {
 
     fn give(&mut self, row: Row<G>) {
         Rx::give(self, row);
+    }
+}
+
+// A belt within a thread. Whether a put succeeds depends on its rows, of which neither end tells.
+impl<G: Gas> PutEnd<Row<G>> for InnerBelt<G> {
+    ghost puts = { λ old row new. new ≡ record old { put = old.put ++ row ∷ [] } };
+
+    ghost rests = { λ old new. new ≡ old };
+
+    ghost ready = { λ _. ⊥ };
+
+    ghost rests_alone = { λ _. refl };
+
+    ghost puts_and_rests = { λ a row b c step rests. rests ∙ step };
+
+    #[inline(always)]
+    fn try_put(&mut self, row: Row<G>) -> Result<(), Row<G>> {
+        InnerBelt::try_put(self, row)
+    }
+
+    #[inline(always)]
+    fn spare(&mut self) -> Option<Row<G>> {
+        InnerBelt::spare(self)
+    }
+}
+
+impl<G: Gas> TakeEnd<Row<G>> for InnerBelt<G> {
+    ghost takes = { λ old row new. (new ≡ record old { taken = old.taken ++ row ∷ [] })
+        × (length row ≡ old.width) };
+
+    ghost rests = { λ old new. new ≡ old };
+
+    ghost ready = { λ _. ⊥ };
+
+    ghost rests_alone = { λ _. refl };
+
+    ghost takes_and_rests = { λ a row b c step rests. (rests ∙ step.0, step.1) };
+
+    #[inline(always)]
+    fn try_take(&mut self) -> Option<Row<G>> {
+        InnerBelt::try_take(self)
+    }
+
+    #[inline(always)]
+    fn give(&mut self, row: Row<G>) {
+        InnerBelt::give(self, row);
     }
 }
 

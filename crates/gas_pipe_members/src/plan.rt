@@ -4,7 +4,7 @@
 ghost use Rattle.std.specs.Prelude.{◌≡◌, ◌≤◌, ◌<◌, ◌+◌, ◌*◌, ◌^◌, IfOk, IfErr, None, Some};
 ghost use Rattle.std.specs.Int.{div_ceil};
 ghost use Rattle.gas_pipe_model.specs.Pass.{computes_from};
-ghost use Rattle.gas_pipe_members.specs.Plan.{plan_refusal};
+ghost use Rattle.gas_pipe_members.specs.Plan.{plan_refusal, threads_refusal};
 ghost use Rattle.gas_pipe_members.specs.declared.plan.RunError.TheVariants.{Memory};
 
 use gas_geom::gas::Gas;
@@ -23,6 +23,8 @@ pub enum PlanError {
     Capacity,
     #[error("plan: generations must be 0 to 1000000")]
     Generations,
+    #[error("plan: threads must be 1 to the number of stages")]
+    Threads,
 }
 
 /// Why a plan was not carried out.
@@ -42,13 +44,15 @@ impl From<AllocError> for RunError {
     }
 }
 
-/// The number of stages, 1 to 64, the capacity of a belt, 1 to 1024 rows, and the number of
-/// generations to compute, 0 to 1,000,000.
+/// The number of stages, 1 to 64, the capacity of a belt, 1 to 1024 rows, the number of generations
+/// to compute, 0 to 1,000,000, and the number of threads that share the workers, 1 to the number of
+/// stages.
 #[derive(Clone, Copy)]
 pub struct Plan {
     stages: u32,
     capacity: u32,
     generations: u64,
+    threads: u32,
 }
 
 impl Model for Plan {
@@ -62,6 +66,7 @@ impl Model for Plan {
       stages = p.stages;
       capacity = p.capacity;
       generations = p.generations;
+      threads = p.threads;
     } };
 
     ghost invariant = { λ p. record {
@@ -70,22 +75,30 @@ impl Model for Plan {
       some_capacity : 1 ≤ p.capacity;
       few_rows : p.capacity ≤ 1024;
       few_generations : p.generations ≤ 1000000;
+      some_threads : 1 ≤ p.threads;
+      few_threads : p.threads ≤ p.stages;
     } };
 
     ghost inverse = { λ v. record {
       stages = v.stages;
       capacity = v.capacity;
       generations = v.generations;
+      threads = v.threads;
     } };
 }
 
 impl Plan {
-    /// A plan, or the first refusal: stages, then capacity, then generations.
+    /// A plan with a thread for each worker, or the first refusal: stages, then capacity, then
+    /// generations.
     pub fn new(stages: u32, capacity: u32, generations: u64) -> Result<Plan, PlanError>
         ensures refused { IfErr result (λ e. plan_refusal stages capacity generations ≡ Some e) }
         ensures accepted { IfOk result (λ _. plan_refusal stages capacity generations ≡ None) }
-        ensures made { IfOk result (λ plan.
-            plan ≡ record { stages = stages; capacity = capacity; generations = generations }) }
+        ensures made { IfOk result (λ plan. plan ≡ record {
+          stages = stages;
+          capacity = capacity;
+          generations = generations;
+          threads = stages;
+        }) }
     {
         if stages < 1 || stages > 64 {
             Err(PlanError::Stages)
@@ -98,7 +111,22 @@ impl Plan {
                 stages,
                 capacity,
                 generations,
+                threads: stages,
             })
+        }
+    }
+
+    /// The plan with its workers on that number of threads. Refused unless it is 1 to the number of
+    /// stages.
+    pub fn on(self, threads: u32) -> Result<Plan, PlanError>
+        ensures refused { IfErr result (λ e. threads_refusal self.stages threads ≡ Some e) }
+        ensures accepted { IfOk result (λ _. threads_refusal self.stages threads ≡ None) }
+        ensures made { IfOk result (λ plan. plan ≡ record self { threads = threads }) }
+    {
+        if threads < 1 || threads > self.stages {
+            Err(PlanError::Threads)
+        } else {
+            Ok(Plan { threads, ..self })
         }
     }
 
@@ -129,6 +157,16 @@ impl Plan {
         ensures accepted { plan_refusal self.stages self.capacity self.generations ≡ None }
     {
         self.generations
+    }
+
+    /// The number of threads that share the workers. With fewer threads than stages the feeder shares
+    /// the first of them; else it has a thread beside them.
+    pub fn threads(self) -> u32
+        ensures value { result ≡ self.threads }
+        ensures some { 1 ≤ result }
+        ensures few { result ≤ self.stages }
+    {
+        self.threads
     }
 
     /// The number of passes through the line. A pass computes at most one generation per stage.

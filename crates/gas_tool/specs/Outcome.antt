@@ -37,7 +37,7 @@ gas_outcome gas lattice chirality first (Coarse stages capacity generations widt
     unless_refused (plan_refusal stages capacity generations)
     (Ok (table_text (blocks_of gas (lattice_after gas chirality first lattice generations) width height)))
 gas_outcome gas lattice chirality first (Replay stages capacity generations turns) =
-    let plan : PlanModel = record { stages = stages; capacity = capacity; generations = generations } in
+    let plan : PlanModel = record { stages = stages; capacity = capacity; generations = generations; threads = stages } in
     unless_refused (plan_refusal stages capacity generations) (if nat_lt 1 (div_ceil generations stages) then Err MorePasses
     else Ok (replay_text gas (replay_of gas chirality first lattice plan turns) (first + generations)))
 

@@ -61,15 +61,15 @@ fn replay_turns(alloc: Global, lattice: &Lattice<Fhp1>) -> Made {
     }
 }
 
-// Runs the lattice by threads.
+// Runs the lattice by so many stages on so many threads.
 fn run_drift<R: Threads + Wait + Sync>(
     threads: &R,
     alloc: Global,
-    stages: u32,
+    (stages, on): (u32, u32),
     capacity: u32,
     generations: u64,
 ) -> Made {
-    let Ok(plan) = Plan::new(stages, capacity, generations) else {
+    let Ok(plan) = Plan::new(stages, capacity, generations).and_then(|plan| plan.on(on)) else {
         return Ok(false);
     };
     let lattice = drifting_lattice(alloc)?;
@@ -113,9 +113,17 @@ pub fn make<R: Threads + Wait + Sync>(probe: &mut Probe, threads: &R) {
     probe.lend("lattice_after", advance_alone);
     probe.lend("coarse", table);
     probe.lend("replay", replay_turns);
-    probe.call("run_1", |alloc| run_drift(threads, alloc, 1, 1, 5));
-    probe.call("run_2", |alloc| run_drift(threads, alloc, 2, 1, 5));
-    probe.call("run_2_long", |alloc| run_drift(threads, alloc, 2, 1, 50));
-    probe.call("run_4", |alloc| run_drift(threads, alloc, 4, 2, 5));
+    probe.call("run_1", |alloc| run_drift(threads, alloc, (1, 1), 1, 5));
+    probe.call("run_2", |alloc| run_drift(threads, alloc, (2, 2), 1, 5));
+    probe.call("run_2_long", |alloc| {
+        run_drift(threads, alloc, (2, 2), 1, 50)
+    });
+    probe.call("run_4", |alloc| run_drift(threads, alloc, (4, 4), 2, 5));
+    probe.call("run_4_on_1", |alloc| {
+        run_drift(threads, alloc, (4, 1), 2, 5)
+    });
+    probe.call("run_4_on_2", |alloc| {
+        run_drift(threads, alloc, (4, 2), 2, 5)
+    });
     probe.call("perform", |alloc| perform_run(threads, alloc));
 }

@@ -139,16 +139,17 @@ fn went_through<G: Gas>(rt: &impl Abort, run: &Run<G>, passes: u64, belts: u32, 
     assert!(rt; run.rows_through(passes, 0).is_none());
 }
 
-// Asserts that a run of `stages` workers from generation `first` on comes to these cells.
-fn comes_to<G: Gas + Send, R: Abort + Threads + Wait + Sync>(
+// Asserts that a run of `stages` workers on so many threads, from generation `first` on, comes to these
+// cells.
+fn comes_to_on<G: Gas + Send, R: Abort + Threads + Wait + Sync>(
     rt: &R,
     alloc: Global,
     lattice: &Lattice<G>,
     chirality: Chirality,
-    (stages, first): (u32, u64),
+    (stages, threads, first): (u32, u32, u64),
     (generations, after): (u64, &[Cell]),
 ) -> Result<(), Fail> {
-    let plan = Plan::new(stages, 1, generations)?;
+    let plan = Plan::new(stages, 1, generations)?.on(threads)?;
     let run = run_from(rt, alloc, lattice, chirality, first, plan, &NoGate)?;
     has_cells(rt, run.lattice(), after);
     let passes = generations.div_ceil(u64::from(stages.max(1)));
@@ -159,6 +160,22 @@ fn comes_to<G: Gas + Send, R: Abort + Threads + Wait + Sync>(
         stages.wrapping_add(1),
         lattice.channel().size().height(),
     );
+    Ok(())
+}
+
+// The same on one thread, on two, and on a thread for each worker.
+fn comes_to<G: Gas + Send, R: Abort + Threads + Wait + Sync>(
+    rt: &R,
+    alloc: Global,
+    lattice: &Lattice<G>,
+    chirality: Chirality,
+    (stages, first): (u32, u64),
+    after: (u64, &[Cell]),
+) -> Result<(), Fail> {
+    for threads in [1, stages.min(2), stages] {
+        let line = (stages, threads, first);
+        comes_to_on(rt, alloc, lattice, chirality, line, after)?;
+    }
     Ok(())
 }
 
@@ -469,7 +486,7 @@ impl Gate for Counts {
 }
 
 // Asserts how often the workers of a run of five generations enter and leave, the latter once and
-// after all passes.
+// after all passes, on any number of threads.
 fn counts_are<R: Abort + Threads + Wait + Sync>(
     rt: &R,
     alloc: Global,
@@ -477,11 +494,13 @@ fn counts_are<R: Abort + Threads + Wait + Sync>(
     entered: u64,
     left: u64,
 ) -> Result<(), Fail> {
-    let gate = Counts::new();
     let lattice = full_lattice::<Fhp1>(alloc, 0x09)?;
-    let plan = Plan::new(stages, 2, 5)?;
-    run_from(rt, alloc, &lattice, Seeded(7), 0, plan, &gate)?;
-    gate.are(rt, entered, left);
+    for threads in 1..=stages {
+        let gate = Counts::new();
+        let plan = Plan::new(stages, 2, 5)?.on(threads)?;
+        run_from(rt, alloc, &lattice, Seeded(7), 0, plan, &gate)?;
+        gate.are(rt, entered, left);
+    }
     Ok(())
 }
 

@@ -73,7 +73,7 @@ fn compare<G: Gas + Send, R: Abort + Threads + Wait + Sync>(
 }
 
 // A run of a random lattice of a random generation, of up to `most_rows` rows, for a random number
-// of generations.
+// of generations, by workers on a random number of threads.
 fn compare_random<G: Gas + Send, R: Abort + Threads + Wait + Sync>(
     rt: &R,
     alloc: Global,
@@ -88,7 +88,8 @@ fn compare_random<G: Gas + Send, R: Abort + Threads + Wait + Sync>(
     let chirality = Chirality::Seeded(random.next_u64());
     let first = random.next_u64() % 1_000_000_000_000;
     let size = Size::new(width, height).ok_or("a size")?;
-    let plan = Plan::new(stages, capacity, generations)?;
+    let threads = random.next_word() % stages.max(1) + 1;
+    let plan = Plan::new(stages, capacity, generations)?.on(threads)?;
     let lattice = random_lattice::<G>(alloc, size, random)?;
     compare(rt, alloc, &lattice, chirality, first, plan)
 }
@@ -169,4 +170,17 @@ fn hpp_through_33_places(rt: HostRuntime) -> Result<(), Fail> {
 #[test]
 fn fhp_rest_through_33_places(rt: HostRuntime) -> Result<(), Fail> {
     soak::<FhpRest, _>(&rt, rt.alloc(), 33)
+}
+
+// Belts of one place within the threads, and belts that never hold all rows of a pass.
+#[test]
+fn sixteen_workers_on_three_threads(rt: HostRuntime) -> Result<(), Fail> {
+    let mut random = Pcg32::new(42, 16);
+    for capacity in [1, 2, 33] {
+        let size = Size::new(70, 20).ok_or("a size")?;
+        let lattice = random_lattice::<Fhp1>(rt.alloc(), size, &mut random)?;
+        let plan = Plan::new(16, capacity, 100)?.on(3)?;
+        compare(&rt, rt.alloc(), &lattice, Chirality::Seeded(7), 5, plan)?;
+    }
+    Ok(())
 }

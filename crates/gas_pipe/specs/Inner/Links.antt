@@ -1,77 +1,97 @@
 -- Inner words: what functions of this crate promise one another. No public contract cites them.
--- How the belts of a run are linked, and what they have carried when it is over.
-use Rattle.std.specs.Prelude.{◌≡◌, ℕ, suc, ◌<◌, List, [], ◌∷◌, length, map, Option}
+-- How the threads of a run are linked, and what the belts have carried when it is over.
+use Rattle.std.specs.Prelude.{◌≡◌, ℕ, zero, suc, ◌+◌, ◌<◌, ◌≤◌, List, [], ◌∷◌, length, map, Option}
 use Rattle.std.specs.Int.{div_ceil}
 use Rattle.std.specs.List.{range_with_len}
 use Rattle.std.specs.declared.thread.PromisedHandle.{PromisedHandle}
 use Rattle.gas_geom.specs.Gas.{Rules}
-use Rattle.gas_belt.specs.Belt.{Belt, Sender, Receiver, CarriedModel}
+use Rattle.gas_belt.specs.Belt.{Belt, CarriedModel, InnerModel}
 use Rattle.gas_pipe.specs.declared.job.JobPromise.{JobPromise}
 use Rattle.gas_rows.specs.Row.{RowModel}
 use Rattle.gas_stage.specs.Evolution.{lattice_after}
-use Rattle.gas_pipe_model.specs.Pass.{RunInputModel, IsRunInput, carried_by_belts}
+use Rattle.gas_pipe_model.specs.Pass.{RunInputModel, carried_by_belts}
 use Rattle.gas_pipe_model.specs.Inner.Circle.{on_belt, owes_in}
-use Rattle.gas_pipe_members.specs.Feeder.{FeederModel, MayHaveFed}
 use Rattle.gas_pipe.specs.Run.{RunModel}
-use Rattle.gas_pipe.specs.Inner.Job.{JobModel, IsReady}
+use Rattle.gas_pipe.specs.Inner.Hand.{HandModel, PostModel, post_of, post_in}
+use Rattle.gas_pipe.specs.Inner.Chain.{ChainModel, EndedModel, FeedingModel, IsRunning}
+use Rattle.gas_pipe.specs.declared.chain.Head.TheVariants.{Feeder, Worker}
+
+-- the workers that take from the n belts from the k-th on, in a run of this input
+abbrev pub posts_in : RunInputModel → ℕ → ℕ → List PostModel
+posts_in input k zero = []
+posts_in input k (suc n) = post_in input k ∷ posts_in input (suc k) n
 
 -- a belt for rows of the input's lattice, with the capacity of its plan
 pub record IsBeltOf (input : RunInputModel) (belt : Belt) : Type 0 where
   pub width : belt.width ≡ input.lattice.channel.width
   pub capacity : belt.capacity ≡ input.plan.capacity
 
--- a job that is ready, of the worker that takes from belt k, which is `from`, in the passes of the input's plan, and puts on
--- another belt of that plan
-pub record IsJobOf (input : RunInputModel) (k : ℕ) (from : Belt) (j : JobModel) : Type 0 where
-  pub link : from ≡ j.rx.belt
-  pub ready : IsReady j
-  pub who : j.who ≡ suc k
-  pub first : j.first ≡ input.first
-  pub plan : j.plan ≡ input.plan
-  pub channel : j.worker.stage.channel ≡ input.lattice.channel
-  pub chirality : j.worker.stage.chirality ≡ input.chirality
-  pub puts_on : IsBeltOf input j.tx.belt
+-- a belt within a thread, unused, for rows of the input's lattice, and with at most the capacity of its plan
+pub record IsUnused (input : RunInputModel) (belt : InnerModel) : Type 0 where
+  pub width : belt.width ≡ input.lattice.channel.width
+  pub capacity : belt.capacity ≤ input.plan.capacity
+  pub nothing_put : belt.put ≡ []
+  pub nothing_taken : belt.taken ≡ []
 
--- the jobs from belt k on: the first takes from the belt `from`, and each other from the belt of the one before
-abbrev pub Linked : RunInputModel → ℕ → Belt → List JobModel → Type 0
-Linked input k from [] = Unit {0}
-Linked input k from (j ∷ js) = IsJobOf input k from j × Linked input (suc k) j.tx.belt js
+-- a chain that is ready, of the workers that take from the belts from the k-th on, the first of which is `from`, and that put on another belt of
+-- the input's plan
+pub record IsChainOf (gas : Rules) (input : RunInputModel) (k : ℕ) (from : Belt) (c : ChainModel) : Type 0 where
+  pub h : HandModel
+  pub head : c.head ≡ Worker h
+  pub posts : post_of h ∷ map post_of c.hands ≡ posts_in input k (suc (length c.hands))
+  pub link : from ≡ c.rx.belt
+  pub running : IsRunning gas c
+  pub nothing_taken : c.rx.taken ≡ []
+
+-- the chain of the caller's thread, which is ready: the feeder of this input, and the first workers
+pub record OwnsFeeder (gas : Rules) (input : RunInputModel) (c : ChainModel) : Type 0 where
+  pub f : FeedingModel
+  pub head : c.head ≡ Feeder f
+  pub input_is : f.input ≡ input
+  pub posts : map post_of c.hands ≡ posts_in input 0 (length c.hands)
+  pub running : IsRunning gas c
+
+-- the chains from belt k on: the first takes from the belt `from`, and each other from the belt of the one before
+abbrev pub Linked : Rules → RunInputModel → ℕ → Belt → List ChainModel → Type 0
+Linked gas input k from [] = Unit {0}
+Linked gas input k from (c ∷ cs) = IsChainOf gas input k from c × Linked gas input (suc k + length c.hands) c.tx.belt cs
 
 -- the belt after the last of them
-abbrev pub last_belt : Belt → List JobModel → Belt
+abbrev pub last_belt : Belt → List ChainModel → Belt
 last_belt from [] = from
-last_belt from (j ∷ js) = last_belt j.tx.belt js
+last_belt from (c ∷ cs) = last_belt c.tx.belt cs
 
--- The line is linked: there is a job for each stage, they lead from the feeder's first belt to its last, and each belt is one of the
--- input's plan.
-pub record IsLinked (input : RunInputModel) (first : Belt) (jobs : List JobModel) (last : Belt) : Type 0 where
+-- how many workers they are
+abbrev pub workers_in : List ChainModel → ℕ
+workers_in [] = 0
+workers_in (c ∷ cs) = suc (length c.hands) + workers_in cs
+
+-- The line is linked: the caller's thread has the feeder and the first workers, and the others lead from there to the belt that the feeder
+-- takes from.
+pub record IsLinked (gas : Rules) (input : RunInputModel) (own : ChainModel) (chains : List ChainModel) : Type 0 where
   pub stages : 0 < input.plan.stages
-  pub count : length jobs ≡ input.plan.stages
-  pub leads : Linked input 0 first jobs
-  pub puts_on : IsBeltOf input first
-  pub end : last_belt first jobs ≡ last
-  pub takes_from : IsBeltOf input last
-
--- in all passes over the input's lattice the feeder may have come to its state by putting and taking these rows, and there is a
--- generation to compute
-pub record MayHaveFedInput (gas : Rules) (input : RunInputModel) (f : FeederModel) (put took : List RowModel) : Type 0 where
-  pub is_input : IsRunInput gas input
-  pub some : 0 < input.plan.generations
-  pub channel : f.channel ≡ input.lattice.channel
-  pub fed : MayHaveFed f (div_ceil input.plan.generations input.plan.stages) input.lattice.rows put took
+  pub feeder : OwnsFeeder gas input own
+  pub leads : Linked gas input (length own.hands) own.tx.belt chains
+  pub count : length own.hands + workers_in chains ≡ input.plan.stages
+  pub end : last_belt own.tx.belt chains ≡ own.rx.belt
 
 -- all may start
-abbrev pub AllReady : List JobModel → Type 0
-AllReady [] = Unit {0}
-AllReady (j ∷ js) = IsReady j × AllReady js
+abbrev pub AllRunning : Rules → List ChainModel → Type 0
+AllRunning gas [] = Unit {0}
+AllRunning gas (c ∷ cs) = IsRunning gas c × AllRunning gas cs
 
 -- the job that a thread was given
-abbrev pub job_of : PromisedHandle (Option (Receiver × Sender)) (JobPromise JobModel) → JobModel
+abbrev pub job_of : PromisedHandle (Option EndedModel) (JobPromise ChainModel) → ChainModel
 job_of h = h.promise.0.value
 
 -- a belt from which these rows were taken, and no others were put on it
 abbrev pub carrying : List RowModel → CarriedModel
 carrying rows = record { put = rows; taken = rows }
+
+-- the rows that were put on the first of the belts that have met or, if none has, the rows u
+abbrev pub first_put : List CarriedModel → List RowModel → List RowModel
+first_put [] u = u
+first_put (c ∷ cs) u = c.put
 
 -- what is on belt k after all passes of the input's plan, if the rows b are on belt 0 and each worker puts what it owes
 abbrev pub rows_on_belt : Rules → RunInputModel → List RowModel → ℕ → List RowModel

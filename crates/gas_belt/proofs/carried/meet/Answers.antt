@@ -1,4 +1,4 @@
-use Rattle.std.proofs.Common.{rules, ◌≡◌, ℕ, ◌*◌, ◌<◌, ◌≤◌, ◌++◌, List, length, sym, ap, ap₂, ◌∙◌, arith}
+use Rattle.std.proofs.Common.{◌≡◌, ℕ, ◌*◌, ◌<◌, ◌≤◌, ◌++◌, List, length, sym, ap, ap₂, ◌∙◌, arith}
 use mathlib.Core.List.{IsPrefix}
 use Rattle.rtrb.specs.Ring.{sent, received, known_items}
 use Rattle.gas_rows.specs.Planes.{cells_of}
@@ -44,7 +44,6 @@ invariant_of-result g c =
     sym (parts-append (cells_of dirs r.width) size r.count (received r.end.ring) rest enough)
     ∙ ap (rows_in dirs r.width r.count) all
     ∙ ap₂ (λ w n. rows_in dirs w n went) same (sym c.if-spent-rx.false) in record {
-      one_belt = search rules;
       same_rows = ap (λ x. x.taken) c.of-2.ensures ∙ ap (rows_in dirs r.width r.count) look.looked.1 ∙ taken ∙ ap (λ x. x.put) (sym c.of.ensures);
       count = sym (parts_length (cells_of dirs s.width) (row_words dirs s.width) s.count went)
           ∙ ap (λ x. length x.put) (sym c.of.ensures);

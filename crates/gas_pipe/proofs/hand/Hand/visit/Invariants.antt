@@ -1,0 +1,13 @@
+use Rattle.std.proofs.Common.{◌≡◌}
+use Rattle.gas_pipe.specs.Inner.Hand.{post_of, HasCome}
+use Rattle.gas_pipe.specs.declared.hand.Visited.TheVariants.{Over}
+use Rattle.gas_pipe.proofs.hand.Hand.visit.Given as goal
+
+abbrev pub invariant-loop : goal.invariant-loop
+invariant-loop g l = record {
+  post : post_of l.self ≡ post_of l.initial.self;
+  take : g.T.LineTake.same l.initial.take l.take;
+  put : g.P.LinePut.same l.initial.put l.put;
+  not_over : l.visited ≡ Over → ⊥;
+  come : HasCome g.G.Gas.rules l.self (g.T.LineTake.taken l.take) (g.P.LinePut.put l.put);
+}
