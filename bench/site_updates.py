@@ -158,6 +158,11 @@ class Bench:
                         "--generations",
                     ],
                 )
+        for threads in self.options.threads:
+            self.ours(
+                f"--threads {threads}",
+                [PROGRAM, "run", "--threads", str(threads), "--generations"],
+            )
         self.slower("C, a byte a cell", 20, [self.room / "bytes"])
         if self.chirality == "left" and importlib.util.find_spec("numpy"):
             self.slower("numpy", 200, [sys.executable, ROOT / "bench/bytes.py"])
@@ -185,6 +190,7 @@ def main():
     numbers = lambda text: [int(word) for word in text.split(",")]
     words.add_argument("--stages", type=numbers, default=[1, 2, 3, 4, 8, 16, 32], metavar="N,N..")
     words.add_argument("--capacities", type=numbers, default=[2, 32, 128], metavar="C,C..")
+    words.add_argument("--threads", type=numbers, default=[2, 4, 8], metavar="T,T..")
     words.add_argument(
         "lattices", nargs="*", default=LATTICES, metavar="WIDTHxHEIGHTxGENERATIONS[:left|seeded]"
     )

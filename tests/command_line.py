@@ -32,12 +32,13 @@ SYNTAX, UNKNOWN_KEY, BOTH_FORMS, MISSING, WRONG_TYPE, RANGE = (
         "out of range",
     )
 )
-STAGES, CAPACITY, GENERATIONS = (
+STAGES, CAPACITY, GENERATIONS, THREADS = (
     f"plan: {limit}"
     for limit in (
         "stages must be 1 to 64",
         "capacity must be 1 to 1024",
         "generations must be 0 to 1000000",
+        "threads must be 1 to the number of stages",
     )
 )
 PASSES = "replay: the plan needs more than one pass"
@@ -58,6 +59,9 @@ USAGE = [
     "run --generations -1",
     "run --generations 1 --generations 1",
     "run --generations 1 --capacity many",
+    "run --generations 1 --threads",
+    "run --generations 1 --threads 1 --threads 2",
+    "replay --generations 1 --threads 1",
     "check --generations 1",
     "coarse --generations 1 --block-width 2",
     "replay 0 1",
@@ -71,6 +75,7 @@ OPTIONS = {
     "--generations": "1",
     "--stages": "1",
     "--capacity": "1",
+    "--threads": "1",
     "--block-width": "1",
     "--block-height": "1",
 }
@@ -85,6 +90,15 @@ LIMITS = {
         1024: None,
         1025: CAPACITY,
         2**32 - 1: CAPACITY,
+        2**32: USAGE,
+    },
+    "threads": {
+        0: THREADS,
+        1: None,
+        8: None,
+        64: None,
+        65: THREADS,
+        2**32 - 1: THREADS,
         2**32: USAGE,
     },
     "generations": {
@@ -108,8 +122,13 @@ WORDS = [
             "--generations 0001",
             "--generations +1",
             "--capacity 1 --stages=64 --generations 1",
+            "--threads=3 --stages 5 --capacity 1 --generations 1",
         )
     ),
+    # threads are refused last
+    ("run --generations 1 --threads 5 --stages 4", 1, "", THREADS + "\n"),
+    ("run --generations 1 --threads 0 --stages 65", 1, "", STAGES + "\n"),
+    ("run --generations 1000001 --threads 0", 1, "", GENERATIONS + "\n"),
     # the scene's faults come before the plan's, and the plan's before the number of passes
     ("replay --generations 2 --stages 1", 1, "", PASSES + "\n"),
     ("replay --generations 2 --stages 1 --capacity 0", 1, "", CAPACITY + "\n"),

@@ -455,22 +455,26 @@ class Choice(unittest.TestCase):
         )
         large = blank(512, 1024, "seeded")
         cases = [
-            (large, 200, 16, False),
-            (large, 199, 16, True),
-            (large, 200, 15, True),
-            (blank(511, 1024, "seeded"), 10**6, 64, True),
-            (blank(512, 1024, "seeded", "hpp"), 699, 16, True),
-            (blank(512, 1024, "left"), 699, 16, True),
-            (blank(512, 1024, "left"), 700, 16, False),
-            (blank(8200, 4096, "left"), 700, 16, True),
+            (large, 200, (16, 4), False),
+            (large, 199, (16, 4), True),
+            (large, 200, (15, 4), True),
+            (large, 200, (16, 3), True),
+            (blank(511, 1024, "seeded"), 10**6, (64, 64), True),
+            (blank(512, 1024, "seeded", "hpp"), 699, (16, 4), True),
+            (blank(512, 1024, "left"), 699, (16, 4), True),
+            (blank(512, 1024, "left"), 700, (16, 4), False),
+            (blank(8200, 4096, "left"), 700, (16, 4), True),
         ]
-        for lattice, generations, stages, is_ours in cases:
-            with self.subTest(lattice=lattice, generations=generations, stages=stages):
-                with unittest.mock.patch.object(engine, "plan", lambda *words: (stages, 128)):
+        for lattice, generations, (stages, threads), is_ours in cases:
+            plan = stages, 128, threads
+            with self.subTest(lattice=lattice, generations=generations, plan=plan):
+                with unittest.mock.patch.object(engine, "plan", lambda *words: plan):
                     found = self.by_engine(lambda: engine.serves(lattice, generations))[0]
-                self.assertEqual(found, is_ours, (lattice, generations, stages))
+                self.assertEqual(found, is_ours, (lattice, generations, plan))
         missing = unittest.mock.Mock(side_effect=fhpgas.Fault("none"))
-        with unittest.mock.patch.multiple(engine, program_path=missing, plan=lambda *_: (16, 128)):
+        with unittest.mock.patch.multiple(
+            engine, program_path=missing, plan=lambda *_: (16, 128, 4)
+        ):
             self.assertTrue(self.by_engine(lambda: engine.serves(large, 10**6))[0])
 
     def test_a_library_is_loaded_where_it_can_run_alone(self):

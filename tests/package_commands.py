@@ -453,7 +453,7 @@ class Commands(unittest.TestCase):
             ],
         )
         wanted = (
-            r"^[\d,]+ MLUPS with 1 worker and 128 rows per belt\n"
+            r"^[\d,]+ MLUPS with 1 worker on 1 thread and 128 rows per belt\n"
             r"1000 generations of 594 cells: about [\d.e-]+ seconds\n$"
         )
         self.assertRegex(self.printed("how-long a.toml 1000 --seconds 1"), wanted)

@@ -118,17 +118,18 @@ class Processes(Package):
     def test_a_plan_is_chosen_from_the_cores_of_the_process(self):
         self.assertEqual(
             [fhpgas.plan(1024, 1000, cores) for cores in (1, 4, 8, 64)],
-            [(4, 128), (16, 128), (32, 128), (64, 128)],
+            [(8, 128, 1), (32, 128, 4), (64, 128, 8), (64, 128, 64)],
         )
         self.assertEqual(
             [
-                fhpgas.plan(rows, steps, 4)[0]
+                fhpgas.plan(rows, steps, 4)[::2]
                 for rows, steps in ((256, 100), (24, 100), (9, 1), (1024, 3))
             ],
-            [16, 1, 1, 3],
+            [(16, 4), (1, 1), (1, 1), (3, 3)],
         )
+        self.assertEqual(fhpgas.plan(24, 100, 4, stages=6), (6, 128, 4))
         with unittest.mock.patch.object(os, "sched_getaffinity", lambda process: {5, 6}):
-            self.assertEqual(fhpgas.plan(1024, 1000), (8, 128))
+            self.assertEqual(fhpgas.plan(1024, 1000), (16, 128, 2))
 
     def test_bars_count_the_parts_of_a_run_in_a_terminal(self):
         class Terminal(io.StringIO):

@@ -28,6 +28,8 @@ REQUESTS = [
     ("obstacle", "run --generations 2 --stages 1 --capacity 1"),
     ("drift", "run --generations 3 --stages 2 --capacity 1"),
     ("drift", "run --generations 5 --stages 4"),
+    ("drift", "run --generations 5 --stages 4 --threads 1"),
+    ("drift", "run --generations 5 --threads 2"),
     ("channel", "run --generations 1"),
     ("rest", "run --generations 4 --stages 2"),
     ("later", "run --generations 3 --stages 2"),

@@ -154,8 +154,8 @@ def how_long(asked: argparse.Namespace) -> None:
     busy machine the figure changes every minute."""
     scene = often(asked.scene)
     size = fhpgas.check(scene)
-    stages, capacity = fhpgas.plan(size.height, asked.generations)
-    stages, capacity = asked.stages or stages, asked.capacity or capacity
+    stages, capacity, threads = fhpgas.plan(size.height, asked.generations, stages=asked.stages)
+    capacity = asked.capacity or capacity
 
     def timed(generations: int) -> float:
         return timeit.timeit(
@@ -172,8 +172,8 @@ def how_long(asked: argparse.Namespace) -> None:
     cells, whole_run = size.width * size.height, around + asked.generations * of_one
     unit, length = next((pair for pair in UNITS if whole_run >= 2 * pair[1]), UNITS[-1])
     print(
-        f"{cells / of_one / 1e6:,.0f} MLUPS with {stages} worker{'s' * (stages > 1)} and {capacity}"
-        " rows per belt"
+        f"{cells / of_one / 1e6:,.0f} MLUPS with {stages} worker{'s' * (stages > 1)} on {threads}"
+        f" thread{'s' * (threads > 1)} and {capacity} rows per belt"
     )
     print(
         f"{asked.generations} generations of {cells} cells: about {whole_run / length:.2g} {unit}"

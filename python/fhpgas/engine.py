@@ -55,9 +55,9 @@ V3 = V2 | {"abm", "avx", "avx2", "bmi1", "bmi2", "f16c", "fma", "movbe", "xsave"
 LEVELS = {"x86-64-v3": V3, "x86-64-v2": V2}
 CUT = 1 << 25  # cells, or updates of cells, of one call
 CACHED = 1 << 18  # cells whose bits numpy packs or unpacks at a time
-# From here on the program is faster (docs/PERFORMANCE.md): with this many workers, four on each of
-# four cores, on this many cells, after this many generations, which draw random bits or do not.
-STAGES, CELLS, SEEDED, UNSEEDED = 16, 1 << 19, 200, 700
+# From here on the program is faster (docs/PERFORMANCE.md): with this many workers on this many
+# threads, on this many cells, after this many generations, which draw random bits or do not.
+STAGES, THREADS, CELLS, SEEDED, UNSEEDED = 16, 4, 1 << 19, 200, 700
 
 
 class Place(NamedTuple):
@@ -118,7 +118,9 @@ def serves(lattice: Lattice, generations: int) -> bool:
     )
     is_long = columns * rows >= CELLS and generations >= (SEEDED if draws else UNSEEDED)
     fits = rows * (2 * columns + 10) + 200 <= MOST_BYTES  # as a scene
-    return not (is_long and fits and plan(rows, generations)[0] >= STAGES and _has_program())
+    stages, _, threads = plan(rows, generations)
+    is_fast = stages >= STAGES and threads >= THREADS
+    return not (is_long and fits and is_fast and _has_program())
 
 
 def _has_program() -> bool:

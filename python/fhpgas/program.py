@@ -329,8 +329,10 @@ def with_seed(scene: Scene, seed: int) -> str:
     return text_of(keys | {"seed": integer("a seed", seed, 0, MOST_SEED)})
 
 
-def plan(rows: int, generations: int, cores: int | None = None) -> tuple[int, int]:
-    """Good numbers of stages and rows per belt (docs/PERFORMANCE.md).
+def plan(
+    rows: int, generations: int, cores: int | None = None, stages: int | None = None
+) -> tuple[int, int, int]:
+    """Good numbers of stages, rows per belt and threads (docs/PERFORMANCE.md).
 
     Parameters
     ----------
@@ -338,19 +340,22 @@ def plan(rows: int, generations: int, cores: int | None = None) -> tuple[int, in
         Of the run.
     cores : int, optional
         By default those that this process may use, in a run of `side_by_side` its share of them.
+    stages : int, optional
+        By default eight per core, at most one per 16 rows or per generation.
 
     Returns
     -------
-    stages, capacity : int
-        Four workers per core, at most one per 16 rows or per generation.
+    stages, capacity, threads : int
+        One thread per core, at most one per stage.
 
     Examples
     --------
     >>> fhpgas.plan(1024, 1000, cores=4)
-    (16, 128)
+    (32, 128, 4)
     """
     cores = cores or _cores.get() or _all_cores()
-    return max(1, min(4 * cores, rows // 16, generations, MOST_STAGES)), CAPACITY
+    stages = stages or max(1, min(8 * cores, rows // 16, generations, MOST_STAGES))
+    return stages, CAPACITY, min(cores, stages)
 
 
 def _all_cores() -> int:
@@ -364,20 +369,19 @@ def planned(
 ) -> tuple[object, ...]:
     """The words of a plan. What is out of its range raises a Fault."""
     generations = integer("the number of generations", generations, 0, MOST_GENERATIONS)
-    good = plan(rows, generations)
-    chosen = (
-        integer("the number of stages", good[0] if stages is None else stages, 1, MOST_STAGES),
-        integer("the capacity", good[1] if capacity is None else capacity, 1, MOST_CAPACITY),
-    )
-    return "--generations", generations, "--stages", chosen[0], "--capacity", chosen[1]
+    chosen = plan_of(stages, capacity)
+    workers, places, threads = plan(rows, generations, stages=chosen["stages"])
+    places = chosen["capacity"] or places
+    words = {"generations": generations, "stages": workers, "capacity": places, "threads": threads}
+    return tuple(word for name, value in words.items() for word in (f"--{name}", value))
 
 
 def plan_of(stages: int | None, capacity: int | None) -> dict[str, int | None]:
     """A plan by its names. What is out of its range raises a Fault."""
     if stages is not None:
-        integer("the number of stages", stages, 1, MOST_STAGES)
+        stages = integer("the number of stages", stages, 1, MOST_STAGES)
     if capacity is not None:
-        integer("the capacity", capacity, 1, MOST_CAPACITY)
+        capacity = integer("the capacity", capacity, 1, MOST_CAPACITY)
     return {"stages": stages, "capacity": capacity}
 
 

@@ -2,7 +2,7 @@
 use Rattle.std.specs.Prelude.{◌≡◌, ◌≤◌, ◌+◌, ℕ, nat_lt, List, length, take, Option, Result, Ok, Err, IsOkAnd, ⊤, if◌then◌else◌}
 use Rattle.std.specs.Int.{div_ceil}
 use Rattle.std.specs.Io.KnownBytes.{Appends}
-use Rattle.std.specs.Option.{option_map_or}
+use Rattle.std.specs.Option.{option_and_then, option_map_or, option_or}
 use Rattle.gas_geom.specs.Gas.{Rules}
 use Rattle.gas_geom.specs.Lattice.{LatticeModel}
 use Rattle.gas_rows.specs.declared.chirality.Chirality.{Chirality}
@@ -11,7 +11,7 @@ use Rattle.gas_scene.specs.Catalog.{rules_of}
 use Rattle.gas_scene.specs.Scene.{SceneModel, scene_of_text}
 use Rattle.gas_scene.specs.declared.error.SceneError.{SceneError}
 use Rattle.gas_pipe_model.specs.Plan.{PlanModel}
-use Rattle.gas_pipe_members.specs.Plan.{plan_refusal}
+use Rattle.gas_pipe_members.specs.Plan.{plan_refusal, threads_refusal}
 use Rattle.gas_pipe_replay.specs.Replay.{replay_of}
 use Rattle.gas_pipe_members.specs.declared.plan.PlanError.{PlanError}
 use Rattle.gas_tool_io.specs.Text.{cells_text, check_text}
@@ -23,6 +23,11 @@ use Rattle.gas_tool.specs.declared.faults.ToolError.TheVariants.{Memory, Scene, 
 use Rattle.gas_tool_cli.specs.declared.words.Request.{Request}
 use Rattle.gas_tool_cli.specs.declared.words.Request.TheVariants.{Check, Run, Coarse, Replay}
 
+-- the first refusal of the plan of a run, of its threads last, which are one per stage if no number is asked for
+abbrev pub run_refusal : ℕ → ℕ → ℕ → Option ℕ → Option PlanError
+run_refusal stages capacity generations threads =
+    option_or (plan_refusal stages capacity generations) (option_and_then (threads_refusal stages) threads)
+
 -- this outcome, unless the plan is refused
 abbrev pub unless_refused : Option PlanError → Result (List ℕ) ToolError → Result (List ℕ) ToolError
 unless_refused refusal accepted = option_map_or (λ error. Err (Plan error)) refusal accepted
@@ -31,10 +36,11 @@ unless_refused refusal accepted = option_map_or (λ error. Err (Plan error)) ref
 -- than one pass is a fault.
 abbrev pub gas_outcome : Rules → LatticeModel → Chirality → ℕ → Request → Result (List ℕ) ToolError
 gas_outcome gas lattice chirality first Check = Ok (check_text gas.name gas lattice)
-gas_outcome gas lattice chirality first (Run stages capacity generations) = unless_refused (plan_refusal stages capacity generations)
+gas_outcome gas lattice chirality first (Run stages capacity generations threads) =
+    unless_refused (run_refusal stages capacity generations threads)
     (Ok (cells_text gas (lattice_after gas chirality first lattice generations) (first + generations)))
-gas_outcome gas lattice chirality first (Coarse stages capacity generations width height) =
-    unless_refused (plan_refusal stages capacity generations)
+gas_outcome gas lattice chirality first (Coarse stages capacity generations threads width height) =
+    unless_refused (run_refusal stages capacity generations threads)
     (Ok (table_text (blocks_of gas (lattice_after gas chirality first lattice generations) width height)))
 gas_outcome gas lattice chirality first (Replay stages capacity generations turns) =
     let plan : PlanModel = record { stages = stages; capacity = capacity; generations = generations; threads = stages } in

@@ -1,18 +1,17 @@
 //! The answer to a request on a scene, and runs in two parts.
 
-ghost use Rattle.std.specs.Prelude.{◌≡◌, ℕ, ◌+◌, List, None, Ok, IfOk, IfErr};
-ghost use Rattle.gas_pipe_members.specs.Plan.{plan_refusal};
+ghost use Rattle.std.specs.Prelude.{◌≡◌, ℕ, ◌+◌, List, Option, None, Some, Ok, IfOk, IfErr, unwrap_or};
 ghost use Rattle.gas_stage.specs.Evolution.{lattice_after};
 ghost use Rattle.gas_scene.specs.Catalog.{rules_of};
 ghost use Rattle.gas_scene.specs.Scene.{SceneModel, scene_of_text};
 ghost use Rattle.gas_tool_cli.specs.Requests.{IsAllowed};
 ghost use Rattle.gas_tool_cli.specs.declared.words.Request.TheVariants as request_of;
-ghost use Rattle.gas_tool.specs.Outcome.{Performs, gas_outcome, outcome, scene_after};
+ghost use Rattle.gas_tool.specs.Outcome.{Performs, gas_outcome, outcome, run_refusal, scene_after};
 
 use crate::faults::ToolError;
 use gas_blocks::blocks::coarse;
 use gas_geom::gas::Gas;
-use gas_pipe::{Gate, Plan, Run, RunError, replay, run};
+use gas_pipe::{Gate, Plan, PlanError, Run, RunError, replay, run};
 use gas_rows::lattice::Lattice;
 use gas_scene::scene::{Scene, read};
 use gas_scene::with_lattice;
@@ -71,8 +70,9 @@ fn perform_on<G: Gas + Send, W: Write, H: Gate + Sync, R: Threads + Wait + Sync>
             stages,
             capacity,
             generations,
+            threads,
         } => {
-            let plan = Plan::new(*stages, *capacity, *generations)?;
+            let plan = plan_of_run(*stages, *capacity, *generations, *threads)?;
             let run = run_scene(rt, alloc, scene, lattice, plan, gate)?;
             let last = scene.generation() + plan.generations();
             Ok(write_cells(run.lattice(), last, out)?)
@@ -81,10 +81,11 @@ fn perform_on<G: Gas + Send, W: Write, H: Gate + Sync, R: Threads + Wait + Sync>
             stages,
             capacity,
             generations,
+            threads,
             block_width,
             block_height,
         } => {
-            let plan = Plan::new(*stages, *capacity, *generations)?;
+            let plan = plan_of_run(*stages, *capacity, *generations, *threads)?;
             let ended = run_scene(rt, alloc, scene, lattice, plan, gate)?;
             let blocks = coarse(alloc, ended.lattice(), *block_width, *block_height)?;
             Ok(write_table(blocks.as_slice(), out)?)
@@ -101,6 +102,29 @@ fn perform_on<G: Gas + Send, W: Write, H: Gate + Sync, R: Threads + Wait + Sync>
             let replay = replay(alloc, lattice, scene.chirality(), first, plan, turns)?;
             Ok(write_replay(&replay, first + plan.generations(), out)?)
         }
+    }
+}
+
+// The plan of a run on the threads that are asked for, or on one per stage.
+fn plan_of_run(
+    stages: u32,
+    capacity: u32,
+    generations: u64,
+    threads: Option<u32>,
+) -> Result<Plan, PlanError>
+    ensures refused { IfErr result (λ e. run_refusal stages capacity generations threads ≡ Some e) }
+    ensures accepted { IfOk result (λ _. run_refusal stages capacity generations threads ≡ None) }
+    ensures made { IfOk result (λ plan. plan ≡ record {
+      stages = stages;
+      capacity = capacity;
+      generations = generations;
+      threads = unwrap_or threads stages;
+    }) }
+{
+    let plan = Plan::new(stages, capacity, generations)?;
+    match threads {
+        Some(threads) => plan.on(threads),
+        None => Ok(plan),
     }
 }
 
@@ -128,22 +152,22 @@ fn run_scene<G: Gas + Send, H: Gate + Sync, R: Threads + Wait + Sync>(
     )
 }
 
-/// A run in two parts prints what one run prints, for any numbers of stages and any capacities.
+/// A run in two parts prints what one run prints, for any stages, capacities and threads.
 /// Let a later text be the scene of a first text's lattice after m generations. Then n generations
 /// of the later text lead to the same answer as m + n generations of the first.
 pub fn resumed_runs()
     ensures cells { (text later : List ℕ) (scene : SceneModel)
-        (m n stages capacity stages2 capacity2 : ℕ) →
+        (m n stages capacity stages2 capacity2 : ℕ) (threads threads2 : Option ℕ) →
         scene_of_text text ≡ Ok scene → scene_of_text later ≡ Ok (scene_after scene m) →
-        plan_refusal stages capacity (m + n) ≡ None →
-        plan_refusal stages2 capacity2 n ≡ None →
-        outcome later (request_of.Run stages2 capacity2 n)
-        ≡ outcome text (request_of.Run stages capacity (m + n)) }
+        run_refusal stages capacity (m + n) threads ≡ None →
+        run_refusal stages2 capacity2 n threads2 ≡ None →
+        outcome later (request_of.Run stages2 capacity2 n threads2)
+        ≡ outcome text (request_of.Run stages capacity (m + n) threads) }
     ensures table { (text later : List ℕ) (scene : SceneModel)
-        (m n stages capacity stages2 capacity2 width height : ℕ) →
+        (m n stages capacity stages2 capacity2 width height : ℕ) (threads threads2 : Option ℕ) →
         scene_of_text text ≡ Ok scene → scene_of_text later ≡ Ok (scene_after scene m) →
-        plan_refusal stages capacity (m + n) ≡ None →
-        plan_refusal stages2 capacity2 n ≡ None →
-        outcome later (request_of.Coarse stages2 capacity2 n width height)
-        ≡ outcome text (request_of.Coarse stages capacity (m + n) width height) }
+        run_refusal stages capacity (m + n) threads ≡ None →
+        run_refusal stages2 capacity2 n threads2 ≡ None →
+        outcome later (request_of.Coarse stages2 capacity2 n threads2 width height)
+        ≡ outcome text (request_of.Coarse stages capacity (m + n) threads width height) }
 {}

@@ -1,7 +1,7 @@
 -- Lemmas about the errors of a parse and its faults.
 use Rattle.std.proofs.Common.{◌≢◌, [], ◌∷◌, inl, inr, ◌≡◌, refl, sym, ◌∙◌, subst}
 use Rattle.std.specs.Prelude.{true}
-use Rattle.clap.specs.Words.{Kinds, HasKind, IsAmong, kind_of, is_simple_and_free}
+use Rattle.clap.specs.Words.{Kinds, HasKind, IsAmong, kind_of, is_simple, is_simple_and_free}
 use Rattle.clap.specs.declared.error.Error.{Error}
 use Rattle.clap.specs.declared.error.kind.ErrorKind.{ErrorKind}
 use Rattle.clap.specs.declared.error.kind.ErrorKind.TheVariants.{DisplayHelp, DisplayVersion, OutOfMemory}
@@ -16,6 +16,11 @@ use Rattle.gas_tool_cli.specs.Inner.{TellsKind}
 pub program_is_free : is_simple_and_free program_app ≡ true
 unfolding clap_on_literals
 program_is_free = refl
+
+-- the matches of the command are given by the words
+pub program_is_simple : is_simple program_app ≡ true
+unfolding clap_on_literals
+program_is_simple = refl
 
 -- the fault of an error is of a kind that the words can have
 pub fault_tells : (kinds : Kinds) (e : Error) (f : UsageFault) → HasKind kinds e → TellsKind (kind_of e) f → IsFaultOf kinds f

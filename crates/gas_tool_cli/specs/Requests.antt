@@ -1,5 +1,5 @@
 -- The request in the matches of the words, and the fault of words without a request.
-use Rattle.std.specs.Prelude.{◌≡◌, ◌≢◌, ◌⊎◌, ◌≤◌, ℕ, List, [], ◌∷◌, map, Option, Some, None, IsSomeAnd, Result, Ok, Err, IsOkAnd, String, codes, unwrap_or, ⊤}
+use Rattle.std.specs.Prelude.{◌≡◌, ◌≢◌, ◌⊎◌, ◌≤◌, ◌*◌, ℕ, min, max, List, [], ◌∷◌, map, Option, Some, None, IsSomeAnd, Result, Ok, Err, IsOkAnd, String, codes, unwrap_or, ⊤}
 use Rattle.std.specs.Global.{Global}
 use Rattle.std.specs.String.{string_bytes}
 use Rattle.std.specs.Vec.Iter.{into_iter_items}
@@ -24,10 +24,29 @@ IsNumber bits text n = ParsesUnsigned {E = ParseIntError} bits 10 text (Ok n)
 abbrev pub IsNumberAt : ℕ → List Row → Text → ℕ → Type 0
 IsNumberAt bits rows option n = IsSomeAnd (one_of option rows) (λ text. IsNumber bits text n)
 
--- the rows contain these numbers of a plan
-pub record IsPlanAt (rows : List Row) (stages capacity generations : ℕ) : Type 0 where
-  pub stages_at : IsNumberAt 32 rows (codes "stages") stages
-  pub capacity_at : IsNumberAt 32 rows (codes "capacity") capacity
+-- the rows contain this number for an option, or no such option
+abbrev pub IsGivenAt : List Row → Text → Option ℕ → Type 0
+IsGivenAt rows option None = one_of option rows ≡ None
+IsGivenAt rows option (Some n) = IsNumberAt 32 rows option n
+
+-- the rows contain this number for an option, or no such option, and it is the default
+abbrev pub IsNumberOr : ℕ → List Row → Text → ℕ → Type 0
+IsNumberOr default rows option n = (given : Option ℕ) × IsGivenAt rows option given × (n ≡ unwrap_or given default)
+
+-- the number of stages if none is given: 4, or 8 per thread, from 8 to 64
+abbrev pub default_stages : Option ℕ → ℕ
+default_stages None = 4
+default_stages (Some threads) = 8 * max 1 (min threads 8)
+
+-- the capacity if none is given
+abbrev pub default_capacity : Option ℕ → ℕ
+default_capacity None = 2
+default_capacity (Some threads) = 128
+
+-- the rows contain these numbers of a plan, whose defaults depend on its number of threads, if one is given
+pub record IsPlanAt (rows : List Row) (threads : Option ℕ) (stages capacity generations : ℕ) : Type 0 where
+  pub stages_at : IsNumberOr (default_stages threads) rows (codes "stages") stages
+  pub capacity_at : IsNumberOr (default_capacity threads) rows (codes "capacity") capacity
   pub generations_at : IsNumberAt 64 rows (codes "generations") generations
 
 -- the rows contain, for an option, this width or height of blocks
@@ -42,17 +61,17 @@ AreTurnsAt rows turns = AllZip (IsNumber 32) (unwrap_or (all_of (codes "turns") 
 abbrev pub IsRequestOf : Option (Text × List Row) → Request → Type 0
 IsRequestOf None request = ⊥
 IsRequestOf (Some sub) Check = sub.0 ≡ codes "check"
-IsRequestOf (Some sub) (Run stages capacity generations) =
-    (sub.0 ≡ codes "run") × IsPlanAt sub.1 stages capacity generations
-IsRequestOf (Some sub) (Coarse stages capacity generations width height) =
-    (sub.0 ≡ codes "coarse") × IsPlanAt sub.1 stages capacity generations
+IsRequestOf (Some sub) (Run stages capacity generations threads) =
+    (sub.0 ≡ codes "run") × IsGivenAt sub.1 (codes "threads") threads × IsPlanAt sub.1 threads stages capacity generations
+IsRequestOf (Some sub) (Coarse stages capacity generations threads width height) =
+    (sub.0 ≡ codes "coarse") × IsGivenAt sub.1 (codes "threads") threads × IsPlanAt sub.1 threads stages capacity generations
     × IsSideAt sub.1 (codes "block-width") width × IsSideAt sub.1 (codes "block-height") height
 IsRequestOf (Some sub) (Replay stages capacity generations turns) =
-    (sub.0 ≡ codes "replay") × IsPlanAt sub.1 stages capacity generations × AreTurnsAt sub.1 turns
+    (sub.0 ≡ codes "replay") × IsPlanAt sub.1 None stages capacity generations × AreTurnsAt sub.1 turns
 
 -- a request that can be performed: its blocks have at least one column and one row
 abbrev pub IsAllowed : Request → Type 0
-IsAllowed (Coarse stages capacity generations width height) = (1 ≤ width) × (1 ≤ height)
+IsAllowed (Coarse stages capacity generations threads width height) = (1 ≤ width) × (1 ≤ height)
 IsAllowed request = ⊤
 
 -- the fault of words for which `clap` returns errors of these kinds. It is help only if they ask for it or for the

@@ -15,16 +15,20 @@ option_rule name values = record (new_rule name) { long = Some name; value_names
 abbrev pub required_rule : Text → ValueParser → Rule
 required_rule name values = record (option_rule name values) { required = true }
 
--- such an option with a default, whose value is a number of 32 bits
-abbrev pub default_rule : Text → Text → Rule
-default_rule name value = record (option_rule name (Signed (pos 0) (pos 4294967295))) { defaults = value ∷ [] }
+-- an option whose value is a number of 32 bits
+abbrev pub number_rule : Text → Rule
+number_rule name = option_rule name (Signed (pos 0) (pos 4294967295))
 
 -- the options of a plan: --generations G [--stages N] [--capacity C]
 abbrev pub plan_rules : List Rule
 plan_rules =
     required_rule (codes "generations") (Unsigned 0 18446744073709551615)
-    ∷ default_rule (codes "stages") (codes "4")
-    ∷ default_rule (codes "capacity") (codes "2") ∷ []
+    ∷ number_rule (codes "stages")
+    ∷ number_rule (codes "capacity") ∷ []
+
+-- the options of a run: those of a plan, and [--threads T]
+abbrev pub run_rules : List Rule
+run_rules = plan_rules ++ number_rule (codes "threads") ∷ []
 
 -- the width or the height of blocks
 abbrev pub side_rule : Text → Rule
@@ -43,14 +47,14 @@ turns_rule = record (new_rule (codes "turns")) {
 abbrev pub subcommand : Text → List Rule → Shape
 subcommand name rules = record (new_shape name) { rules = rules }
 
--- The program's commands: `check`, `run` with the options of a plan, `coarse` with these and two sides of blocks, and `replay`
--- with these and turns.
+-- The program's commands: `check`, `run` with the options of a run, `coarse` with these and two sides of blocks, and `replay`
+-- with the options of a plan and turns.
 abbrev pub program_app : App
 program_app = record {
   top = record (new_shape (codes "fhpgas")) { is_leaf = false; subcommand_required = true; has_version = true };
   subs =
       subcommand (codes "check") []
-      ∷ subcommand (codes "run") plan_rules
-      ∷ subcommand (codes "coarse") (plan_rules ++ side_rule (codes "block-width") ∷ side_rule (codes "block-height") ∷ [])
+      ∷ subcommand (codes "run") run_rules
+      ∷ subcommand (codes "coarse") (run_rules ++ side_rule (codes "block-width") ∷ side_rule (codes "block-height") ∷ [])
       ∷ subcommand (codes "replay") (plan_rules ++ turns_rule ∷ []) ∷ [];
 }

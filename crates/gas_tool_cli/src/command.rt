@@ -4,7 +4,8 @@ ghost use Rattle.std.specs.Prelude.{◌≡◌, [], ◌∷◌, ◌++◌, IfOk, fa
 ghost use Rattle.clap.specs.declared.builder.command.Command.TheViews.{out-Command as fields_of};
 ghost use Rattle.clap.specs.Simple.{on_top};
 ghost use Rattle.clap.specs.Words.{App, Rule, Shape, app_of, new_app, rule_of, with_rule, with_subcommand};
-ghost use Rattle.gas_tool_cli.specs.Words.{option_rule, plan_rules, program_app, side_rule, subcommand, turns_rule};
+ghost use Rattle.gas_tool_cli.specs.Words.{number_rule, option_rule, plan_rules, program_app, run_rules};
+ghost use Rattle.gas_tool_cli.specs.Words.{side_rule, subcommand, turns_rule};
 ghost use Rattle.gas_tool_cli.specs.Inner.{leaf_app};
 
 use crate::help::{self, Help};
@@ -32,6 +33,14 @@ fn option_arg<'a>(
         .action(ArgAction::Set)
         .value_parser(values)
         .help(help)
+}
+
+// An option whose value is a number of 32 bits.
+fn number_arg<'a>(alloc: Global, name: &'a str, value_name: &'a str, help: &'a str) -> Arg<'a>
+    ensures rule { rule_of result ≡ number_rule name.entry.now }
+    ensures local { result.global ≡ false }
+{
+    option_arg(alloc, name, value_name, value_parser!(u32), help)
 }
 
 // An option for the width or the height of blocks.
@@ -87,25 +96,30 @@ fn plan_command<'a>(alloc: Global, name: &'a str, help: Help) -> Result<Command<
 {
     let values = value_parser!(u64);
     let generations = option_arg(alloc, "generations", "G", values, help::GENERATIONS);
-    let stages = option_arg(alloc, "stages", "N", value_parser!(u32), help::STAGES);
-    let capacity = option_arg(alloc, "capacity", "C", value_parser!(u32), help::CAPACITY);
-    let first = with_arg(
-        Ok(new_command(alloc, name, help)),
-        generations.required(true),
-    );
-    let second = with_arg(first, stages.default_value("4"));
-    with_arg(second, capacity.default_value("2"))
+    let command = new_command(alloc, name, help);
+    let first = with_arg(Ok(command), generations.required(true));
+    let second = with_arg(first, number_arg(alloc, "stages", "N", help::STAGES));
+    with_arg(second, number_arg(alloc, "capacity", "C", help::CAPACITY))
+}
+
+// A command with the options of a run.
+fn run_command<'a>(alloc: Global, name: &'a str, help: Help) -> Result<Command<'a>, AllocError>
+    ensures app { IfOk result (λ r. app_of r ≡ leaf_app (subcommand name.entry.now run_rules)) }
+    ensures local { IfOk result (λ r. (fields_of r).has_globals ≡ false) }
+{
+    let plan = plan_command(alloc, name, help);
+    with_arg(plan, number_arg(alloc, "threads", "T", help::THREADS))
 }
 
 fn coarse_command<'a>(alloc: Global) -> Result<Command<'a>, AllocError>
-    ensures app { IfOk result (λ r. app_of r ≡ leaf_app (subcommand (codes "coarse") (plan_rules
+    ensures app { IfOk result (λ r. app_of r ≡ leaf_app (subcommand (codes "coarse") (run_rules
         ++ side_rule (codes "block-width") ∷ side_rule (codes "block-height") ∷ []))) }
     ensures local { IfOk result (λ r. (fields_of r).has_globals ≡ false) }
 {
-    let plan = plan_command(alloc, "coarse", help::COARSE);
+    let run = run_command(alloc, "coarse", help::COARSE);
     let width = side_arg(alloc, "block-width", "BW", help::BLOCK_WIDTH);
     let height = side_arg(alloc, "block-height", "BH", help::BLOCK_HEIGHT);
-    let wide = with_arg(plan, width);
+    let wide = with_arg(run, width);
     with_arg(wide, height)
 }
 
@@ -148,7 +162,7 @@ pub(crate) fn program_command<'a>(alloc: Global) -> Result<Command<'a>, AllocErr
 {
     let check = new_command(alloc, "check", help::CHECK);
     let checks = with_command(Ok(top_command(alloc)), Ok(check));
-    let runs = with_command(checks, plan_command(alloc, "run", help::RUN));
+    let runs = with_command(checks, run_command(alloc, "run", help::RUN));
     let tables = with_command(runs, coarse_command(alloc));
     with_command(tables, replay_command(alloc))
 }

@@ -1,7 +1,7 @@
 //! The texts of the help: what each command does, its usage, and notes, and what its options are.
 
 /// The program's version, and the kit that proves it, without the letter of the kit's release.
-pub(crate) const VERSION: &str = "1.0.0 (rattle-kit-13 logic dac8208d650f15bf)";
+pub(crate) const VERSION: &str = "2.0.0 (rattle-kit-13 logic dac8208d650f15bf)";
 
 /// The texts of a command's help: its usage, what it does, and notes.
 #[derive(Clone, Copy)]
@@ -36,24 +36,25 @@ Example: fhpgas check < scene.toml",
 };
 
 pub(crate) const RUN: Help = Help {
-    usage: "fhpgas run --generations G [--stages N] [--capacity C] < SCENE
+    usage: "fhpgas run --generations G [--threads T] [--stages N] [--capacity C] < SCENE
        (put `<` before the scene's file)",
     about: "Compute generations of the scene and print the cells",
     notes: "\
-A pipeline of N workers computes the generations. Each worker has a thread of its own and computes
-one generation, row by row, from the rows of the worker before it. The output does not depend on N
-and C.
+A line of N workers computes the generations. Each worker computes one generation, row by row, from
+the rows of the worker before it. It has a thread of its own, or T threads share the workers: choose
+as many threads as there are free cores. The output does not depend on T, N and C.
 
 The first line has the generation reached and the number of particles. Then come the rows of the
 channel from the top, two characters per cell: `..` is empty, `##` is solid, and other cells show
 the set of directions of their particles in hexadecimal, bit i for direction i.
 
-Example: fhpgas run --generations 100 < scene.toml",
+Example: fhpgas run --generations 100 --threads 4 < scene.toml",
 };
 
 pub(crate) const COARSE: Help = Help {
-    usage: "fhpgas coarse --generations G [--stages N] [--capacity C] --block-width BW --block-height BH \
-     < SCENE
+    usage: "\
+fhpgas coarse --generations G --block-width BW --block-height BH [--threads T] [--stages N]
+       [--capacity C] < SCENE
        (put `<` before the scene's file)",
     about: "Compute generations of the scene and print a table of its blocks of cells",
     notes: "\
@@ -73,10 +74,10 @@ Example: fhpgas coarse --generations 100 --block-width 16 --block-height 16 < sc
 pub(crate) const REPLAY: Help = Help {
     usage: "fhpgas replay --generations G [--stages N] [--capacity C] [TURN]... < SCENE
        (put `<` before the scene's file)",
-    about: "Step the pipeline on one thread by a schedule, and print the state of its belts",
+    about: "Step the line on one thread by a schedule, and print the state of its belts",
     notes: "\
-The TURNs are a schedule of the pipeline: each is a step of one member. 0 is the feeder, which has
-the lattice's rows. k is worker k, which takes rows from the belt before it and puts the rows of the
+The TURNs are a schedule of the line: each is a step of one member. 0 is the feeder, which has the
+lattice's rows. k is worker k, which takes rows from the belt before it and puts the rows of the
 next generation on the belt after it. A number above N is ignored. A step puts the next row, if the
 member has one and the belt has room. Otherwise it takes a row from the belt before, if there is one
 (a worker only if it has put all its rows). Otherwise it does nothing.
@@ -90,9 +91,14 @@ Example: fhpgas replay --generations 1 --stages 1 0 1 0 1 < scene.toml",
 
 pub(crate) const GENERATIONS: &str = "Generations (time steps) to compute: 0 to 1000000";
 
-pub(crate) const STAGES: &str = "Workers (pipeline stages), one generation each: 1 to 64";
+pub(crate) const STAGES: &str = "Workers of the line, one generation each: 1 to 64 [default: 4]";
 
-pub(crate) const CAPACITY: &str = "Rows in a belt, the queue between two workers: 1 to 1024";
+pub(crate) const CAPACITY: &str =
+    "Rows in a belt, the queue between two workers: 1 to 1024 [default: 2]";
+
+pub(crate) const THREADS: &str = "\
+Threads that share the workers: 1 to N [default: N]. With --threads
+the default N is 8 T, at most 64, and the default C 128";
 
 pub(crate) const BLOCK_WIDTH: &str = "Columns of cells in a block: 1 to 4096";
 

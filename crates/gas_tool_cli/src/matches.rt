@@ -1,9 +1,10 @@
 //! The request in the matches of `clap`: the subcommand, and the values of its options.
 
-ghost use Rattle.std.specs.Prelude.{IfOk, IfSome, Some, map, codes};
+ghost use Rattle.std.specs.Prelude.{◌≡◌, IfOk, IfSome, Some, map, codes};
 ghost use Rattle.std.specs.List.{AllZip};
 ghost use Rattle.clap.specs.Words.{found_of, rows_of, subcommand_rows_of};
-ghost use Rattle.gas_tool_cli.specs.Requests.{AreTurnsAt, IsNumber, IsPlanAt, IsRequestOf, IsSideAt};
+ghost use Rattle.gas_tool_cli.specs.Requests.{AreTurnsAt, IsGivenAt, IsNumber, IsPlanAt, IsRequestOf};
+ghost use Rattle.gas_tool_cli.specs.Requests.{IsSideAt, default_capacity, default_stages};
 
 use crate::command::MOST_BLOCK_SIDE;
 use crate::words::{Request, Turns};
@@ -34,16 +35,45 @@ struct PlanNumbers {
     generations: u64,
 }
 
-fn plan_of(options: &ArgMatches) -> Option<PlanNumbers>
-    ensures { IfSome result
-        (λ p. IsPlanAt (rows_of (found_of options.now)) p.stages p.capacity p.generations) }
+// The number of stages if none is given.
+fn default_stages(threads: Option<u32>) -> u32
+    ensures { result ≡ default_stages threads }
 {
-    let stages = options.get_one::<u32>("stages")?;
-    let capacity = options.get_one::<u32>("capacity")?;
+    match threads {
+        Some(threads) => 8 * threads.clamp(1, 8),
+        None => 4,
+    }
+}
+
+// The capacity if none is given.
+fn default_capacity(threads: Option<u32>) -> u32
+    ensures { result ≡ default_capacity threads }
+{
+    match threads {
+        Some(_) => 128,
+        None => 2,
+    }
+}
+
+// The number of an option, if it is given. None if its word is no number. That cannot happen,
+// because `clap` refuses such words.
+fn given(options: &ArgMatches, name: &str) -> Option<Option<u32>>
+    ensures { IfSome result (IsGivenAt (rows_of (found_of options.now)) name.now) }
+{
+    options.try_get_one::<u32>(name).ok()
+}
+
+// The plan on this number of threads, if one is given.
+fn plan_of(options: &ArgMatches, threads: Option<u32>) -> Option<PlanNumbers>
+    ensures { IfSome result (λ p. IsPlanAt (rows_of (found_of options.now)) threads
+        p.stages p.capacity p.generations) }
+{
+    let stages = given(options, "stages")?;
+    let capacity = given(options, "capacity")?;
     let generations = options.get_one::<u64>("generations")?;
     Some(PlanNumbers {
-        stages,
-        capacity,
+        stages: stages.unwrap_or(default_stages(threads)),
+        capacity: capacity.unwrap_or(default_capacity(threads)),
         generations,
     })
 }
@@ -63,24 +93,28 @@ fn side_of(options: &ArgMatches, name: &str) -> Option<u32>
 fn run_request(options: &ArgMatches) -> Option<Request>
     ensures { IfSome result (IsRequestOf (Some (codes "run", rows_of (found_of options.now)))) }
 {
-    let plan = plan_of(options)?;
+    let threads = given(options, "threads")?;
+    let plan = plan_of(options, threads)?;
     Some(Request::Run {
         stages: plan.stages,
         capacity: plan.capacity,
         generations: plan.generations,
+        threads,
     })
 }
 
 fn coarse_request(options: &ArgMatches) -> Option<Request>
     ensures { IfSome result (IsRequestOf (Some (codes "coarse", rows_of (found_of options.now)))) }
 {
-    let plan = plan_of(options)?;
+    let threads = given(options, "threads")?;
+    let plan = plan_of(options, threads)?;
     let block_width = side_of(options, "block-width")?;
     let block_height = side_of(options, "block-height")?;
     Some(Request::Coarse {
         stages: plan.stages,
         capacity: plan.capacity,
         generations: plan.generations,
+        threads,
         block_width,
         block_height,
     })
@@ -119,7 +153,7 @@ fn replay_request(alloc: Global, options: &ArgMatches) -> Result<Option<Request>
     ensures { IfOk result (λ r. IfSome r
         (IsRequestOf (Some (codes "replay", rows_of (found_of options.now))))) }
 {
-    let Some(plan) = plan_of(options) else {
+    let Some(plan) = plan_of(options, None) else {
         return Ok(None);
     };
     let Some(turns) = turns_of(alloc, options)? else {

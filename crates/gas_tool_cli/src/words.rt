@@ -20,8 +20,8 @@ use std::io;
 use std::marker::Model;
 use thiserror::Error;
 
-/// A schedule of a pipeline: the members that take a step, one after another. 0 is the feeder, and
-/// k is worker k.
+/// A schedule of a line: the members that take a step, one after another. 0 is the feeder, and k is
+/// worker k.
 #[derive(Debug, Drop)]
 pub struct Turns {
     list: Vec<u32>,
@@ -51,8 +51,8 @@ impl Turns {
     }
 }
 
-/// What the words of the command line ask for. Only the plan checks the limits of stages, capacity
-/// and generations.
+/// What the words of the command line ask for. Only the plan checks the limits of stages, capacity,
+/// generations and threads. Without `threads` each stage has a thread of its own.
 #[derive(Debug, Drop)]
 pub enum Request {
     /// Read the scene and print a summary of one line.
@@ -62,6 +62,7 @@ pub enum Request {
         stages: u32,
         capacity: u32,
         generations: u64,
+        threads: Option<u32>,
     },
     /// Compute generations and print a table of the lattice's blocks, `block_width` columns wide
     /// and `block_height` rows high.
@@ -69,11 +70,12 @@ pub enum Request {
         stages: u32,
         capacity: u32,
         generations: u64,
+        threads: Option<u32>,
         block_width: u32,
         block_height: u32,
     },
-    /// Let the members of a pipeline make these turns, in one pass on one thread, and print the
-    /// state of the pass.
+    /// Let the members of a line make these turns, in one pass on one thread, and print the state of
+    /// the pass.
     Replay {
         stages: u32,
         capacity: u32,

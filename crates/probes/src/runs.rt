@@ -91,6 +91,7 @@ fn perform_run<R: Threads + Wait + Sync>(threads: &R, alloc: Global) -> Made {
         stages: 2,
         capacity: 1,
         generations: 1,
+        threads: None,
     };
     let gate = Inside(AtomicU64::new(0));
     let mut page = ArrayVec::<u8, 64>::new();

@@ -69,7 +69,17 @@ fn byte_by_byte(rt: HostRuntime) -> Result<(), Fail> {
             RUN,
             "generation 11 particles 1\n........\n01......\n........\n",
         ),
+        (
+            DRIFT,
+            "fhpgas run --generations 1 --stages 2 --threads 1",
+            DRIFTED,
+        ),
         (ALONG_A_ROW, COARSE, TABLE),
+        (
+            ALONG_A_ROW,
+            "fhpgas coarse --generations 5 --block-width 8 --block-height 8 --threads 2",
+            TABLE,
+        ),
     ] {
         let out = Narrow::new(rt.alloc(), 1, 1000, End::Error);
         answers(&rt, rt.alloc(), (scene, words), out, answer)?;
@@ -165,7 +175,7 @@ fn is_refused<R: Abort + Threads + Wait + Sync>(
     Ok(())
 }
 
-// The scene's faults come before the plan's, and the plan's before the number of passes.
+// The scene's faults come before the plan's, the plan's threads last, before the number of passes.
 #[test]
 fn refusals(rt: HostRuntime) -> Result<(), Fail> {
     for (scene, words, line) in [
@@ -179,6 +189,21 @@ fn refusals(rt: HostRuntime) -> Result<(), Fail> {
             DRIFT,
             "fhpgas run --generations 1 --stages 0",
             "plan: stages must be 1 to 64",
+        ),
+        (
+            DRIFT,
+            "fhpgas run --generations 1 --threads 0",
+            "plan: threads must be 1 to the number of stages",
+        ),
+        (
+            DRIFT,
+            "fhpgas run --generations 1 --stages 3 --threads 4",
+            "plan: threads must be 1 to the number of stages",
+        ),
+        (
+            DRIFT,
+            "fhpgas coarse --generations 1000001 --block-width 1 --block-height 1 --threads 65",
+            "plan: generations must be 0 to 1000000",
         ),
         (
             DRIFT,

@@ -154,6 +154,7 @@ fn all_workers_of_a_request_meet(rt: HostRuntime) -> Result<(), Fail> {
         stages: 4,
         capacity: 1,
         generations: 5,
+        threads: None,
     };
     let cells = "generation 5 particles 1
 ..............
@@ -165,6 +166,7 @@ fn all_workers_of_a_request_meet(rt: HostRuntime) -> Result<(), Fail> {
         stages: 4,
         capacity: 1,
         generations: 5,
+        threads: None,
         block_width: 8,
         block_height: 8,
     };

@@ -1,6 +1,5 @@
 use Rattle.std.proofs.Common.{◌≡◌, ◌∙◌, ◌+◌, ℕ, List, Option, None, Ok, Result, ap, ap₂, sym, arith}
 use Rattle.gas_geom.specs.Lattice.{LatticeModel}
-use Rattle.gas_stage.specs.Evolution.{lattice_after}
 use Rattle.gas_stage.proofs.Additions.{lattice_after-add}
 use Rattle.gas_blocks.specs.Blocks.{blocks_of}
 use Rattle.gas_tool_io.specs.Table.{table_text}
@@ -23,13 +22,13 @@ printed print s m n one two accepted accepted2 =
     ∙ ap (λ (k : ℕ). unless_refused one (Ok (print (scene_after s (m + n)).lattice.lattice k))) (let e : s.generation + m + n ≡ s.generation + (m + n) = omega arith in e)
 
 pub returns-clause-cells : goal.returns-clause-cells
-returns-clause-cells c text later s m n stages capacity stages2 capacity2 here there accepted accepted2 =
-    ap (λ (r : Result SceneModel SceneError). scene_outcome r (Run stages2 capacity2 n)) there
+returns-clause-cells c text later s m n stages capacity stages2 capacity2 threads threads2 here there accepted accepted2 =
+    ap (λ (r : Result SceneModel SceneError). scene_outcome r (Run stages2 capacity2 n threads2)) there
     ∙ printed (cells_text (rules_of s.lattice.gas)) s m n _ _ accepted accepted2
-    ∙ sym (ap (λ (r : Result SceneModel SceneError). scene_outcome r (Run stages capacity (m + n))) here)
+    ∙ sym (ap (λ (r : Result SceneModel SceneError). scene_outcome r (Run stages capacity (m + n) threads)) here)
 
 pub returns-clause-table : goal.returns-clause-table
-returns-clause-table c text later s m n stages capacity stages2 capacity2 width height here there accepted accepted2 =
-    ap (λ (r : Result SceneModel SceneError). scene_outcome r (Coarse stages2 capacity2 n width height)) there
+returns-clause-table c text later s m n stages capacity stages2 capacity2 width height threads threads2 here there accepted accepted2 =
+    ap (λ (r : Result SceneModel SceneError). scene_outcome r (Coarse stages2 capacity2 n threads2 width height)) there
     ∙ printed (λ l k. table_text (blocks_of (rules_of s.lattice.gas) l width height)) s m n _ _ accepted accepted2
-    ∙ sym (ap (λ (r : Result SceneModel SceneError). scene_outcome r (Coarse stages capacity (m + n) width height)) here)
+    ∙ sym (ap (λ (r : Result SceneModel SceneError). scene_outcome r (Coarse stages capacity (m + n) threads width height)) here)
