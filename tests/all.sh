@@ -59,7 +59,7 @@ case $1 in
         gate
         part tests/wrong_bodies.py "$room/gate"
         part make -s AS_IS=1 engine
-        parts command_line.py help.py oracle.py golly.py reference.py terminal.py library.py archive.sh large_scenes.py scale.py \
+        parts command_line.py help.py version.py oracle.py golly.py reference.py terminal.py library.py archive.sh large_scenes.py scale.py \
             first_change.sh refusals.py
         package
         FHPGAS=$PWD/crates/fhpgas/out/fhpgas parts "${package[@]}"

@@ -28,7 +28,7 @@ from .fault import Fault
 from .program import Summary, check, plan, side_by_side, with_seed
 from .refusals import explain
 
-__version__ = "1.1.0"
+__version__ = "2.0.0"
 __all__ = ["Fault", "Summary", "check", "explain", "plan", "side_by_side", "with_seed"]
 
 if importlib.util.find_spec("numpy"):
