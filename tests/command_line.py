@@ -337,6 +337,15 @@ def scenes():
             )
 
 
+def cut_short():
+    """The first bytes of DRIFT, for each number of bytes: only whole lines are TOML, and only the whole map is a scene."""
+    ends = [at for at, mark in enumerate(DRIFT) if mark == "\n"]
+    whole = {0, *ends, *(end + 1 for end in ends)}
+    for length in range(len(DRIFT) + 1):
+        refusal = MISSING if length in whole else SYNTAX
+        yield DRIFT[:length], None if length >= ends[-1] else refusal
+
+
 def rectangles():
     """The texts with rectangles, the lines of `check` and the printed cells."""
     for keys in RECTANGLES:
@@ -466,7 +475,7 @@ def programs():
     yield from ((words, DRIFT, 2, "", SOMETHING) for words in usage())
     yield from ((words.split(), DRIFT, *wanted) for words, *wanted in WORDS)
     yield ["run", "--generations", "1", "--stages", "0"], "", 1, "", MISSING + "\n"
-    for text, wanted in scenes():
+    for text, wanted in itertools.chain(scenes(), cut_short()):
         yield (["check"], text, 1, "", wanted + "\n") if wanted else (
             ["check"],
             text,

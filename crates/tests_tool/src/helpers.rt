@@ -5,7 +5,6 @@
 use gas_geom::gas::Gas;
 use gas_pipe::NoGate;
 use gas_rows::lattice::Lattice;
-use gas_scene::error::SceneError;
 use gas_scene::scene::{Scene, read};
 use gas_scene::with_lattice;
 use gas_tool::{Request, ToolError, parse_words, perform};
@@ -134,11 +133,6 @@ pub(super) fn perform_words<R: Abort + Threads + Wait + Sync>(
         return Err(Fail::new("no request"));
     };
     Ok(perform(rt, alloc, scene.as_bytes(), &request, &NoGate, out))
-}
-
-/// Why a text is refused, or None if it is a scene.
-pub(super) fn refusal(alloc: Global, text: &[u8]) -> Option<SceneError> {
-    read(alloc, text).err()
 }
 
 // Appends a cell as two characters.

@@ -16,8 +16,6 @@ mod perform;
 #[cfg(test)]
 mod program;
 #[cfg(test)]
-mod refusals;
-#[cfg(test)]
 mod scenes;
 #[cfg(test)]
 mod words;
