@@ -123,6 +123,9 @@ WORDS = [
             "--generations +1",
             "--capacity 1 --stages=64 --generations 1",
             "--threads=3 --stages 5 --capacity 1 --generations 1",
+            "--threads 2 --generations 1",
+            "--threads 2 --stages 2 --generations 1",
+            "--threads 1 --capacity 1 --generations 1",
         )
     ),
     # threads are refused last
@@ -432,14 +435,23 @@ def many_turns():
         yield words[:-1], scene, 0, f"not done\n{belts}{rows - 1}\n", ""
 
 
+def on_threads(words):
+    """The words, and of a run also with its workers on one thread, on two, and each on its own."""
+    yield words
+    if words[0] in ("run", "coarse"):
+        given = dict(zip(words[1::2], words[2::2]))
+        stages = given.get("--stages", "4")
+        yield from ([*words, "--threads", threads] for threads in ("1", "2"))
+        yield [*words, *([] if "--stages" in given else ["--stages", stages]), "--threads", stages]
+
+
 def examples():
     """The worked examples: NAME.toml, or else the scene of that name, with the words NAME.words prints NAME.wanted."""
     for wanted in sorted((needs.ROOT / "tests/examples").glob("*.wanted")):
         own = wanted.with_suffix(".toml")
         scene = own if own.exists() else needs.ROOT / "scenes" / own.name
-        yield wanted.with_suffix(
-            ".words"
-        ).read_text().split(), scene.read_text(), 0, wanted.read_text(), ""
+        for words in on_threads(wanted.with_suffix(".words").read_text().split()):
+            yield words, scene.read_text(), 0, wanted.read_text(), ""
 
 
 def stored():
