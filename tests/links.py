@@ -137,7 +137,7 @@ def help_and_formats():
     commands = re.findall(
         r"^\| `(\w+)` \|", formats.split("## The command line")[1].split("\n\n## ")[0], re.M
     )
-    return (re.findall(r'usage: "fhpgas ([a-z]+)', help_text), commands), (told, columns)
+    return (re.findall(r'usage: "(?:\\\n)?fhpgas ([a-z]+)', help_text), commands), (told, columns)
 
 
 def faults_of_sources():

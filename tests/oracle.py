@@ -1,7 +1,7 @@
 #!/usr/bin/env python3
 """Compares the built program with C programs that compute the same lattices in other ways, on twenty random maps with obstacles:
 tests/oracles/bytes.c, cell by cell from tables, for every gas, and tests/oracles/bands.c, on bit planes cut into bands, for FHP-I. The gases, chiralities,
-sizes, first generations and pipelines take turns, and seeds are fixed. All must print the same bytes. Ends with the counts."""
+sizes, first generations and plans take turns, and seeds are fixed. All must print the same bytes. Ends with the counts."""
 
 import concurrent.futures
 import itertools
@@ -31,16 +31,16 @@ SIZES = [
     (65, 2),
     (6500, 64),
 ]
-PIPELINES = [
-    (1, 1),
-    (4, 2),
-    (3, 1024),
-    (64, 1),
-    (16, 128),
-    (2, 8),
-    (7, 33),
-    (33, 3),
-]  # stages, and places per belt
+PLANS = [
+    (1, 1, 1),
+    (4, 2, 4),
+    (3, 1024, 2),
+    (64, 1, 5),
+    (16, 128, 4),
+    (2, 8, 1),
+    (7, 33, 3),
+    (33, 3, 33),
+]  # stages, places per belt, and threads
 GENERATIONS = range(150, 500)
 
 
@@ -80,7 +80,8 @@ def fault(number, room):
     rng = random.Random(number)
     (gas, directions), chirality = list(itertools.product(GASES.items(), CHIRALITIES))[number % 9]
     width, height = SIZES[number % len(SIZES)]
-    stages, capacity = PIPELINES[number % len(PIPELINES)]
+    stages, capacity, threads = PLANS[number % len(PLANS)]
+    plan = ["--stages", stages, "--capacity", capacity, "--threads", threads]
     first, seed, generations = (
         rng.choice([0, 1, 2**32 - 100, 10**12]),
         rng.randrange(2**63),
@@ -89,7 +90,7 @@ def fault(number, room):
     rows = drawn(rng, width, height, directions)
     keys = f'version = 2\ngas = "{gas}"\nchirality = "{chirality}"\nseed = {seed}\ngeneration = {first}\n'
     ours = printed(
-        [PROGRAM, "run", "--generations", generations, "--stages", stages, "--capacity", capacity],
+        [PROGRAM, "run", "--generations", generations, *plan],
         f"{keys}cells = {rows}\n",
     )
     word = seed if chirality == "seeded" else chirality
@@ -99,7 +100,7 @@ def fault(number, room):
     start = "\n".join([f"generation {first} particles 0", *rows, ""])
     wrong = [words[0].name for words in programs if printed(words, start) != ours]
     return (
-        f"map {number}: {gas}, {chirality}, {width} x {height}, {generations} generations, {stages} stages: {wrong}"
+        f"map {number}: {gas}, {chirality}, {width} x {height}, {generations} generations, {stages} stages, {threads} threads: {wrong}"
         if wrong
         else None
     )

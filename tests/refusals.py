@@ -38,13 +38,16 @@ REQUESTS = [
     ("square", "check"),
     ("drift", "run --help"),
 ]
-# Of runs whose memory is compared: a gas, its sizes, workers and places.
+# Of runs whose memory is compared: a gas, its sizes, workers, places and threads.
 PLANS = [
-    ("hpp", 1000, 300, 1, 1),
-    ("fhp1", 4096, 512, 4, 2),
-    ("fhp-rest", 65, 2000, 8, 128),
-    ("fhp1", 65536, 8, 3, 16),
-    ("hpp", 1, 6000, 64, 1024),
+    ("hpp", 1000, 300, 1, 1, 1),
+    ("fhp1", 4096, 512, 4, 2, 4),
+    ("fhp1", 4096, 512, 4, 2, 3),
+    ("fhp-rest", 65, 2000, 8, 128, 8),
+    ("fhp-rest", 65, 2000, 8, 128, 1),
+    ("fhp1", 65536, 8, 3, 16, 3),
+    ("hpp", 1, 6000, 64, 1024, 64),
+    ("hpp", 1, 6000, 64, 1024, 5),
 ]
 REST = 100_000  # bytes for the scene's text, the words and what is printed
 passed = 0
@@ -146,13 +149,15 @@ def holds_places(library, scene, row_bytes):
         )
 
 
-def stated(gas, width, height, stages, capacity):
+def stated(gas, width, height, stages, capacity, threads):
     """The bytes of two lattices, and those of belts and workers, by docs/PERFORMANCE.md."""
     directions = {"hpp": 4, "fhp1": 6, "fhp-rest": 7}[gas]
     plane = -(-width // 64) * 8
     lattices = 2 * height * ((directions + 1) * plane + 256)
     row = directions * plane + 256
-    belts = (stages + 1) * (capacity * directions * plane + 3 * row + 8192) + stages * 3 * row
+    within = stages + 1 - threads if threads < stages else 0  # belts
+    places = (stages + 1 - within) * capacity + within * min(16, capacity)
+    belts = places * directions * plane + (stages + 1) * (3 * row + 8192) + stages * 3 * row
     return lattices, belts
 
 
@@ -160,13 +165,13 @@ def asks_for_no_more(library, room):
     """A run never holds more than the page on memory states for its size and plan, nor asks for more at once than for a lattice or for
     the belts. The scene's text, the words and what is printed take the rest."""
     for plan in PLANS:
-        gas, width, height, stages, capacity = plan
+        gas, width, height, stages, capacity, threads = plan
         scene = f"{room}/area"
         with open(scene, "w") as text:
             text.write(
                 f'version = 2\ngas = "{gas}"\nwidth = {width}\nheight = {height}\nrate = 300\n'
             )
-        words = f"run --generations {2 * stages} --stages {stages} --capacity {capacity}"
+        words = f"run --generations {2 * stages} --stages {stages} --capacity {capacity} --threads {threads}"
         lattices, belts = stated(*plan)
         ended = Ended(library, [PROGRAM, *words.split()], scene, {})
         count(ended.status == 0, f"{plan}: {ended}")

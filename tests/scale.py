@@ -1,5 +1,5 @@
 #!/usr/bin/env python3
-"""Runs the built program on inputs, tables and pipelines of the largest kinds. Every answer is known beforehand: from another text of the
+"""Runs the built program on inputs, tables and lines of the largest kinds. Every answer is known beforehand: from another text of the
 same lattice, from a C program, or because a full channel stays full. What needs more memory than is free is left out, and the last line
 says so. Ends with the counts."""
 
@@ -118,7 +118,7 @@ def many_blocks(room):
     yield "a table of 2,102,491 blocks", table.partition("\n")[2] == lines
 
 
-def long_pipeline(room):
+def long_line(room):
     """Thousands of rows are under way between 64 workers, in three passes."""
     (room / "area").write_text(
         'version = 2\ngas = "fhp1"\nseed = 9\nwidth = 70\nheight = 6000\nrate = 300\n'
@@ -130,12 +130,11 @@ def long_pipeline(room):
         capture_output=True,
         check=True,
     ).stdout
-    ours = answer(["run", "--generations", 150, "--stages", 64, "--capacity", 1024], room / "area")
-    yield "6,000 rows through 64 workers with 1,024 places", ours == (
-        0,
-        by_c(room, [150, 9, "fhp1"], start),
-        "",
-    )
+    wanted = 0, by_c(room, [150, 9, "fhp1"], start), ""
+    plan = ["--stages", 64, "--capacity", 1024]
+    for threads in 64, 7:
+        ours = answer(["run", "--generations", 150, *plan, "--threads", threads], room / "area")
+        yield f"6,000 rows through 64 workers with 1,024 places on {threads} threads", ours == wanted
 
 
 def many_passes(room):
@@ -172,7 +171,7 @@ PARTS = {
     many_blocks: 2 * GIGABYTE,
     many_passes: GIGABYTE,
     many_turns: GIGABYTE,
-    long_pipeline: 4 * GIGABYTE,
+    long_line: 4 * GIGABYTE,
 }
 
 
