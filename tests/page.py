@@ -340,7 +340,7 @@ def seeded(page):
 def cells(page):
     """Single cells, and half steps. A scene that is refused. Files."""
     page.open(KNOWN)
-    page.wait("head.width === 6 && head.cells && !motion.isOn && !shown.unseen")
+    page.wait("head.width === 6 && head.cells && !motion.isOn && !shown.queue.length")
     alone, meets, fluid = (
         page.pixel(-0.28, 0),
         page.pixel(1.5 + 0.28, 0.866),
@@ -430,7 +430,7 @@ def address(page):
     page.js(
         "window.kept = requestAnimationFrame, window.requestAnimationFrame = () => 0; fhpgas.live.isScheduled = false"
     )
-    page.wait("shown.unseen === 2")  # as many as the worker sends ahead
+    page.wait("shown.queue.length === 2")  # as many as the worker sends ahead
     first = page.js("return head.generation")
     time.sleep(0.5)
     check("a page that is not painted rests", page.js("return head.generation") == first)

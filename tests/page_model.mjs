@@ -44,7 +44,7 @@ function history(number) {
       const stroke = new Stroke();
       stroke.add(flow, { from: place(), to: place(), radius: 1 + random.below(4), solid: random.chance() < 0.7 });
       strokes.push(stroke);
-    } else if (kind === 4) dense(flow, place(), 1 + random.below(5));
+    } else if (kind === 4) dense(flow, { at: place(), radius: 1 + random.below(5) });
     else if (kind === 5) flipOne(flow, place());
     else if (kind === 6) strokes.pop()?.undo(flow);
     else if (kind === 7 && gas.isHexagonal) flow.setChirality(random.of(["left", "right"]));
@@ -69,7 +69,7 @@ tried("a way back that was cut", () => {
   const flow = drawn(make, { gas: "fhp1", chirality: "left", width: 128, height: 64, filling: 0.2, wind: 0.1, keep: true, shape: "porous", radius: 4, seed: "3" });
   flow.history.most = 20000;
   flow.advance(300);
-  const { origin } = flow.history;
+  const { origin: { generation: origin } } = flow.history;
   flow.turn();
   flow.advance(1000);
   check("a way back that was cut", origin > 0 && flow.generation === origin && flow.found === 0 && flow.notes.some((note) => note.includes("64 MB")),
@@ -92,7 +92,7 @@ const porous = { gas: "fhp1", chirality: "left", width: 256, height: 128, fillin
 const atPace = (pace) => {
   const flow = drawn(make, porous);
   for (let g = 0; g < 400; g += pace) flow.advance(pace);
-  return [flow.drive.velocity.value, flow.drive.force.value];
+  return [flow.drive.velocity.found, flow.drive.force.found];
 };
 tried("porous flow", () => {
   const forces = [1, 10, 200].map(atPace);
@@ -136,7 +136,7 @@ tried("the program's sums of the same cells", () => {
   near("v", frame.v, (py * Math.sqrt(3)) / 2 / particles, 1e-9);
   near("the force", frame.force, (2 * kicks) / fluid, 1e-9);
   near("filling", frame.middle, 0.18, 0.003);
-  near("blocked part", frame.measured.blockage, 22 / (128 * Math.sqrt(0.75)), 0.02);
+  near("blocked part", frame.blockage, 22 / (128 * Math.sqrt(0.75)), 0.02);
 });
 
 // a flow that is one cell per generation ahead of a plate, and rests elsewhere
@@ -146,9 +146,9 @@ tried("a flow ahead of a plate", () => {
   flow.cells.fill(Uint8Array.from({ length: 256 * 64 }, (_, at) => (isPlate(at) ? SOLID : isAhead(at) ? 0x01 : 0x09)));
   flow.begin();
   const frame = frameOf(flow);
-  near("incoming speed", frame.measured.incoming, 1, 1e-6);
+  near("incoming speed", frame.incoming, 1, 1e-6);
   near("fastest block", frame.fastest, 1, 1e-6);
-  near("blocked part of a plate", frame.measured.blockage, 15 / 64, 1e-9);
+  near("blocked part of a plate", frame.blockage, 15 / 64, 1e-9);
 });
 
 // -- the probe

@@ -7,14 +7,16 @@ const FLAT = { "1024 x 512": "1024 x 384", "512 x 256": "512 x 192" };
 const MOST_RUNS = 8000; // letters of what was drawn
 const OF_PRESET = ["chirality", "fill", "wind", "radius", "pace", "smooth", "span", "keep"];
 const CONTROLS = [...OF_PRESET, "gas", "size", "seed", "length", "tracers"];
+let written = ""; // by the page
 
-/** The value of a control as text. @param {string} id */
-const valueOf = (id) => ($(id).type === "checkbox" ? String($(id).checked) : $(id).value);
+const valueOf = (id) => String($(id)[$(id).type === "checkbox" ? "checked" : "value"]);
 
-/** Sets a control. @param {string} id @param {string | number | boolean} value */
+/** Sets a control, if it has this value. */
 export function setControl(id, value) {
-  if ($(id).type === "checkbox") $(id).checked = String(value) === "true";
-  else $(id).value = String(value);
+  const control = $(id), before = control.value;
+  if (control.type === "checkbox") control.checked = String(value) === "true";
+  else control.value = String(value);
+  if (!control.value) control.value = before;
 }
 
 /** The state of the controls, the field, the place that one looks at, and the probe. */
@@ -22,31 +24,28 @@ export function stateText() {
   const state = new URLSearchParams({ scene: $("scene").value, field: chosen.field });
   for (const id of CONTROLS) state.set(id, valueOf(id));
   const rounded = (values) => values.map((value) => Number(value.toFixed(2))).join(" ");
-  if (look.place && !look.isWhole) state.set("at", rounded([look.place.x, look.place.y, look.place.scale]));
+  if (!look.isWhole) state.set("at", rounded([look.place.x, look.place.y, look.place.scale]));
   if (marks.probe) state.set("probe", rounded([...marks.probe.at, marks.probe.radius]));
   return state.toString();
 }
 
-/** Sets the controls by a preset, and by a state. Returns what of the state is no control's. @param {string} text */
+/** Sets the controls by a preset, and by a state. Returns what of the state is no control's. */
 export function applyState(text) {
-  const state = new URLSearchParams(text), name = state.get("scene") ?? "";
-  if (name in PRESETS) $("scene").value = name;
+  const state = new URLSearchParams(text);
+  setControl("scene", state.get("scene") ?? $("scene").value);
   const preset = PRESETS[$("scene").value];
   for (const id of OF_PRESET) setControl(id, preset[id]);
   setControl("gas", preset.gases[0]);
-  const size = (innerHeight > innerWidth && preset.tall) || (innerHeight < LOW && FLAT[preset.size]) || preset.size;
-  setControl("size", size);
+  const flat = innerHeight < LOW ? FLAT[preset.size] : undefined;
+  setControl("size", innerHeight > innerWidth ? preset.tall : flat ?? preset.size);
   chosen.field = state.get("field") ?? preset.field;
   for (const id of CONTROLS) if (state.has(id)) setControl(id, state.get(id) ?? "");
-  const lists = { gas: preset.gases[0], chirality: preset.chirality, size, pace: preset.pace };
-  for (const [id, value] of Object.entries(lists)) if (!$(id).value) setControl(id, value);
   const numbers = (key) => state.get(key)?.split(" ").map(Number) ?? null;
   return { hasLength: state.has("length"), at: numbers("at"), probe: numbers("probe"), runs: state.get("runs") ?? "" };
 }
 
-const written = { hash: "" };
 /** Whether the address is another than the page wrote. */
-export const isForeign = () => location.hash !== written.hash;
+export const isForeign = () => location.hash !== written;
 
 /** Whether what was drawn has room in an address. */
 export const isShort = () => head().runs.length < MOST_RUNS;
@@ -54,7 +53,7 @@ export const isShort = () => head().runs.length < MOST_RUNS;
 /** Writes the state, and what was drawn, into the address, without a step of the history. */
 export function writeAddress() {
   const { runs } = head(), hash = `#${stateText()}${runs && isShort() ? `&runs=${runs}` : ""}`;
-  if (hash === written.hash) return;
+  if (hash === written) return;
   location.replace(hash);
-  written.hash = location.hash;
+  written = location.hash;
 }

@@ -1,11 +1,7 @@
 // The way back of a flow: all particles are turned, and what was done to the cells is undone.
 import { OTHER, SOLID } from "./gases.js";
 import { collideAll, turnAll } from "./kernel.js";
-
-/**
- * @typedef {import("./flow.js").Flow} Flow
- * @typedef {import("./history.js").Flip} Flip
- */
+import { count } from "./numbers.js";
 
 /**
  * All particles are turned. A generation collides and then moves, backwards it moves and then collides: so particles
@@ -21,47 +17,59 @@ export function reverse(flow) {
   flow.direction *= -1;
 }
 
-/** On the way back: undoes what was done in this generation. @param {Flow} flow */
+/** On the way back: undoes what was done in this generation. */
 export function undo(flow) {
-  const { history } = flow;
-  while (!history.isEmpty && history.lastGeneration === flow.generation && history.top.generations.length) {
-    const flips = history.pop();
-    if (flow.isDisturbed) undoWalls(flow, flips);
-    else undoFlips(flow, flips);
-    if (flips.some(({ bits }) => bits & SOLID)) flow.kernel.wallsChanged();
-  }
-}
-
-/** Cell by cell, since a collision and a turn need no neighbours. @param {Flow} flow @param {Flip[]} flips */
-function undoFlips(flow, flips) {
-  const { turned, cells } = flow;
-  for (const { place, bits, turning } of flips) {
+  for (let patch; (patch = flow.history.pop(flow.generation)); ) {
+    const { flips, turning } = patch;
     if (turning) turnOtherwise(flow, turning);
-    else {
-      const state = cells.state(place), before = flow.sideOf(flow.chirality)[turned[state]] ^ bits;
-      cells.flip(place, state ^ turned[flow.sideOf(OTHER[flow.chirality])[before]]);
-    }
+    else if (flow.isDisturbed) undoWalls(flow, flips);
+    else undoFlips(flow, flips);
+    if (flips.some((flip) => flip & SOLID)) flow.kernel.wallsChanged();
   }
 }
 
-/** Before this generation pairs turned otherwise. @param {Flow} flow @param {import("./gases.js").Chirality} turning */
+/** Before this generation pairs turned otherwise. */
 function turnOtherwise(flow, turning) {
   reverse(flow);
   flow.chirality = turning;
   reverse(flow);
 }
 
-/**
- * Once cells have been disturbed, the particles that an edit moved are others, and only its obstacles are undone.
- * @param {Flow} flow @param {Flip[]} flips
- */
+/** Cell by cell, since a collision and a turn need no neighbours. */
+function undoFlips({ turned, cells, chirality, sides }, flips) {
+  const [side, other] = chirality === "right" ? [sides.right, sides.left] : [sides.left, sides.right];
+  for (const flip of flips.reverse()) {
+    const place = Math.floor(flip / 256), state = cells.state(place), before = side[turned[state]] ^ flip & 255;
+    cells.flip(place, state ^ turned[other[before]]);
+  }
+}
+
+/** Once cells have been disturbed, the particles that an edit moved are others, and only its obstacles are undone. */
 function undoWalls(flow, flips) {
-  const { cells } = flow, walls = flips.filter(({ bits }) => bits & SOLID).map(({ place }) => place);
-  flips.forEach(({ turning }) => turning && turnOtherwise(flow, turning));
+  const walls = flips.filter((flip) => flip & SOLID).map((flip) => Math.floor(flip / 256));
   if (!walls.length) return;
   reverse(flow);
-  const isSolid = (at) => cells.state(at) === SOLID, drawn = walls.filter((at) => !isSolid(at));
-  walls.filter(isSolid).forEach((at) => cells.flip(at, SOLID));
-  cells.occupied(drawn)?.flips.forEach((bits, at) => cells.flip(at, bits));
+  flow.cells.rebuilt(walls)?.flips.forEach((bits, at) => flow.cells.flip(at, bits));
   reverse(flow);
+}
+
+/** Some generations back, to the start at most. */
+export function recede(flow, wanted) {
+  const { history, generation: first } = flow;
+  while (first - flow.generation < wanted) {
+    const next = Math.max(first - wanted, history.last?.generation ?? history.origin.generation);
+    flow.run(flow.generation - next);
+    undo(flow);
+    if (flow.generation <= history.origin.generation) return arrive(flow);
+  }
+}
+
+/** The gas is back where the way back ends, and compares its cells. */
+function arrive(flow) {
+  const { isCut, origin: { generation, kept } } = flow.history;
+  const begins = `The way back begins at generation ${count(generation)}`;
+  if (isCut) flow.notes.push(`${begins}: what was done before took more than 64 MB.`);
+  flow.turn();
+  flow.found = flow.cells.differing(kept);
+  flow.begin();
 }

@@ -1,14 +1,13 @@
 // The chart of the probe.
-import { contextOf, count, line, nice, round, theme, write } from "./draw.js";
-import { strouhal } from "./numbers.js";
+import { contextOf, line, nice, theme, write } from "./draw.js";
+import { count, round, strouhal } from "./numbers.js";
 import { LEAST_PERIODS, periodOf } from "./probe.js";
 import { $, amount, head, marks } from "./state.js";
 
 const U = "#2b8cd6", V = "#e0702a", PATIENCE = 500; // milliseconds between two searches for a period
-/** @type {{ at: number, samples: object[], period: import("./probe.js").Period | null }} */
-const found = { at: 0, samples: marks.samples, period: null };
+const found = { at: 0, samples: marks.samples, period: /** @type {ReturnType<typeof periodOf>} */ (null) };
 
-/** The period of the probe's flow across, searched for now and then. @param {number} turnover */
+/** The period of the probe's flow across, searched for now and then. */
 function periodNow(turnover) {
   const now = performance.now();
   if (now - found.at > PATIENCE || found.samples !== marks.samples) {
@@ -17,28 +16,27 @@ function periodNow(turnover) {
   return found.period;
 }
 
-/** What the chart says. @param {import("./numbers.js").Numbers} numbers @returns {[text: string, colour?: string][]} */
-export function linesOf(numbers) {
+function linesOf(numbers) {
   const { g, turnover, speed } = numbers;
-  const { blockage, incoming } = head().measured, radius = marks.probe?.radius ?? 0, length = amount("length");
-  const period = g && turnover ? periodNow(turnover) : null, percent = `${Math.round(100 * blockage)} %`;
-  /** @type {[string, string?][]} */
-  const lines = [["u, east", U], ["v, north", V], [`of a disc of ${round(2 * radius)} cells`]];
-  if (!period || !g) lines.push([`no period yet: ${LEAST_PERIODS} alike are asked for`]);
+  const { blockage, incoming } = head(), radius = marks.probe?.radius ?? 0, length = amount("length");
+  const period = g && turnover ? periodNow(turnover) : null;
+  const lines = [`of a disc of ${round(2 * radius)} cells`];
+  if (!period || !g) lines.push(`no period yet: ${LEAST_PERIODS} alike are asked for`);
   else {
-    const part = period.error / period.period, met = period.incoming ?? incoming;
-    const numberOf = (by) => strouhal(length, period.period, g, by);
-    const shown = (by) => `${numberOf(by).toFixed(3)} ± ${(numberOf(by) * part).toFixed(3)}`;
-    lines.push([`T = ${count(Math.round(period.period))} ± ${round(period.error, 2)} (${period.count} periods)`]);
-    lines.push([`St = ${shown(speed)} of the mean u`]);
-    if (met) lines.push([`St = ${shown(met)} of the incoming ${met.toFixed(3)}`]);
+    const met = period.incoming ?? incoming, shown = (by) => {
+      const number = strouhal(length, period.period, g, by);
+      return `St = ${number.toFixed(3)} ± ${((number * period.error) / period.period).toFixed(3)}`;
+    };
+    lines.push(`T = ${count(Math.round(period.period))} ± ${round(period.error, 2)} (${period.count} periods)`);
+    lines.push(`${shown(speed)} of the mean u`);
+    if (met) lines.push(`${shown(met)} of the incoming ${met.toFixed(3)}`);
   }
-  return [...lines, [`the obstacle blocks ${percent} of the channel`]];
+  return [...lines, `the obstacle blocks ${Math.round(100 * blockage)} % of the channel`];
 }
 
-/** @param {import("./numbers.js").Numbers} numbers */
+/** @param {ReturnType<import("./numbers.js").numbersOf>} numbers */
 export function paintChart(numbers) {
-  const { samples } = marks, canvas = /** @type {HTMLCanvasElement} */ ($("chart"));
+  const { samples } = marks, canvas = $("chart");
   canvas.hidden = !marks.probe;
   if (!marks.probe || !samples.length) return;
   const { width, height, context: c } = contextOf(canvas, true), words = Math.min(270, width / 2);
@@ -58,9 +56,10 @@ export function paintChart(numbers) {
   for (let at = Math.ceil(first / ticks) * ticks; at <= last; at += ticks) {
     write(c, count(at), X(at), box.bottom + 18, { font: "13px", align: "center" });
   }
-  line(c, samples.map(({ generation, u }) => [X(generation), Y(u)]), U, 2);
-  line(c, samples.map(({ generation, v }) => [X(generation), Y(v)]), V, 2);
-  linesOf(numbers).forEach(([text, colour], k) => {
-    write(c, text, box.right + 12, box.top + 14 + 21 * k, { font: k < 2 ? "600 14px" : "14px", colour });
+  const say = (text, k, more = {}) => write(c, text, box.right + 12, box.top + 14 + 21 * k, { font: "14px", ...more });
+  [["u", "u, east", U], ["v", "v, north", V]].forEach(([part, text, colour], k) => {
+    line(c, samples.map((sample) => [X(sample.generation), Y(sample[part])]), colour, 2);
+    say(text, k, { font: "600 14px", colour });
   });
+  linesOf(numbers).forEach((text, k) => say(text, k + 2));
 }

@@ -2,10 +2,10 @@
 import { $, element, setText } from "./state.js";
 
 /**
- * @typedef {"button" | "list" | "range" | "number" | "check"} Kind
- * @typedef {{ id: string, key: string, label: string, kind: Kind, style?: string, act?: () => void, isLate?: boolean,
- *   options?: [value: string, text: string][], attributes?: Record<string, string | number>,
- *   said?: (value: number) => string, isPressed?: () => boolean, isOff?: () => boolean, text?: () => string }} Control
+ * @typedef {{ id: string, key: string, label: string, kind: "button" | "list" | "range" | "number" | "check",
+ *   style?: string, act?: () => void, isLate?: boolean, options?: string[][],
+ *   attributes?: Record<string, string | number>, said?: (value: number) => string, isPressed?: () => boolean,
+ *   isOff?: () => boolean, text?: () => string }} Control
  *   a slider that `isLate` acts when it is let go; `said` are the words for a value, `text` is a label that changes
  * @typedef {{ title: string, place: string, controls: Control[] }} Group
  */
@@ -15,9 +15,8 @@ let isByPointer = false; // what was used last
 
 /** @param {Control} control */
 function made({ id, key, label, kind, style = "", options = [], attributes = {} }) {
-  const shortcut = element("kbd", { "aria-hidden": "true" }, KEY_NAMES[key] ?? key);
-  const name = element("span", {}, label), shortcuts = key === " " ? "Space" : key;
-  const own = { id, "aria-label": label, "aria-keyshortcuts": shortcuts };
+  const shortcut = element("kbd", { "aria-hidden": "true" }, KEY_NAMES[key] ?? key), name = element("span", {}, label);
+  const own = { id, "aria-label": label, "aria-keyshortcuts": key === " " ? "Space" : key };
   if (kind === "button") return element("button", { ...own, class: style, type: "button" }, name, shortcut);
   const list = options.map(([value, text]) => element("option", { value }, text));
   const type = kind === "check" ? "checkbox" : kind;
@@ -25,7 +24,7 @@ function made({ id, key, label, kind, style = "", options = [], attributes = {} 
   return element("label", { for: id }, element("span", {}, name, shortcut), input, element("output", { for: id }));
 }
 
-/** Makes the controls, and lets them act. @param {Group[]} groups @param {() => void} changed */
+/** Makes the controls, and lets them act. */
 export function makeControls(groups, changed) {
   for (const { title, place, controls } of groups) {
     const group = title ? element("fieldset", {}, element("legend", {}, title)) : $(place);
@@ -46,40 +45,36 @@ export function makeControls(groups, changed) {
   return all;
 }
 
-/** Shows what the controls say. @param {Control[]} controls */
+/** Changes an attribute, if it has another value: what does not change is not laid out again. */
+const set = (control, name, value) => control.getAttribute(name) === value || control.setAttribute(name, value);
+
 export function showControls(controls) {
   for (const { id, kind, said, isPressed, isOff, text } of controls) {
-    const control = $(id);
-    if (said && kind !== "button") {
-      const words = said(Number(control.value));
-      setText(control.nextElementSibling, words);
-      control.setAttribute("aria-valuetext", words);
-    }
-    if (isPressed) control.setAttribute("aria-pressed", String(isPressed()));
+    const control = $(id), words = text?.() ?? said?.(Number(control.value)) ?? "";
+    if (isPressed) set(control, "aria-pressed", String(isPressed()));
     if (isOff) control.disabled = isOff();
-    if (text && control.getAttribute("aria-label") !== text()) {
-      setText(control.firstChild, text());
-      control.setAttribute("aria-label", text());
+    if (text || said) {
+      setText(kind === "button" ? control.firstChild : control.nextElementSibling, words);
+      set(control, kind === "button" ? "aria-label" : "aria-valuetext", words);
     }
   }
 }
 
 /** Keys: a button is pressed, a list or slider moves on, or back with Shift. */
 function press(control, isBack) {
-  if (control.tagName === "BUTTON" || control.type === "checkbox") return control.click();
-  if (control.type === "number") return control.select();
-  const { length, selectedIndex } = control;
-  if (control.tagName === "SELECT") control.selectedIndex = (selectedIndex + (isBack ? length - 1 : 1)) % length;
+  const { length, selectedIndex, tagName, type } = control;
+  if (tagName === "BUTTON" || type === "checkbox") return control.click();
+  if (type === "number") return control.select();
+  if (tagName === "SELECT") control.selectedIndex = (selectedIndex + (isBack ? length - 1 : 1)) % length;
   else control[isBack ? "stepDown" : "stepUp"]();
-  control.dispatchEvent(new Event("input"));
-  control.dispatchEvent(new Event("change"));
+  for (const kind of ["input", "change"]) control.dispatchEvent(new Event(kind));
 }
 
-/** Whether a focused control wants a key for itself. @param {any} target @param {string} key */
+/** Whether a focused control wants a key for itself. */
 function isOwn({ tagName, type }, key) {
   if (tagName === "BUTTON" || type === "checkbox") return key === " " || key === "Enter";
   if (tagName === "SELECT") return key !== "Escape";
-  return type === "range" && /^(Arrow|Page|Home|End)/.test(key);
+  return type === "number" || (type === "range" && /^(Arrow|Page|Home|End)/.test(key));
 }
 
 /** @param {Map<string, string>} keys the controls' ids */
@@ -87,18 +82,18 @@ function listen(keys) {
   document.addEventListener("pointerdown", () => (isByPointer = true), true);
   document.addEventListener("keydown", (event) => {
     const { key, target, shiftKey } = event, focused = /** @type {any} */ (target);
+    const hasControl = event.ctrlKey || event.metaKey;
     isByPointer = false;
     if (key === "Escape" || (key === "Enter" && focused.type === "number")) return void focused.blur();
-    const isTyping = focused.type === "number" || isOwn(focused, key);
-    const isUndo = key.toLowerCase() === "z" && (event.ctrlKey || event.metaKey);
-    if (isTyping || event.altKey || (!isUndo && (event.ctrlKey || event.metaKey))) return;
+    const isUndo = key.toLowerCase() === "z" && hasControl;
+    if (isOwn(focused, key) || event.altKey || (hasControl && !isUndo)) return;
     const id = isUndo ? "undo" : keys.get(key) ?? keys.get(key.toLowerCase());
     if (!id) return;
     event.preventDefault();
     if (!$(id).disabled) press($(id), shiftKey);
   });
   // a control that the mouse used must not take the keys
-  const leave = ({ target }) => isByPointer && target.closest?.("button, select, input")?.blur();
-  document.addEventListener("click", (event) => /** @type {any} */ (event.target).closest("button") && leave(event));
-  document.addEventListener("change", leave);
+  const leave = (kinds) => ({ target }) => isByPointer && target.closest?.(kinds)?.blur();
+  document.addEventListener("click", leave("button"));
+  document.addEventListener("change", leave("select, input"));
 }

@@ -1,20 +1,17 @@
 // Drawing on a canvas.
 
-export const FONT = '"Segoe UI", Roboto, "Helvetica Neue", "DejaVu Sans", system-ui, sans-serif';
+const FONT = '"Segoe UI", Roboto, "Helvetica Neue", "DejaVu Sans", system-ui, sans-serif';
 
 /** The colours of the page, of the light or the dark scheme. */
 export const theme = { isDark: false, ink: "", paper: "", wall: "", arrow: "", meets: "", faint: "" };
 
-/** Reads the colours from the style sheet. */
 export function readTheme() {
   const style = getComputedStyle(document.documentElement);
+  for (const name of Object.keys(theme)) theme[name] = style.getPropertyValue(`--${name}`).trim();
   theme.isDark = matchMedia("(prefers-color-scheme: dark)").matches;
-  for (const name of /** @type {const} */ (["ink", "paper", "wall", "arrow", "meets", "faint"])) {
-    theme[name] = style.getPropertyValue(`--${name}`).trim();
-  }
 }
 
-/** The context of a canvas in CSS pixels, with the pixels of the screen. @param {HTMLCanvasElement} canvas */
+/** The context of a canvas in CSS pixels, with the pixels of the screen. */
 export function contextOf(canvas, alpha) {
   const ratio = window.devicePixelRatio || 1, { width, height } = canvas.getBoundingClientRect();
   const [w, h] = [Math.round(width * ratio), Math.round(height * ratio)];
@@ -24,12 +21,12 @@ export function contextOf(canvas, alpha) {
   return { width, height, context };
 }
 
-/** A canvas of pixels, which are words of their bytes. */
-export function imageOf(width, height, put) {
-  const canvas = Object.assign(document.createElement("canvas"), { width, height });
+/** Puts pixels, which are words of their bytes, on a canvas. */
+export function imageOf(canvas, width, height, put) {
+  if (canvas.width !== width || canvas.height !== height) Object.assign(canvas, { width, height });
   const image = new ImageData(width, height);
   put(new Int32Array(image.data.buffer));
-  /** @type {CanvasRenderingContext2D} */ (canvas.getContext("2d")).putImageData(image, 0, 0);
+  canvas.getContext("2d").putImageData(image, 0, 0);
   return canvas;
 }
 
@@ -42,18 +39,21 @@ export function write(c, text, x, y, { font, align = "left", colour = theme.ink 
 export function line(c, points, colour, wide) {
   Object.assign(c, { strokeStyle: colour, lineWidth: wide });
   c.beginPath();
-  points.forEach(([x, y], k) => (k ? c.lineTo(x, y) : c.moveTo(x, y)));
+  points.forEach(([x, y]) => c.lineTo(x, y));
   c.stroke();
 }
 
-/** A round length that is at most this. @param {number} length */
+export function within(c, x, y, width, height, paint) {
+  c.save();
+  c.beginPath();
+  c.rect(x, y, width, height);
+  c.clip();
+  paint();
+  c.restore();
+}
+
+/** A round length that is at most this. */
 export function nice(length) {
   const power = 10 ** Math.floor(Math.log10(length));
   return (([5, 2, 1].find((k) => k * power <= length * 1.0001)) ?? 1) * power;
 }
-
-const signed = (text) => text.replace(/^-(?=.*[1-9])/, "−").replace("-", "");
-export const count = (value) => value.toLocaleString("en");
-export const fixed = (value, digits) => signed(value.toFixed(digits));
-export const round = (value, digits = 3) =>
-  signed(String(Math.abs(value) < 1e-9 ? 0 : Number(value.toPrecision(digits))));

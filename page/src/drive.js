@@ -3,37 +3,35 @@
 
 const MEMORY = 1000; // generations of a mean over time
 
-/** A mean over the last generations, of all if they are few. */
+/** A mean over the last generations, of all if they are few. It is null before the first. */
 class Mean {
-  value = 0;
+  /** @type {number | null} */
+  found = null;
   count = 0;
 
-  /** @param {number} value */
   add(value) {
     this.count++;
-    this.value += (value - this.value) / Math.min(this.count, MEMORY);
-  }
-
-  get found() {
-    return this.count ? this.value : null;
+    this.found = (this.found ?? 0) + (value - (this.found ?? 0)) / Math.min(this.count, MEMORY);
   }
 }
 
 export class Drive {
+  /** @type {number | null} */
+  wind = null;
+  velocity = new Mean(); // of the particles before they are turned
+  force = new Mean(); // momentum that was added per fluid cell and generation
+  fluid = 0;
+  particles = 0;
+  px = 0;
+
   /** @param {number | null} wind cells per generation that the flow keeps, or null if it decays @param {string} seed */
   constructor(wind, seed) {
     this.random = Number(BigInt(seed) % 0xfffffffbn) + 1 | 0;
-    this.fluid = this.particles = this.px = 0;
-    this.wind = wind;
-    this.velocity = this.force = new Mean();
     this.keep(wind);
   }
 
-  /** @param {number | null} wind */
   keep(wind) {
-    this.wind = wind;
-    this.velocity = new Mean(); // of the particles before they are turned
-    this.force = new Mean(); // momentum that was added per fluid cell and generation
+    Object.assign(this, { wind, velocity: new Mean(), force: new Mean() });
   }
 
   /** A random number below 1, by xorshift. */
@@ -44,12 +42,19 @@ export class Drive {
     return (this.random >>> 0) / 2 ** 32;
   };
 
-  /** Measures a flow, whose momentum then only walls and the drive change. @param {import("./flow.js").Flow} flow */
-  measure(flow) {
+  /** Some generations of a flow, whose momentum then only walls and the drive change. */
+  blow(flow, generations) {
     [this.fluid, this.particles, this.px] = flow.totals();
+    for (let left = generations - 1; left >= 0; left--) {
+      flow.run(1);
+      if (this.act(flow)) continue;
+      flow.notes.push("The wind is not kept any more: no particle is left that could be turned.");
+      this.keep(null);
+      return flow.run(left);
+    }
   }
 
-  /** Brings a flow to the wind. Returns whether there were particles to turn. @param {import("./flow.js").Flow} flow */
+  /** Brings a flow to the wind. Returns whether there were particles to turn. */
   act(flow) {
     const { cells, turned, kernel, gas: { units: [unit], momenta: [[east]] } } = flow;
     this.px += kernel.pushed();

@@ -1,9 +1,8 @@
 // Files: what is saved, filmed, opened, dropped and pasted.
 import { $, view } from "./state.js";
 
-/** @type {{ recorder: MediaRecorder | null }} */
-const film = { recorder: null };
-export const isFilming = () => film.recorder !== null;
+let recorder = /** @type {MediaRecorder | null} */ (null); // of a film
+export const isFilming = () => recorder !== null;
 
 /** @param {Blob} blob @param {string} name */
 export function save(blob, name) {
@@ -12,24 +11,22 @@ export function save(blob, name) {
   setTimeout(() => URL.revokeObjectURL(link.href), 60_000);
 }
 
-/** Begins to film the picture, or ends and saves it. @param {() => void} ended */
+/** Begins to film the picture, or ends and saves it. */
 export function record(ended) {
-  if (film.recorder) return film.recorder.stop();
+  if (recorder) return recorder.stop();
   const mimeType = ["video/webm", "video/mp4"].find((kind) => MediaRecorder.isTypeSupported(kind)) ?? "";
-  /** @type {Blob[]} */
-  const chunks = [];
-  const recorder = new MediaRecorder(view().captureStream(30), { mimeType, videoBitsPerSecond: 12_000_000 });
+  const chunks = /** @type {Blob[]} */ ([]);
+  recorder = new MediaRecorder(view().captureStream(30), { mimeType, videoBitsPerSecond: 12_000_000 });
   recorder.ondataavailable = ({ data }) => chunks.push(data);
   recorder.onstop = () => {
-    save(new Blob(chunks, { type: mimeType }), `fhpgas.${mimeType.includes("mp4") ? "mp4" : "webm"}`);
-    film.recorder = null;
+    save(new Blob(chunks, { type: mimeType }), `fhpgas.${mimeType.slice(6)}`);
+    recorder = null;
     ended();
   };
-  film.recorder = recorder;
   recorder.start(1000);
 }
 
-/** Takes scenes that are chosen, dropped or pasted. @param {(text: string) => void} open */
+/** Takes scenes that are chosen, dropped or pasted. */
 export function takeScenes(open) {
   $("file").onchange = async ({ target }) => {
     const text = await target.files[0]?.text();

@@ -1,5 +1,5 @@
 // A gas that runs: its cells, the way back, and the drive.
-import { reverse, undo } from "./back.js";
+import { recede, reverse, undo } from "./back.js";
 import { Cells } from "./cells.js";
 import { Drive } from "./drive.js";
 import { SOLID, collisions, turns } from "./gases.js";
@@ -7,64 +7,65 @@ import { History } from "./history.js";
 import { copied } from "./kernel.js";
 import { totalsOf } from "./sums.js";
 
-/**
- * @typedef {import("./gases.js").Chirality} Chirality
- * @typedef {import("./kernel.js").Kernel} Kernel
- * @typedef {{ chirality: Chirality, seed: string, generation: number, wind?: number | null }} Course
- */
-
-export const MOST_PATCHES = 64 * 2 ** 20; // bytes of what was done to the cells
-const count = (value) => value.toLocaleString("en");
+const MOST_PATCHES = 64 * 2 ** 20; // bytes of what was done to the cells
 
 export class Flow {
-  /** @param {Kernel} kernel @param {Course} course */
+  direction = 1; // -1 on the way back
+  changes = 0; // counts what happens to the cells
+  isDisturbed = false; // something was changed on the way back
+  /** @type {number | null} cells that differ from the first ones, once the gas is back */
+  found = null;
+  /** @type {string[]} what the page is to say */
+  notes = [];
+  /** @type {{ at: Place, generation: number } | null} the particle that was turned */
+  mark = null;
+  /** @type {Int32Array | null} the solid cells that the preset has */
+  shape = null;
+  summed = { changes: -1, totals: [0, 0, 0, 0] };
+  history = new History(MOST_PATCHES);
+
+  /**
+   * @param {Kernel} kernel
+   * @param {{ chirality: Chirality, seed: string, generation: number, wind?: number | null }} course
+   */
   constructor(kernel, { chirality, seed, generation, wind = null }) {
     this.kernel = kernel;
     this.gas = kernel.gas;
     this.cells = new Cells(kernel);
     this.chirality = chirality;
     this.seed = seed;
-    this.generation = generation;
-    this.direction = 1; // -1 on the way back
-    this.turnedAt = generation;
-    this.changes = 0; // counts what happens to the cells
-    this.isDisturbed = false; // something was changed on the way back
-    /** @type {number | null} cells that differ from the first ones, once the gas is back */
-    this.found = null;
-    /** @type {string[]} what the page is to say */
-    this.notes = [];
-    /** @type {{ at: [number, number], generation: number } | null} the particle that was turned */
-    this.mark = null;
-    /** @type {Int32Array | null} the solid cells that the preset has */
-    this.shape = null;
+    this.generation = this.turnedAt = generation;
     this.turned = turns(this.gas);
     this.sides = { left: collisions(this.gas, "left"), right: collisions(this.gas, "right") };
     this.drive = new Drive(wind, seed);
-    this.history = new History(MOST_PATCHES);
     this.begin();
   }
 
   /** From here on the way back is exact. */
   begin() {
-    this.history.begin(this.generation, this.cells.kept());
+    this.history.begin(this.generation, this.cells);
     this.isDisturbed = false;
     this.cells.isBuilt = true;
+    this.changes++;
     this.kernel.wallsChanged();
   }
 
-  /** Goes on in another kernel, with the same cells. @param {import("./kernel.js").MakeKernel} make */
+  /** Goes on in another kernel, with the same cells. */
   moveTo(make) {
     this.kernel = this.cells.kernel = copied(this.kernel, make);
   }
 
-  /** Of all cells: fluid, particles, and momenta as multiples of the gas's units. */
-  totals() {
-    return totalsOf(this.kernel.sums(32, this.cells.height));
+  /** Sums of blocks, and by the way of all cells. */
+  sums(wide, tall) {
+    const sums = this.kernel.sums(wide, tall);
+    this.summed = { changes: this.changes, totals: totalsOf(sums) };
+    return sums;
   }
 
-  /** What pairs do. @param {Chirality} chirality */
-  sideOf(chirality) {
-    return chirality === "right" ? this.sides.right : this.sides.left;
+  /** Of all cells: fluid, particles, and momenta as multiples of the gas's units. */
+  totals() {
+    if (this.summed.changes !== this.changes) this.sums(32, this.cells.height);
+    return this.summed.totals;
   }
 
   get canTurn() {
@@ -78,20 +79,18 @@ export class Flow {
 
   // -- edits: what they flip is remembered with its generation
 
-  /** Flips bits of a cell now. @param {number} at @param {number} bits */
+  /** Flips bits of a cell now. */
   flip(at, bits) {
     if (this.direction < 0) this.isDisturbed = true;
-    else {
-      this.history.open(this.generation, () => this.cells.kept());
-      this.history.push(at, bits);
-    }
+    else this.history.flip(this.generation, this.cells, at, bits);
     this.cells.flip(at, bits);
   }
 
-  /** Flips bits of cells, as an edit. @param {Iterable<[at: number, bits: number]>} flips */
+  /** Flips bits of cells, as an edit. */
   edit(flips) {
     let isBuilt = false;
     this.changes++;
+    this.summed.changes = -1; // undoing a stroke sets changes back
     for (const [at, bits] of flips) {
       this.flip(at, bits);
       isBuilt ||= (bits & SOLID) > 0;
@@ -99,24 +98,23 @@ export class Flow {
     if (isBuilt) this.kernel.wallsChanged();
   }
 
-  /** How pairs turn from here on. @param {Chirality} chirality */
-  setChirality(chirality) {
-    if (this.direction < 0) return void this.notes.push("The gas is going back. Turn it first.");
-    this.changes++;
-    const before = this.chirality, couldTurn = this.canTurn;
-    this.chirality = chirality;
-    if (!couldTurn || !this.canTurn) return this.begin();
-    this.history.open(this.generation, () => this.cells.kept());
-    this.history.pushTurning(before);
-  }
-
-  /** @param {number | null} wind */
-  keep(wind) {
+  /** Whether particles are as they move forwards, so that the rules can change. If not, it says so. */
+  isForward() {
     if (this.direction < 0) this.notes.push("The gas is going back. Turn it first.");
-    else this.drive.keep(wind);
+    return this.direction > 0;
   }
 
-  // -- the way back
+  /** How pairs turn from here on. */
+  setChirality(chirality) {
+    if (!this.isForward()) return;
+    const before = this.chirality, couldTurn = this.canTurn;
+    this.changes++;
+    this.chirality = chirality;
+    if (couldTurn && this.canTurn) this.history.open(this.generation, this.cells, before);
+    else this.begin();
+  }
+
+  // -- time
 
   turn() {
     reverse(this);
@@ -127,38 +125,17 @@ export class Flow {
     } else if (this.isDisturbed) this.begin();
   }
 
-  /** Some generations on, or back, where the gas stops at the start and compares its cells. @param {number} wanted */
-  advance(wanted) {
-    this.changes++;
-    if (this.direction > 0 && this.drive.wind !== null) this.drive.measure(this);
-    for (let left = wanted; left > 0; ) {
-      const isDriven = this.direction > 0 && this.drive.wind !== null, before = this.generation;
-      const most = this.direction > 0 ? Infinity : this.generation - this.history.lastGeneration;
-      const generations = isDriven ? 1 : Math.min(left, most);
-      if (generations > 0) this.kernel.advance(generations, this.sceneGeneration, this.chirality, this.seed);
-      this.generation += this.direction * generations;
-      left -= generations;
-      if (isDriven && !this.drive.act(this)) {
-        this.notes.push("The wind is not kept any more: no particle is left that could be turned.");
-        this.drive.keep(null);
-      }
-      if (this.direction > 0) this.found = null;
-      else {
-        undo(this);
-        if (this.generation <= this.history.origin) return this.arrive();
-        if (before === this.generation && !generations) return;
-      }
-    }
+  advance(generations) {
+    if (this.direction < 0) recede(this, generations);
+    else if (this.drive.wind === null) this.run(generations);
+    else this.drive.blow(this, generations);
   }
 
-  /** The gas is back where the way back ends. */
-  arrive() {
-    const { began, isCut, origin } = this.history;
-    const begins = `The way back begins at generation ${count(origin)}`;
-    if (isCut) this.notes.push(`${begins}: what was done before took more than 64 MB.`);
-    this.turn();
-    this.found = this.cells.differing(began);
-    this.begin();
+  run(generations) {
+    this.changes++;
+    this.kernel.advance(generations, this.sceneGeneration, this.chirality, this.seed);
+    this.generation += this.direction * generations;
+    if (this.direction > 0) this.found = null;
   }
 
   /** One generation back: all particles are turned for it. */

@@ -1,36 +1,29 @@
 // What the page is sent of a flow: numbers, a field, the cells of a window, the probe.
-import { blocks, keyStream } from "./keystream.js";
-import { SOLID } from "./gases.js";
 import { TimeMean } from "./fields.js";
 import { Flow } from "./flow.js";
+import { SOLID, velocities } from "./gases.js";
 import { copied } from "./kernel.js";
+import { blocks, keyStream } from "./keystream.js";
 import { runsOf } from "./runs.js";
 import { Stream } from "./stream.js";
-import { sumsOf, totalsOf } from "./sums.js";
-
-/**
- * @typedef {import("./messages.js").Frame} Frame
- * @typedef {import("./messages.js").View} View
- * @typedef {import("./cells.js").Place} Place
- */
-
-/** The rows of a block that is about square. @param {import("./gases.js").Gas} gas @param {number} columns */
-const rowsOf = ({ apart }, columns) => Math.max(1, Math.round(columns / apart));
+import { sumsOf } from "./sums.js";
 
 /** A flow as it is looked at. */
 export class Watched {
-  /** @param {import("./flow.js").Flow} flow */
+  /** @type {Flow | null} the same gas without the turn of one particle */
+  twin = null;
+  /** @type {{ at: Place, places: number[] } | null} the disc of the probe */
+  disc = null;
+  runs = ""; // what was drawn
+
+  /** @param {Flow} flow */
   constructor(flow) {
     this.flow = flow;
-    this.mean = new TimeMean();
+    this.mean = new TimeMean(flow.gas, flow.cells.height);
     this.stream = new Stream(flow);
-    /** @type {Flow | null} the same gas without the turn of one particle */
-    this.twin = null;
-    /** @type {{ at: Place, places: number[] } | null} */
-    this.disc = null;
   }
 
-  /** The gas goes on beside itself, to be compared. @param {import("./kernel.js").MakeKernel} make */
+  /** The gas goes on beside itself, to be compared. */
   split(make) {
     const { kernel, chirality, seed, generation, drive, direction } = this.flow;
     if (this.twin || direction < 0) return;
@@ -38,55 +31,42 @@ export class Watched {
     this.twin.drive.random = drive.random;
   }
 
-  /** @param {number} generations */
   advance(generations) {
     this.flow.advance(generations);
     this.twin?.advance(generations);
   }
 
-  /** How many cells of each block differ from the twin. @param {number} wide @param {number} tall */
+  /** How many cells of each block differ from the twin, as sums of particles. */
   differences(wide, tall) {
-    if (!this.twin) return undefined;
-    const { kernel, cells, gas } = this.flow, { width, height, per, solid } = kernel;
-    const one = { ...gas, directions: 1, momenta: /** @type {[number, number][]} */ ([[0, 0]]) };
-    const unlike = cells.difference(this.twin.kernel);
-    return sumsOf({ width, height, per, solid, gas: one, cells: unlike }, wide, tall).parts[1];
+    if (!this.twin) return null;
+    const { kernel: { width, height, per, solid }, cells } = this.flow, gas = { directions: 1, momenta: [[0, 0]] };
+    return sumsOf({ width, height, per, solid, gas, cells: cells.difference(this.twin.kernel) }, wide, tall).numbers;
   }
 
-  /** @param {Place} at @param {number} radius */
-  probe(at, radius) {
+  probe({ at, radius }) {
     this.disc = { at, places: this.flow.cells.near(at, at, radius) };
   }
 
   /** The mean velocity over the disc of the probe. */
   get probed() {
     if (!this.disc) return null;
-    const { cells, gas: { momenta, units } } = this.flow;
-    let particles = 0, px = 0, py = 0;
-    for (const place of this.disc.places) {
-      const state = cells.state(place) & ~SOLID;
-      for (let i = 0; state >> i; i++) {
-        if (!(state >> i & 1)) continue;
-        particles++;
-        px += momenta[i][0];
-        py += momenta[i][1];
-      }
+    const speeds = velocities(this.flow.gas), { at, places } = this.disc, sums = [0, 0, 0];
+    for (const place of places) {
+      const state = this.flow.cells.state(place) & ~SOLID;
+      for (let i = 0; state >> i; i++) if (state >> i & 1) [1, ...speeds[i]].forEach((part, k) => (sums[k] += part));
     }
-    return { at: this.disc.at, u: (px * units[0]) / (particles || 1), v: (py * units[1]) / (particles || 1) };
+    return { at, u: sums[1] / (sums[0] || 1), v: sums[2] / (sums[0] || 1) };
   }
 
-  /** The cells of a window, as far as it is in the lattice. @param {View["window"]} window */
-  windowed(window) {
-    if (!window) return null;
-    const { cells, chirality, seed, sceneGeneration, sides } = this.flow, [left, top, wide, tall] = window;
-    const x0 = Math.max(0, left), y0 = Math.max(0, top);
+  /** The states of the cells of a window, as far as it is in the lattice, and the same after their collision. */
+  windowed([left, top, wide, tall]) {
+    const { cells, chirality, seed, sceneGeneration, sides } = this.flow, x0 = Math.max(0, left), y0 = Math.max(0, top);
     const width = Math.min(cells.width, left + wide) - x0, height = Math.min(cells.height, top + tall) - y0;
     if (width < 1 || height < 1) return null;
-    const before = new Uint8Array(width * height), words = Math.ceil(cells.width / 32);
-    const bits = blocks(words * cells.height);
+    const words = Math.ceil(cells.width / 32), bits = blocks(words * cells.height);
     if (chirality === "seeded") keyStream(seed, sceneGeneration, bits);
     else bits.fill(chirality === "left" ? -1 : 0);
-    const after = before.map((_, to) => {
+    const before = new Uint8Array(width * height), after = before.map((_, to) => {
       const x = x0 + (to % width), y = y0 + Math.floor(to / width), isLeft = bits[y * words + (x >> 5)] >>> x & 1;
       before[to] = cells.state(y * cells.width + x);
       return (isLeft ? sides.left : sides.right)[before[to]];
@@ -94,30 +74,40 @@ export class Watched {
     return { x: x0, y: y0, width, height, before, after };
   }
 
-  /** @param {View} view @param {number} generations since the last frame @returns {Frame} */
+  /** The means over blocks and time of what is looked at. */
+  means({ block, smooth, span, field }, generations) {
+    const { flow, mean } = this, tall = Math.max(1, Math.round(block / flow.gas.apart));
+    mean.add(flow.sums(block, tall), span > 1 ? Math.exp(-generations / span) : 0);
+    mean.look(smooth);
+    mean.unlike = field === "difference" ? this.differences(block, tall) : null;
+    return mean;
+  }
+
+  /** What the page is sent. */
   frame(view, generations) {
-    const { flow, stream } = this, { gas, cells, kernel, drive, history } = flow, isDriven = drive.wind !== null;
-    const sums = kernel.sums(view.block, rowsOf(gas, view.block)), [fluid, particles, px, py] = totalsOf(sums);
-    this.mean.add(sums, view.span > 1 ? Math.exp(-generations / view.span) : 0);
-    if (cells.isBuilt) stream.look();
+    const { flow, stream } = this, { gas, cells, kernel, drive, history, chirality, seed, generation } = flow;
+    const { direction, found, canTurn, mark, notes, shape } = flow, walls = cells.isBuilt ? kernel.solid.slice() : null;
+    if (walls) {
+      stream.look();
+      this.runs = shape ? runsOf(walls, shape) : "";
+    }
     if (generations || !stream.generations) stream.add(generations);
-    const means = this.mean.means(gas, cells.height, view.smooth);
-    if (view.field === "difference") means.difference = this.differences(view.block, rowsOf(gas, view.block));
-    const walls = cells.isBuilt ? kernel.solid.slice() : null, { columns, rows, width, height } = means.grid;
-    const { generation, direction, found, canTurn, mark, notes } = flow, { origin, isCut } = history;
-    const frame = {
-      gas: gas.name, apart: gas.apart, directions: gas.directions, width: cells.width, height: cells.height,
-      per: kernel.per, chirality: flow.chirality, seed: flow.seed, generation, direction, found, canTurn, origin, isCut,
-      fluid, particles,
-      u: (isDriven ? drive.velocity.found : null) ?? (px * gas.units[0]) / (particles || 1),
-      v: (py * gas.units[1]) / (particles || 1), wind: drive.wind, force: drive.force.found,
-      fastest: stream.fastest, measured: stream.measured, flow: stream.found, field: view.field,
-      ...this.mean.shown(view.field, means), middle: means.middle, columns, rows, block: width, blockRows: height,
-      cells: this.windowed(view.window), walls, runs: flow.shape ? runsOf(kernel.solid, flow.shape) : "",
-      probe: this.probed, mark, notes,
-    };
+    const mean = this.means(view, generations), [fluid, particles, px, py] = flow.totals(), all = particles || 1;
+    const { columns, rows, width, height, u, v } = stream.mean, { fastest, blockage, incoming } = stream;
     cells.isBuilt = false;
     flow.notes = [];
-    return frame;
+    return {
+      gas: gas.name, apart: gas.apart, directions: gas.directions, width: cells.width, height: cells.height,
+      per: kernel.per, chirality, seed, generation, direction, found, canTurn, mark, notes, fluid, particles,
+      origin: history.origin.generation, isCut: history.isCut,
+      // means over time, before particles are turned, and of the momentum that is added per fluid cell and generation
+      u: (drive.wind === null ? null : drive.velocity.found) ?? (px * gas.units[0]) / all, force: drive.force.found,
+      v: (py * gas.units[1]) / all, wind: drive.wind,
+      fastest, blockage, incoming, flow: { columns, rows, width, height, u, v },
+      field: view.field, ...mean.shown(view.field), middle: mean.middle, columns: mean.columns, rows: mean.rows,
+      block: mean.width, blockRows: mean.height, cells: view.window && this.windowed(view.window),
+      walls, // solid cells as a plane, if they changed
+      runs: this.runs, probe: this.probed,
+    };
   }
 }

@@ -6,26 +6,12 @@
 export const SOLID = 0x80;
 const ROOT3 = Math.sqrt(3);
 
-/**
- * @typedef {[down: number, even: number, odd: number]} Move rows down to the cell that a particle comes from, and the
- *   columns that it moves from an even and from an odd row
- * @typedef {(cells: Int32Array, at: number, per: number, words: number, bits: Int32Array, from: number) => void
- *   } Collide
- *   collides the words of a row that begins at `at`, where `bits` has a 1 if a pair rotates to the left
- * @typedef {"seeded" | "left" | "right"} Chirality
- * @typedef {{ name: string, number: number, directions: number, moves: Move[], apart: number, collide: Collide,
- *   sound: number, isHexagonal: boolean, units: [number, number], momenta: [number, number][] }} Gas
- *   the distance of rows, the speed of sound, and the momenta of the directions as multiples of the two units
- */
-
-/** @type {Move[]} */
+// rows down to the cell that a particle comes from, and the columns that it moves from an even and from an odd row
 const HEXAGON = [[0, 1, 1], [1, 0, 1], [1, -1, 0], [0, -1, -1], [-1, -1, 0], [-1, 0, 1]];
-/** @type {Move[]} */
 const SQUARE = [[0, 1, 1], [1, 0, 0], [0, -1, -1], [-1, 0, 0]];
-/** @type {[number, number][]} */
-const HEXAGON_MOMENTA = [[2, 0], [1, 1], [-1, 1], [-2, 0], [-1, -1], [1, -1]];
+const HEXAGON_MOMENTA = [[2, 0], [1, 1], [-1, 1], [-2, 0], [-1, -1], [1, -1], [0, 0]];
 
-/** @type {Collide} */
+// A gas collides the words of the row that begins at `at`: `bits` has a 1 if a pair rotates to the left.
 function collideFhp1(cells, at, per, words, bits, from) {
   const [B, C, D, E, F] = [at + per, at + 2 * per, at + 3 * per, at + 4 * per, at + 5 * per];
   for (let k = 0; k < words; k++) {
@@ -45,21 +31,16 @@ function collideFhp1(cells, at, per, words, bits, from) {
   }
 }
 
-/** @type {Collide} */
 function collideHpp(cells, at, per, words) {
-  const [B, C, D] = [at + per, at + 2 * per, at + 3 * per];
-  for (let k = 0; k < words; k++) {
-    const a = cells[at + k], b = cells[B + k], c = cells[C + k], d = cells[D + k], pair = ~(a ^ c) & ~(b ^ d) & (a ^ b);
-    cells[at + k] = a ^ pair;
-    cells[B + k] = b ^ pair;
-    cells[C + k] = c ^ pair;
-    cells[D + k] = d ^ pair;
+  for (let k = at; k < at + words; k++) {
+    const a = cells[k], b = cells[k + per], c = cells[k + 2 * per], d = cells[k + 3 * per];
+    const pair = ~(a ^ c) & ~(b ^ d) & (a ^ b);
+    for (let i = 0; i < 4; i++) cells[k + i * per] ^= pair;
   }
 }
 
 // A moving particle and one at rest become its two neighbouring directions, and back: `za` has a 1 where this happens
 // about direction a. Pairs and triples, with or without rest, are others before and after it, and collide as in fhp1.
-/** @type {Collide} */
 function collideFhpRest(cells, at, per, words, bits, from) {
   const [B, C, D, E, F, R] = [at + per, at + 2 * per, at + 3 * per, at + 4 * per, at + 5 * per, at + 6 * per];
   for (let k = 0; k < words; k++) {
@@ -82,14 +63,12 @@ function collideFhpRest(cells, at, per, words, bits, from) {
   collideFhp1(cells, at, per, words, bits, from);
 }
 
-/** @param {string} name @param {number} number @param {number} directions @param {Collide} collide @returns {Gas} */
-function hexagonal(name, number, directions, collide) {
-  /** @type {[number, number][]} */
-  const momenta = [...HEXAGON_MOMENTA, [0, 0]];
-  return { name, number, directions, moves: HEXAGON, apart: ROOT3 / 2, collide, sound: Math.sqrt(3 / directions),
-    isHexagonal: true, units: [1 / 2, ROOT3 / 2], momenta: momenta.slice(0, directions) };
-}
+// `apart` is the distance of rows, `sound` the speed of sound; momenta of the directions are multiples of the two units
+const hexagonal = (name, number, directions, collide) => ({ name, number, directions, moves: HEXAGON, collide,
+  apart: ROOT3 / 2, sound: Math.sqrt(3 / directions), isHexagonal: true, units: [1 / 2, ROOT3 / 2],
+  momenta: HEXAGON_MOMENTA.slice(0, directions) });
 
+/** @typedef {ReturnType<typeof hexagonal>} Gas */
 /** @type {Record<string, Gas>} the gases by their names. The numbers are of include/fhpgas.h. */
 export const GASES = {
   fhp1: hexagonal("fhp1", 0, 6, collideFhp1),
@@ -101,13 +80,15 @@ export const GASES = {
 /** @type {Record<Chirality, Chirality>} the chirality that undoes a collision. */
 export const OTHER = { left: "right", right: "left", seeded: "seeded" };
 
-/** The particles' velocities by direction, eastwards and northwards. @param {Gas} gas */
+/** How far a row of a gas lies to the east. */
+export const eastOf = ({ apart }, row) => (apart < 1 ? (row & 1) / 2 : 0);
+
+/** The particles' velocities by direction, eastwards and northwards. */
 export const velocities = ({ momenta, units }) => momenta.map(([x, y]) => [x * units[0], y * units[1]]);
 
-/** @param {(state: number) => number} ofState */
 const table = (ofState) => Uint8Array.from({ length: 256 }, (_, state) => (state < SOLID ? ofState(state) : state));
 
-/** What turning all particles makes of every state. @param {Gas} gas */
+/** What turning all particles makes of every state. */
 export function turns({ moves: { length } }) {
   const half = length / 2, moving = (1 << length) - 1;
   return table((state) => (((state << half) | ((state & moving) >> half)) & moving) | (state & ~moving));
@@ -116,24 +97,24 @@ export function turns({ moves: { length } }) {
 /** What a collision to a side makes of every state: the gas's own rule, tried on all of them. */
 export function collisions(gas, side) {
   const words = SOLID / 32, planes = new Int32Array(gas.directions * words);
-  for (let i = 0; i < gas.directions; i++) {
-    for (let state = 0; state < SOLID; state++) planes[i * words + (state >> 5)] |= ((state >> i) & 1) << state;
+  for (let state = 0; state < SOLID; state++) {
+    for (let i = 0; i < gas.directions; i++) planes[i * words + (state >> 5)] |= (state >> i & 1) << state;
   }
   gas.collide(planes, 0, words, words, new Int32Array(words).fill(side === "left" ? -1 : 0), 0);
-  const bit = (state, i) => ((planes[i * words + (state >> 5)] >>> state) & 1) << i;
+  const bit = (state, i) => (planes[i * words + (state >> 5)] >>> state & 1) << i;
   return table((state) => gas.momenta.reduce((sum, _, i) => sum | bit(state, i), 0));
 }
 
 /** The chances of Fermi and Dirac at a filling and a velocity: h and q are changed until number and momentum fit. */
-export function equilibrium(gas, filling, ...wind) {
+export function equilibrium(gas, filling, u, v = 0) {
   const speeds = velocities(gas), all = gas.directions * filling, q = [0, 0];
   let chances = [], h = 0;
   for (let step = 0; step < 2000; step++) {
     chances = speeds.map(([x, y]) => 1 / (1 + Math.exp(h + q[0] * x + q[1] * y)));
     h += chances.reduce((sum, chance) => sum + chance, -all) / gas.directions;
-    for (const k of [0, 1]) {
-      q[k] += chances.reduce((sum, chance, i) => sum + chance * speeds[i][k], -all * (wind[k] ?? 0)) / gas.directions;
-    }
+    [u, v].forEach((speed, k) => {
+      q[k] += chances.reduce((sum, chance, i) => sum + chance * speeds[i][k], -all * speed) / gas.directions;
+    });
   }
   return chances;
 }

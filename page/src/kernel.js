@@ -2,17 +2,16 @@
 import { blocks, keyStream } from "./keystream.js";
 import { bits, sumsOf } from "./sums.js";
 
-/**
- * @typedef {import("./gases.js").Gas} Gas
- * @typedef {import("./gases.js").Chirality} Chirality
- * @typedef {import("./sums.js").Sums} Sums
- * @typedef {(gas: Gas, width: number, height: number) => Kernel} MakeKernel
- */
-
-const LINK = 5; // numbers of an entry of Kernel.links
+const LINK = 5; // numbers of an entry of Planes.links
 
 /** A lattice's planes: `per` words of 32 cells a row and plane. */
-export class Kernel {
+class Planes {
+  cells = new Int32Array(0);
+  solid = new Int32Array(0);
+  /** Where walls are near: a word of a plane, that of the opposite direction, its solid cells, those to which particles
+   * of the opposite direction come back, and the momentum of the direction eastwards. */
+  links = new Int32Array(0);
+
   /** @param {Gas} gas @param {number} width @param {number} height */
   constructor(gas, width, height) {
     this.gas = gas;
@@ -22,10 +21,6 @@ export class Kernel {
     this.words = Math.ceil(width / 32);
     this.top = (width - 1) & 31;
     this.last = -1 >>> (31 - this.top) | 0;
-    this.cells = this.solid = new Int32Array(0);
-    /** Where walls are near: a word of a plane, that of the opposite direction, its solid cells, those to which
-     * particles of the opposite direction come back, and the momentum of the direction eastwards. */
-    this.links = new Int32Array(0);
   }
 
   /** A row's particles move a column to the east (1), to the west (-1), or none. */
@@ -51,15 +46,15 @@ export class Kernel {
     const wall = new Int32Array(per).fill(-1), ahead = new Int32Array(per); // above the first row, and below the last
     wall[words - 1] = last;
     for (let y = 0; y < height; y++) {
-      for (let i = 0; i < moves.length; i++) {
-        const [down, even, odd] = moves[i], row = y + down, isIn = row >= 0 && row < height;
+      moves.forEach(([down, even, odd], i) => {
+        const row = y + down, isIn = row >= 0 && row < height;
         const at = (y * directions + i) * per, back = (y * directions + (i + moves.length / 2) % moves.length) * per;
         this.shift(isIn ? solid : wall, isIn ? row * per : 0, ahead, 0, row & 1 ? odd : even);
         for (let k = 0; k < words; k++) {
           const inside = solid[y * per + k];
           if (ahead[k] | inside) found.push(at + k, back + k, inside, ahead[k] & ~inside, momenta[i][0]);
         }
-      }
+      });
     }
     this.links = Int32Array.from(found);
   }
@@ -71,23 +66,10 @@ export class Kernel {
     for (let k = 0; k < links.length; k += LINK) sum += 2 * links[k + 4] * bits(cells[links[k]] & links[k + 3]);
     return sum;
   }
-
-  /** Sums of blocks, 1, 2, 4, 8, 16 or 32 columns wide. @param {number} wide @param {number} tall @returns {Sums} */
-  sums(wide, tall) {
-    return sumsOf(this, wide, tall);
-  }
-
-  /**
-   * Some generations: all particles collide, then move.
-   * @param {number} count @param {number} generation @param {Chirality} chirality @param {string} seed
-   */
-  advance(count, generation, chirality, seed) {
-    throw new Error(`no kernel for ${[count, generation, chirality, seed]}`);
-  }
 }
 
 /** The kernel in JavaScript: its own copy of the rules, for browsers without the engine. */
-export class ScriptKernel extends Kernel {
+export class ScriptKernel extends Planes {
   /** @param {Gas} gas @param {number} width @param {number} height */
   constructor(gas, width, height) {
     super(gas, width, height);
@@ -98,7 +80,7 @@ export class ScriptKernel extends Kernel {
     this.wallsChanged();
   }
 
-  /** @override */
+  /** Some generations: all particles collide, then move. */
   advance(count, generation, chirality, seed) {
     const isSeeded = chirality === "seeded" && this.gas.isHexagonal;
     if (!isSeeded) this.bits.fill(chirality === "left" ? -1 : 0);
@@ -107,6 +89,11 @@ export class ScriptKernel extends Kernel {
       collideRows(this, this.bits, this.words);
       this.move();
     }
+  }
+
+  /** Sums of blocks, 1, 2, 4, 8, 16 or 32 columns wide. */
+  sums(wide, tall) {
+    return sumsOf(this, wide, tall);
   }
 
   /** Two sets of planes take turns. A particle that would enter a solid cell stays and reverses. */
@@ -128,17 +115,16 @@ export class ScriptKernel extends Kernel {
   }
 }
 
-/** Collides all rows: `bits` has `words` words a row. @param {Kernel} kernel */
+/** Collides all rows: `bits` has `words` words a row. */
 function collideRows({ gas, cells, per, height, words: used }, bits, words) {
   for (let y = 0; y < height; y++) gas.collide(cells, y * gas.directions * per, per, used, bits, y * words);
 }
 
-/** Collides all cells to one side, without moving them. @param {Kernel} kernel @param {Chirality} side */
+/** Collides all cells to one side, without moving them. */
 export function collideAll(kernel, side) {
   collideRows(kernel, new Int32Array(kernel.per).fill(side === "left" ? -1 : 0), 0);
 }
 
-/** Turns all particles. @param {Kernel} kernel */
 export function turnAll({ gas, cells, per, height }) {
   const half = (gas.moves.length / 2) * per;
   for (let y = 0; y < height; y++) {
@@ -147,7 +133,6 @@ export function turnAll({ gas, cells, per, height }) {
   }
 }
 
-/** The same cells in another kernel. @param {Kernel} kernel @param {MakeKernel} make */
 export function copied({ gas, width, height, cells, solid }, make) {
   const kernel = make(gas, width, height);
   kernel.cells.set(cells);
@@ -160,7 +145,9 @@ const CHIRALITIES = { seeded: 0, left: 1, right: 2 }; // of include/fhpgas.h
 const INTERFACE = 1;
 
 /** The proved engine, a module with the calls of include/fhpgas.h. Only this class knows its memory's layout. */
-export class ProvedKernel extends Kernel {
+export class ProvedKernel extends Planes {
+  numbers = new Int32Array(0); // of the last sums
+
   /** @param {WebAssembly.Module} module @param {Gas} gas @param {number} width @param {number} height */
   constructor(module, gas, width, height) {
     super(gas, width, height);
@@ -171,13 +158,12 @@ export class ProvedKernel extends Kernel {
     this.states = this.room((height * gas.directions * this.per) / 2);
     this.walls = this.room((height * this.per) / 2);
     this.work = this.room(Number(this.calls.fhpgas_work_words(gas.number, width)));
-    /** @type {{ number: number, given: bigint[] }} where sums of so many blocks go */
-    this.table = { number: 0, given: [] };
+    this.table = this.room(0); // the sums of blocks
     this.look();
     this.wallsChanged();
   }
 
-  /** Room for words of 64 bits, as a call is given it: where it is, and the number. @param {number} words */
+  /** Room for words of 64 bits, as a call is given it: where it is, and the number. */
   room(words) {
     const at = this.end, { memory } = this.calls;
     this.end += 64 * Math.ceil(words / 8);
@@ -185,16 +171,10 @@ export class ProvedKernel extends Kernel {
     return [BigInt(at), BigInt(words)];
   }
 
-  /** The words of 32 bits of a room. @param {bigint[]} room */
-  wordsOf(room) {
-    const [at, words] = room.map(Number);
-    return new Int32Array(this.calls.memory.buffer, at, 2 * words);
-  }
-
-  /** Sees the planes, anew each time that the memory has grown. */
+  /** Sees the words of 32 bits of each room. After the memory has grown they are seen anew. */
   look() {
-    this.cells = this.wordsOf(this.states);
-    this.solid = this.wordsOf(this.walls);
+    const seen = (room) => new Int32Array(this.calls.memory.buffer, Number(room[0]), 2 * Number(room[1]));
+    [this.cells, this.solid, this.numbers] = [this.states, this.walls, this.table].map(seen);
   }
 
   /** Makes a call with the lattice's arrays. It returns 0 if it refuses nothing. */
@@ -203,27 +183,20 @@ export class ProvedKernel extends Kernel {
     if (status) throw new Error(`the engine refuses ${name} with status ${status}`);
   }
 
-  /** @override */
   advance(count, generation, chirality, seed) {
     const { width, height, walls, states, work } = this, when = [BigInt(seed), BigInt(generation), BigInt(count)];
     this.call("fhpgas_advance", [CHIRALITIES[chirality], ...when, width, height, 0, 0, width], walls, states, work);
   }
 
-  /** @override */
   sums(wide, tall) {
     const { width, height, walls, states } = this;
-    const columns = Math.ceil(width / wide), rows = Math.ceil(height / tall), number = columns * rows;
-    if (this.table.number < number) {
-      this.table = { number, given: this.room(4 * number) };
+    const columns = Math.ceil(width / wide), rows = Math.ceil(height / tall), words = 4 * columns * rows;
+    if (this.table[1] < words) {
+      this.table = this.room(words);
       this.look();
     }
-    const room = [this.table.given[0], BigInt(4 * number)];
+    const room = [this.table[0], BigInt(words)], numbers = this.numbers.subarray(0, 2 * words);
     this.call("fhpgas_sums", [width, height, wide, tall], walls, states, room);
-    const words = this.wordsOf(room), parts = [0, 1, 2, 3].map((part) => {
-      const found = new Float32Array(number);
-      for (let i = 0; i < number; i++) found[i] = words[8 * i + 2 * part]; // of 64 bits the lower ones
-      return found;
-    });
-    return { columns, rows, width: wide, height: tall, parts };
+    return { columns, rows, width: wide, height: tall, numbers };
   }
 }

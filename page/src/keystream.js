@@ -35,10 +35,10 @@ export function block(state, out, at) {
 const low = (value) => Number(BigInt(value) & 0xffffffffn) | 0;
 const high = (value) => Number(BigInt(value) >> 32n) | 0;
 
-/** Room for whole blocks with so many words. @param {number} words */
+/** Room for whole blocks with so many words. */
 export const blocks = (words) => new Int32Array(Math.ceil(words / 16) * 16);
 
-/** Fills whole blocks from a stream of a seed. @param {string | bigint} seed @param {bigint | number} stream */
+/** Fills whole blocks from a stream of a seed. */
 export function keyStream(seed, stream, out) {
   const state = Int32Array.of(0x61707865, 0x3320646e, 0x79622d32, 0x6b206574, low(seed), high(seed), 0, 0, 0, 0, 0, 0,
     0, 0, low(stream), high(stream));

@@ -1,11 +1,5 @@
-// The numbers of a flow. Each has a test that knows its value from elsewhere: tests/page_numbers.mjs.
+// The numbers of a flow, each with a test that knows it from elsewhere (tests/page_model.mjs), and numbers as texts.
 import { GASES } from "./gases.js";
-
-/**
- * @typedef {import("./messages.js").Frame} Frame
- * @typedef {{ filling: number, speed: number, mach: number, fastestMach: number, g?: number, nu?: number,
- *   reynolds?: number, isCorrelated?: boolean, turnover?: number, warnings: string[] }} Numbers
- */
 
 const FEW = 100; // particles that are no fluid
 export const MOST_MACH = 0.4; // above it the density follows the speed
@@ -15,6 +9,13 @@ export const CORRELATED = {
   fhp1: { seeded: [0, 0.19], left: [0, 0.2] },
   "fhp-rest": { seeded: [0.08, 0.65], left: [0.05, 0.65] },
 };
+
+const signed = (text) => text.replace(/^-(?=.*[1-9])/, "−").replace("-", "");
+const english = new Intl.NumberFormat("en"); // toLocaleString makes one at each call
+export const count = (value) => english.format(value);
+export const fixed = (value, digits) => signed(value.toFixed(digits));
+export const round = (value, digits = 3) =>
+  signed(String(Math.abs(value) < 1e-9 ? 0 : Number(value.toPrecision(digits))));
 
 /**
  * Boltzmann's shear viscosity, (1 / lambda - 1/2) / 4: collisions undo the share lambda of a shear in a generation. It
@@ -26,13 +27,16 @@ export function viscosity(gas, d, chirality) {
   return (re / (re * re + im * im) - 1 / 2) / 4;
 }
 
-/** The factor of u grad u in the momentum equation (the same source). @param {number} directions @param {number} d */
-export const galilean = (directions, d) => ((directions / 12) * (1 - 2 * d)) / (1 - d);
+/** The factor of u grad u in the momentum equation (the same source). */
+const galilean = (directions, d) => ((directions / 12) * (1 - 2 * d)) / (1 - d);
 
-/** The Strouhal number L / (T g u). */
 export const strouhal = (length, period, g, speed) => length / (period * g * speed);
 
-/** @param {Frame} frame @param {number} length @returns {Numbers} */
+/**
+ * What is known of a flow, in which numbers that a gas does not have are undefined. @param {number} length of Reynolds
+ * @returns {{ filling: number, speed: number, mach: number, fastestMach: number, g?: number, nu?: number,
+ *   reynolds?: number, isCorrelated?: boolean, turnover?: number, warnings: string[] }}
+ */
 export function numbersOf({ gas, directions, particles, fluid, u, v, chirality, fastest }, length) {
   const filling = particles / fluid / directions, speed = Math.hypot(u, v), { sound } = GASES[gas], warnings = [];
   const found = { filling, speed, mach: speed / sound, fastestMach: fastest / sound, warnings };

@@ -1,44 +1,34 @@
-// The page: what it tells the worker, and what it does with its answers. What is done with a gas is done in the worker.
+// The page: what it tells the worker, and what it does with its answers. Lattices are the worker's.
 import { applyState, isForeign, isShort, setControl, stateText, writeAddress } from "./address.js";
 import { paintChart } from "./chart.js";
 import { makeControls, showControls } from "./controls.js";
-import { contextOf, count, readTheme, theme, write } from "./draw.js";
+import { contextOf, readTheme, theme, within, write } from "./draw.js";
 import { record, save, takeScenes } from "./files.js";
+import { MOST_CELLS } from "./flows.js";
 import { GASES } from "./gases.js";
-import { MOST_CELLS } from "./messages.js";
-import { numbersOf } from "./numbers.js";
+import { count, numbersOf } from "./numbers.js";
 import { paintNumbers, said, speeds } from "./panel.js";
-import { paintLattice, wallsOf } from "./picture.js";
+import { paintLattice, paneOf, wallsOf } from "./picture.js";
 import { listenToPointers, setProbe, zoom } from "./pointer.js";
 import { PRESETS } from "./presets.js";
 import { $, GAP, NEAR, amount, chosen, element, head, look, marks, motion } from "./state.js";
 import { paneWidth, setText, shown, view } from "./state.js";
 import { paintStrip, stripHeight } from "./strip.js";
 import { BLOCKS, SPANS, tableOf } from "./table.js";
-import { Tracers } from "./tracers.js";
-
-/**
- * @typedef {import("./messages.js").Commands} Commands
- * @typedef {import("./messages.js").Answers} Answers
- * @typedef {import("./messages.js").Frame} Frame
- * @typedef {<K extends keyof Commands>(name: K, value: Commands[K]) => void} Tell
- */
 
 const live = {
-  /** @type {string[]} */
-  notes: [],
+  notes: /** @type {string[]} */ ([]),
   engine: "", // "proved" or "script", once it is known whether there is an engine
   hasMoved: false,
   isScheduled: false,
   noteTimer: 0,
   addressTimer: 0,
-  /** @type {{ at: number[] | null, probe: number[] | null }} of the address, for the first frame */
-  pending: { at: null, probe: null },
+  pending: /** @type {{ at: number[] | null, probe: number[] | null }} */ ({ at: null, probe: null }), // of the address
 };
 const SCRIPT = "The kernel in this page computes the cells";
 const COPY = "a copy in JavaScript, free to pass on, compared with fhpgas bit for bit";
 const MOST = `At most ${count(MOST_CELLS)} cells.`;
-const tracers = [new Tracers(), new Tracers()];
+const panes = [paneOf(), paneOf()];
 const isStill = matchMedia("(prefers-reduced-motion: reduce)").matches;
 const preset = () => PRESETS[$("scene").value];
 const isSlow = () => $("pace").value.endsWith(" s");
@@ -55,7 +45,10 @@ const answers = {
     if (fault) note(`engine.js does not serve: ${fault}. ${SCRIPT}.`, "bad", 9);
     else said.engine = `The proved engine computes the cells (engine.js). ${MOST}`;
   },
-  frames: arrived,
+  frames: (frames) => {
+    shown.queue.push(frames);
+    repaint();
+  },
   files: ({ files }) => files.forEach(({ text, name }) => save(new Blob([text]), `${name}.toml`)),
   hashes: ({ hashes }) => {
     shown.hashes = hashes;
@@ -84,35 +77,32 @@ function seekEngine() {
   document.body.append(object);
 }
 
-/** @param {Answers["frames"]} data */
-function arrived({ frames, serial, canUndo, took, isRunning, strokes, state }) {
+/** Takes the frame that is to be shown next. */
+function take({ frames, serial, canUndo, isRunning, strokes, state }) {
   const isNew = serial !== shown.serial, before = isNew ? null : head();
   const isMoved = frames[0].generation !== before?.generation;
-  const walls = frames.map((frame, k) => (frame.walls ? wallsOf(frame, frame.walls) : shown.walls[k]));
-  Object.assign(shown, { frames, walls, serial, canUndo, took, hashes: [], unseen: shown.unseen + 1 });
-  if (!isSlow()) shown.isRunning = isRunning;
+  Object.assign(shown, { frames, serial, canUndo, hashes: [], isRunning: isSlow() ? shown.isRunning : isRunning });
   marks.pieces.splice(0, strokes);
   if (isNew) beginAnew(state);
-  for (const text of frames.flatMap(({ notes }) => notes)) {
-    marks.touched = null;
-    note(text, "", 9);
-  }
   if (isMoved) Object.assign(motion, { phase: 0, isOn: false });
-  frames.forEach((frame, k) => tracers[k].carry(frame));
+  frames.forEach((frame, k) => {
+    if (frame.walls) panes[k].walls = wallsOf(frame, frame.walls);
+    panes[k].tracers.carry(frame);
+    if (frame.notes.length) marks.touched = null;
+    for (const text of frame.notes) note(text, "", 9);
+  });
   if (isMoved) sample(frames[0]);
   tellReturn(before);
   if (isMoved && shown.isRunning && isSlow()) move();
-  repaint();
 }
 
-/** Keeps what the probe measured; of many samples every second one. @param {Frame} frame */
-function sample({ probe, generation, measured: { incoming } }) {
-  if (!marks.probe || String(probe?.at) !== String(marks.probe.at) || !probe) return;
+/** Keeps what the probe measured; of many samples every second one. */
+function sample({ probe, generation, incoming }) {
+  if (!probe || String(probe.at) !== String(marks.probe?.at)) return;
   marks.samples.push({ generation, u: probe.u, v: probe.v, incoming });
   if (marks.samples.length > 8000) marks.samples = marks.samples.filter((_, k) => k % 2);
 }
 
-/** @param {Frame | null} before */
 function tellReturn(before) {
   const { found, generation, width, height } = head();
   if (found === null || !before || before.found !== null) return;
@@ -121,7 +111,6 @@ function tellReturn(before) {
   note(`Back at generation ${count(generation)}: ${whose}`, found ? "bad" : "good");
 }
 
-/** @param {string} state of the controls */
 function beginAnew(state) {
   if (state !== stateText() && state) {
     applyState(state);
@@ -130,14 +119,12 @@ function beginAnew(state) {
   const { wind, chirality, gas } = head(), { at, probe } = live.pending;
   Object.assign(marks, { samples: [], pieces: [], probe: null, touched: null });
   shown.times = [];
-  shown.frames.forEach((frame, k) => tracers[k].spread(frame));
+  shown.frames.forEach((frame, k) => panes[k].tracers.spread(frame));
   Object.entries({ keep: wind !== null, chirality, gas }).forEach(([id, value]) => setControl(id, value));
   fit();
   live.pending = { at: null, probe: null };
   if (probe) setProbe(tell, { at: [probe[0], probe[1]], radius: probe[2] });
-  if (!at) return;
-  Object.assign(look, { place: { x: at[0], y: at[1], scale: at[2] }, isWhole: false });
-  looked();
+  if (at) lookFrom({ x: at[0], y: at[1], scale: at[2] });
 }
 
 /** @param {string} text @param {"" | "good" | "bad"} kind @param {number} [lasting] seconds */
@@ -155,73 +142,72 @@ function hideNote() {
 // -- painting
 
 function repaint() {
-  if (live.isScheduled || !shown.frames.length) return;
+  if (live.isScheduled || !(shown.frames.length || shown.queue.length)) return;
   live.isScheduled = true;
   requestAnimationFrame(paint);
 }
 
-/** @param {number} now */
+/** Each frame of the worker is on the screen once, in its turn. */
 function paint(now) {
-  live.isScheduled = false;
-  const begun = performance.now(), { width, height, context: c } = contextOf(view(), false), frame = head();
-  const { y, scale } = /** @type {import("./state.js").Corner} */ (look.place);
+  const next = shown.queue.shift(), begun = performance.now();
+  if (next) take(next);
+  const { width, height, context: c } = contextOf(view(), false);
+  const { y, scale } = look.place, { height: rows, apart } = head();
   const part = motion.isOn ? Math.min(1, (now - motion.begun) / motion.span) : motion.phase / 2;
   const moment = { isCollided: part > 0.25, glide: Math.max(0, 2 * part - 1) };
-  const end = ((frame.height - 0.5) * frame.apart - y) * scale + 3; // of the lattice
-  const bottom = Math.min(height - stripHeight(width), Math.max(60, end));
+  const end = ((rows - 0.5) * apart - y) * scale + 3; // of the lattice
+  const bottom = Math.round(Math.min(height - stripHeight(width), Math.max(60, end)));
   c.fillStyle = theme.paper;
   c.fillRect(0, 0, width, height);
   shown.frames.forEach((_, k) => paintPane(c, k, paneWidth(width), bottom, moment));
   const stage = moment.glide ? "streaming" : moment.isCollided ? "after the collision" : "before the collision";
   paintStrip(c, { width, top: bottom, stage });
-  if (shown.unseen) painted(begun);
-  if (motion.isOn && part < 1) repaint();
-  else if (motion.isOn) {
+  if (next) painted(begun);
+  if (motion.isOn && part === 1) {
     Object.assign(motion, { isOn: false, phase: 2 });
     tell("step", {});
   }
+  live.isScheduled = false;
+  if (motion.isOn || shown.queue.length) repaint();
 }
 
-/** One of the pictures. @param {CanvasRenderingContext2D} c */
 function paintPane(c, k, wide, bottom, moment) {
-  const { x, y, scale } = /** @type {import("./state.js").Corner} */ (look.place), left = k * (wide + GAP);
-  const frame = shown.frames[k], font = wide < 300 ? "600 14px" : "600 19px";
-  c.save();
-  c.beginPath();
-  c.rect(left, 0, wide, bottom);
-  c.clip();
-  c.translate(left - x * scale, -y * scale);
-  paintLattice({ c, frame, scale }, shown.walls[k], $("tracers").checked ? tracers[k] : null, moment);
-  c.restore();
+  const { x, y, scale } = look.place, left = k * (wide + GAP), frame = shown.frames[k];
+  within(c, left, 0, wide, bottom, () => {
+    c.translate(left - x * scale, -y * scale);
+    paintLattice(c, frame, scale, panes[k], $("tracers").checked, moment);
+  });
   if (shown.frames.length === 1) return;
-  const caption = [left + Math.max(0, -x * scale) + 10, Math.max(0, (-frame.apart / 2 - y) * scale) + 28];
-  write(c, preset().captions[k] ?? "", caption[0], caption[1], { font });
+  const [across, down] = [left + Math.max(0, -x * scale) + 10, Math.max(0, (-frame.apart / 2 - y) * scale) + 28];
+  write(c, preset().captions[k] ?? "", across, down, { font: wide < 300 ? "600 14px" : "600 19px" });
 }
 
-/** A frame is on the screen: the worker may send the next. @param {number} begun */
+/** A frame is on the screen: the worker may send the next. */
 function painted(begun) {
   const { generation } = head();
-  tell("seen", { frames: shown.unseen });
-  shown.unseen = 0;
+  tell("seen", {});
   shown.times.push([begun, generation]);
   if (shown.times.length > 50) shown.times.shift();
   paintNumbers();
   paintChart(numbersOf(head(), amount("length")));
   update();
   shown.painted++;
-  shown.took.paint = performance.now() - begun;
   if (generation > 0 && !live.hasMoved) performance.mark("moved", { detail: shown.painted });
   live.hasMoved ||= generation > 0;
 }
 
 // -- where one looks
 
+/** Looks at a place of the lattice from the upper left. */
+function lookFrom(place) {
+  Object.assign(look, { place, isWhole: false });
+  looked();
+}
+
 /** Shows cells of so many pixels, with a place in the middle of the picture. */
 function lookAt(scale, x, y) {
   const { clientWidth, clientHeight } = view(), high = clientHeight - stripHeight(clientWidth);
-  look.place = { scale, x: x - paneWidth(clientWidth) / scale / 2, y: y - high / scale / 2 };
-  look.isWhole = false;
-  looked();
+  lookFrom({ scale, x: x - paneWidth(clientWidth) / scale / 2, y: y - high / scale / 2 });
 }
 
 /** Shows single cells, slowly. */
@@ -232,36 +218,33 @@ function near() {
   go(shown.isRunning);
 }
 
+/** Shows the whole lattice, from the top of the picture. */
 function fit() {
   const { clientWidth, clientHeight } = view(), { width, height, apart } = head();
-  const high = (clientHeight - stripHeight(clientWidth) - 8) / (height * apart);
-  const scale = Math.min((paneWidth(clientWidth) - 4) / (width + 0.5), high, 150);
-  lookAt(scale, (width - 0.5) / 2, ((height - 1) * apart) / 2);
-  // the picture begins at the top
-  if (look.place) look.place.y = Math.max(look.place.y, -apart / 2 - 4 / scale);
+  const high = clientHeight - stripHeight(clientWidth), wide = paneWidth(clientWidth) - 4;
+  const scale = Math.min(wide / (width + 0.5), (high - 8) / (height * apart), 150);
+  lookAt(scale, (width - 0.5) / 2, Math.max(((height - 1) * apart) / 2, (high / 2 - 4) / scale - apart / 2));
   look.isWhole = true;
-  repaint();
 }
 
-/** @param {number} factor */
 function closer(factor) {
-  zoom(factor, view().clientWidth / 2, view().clientHeight / 3);
+  zoom(factor, { x: view().clientWidth / 2, y: view().clientHeight / 3 });
   looked();
 }
 
 /** Asks for what is to be seen: the field, and the cells in the picture if they are large enough. */
 function looked() {
-  const [block, smooth] = BLOCKS[amount("smooth")], { place } = look;
-  /** @type {import("./messages.js").View} */
+  const [block, smooth] = BLOCKS[amount("smooth")], { place: { x, y, scale } } = look;
+  /** @type {View} */
   const wanted = { field: chosen.field, block, smooth, span: SPANS[amount("span")], window: null };
-  if (place && shown.frames.length && place.scale >= NEAR) {
-    const { clientWidth, clientHeight } = view(), { x, y, scale } = place, { apart } = head();
+  if (shown.frames.length && scale >= NEAR) {
+    const { clientWidth, clientHeight } = view(), { apart } = head();
     const [left, top] = [x, y / apart].map((part) => Math.floor(part) - 1);
     const [wide, tall] = [paneWidth(clientWidth), clientHeight / apart].map((part) => Math.ceil(part / scale) + 3);
     wanted.window = [left, top, wide, tall];
   }
   const text = JSON.stringify(wanted);
-  if (text !== look.sent) tell("view", { view: wanted });
+  if (text !== look.sent) tell("view", wanted);
   look.sent = text;
   update();
   repaint();
@@ -269,7 +252,7 @@ function looked() {
 
 // -- what the controls do
 
-/** The flows of the controls. @returns {import("./starts.js").Start[]} */
+/** The flows of the controls. */
 function startsOf(runs = "") {
   const { gases, shapes } = preset(), [width, height] = $("size").value.split(" x ").map(Number);
   return shapes.map((shape, k) => ({ width, height, shape, runs, gas: gases.length > 1 ? gases[k] : $("gas").value,
@@ -278,9 +261,9 @@ function startsOf(runs = "") {
 }
 
 /** Says what to look at, and what the length of Re is. */
-function introduce() {
-  setText($("sentence"), preset().look);
-  said.length = preset().length || "the channel's height";
+function introduce(words = preset().look, length = preset().length) {
+  setText($("sentence"), words);
+  said.length = length || "the channel's height";
 }
 
 /** @param {boolean} [hasLength] @param {string} [runs] what was drawn */
@@ -296,17 +279,16 @@ function start(hasLength = false, runs = "") {
   tell("start", { flows, state: stateText() });
   if (flips) tell("flip", { at: [width / 2, (height * apart) / 2], radius: 1 });
   go(!isStill && !["pair", "triple"].includes(shapes[0]));
-  if (shown.frames.length) note("A new start. Undo (⌫) brings the old gas back.", "", 4);
-  if (isStill) note("Your system asks for less motion: Run starts the gas.", "", 12);
+  if (shown.frames.length) note("A new start. Undo (⌫) brings the old lattice back.", "", 4);
+  if (isStill) note("Your system asks for less motion: Run starts the flow.", "", 12);
 }
 
-/** The worker runs on alone, or at a slow pace the page asks for every generation. @param {boolean} on */
+/** The worker runs on alone, or at a slow pace the page asks for every generation. */
 function go(on) {
   tell("run", { on: on && !isSlow(), pace: isSlow() ? 1 : amount("pace") });
   setRunning(on);
 }
 
-/** @param {boolean} on */
 function setRunning(on) {
   shown.isRunning = on;
   if (on && isSlow() && shown.frames.length) move();
@@ -333,16 +315,16 @@ function halfStep() {
   if (shown.isRunning) go(false);
   if (!head().cells) return near();
   if (motion.phase < 2 && !motion.isOn && motion.phase) return move(1400);
-  if (!motion.phase) motion.phase = 1;
+  motion.phase ||= 1;
   repaint();
 }
 
-/** Goes back, if all gases can, or offers a way on. @param {"turn" | "back"} command */
+/** Goes back, if all flows can, or offers a way on. */
 function back(command) {
   hideNote();
   if (shown.frames.some(({ canTurn }) => !canTurn)) {
     const why = "Pairs turn at random here, and their random bits only run forwards.";
-    note(`${why} If they turn left from these cells on, the gas can come back to here.`, "bad", 20);
+    note(`${why} If they turn left from these cells on, time can come back to here.`, "bad", 20);
     const offer = element("button", { id: "offer" }, "Go on with left");
     offer.onclick = () => {
       hideNote();
@@ -374,7 +356,7 @@ const acts = {
   gas: () => tell("gas", { gas: $("gas").value, flows: startsOf(), state: stateText() }),
   chirality: () => tell("chirality", { chirality: $("chirality").value }),
   keep: () => tell("keep", { wind: keptWind() }),
-  wind: () => $("keep").checked && tell("keep", { wind: keptWind() }),
+  wind: () => $("keep").checked && acts.keep(),
   undo: () => tell("undo", {}),
   clear: () => tell("clear", {}),
   field: (field) => {
@@ -428,13 +410,12 @@ function begin() {
 
 takeScenes((text) => {
   hideNote();
-  setText($("sentence"), "A scene that was opened. Run starts it.");
-  said.length = "the channel's height";
+  introduce("A scene that was opened. Run starts it.", "");
   go(false);
   tell("open", { text, state: stateText() });
 });
 listenToPointers({ tell, looked, repaint, hideNote });
-new ResizeObserver(() => shown.frames.length && look.place && (look.isWhole ? fit() : looked())).observe(view());
+new ResizeObserver(() => shown.frames.length && (look.isWhole ? fit() : looked())).observe(view());
 matchMedia("(prefers-color-scheme: dark)").onchange = () => {
   readTheme();
   repaint();

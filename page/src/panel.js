@@ -1,9 +1,6 @@
 // The numbers: the three that matter, and all of them.
-import { count, fixed, round } from "./draw.js";
-import { MOST_MACH, numbersOf } from "./numbers.js";
-import { $, amount, each, element, head, shown } from "./state.js";
-
-/** @typedef {import("./messages.js").Frame} Frame */
+import { MOST_MACH, count, fixed, numbersOf, round } from "./numbers.js";
+import { $, amount, each, element, head, setText, shown } from "./state.js";
 
 /** What the page says of its kernel, and of the length of Re. */
 export const said = { engine: "", length: "" };
@@ -17,11 +14,10 @@ export function speeds() {
   return { fps: (times.length - 1) / gone, updates: (Math.abs(last[1] - first[1]) * cells) / gone / 1e6 };
 }
 
-/** Of each picture once. @param {(numbers: import("./numbers.js").Numbers) => string} text */
+/** Of each picture once. */
 const of = (text) => each((frame) => text(numbersOf(frame, amount("length"))));
 const value = (number) => (number === undefined || number === null ? "–" : round(number));
 
-/** Shows the three numbers. */
 export function paintNumbers() {
   if (!shown.frames.length) return;
   const { direction, generation } = head(), length = amount("length"), isBack = direction < 0;
@@ -33,12 +29,15 @@ export function paintNumbers() {
     [of(({ reynolds }) => value(reynolds)), isHigh ? "Reynolds, at most" : `Reynolds, L = ${length}`, ""],
     [of((one) => one.fastestMach.toFixed(2)), isFast ? "Mach: too fast" : "Mach, fastest", isFast ? "warns" : ""],
   ];
-  $("numbers").replaceChildren(...rows.map(([text, name, kind]) =>
-    element("div", { class: kind }, element("b", {}, text), element("span", {}, name))));
+  rows.forEach(([text, name, kind], k) => {
+    const box = $("numbers").children[k];
+    box.className = kind;
+    setText(box.children[0], text);
+    setText(box.children[1], name);
+  });
   if (!$("all").hidden) paintAll(new Set(numbers.flatMap(({ warnings }) => warnings)));
 }
 
-/** @param {Set<string>} warnings */
 function paintAll(warnings) {
   const { fps, updates } = speeds(), { wind } = head();
   const kept = `The wind is kept at ${wind}: particles are turned in every generation. u is the mean before that.`;
@@ -55,8 +54,8 @@ function paintAll(warnings) {
     "factor g": of(({ g }) => value(g)),
     "viscosity ν, Boltzmann's": of(({ nu }) => value(nu)),
     [`Reynolds g u L / ν, L = ${amount("length")}`]: of(({ reynolds }) => value(reynolds)),
-    "blocked part of the channel": each(({ measured }) => `${Math.round(100 * measured.blockage)} %`),
-    "speed that meets the obstacle": each(({ measured }) => value(measured.incoming)),
+    "blocked part of the channel": each(({ blockage }) => `${Math.round(100 * blockage)} %`),
+    "speed that meets the obstacle": each(({ incoming }) => value(incoming)),
     "million updates per second": fps ? round(updates) : "–",
     "frames per second": fps ? fps.toFixed(0) : "–",
   });

@@ -1,66 +1,63 @@
 // The picture of a lattice: its field, its obstacles, single cells, and what is drawn on it.
 import { imageOf, line, theme } from "./draw.js";
 import { FIELDS } from "./fields.js";
-import { GASES, SOLID, velocities } from "./gases.js";
+import { GASES, SOLID, eastOf, velocities } from "./gases.js";
 import { marks } from "./state.js";
-
-/**
- * @typedef {import("./messages.js").Frame} Frame
- * @typedef {{ c: CanvasRenderingContext2D, frame: Frame, scale: number }} Scene pixels per cell
- */
+import { Tracers } from "./tracers.js";
 
 const FAINT = 0.3; // the field behind single cells
 const MOST_PIXELS = 16000; // across a canvas
 const WALL = (255 << 24) | (0x8c << 16) | (0x82 << 8) | 0x78; // the style sheet's --wall
 
-/** The colours of a field, in the scheme of the page. @param {string} name */
+/** The colours of a field, in the scheme of the page. */
 export const coloursOf = (name) => FIELDS[name].palette[theme.isDark ? FIELDS[name].palette.length - 1 : 0];
 
-/** A canvas of a frame's field. @param {Frame} frame */
-export function fieldOf({ columns, rows, pixels, field }) {
-  const colours = coloursOf(field);
-  return imageOf(columns, rows, (out) => pixels.forEach((value, i) => (out[i] = colours[value])));
-}
+/** What is kept of a lattice from frame to frame. `walls` are its solid cells, and where they are. */
+export const paneOf = () => ({ tracers: new Tracers(), field: document.createElement("canvas"),
+  walls: /** @type {ReturnType<typeof wallsOf>} */ (null) });
+
+const eachSolid = (plane, per, act) => plane.forEach((word, k) => {
+  const x = 32 * (k % per) + 31, y = Math.floor(k / per);
+  for (let rest = word; rest; rest &= rest - 1) act(x - Math.clz32(rest & -rest), y);
+});
 
 /** Solid cells, two pixels each, because odd rows of the triangular lattice lie half a cell to the east. */
 export function wallsOf({ width, height, apart, per }, plane) {
-  const wide = apart < 1 ? 2 : 1, across = wide * width + wide - 1, step = Math.ceil(across / MOST_PIXELS);
-  const columns = Math.ceil(across / step);
-  return imageOf(columns, height, (out) => {
-    for (let y = 0; y < height; y++) {
-      for (let x = 0; x < width; x++) {
-        if (!(plane[y * per + (x >> 5)] >>> (x & 31) & 1)) continue;
-        const from = wide * x + (wide > 1 ? y & 1 : 0);
-        for (let k = 0; k < wide; k++) out[y * columns + Math.floor((from + k) / step)] = WALL;
-      }
-    }
+  const wide = apart < 1 ? 2 : 1, step = Math.ceil((wide * width + 1) / MOST_PIXELS);
+  let [west, east, north, south] = [width, -1, height, -1];
+  eachSolid(plane, per, (x, y) => {
+    [west, east] = [Math.min(west, x), Math.max(east, x)];
+    [north, south] = [Math.min(north, y), Math.max(south, y)];
   });
+  if (east < 0) return null;
+  const columns = Math.ceil((wide * (east - west + 1) + wide - 1) / step), rows = south - north + 1;
+  const image = imageOf(document.createElement("canvas"), columns, rows, (out) => eachSolid(plane, per, (x, y) => {
+    const from = wide * (x - west + eastOf({ apart }, y));
+    for (let k = 0; k < wide; k++) out[(y - north) * columns + Math.floor((from + k) / step)] = WALL;
+  }));
+  return { image, x: west - 0.5, y: (north - 0.5) * apart, width: (columns * step) / wide, height: rows * apart };
 }
 
 /** Paints a lattice, whose first cell is in the middle of the canvas's origin. */
-export function paintLattice(scene, walls, tracers, moment) {
-  const { c, frame, scale } = scene, { width, height, apart, columns, rows, block, blockRows, cells } = frame;
-  const half = apart < 1 ? 0.25 : 0, top = (-apart / 2) * scale, tall = height * apart * scale, left = -0.5 * scale;
-  c.save();
-  c.beginPath();
-  c.rect(left + half * scale, top, width * scale, tall);
-  c.clip();
+export function paintLattice(c, frame, scale, { walls, tracers, field }, hasTracers, moment) {
+  const { width, height, apart, columns, rows, block, blockRows, cells, pixels } = frame, half = eastOf(frame, 1) / 2;
+  const [left, top, tall] = [(half - 0.5) * scale, (-apart / 2) * scale, height * apart * scale];
+  const colours = coloursOf(frame.field), [across, down] = [width / block, height / blockRows]; // last blocks jut out
   c.globalAlpha = cells ? FAINT : 1;
   c.imageSmoothingEnabled = block > 1;
-  const across = columns * block * scale, down = rows * blockRows * apart * scale;
-  if (!cells || block > 1) c.drawImage(fieldOf(frame), left + half * scale, top, across, down);
+  imageOf(field, columns, rows, (out) => pixels.forEach((value, i) => (out[i] = colours[value])));
+  if (!cells || block > 1) c.drawImage(field, 0, 0, across, down, left, top, width * scale, tall);
   c.globalAlpha = 1;
-  if (!cells) tracers?.paint(c, frame, scale);
-  c.restore();
+  if (hasTracers && !cells) tracers.paint(c, frame, scale);
   c.imageSmoothingEnabled = scale < 2;
-  if (cells) paintCells(scene, moment);
-  else c.drawImage(walls, left, top, (width + 2 * half) * scale, tall);
-  const long = (width + 2 * half) * scale;
-  for (const y of [top - 1, top + tall + 1]) line(c, [[left, y], [left + long, y]], theme.ink, 3);
-  paintMarks(scene);
+  if (cells) paintCells(c, frame, scale, cells, moment);
+  else if (walls) c.drawImage(walls.image, ...["x", "y", "width", "height"].map((part) => walls[part] * scale));
+  const ends = [left - half * scale, left + (width + half) * scale];
+  for (const y of [top - 1, top + tall + 1]) line(c, ends.map((x) => [x, y]), theme.ink, 3);
+  paintMarks(c, frame, scale);
 }
 
-function paintMarks({ c, frame: { mark, generation, width }, scale }) {
+function paintMarks(c, { mark, generation, width }, scale) {
   const scaled = (at) => at.map((part) => part * scale);
   c.lineCap = "round";
   for (const { from, to: [x, y], radius, solid } of marks.pieces) {
@@ -76,9 +73,9 @@ function paintMarks({ c, frame: { mark, generation, width }, scale }) {
 /** A disc of the probe, or where a tool was used of which the worker has not said what came of it. */
 function paintDisc(c, [x, y], radius) {
   const r = Math.max(6, radius);
-  for (const [colour, wide] of /** @type {[string, number][]} */ ([["#fff", 6], ["#000", 2.5]])) {
+  for (const [colour, wide] of [["#fff", 6], ["#000", 2.5]]) {
     for (const [dx, dy] of velocities(GASES.hpp)) {
-      line(c, [r, r + 9].map((at) => [x + at * dx, y + at * dy]), colour, wide);
+      line(c, [r, r + 9].map((at) => [x + at * dx, y + at * dy]), String(colour), Number(wide));
     }
     c.beginPath();
     c.arc(x, y, r, 0, 7);
@@ -86,7 +83,6 @@ function paintDisc(c, [x, y], radius) {
   }
 }
 
-/** @param {Path2D} path */
 function dot(path, x, y, radius) {
   path.moveTo(x + radius, y);
   path.arc(x, y, radius, 0, 7);
@@ -102,25 +98,23 @@ function arrow(path, cx, cy, [dx, dy], from, scale) {
 }
 
 /** Whether a particle that leaves a cell on a link comes back from a wall. */
-function reflects({ cells, apart, width, height }, x, y, [dx, dy]) {
-  const row = y + Math.round(dy / apart), shift = apart < 1 ? ((y & 1) - (row & 1)) / 2 : 0;
-  const column = (Math.round(x + dx + shift) + width) % width;
-  if (!cells || row < 0 || row >= height) return true;
+function reflects(frame, cells, x, y, [dx, dy]) {
+  const { apart, width, height } = frame, row = y + Math.round(dy / apart);
+  const column = (Math.round(x + dx + eastOf(frame, y) - eastOf(frame, row)) + width) % width;
+  if (row < 0 || row >= height) return true;
   const isIn = column >= cells.x && column < cells.x + cells.width;
   return isIn && cells.before[(row - cells.y) * cells.width + column - cells.x] === SOLID;
 }
 
 /** Single cells: before the collision particles arrive, after it they leave, and then they glide along their links. */
-function paintCells({ c, frame, scale }, { isCollided, glide }) {
-  const { gas, apart } = frame, cells = /** @type {import("./messages.js").Window} */ (frame.cells), half = scale / 2;
-  const links = velocities(GASES[gas]).slice(0, apart < 1 ? 6 : 4).map(([east, north]) => [east, -north]);
-  const states = isCollided ? cells.after : cells.before;
+function paintCells(c, frame, scale, cells, { isCollided, glide }) {
+  const { gas, apart } = frame, half = scale / 2, states = isCollided ? cells.after : cells.before;
+  const links = velocities(GASES[gas]).slice(0, GASES[gas].moves.length).map(([east, north]) => [east, -north]);
   const [solid, dots, rest, still, meeting, grid] = Array.from({ length: 6 }, () => new Path2D());
-  for (let at = 0; at < states.length; at++) {
-    const x = cells.x + (at % cells.width), y = cells.y + Math.floor(at / cells.width), state = states[at];
-    const cx = (x + (apart < 1 ? (y & 1) / 2 : 0)) * scale, cy = y * apart * scale;
-    if (state === SOLID) solid.rect(cx - half, cy - half * apart, scale, scale * apart);
-    if (state === SOLID) continue;
+  states.forEach((state, at) => {
+    const x = cells.x + (at % cells.width), y = cells.y + Math.floor(at / cells.width);
+    const cx = (x + eastOf(frame, y)) * scale, cy = y * apart * scale;
+    if (state === SOLID) return solid.rect(cx - half, cy - half * apart, scale, scale * apart);
     dot(dots, cx, cy, 0.05 * scale);
     for (const [dx, dy] of scale > 24 ? links : []) {
       grid.moveTo(cx, cy);
@@ -131,17 +125,18 @@ function paintCells({ c, frame, scale }, { isCollided, glide }) {
     links.forEach((link, i) => {
       if (!(state >> i & 1)) return;
       if (!isCollided) arrow(path, cx, cy, link, -0.46, scale);
-      else if (glide < 0.5 || !reflects(frame, x, y, link)) arrow(path, cx, cy, link, 0.1 + 0.44 * glide, scale);
+      else if (glide < 0.5 || !reflects(frame, cells, x, y, link)) arrow(path, cx, cy, link, 0.1 + 0.44 * glide, scale);
       else arrow(path, cx, cy, [-link[0], -link[1]], -0.46, scale);
     });
-  }
-  Object.assign(c, { strokeStyle: theme.faint, lineWidth: 1.5 });
-  c.stroke(grid);
-  /** @type {[Path2D, string][]} */
-  const fills = [[solid, theme.wall], [dots, "#8b98a3"], [rest, theme.arrow]];
-  /** @type {[Path2D, string][]} */
-  const strokes = [[still, theme.arrow], [meeting, theme.meets]];
-  for (const [path, fillStyle] of fills) Object.assign(c, { fillStyle }).fill(path);
+  });
+  const fill = (path, fillStyle) => Object.assign(c, { fillStyle }).fill(path);
+  const stroke = (path, strokeStyle) => Object.assign(c, { strokeStyle }).stroke(path);
+  c.lineWidth = 1.5;
+  stroke(grid, theme.faint);
+  fill(solid, theme.wall);
+  fill(dots, "#8b98a3");
+  fill(rest, theme.arrow);
   Object.assign(c, { lineWidth: Math.max(1.3, 0.07 * scale), lineCap: "round", lineJoin: "round" });
-  for (const [path, strokeStyle] of strokes) Object.assign(c, { strokeStyle }).stroke(path);
+  stroke(still, theme.arrow);
+  stroke(meeting, theme.meets);
 }

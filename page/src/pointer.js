@@ -1,53 +1,60 @@
 // Mouse and fingers on the picture: one draws or moves, two zoom.
 import { GAP, $, amount, chosen, look, marks, paneWidth, shown, view } from "./state.js";
 
-/**
- * @typedef {import("./cells.js").Place} Place
- * @typedef {{ tell: import("./page.js").Tell, looked: () => void, repaint: () => void, hideNote: () => void }} Ways
- */
-
 const gesture = {
   /** @type {Map<number, { x: number, y: number }>} the pointers that are down, in CSS pixels of the canvas */
   fingers: new Map(),
-  /** @type {Place | null} the end of the stroke */
-  stroke: null,
+  stroke: /** @type {Place | null} */ (null), // its end
   isDrawn: false, // something of the stroke
   isMoving: false,
 };
 
-/** @returns {Place} the place on the lattice under a point of the canvas, in whichever picture */
-function placeOf(x, y) {
-  const place = /** @type {import("./state.js").Corner} */ (look.place), each = paneWidth(view().clientWidth) + GAP;
+/** The place on the lattice under a point of the canvas, in whichever picture. */
+function placeOf({ x, y }) {
+  const { place } = look, each = paneWidth(view().clientWidth) + GAP;
   const pane = Math.max(0, Math.min(shown.frames.length - 1, Math.floor(x / each)));
   return [place.x + (x - pane * each) / place.scale, place.y + y / place.scale];
 }
 
-/** Zooms about a point of the canvas, and moves it. */
-export function zoom(factor, x, y, dx = 0, dy = 0) {
-  const place = /** @type {import("./state.js").Corner} */ (look.place);
-  const scale = Math.max(0.1, Math.min(200, place.scale * factor));
-  const [left, top] = [x / place.scale - (x + dx) / scale, y / place.scale - (y + dy) / scale];
-  look.place = { scale, x: place.x + left, y: place.y + top };
+/** Zooms about a point of the canvas, and moves it to another. */
+export function zoom(factor, from, to = from) {
+  const { x, y, scale: old } = look.place, scale = Math.max(0.1, Math.min(200, old * factor));
+  look.place = { scale, x: x + from.x / old - to.x / scale, y: y + from.y / old - to.y / scale };
   look.isWhole = false;
 }
 
-/** Listens to the picture. @param {Ways} ways */
+/** One of two fingers has moved: the picture stays beneath both. */
+function pinch(moved, before, now) {
+  const [other] = [...gesture.fingers].filter(([id]) => id !== moved).map(([, finger]) => finger);
+  const distance = ({ x, y }) => Math.max(20, Math.hypot(x - other.x, y - other.y));
+  const middle = ({ x, y }) => ({ x: (x + other.x) / 2, y: (y + other.y) / 2 });
+  zoom(distance(now) / distance(before), middle(before), middle(now));
+}
+
+/** @param {Tell} tell @param {Disc} disc */
+export function setProbe(tell, disc) {
+  Object.assign(marks, { probe: disc, samples: [] });
+  $("chart").hidden = false;
+  tell("probe", disc);
+}
+
+/**
+ * Listens to the picture.
+ * @param {{ tell: Tell, looked: () => void, repaint: () => void, hideNote: () => void }} ways
+ */
 export function listenToPointers({ tell, looked, repaint, hideNote }) {
   const canvas = view();
   const pointOf = ({ clientX, clientY }) => {
     const box = canvas.getBoundingClientRect();
     return { x: clientX - box.left, y: clientY - box.top };
   };
-  const draw = (from, to, end) => {
-    const piece = { from, to, radius: amount("brush"), solid: chosen.tool === "draw" };
-    gesture.isDrawn = true;
+  const draw = (to, end) => {
+    const from = gesture.stroke ?? to, solid = chosen.tool === "draw";
+    const piece = { from, to, radius: amount("brush"), solid, end };
+    Object.assign(gesture, { isDrawn: true, stroke: end ? null : to });
     marks.pieces.push(piece);
-    tell("stroke", { ...piece, end });
+    tell("stroke", piece);
     repaint();
-  };
-  const endStroke = () => {
-    if (gesture.stroke) draw(gesture.stroke, gesture.stroke, true);
-    gesture.stroke = null;
   };
   const use = (at) => {
     const radius = amount("brush");
@@ -61,56 +68,36 @@ export function listenToPointers({ tell, looked, repaint, hideNote }) {
     if (!shown.frames.length || event.button > 1) return;
     canvas.setPointerCapture(event.pointerId);
     gesture.fingers.set(event.pointerId, pointOf(event));
-    if (gesture.fingers.size > 1 && !gesture.isDrawn) gesture.stroke = null;
-    if (gesture.fingers.size > 1) return endStroke();
+    if (gesture.fingers.size > 1) {
+      if (gesture.stroke && gesture.isDrawn) draw(gesture.stroke, true);
+      gesture.stroke = null;
+      return;
+    }
     hideNote();
-    const { x, y } = pointOf(event), at = placeOf(x, y);
+    const at = placeOf(pointOf(event));
     gesture.isMoving = chosen.tool === "move" || event.button > 0;
     if (gesture.isMoving) return;
     if (chosen.tool !== "draw" && chosen.tool !== "erase") return use(at);
-    gesture.stroke = at;
-    gesture.isDrawn = false;
-    if (event.pointerType === "mouse") draw(at, at, false);
+    Object.assign(gesture, { stroke: at, isDrawn: false });
+    if (event.pointerType === "mouse") draw(at, false);
   };
   canvas.onpointermove = (event) => {
     const before = gesture.fingers.get(event.pointerId), now = pointOf(event);
     if (!before) return;
     gesture.fingers.set(event.pointerId, now);
+    if (gesture.fingers.size === 1 && gesture.stroke) return draw(placeOf(now), false);
     if (gesture.fingers.size > 1) pinch(event.pointerId, before, now);
-    else if (gesture.stroke) {
-      const to = placeOf(now.x, now.y);
-      draw(gesture.stroke, to, false);
-      gesture.stroke = to;
-      return;
-    } else if (gesture.isMoving) zoom(1, before.x, before.y, now.x - before.x, now.y - before.y);
+    else if (gesture.isMoving) zoom(1, before, now);
     looked();
   };
   canvas.onpointerup = canvas.onpointercancel = (event) => {
     gesture.fingers.delete(event.pointerId);
-    endStroke();
+    if (gesture.stroke) draw(gesture.stroke, true);
   };
   canvas.addEventListener("wheel", (event) => {
     event.preventDefault();
     if (!shown.frames.length) return;
-    const { x, y } = pointOf(event);
-    zoom(Math.exp(-event.deltaY / 400), x, y);
+    zoom(Math.exp(-event.deltaY / 400), pointOf(event));
     looked();
   }, { passive: false });
-}
-
-/** One of two fingers has moved: the picture stays beneath both. */
-function pinch(moved, before, now) {
-  const [other] = [...gesture.fingers].filter(([id]) => id !== moved).map(([, finger]) => finger);
-  const distance = ({ x, y }) => Math.max(20, Math.hypot(x - other.x, y - other.y));
-  const middle = ({ x, y }) => [(x + other.x) / 2, (y + other.y) / 2];
-  const [x, y] = middle(before), [toX, toY] = middle(now);
-  zoom(distance(now) / distance(before), x, y, toX - x, toY - y);
-}
-
-/** @param {import("./page.js").Tell} tell @param {import("./state.js").Disc} disc */
-export function setProbe(tell, disc) {
-  marks.probe = disc;
-  marks.samples = [];
-  $("chart").hidden = false;
-  tell("probe", disc);
 }

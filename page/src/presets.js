@@ -1,24 +1,13 @@
 // What the page can begin with: what differs from the first. `length` says what the length of Re is; without it, it is
-// the channel's height.
-
-/**
- * @typedef {{ gases: string[], shapes: string[], chirality: string, size: string, fill: number, wind: number,
- *   keep: boolean, radius: number, pace: string, field: string, smooth: number, span: number, length: string,
- *   captions: string[], tall?: string, flips?: boolean, look: string }} Preset
- *   `tall` is the size in a window that is higher than wide; `look` says what to look at
- */
-
-/** @type {Preset} */
+// the channel's height. `tall` is the size in a window that is higher than wide; `look` says what to look at.
 const FIRST = { gases: ["fhp-rest"], shapes: ["disc"], chirality: "left", size: "1024 x 512", tall: "512 x 768",
   fill: 0.18, wind: 0.14, keep: true, radius: 44, pace: "10", field: "vorticity", smooth: 4, span: 5,
-  length: "the disc's diameter", captions: [],
+  length: "the disc's diameter", captions: /** @type {string[]} */ ([]), flips: false,
   look: "The gas parts before the disc. Blue turns clockwise, red anticlockwise: both are born at the disc's skin." };
-/** @type {Partial<Preset>} */
 const SMALL = { gases: ["fhp1"], size: "512 x 256", tall: "256 x 384", smooth: 3 };
-/** @type {Partial<Preset>} */
 const AT_REST = { ...SMALL, wind: 0, keep: false, radius: 22, field: "density", span: 0, pace: "1", length: "" };
 
-/** @type {Record<string, Partial<Preset>>} */
+/** @type {Record<string, Partial<typeof FIRST>>} */
 const OTHERS = {
   "flow past a disc": {},
   "vortex street": { shapes: ["street"], size: "3200 x 1016", tall: "3200 x 1016", wind: 0.3, radius: 80, pace: "20",
@@ -50,6 +39,5 @@ const OTHERS = {
     look: "Orange particles collide: the pair turns left, the triple goes back. Half steps (h) show it." },
 };
 
-/** @type {Record<string, Preset>} */
 export const PRESETS = Object.fromEntries(
   Object.entries(OTHERS).map(([name, preset]) => [name, { ...FIRST, ...preset }]));

@@ -1,12 +1,8 @@
 // Scenes: the lattice of a text, and the texts of a lattice. docs/FORMATS.md has the formats.
+import { Flow } from "./flow.js";
 import { GASES, OTHER, SOLID } from "./gases.js";
 import { blocks, keyStream } from "./keystream.js";
-
-/**
- * @typedef {import("./gases.js").Gas} Gas
- * @typedef {import("./flow.js").Flow} Flow
- * @typedef {import("./flow.js").Course & { gas: Gas, width: number, height: number, states: Uint8Array }} Scene
- */
+import { count } from "./numbers.js";
 
 const SPELLED = Array.from({ length: SOLID + 1 }, (_, state) => state.toString(16).padStart(2, "0"));
 SPELLED[0] = "..";
@@ -16,7 +12,7 @@ const KEYS = "version generation gas chirality seed cells width height solid rat
 /** Fills the fluid cells: direction i with a chance of rates[i] thousandths, as a scene's `rate` does. */
 export function fillStates(gas, states, seed, rates) {
   const words = blocks(states.length);
-  for (let at = 0; at < states.length; at++) if (states[at] !== SOLID) states[at] = 0;
+  for (let at = 0; at < states.length; at++) states[at] &= SOLID;
   for (let i = 0; i < gas.directions; i++) {
     if (!rates[i]) continue;
     keyStream(seed, (1n << 63n) + BigInt(i), words);
@@ -24,6 +20,7 @@ export function fillStates(gas, states, seed, rates) {
       if ((words[at] >>> 0) % 1000 < rates[i] && states[at] !== SOLID) states[at] |= 1 << i;
     }
   }
+  return states;
 }
 
 /**
@@ -33,9 +30,10 @@ export function fillStates(gas, states, seed, rates) {
  */
 function readKeys(text) {
   const token = /("[^"\\\n]*")|'([^'\\\n]*)'|#.*|(0x[\da-f]+|\d+(?:_\d+)*)|(?<=^[ \t]*)([a-z]+)[ \t]*=/gim;
-  const json = text.replace(token, (_, quoted, literal, number, key) =>
-    quoted ?? (literal !== undefined ? `"${literal}"` : number ? `"${BigInt(number.replaceAll("_", ""))}"`
-      : key ? `,"${key}":` : ""));
+  const json = text.replace(token, (_, quoted, literal, number, key) => {
+    if (key) return `,"${key}":`;
+    return quoted ?? (literal !== undefined ? `"${literal}"` : number ? `"${BigInt(number.replaceAll("_", ""))}"` : "");
+  });
   try {
     return JSON.parse(`{${json.replace(/^[\s,]*/, "").replace(/,\s*\]/g, "]")}}`);
   } catch {
@@ -47,39 +45,37 @@ function check(isRead, what) {
   if (!isRead) throw new Error(`this page does not read ${what}`);
 }
 
-/** The lattice of a scene, of at most so many cells. @param {string} text @param {number} most @returns {Scene} */
+/** The lattice of a scene, of at most so many cells. */
 export function readScene(text, most) {
-  const keys = readKeys(text), { gas: name, cells: rows, chirality = "seeded", seed = "0", rate = 0 } = keys;
+  const keys = readKeys(text), { gas: name, cells: rows, generation = 0, chirality = "seeded", seed = "0" } = keys;
   const stray = Object.keys(keys).find((key) => !KEYS.includes(key));
   check(!stray, `the key ${stray}`);
   check(Object.hasOwn(GASES, name), `the gas ${name}`);
   check(Object.hasOwn(OTHER, chirality), `the chirality ${chirality}`);
-  check(Number(rate) <= 1000 && BigInt(seed) < 1n << 63n, "such a rate or seed");
+  check(Number(keys.rate ?? 0) <= 1000 && BigInt(seed) < 1n << 63n, "such a rate or seed");
   const gas = GASES[name], height = rows ? rows.length : Number(keys.height);
   const width = rows ? (rows[0]?.length ?? 0) / 2 : Number(keys.width), number = width * height;
-  check(number <= most, `${number.toLocaleString("en")} cells, and at most ${most.toLocaleString("en")}`);
+  check(number <= most, `${count(number)} cells, and at most ${count(most)}`);
   check(width % 1 === 0 && number > 0 && width <= 65536 && height <= 65536, "a width and a height that are none");
-  const states = new Uint8Array(number);
-  if (rows) readMap(rows, states, gas);
-  else readArea(keys, states, width, height, gas, seed);
-  return { gas, chirality, seed, generation: Number(keys.generation ?? 0), width, height, states };
+  const states = rows ? readMap(rows, width, gas) : readArea(keys, width, height, gas, seed);
+  return { gas, chirality, seed, generation: Number(generation), width, height, states };
 }
 
-function readMap(rows, states, gas) {
+function readMap(rows, width, gas) {
   const byPair = new Map(SPELLED.slice(0, 1 << gas.directions).map((pair, state) => [pair, state]));
   byPair.set("00", 0).set("##", SOLID);
-  const width = rows[0].length / 2;
-  rows.forEach((row, y) => {
+  return Uint8Array.from(rows.flatMap((row, y) => {
     check(row.length === 2 * width, `the length of row ${y}`);
-    for (let x = 0; x < width; x++) {
+    return Array.from({ length: width }, (_, x) => {
       const state = byPair.get(row.slice(2 * x, 2 * x + 2));
       check(state !== undefined, `cell ${x} of row ${y}`);
-      states[y * width + x] = /** @type {number} */ (state);
-    }
-  });
+      return state;
+    });
+  }));
 }
 
-function readArea({ solid = [], particles = [], rate = 0 }, states, width, height, gas, seed) {
+function readArea({ solid = [], particles = [], rate = 0 }, width, height, gas, seed) {
+  const states = new Uint8Array(width * height);
   for (const [x, y, w, h] of solid.map((list) => list.map(Number))) {
     check(w > 0 && h > 0 && x + w <= width && y + h <= height, `the rectangle ${[x, y, w, h]}`);
     for (let row = y; row < y + h; row++) states.fill(SOLID, row * width + x, row * width + x + w);
@@ -90,20 +86,24 @@ function readArea({ solid = [], particles = [], rate = 0 }, states, width, heigh
     check(isIn, `the particle ${[x, y, state]}`);
     states[at] = state;
   }
+  return states;
 }
 
-/** The rows of cells, each between two texts. @param {Flow} flow @param {string} before @param {string} after */
+/** A flow of a scene, or of another flow's cells. */
+export function flowOf(make, scene) {
+  const { gas, width, height, states } = scene, flow = new Flow(make(gas, width, height), scene);
+  flow.cells.fill(states);
+  flow.begin();
+  return flow;
+}
+
+/** The rows of cells, each between two texts. */
 function lines({ cells }, before, after) {
-  const rows = [];
-  for (let y = 0, at = 0; y < cells.height; y++) {
-    let row = before;
-    for (let x = 0; x < cells.width; x++) row += SPELLED[cells.state(at++)];
-    rows.push(row + after);
-  }
-  return rows.join("");
+  const spelled = Array.from(cells.states(), (state) => SPELLED[state]), rows = [];
+  for (let at = 0; at < spelled.length; at += cells.width) rows.push(spelled.slice(at, at + cells.width).join(""));
+  return rows.map((row) => before + row + after).join("");
 }
 
-/** The scene of a flow. @param {Flow} flow */
 export function sceneOf(flow) {
   const { gas, chirality, seed, sceneGeneration: generation } = flow;
   const keys = { version: 2, gas: `"${gas.name}"`, chirality: `"${chirality}"`, seed, generation };
@@ -111,6 +111,6 @@ export function sceneOf(flow) {
   return `${head.join("")}cells = [\n${lines(flow, '    "', '",\n')}]\n`;
 }
 
-/** What `fhpgas run` prints for the cells of a flow. @param {Flow} flow */
+/** What `fhpgas run` prints for the cells of a flow. */
 export const printed = (flow) =>
   `generation ${flow.sceneGeneration} particles ${flow.totals()[1]}\n${lines(flow, "", "\n")}`;

@@ -5,46 +5,46 @@ import { bitsOf } from "./runs.js";
 import { fillStates } from "./scenes.js";
 import { dense } from "./tools.js";
 
-/**
- * @typedef {import("./cells.js").Place} Place
- * @typedef {{ gas: string, chirality: import("./gases.js").Chirality, width: number, height: number, filling: number,
- *   wind: number, keep: boolean, shape: string, radius: number, seed: string, runs?: string }} Start
- *   `runs` has the cells that are solid, or fluid, unlike in the shape
- * @typedef {(wide: number, tall: number, radius: number) => (x: number, y: number) => boolean} Shape
- */
-
-/** @type {Record<string, Shape>} whether a place is solid in a channel. */
+// whether a place is solid in a channel W wide and T tall, with obstacles of radius R
+const disc = (W, T, R) => (x, y) => Math.hypot(x - W / 5, y - T / 2) <= R;
 const SOLIDS = {
-  disc: (W, T, R) => (x, y) => Math.hypot(x - W / 5, y - T / 2) <= R,
+  disc,
+  street: disc,
   plate: (W, T, R) => (x, y) => Math.abs(x - W / 5) <= 2 && Math.abs(y - T / 2) <= R,
-  street: (W, T, R) => SOLIDS.disc(W, T, R),
   discs: (W, T, R) => (x, y) => Math.hypot(x - W / 5, Math.abs(y - T / 2) - 1.7 * R) <= R,
 };
 const PARTICLES = { pair: 0x09, triple: 0x15 };
-
-/** @type {Shape} */
-const letterL = (W, T) => (x, y) =>
+const isInL = (W, T) => (x, y) =>
   x > 0.4 * W && x < 0.6 * W && y > 0.2 * T && y < 0.8 * T && (x < 0.46 * W || y > 0.66 * T);
 
-/** A flow as a start has it. @param {import("./kernel.js").MakeKernel} make @param {Start} start */
-export function drawn(make, { runs = "", ...start }) {
-  const { gas: name, chirality, width, height, filling, wind, keep, shape, radius, seed } = start;
-  const gas = GASES[name], tall = (height - 1) * gas.apart, states = new Uint8Array(width * height);
-  const flow = new Flow(make(gas, width, height), { chirality, seed, generation: 0, wind: keep ? wind : null });
-  const all = (inside, change) => {
-    for (let at = 0; at < states.length; at++) if (inside(...flow.cells.placeOf(at))) change(at);
-  };
-  const thousandths = (chances) => chances.map((chance) => Math.round(1000 * chance));
-  const evenly = (chance) => thousandths(Array(gas.directions).fill(chance));
-  if (shape in SOLIDS) all(SOLIDS[shape](width, tall, radius), (at) => (states[at] = SOLID));
-  for (let solid = 0; shape === "porous" && solid < 0.3 * states.length; ) {
+/** Puts grains of a radius anywhere until three tenths are solid. */
+function putGrains({ drive, cells }, states, tall, radius) {
+  for (let solid = 0; solid < 0.3 * states.length; ) {
     /** @type {Place} */
-    const middle = [flow.drive.draw() * width, flow.drive.draw() * tall];
-    for (const at of flow.cells.near(middle, middle, radius)) {
+    const middle = [drive.draw() * cells.width, drive.draw() * tall];
+    for (const at of cells.near(middle, middle, radius)) {
       if (states[at] !== SOLID) solid++;
       states[at] = SOLID;
     }
   }
+}
+
+export function drawn(make, start) {
+  const { gas: name, chirality, width, height, filling, wind, keep, shape, radius, seed, runs = "" } = start;
+  const gas = GASES[name], tall = (height - 1) * gas.apart, states = new Uint8Array(width * height);
+  const flow = new Flow(make(gas, width, height), { chirality, seed, generation: 0, wind: keep ? wind : null });
+  const all = (isInside, change) => {
+    for (let at = 0; at < states.length; at++) if (isInside(...flow.cells.placeOf(at))) change(at);
+  };
+  const thousandths = (chances) => chances.map((chance) => Math.round(1000 * chance));
+  const evenly = (chance) => thousandths(Array(gas.directions).fill(chance));
+  /** Fills a part of the cells otherwise. */
+  const refill = (isInside, seed, rates) => {
+    const inner = fillStates(gas, states.slice(), seed, rates);
+    all(isInside, (at) => (states[at] = inner[at]));
+  };
+  if (shape in SOLIDS) all(SOLIDS[shape](width, tall, radius), (at) => (states[at] = SOLID));
+  if (shape === "porous") putGrains(flow, states, tall, radius);
   flow.cells.fill(states);
   flow.shape = flow.kernel.solid.slice();
   const across = 32 * flow.kernel.per;
@@ -53,19 +53,12 @@ export function drawn(make, { runs = "", ...start }) {
   }
   if (shape in PARTICLES) states[width + 1] = PARTICLES[shape];
   else fillStates(gas, states, seed, wind ? thousandths(equilibrium(gas, filling, wind)) : evenly(filling));
-  if (shape === "letter") {
-    const inner = new Uint8Array(states.length);
-    fillStates(gas, inner, BigInt(seed) + 1n, evenly(0.6));
-    all(letterL(width, tall, radius), (at) => (states[at] = inner[at]));
-  }
-  if (shape === "street") {
-    // a gust to the north behind the disc, which starts the street
-    const inner = states.slice(), [x0, y0] = [width / 5 + 4 * radius, tall / 2];
-    fillStates(gas, inner, seed, thousandths(equilibrium(gas, filling, wind, wind / 2)));
-    all((x, y) => Math.hypot(x - x0, y - y0) < 2 * radius, (at) => (states[at] = inner[at]));
-  }
+  if (shape === "letter") refill(isInL(width, tall), BigInt(seed) + 1n, evenly(0.6));
+  // a gust to the north behind the disc, which starts the street
+  const isGust = (x, y) => Math.hypot(x - width / 5 - 4 * radius, y - tall / 2) < 2 * radius;
+  if (shape === "street") refill(isGust, seed, thousandths(equilibrium(gas, filling, wind, wind / 2)));
   flow.cells.fill(states);
-  if (shape === "sound") dense(flow, [width / 2, tall / 2], radius);
+  if (shape === "sound") dense(flow, { at: [width / 2, tall / 2], radius });
   flow.begin();
   flow.notes = [];
   return flow;

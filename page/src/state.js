@@ -1,58 +1,33 @@
 // What the page shows and does now.
 
-/**
- * @typedef {import("./messages.js").Frame} Frame
- * @typedef {import("./cells.js").Place} Place
- * @typedef {{ x: number, y: number, scale: number }} Corner the place at the upper left, and pixels per cell
- * @typedef {{ at: Place, radius: number }} Disc
- */
-
 export const NEAR = 10; // pixels across a cell from which single cells are shown
 export const GAP = 16; // pixels between two pictures
 
-/** What the worker sent last. */
+/** What the worker sent, and what is on the screen of it. */
 export const shown = {
-  /** @type {Frame[]} */
-  frames: [],
-  /** @type {HTMLCanvasElement[]} the solid cells of each */
-  walls: [],
+  queue: /** @type {Answers["frames"][]} */ ([]), // frames that were not painted
+  frames: /** @type {Frame[]} */ ([]),
   serial: 0,
   isRunning: false,
   canUndo: false,
-  unseen: 0, // frames that were not painted
-  /** @type {string[]} */
-  hashes: [],
-  /** @type {[time: number, generation: number][]} when frames were painted */
-  times: [],
-  /** @type {Record<string, number>} milliseconds of parts of a frame */
-  took: {},
+  hashes: /** @type {string[]} */ ([]),
+  times: /** @type {[time: number, generation: number][]} */ ([]), // when frames were painted
   painted: 0,
 };
 
-/** Where one looks. */
-export const look = {
-  /** @type {Corner | null} */
-  place: null,
-  isWhole: true,
-  sent: "", // to the worker
-};
+/** Where one looks: the place at the upper left, and pixels per cell. What was sent of it. */
+export const look = { place: { x: 0, y: 0, scale: 0 }, isWhole: true, sent: "" };
 
-/** The buttons of which one is pressed. */
 export const chosen = { field: "vorticity", tool: "move" };
 
 /** A generation in pictures: phase 0 before the collision, 1 after it, 2 at its end. */
 export const motion = { phase: 0, isOn: false, begun: 0, span: 0 };
 
-/** What is drawn on the picture. */
 export const marks = {
-  /** @type {import("./tools.js").Piece[]} pieces of a stroke that the worker does not have yet */
-  pieces: [],
-  /** @type {Disc | null} where a tool was used */
-  touched: null,
-  /** @type {Disc | null} */
-  probe: null,
-  /** @type {import("./probe.js").Sample[]} */
-  samples: [],
+  pieces: /** @type {Piece[]} */ ([]), // of a stroke that the worker does not have yet
+  touched: /** @type {Disc | null} */ (null), // where a tool was used
+  probe: /** @type {Disc | null} */ (null),
+  samples: /** @type {import("./probe.js").Sample[]} */ ([]),
 };
 
 /** @param {string} id @returns {any} */
@@ -69,13 +44,13 @@ export function element(tag, attributes, ...children) {
   return made;
 }
 
-/** Changes the text of a node, if it is another. @param {Node} node @param {string} text */
+/** Changes the text of a node, if it is another. */
 export function setText(node, text) {
   if (node.textContent !== text) node.textContent = text;
 }
 
-/** Each value once, of all pictures. @param {(frame: Frame) => string} text */
+/** Each value once, of all pictures. */
 export const each = (text) => [...new Set(shown.frames.map(text))].join(" | ");
 
-/** The width of each picture. @param {number} width of the canvas */
+/** The width of each picture. */
 export const paneWidth = (width) => (width - GAP * (shown.frames.length - 1)) / shown.frames.length;

@@ -1,7 +1,7 @@
 // The table of the controls: what each is called, its key, and what it does.
-import { count } from "./draw.js";
 import { FIELDS } from "./fields.js";
 import { isFilming } from "./files.js";
+import { count } from "./numbers.js";
 import { PRESETS } from "./presets.js";
 import { $, chosen, head, shown } from "./state.js";
 
@@ -9,53 +9,37 @@ const SIZES = ["4 x 3", "64 x 32", "256 x 128", "256 x 256", "256 x 384", "512 x
   "512 x 768", "1024 x 384", "1024 x 512", "2048 x 512", "2048 x 1024", "3200 x 1016", "4096 x 1024"];
 // seconds of a generation, or generations of a frame
 const PACES = ["3 s", "1 s", "0.3 s", "1", "2", "5", "10", "20", "40", "50", "100", "200"];
+const GASES = [["fhp1", "fhp1 (FHP-I)"], ["fhp-rest", "fhp-rest (FHP-II)"], ["hpp", "HPP"]];
+const SIDES = [["left", "left"], ["right", "right"], ["seeded", "at random"]];
 export const BLOCKS = [[1, 0], [2, 0], [2, 2], [4, 2], [8, 2], [16, 2], [32, 2]]; // columns, and how often smoothed
 export const SPANS = [1, 3, 10, 30, 100, 300, 1000, 3000, 10000, 30000];
-const GAS_NAMES = { fhp1: "fhp1 (FHP-I)", "fhp-rest": "fhp-rest (FHP-II)", hpp: "HPP" };
 
 const cells = (value) => `${count(value)} cell${value > 1 ? "s" : ""}`;
 const wide = (value) => cells(BLOCKS[value][0] * (BLOCKS[value][1] ? 2 : 1));
+const named = (values, text) => values.map((value) => [value, text(value)]);
 
-/**
- * @typedef {import("./controls.js").Group} Group
- * @typedef {import("./controls.js").Control} Control
- * @typedef {Partial<Control>} More
- */
-
-/** @param {string} key @param {string} id @param {string} label @param {More} more @returns {Control} */
+// the kinds of controls, with what else a control has
 const button = (key, id, label, act, more = {}) => ({ key, id, label, kind: "button", act, ...more });
 const half = (key, id, label, act, more = {}) => button(key, id, label, act, { style: "wide", ...more });
-/** @param {Record<string, string>} named the texts of values @returns {Control} */
-const list = (key, id, label, named, act, more = {}) =>
-  ({ key, id, label, kind: "list", options: Object.entries(named), act, ...more });
-/** @returns {Control} */
-const slider = (key, id, label, [min, max, step, value = NaN], act, said, more = {}) =>
-  ({ key, id, label, kind: "range", attributes: { min, max, step, ...(value ? { value } : {}) }, act, said, ...more });
-/** @returns {Control} */
+const list = (key, id, label, options, act, more = {}) => ({ key, id, label, kind: "list", options, act, ...more });
+const slider = (key, id, label, [min, max, step, value = min], act, said, more = {}) =>
+  ({ key, id, label, kind: "range", attributes: { min, max, step, value }, act, said, ...more });
 const check = (key, id, label, act, attributes = {}) => ({ key, id, label, kind: "check", attributes, act });
-/** @returns {Control} */
 const number = (key, id, label, attributes, more) => ({ key, id, label, kind: "number", attributes, ...more });
-/** @param {string[]} values @param {(value: string) => string} text */
-const named = (values, text) => Object.fromEntries(values.map((value) => [value, text(value)]));
-const SCENES = named(Object.keys(PRESETS), String);
-const SIZE_NAMES = named(SIZES, (size) => size.replace("x", "×"));
-// a key that looks like a number would come first in an object
-/** @type {[value: string, text: string][]} */
-const PACE_NAMES = PACES.map((pace) => [pace, pace.endsWith(" s") ? `one in ${pace}` : `${pace} a frame`]);
 
-/** @param {Record<string, (value?: any) => void>} acts @returns {Group[]} */
-export const tableOf = (acts) => [
+/** @param {Record<string, (value?: any) => void>} acts @returns {import("./controls.js").Group[]} */
+export const tableOf = (acts) => /** @type {any} */ ([
   { title: "A new start", place: "panel", controls: [
-    list("l", "scene", "scene", SCENES, acts.preset),
-    list("k", "size", "cells", SIZE_NAMES, acts.start),
+    list("l", "scene", "scene", named(Object.keys(PRESETS), String), acts.preset),
+    list("k", "size", "cells", named(SIZES, (size) => size.replace("x", "×")), acts.start),
     slider("f", "fill", "filling d", [0.05, 0.45, 0.01], acts.start, String, { isLate: true }),
     slider("u", "radius", "obstacle", [4, 120, 2], acts.start, (value) => `R = ${value}`, { isLate: true }),
     number("5", "seed", "seed", { min: 0, max: 9e15, step: 1, value: 1 }, { act: acts.start }),
-    button("Enter", "start", "Start", acts.start, { style: "wide main" }),
+    half("Enter", "start", "Start", acts.start, { style: "wide main" }),
     half("o", "open", "Open", () => $("file").click())] },
   { title: "Change it, cells stay", place: "panel", controls: [
-    list("g", "gas", "gas", GAS_NAMES, acts.gas, { isOff: () => shown.frames.length > 1 }),
-    list("c", "chirality", "pairs turn", { left: "left", right: "right", seeded: "at random" }, acts.chirality),
+    list("g", "gas", "gas", GASES, acts.gas, { isOff: () => shown.frames.length > 1 }),
+    list("c", "chirality", "pairs turn", SIDES, acts.chirality),
     check("j", "keep", "keep wind", acts.keep),
     slider("w", "wind", "wind u", [0, 0.4, 0.02], acts.wind, String),
     half("Backspace", "undo", "undo", acts.undo, { isOff: () => !shown.canUndo }),
@@ -89,8 +73,8 @@ export const tableOf = (acts) => [
     button(" ", "play", "Run", acts.play, { style: "main", text: () => (shown.isRunning ? "Pause" : "Run") }),
     button("ArrowRight", "step", "1 on", acts.step),
     button("h", "half", "half a step", acts.half),
-    { key: ".", id: "pace", label: "pace", kind: "list", options: PACE_NAMES, act: acts.pace },
+    list(".", "pace", "pace", named(PACES, (on) => (on.endsWith("s") ? `one in ${on}` : `${on} a frame`)), acts.pace),
     button("r", "turn", "Turn all particles", acts.turn,
       { style: "turn", text: () => (head()?.direction < 0 ? "Turn all again" : "Turn all particles") }),
     button("F2", "drawer", "Controls", acts.drawer, { isPressed: () => document.body.classList.contains("opened") })] },
-];
+]);

@@ -1,70 +1,54 @@
 // Tracers: marks that the mean flow carries, so that one sees that and where the gas flows.
 import { theme } from "./draw.js";
 
-/** @typedef {import("./messages.js").Frame} Frame */
-
 const NUMBER = 420;
 const LIFE = 900; // generations after which a mark begins elsewhere, on average
 const STREAK = 14; // pixels of the fastest streak
 const STILL = 0.004; // cells per generation: a slower mean flow is noise
 
+/** The mean velocity of a frame at a place, east and down. */
+function velocityAt({ flow: { columns, rows, width, height, u, v }, apart }, [x, y]) {
+  const row = Math.max(0, Math.min(rows - 1, Math.floor(y / apart / height)));
+  const at = row * columns + Math.min(columns - 1, Math.floor(x / width));
+  return [u[at], -v[at]];
+}
+
 export class Tracers {
-  constructor() {
-    this.number = 0;
-    this.x = new Float32Array(NUMBER);
-    this.y = new Float32Array(NUMBER);
-    this.generation = 0;
-  }
+  /** @type {Place[]} */
+  places = [];
+  generation = 0;
 
-  /** @param {number} k @param {Frame} frame */
-  begin(k, { width, height, apart }) {
-    this.x[k] = Math.random() * width;
-    this.y[k] = Math.random() * (height - 1) * apart;
-  }
-
-  /** Spreads all marks over a lattice. @param {Frame} frame */
-  spread(frame) {
-    this.number = Math.min(NUMBER, Math.floor((frame.width * frame.height) / 60));
-    for (let k = 0; k < this.number; k++) this.begin(k, frame);
-    this.generation = frame.generation;
-  }
-
-  /** The block of a place, and its mean velocity east and down. @param {Frame} frame */
-  velocityAt({ flow, apart }, x, y) {
-    const column = Math.min(flow.columns - 1, Math.floor(x / flow.width));
-    const row = Math.max(0, Math.min(flow.rows - 1, Math.floor(y / apart / flow.height)));
-    const at = row * flow.columns + column;
-    return [flow.u[at], -flow.v[at]];
-  }
-
-  /** Carries the marks to the generation of a frame. @param {Frame} frame */
-  carry(frame) {
-    const { width, height, apart, generation, flow } = frame, long = Math.abs(generation - this.generation);
+  spread({ width, height, apart, generation }) {
+    const anywhere = () => /** @type {Place} */ ([Math.random() * width, Math.random() * (height - 1) * apart]);
+    this.places = Array.from({ length: Math.min(NUMBER, Math.floor((width * height) / 60)) }, anywhere);
     this.generation = generation;
-    if (!flow.columns) return;
-    const chance = long / LIFE;
-    for (let k = 0; k < this.number; k++) {
-      const [u, v] = this.velocityAt(frame, this.x[k], this.y[k]);
-      this.x[k] = (this.x[k] + u * long + width) % width;
-      this.y[k] += v * long;
-      const isIn = this.y[k] > 0 && this.y[k] < (height - 1) * apart && u === u && this.x[k] >= 0;
-      if (!isIn || Math.random() < chance) this.begin(k, frame);
+  }
+
+  /** Carries the marks to the generation of a frame. */
+  carry(frame) {
+    const { width, height, apart, generation } = frame, long = Math.abs(generation - this.generation);
+    this.generation = generation;
+    for (const place of this.places) {
+      const [u, v] = velocityAt(frame, place), x = (place[0] + u * long + width) % width, y = place[1] + v * long;
+      const isIn = y > 0 && y < (height - 1) * apart && x >= 0;
+      const isOver = !isIn || Math.random() < long / LIFE;
+      place[0] = isOver ? Math.random() * width : x;
+      place[1] = isOver ? Math.random() * (height - 1) * apart : y;
     }
   }
 
-  /** Paints streaks along the flow. @param {CanvasRenderingContext2D} c @param {Frame} frame @param {number} scale */
+  /** Paints streaks along the flow. */
   paint(c, frame, scale) {
-    const { flow, fastest } = frame;
-    if (!flow.columns || fastest < STILL) return;
-    const long = STREAK / Math.max(fastest, 0.05);
+    const long = STREAK / Math.max(frame.fastest, 0.05);
+    if (frame.fastest < STILL) return;
     c.beginPath();
-    for (let k = 0; k < this.number; k++) {
-      const [u, v] = this.velocityAt(frame, this.x[k], this.y[k]), x = this.x[k] * scale, y = this.y[k] * scale;
+    for (const place of this.places) {
+      const [u, v] = velocityAt(frame, place), [x, y] = [place[0] * scale, place[1] * scale];
       if (!(Math.hypot(u, v) > STILL)) continue;
-      c.moveTo(x - u * long, y - v * long);
+      c.moveTo(Math.max(0, x - u * long), y - v * long);
       c.lineTo(x, y);
     }
-    Object.assign(c, { strokeStyle: theme.ink, lineWidth: 1.6, lineCap: "round", globalAlpha: 0.75 });
+    Object.assign(c, { strokeStyle: theme.ink, lineWidth: 1.6, lineCap: "butt", globalAlpha: 0.75 });
     c.stroke();
     c.globalAlpha = 1;
   }
