@@ -197,6 +197,10 @@ class Page:
 def begins(page):
     """What is seen first."""
     page.wait("head.generation > 20")
+    page.js(
+        "window.sent = shown.painted + shown.queue.length;"
+        "fhpgas.worker.addEventListener('message', ({ data }) => { sent += data.name === 'frames'; })"
+    )
     moved = page.js("return performance.getEntriesByName('moved')[0]")
     check("one of the first two pictures has moved", moved["detail"] <= 2, moved["detail"])
     print(f"first motion after {moved['startTime']:.0f} ms")
@@ -215,6 +219,10 @@ def begins(page):
     first = page.js(look)
     page.wait(f"head.generation > {page.js('return head.generation') + 20}")
     check("the picture moves", page.js(look) != first)
+    check(
+        "each frame of the worker is painted or waits for its turn",
+        page.js("return sent === shown.painted + shown.queue.length"),
+    )
     check("the wind is kept", abs(page.js("return head.u") - 0.14) < 0.02, page.js("return head.u"))
     page.click("turn")
     page.wait("head.direction < 0 || head.found !== null")

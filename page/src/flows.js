@@ -1,13 +1,12 @@
 // The flows that the page shows, how they begin, and what can be undone.
 import { Watched } from "./frames.js";
-import { GASES, SOLID } from "./gases.js";
+import { GASES, MOST_CELLS, SOLID } from "./gases.js";
 import { ProvedKernel, ScriptKernel } from "./kernel.js";
 import { count } from "./numbers.js";
 import { flowOf, readScene } from "./scenes.js";
 import { drawn } from "./starts.js";
 import { Stroke, cleared } from "./tools.js";
 
-export const MOST_CELLS = 1 << 22; // of all flows
 const MOST_UNDO = 50;
 
 /** The kernels of the engine, whose module's text is in base64. */

@@ -4,6 +4,7 @@
 // PLANES. A lattice has a bit per direction and cell, 32 cells to a word. Each row has an even number of words, so the
 // same memory is rows of 64 bits: the words of direction 0, then of direction 1, and so on, as in include/fhpgas.h.
 export const SOLID = 0x80;
+export const MOST_CELLS = 1 << 22; // of all lattices that are shown
 const ROOT3 = Math.sqrt(3);
 
 // rows down to the cell that a particle comes from, and the columns that it moves from an even and from an odd row

@@ -41,7 +41,8 @@
  * What the worker says, by name. `serial` counts the starts, `strokes` the pieces that came since the last frame.
  * @typedef {{
  *   engine: { fault: string },
- *   frames: { frames: Frame[], isRunning: boolean, serial: number, state: string, strokes: number, canUndo: boolean },
+ *   frames: { frames: Frame[], isRunning: boolean, serial: number, state: string, strokes: number, canUndo: boolean,
+ *     hashes?: string[] },
  *   files: { files: { text: string, name: string }[] },
  *   hashes: { hashes: string[] },
  *   fault: { fault: string },

@@ -4,8 +4,7 @@ import { paintChart } from "./chart.js";
 import { makeControls, showControls } from "./controls.js";
 import { contextOf, readTheme, theme, within, write } from "./draw.js";
 import { record, save, takeScenes } from "./files.js";
-import { MOST_CELLS } from "./flows.js";
-import { GASES } from "./gases.js";
+import { GASES, MOST_CELLS } from "./gases.js";
 import { count, numbersOf } from "./numbers.js";
 import { paintNumbers, said, speeds } from "./panel.js";
 import { paintLattice, paneOf, wallsOf } from "./picture.js";
@@ -51,10 +50,11 @@ const answers = {
   },
   files: ({ files }) => files.forEach(({ text, name }) => save(new Blob([text]), `${name}.toml`)),
   hashes: ({ hashes }) => {
-    shown.hashes = hashes;
+    Object.assign(shown.queue[shown.queue.length - 1] ?? shown, { hashes }); // they are of the last frame
     paintNumbers();
   },
   fault: ({ fault }) => {
+    shown.queue.forEach((next) => (next.isRunning = false));
     setRunning(false);
     note(fault, "bad");
   },
@@ -78,10 +78,10 @@ function seekEngine() {
 }
 
 /** Takes the frame that is to be shown next. */
-function take({ frames, serial, canUndo, isRunning, strokes, state }) {
+function take({ frames, serial, canUndo, isRunning, strokes, state, hashes = [] }) {
   const isNew = serial !== shown.serial, before = isNew ? null : head();
   const isMoved = frames[0].generation !== before?.generation;
-  Object.assign(shown, { frames, serial, canUndo, hashes: [], isRunning: isSlow() ? shown.isRunning : isRunning });
+  Object.assign(shown, { frames, serial, canUndo, hashes, isRunning: isSlow() ? shown.isRunning : isRunning });
   marks.pieces.splice(0, strokes);
   if (isNew) beginAnew(state);
   if (isMoved) Object.assign(motion, { phase: 0, isOn: false });
