@@ -1,56 +1,37 @@
 //! The streaming of one direction into the words of a row.
-ghost use Rattle.std.specs.Prelude.{◌≡◌, ◌≢◌, ◌/◌, ℕ, ◌-◌, ◌+◌, ◌*◌, ◌<◌, ◌≤◌, false, length};
+ghost use Rattle.std.specs.Prelude.{◌≡◌, ◌≢◌, ◌⊎◌, ◌/◌, ℕ, ◌+◌, ◌-◌, ◌*◌, ◌<◌, ◌≤◌, false, if◌then◌else◌, length};
 ghost use Rattle.gas_geom.specs.declared.moves.Move.{Move};
-ghost use Rattle.gas_geom.specs.declared.moves.Move.TheVariants.{Back, Stay, On};
-ghost use Rattle.gas_bits.specs.Words.{words_in};
+ghost use Rattle.gas_geom.specs.declared.moves.Move.TheVariants.{Stay};
+ghost use Rattle.gas_bits.specs.Words.{words_in, bit};
 ghost use Rattle.gas_bits.specs.Planes.{has};
 ghost use Rattle.gas_bits.specs.Shift.{streamed_cell};
-ghost use Rattle.gas_bits.specs.Inner.Streamed.{AreBeside, IsStreamedWord, AreStreamed};
+ghost use Rattle.gas_bits.specs.Inner.Streamed.{side, closes_in, AreBeside, IsStreamedWord, AreStreamed, AreStreamedBut};
 
 use crate::plane::{Incoming, clear_past};
 use crate::word::{from_east, from_west, with_last_bit_on_top, words_for};
 use gas_geom::moves::Move;
 
-// The western neighbours of the cells of word `j`, which is not the first.
+// The neighbours of the cells of word `j`, which are to the west (`back`) or to the east. `closes` says
+// whether the row closes there: then one of them is at the other end of the row.
 #[inline(always)]
-fn west_of(words: &[u64], j: usize) -> u64
-    requires after_first { 1 ≤ j }
+fn beside(back: bool, words: &[u64], width: u32, j: usize, closes: bool) -> u64
+    requires some_cells { 1 ≤ width }
+    requires long { length words.now ≡ words_in width }
     requires within { j < length words.now }
-    ensures { (width : ℕ) → length words.now ≡ words_in width →
-        AreBeside words.now width Back j result }
+    requires closes { closes ≡ closes_in back (length words.now) j (j + 1) }
+    ensures { AreBeside words.now width (side back) j result }
 {
-    from_west(words[j - 1], words[j])
-}
-
-// The western neighbours of the cells of the first word.
-#[inline(always)]
-fn west_of_first(words: &[u64], width: u32) -> u64
-    requires some_cells { 1 ≤ width }
-    requires long { length words.now ≡ words_in width }
-    ensures { AreBeside words.now width Back 0 result }
-{
-    let last = words[words.len() - 1];
-    from_west(with_last_bit_on_top(last, (width - 1) % 64), words[0])
-}
-
-// The eastern neighbours of the cells of word `j`, which is not the last.
-#[inline(always)]
-fn east_of(words: &[u64], j: usize) -> u64
-    requires before_last { j + 1 < length words.now }
-    ensures { (width : ℕ) → length words.now ≡ words_in width →
-        AreBeside words.now width On j result }
-{
+    let end = (width - 1) % 64;
+    if back {
+        if closes {
+            return from_west(with_last_bit_on_top(words[words.len() - 1], end), words[0]);
+        }
+        return from_west(words[j - 1], words[j]);
+    }
+    if closes {
+        return from_east(words[words.len() - 1], end, words[0]);
+    }
     from_east(words[j], 63, words[j + 1])
-}
-
-// The eastern neighbours of the cells of the last word.
-#[inline(always)]
-fn east_of_last(words: &[u64], width: u32) -> u64
-    requires some_cells { 1 ≤ width }
-    requires long { length words.now ≡ words_in width }
-    ensures { AreBeside words.now width On (length words.now - 1) result }
-{
-    from_east(words[words.len() - 1], (width - 1) % 64, words[0])
 }
 
 // What the cells of word `j` hold after streaming: what arrives, but the opposite direction if the
@@ -68,174 +49,95 @@ fn stream_word<'a>(incoming: &Incoming<'a>, j: usize, arriving: u64, blocked: u6
     ((arriving & !blocked) | (blocked & incoming.opposite_here[j])) & !incoming.solid_here[j]
 }
 
-// Word `j` after streaming from the west. It is not the first.
+// Word `j` after streaming from the side.
 #[inline(always)]
-fn word_from_west<'a>(incoming: &Incoming<'a>, j: usize) -> u64
-    requires after_first { 1 ≤ j }
+fn word<'a>(back: bool, incoming: &Incoming<'a>, j: usize, closes: bool) -> u64
     requires within { j < words_in incoming.now.width }
-    ensures { IsStreamedWord incoming.now Back j result }
+    requires closes { closes ≡ closes_in back (words_in incoming.now.width) j (j + 1) }
+    ensures { IsStreamedWord incoming.now (side back) j result }
 {
-    let arriving = west_of(incoming.plane, j);
-    let blocked = west_of(incoming.solid_there, j);
+    let arriving = beside(back, incoming.plane, incoming.width, j, closes);
+    let blocked = beside(back, incoming.solid_there, incoming.width, j, closes);
     stream_word(incoming, j, arriving, blocked)
 }
 
-// Word `j` after streaming from the east. It is not the last.
-#[inline(always)]
-fn word_from_east<'a>(incoming: &Incoming<'a>, j: usize) -> u64
-    requires before_last { j + 1 < words_in incoming.now.width }
-    ensures { IsStreamedWord incoming.now On j result }
-{
-    let arriving = east_of(incoming.plane, j);
-    let blocked = east_of(incoming.solid_there, j);
-    stream_word(incoming, j, arriving, blocked)
-}
-
-// The first word after streaming from the west.
-#[inline(always)]
-fn first_from_west<'a>(incoming: &Incoming<'a>) -> u64
-    ensures { IsStreamedWord incoming.now Back 0 result }
-{
-    let arriving = west_of_first(incoming.plane, incoming.width);
-    let blocked = west_of_first(incoming.solid_there, incoming.width);
-    stream_word(incoming, 0, arriving, blocked)
-}
-
-// The last word after streaming from the east.
-#[inline(always)]
-fn last_from_east<'a>(incoming: &Incoming<'a>) -> u64
-    ensures { IsStreamedWord incoming.now On (words_in incoming.now.width - 1) result }
-{
-    let arriving = east_of_last(incoming.plane, incoming.width);
-    let blocked = east_of_last(incoming.solid_there, incoming.width);
-    stream_word(incoming, incoming.plane.len() - 1, arriving, blocked)
-}
-
-// Streams from the west into the words at which the row closes, and returns how many: the first alone
-// in a row of fewer than four words, else the first four, and up to twelve more by four. Four words
-// are computed before one is written, so that the compiler computes them at once.
+// Streams from the side into words `at` to `at + 3`. `closes` says whether the row closes among them. Four
+// words are computed before one is written, so that the compiler computes them at once.
 #[inline(always)]
 #[tactic(auto, using(crate::proofs::Words::word_writes))]
-fn end_from_west<'a>(incoming: &Incoming<'a>, out: &mut [u64]) -> usize
+fn four<'a>(back: bool, incoming: &Incoming<'a>, at: usize, closes: bool, out: &mut [u64])
     requires out { length out.old ≡ words_in incoming.now.width }
-    ensures some { 1 ≤ result }
-    ensures within { result ≤ length out.new }
-    ensures streamed { AreStreamed incoming.now Back 0 result out.new }
-{
-    let first = first_from_west(incoming);
-    if out.len() < 4 {
-        out[0] = first;
-        return 1;
-    }
-    let second = word_from_west(incoming, 1);
-    let third = word_from_west(incoming, 2);
-    let fourth = word_from_west(incoming, 3);
-    out[0] = first;
-    out[1] = second;
-    out[2] = third;
-    out[3] = fourth;
-    for k in 1..4 {
-        if out.len() < 4 * k + 4 {
-            return 4 * k;
-        }
-        four_from_west(incoming, 4 * k, out);
-    }
-    16
-}
-
-// Streams from the west into words `at` to `at + 3`, after those before.
-#[inline(always)]
-#[tactic(auto, using(crate::proofs::Words::word_writes))]
-fn four_from_west<'a>(incoming: &Incoming<'a>, at: usize, out: &mut [u64])
-    requires out { length out.old ≡ words_in incoming.now.width }
-    requires after_first { 1 ≤ at }
     requires within { at + 4 ≤ length out.old }
-    ensures { AreStreamed incoming.now Back 0 at out.old →
-        AreStreamed incoming.now Back 0 (at + 4) out.new }
+    requires closes { closes ≡ closes_in back (length out.old) at (at + 4) }
+    ensures streamed { AreStreamed incoming.now (side back) at (at + 4) out.new }
+    ensures others { (x : ℕ) → (x / 64 < at) ⊎ (at + 4 ≤ x / 64) → bit out.new x ≡ bit out.old x }
 {
-    let first = word_from_west(incoming, at);
-    let second = word_from_west(incoming, at + 1);
-    let third = word_from_west(incoming, at + 2);
-    let fourth = word_from_west(incoming, at + 3);
+    let first = word(back, incoming, at, closes & back);
+    let second = word(back, incoming, at + 1, false);
+    let third = word(back, incoming, at + 2, false);
+    let fourth = word(back, incoming, at + 3, closes & !back);
     out[at] = first;
     out[at + 1] = second;
     out[at + 2] = third;
     out[at + 3] = fourth;
 }
 
-// Streams from the east into the words at which the row closes, as from the west, and returns the first
-// of them.
+// The words that are left of `all` after `done` from the side.
+#[inline(always)]
+fn left(back: bool, all: usize, done: usize) -> (usize, usize)
+    requires { done ≤ all }
+    ensures from { result.0 ≡ (if back then done else 0) }
+    ensures to { result.1 ≡ (if back then all else all - done) }
+{
+    if back { (done, all) } else { (0, all - done) }
+}
+
+// The first of the next `count` words.
+#[inline(always)]
+fn next(back: bool, all: usize, done: usize, count: usize) -> usize
+    requires { done + count ≤ all }
+    ensures { result ≡ (if back then done else all - done - count) }
+{
+    if back { done } else { all - done - count }
+}
+
+// Streams from the side into the words at which the row closes: one word in a row of fewer than four,
+// else four, and up to twelve more by four. Returns the words that are left.
 #[inline(always)]
 #[tactic(auto, using(crate::proofs::Words::word_writes))]
-fn end_from_east<'a>(incoming: &Incoming<'a>, out: &mut [u64]) -> usize
+fn close<'a>(back: bool, incoming: &Incoming<'a>, out: &mut [u64]) -> (usize, usize)
     requires out { length out.old ≡ words_in incoming.now.width }
-    ensures before_last { result < length out.new }
-    ensures streamed { AreStreamed incoming.now On result (length out.new) out.new }
+    ensures order { result.0 ≤ result.1 }
+    ensures within { result.1 ≤ length out.new }
+    ensures inside { closes_in back (length out.new) result.0 result.1 ≡ false }
+    ensures streamed { AreStreamedBut incoming.now (side back) result.0 result.1 out.new }
 {
     let all = out.len();
-    let fourth = last_from_east(incoming);
     if all < 4 {
-        out[all - 1] = fourth;
-        return all - 1;
+        let j = next(back, all, 0, 1);
+        out[j] = word(back, incoming, j, true);
+        return left(back, all, 1);
     }
-    let first = word_from_east(incoming, all - 4);
-    let second = word_from_east(incoming, all - 3);
-    let third = word_from_east(incoming, all - 2);
-    out[all - 4] = first;
-    out[all - 3] = second;
-    out[all - 2] = third;
-    out[all - 1] = fourth;
+    four(back, incoming, next(back, all, 0, 4), true, out);
     for k in 1..4 {
         if all < 4 * k + 4 {
-            return all - 4 * k;
+            return left(back, all, 4 * k);
         }
-        four_from_east(incoming, all - 4 * k - 4, out);
+        four(back, incoming, next(back, all, 4 * k, 4), false, out);
     }
-    all - 16
+    left(back, all, 16)
 }
 
-// Streams from the east into words `at` to `at + 3`, after those behind.
+// Streams into all words from the side. Bits past the width are left open.
 #[inline(always)]
 #[tactic(auto, using(crate::proofs::Words::word_writes))]
-fn four_from_east<'a>(incoming: &Incoming<'a>, at: usize, out: &mut [u64])
+fn stream_from_side<'a>(back: bool, incoming: &Incoming<'a>, out: &mut [u64])
     requires out { length out.old ≡ words_in incoming.now.width }
-    requires before_last { at + 4 < length out.old }
-    ensures { AreStreamed incoming.now On (at + 4) (length out.old) out.old →
-        AreStreamed incoming.now On at (length out.old) out.new }
+    ensures { AreStreamed incoming.now (side back) 0 (length out.new) out.new }
 {
-    let first = word_from_east(incoming, at);
-    let second = word_from_east(incoming, at + 1);
-    let third = word_from_east(incoming, at + 2);
-    let fourth = word_from_east(incoming, at + 3);
-    out[at] = first;
-    out[at + 1] = second;
-    out[at + 2] = third;
-    out[at + 3] = fourth;
-}
-
-// Streams into all words from the west. Bits past the width are left open.
-#[inline(always)]
-#[tactic(auto, using(crate::proofs::Words::word_writes))]
-fn stream_from_west<'a>(incoming: &Incoming<'a>, out: &mut [u64])
-    requires out { length out.old ≡ words_in incoming.now.width }
-    ensures { AreStreamed incoming.now Back 0 (length out.new) out.new }
-{
-    let from = end_from_west(incoming, out);
-    for j in from..out.len() {
-        out[j] = word_from_west(incoming, j);
-    }
-}
-
-// Streams into all words from the east. Bits past the width are left open.
-#[inline(always)]
-#[tactic(auto, using(crate::proofs::Words::word_writes))]
-fn stream_from_east<'a>(incoming: &Incoming<'a>, out: &mut [u64])
-    requires out { length out.old ≡ words_in incoming.now.width }
-    ensures { AreStreamed incoming.now On 0 (length out.new) out.new }
-{
-    let end = end_from_east(incoming, out);
-    for j in 0..end {
-        out[j] = word_from_east(incoming, j);
+    let (from, to) = close(back, incoming, out);
+    for j in from..to {
+        out[j] = word(back, incoming, j, false);
     }
 }
 
@@ -261,9 +163,9 @@ fn stream_along<'a>(along: Move, incoming: &Incoming<'a>, out: &mut [u64])
     ensures { AreStreamed incoming.now along 0 (length out.new) out.new }
 {
     match along {
-        Move::Back => stream_from_west(incoming, out),
+        Move::Back => stream_from_side(true, incoming, out),
         Move::Stay => stream_from_here(incoming, out),
-        Move::On => stream_from_east(incoming, out),
+        Move::On => stream_from_side(false, incoming, out),
     }
 }
 
