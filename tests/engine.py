@@ -453,17 +453,17 @@ class Choice(unittest.TestCase):
         blank = lambda rows, columns, chirality, gas="fhp1": fhpgas.Lattice(
             np.zeros((rows, columns), np.uint8), gas=gas, chirality=chirality
         )
-        large = blank(512, 1024, "seeded")
+        large = blank(256, 1024, "seeded")
         cases = [
-            (large, 200, (16, 4), False),
-            (large, 199, (16, 4), True),
-            (large, 200, (15, 4), True),
-            (large, 200, (16, 3), True),
-            (blank(511, 1024, "seeded"), 10**6, (64, 64), True),
-            (blank(512, 1024, "seeded", "hpp"), 699, (16, 4), True),
-            (blank(512, 1024, "left"), 699, (16, 4), True),
-            (blank(512, 1024, "left"), 700, (16, 4), False),
-            (blank(8200, 4096, "left"), 700, (16, 4), True),
+            (large, 400, (16, 4), False),
+            (large, 399, (16, 4), True),
+            (large, 400, (15, 4), True),
+            (large, 400, (16, 3), True),
+            (blank(255, 1024, "seeded"), 10**6, (64, 64), True),
+            (blank(256, 1024, "seeded", "hpp"), 999, (16, 4), True),
+            (blank(256, 1024, "left"), 999, (16, 4), True),
+            (blank(256, 1024, "left"), 1000, (16, 4), False),
+            (blank(8200, 4096, "left"), 1000, (16, 4), True),
         ]
         for lattice, generations, (stages, threads), is_ours in cases:
             plan = stages, 128, threads

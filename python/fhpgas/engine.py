@@ -57,7 +57,7 @@ CUT = 1 << 25  # cells, or updates of cells, of one call
 CACHED = 1 << 18  # cells whose bits numpy packs or unpacks at a time
 # From here on the program is faster (docs/PERFORMANCE.md): with this many workers on this many
 # threads, on this many cells, after this many generations, which draw random bits or do not.
-STAGES, THREADS, CELLS, SEEDED, UNSEEDED = 16, 4, 1 << 19, 200, 700
+STAGES, THREADS, CELLS, SEEDED, UNSEEDED = 16, 4, 1 << 18, 400, 1000
 
 
 class Place(NamedTuple):
