@@ -21,7 +21,7 @@ examples() {
 # quick: for the time between edits. A program that FHPGAS names, or that is built and newer than the sources, is tried from outside, else a
 # few worked examples by `rt try`, in some minutes. Nothing is proved.
 quick() {
-    parts lint.sh links.py prose.py definitions.py proved.py derivation.py edges.py values.py
+    parts lint.sh imports.py links.py prose.py definitions.py proved.py derivation.py edges.py values.py
     if [ -n "${FHPGAS-}" ] || tools/is_built; then
         parts command_line.py help.py documents.py explanations.py "${package[@]}" package_commands.py
         part tests/mutated_scenes.py 300
@@ -54,7 +54,7 @@ case $1 in
     test)
         unset FHPGAS # what is built here is tried
         tests/setup.sh || exit 1
-        parts lint.sh definitions.py proved.py derivation.py edges.py values.py links.py prose.py libraries.sh make.sh waiting.sh
+        parts lint.sh imports.py definitions.py proved.py derivation.py edges.py values.py links.py prose.py libraries.sh make.sh waiting.sh
         [ ${#failed[@]} = 0 ] || exit 1
         gate
         part tests/wrong_bodies.py "$room/gate"

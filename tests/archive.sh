@@ -63,7 +63,7 @@ if command -v wasm-opt > /dev/null; then try 'the page has the engine' cmp "$fol
 try 'C has the header and an example' [ -s "$folder/include/fhpgas.h" -a -s "$folder/examples/profile.c" ]
 FHPGAS=$folder/fhpgas part tests/wheel.py "$folder"/fhpgas-*.whl
 
-if "$python" -c 'import sphinx, numpydoc' 2> /dev/null; then try 'it has the reference of the package' grep -q fhpgas.lattice.draw_gas "$folder/docs/reference/index.html"; fi
+if "$python" -c 'import sphinx, numpydoc' 2> /dev/null; then try 'it has the reference of the package' grep -q fhpgas.random_gas.draw_gas "$folder/docs/reference/index.html"; fi
 try 'README names the level' grep -qE 'built for x86-64-v[23]$' "$folder/README"
 try 'README says that there is no proof in hand' grep -q 'holds no proof' "$folder/README"
 for file in LICENSE-MIT LICENSE-APACHE; do try "$file" cmp "$file" "$folder/$file"; done

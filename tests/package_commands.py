@@ -367,7 +367,8 @@ class Commands(unittest.TestCase):
     def test_the_parser_knows_the_names_of_the_package(self):
         self.assertIn(f"\n## {fhpgas.__version__}\n", (needs.ROOT / "CHANGELOG.md").read_text())
         self.assertEqual(
-            (set(drawing.GASES), __main__.FIELDS), (set(fhpgas.GASES), tuple(pictures.FIELDS))
+            (set(drawing.GAS_NAMES), tuple(__main__.FIELDS)),
+            (set(fhpgas.GASES), tuple(pictures.FIELDS)),
         )
         self.assertEqual(__main__.FILMS, pictures.PILLOW + pictures.FFMPEG)
 

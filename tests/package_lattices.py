@@ -61,8 +61,9 @@ start.long_run(4, 2, "kept.toml", stages=0)
 run(AREA, 1, capacity=1025)
     the capacity is an integer from 1 to 1024, not 1025
 start.coarse(1, 4097)
-    the width of a block is an integer from 1 to 4096, not 4097
-start.blocks(0)                                     the width of a block is an integer from 1, not 0
+    the number of columns of a block is an integer from 1 to 4096, not 4097
+start.blocks(0)
+    the number of columns of a block is an integer from 1, not 0
 start.every(-1, 2)                                  a step is an integer from 1 to 1000000, not -1
 start.save("/no/such/a.toml")                       No such file
 Lattice(np.zeros((8200, 4096), int)).run(1, 1)
@@ -99,7 +100,7 @@ gas(0.2, size=solid.shape)                          of this size, not (47, 64)
 positions((64, 47))                                 of this size, not (64, 47)
 read_cells(CELLS, "fhp1", (4, 3))                   of this size, not (4, 3)
 gas(0.2, size=Size(64.0, 64))
-    the number of columns is an integer from 1, not 64.0
+    the number of columns of a size is an integer from 1, not 64.0
 gas(0.2, size=Size(70000, 1))                       1 to 65536 each way
 gas(np.ones((3, 4)), size=Size(4, 4))
     the field `filling` has the shape (3, 4), and the lattice 4 rows and 4 columns
@@ -273,7 +274,7 @@ class Lattices(Package):
 
     def test_a_key_that_only_a_later_program_reads_is_refused(self):
         printed = program.call(AREA.encode(), "run", "--generations", 0)
-        with unittest.mock.patch.object(program, "call", return_value=printed):
+        with unittest.mock.patch.object(fhpgas.lattice, "call", return_value=printed):
             self.fault("the key `later`", fhpgas.run, AREA + "later = 1\n", 0)
             self.fault("the key `later`", fhpgas.Lattice.load, AREA + "later = 1\n")
 
@@ -364,7 +365,9 @@ class Lattices(Package):
             empty.run(1).text(),
         )
         with unittest.mock.patch.object(
-            program, "call", side_effect=AssertionError("it computes before it tries its file")
+            fhpgas.lattice,
+            "call",
+            side_effect=AssertionError("it computes before it tries its file"),
         ):
             self.fault("No such file", start.long_run, 10, 4, "/no/such/kept.toml")
 

@@ -24,7 +24,7 @@ from package import PROGRAM, Package, wind
 import distributed
 import fhpgas
 import numpy as np
-from fhpgas import Size, program
+from fhpgas import Size, runs
 from matplotlib.figure import Figure
 
 ROUNDS = 6  # of runs that fail, are killed and are interrupted
@@ -138,14 +138,14 @@ class Processes(Package):
 
         start = wind((64, 47))
         for cores, shown in ((0, True), (1, False)):
-            token = program._cores.set(cores)
+            token = runs.share.set(cores)
             with unittest.mock.patch.object(sys, "stderr", Terminal()) as terminal:
                 self.assertEqual(len([*start.every(1, 3)]), 4)
                 self.assertEqual(len([*start.driven(6, 2, force=0.001)]), 4)
-            program._cores.reset(token)
+            runs.share.reset(token)
             found = [f"0/{n} [00:00<?, ?{unit}/s]" for n, unit in ((3, "part"), (4, "point"))]
             self.assertEqual([each in terminal.getvalue() for each in found], [shown] * 2)
-        self.assertEqual(program.BARS, [])
+        self.assertEqual(runs.BARS, [])
 
     def test_runs_go_side_by_side_in_order(self):
         """In threads without a fork, by executors, and on a Dask cluster."""
@@ -199,7 +199,7 @@ class Processes(Package):
                     if function is killed or number % 2:
                         os.environ["FHPGAS"] = str(PROGRAM)
                     with self.assertRaises(raised) as found, unittest.mock.patch.object(
-                        program, "_all_cores", lambda: 4
+                        os, "sched_getaffinity", lambda process: {*range(4)}
                     ):
                         fhpgas.side_by_side(function, range(6))
                 self.assertTrue(raised is not Own or found.exception is own)

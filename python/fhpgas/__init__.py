@@ -25,8 +25,10 @@ if sys.version_info < (3, 11):  # the first word is -m while `python3 -m fhpgas`
     raise SystemExit(why) if sys.argv[0] == "-m" else ImportError(why)
 
 from .fault import Fault
-from .program import Summary, check, plan, side_by_side, with_seed
+from .plans import plan
 from .refusals import explain
+from .runs import side_by_side
+from .scenes import Summary, check, with_seed
 
 __version__ = "2.0.0"
 __all__ = ["Fault", "Summary", "check", "explain", "plan", "side_by_side", "with_seed"]
@@ -37,9 +39,10 @@ if importlib.util.find_spec("numpy"):
     from .drive import Point, driven
     from .fields import Size, equilibrium, positions
     from .gases import GASES, Gas, gas_named
-    from .lattice import Lattice, coarse, draw_gas, read_cells, run
+    from .lattice import Lattice, coarse, read_cells, run
     from .observe import SeriesMean, flux, forces, mean_and_error, mean_of_series, staggered
     from .pictures import film, plot, strip
+    from .random_gas import draw_gas
     from .shapes import bitmap, disc, nozzle, polygon, porous
     from .theory import Numbers, numbers
 

@@ -9,10 +9,11 @@ from __future__ import annotations
 import argparse
 import importlib
 import inspect
+import math
 import os
 import pathlib
 import sys
-import timeit
+import time
 import warnings
 import webbrowser
 from collections.abc import Callable
@@ -22,11 +23,13 @@ import fhpgas
 
 from . import drawing
 from .fault import Fault, Parser, Usage, add_words, number, one_line_faults, whole, word
-from .program import MOST_SEED, naming, read_bytes
+from .files import read_bytes
+from .limits import DRIVES, FFMPEG, FIELDS, GAS_NAMES, LAST_OF_SCENE, MOST_GENERATIONS, MOST_SEED
+from .limits import PARTICLES, PILLOW
 from .refusals import NOT_REFUSED
+from .scenes import naming
 
-FIELDS = "speed", "east", "north", "vorticity", "density", "filling", "pressure"
-FIGURES, FILMS = (".png", ".svg", ".pdf"), (".gif", ".webp", ".apng", ".mp4")
+FIGURES, FILMS = (".png", ".svg", ".pdf"), PILLOW + FFMPEG
 UNITS = ("days", 86400), ("hours", 3600), ("minutes", 60), ("seconds", 1)
 
 
@@ -158,17 +161,14 @@ def how_long(asked: argparse.Namespace) -> None:
     capacity = asked.capacity or capacity
 
     def timed(generations: int) -> float:
-        return timeit.timeit(
-            lambda: fhpgas.coarse(scene, generations, 4096, 4096, stages=stages, capacity=capacity),
-            number=1,
-        )
+        begun = time.perf_counter()
+        fhpgas.coarse(scene, generations, 4096, 4096, stages=stages, capacity=capacity)
+        return time.perf_counter() - begun
 
-    around, generations = min(timed(0), timed(0)), stages
-    while (
-        seconds := timed(generations) - around
-    ) < asked.seconds and 10 * generations <= 1_000_000:
-        generations *= max(2, min(10, int(asked.seconds / max(seconds, 1e-6))))
-    of_one = max(seconds, 1e-6) / generations
+    around, many = min(timed(0), timed(0)), stages
+    while (seconds := timed(many) - around) < asked.seconds and 10 * many <= MOST_GENERATIONS:
+        many *= max(2, min(10, int(asked.seconds / max(seconds, 1e-6))))
+    of_one = max(seconds, 1e-6) / many
     cells, whole_run = size.width * size.height, around + asked.generations * of_one
     unit, length = next((pair for pair in UNITS if whole_run >= 2 * pair[1]), UNITS[-1])
     print(
@@ -237,28 +237,20 @@ def over_seeds(asked: argparse.Namespace) -> None:
         blocks = fhpgas.coarse(area, asked.generations, *asked.block or (8, 9))
         return [blocks.fluid, blocks.particles, *blocks.velocity]
 
-    (fluid, *means), (_, *errors) = fhpgas.mean_and_error(
-        fhpgas.side_by_side(columns, range(1, asked.seeds + 1))
-    )
-    print(
-        "  col   row    fluid"
-        + "".join(f"{name:>12}{name + '_error':>16}" for name in ("particles", "u", "v"))
-    )
-    for row, column in (
-        (row, column) for row in range(len(fluid)) for column in range(fluid.shape[1])
-    ):
-        pairs = ((middle[row, column], error[row, column]) for middle, error in zip(means, errors))
-        shown = "".join(
-            f"{'-':>12}{'-':>16}" if m != m else f"{m:12.5g}{e:16.2g}" for m, e in pairs
-        )
-        print(f"{column:5} {row:5} {fluid[row, column]:8.1f}{shown}")
+    found = fhpgas.side_by_side(columns, range(1, asked.seeds + 1))
+    means, errors = (part.transpose(1, 2, 0).tolist() for part in fhpgas.mean_and_error(found))
+    names = "".join(f"{name:>12}{name + '_error':>16}" for name in ("particles", "u", "v"))
+    print("  col   row    fluid" + names)
+    for y, line in enumerate(means):
+        for x, (fluid, *rest) in enumerate(line):
+            pairs = ("%12.5g%16.2g" % pair for pair in zip(rest, errors[y][x][1:]))
+            print(f"{x:5} {y:5} {fluid:8.1f}" + "".join(pairs).replace("nan", "  -"))
 
 
 def page(asked: argparse.Namespace) -> None:
     """Opens a page on which a gas moves, and prints its path."""
-    own = (
-        pathlib.Path(__file__).resolve().parent
-    )  # of a wheel, which has the page, or of the repository
+    # of a wheel, which has the page, or of the repository
+    own = pathlib.Path(__file__).resolve().parent
     path = (own if (own / "page").exists() else own.parents[1]) / "page/fhpgas.html"
     print(path, flush=True)
     if not asked.no_browser:
@@ -277,24 +269,18 @@ def numbers(asked: argparse.Namespace) -> None:
         if not particles:
             raise Fault(f"{asked.table} has no particle, so no flow")
         x, y = blocks.gas.units * (blocks.px.sum(), blocks.py.sum()) / particles
-        flow = {
-            "filling": particles / blocks.gas.directions / blocks.fluid.sum(),
-            "speed": (x**2 + y**2) ** 0.5,
-        }
+        filling = particles / blocks.gas.directions / blocks.fluid.sum()
+        flow = {"filling": filling, "speed": math.hypot(x, y)}
     told = fhpgas.numbers(gas, **flow, length=asked.length, chirality=asked.chirality)._asdict()
     for name, value in (flow | told if asked.table else told).items():
         print(f"{name.replace('_', ' '):16}{value:12.4g}")
 
 
-FIELDS_OF: dict[str, Any] = {"choices": (*FIELDS, "particles")}
+FIELDS_OF: dict[str, Any] = {"choices": (*FIELDS, PARTICLES)}
 SCENE = word(kind=pathlib.Path, metavar="SCENE")
 SIDES: dict[str, Any] = {"nargs": 2, "metavar": ("COLUMNS", "ROWS")}
-FINITE, MANY, STEP, COUNT = (
-    number(-1e300, 1e300),
-    whole(0, 10**12),
-    whole(1, 1_000_000),
-    whole(0, 1_000_000),
-)
+FINITE, MANY = number(-1e300, 1e300), whole(0, LAST_OF_SCENE)
+STEP, COUNT = whole(1, MOST_GENERATIONS), whole(0, MOST_GENERATIONS)
 WORDS: dict[str, dict[str, Any]] = {
     "scene": SCENE,
     "scene:optional": SCENE | {"nargs": "?"},
@@ -311,7 +297,7 @@ WORDS: dict[str, dict[str, Any]] = {
     "--along": word(
         "the particles that turn: W to E (rows), or NW to NE and SW to SE too (directions)",
         default="rows",
-        choices=drawing.DRIVES,
+        choices=DRIVES,
     ),
     "--block": word("of a block; default 8 9, but a table needs its own", whole(1, 4096), **SIDES),
     "--capacity": word("rows per belt", whole(1, 1024)),
@@ -325,7 +311,7 @@ WORDS: dict[str, dict[str, Any]] = {
     "--flow": word("mean velocity", number(-1, 1)),
     "--force": word("momentum per fluid cell and generation", number(-2, 2)),
     "--fps": word("frames per second", number(0.1, 100), 10),
-    "--gas": word(choices=drawing.GASES),
+    "--gas": word(choices=GAS_NAMES),
     "--generations": word(kind=COUNT, required=True, metavar="GENERATIONS"),
     "--high": word("the value of the last colour", FINITE),
     "--length": word("in cells' widths", number(1e-3, 1e9), required=True),
@@ -397,12 +383,10 @@ def main(words: list[str] | None = None) -> None:
                 f"{sys.executable} lacks the package {name}: pip install {name}, or Debian's"
                 f" python3-{name}"
             ) from None
+        except BrokenPipeError:
+            raise
         except OSError as fault:
-            raise (
-                fault
-                if isinstance(fault, BrokenPipeError)
-                else Fault(f"{fault.filename or 'a file'}: {fault.strerror}")
-            ) from None
+            raise Fault(f"{fault.filename or 'a file'}: {fault.strerror}") from None
 
 
 if __name__ == "__main__":

@@ -8,10 +8,10 @@ from typing import Any
 
 import numpy as np
 
-from .fault import Fault, integer, real
+from .fault import Fault, real
+from .files import write_whole
 from .fields import Size, pair_checked, size_of
 from .gases import Array, Gas, array_of, gas_named, read_only
-from .program import write_whole
 
 HEADER = "  col   row    fluid particles         px         py"
 MOMENTA = "px", "py"
@@ -20,28 +20,18 @@ CACHED = 1 << 17  # cells that are summed at a time
 LANE = 21  # bits of a sum over a column of a block: at most 65536 rows of a weight of at most 31
 
 
-def block_checked(width: int, height: int, most: int | None = None) -> tuple[int, int]:
-    """The columns and rows of a block as two ints of at least 1."""
-    return (
-        integer("the width of a block", width, 1, most),
-        integer("the height of a block", height, 1, most),
-    )
-
-
 def block_sums(states: Array, weights: Array, width: int, height: int) -> Array:
     """The sums [k, row, column] over blocks of `width` x `height` cells of the weights [k,
     state], at most 31 apart, of their states. The rows of a block are added first, with three
     weights at a time in the lanes of an integer of 64 bits."""
-    width, height = block_checked(width, height)
+    width, height = pair_checked((width, height), "a block")
     tops, lefts = np.arange(0, len(states), height), np.arange(0, states.shape[1], width)
     cells = np.outer(np.diff(tops, append=len(states)), np.diff(lefts, append=states.shape[1]))
     found = np.empty((len(weights), *cells.shape), np.int64)
     many = max(1, CACHED // (height * states.shape[1]))
     for first, k in itertools.product(range(0, len(weights), 3), range(0, len(tops), many)):
-        three, part = (
-            weights[first : first + 3].astype(int),
-            states[k * height : (k + many) * height],
-        )
+        three = weights[first : first + 3].astype(int)
+        part = states[k * height : (k + many) * height]
         if not part.max():  # all cells have state 0, as where nothing is solid
             found[first : first + 3, k : k + many] = three[:, :1, None] * cells[k : k + many]
             continue
@@ -86,10 +76,7 @@ class Value:
         return all(map(np.array_equal, self._values(), other._values()))
 
     def __hash__(self) -> int:
-        parts = (
-            each.tobytes() if isinstance(each, np.ndarray) else each for each in self._values()
-        )
-        return hash(tuple(parts))
+        return hash(tuple(np.asarray(each).tobytes() for each in self._values()))
 
     def plot(self: Any, what: Any = None, ax: Any = None, **options: Any) -> Any:
         """Shows the value on Axes of matplotlib.
@@ -239,8 +226,8 @@ class Blocks(Value):
         if any(array.shape != shape or array.dtype.kind not in "iuf" for array in sums.values()):
             raise Fault(
                 f"{columns} x {rows} cells have {shape[1]} x {shape[0]} blocks of {width} x"
-                f" {height}, and the sums are arrays"
-                f" [row, column] of {', '.join(str(array.shape) for array in sums.values())}"
+                f" {height}, and the sums are arrays [row, column] of"
+                f" {', '.join(str(array.shape) for array in sums.values())}"
             )
         self.__dict__.update(sums, gas=gas_named(self.gas), block=block, size=Size(columns, rows))
 
@@ -274,13 +261,15 @@ class Blocks(Value):
             return NotImplemented
         return self
 
+    def _bounds(self) -> list[Array]:
+        """The columns and the rows at which blocks begin, and at which the last ones end."""
+        sides = zip(self.size, self.block)
+        return [np.minimum(np.arange(0, side + step, step), side) for side, step in sides]
+
     @property
     def cells(self) -> Array:
         """The cells of the blocks of all members, fluid and solid."""
-        widths, heights = (
-            np.diff(np.minimum(np.arange(0, side + step, step), side))
-            for side, step in zip(self.size, self.block)
-        )
+        widths, heights = map(np.diff, self._bounds())
         return self.members * heights[:, None] * widths
 
     def most(self) -> dict[str, Array]:
@@ -353,10 +342,7 @@ class Blocks(Value):
     def edges(self) -> tuple[Array, Array]:
         """The edges of the blocks: x [columns + 1] eastwards, and y [rows + 1] northwards from
         the lower wall, from the top."""
-        x, y = (
-            np.minimum(np.arange(0, side + step, step), side)
-            for side, step in zip(self.size, self.block)
-        )
+        x, y = self._bounds()
         return x - 0.5 + self.gas.shift / 2, (self.size[1] - y) * self.gas.row_distance
 
     @property
@@ -517,8 +503,7 @@ def read_table(
             row, column = np.argwhere(wrong)[0]
             raise Fault(
                 f"column {column} row {row} has {name} {getattr(blocks, name)[row, column]}, and a"
-                f" block of {blocks.gas} with its cells and"
-                f" particles at most {most[row, column]}: the table is of another gas, size or"
-                " block"
+                f" block of {blocks.gas} with its cells and particles at most {most[row, column]}:"
+                " the table is of another gas, size or block"
             )
     return blocks

@@ -17,43 +17,27 @@ from typing import Any
 import fhpgas
 
 from .fault import Fault, Usage, add_words, number, repeated, whole, word
-from .program import MOST_BYTES, MOST_SEED, text_of
+from .limits import CHIRALITIES, GAS_NAMES, MOST_BYTES, MOST_SEED, MOST_SIDE, map_bytes
+from .scenes import text_of
 
-GASES, CHIRALITIES = ("fhp1", "fhp-rest", "hpp"), ("seeded", "left", "right")
-DRIVES, MOST_SIDE = ("rows", "directions"), 65536
-
-
-PLACE, SIDE, CORNER = (
-    whole(0, MOST_SIDE),
-    whole(1, MOST_SIDE),
-    number(-2 * MOST_SIDE, 2 * MOST_SIDE),
-)
+PLACE, SIDE = whole(0, MOST_SIDE), whole(1, MOST_SIDE)
+CORNER = number(-2 * MOST_SIDE, 2 * MOST_SIDE)
 WORDS = {
-    "--gas": word(default="fhp1", choices=GASES),
+    "--gas": word(default="fhp1", choices=GAS_NAMES),
     "--chirality": word(default="seeded", choices=CHIRALITIES),
-    "--seed": word(
-        "of the scene, and of all that is drawn at random here; default 0", whole(0, MOST_SEED)
-    ),
+    "--seed": word("of the scene and of all that is drawn; default 0", whole(0, MOST_SEED)),
     "--width": word("1 to 65536", SIDE, 64, metavar="COLUMNS"),
     "--height": word("1 to 65536", SIDE, 24, metavar="ROWS"),
     "--filling": word("the chance per direction, 0 to 1", number(0, 1), 0.2),
-    "--patch": repeated(
-        "fill these columns and rows otherwise", number(0, MOST_SIDE), *"XYWH", "FILLING"
-    ),
+    "--patch": repeated("fill a rectangle otherwise", number(0, MOST_SIDE), *"XYWH", "FILLING"),
     "--wind": word(
-        (
-            "the mean velocity of the particles, eastwards and, if a second number is given,"
-            " northwards"
-        ),
+        "the mean velocity of the particles, eastwards, and northwards as a second number",
         number(-1, 1),
         (0.0,),
         nargs="+",
         metavar="SPEED",
     ),
-    "--closed": {
-        "action": "store_true",
-        "help": "make the first column solid, so that nothing passes the ends",
-    },
+    "--closed": {"action": "store_true", "help": "a solid first column: nothing passes the ends"},
     "--block": repeated("a solid rectangle", PLACE, *"XYWH"),
 }
 ABOUT_DISCS = (
@@ -61,37 +45,24 @@ ABOUT_DISCS = (
     " 37 rows of the triangular lattice; goes on past the last column, is cut at the walls"
 )
 CORNERS = word("the corners; may be repeated", CORNER, nargs="+", action="append", metavar="X Y")
-SHAPES: dict[str, tuple[str, dict[str, Any]]] = {
-    "blocks": ("rectangles", {}),
-    "discs": (
-        "discs, round as the lattice lies",
-        {"--disc": repeated(ABOUT_DISCS, PLACE, "X", "Y", "RADIUS")},
-    ),
-    "polygons": ("polygons", {"--polygon": CORNERS | {"default": []}}),
-    "bitmap": (
-        "the dark pixels of a picture",
-        {
-            "picture": word("a PBM or PNG file, or another that Pillow reads", metavar="PICTURE"),
-            "--pixel": word(
-                "of a pixel in cells' widths", number(0.01, MOST_SIDE), 1, metavar="WIDTH"
-            ),
-            "--at": word("the cell of its upper left", PLACE, (0, 0), nargs=2, metavar=("X", "Y")),
-        },
-    ),
-    "nozzle": (
-        "the channel narrows to a throat and widens again",
-        {
-            "--throat": word("open rows of the narrowest column", PLACE, 6, metavar="ROWS"),
-            "--length": word("from full to full height", PLACE, 40, metavar="COLUMNS"),
-        },
-    ),
-    "porous": (
-        "discs at random places, until the share of solid cells is reached",
-        {
-            "--share": word("of all cells that are solid, at least", number(0, 1), 0.3),
-            "--radius": word("of each disc", PLACE, 2),
-        },
-    ),
+WORDS_OF_SHAPES: dict[str, dict[str, Any]] = {
+    "--disc": repeated(ABOUT_DISCS, PLACE, "X", "Y", "RADIUS"),
+    "--polygon": CORNERS | {"default": []},
+    "picture": word("a PBM or PNG file, or another that Pillow reads", metavar="PICTURE"),
+    "--pixel": word("of a pixel in cells' widths", number(0.01, MOST_SIDE), 1, metavar="WIDTH"),
+    "--at": word("the cell of its upper left", PLACE, (0, 0), nargs=2, metavar=("X", "Y")),
+    "--throat": word("open rows of the narrowest column", PLACE, 6, metavar="ROWS"),
+    "--length": word("from full to full height", PLACE, 40, metavar="COLUMNS"),
+    "--share": word("of all cells that are solid, at least", number(0, 1), 0.3),
+    "--radius": word("of each disc", PLACE, 2),
+}
+SHAPES = {  # what each is, and its words beside the ones of all
+    "blocks": ("rectangles", ""),
+    "discs": ("discs, round as the lattice lies", "--disc"),
+    "polygons": ("polygons", "--polygon"),
+    "bitmap": ("the dark pixels of a picture", "picture --pixel --at"),
+    "nozzle": ("the channel narrows to a throat and widens again", "--throat --length"),
+    "porous": ("discs at random places, until a share of cells is solid", "--share --radius"),
 }
 
 
@@ -99,7 +70,8 @@ def add_shapes(reader: argparse.ArgumentParser) -> None:
     """The words that draw a scene."""
     kinds = reader.add_subparsers(dest="shape", required=True, metavar="SHAPE")
     for name, (about, more) in SHAPES.items():
-        add_words(kinds.add_parser(name, help=about), WORDS | more)
+        own = {word: WORDS_OF_SHAPES[word] for word in more.split()}
+        add_words(kinds.add_parser(name, help=about), WORDS | own)
 
 
 def drawn(asked: argparse.Namespace, seed: int | None = None) -> str:
@@ -130,9 +102,9 @@ def shape(asked: argparse.Namespace, size: Any, seed: int) -> Any:
         return fhpgas.nozzle(size, asked.throat, asked.length)
     if asked.shape == "porous":
         return fhpgas.porous(size, asked.share, asked.radius, seed, asked.gas)
-    discs = asked.disc if asked.shape == "discs" else ()
+    discs, polygons = getattr(asked, "disc", ()), getattr(asked, "polygon", ())
     many = [fhpgas.disc(size, x, y, radius, asked.gas) for x, y, radius in discs]
-    for numbers in asked.polygon if asked.shape == "polygons" else ():
+    for numbers in polygons:
         if len(numbers) % 2:
             raise Usage(f"a polygon has corners of two numbers each, and these are {len(numbers)}")
         many.append(fhpgas.polygon(size, zip(numbers[::2], numbers[1::2]), asked.gas))
@@ -147,7 +119,7 @@ def windy(
 
     if len(asked.wind) > 2:
         raise Usage("a wind has a speed eastwards and one northwards")
-    if size[1] * (2 * size[0] + 8) + 200 > MOST_BYTES:
+    if map_bytes(*size) > MOST_BYTES:
         raise Fault(
             f"a wind makes a map, and this one would be longer than the {MOST_BYTES} bytes that the"
             " program reads"

@@ -14,7 +14,9 @@ import numpy as np
 from .fault import Fault, integer, real
 from .fields import lots_of
 from .gases import Array, Checked, read_only
-from .program import MOST_SEED, counted, plan_of
+from .limits import MOST_SEED
+from .plans import plan_of
+from .runs import counted
 
 if TYPE_CHECKING:
     from .lattice import Lattice
@@ -118,29 +120,20 @@ def driven(
     else:
         flow = real("a flow, the mean velocity of the particles,", flow, -1, 1)
     kicks = _Kicks(lattice, along, integer("a seed", seed, 0, MOST_SEED))
-    plan = plan_of(stages, capacity)
-    return _points(lattice, generations, every, force, flow, kicks, plan)
+    plan, kicked = plan_of(stages, capacity), range(0, generations + 1, every)
 
+    def points() -> Iterator[Point]:
+        after = lattice
+        for done in counted(kicked, len(kicked), "point"):
+            before = after.run(every, **plan) if done else after
+            momentum = float(before.momentum[0])
+            wanted = (flow or 0) * before.particles - momentum if force is None else force
+            states, turned, given = kicks.kicked(before.states, wanted, force is not None)
+            after = before.replace(states=Checked(read_only(states)))
+            acts, velocity = given / every / before.fluid, (momentum + given / 2) / before.particles
+            yield Point(before, after, turned, acts, velocity)
 
-def _points(
-    lattice: Lattice,
-    generations: int,
-    every: int,
-    force: float | None,
-    flow: float | None,
-    kicks: _Kicks,
-    plan: dict[str, int | None],
-) -> Iterator[Point]:
-    """The points of `driven`, where `force` is the momentum of a kick."""
-    kicked = range(0, generations + 1, every)
-    for done in counted(kicked, len(kicked), "point"):
-        before = lattice.run(every, **plan) if done else lattice
-        momentum = float(before.momentum[0])
-        wanted = (flow or 0) * before.particles - momentum if force is None else force
-        states, turned, given = kicks.kicked(before.states, wanted, keeps_rest=force is not None)
-        lattice = before.replace(states=Checked(read_only(states)))
-        acts, velocity = given / every / before.fluid, (momentum + given / 2) / before.particles
-        yield Point(before, lattice, turned, acts, velocity)
+    return points()
 
 
 class _Kicks:

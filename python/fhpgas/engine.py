@@ -21,7 +21,10 @@ from numpy.ctypeslib import ndpointer
 
 from .fault import Fault
 from .gases import Array
-from .program import MOST_BYTES, plan, program_path, runs, show_progress
+from .limits import MOST_BYTES, map_bytes
+from .plans import plan
+from .program import program_path
+from .runs import runs, show_progress
 
 if TYPE_CHECKING:
     from .lattice import Lattice
@@ -32,10 +35,7 @@ INTERFACE = 1
 GASES = {"fhp1": 0, "hpp": 1, "fhp-rest": 2}
 CHIRALITIES = {"seeded": 0, "left": 1, "right": 2}
 REFUSALS = {
-    4: (
-        "the first row of a part is even, its first column a multiple of 32, and its last column in"
-        " the whole"
-    ),
+    4: "a part begins at an even row and a column that 32 divides, and lies in the whole",
     5: "the last generation is not below 2^64",
 }
 U32, U64, SIZE = ctypes.c_uint32, ctypes.c_uint64, ctypes.c_size_t
@@ -112,12 +112,10 @@ def serves(lattice: Lattice, generations: int) -> bool:
     for no program, and none is faster."""
     if library() is None or os.environ.get("FHPGAS"):
         return False
-    (columns, rows), draws = (
-        lattice.size,
-        lattice.chirality == "seeded" and not lattice.gas.is_square,
-    )
-    is_long = columns * rows >= CELLS and generations >= (SEEDED if draws else UNSEEDED)
-    fits = rows * (2 * columns + 10) + 200 <= MOST_BYTES  # as a scene
+    columns, rows = lattice.size
+    least = SEEDED if lattice.gas.draws(lattice.chirality) else UNSEEDED
+    is_long = columns * rows >= CELLS and generations >= least
+    fits = map_bytes(columns, rows) <= MOST_BYTES
     stages, _, threads = plan(rows, generations)
     is_fast = stages >= STAGES and threads >= THREADS
     return not (is_long and fits and is_fast and _has_program())

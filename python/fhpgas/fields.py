@@ -52,19 +52,19 @@ def size_of(size: Any) -> Size:
     if not isinstance(found, Size):
         raise Fault(
             "a size is fhpgas.Size(columns, rows), or a lattice or an array [y, x] of this size,"
-            " not"
-            f" {reprlib.repr(size)}"
+            f" not {reprlib.repr(size)}"
         )
     return Size(*pair_checked(found, "a size"))
 
 
-def pair_checked(pair: Any, what: str) -> tuple[int, int]:
-    """Columns and rows, of a lattice or of a block, as two ints of at least 1."""
+def pair_checked(pair: Any, what: str, most: int | None = None) -> tuple[int, int]:
+    """The columns and rows of a lattice, a block or a tile as two ints from 1 to `most`."""
     try:
         columns, rows = pair
     except (TypeError, ValueError):
         raise Fault(f"{what} is two integers, columns and rows, not {reprlib.repr(pair)}") from None
-    return integer("the number of columns", columns, 1), integer("the number of rows", rows, 1)
+    width = integer(f"the number of columns of {what}", columns, 1, most)
+    return width, integer(f"the number of rows of {what}", rows, 1, most)
 
 
 def positions(
@@ -157,6 +157,11 @@ def numbers_of(name: str, field: Any) -> Array:
     return values.astype(float, copy=False)
 
 
+def numbers_at(name: str, field: Any, places: tuple[Array, ...]) -> Array:
+    """The numbers of a field, which may be a function of the places X, Y."""
+    return numbers_of(name, field(*places) if callable(field) else field)
+
+
 def _impossible(gas: Gas, d: Array, u: Array, v: Array) -> Fault:
     return Fault(f"no {gas} of filling {d[0]:g} has the velocity {u[0]:g}, {v[0]:g}")
 
@@ -180,10 +185,9 @@ def _solved(gas: Gas, d: Array, u: Array, v: Array) -> Array:
             matrix += [n * (1 - n) * weight for weight in (1, x, y, x * x, x * y, y * y)]
         if is_done:
             return chances
-        is_done = (
-            max(np.abs(part).max() for part in (s, sx, sy)) < 1e-11
-        )  # then one more step makes it exact
-        steps = _divided((s, sx, sy), *matrix)
+        # then one more step makes it exact
+        is_done = max(np.abs(part).max() for part in (s, sx, sy)) < 1e-11
+        steps = _divided((s, sx, sy), matrix)
         share = np.minimum(1, 2 / np.maximum(1e-300, np.abs(steps).max(0)))
         h, qx, qy = h + share * steps[0], qx + share * steps[1], qy + share * steps[2]
         if (lost := ~(np.abs(h) + np.abs(qx) + np.abs(qy) < 200)).any():
@@ -191,22 +195,14 @@ def _solved(gas: Gas, d: Array, u: Array, v: Array) -> Array:
     raise _impossible(gas, d, u, v)
 
 
-def _divided(
-    right: tuple[Array, Array, Array], a: Array, b: Array, c: Array, d: Array, e: Array, f: Array
-) -> Array:
+def _divided(right: tuple[Array, Array, Array], matrix: Array) -> Array:
     """The solutions [3, cells] of three linear equations whose symmetric matrix has the rows (a, b,
     c), (b, d, e), (c, e, f)."""
-    minors = d * f - e * e, c * e - b * f, b * e - c * d
-    whole = a * minors[0] + b * minors[1] + c * minors[2]
-    rows = (
-        minors,
-        (minors[1], a * f - c * c, b * c - a * e),
-        (minors[2], b * c - a * e, a * d - b * b),
-    )
-    with np.errstate(divide="ignore", invalid="ignore"):
-        return np.stack(
-            [(row[0] * right[0] + row[1] * right[1] + row[2] * right[2]) / whole for row in rows]
-        )
+    (x, y, z), (a, b, c, d, e, f) = right, matrix
+    top = d * f - e * e, c * e - b * f, b * e - c * d
+    rows = top, (top[1], a * f - c * c, b * c - a * e), (top[2], b * c - a * e, a * d - b * b)
+    whole = a * top[0] + b * top[1] + c * top[2]
+    return np.stack([(u * x + v * y + w * z) / whole for u, v, w in rows])
 
 
 def lots_of(call: str, seed: int) -> np.random.PCG64:
@@ -239,19 +235,15 @@ def drawn(
     words = gas.directions * taken
     flat = [field.reshape((1,) * (2 - field.ndim) + field.shape) for field in fields]
     spread, height = np.broadcast_shapes(*(field.shape for field in flat)), max(1, CACHED // words)
-    profile = (
-        np.broadcast_to(equilibrium(gas, *flat), (gas.directions, rows, spread[1]))
-        if 1 in spread
-        else None
-    )
+    whole = gas.directions, rows, spread[1]
+    profile = np.broadcast_to(equilibrium(gas, *flat), whole) if 1 in spread else None
     source, states = np.random.PCG64(seed), np.zeros(shape, np.uint8)
     source.advance(top_row * gas.directions * line + skipped)
     for top in range(0, rows, height):
         part, strip = states[top : top + height], slice(top, top + height)
-        fields_here = (field[strip] if len(field) > 1 else field for field in flat)
-        limits = np.rint(
-            65536 * (equilibrium(gas, *fields_here) if profile is None else profile[:, strip])
-        )
+        here = (field[strip] if len(field) > 1 else field for field in flat)
+        chances = equilibrium(gas, *here) if profile is None else profile[:, strip]
+        limits = np.rint(65536 * chances)
         limits = limits.astype(np.uint16 if limits.max() < 65536 else np.int32)
         lots = _lines_of(source, len(part) * gas.directions, taken, line - taken)
         lots = lots.astype("<u8", copy=False).view("<u2").reshape(len(part), gas.directions, -1)

@@ -2,12 +2,13 @@
 lists them."""
 import functools
 import reprlib
-from collections.abc import Sequence
+from collections.abc import Iterable, Sequence
 from typing import Any, NamedTuple
 
 import numpy as np
 
 from .fault import Fault
+from .limits import DRIVES
 
 Array = np.ndarray[Any, np.dtype[Any]]
 Pairs = Sequence[tuple[int, int]]
@@ -15,15 +16,8 @@ ROOT3 = 3**0.5
 # The sides to which pairs turn, by chirality.
 SIDES = {"seeded": ("left", "right"), "left": ("left",), "right": ("right",)}
 STATES = np.arange(128, dtype=np.uint8)
-DRIVES = "rows", "directions"  # along which a force turns particles
-EXCHANGES = {
-    0x41: 0x22,
-    0x42: 0x05,
-    0x44: 0x0A,
-    0x48: 0x14,
-    0x50: 0x28,
-    0x60: 0x11,
-}  # one moving and one at rest: two moving
+# One moving and one at rest: two moving.
+EXCHANGES = {0x41: 0x22, 0x42: 0x05, 0x44: 0x0A, 0x48: 0x14, 0x50: 0x28, 0x60: 0x11}
 
 
 def read_only(array: Array) -> Array:
@@ -48,6 +42,16 @@ def array_of(what: str, values: Any) -> Array:
     return np.asarray(found.data)
 
 
+def floats_of(what: str, values: Iterable[Any], why: str) -> Array:
+    """Values as a new array of floats. Others raise a Fault, of `why` or as `array_of` does."""
+    try:
+        return array_of(what, [*values]).astype(float)
+    except Fault:
+        raise
+    except (TypeError, ValueError):
+        raise Fault(why) from None
+
+
 def mask(values: Any) -> Array:
     """Truth values, or numbers that are 0 or 1, as a new array of truth values. Anything else, such
     as an image's greys, raises a Fault."""
@@ -57,8 +61,7 @@ def mask(values: Any) -> Array:
     ):
         raise Fault(
             f"solid cells are an array of truth values, or of 0 and 1, not {reprlib.repr(values)}"
-            f" of {array.dtype}: compare an"
-            " image with a number, as in `image > 127`"
+            f" of {array.dtype}: compare an image with a number, as in `image > 127`"
         )
     return array.astype(bool)
 
@@ -156,6 +159,10 @@ class Gas:
         east = self.velocities[[pair[0] for pair in pairs], 0]
         return tuple((*pair, c / 2 / (east @ east)) for pair, c in zip(pairs, east.tolist()))
 
+    def draws(self, chirality: str) -> bool:
+        """Whether collisions take random bits."""
+        return chirality == "seeded" and not self.is_square
+
     def changes(self, chirality: str) -> Array:
         """What a collision adds to the particles [128, b] of a state, on average over the sides."""
         sides = SIDES[chirality_named(chirality)]
@@ -166,20 +173,13 @@ _HEXAGON = (2, 0), (1, 1), (-1, 1), (-2, 0), (-1, -1), (1, -1)
 _EVEN = (1, 0), (0, -1), (-1, -1), (-1, 0), (-1, 1), (0, 1)
 _ODD = (1, 0), (1, -1), (0, -1), (-1, 0), (0, 1), (1, 1)
 _SQUARE = (1, 0), (0, -1), (-1, 0), (0, 1)
-_REST = (0, 0)
+_REST, _UNITS = (0, 0), (1 / 2, ROOT3 / 2)
 GASES = {
     gas.name: gas
     for gas in (
-        Gas("fhp1", _HEXAGON, (1 / 2, ROOT3 / 2), _EVEN, _ODD, ROOT3 / 2),
+        Gas("fhp1", _HEXAGON, _UNITS, _EVEN, _ODD, ROOT3 / 2),
         Gas("hpp", ((1, 0), (0, 1), (-1, 0), (0, -1)), (1, 1), _SQUARE, _SQUARE, 1.0),
-        Gas(
-            "fhp-rest",
-            (*_HEXAGON, _REST),
-            (1 / 2, ROOT3 / 2),
-            (*_EVEN, _REST),
-            (*_ODD, _REST),
-            ROOT3 / 2,
-        ),
+        Gas("fhp-rest", (*_HEXAGON, _REST), _UNITS, (*_EVEN, _REST), (*_ODD, _REST), ROOT3 / 2),
     )
 }
 

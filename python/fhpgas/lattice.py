@@ -1,34 +1,30 @@
 """The lattice of a gas: its cells as numpy arrays, its runs, its pictures and its files."""
 import dataclasses
 import functools
-import itertools
 import os
-import pathlib
-import re
-import warnings
-from collections.abc import Iterator
 from typing import Any
 
 import numpy as np
 
-from . import drive, engine, fields, program
-from .blocks import CACHED, Blocks, Value, block_checked, block_sums, read_table
+from . import drive, engine, fields, long_runs
+from .blocks import Blocks, Value, block_sums, read_table
+from .cells import SOLID, cells_of, codes_of, lines_of, number_of, parts_of
 from .fault import Fault, integer
+from .files import write_whole
 from .gases import Array, Checked, Gas, array_of, chirality_named, gas_named, mask, read_only
-from .program import MOST_GENERATIONS, MOST_SEED, Scene, keys_of
+from .limits import (
+    LAST_OF_SCENE,
+    MOST_BLOCK,
+    MOST_GENERATION,
+    MOST_GENERATIONS,
+    MOST_SEED,
+    MOST_SIDE,
+)
+from .plans import planned
+from .program import call
 from .reader import KEYS
-from .theory import sound_speed
+from .scenes import Scene, height_of, keys_of, naming, scene_bytes, summary, text_of
 
-SOLID = 0x80  # in a byte per cell: a solid cell. Any other cell's byte is its state
-NO_CELL = 0xFF
-MOST_SIDE, LAST_OF_SCENE = 65536, 10**12
-MOST_GENERATION = LAST_OF_SCENE + MOST_GENERATIONS  # after a run, with which none can begin
-TEXTS = [b"##" if code & SOLID else b"%02x" % code if code else b".." for code in range(256)]
-PAIRS = np.array(TEXTS, "S2").view("<u2")  # the characters of a byte
-CODES = np.full(1 << 16, NO_CELL, np.uint8)  # the byte of two characters
-CODES[PAIRS[: SOLID + 1]] = range(SOLID + 1)
-CODES[ord("0") * 257] = 0
-NUMBER = np.array([state.bit_count() for state in range(SOLID)])  # of the particles of a state
 OTHER = {"left": "right", "right": "left", "seeded": "seeded"}
 
 
@@ -162,11 +158,10 @@ class Lattice(Value):
         >>> fhpgas.Lattice([[1, 0]]).replace(states=[[0, 8]]).states.tolist()
         [[0, 8]]
         """
-        kept = dict(zip((field.name for field in dataclasses.fields(self)), self._values()))
-        kept["solid"] = Checked(self.solid)
+        kept: dict[str, Any] = {"solid": Checked(self.solid)}
         if "gas" not in changes:
             kept["states"] = Checked(self.states)
-        return Lattice(**kept | changes)
+        return dataclasses.replace(self, **kept | changes)
 
     def __array__(self, dtype: Any = None, copy: bool | None = None) -> Array:
         return np.array(self.states, dtype) if copy else np.asarray(self.states, dtype)
@@ -236,7 +231,7 @@ class Lattice(Value):
         >>> fhpgas.Lattice([[1, 9, 0], [0, 0, 32]]).blocks(None, 1).particles.tolist()
         [[3], [1]]
         """
-        block = block_checked(*self._block(width, height))
+        block = fields.pair_checked(self._block(width, height), "a block")
         if engine.library():
             return self._blocks(engine.sums(self, 0, *block), block, self.generation)
         weights = np.stack([self.gas.number, self.gas.px, self.gas.py])
@@ -261,7 +256,7 @@ class Lattice(Value):
     def text(self) -> str:
         """The cells as `fhpgas run` prints them."""
         first = f"generation {self.generation} particles {self.particles}\n"
-        return first + lines_of(self._codes()).decode()
+        return first + lines_of(codes_of(self.states, self.solid)).decode()
 
     def scene(self) -> str:
         """The text of the scene that has this lattice, a map."""
@@ -290,20 +285,17 @@ class Lattice(Value):
         if os.fspath(path).endswith(".npz"):
             super().save(path)
         else:
-            program.write_whole(path, self._scene())
+            write_whole(path, self._scene())
 
     def __sizeof__(self) -> int:  # by which Dask decides what it moves, and what to disk
         return object.__sizeof__(self) + self.states.nbytes + self.solid.nbytes
-
-    def _codes(self) -> Array:
-        return self.states | self.solid.view(np.uint8) << 7
 
     def _scene(self) -> bytes:
         integer("the generation of a scene", self.generation, 0, LAST_OF_SCENE)
         keys = {"version": 2, "gas": self.gas.name, "chirality": self.chirality}
         keys |= {"seed": self.seed, "generation": self.generation}
-        rows = lines_of(self._codes(), b'    "', b'",\n')
-        return b"".join([program.text_of(keys).encode(), b"cells = [\n", rows, b"]\n"])
+        rows = lines_of(codes_of(self.states, self.solid), b'    "', b'",\n')
+        return b"".join([text_of(keys).encode(), b"cells = [\n", rows, b"]\n"])
 
     def run(
         self, generations: int, stages: int | None = None, capacity: int | None = None
@@ -334,8 +326,8 @@ class Lattice(Value):
         if stages is None and capacity is None and engine.serves(self, generations):
             states = Checked(read_only(engine.run(self, generations)))
             return self.replace(states=states, generation=self.generation + generations)
-        words = program.planned(len(self.states), generations, stages, capacity)
-        text = program.call(self._scene(), "run", *words, is_checked=True)
+        words = planned(len(self.states), generations, stages, capacity)
+        text = call(self._scene(), "run", *words, is_checked=True)
         keys: dict[str, Any] = {"gas": self.gas, "chirality": self.chirality, "seed": self.seed}
         return _lattice_of(*cells_of(text), **keys)
 
@@ -343,49 +335,6 @@ class Lattice(Value):
         """The number of generations of a run that begins here."""
         integer("the generation at which a run begins", self.generation, 0, LAST_OF_SCENE)
         return integer("the number of generations", generations, 0, MOST_GENERATIONS)
-
-    def every(
-        self, step: int, count: int, stages: int | None = None, capacity: int | None = None
-    ) -> Iterator["Lattice"]:
-        """This lattice, and then lattices `step` generations apart.
-
-        Parameters
-        ----------
-        step : int
-            Generations, 1 to 1,000,000.
-        count : int
-            How many steps.
-        stages, capacity : int, optional
-            The plan, as in `run`.
-
-        Yields
-        ------
-        Lattice
-            `count + 1` of them, each computed when it is asked for.
-
-        Examples
-        --------
-        >>> start = fhpgas.Lattice([[0, 1, 0, 0]])
-        >>> [each.states.tolist()[0].index(1) for each in start.every(1, 4)]
-        [1, 2, 3, 0, 1]
-        """
-        step = integer("a step", step, 1, MOST_GENERATIONS)
-        last = self.generation + step * integer("the number of steps", count)
-        plan = program.plan_of(stages, capacity)
-        return itertools.chain([self], self._parts(last, step, plan))
-
-    def _parts(
-        self, last: int, step: int, plan: dict[str, Any], kept: Any = None
-    ) -> Iterator["Lattice"]:
-        """The lattices after every step, and at the last generation. The file `kept` has the
-        scene of the last one."""
-        lattice = self
-        starts = range(self.generation, last, step)
-        for start in program.counted(starts, len(starts), "part"):
-            lattice = lattice.run(min(step, last - start), **plan)
-            if kept is not None:
-                lattice.save(kept)
-            yield lattice
 
     def coarse(
         self,
@@ -416,14 +365,13 @@ class Lattice(Value):
         >>> start.coarse(10) == start.run(10).blocks()
         True
         """
-        block = block_checked(*self._block(width, height), 4096)
-        plan, generations = program.plan_of(stages, capacity), self._span(generations)
+        block = fields.pair_checked(self._block(width, height), "a block", MOST_BLOCK)
+        generations = self._span(generations)
+        words = planned(len(self.states), generations, stages, capacity)
+        last = self.generation + generations
         if stages is None and capacity is None and engine.serves(self, generations):
-            sums = engine.sums(self, generations, *block)
-            return self._blocks(sums, block, self.generation + generations)
-        return _coarse(
-            self._scene(), self.gas, self.size, self.generation, generations, block, plan
-        )
+            return self._blocks(engine.sums(self, generations, *block), block, last)
+        return read_table(_coarse(self._scene(), words, block), self.gas, block, self.size, last)
 
     def reverse(self) -> "Lattice":
         """The lattice with all particles turned back.
@@ -449,7 +397,7 @@ class Lattice(Value):
         >>> bool((back.states == start.states).all())
         True
         """
-        if self.chirality == "seeded" and not self.gas.is_square:
+        if self.gas.draws(self.chirality):
             raise Fault(
                 'a run with chirality "seeded" cannot be reversed, since its random bits only run'
                 ' forwards: take "left" or "right"'
@@ -458,96 +406,7 @@ class Lattice(Value):
         return self.replace(states=self.gas.turned[after], chirality=OTHER[self.chirality])
 
     driven = drive.driven
-
-    def resume(self, text: str | bytes) -> "Lattice":
-        """The lattice of cells that `fhpgas run` printed in a run that began with this lattice.
-
-        Parameters
-        ----------
-        text : str or bytes
-            The cells. They do not show whether another chirality or seed was used.
-
-        Returns
-        -------
-        Lattice
-
-        Raises
-        ------
-        Fault
-            If the cells cannot come from this lattice: of another size, with other solid cells,
-            another number of particles, an earlier generation, or the same generation and other
-            cells.
-
-        Examples
-        --------
-        >>> start = fhpgas.Lattice([[0, 1, 0, 0]])
-        >>> start.resume(start.run(2).text()).run(1) == start.run(3)
-        True
-        """
-        return self._continued(read_cells(text, self.gas, self.size, self.chirality, self.seed))
-
-    def _continued(self, later: "Lattice") -> "Lattice":
-        """A later lattice of a run of this one. Another raises a Fault."""
-        why = "the cells are not of this lattice: "
-        for name in ("size", "gas", "chirality", "seed", "fluid", "particles"):
-            if (theirs := getattr(later, name)) != (own := getattr(self, name)):
-                raise Fault(f"{why}{name} is {theirs}, and not {own}")
-        if not np.array_equal(later.solid, self.solid):
-            raise Fault(why + "other cells are solid")
-        first, last = self.generation, later.generation
-        if last < first or last == first and later != self:
-            raise Fault(
-                f"{why}they are of generation {last}, and it is of {first}, with other cells"
-            )
-        return later
-
-    def long_run(
-        self,
-        generations: int,
-        step: int,
-        kept: str | os.PathLike[str],
-        stages: int | None = None,
-        capacity: int | None = None,
-    ) -> Iterator["Lattice"]:
-        """Runs in parts, each kept in a file, so the same call continues a run that was ended.
-
-        Parameters
-        ----------
-        generations : int
-            In all.
-        step : int
-            Of a part, 1 to 1,000,000.
-        kept : path
-            The file of the scene that continues. It is tried first.
-        stages, capacity : int, optional
-            The plan, as in `run`.
-
-        Yields
-        ------
-        Lattice
-            After every part that this call computed, when the file has it.
-
-        Raises
-        ------
-        Fault
-            If the file is of another run, or cannot be written.
-
-        Examples
-        --------
-        >>> start = fhpgas.Lattice([[0, 1, 0, 0]])
-        >>> [each.generation for each in start.long_run(5, 2, "kept.toml")]
-        [2, 4, 5]
-        """
-        plan = program.plan_of(stages, capacity)
-        last = self.generation + integer("the number of generations", generations)
-        step = integer("a step", step, 1, MOST_GENERATIONS)
-        here, path = self, pathlib.Path(kept)
-        if program.plain_file(path).exists():
-            found = Lattice.load(path)
-            with program.naming(path):
-                here = self._continued(found)
-        here.save(kept)
-        return here._parts(last, step, plan, kept)
+    every, long_run, resume = long_runs.every, long_runs.long_run, long_runs.resume
 
 
 def _states_of(values: Array, gas: Gas) -> Array:
@@ -563,53 +422,8 @@ def _states_of(values: Array, gas: Gas) -> Array:
 
 def _lattice_of(codes: Array, generation: int, **keys: Any) -> Lattice:
     """The lattice of cells that the program printed for a scene of these keys."""
-    states, solid = (
-        Checked(read_only(part)) for part in (codes & SOLID - 1, (codes >> 7).view(bool))
-    )
+    states, solid = (Checked(read_only(part)) for part in parts_of(codes))
     return Lattice(states, solid, generation=generation, **keys)
-
-
-def number_of(codes: Array) -> Array:
-    """How many cells have each of the 256 values of a byte, counted a few rows at a time."""
-    rows = max(1, CACHED // codes.shape[1])
-    parts = (codes[top : top + rows].ravel() for top in range(0, len(codes), rows))
-    return sum((np.bincount(part, minlength=256) for part in parts), np.zeros(256, int))
-
-
-def lines_of(codes: Array, before: bytes = b"", after: bytes = b"\n") -> bytes:
-    """The rows of cells, a byte each, as lines of text with two characters per cell."""
-    rows, columns = codes.shape
-    lines = np.empty((rows, len(before) + 2 * columns + len(after)), np.uint8)
-    lines[:, : len(before)] = np.frombuffer(before, np.uint8)
-    lines[:, len(before) + 2 * columns :] = np.frombuffer(after, np.uint8)
-    lines[:, len(before) : len(before) + 2 * columns] = PAIRS[codes].view(np.uint8)
-    return lines.tobytes()
-
-
-def cells_of(text: bytes, size: tuple[int, int] | None = None) -> tuple[Array, int]:
-    """The cells, a byte each, and the generation of a text that `fhpgas run` printed, of columns
-    and rows if they are known. A text that is not whole raises a Fault."""
-    head = re.match(rb"generation (\d+) particles (\d+)\n([^\n]+\n)", text)
-    width = len(head[3]) if head else 0
-    if not head or width % 2 == 0 or (len(text) - head.start(3)) % width:
-        raise Fault(
-            "these are no printed cells, or not all: they begin with `generation g particles c`,"
-            " and then have rows of one length"
-        )
-    lines = np.frombuffer(text, np.uint8, offset=head.start(3)).reshape(-1, width)
-    codes = CODES[lines[:, :-1].view("<u2")]
-    if (wrong := (codes == NO_CELL) | (lines[:, -1:] != ord("\n"))).any():
-        raise Fault(
-            f"these are no printed cells: row {np.argwhere(wrong)[0][0]} contains something else"
-        )
-    if size is not None and codes.shape != size[::-1]:
-        found = f"{codes.shape[1]} x {codes.shape[0]} (columns x rows)"
-        raise Fault(f"the cells are {found}, and not {size[0]} x {size[1]}")
-    if (particles := int(number_of(codes)[:SOLID] @ NUMBER)) != int(head[2]):
-        raise Fault(
-            f"the cells contain {particles} particles, and their first line says {int(head[2])}"
-        )
-    return codes, int(head[1])
 
 
 def read_cells(
@@ -643,116 +457,13 @@ def read_cells(
     >>> fhpgas.read_cells(text, "fhp1", fhpgas.Size(2, 1)).states.tolist()
     [[0, 1]]
     """
-    given = text.encode() if isinstance(text, str) else text
-    codes, generation = cells_of(given, fields.size_of(size))
-    return Lattice(codes & (SOLID - 1), codes >> 7, gas, chirality, seed, generation)
+    codes, generation = cells_of(text, fields.size_of(size))
+    return Lattice(*parts_of(codes), gas, chirality, seed, generation)
 
 
-def draw_gas(
-    filling: fields.Field,
-    east: fields.Field = 0.0,
-    north: fields.Field = 0.0,
-    *,
-    size: Any = None,
-    solid: Any = None,
-    gas: str | Gas = "fhp1",
-    chirality: str = "seeded",
-    seed: int = 0,
-) -> Lattice:
-    """A gas that is drawn at random from the equilibrium of Fermi and Dirac.
-
-    The same arguments draw the same lattice on every machine. A gas that is faster than sound
-    somewhere is drawn with a warning.
-
-    Parameters
-    ----------
-    filling : float, array or function
-        The chance per direction, 0 to 1. An array is spread over the cells [y, x], so [rows, 1] is
-        a profile across the channel. A function is called with the places X, Y of `positions`.
-    east, north : float, array or function, optional
-        The mean velocity of the particles, in cells' widths per generation.
-    size : Size, optional
-        It may be left out if an argument has it.
-    solid : array of bool of shape (rows, columns), optional
-        The solid cells.
-    gas, chirality : optional
-        As in `Lattice`.
-    seed : int, optional
-        Of the draw, and of the lattice. Two gases of one seed are no independent samples, also if
-        they differ in filling or velocity: the particles of the thinner one are particles of the
-        denser. So a sweep takes other seeds for every filling, as `seed=1000 * k + member` for the
-        filling number k. The same seed of `porous` or `driven` is another stream of random bits.
-
-    Returns
-    -------
-    Lattice
-
-    Raises
-    ------
-    Fault
-        If the arguments do not fit together, or no gas of a filling has a velocity.
-
-    Examples
-    --------
-    >>> start = fhpgas.draw_gas(0.2, east=0.3, size=fhpgas.Size(512, 256), seed=1)
-    >>> bool(abs(start.particles / start.states.size - 6 * 0.2) < 0.01)
-    True
-    >>> bool(abs(start.momentum[0] / start.particles - 0.3) < 0.01)
-    True
-    """
-    named, walls = gas_named(gas), mask(False if solid is None else solid)
-    known = {"filling": filling, "east": east, "north": north}
-    shapes = [np.shape(field) for field in known.values() if not callable(field)]
-    rows, columns = _shape_of(size, walls, shapes)
-    if any(map(callable, known.values())):
-        places = fields.positions(fields.Size(columns, rows), named)
-    values = [
-        fields.numbers_of(name, field(*places) if callable(field) else field)
-        for name, field in known.items()
-    ]
-    for name, value in zip((*known, "solid"), (*values, walls)):
-        if value.ndim > 2 or any(
-            have not in (1, want) for have, want in zip(value.shape[::-1], (columns, rows))
-        ):
-            raise Fault(
-                f"the field `{name}` has the shape {value.shape}, and the lattice {rows} rows and"
-                f" {columns} columns"
-            )
-    states = fields.drawn(named, values, (rows, columns), integer("a seed", seed, 0, MOST_SEED))
-    if (mach := float(np.hypot(values[1], values[2]).max()) / sound_speed(named)) > 1:
-        warnings.warn(f"the gas is faster than sound, Mach {mach:.2f}", stacklevel=2)
-    cells = np.where(walls, np.uint8(0), states)
-    return Lattice(cells, np.broadcast_to(walls, cells.shape), named, chirality, seed)
-
-
-def _shape_of(size: Any, solid: Array, shapes: list[tuple[int, ...]]) -> tuple[int, ...]:
-    """The rows and columns of a gas: of its size, its solid cells, or fields that have both."""
-    if size is not None:
-        return fields.size_of(size).shape
-    try:
-        shape = solid.shape or np.broadcast_shapes(*shapes)
-    except ValueError:
-        raise Fault(
-            f"the fields have the shapes {', '.join(map(str, shapes))}, which do not fit together"
-        ) from None
-    if len(shape) != 2 or not solid.ndim and 1 in shape:
-        raise Fault("the size is not known: draw_gas(.., size=Size(columns, rows))")
-    return shape
-
-
-def _coarse(
-    scene: bytes,
-    gas: str | Gas,
-    size: tuple[int, int],
-    first: int,
-    generations: int,
-    block: tuple[int, int],
-    plan: dict[str, Any],
-) -> Blocks:
-    words = program.planned(size[1], generations, **plan)
-    sides = "--block-width", block[0], "--block-height", block[1]
-    table = program.call(scene, "coarse", *words, *sides)
-    return read_table(table, gas, block, size, first + generations)
+def _coarse(scene: bytes, plan: tuple[object, ...], block: tuple[int, int]) -> bytes:
+    """The table that the program prints, by the words of a plan."""
+    return call(scene, "coarse", *plan, "--block-width", block[0], "--block-height", block[1])
 
 
 def _kept(keys: dict[str, Any]) -> dict[str, Any]:
@@ -786,10 +497,10 @@ def run(
     >>> fhpgas.run('gas = "hpp"\\ncells = ["01.."]', 1).states.tolist()
     [[0, 1]]
     """
-    text = program.scene_bytes(scene)
-    with program.naming(scene):
-        words = program.planned(program.height_of(text), generations, stages, capacity)
-        cells, keys = cells_of(program.call(text, "run", *words)), _kept(keys_of(text))
+    text = scene_bytes(scene)
+    with naming(scene):
+        words = planned(height_of(text), generations, stages, capacity)
+        cells, keys = cells_of(call(text, "run", *words)), _kept(keys_of(text))
     return _lattice_of(*cells, **keys)
 
 
@@ -827,10 +538,11 @@ def coarse(
     >>> int(fhpgas.coarse(area, 3, 64, 36).particles[0, 0]) == 6 * 64 * 36
     True
     """
-    text = program.scene_bytes(scene)
-    with program.naming(scene):
-        of, first = program.summary(text), keys_of(text).get("generation", 0)
+    text = scene_bytes(scene)
+    with naming(scene):
+        of, first = summary(text), keys_of(text).get("generation", 0)
         wide, high = (of.width if width is None else width, of.height if height is None else height)
-        block, size = block_checked(wide, high, 4096), fields.Size(of.width, of.height)
-        plan = program.plan_of(stages, capacity)
-        return _coarse(text, of.gas, size, first, generations, block, plan)
+        block = fields.pair_checked((wide, high), "a block", MOST_BLOCK)
+        table = _coarse(text, planned(of.height, generations, stages, capacity), block)
+        size = fields.Size(of.width, of.height)
+        return read_table(table, of.gas, block, size, first + generations)

@@ -6,7 +6,7 @@ from typing import Any, NamedTuple
 import numpy as np
 
 from .fault import Fault
-from .gases import Array, Gas, array_of, gas_named, mask
+from .gases import Array, Gas, array_of, floats_of, gas_named, mask
 from .lattice import Lattice
 
 FORCED = "upper", "lower", "solid"
@@ -230,14 +230,8 @@ def mean_of_series(values: Iterable[Any]) -> SeriesMean:
 
 
 def _samples(values: Iterable[Any]) -> Array:
-    try:
-        samples = array_of("values", [*values]).astype(float)
-    except Fault:
-        raise
-    except (TypeError, ValueError):
-        raise Fault(
-            "the mean is of numbers, or of arrays of one shape (blocks are added: sum(..))"
-        ) from None
+    why = "the mean is of numbers, or of arrays of one shape (blocks are added: sum(..))"
+    samples = floats_of("values", values, why)
     if len(samples) < 2:
         raise Fault(f"a standard error needs two values or more, not {len(samples)}")
     return samples

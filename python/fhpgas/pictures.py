@@ -10,7 +10,8 @@ import io
 import os
 import pathlib
 import reprlib
-from collections.abc import Iterable
+import shutil
+from collections.abc import Iterable, Iterator
 from typing import TYPE_CHECKING, Any, NamedTuple, TypeAlias
 
 import numpy as np
@@ -19,6 +20,7 @@ from .blocks import Blocks, block_sums
 from .fault import Fault, integer, real
 from .fields import positions, pair_checked
 from .lattice import Lattice
+from .limits import FFMPEG, FIELDS, PARTICLES, PILLOW, PLAIN, SIGNED
 
 if TYPE_CHECKING:
     from matplotlib.axes import Axes
@@ -27,20 +29,8 @@ if TYPE_CHECKING:
 Source: TypeAlias = Lattice | Blocks
 
 __all__ = ["film", "plot", "strip"]
-PLAIN, SIGNED, VELOCITY = "viridis", "RdBu_r", "cells per generation"
-FIELDS = {  # the unit and the colours of what is shown
-    "speed": (VELOCITY, PLAIN),
-    "east": (VELOCITY, SIGNED),
-    "north": (VELOCITY, SIGNED),
-    "vorticity": ("1 per generation", SIGNED),
-    "density": ("particles per cell", PLAIN),
-    "filling": ("particles per direction", PLAIN),
-    "pressure": ("per cell", PLAIN),
-}
-PARTICLES = "particles"
 SMALL, MOST = 2_000, 20_000  # cells of a lattice that shows its particles unasked, and that can
 FINEST = 1024  # pixels of the solid cells each way
-PILLOW, FFMPEG = (".gif", ".webp", ".apng"), (".mp4",)
 PALE, GREY, INK = "0.88", "0.55", "#1f4e79"
 IN_CELLS = {"angles": "xy", "scale_units": "xy", "units": "xy", "scale": 1, "minlength": 0}
 ARROW = {"width": 0.06, "headwidth": 3, "headlength": 3.5, "headaxislength": 3}
@@ -67,7 +57,7 @@ def chosen(source: Source, what: Any, block: tuple[int, int], smooth: float) -> 
     if isinstance(what, str) and what not in can:
         raise Fault(f"there is no picture of {what!r} of {source!r}: {', '.join(can)}")
     if isinstance(what, str) and what == PARTICLES:
-        return PARTICLES, Shown(source)
+        return what, Shown(source)
     sides = pair_checked(block, "a block")
     blocks = source if isinstance(source, Blocks) else source.blocks(*sides)
     smoothed = blocks.smooth(smooth) if smooth else blocks
@@ -103,7 +93,7 @@ def prepared(
         many.append(shown)
     if not many:
         raise Fault("a picture has a state or more")
-    if what is PARTICLES:
+    if many[0].values is None:
         return None, many, {}
     from matplotlib import colormaps
 
@@ -360,7 +350,7 @@ def film(
     >>> start = fhpgas.draw_gas(0.2, size=fhpgas.Size(64, 36), seed=1)
     >>> fhpgas.film("rest.gif", start.every(5, 2), "density")
     """
-    writer = film_writer(path, real("the frames per second", fps, 0.1, 100))
+    suffix, fps = film_suffix(path), real("the frames per second", fps, 0.1, 100)
     dpi = integer("the dots per inch", dpi, 10, 1000)
     label, many, options = prepared(sources, what, block, smooth, options)
     ax = axes_of(many[0].source)
@@ -368,34 +358,51 @@ def film(
     bar(draw(many[0], ax, options), label, ax)
     ax.figure.draw_without_rendering()
     ax.figure.set_layout_engine("none")  # so that nothing moves
+    if suffix in PILLOW:
+        return write_frames(path, redrawn(ax, many, options), fps, dpi)
+    from matplotlib.animation import FFMpegWriter
+
+    writer = FFMpegWriter(fps=fps)
     with writer.saving(ax.figure, os.fspath(path), dpi):
-        for shown in many:
-            for artist in [*ax.images, *ax.collections]:
-                artist.remove()
-            draw(shown, ax, options)
-            ax.set_title(f"generation {shown.source.generation}")
+        for _ in redrawn(ax, many, options):
             writer.grab_frame()
 
 
-def film_writer(path: str | os.PathLike[str], fps: float) -> Any:
-    """The writer of matplotlib for a file's suffix."""
-    from matplotlib.animation import FFMpegWriter, PillowWriter
-
-    class Pictures(PillowWriter):
-        palette: Any = None
-
-        def grab_frame(self, **options: Any) -> None:
-            super().grab_frame(**options)
-            frame = self._frames[-1].convert("RGB")
-            if suffix == ".gif":  # all frames have the 256 colours of the first, which has the bar
-                self.palette = self.palette or frame.quantize()
-                frame = frame.quantize(palette=self.palette, dither=0)
-            self._frames[-1] = frame
-
-    if (suffix := pathlib.Path(path).suffix) not in PILLOW + FFMPEG:
+def film_suffix(path: str | os.PathLike[str]) -> str:
+    """The suffix of a film that can be written."""
+    suffix = pathlib.Path(path).suffix
+    if suffix not in PILLOW + FFMPEG:
         raise Fault(f"{path}: a film is written as {', '.join(PILLOW + FFMPEG)}")
     if not pathlib.Path(path).absolute().parent.is_dir():
         raise Fault(f"{path}: No such file or directory")
-    if suffix in FFMPEG and not FFMpegWriter.isAvailable():
+    if suffix in FFMPEG and not shutil.which("ffmpeg"):
         raise Fault(f"{path}: a film of this kind needs the program ffmpeg")
-    return (FFMpegWriter if suffix in FFMPEG else Pictures)(fps=fps)
+    return suffix
+
+
+def redrawn(ax: Axes, many: list[Shown], options: dict[str, Any]) -> Iterator[Figure]:
+    """The figure of Axes, on which one after the other is shown."""
+    for shown in many:
+        for artist in [*ax.images, *ax.collections]:
+            artist.remove()
+        draw(shown, ax, options)
+        ax.set_title(f"generation {shown.source.generation}")
+        yield ax.figure
+
+
+def write_frames(path: Any, figures: Iterable[Figure], fps: float, dpi: int) -> None:
+    """Writes a film by Pillow."""
+    from matplotlib.backends.backend_agg import FigureCanvasAgg
+    from PIL import Image
+
+    frames, palette = list[Any](), None
+    for figure in figures:
+        figure.set_dpi(dpi)
+        (canvas := FigureCanvasAgg(figure)).draw()
+        frame = Image.fromarray(np.asarray(canvas.buffer_rgba())).convert("RGB")
+        if str(path).endswith(".gif"):  # all have the 256 colours of the first, which has the bar
+            palette = palette or frame.quantize()
+            frame = frame.quantize(palette=palette, dither=0)
+        frames.append(frame)
+    more = {"append_images": frames[1:], "duration": int(1000 / fps), "loop": 0}
+    frames[0].save(path, save_all=True, **more)

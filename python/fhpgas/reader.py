@@ -230,12 +230,10 @@ def out_of_range(table: dict) -> Reasons:
     for key, (least, most) in ranges.items():
         value = len(table.get(key, ())) if key == "cells" else table.get(key, least)
         if key in table and not least <= value <= most:
-            has = (
-                f"has {value} rows, and must have" if key == "cells" else f"is {value}, and must be"
-            )
+            has = "has {} rows, and must have" if key == "cells" else "is {}, and must be"
             longer = key in sides and version == 1 and most < value <= MOST_SIDE[2]
             more = f" (with `version = 2` to {MOST_SIDE[2]})" * longer
-            yield (key,), f"`{key}` {has} {least} to {most}{more}"
+            yield (key,), f"`{key}` {has.format(value)} {least} to {most}{more}"
     for key, known in WORDS.items():
         if key in table and table[key] not in known:
             yield (key,), f"`{key}` is {shown(table[key])}; {nearest(table[key], known)}"

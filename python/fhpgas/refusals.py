@@ -3,7 +3,7 @@ reader alone (reader.py)."""
 import re
 
 from . import reader
-from .program import Scene, scene_bytes
+from .scenes import Scene, scene_bytes
 
 MOST_REASONS = 8
 NOT_REFUSED = "the scene is not refused\n"
@@ -26,13 +26,11 @@ def explained(text: bytes) -> list[tuple[str, list[str], int]]:
     except reader.Refused as refused:
         source = text.decode("utf-8-sig", errors="replace").replace("\r\n", "\n")
         found = [(str(refused), refused.reasons), *refused.later]
-        first = (
-            [position(source, path) + why for path, why in reasons[:MOST_REASONS]]
-            for _, reasons in found
-        )
-        return [
-            (line, told, len(reasons) - len(told)) for (line, reasons), told in zip(found, first)
-        ]
+
+        def told(reasons: list) -> list[str]:
+            return [position(source, path) + why for path, why in reasons[:MOST_REASONS]]
+
+        return [(line, told(reasons), len(reasons[MOST_REASONS:])) for line, reasons in found]
     return []
 
 

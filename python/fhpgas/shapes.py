@@ -14,7 +14,7 @@ import numpy as np
 
 from .fault import Fault, integer, real
 from .fields import CACHED, lots_of, size_of
-from .gases import Array, Gas, array_of, gas_named
+from .gases import Array, Gas, array_of, floats_of, gas_named
 
 FAR = 1e6  # cells, of a corner of a polygon
 
@@ -92,18 +92,11 @@ def polygon(size: Any, corners: Iterable[Sequence[float]], gas: str | Gas = "fhp
     [[3, 2], [3, 3], [3, 4], [4, 2], [4, 3], [4, 4]]
     """
     (columns, rows), named = size_of(size), gas_named(gas)
-    try:
-        places = array_of("corners", [*corners]).astype(float)
-    except Fault:
-        raise
-    except (TypeError, ValueError):
-        places = np.empty(0)
-    is_polygon = places.ndim == 2 and len(places) >= 3 and places.shape[1] == 2
-    if not is_polygon or not (np.abs(places) <= FAR).all():
-        raise Fault(
-            f"a polygon has three corners (column, row) or more, at most {FAR:g} away, not"
-            f" {reprlib.repr(corners)}"
-        )
+    why = f"a polygon has three corners (column, row) or more, at most {FAR:g} away, not"
+    why += f" {reprlib.repr(corners)}"
+    places = floats_of("corners", corners, why)
+    if places.shape[1:] != (2,) or len(places) < 3 or not (np.abs(places) <= FAR).all():
+        raise Fault(why)
     crossed = []  # the rows that the edges cross, and where
     for (x0, y0), (x1, y1) in zip(places, np.roll(places, -1, 0)):
         low, high = (math.ceil(min(max(y, 0), rows)) for y in sorted((y0, y1)))

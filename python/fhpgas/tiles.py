@@ -26,12 +26,14 @@ import dask.array
 import distributed
 import numpy as np
 
-from . import engine, fields, program
+from . import engine, fields
 from .blocks import Blocks
+from .cells import SOLID, codes_of, parts_of
 from .fault import Fault, integer
 from .gases import Array, Gas, chirality_named, gas_named
-from .lattice import MOST_SIDE, SOLID, Lattice
-from .program import MOST_BYTES, MOST_SEED
+from .lattice import Lattice
+from .limits import MOST_BYTES, MOST_SEED, MOST_SIDE, map_bytes
+from .runs import alone, counted
 
 MOST_TASKS, OF_A_TILE = 5000, 16  # that wait in the scheduler, and those of a tile and an exchange
 NO_CELLS = np.empty((0, 0), np.uint8)  # by which Dask knows the type without a call
@@ -44,12 +46,9 @@ class Rules(NamedTuple):
     chirality: str
     seed: int
 
-    @property
-    def is_seeded(self) -> bool:
-        return self.chirality == "seeded" and not self.gas.is_square
-
     def lattice(self, cells: Array, generation: int = 0) -> Lattice:
-        return Lattice(cells & SOLID - 1, cells >> 7, *self, generation)
+        states, solid = parts_of(cells)
+        return Lattice(states, solid, *self, generation)
 
 
 def _rules(gas: str | Gas, chirality: str, seed: int) -> Rules:
@@ -149,7 +148,7 @@ class Tiles:
                 f" {min(sides)}"
             )
         rows, columns = (max(chunks) + 2 * even * (len(chunks) > 1) for chunks in self.cells.chunks)
-        text = 0 if engine.library() else rows * (2 * columns + 10) + 200
+        text = 0 if engine.library() else map_bytes(columns, rows)
         if max(columns, rows) > MOST_SIDE or text > MOST_BYTES:
             raise Fault(
                 f"a tile with its margins, {columns} x {rows}, is too large: a lattice has at most"
@@ -185,7 +184,7 @@ class Tiles:
         is raised."""
         cells = self.client.persist(self.cells)
         futures = distributed.futures_of(cells)
-        for each in program.counted(distributed.as_completed(futures), len(futures), "tile"):
+        for each in counted(distributed.as_completed(futures), len(futures), "tile"):
             if each.status == "error":
                 each.result()
         return dataclasses.replace(self, cells=cells)
@@ -202,15 +201,11 @@ class Tiles:
         """Sums over blocks of so many columns and rows, as of a Lattice. Cells travel to other
         workers where tiles do not begin with blocks."""
         columns, rows = fields.pair_checked((width, height), "a block")
-        sides = [
-            max(block, side // block * block)
-            for block, side in zip((rows, columns), self.cells.chunksize)
-        ]
+        steps = rows, columns
+        sides = (max(step, side // step * step) for step, side in zip(steps, self.cells.chunksize))
         cells = self.cells.rechunk(tuple(sides))
-        counts = [
-            tuple(-(-side // block) for side in chunks)
-            for chunks, block in zip(cells.chunks, (rows, columns))
-        ]
+        ends = zip(steps, cells.chunks)
+        counts = [tuple(-(-side // step) for side in chunks) for step, chunks in ends]
         call = functools.partial(_sums, self.rules, (columns, rows))
         sums = cells.map_blocks(call, new_axis=0, chunks=((4,), *counts), dtype=int)
         (fluid, particles, px, py), gas = self._computed(sums), self.rules.gas
@@ -233,11 +228,9 @@ class Tiles:
         What the folder had before stays whole until the new tiles are."""
         import zarr
 
-        group, name = zarr.open_group(str(pathlib.Path(folder).absolute())), self.cells.name
-        made = group.create_dataset(
-            name, shape=self.cells.shape, chunks=self.cells.chunksize, dtype="u1", overwrite=True
-        )
-        self._computed(dask.array.store(self.cells, made, lock=False, compute=False))
+        path, name = str(pathlib.Path(folder).absolute()), self.cells.name
+        group = zarr.open_group(path)
+        self._computed(self.cells.to_zarr(path, name, overwrite=True, compute=False))
         kept = {"cells": name, "generation": self.generation, "gas": self.rules.gas.name}
         group.attrs.put(kept | {"chirality": self.rules.chirality, "seed": self.rules.seed})
         for old in {*group.array_keys()} - {name}:
@@ -274,7 +267,7 @@ def split(client: Any, lattice: Lattice, tile: tuple[int, int]) -> Tiles:
     """The tiles of a lattice, sent to the workers. `save` keeps them for the case that a worker is
     lost."""
     rules = _rules(lattice.gas, lattice.chirality, lattice.seed)
-    chunks, codes = _divided(lattice.size, tile, rules), lattice._codes()
+    chunks, codes = _divided(lattice.size, tile, rules), codes_of(lattice.states, lattice.solid)
     parts = [codes[place] for place in dask.array.core.slices_from_chunks(chunks)]
     blocks = [
         dask.array.from_delayed(sent, part.shape, meta=NO_CELLS)
@@ -305,7 +298,7 @@ def _divided(size: fields.Size, tile: Any, rules: Rules) -> tuple[tuple[int, ...
     columns, rows = fields.pair_checked(tile, "a tile")
     if rows < min(2, size.rows):
         raise Fault("a tile has at least two rows, because it has an even number of them")
-    if rules.is_seeded and columns < size.columns:
+    if rules.gas.draws(rules.chirality) and columns < size.columns:
         raise Fault(
             f'tiles of "seeded" have whole rows, {size.columns} columns, because their random bits'
             " belong to places"
@@ -326,9 +319,7 @@ def _drawn(
     """The cells of a block of what `fhpgas.draw_gas` draws."""
     (top, below), (left, right) = block_info[None]["array-location"]
     X, Y = fields.positions(size, rules.gas, slice(top, below), slice(left, right))
-    numbers = [
-        fields.numbers_of("a field", value(X, Y) if callable(value) else value) for value in values
-    ]
+    numbers = [fields.numbers_at("a field", value, (X, Y)) for value in values]
     states = fields.drawn(
         rules.gas, numbers, (below - top, right - left), rules.seed, (top, left), size.columns
     )
@@ -347,10 +338,10 @@ def _advanced(
     part = rules.lattice(cells, generation)
     if engine.library():
         states = engine.run(part, steps, engine.Place(first_rows[block_id[0]]))
-    elif rules.is_seeded:
+    elif rules.gas.draws(rules.chirality):
         raise Fault('tiles of "seeded" need the engine of the package in the workers')
     else:
-        states = program._alone(lambda lattice: lattice.run(steps), part).states
+        states = alone(lambda lattice: lattice.run(steps), part).states
     return states | cells & SOLID
 
 

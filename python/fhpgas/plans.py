@@ -1,0 +1,54 @@
+"""Plans: the workers of a run of the program, the rows per belt, and the threads."""
+from .fault import integer
+from .limits import CAPACITY, MOST_CAPACITY, MOST_GENERATIONS, MOST_STAGES
+from .runs import cores_of_call
+
+
+def plan(
+    rows: int, generations: int, cores: int | None = None, stages: int | None = None
+) -> tuple[int, int, int]:
+    """Good numbers of stages, rows per belt and threads (docs/PERFORMANCE.md).
+
+    Parameters
+    ----------
+    rows, generations : int
+        Of the run.
+    cores : int, optional
+        By default those that this process may use, in a run of `side_by_side` its share of them.
+    stages : int, optional
+        By default eight per core, at most one per 16 rows or per generation.
+
+    Returns
+    -------
+    stages, capacity, threads : int
+        One thread per core, at most one per stage.
+
+    Examples
+    --------
+    >>> fhpgas.plan(1024, 1000, cores=4)
+    (32, 128, 4)
+    """
+    cores = cores or cores_of_call()
+    stages = stages or max(1, min(8 * cores, rows // 16, generations, MOST_STAGES))
+    return stages, CAPACITY, min(cores, stages)
+
+
+def planned(
+    rows: int, generations: int, stages: int | None = None, capacity: int | None = None
+) -> tuple[object, ...]:
+    """The words of a plan. What is out of its range raises a Fault."""
+    generations = integer("the number of generations", generations, 0, MOST_GENERATIONS)
+    chosen = plan_of(stages, capacity)
+    workers, places, threads = plan(rows, generations, stages=chosen["stages"])
+    places = chosen["capacity"] or places
+    words = {"generations": generations, "stages": workers, "capacity": places, "threads": threads}
+    return tuple(word for name, value in words.items() for word in (f"--{name}", value))
+
+
+def plan_of(stages: int | None, capacity: int | None) -> dict[str, int | None]:
+    """A plan by its names. What is out of its range raises a Fault."""
+    if stages is not None:
+        stages = integer("the number of stages", stages, 1, MOST_STAGES)
+    if capacity is not None:
+        capacity = integer("the capacity", capacity, 1, MOST_CAPACITY)
+    return {"stages": stages, "capacity": capacity}

@@ -1,0 +1,101 @@
+"""Gases that are drawn at random."""
+import warnings
+from typing import Any
+
+import numpy as np
+
+from . import fields
+from .fault import Fault, integer
+from .gases import Array, Gas, gas_named, mask
+from .lattice import Lattice
+from .limits import MOST_SEED
+from .theory import sound_speed
+
+
+def draw_gas(
+    filling: fields.Field,
+    east: fields.Field = 0.0,
+    north: fields.Field = 0.0,
+    *,
+    size: Any = None,
+    solid: Any = None,
+    gas: str | Gas = "fhp1",
+    chirality: str = "seeded",
+    seed: int = 0,
+) -> Lattice:
+    """A gas that is drawn at random from the equilibrium of Fermi and Dirac.
+
+    The same arguments draw the same lattice on every machine. A gas that is faster than sound
+    somewhere is drawn with a warning.
+
+    Parameters
+    ----------
+    filling : float, array or function
+        The chance per direction, 0 to 1. An array is spread over the cells [y, x], so [rows, 1] is
+        a profile across the channel. A function is called with the places X, Y of `positions`.
+    east, north : float, array or function, optional
+        The mean velocity of the particles, in cells' widths per generation.
+    size : Size, optional
+        It may be left out if an argument has it.
+    solid : array of bool of shape (rows, columns), optional
+        The solid cells.
+    gas, chirality : optional
+        As in `Lattice`.
+    seed : int, optional
+        Of the draw, and of the lattice. Two gases of one seed are no independent samples, also if
+        they differ in filling or velocity: the particles of the thinner one are particles of the
+        denser. So a sweep takes other seeds for every filling, as `seed=1000 * k + member` for the
+        filling number k. The same seed of `porous` or `driven` is another stream of random bits.
+
+    Returns
+    -------
+    Lattice
+
+    Raises
+    ------
+    Fault
+        If the arguments do not fit together, or no gas of a filling has a velocity.
+
+    Examples
+    --------
+    >>> start = fhpgas.draw_gas(0.2, east=0.3, size=fhpgas.Size(512, 256), seed=1)
+    >>> bool(abs(start.particles / start.states.size - 6 * 0.2) < 0.01)
+    True
+    >>> bool(abs(start.momentum[0] / start.particles - 0.3) < 0.01)
+    True
+    """
+    named, walls = gas_named(gas), mask(False if solid is None else solid)
+    known = {"filling": filling, "east": east, "north": north}
+    shapes = [np.shape(field) for field in known.values() if not callable(field)]
+    rows, columns = _shape_of(size, walls, shapes)
+    is_placed = any(map(callable, known.values()))
+    places = fields.positions(fields.Size(columns, rows), named) if is_placed else ()
+    values = [fields.numbers_at(name, field, places) for name, field in known.items()]
+    for name, value in zip((*known, "solid"), (*values, walls)):
+        if value.ndim > 2 or any(
+            have not in (1, want) for have, want in zip(value.shape[::-1], (columns, rows))
+        ):
+            raise Fault(
+                f"the field `{name}` has the shape {value.shape}, and the lattice {rows} rows and"
+                f" {columns} columns"
+            )
+    states = fields.drawn(named, values, (rows, columns), integer("a seed", seed, 0, MOST_SEED))
+    if (mach := float(np.hypot(values[1], values[2]).max()) / sound_speed(named)) > 1:
+        warnings.warn(f"the gas is faster than sound, Mach {mach:.2f}", stacklevel=2)
+    cells = np.where(walls, np.uint8(0), states)
+    return Lattice(cells, np.broadcast_to(walls, cells.shape), named, chirality, seed)
+
+
+def _shape_of(size: Any, solid: Array, shapes: list[tuple[int, ...]]) -> tuple[int, ...]:
+    """The rows and columns of a gas: of its size, its solid cells, or fields that have both."""
+    if size is not None:
+        return fields.size_of(size).shape
+    try:
+        shape = solid.shape or np.broadcast_shapes(*shapes)
+    except ValueError:
+        raise Fault(
+            f"the fields have the shapes {', '.join(map(str, shapes))}, which do not fit together"
+        ) from None
+    if len(shape) != 2 or not solid.ndim and 1 in shape:
+        raise Fault("the size is not known: draw_gas(.., size=Size(columns, rows))")
+    return shape

@@ -1,0 +1,166 @@
+"""Runs side by side, what ends them together, and how a run shows its progress."""
+import concurrent.futures
+import contextlib
+import contextvars
+import functools
+import importlib.util
+import os
+import sys
+import threading
+from collections.abc import Callable, Iterable, Iterator
+from typing import Any
+
+from .fault import Fault
+
+BARS: list[str] = []  # the units of the bars that are shown
+# The cores of a run of `side_by_side`, 0 for any other.
+share = contextvars.ContextVar("share", default=0)
+
+
+class Runs:
+    """What goes on in the calls of one `side_by_side`, so that all of it can be ended: programs,
+    and what the calls themselves compute side by side."""
+
+    def __init__(self) -> None:
+        self.lock, self.going, self.are_ended = threading.Lock(), set[Any](), False
+
+    @contextlib.contextmanager
+    def holding(self, begin: Callable[[], Any]) -> Iterator[Any]:
+        """What `begin` returns, unless the runs are ended. It has a method `kill`."""
+        with self.lock:
+            self.go_on()
+            begun = begin()
+            self.going.add(begun)
+        try:
+            yield begun
+        finally:
+            with self.lock:
+                self.going.discard(begun)
+
+    def go_on(self) -> None:
+        """Ends the run that calls it, by a Fault, if all are to end."""
+        if self.are_ended:
+            raise Fault("another run failed, or all were interrupted")
+
+    def kill(self) -> None:
+        with self.lock:
+            self.are_ended = True
+            for each in self.going:
+                each.kill()
+
+
+runs = contextvars.ContextVar("runs", default=Runs())  # of which this call is one
+
+
+def cores_of_call() -> int:
+    """How many cores this call may use: its share in a run of `side_by_side`, else those of this
+    process, or of the machine if the system does not say."""
+    affinity = getattr(os, "sched_getaffinity", None)
+    return share.get() or (len(affinity(0)) if affinity else os.cpu_count() or 1)
+
+
+def is_watched() -> bool:
+    """Whether a call may show its own progress: standard error is a terminal, no bar is shown, and
+    the call is no run of `side_by_side`."""
+    return sys.stderr.isatty() and not share.get() and not BARS
+
+
+def show_progress(text: str) -> None:
+    """Shows a line on the terminal instead of the one before, if the call is watched. An empty text
+    wipes it."""
+    if is_watched():
+        print(f"\r\033[K{text}", end="", file=sys.stderr, flush=True)
+
+
+def counted(values: Iterable[Any], total: int, unit: str) -> Iterator[Any]:
+    """The values, with a bar of tqdm in a terminal, or in Jupyter if it has ipywidgets, if tqdm is
+    there. A run of `side_by_side` shows none, and what runs below a bar shows no progress of its
+    own."""
+    if "ipykernel" in sys.modules:  # without widgets tqdm warns, and writes a bar of text
+        is_seen = importlib.util.find_spec("ipywidgets") is not None
+    else:
+        is_seen = sys.stderr.isatty()
+    if not is_seen or share.get() or not importlib.util.find_spec("tqdm"):
+        yield from values
+        return
+    from tqdm.auto import tqdm
+
+    BARS.append(unit)
+    try:
+        yield from tqdm(values, total=total, unit=unit, leave=False)
+    finally:
+        BARS.remove(unit)
+
+
+def side_by_side(
+    function: Callable[[Any], Any],
+    values: Iterable[Any],
+    executor: concurrent.futures.Executor | None = None,
+) -> list[Any]:
+    """The results of a function for some values, in their order, computed side by side.
+
+    Parameters
+    ----------
+    function : callable
+        Called with each value, by default in a thread per core: runs compute outside Python's lock.
+        An executor sends it to its workers, so it must be at the top of a module that they have.
+    values : iterable
+        As seeds.
+    executor : concurrent.futures.Executor, optional
+        Such as Dask's `Client.get_executor()` or mpi4py's `MPIPoolExecutor()`, whose workers need
+        this package. `ProcessPoolExecutor()` suits functions that compute in Python themselves.
+
+    Returns
+    -------
+    list
+
+    Raises
+    ------
+    Exception
+        What the first call that fails raises. After it, or an interrupt, no call begins, and the
+        others end where they run a lattice next, or when they return.
+
+    Examples
+    --------
+    >>> size = fhpgas.Size(64, 36)
+    >>> def late(seed):
+    ...     return fhpgas.draw_gas(0.2, size=size, seed=seed).run(10).generation
+    >>> fhpgas.side_by_side(late, range(1, 4))
+    [10, 10, 10]
+    """
+    calls = [functools.partial(alone, function, value) for value in values]
+    if executor is not None:
+        return _results([executor.submit(call) for call in calls])
+    cores, own = cores_of_call(), Runs()
+    workers = max(1, min(len(calls), cores))
+    with runs.get().holding(lambda: own), concurrent.futures.ThreadPoolExecutor(workers) as threads:
+        try:
+            return _results([threads.submit(call, cores // workers, own) for call in calls])
+        except BaseException:
+            own.kill()
+            raise
+
+
+def _results(futures: list[concurrent.futures.Future[Any]]) -> list[Any]:
+    """What futures return. If one fails, those that did not begin are cancelled."""
+    try:
+        for future in counted(concurrent.futures.as_completed(futures), len(futures), "run"):
+            future.result()
+        return [future.result() for future in futures]
+    finally:
+        for future in futures:
+            future.cancel()
+
+
+def alone(
+    function: Callable[[Any], Any], value: Any, cores: int = 1, own: Runs | None = None
+) -> Any:
+    """A call of a function beside others, with so many cores, by default in the worker of an
+    executor."""
+
+    def called() -> Any:
+        share.set(cores)
+        runs.set(own or Runs())
+        return function(value)
+
+    return contextvars.copy_context().run(called)
