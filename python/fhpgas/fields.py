@@ -67,6 +67,12 @@ def pair_checked(pair: Any, what: str, most: int | None = None) -> tuple[int, in
     return width, integer(f"the number of rows of {what}", rows, 1, most)
 
 
+def block_of(size: Size, width: Any, height: Any, most: int | None = None) -> tuple[int, int]:
+    """The columns and rows of a block as two ints from 1 to `most`. None is all of the lattice."""
+    pair = tuple(side if own is None else own for side, own in zip(size, (width, height)))
+    return pair_checked(pair, "a block", most)
+
+
 def positions(
     size: Any, gas: str | Gas = "fhp1", rows: slice = slice(None), columns: slice = slice(None)
 ) -> tuple[Array, Array]:

@@ -6,20 +6,12 @@ from typing import Any
 
 import numpy as np
 
-from . import drive, engine, fields, long_runs
+from . import drive, engine, fields, limits, long_runs
 from .blocks import Blocks, Value, block_sums, read_table
 from .cells import SOLID, cells_of, codes_of, lines_of, number_of, parts_of
 from .fault import Fault, integer
 from .files import write_whole
 from .gases import Array, Checked, Gas, array_of, chirality_named, gas_named, mask, read_only
-from .limits import (
-    LAST_OF_SCENE,
-    MOST_BLOCK,
-    MOST_GENERATION,
-    MOST_GENERATIONS,
-    MOST_SEED,
-    MOST_SIDE,
-)
 from .plans import planned
 from .program import call
 from .reader import KEYS
@@ -88,11 +80,11 @@ class Lattice(Value):
         if (
             cells.ndim != 2
             or walls.shape != cells.shape
-            or not all(1 <= side <= MOST_SIDE for side in cells.shape)
+            or not all(1 <= side <= limits.MOST_SIDE for side in cells.shape)
         ):
             raise Fault(
-                f"states and solid cells are arrays [y, x] of one shape, 1 to {MOST_SIDE} each way,"
-                f" not {cells.shape} and {walls.shape}"
+                "states and solid cells are arrays [y, x] of one shape, 1 to"
+                f" {limits.MOST_SIDE} each way, not {cells.shape} and {walls.shape}"
             )
         if not isinstance(states, Checked):
             cells = _states_of(cells, named)
@@ -107,8 +99,8 @@ class Lattice(Value):
             solid=walls,
             gas=named,
             chirality=chirality_named(chirality),
-            seed=integer("a seed", seed, 0, MOST_SEED),
-            generation=integer("a generation", generation, 0, MOST_GENERATION),
+            seed=integer("a seed", seed, 0, limits.MOST_SEED),
+            generation=integer("a generation", generation, 0, limits.MOST_GENERATION),
         )
 
     @classmethod
@@ -118,7 +110,7 @@ class Lattice(Value):
         Parameters
         ----------
         scene : str or path
-            The path of a file, or the text of a scene, which has a line feed.
+            As in `check`.
 
         Returns
         -------
@@ -211,7 +203,7 @@ class Lattice(Value):
         """
         if width is None and height is None:
             return self._cells_of @ self.gas.bits.astype(int)
-        return block_sums(self.states, self.gas.bits.T, *self._block(width, height))
+        return block_sums(self.states, self.gas.bits.T, *fields.block_of(self.size, width, height))
 
     def blocks(self, width: int | None = 8, height: int | None = 9) -> Blocks:
         """Sums over blocks of cells.
@@ -231,7 +223,7 @@ class Lattice(Value):
         >>> fhpgas.Lattice([[1, 9, 0], [0, 0, 32]]).blocks(None, 1).particles.tolist()
         [[3], [1]]
         """
-        block = fields.pair_checked(self._block(width, height), "a block")
+        block = fields.block_of(self.size, width, height)
         if engine.library():
             return self._blocks(engine.sums(self, 0, *block), block, self.generation)
         weights = np.stack([self.gas.number, self.gas.px, self.gas.py])
@@ -242,9 +234,6 @@ class Lattice(Value):
     def _blocks(self, sums: Array, block: tuple[int, int], generation: int) -> Blocks:
         fluid, particles, px, py = sums
         return Blocks(fluid, particles, px, py, self.gas, block, self.size, generation)
-
-    def _block(self, width: int | None, height: int | None) -> tuple[int, int]:
-        return self.size[0] if width is None else width, self.size[1] if height is None else height
 
     def __repr__(self) -> str:
         columns, rows = self.size
@@ -291,7 +280,7 @@ class Lattice(Value):
         return object.__sizeof__(self) + self.states.nbytes + self.solid.nbytes
 
     def _scene(self) -> bytes:
-        integer("the generation of a scene", self.generation, 0, LAST_OF_SCENE)
+        integer("the generation of a scene", self.generation, 0, limits.LAST_OF_SCENE)
         keys = {"version": 2, "gas": self.gas.name, "chirality": self.chirality}
         keys |= {"seed": self.seed, "generation": self.generation}
         rows = lines_of(codes_of(self.states, self.solid), b'    "', b'",\n')
@@ -333,8 +322,8 @@ class Lattice(Value):
 
     def _span(self, generations: int) -> int:
         """The number of generations of a run that begins here."""
-        integer("the generation at which a run begins", self.generation, 0, LAST_OF_SCENE)
-        return integer("the number of generations", generations, 0, MOST_GENERATIONS)
+        integer("the generation at which a run begins", self.generation, 0, limits.LAST_OF_SCENE)
+        return integer("the number of generations", generations, 0, limits.MOST_GENERATIONS)
 
     def coarse(
         self,
@@ -365,7 +354,7 @@ class Lattice(Value):
         >>> start.coarse(10) == start.run(10).blocks()
         True
         """
-        block = fields.pair_checked(self._block(width, height), "a block", MOST_BLOCK)
+        block = fields.block_of(self.size, width, height, limits.MOST_BLOCK)
         generations = self._span(generations)
         words = planned(len(self.states), generations, stages, capacity)
         last = self.generation + generations
@@ -519,14 +508,10 @@ def coarse(
 
     Parameters
     ----------
-    scene : str or path
-        As in `Lattice.load`.
-    generations : int
-        0 to 1,000,000.
+    scene, generations, stages, capacity
+        As in `run`.
     width, height : int or None, optional
         The columns and rows of a block, at most 4096, None for all.
-    stages, capacity : int, optional
-        The plan, as in `Lattice.run`.
 
     Returns
     -------
@@ -541,8 +526,7 @@ def coarse(
     text = scene_bytes(scene)
     with naming(scene):
         of, first = summary(text), keys_of(text).get("generation", 0)
-        wide, high = (of.width if width is None else width, of.height if height is None else height)
-        block = fields.pair_checked((wide, high), "a block", MOST_BLOCK)
-        table = _coarse(text, planned(of.height, generations, stages, capacity), block)
         size = fields.Size(of.width, of.height)
+        block = fields.block_of(size, width, height, limits.MOST_BLOCK)
+        table = _coarse(text, planned(of.height, generations, stages, capacity), block)
         return read_table(table, of.gas, block, size, first + generations)

@@ -41,7 +41,7 @@ def explain(scene: Scene) -> str:
     Parameters
     ----------
     scene : str or path
-        The path of a file, or the text of a scene, which has a line feed.
+        As in `check`.
 
     Returns
     -------

@@ -73,13 +73,11 @@ def polygon(size: Any, corners: Iterable[Sequence[float]], gas: str | Gas = "fhp
 
     Parameters
     ----------
-    size : Size
-        Of the lattice.
+    size, gas
+        As in `disc`.
     corners : iterable of pairs of float
         Three or more columns and rows, which need not be whole: (0, 0) is the middle of the first
         cell. The polygon continues past the last column and is cut at the walls.
-    gas : str or Gas, optional
-        Whose lattice it is.
 
     Returns
     -------
@@ -122,8 +120,8 @@ def nozzle(size: Any, throat: int, length: int) -> Array:
 
     Parameters
     ----------
-    size : Size
-        Of the lattice.
+    size
+        As in `disc`.
     throat : int
         Open rows in the middle column, 1 to all.
     length : int
@@ -155,16 +153,14 @@ def porous(size: Any, share: float, radius: float, seed: int = 0, gas: str | Gas
 
     Parameters
     ----------
-    size : Size
-        Of the lattice.
+    size, gas
+        As in `disc`.
     share : float
         Of all cells that are solid, at least, 0 to 1.
     radius : float
         Of a disc, at least 0, in cells' widths.
     seed : int, optional
         Of the places.
-    gas : str or Gas, optional
-        Whose lattice it is.
 
     Returns
     -------
@@ -210,8 +206,8 @@ def bitmap(
 
     Parameters
     ----------
-    size : Size
-        Of the lattice.
+    size, gas
+        As in `disc`.
     picture : path or array of bool
         A file that Pillow reads, whose pixels are dark if they are black, or darker than half of
         white, and not transparent. Or truth values [y, x].
@@ -219,8 +215,6 @@ def bitmap(
         The width and height of a pixel in cells' widths.
     column, row : int, optional
         The cell at the upper left corner of the picture.
-    gas : str or Gas, optional
-        Whose lattice it is.
 
     Returns
     -------
