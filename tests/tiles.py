@@ -154,38 +154,64 @@ def printed_examples(client, folder):
     told("Dask knows how long a lattice is", 131072 <= dask.sizeof.sizeof(part) < 132000)
 
 
+def parts_of(client):
+    """A list to which every tile that a worker computes from now on adds this worker."""
+
+    class Parts(distributed.SchedulerPlugin):
+        workers = []
+
+        def transition(self, key, start, finish, *words, worker=None, **more):
+            is_tile = str(key).startswith(("('_trim", "('trim"))  # not what tells a tile its place
+            if is_tile and (start, finish) == ("processing", "memory"):
+                self.workers.append(worker)
+
+    client.cluster.scheduler.add_plugin(Parts())
+    return Parts.workers
+
+
+def eight_tiles(client, filling):
+    size, side = fhpgas.Size(512, 512), chiralities()[-1]
+    drawn = functools.partial(fhpgas.tiles.draw_gas, client, size=size, chirality=side, seed=3)
+    return drawn(filling, 0.1, tile=(512, 64))
+
+
 def killed_worker(client, folder):
     """A worker is killed in the middle of a run that keeps its tiles, and costs at most one
     interval: 8 tiles, 2 exchanges, 40 of the run."""
-
-    class Counted(distributed.SchedulerPlugin):
-        steps = 0
-
-        def transition(self, key, start, finish, *words, **more):
-            is_tile = str(key).startswith("('_trim")  # not what only tells a tile its place
-            self.steps += is_tile and (start, finish) == ("processing", "memory")
-
-    counted = Counted()
-    client.cluster.scheduler.add_plugin(counted)
-    tiles = fhpgas.tiles.draw_gas(
-        client,
-        0.2,
-        0.1,
-        size=fhpgas.Size(512, 512),
-        tile=(512, 64),
-        chirality=chiralities()[-1],
-        seed=3,
-    )
+    tiles, parts = eight_tiles(client, 0.2), parts_of(client)
     whole = tiles.gather().run(400)
-    counted.steps = 0
+    parts.clear()
     with concurrent.futures.ThreadPoolExecutor(1) as threads:
         later = threads.submit(tiles.run, 400, 10, folder, 2)
-        while counted.steps < 8 * 15 and not later.done():
+        while len(parts) < 8 * 15 and not later.done():
             time.sleep(0.001)
         worker = min(client.nthreads())
         os.kill(client.submit(os.getpid, workers=[worker], pure=False).result(), signal.SIGKILL)
         told("a run goes on when a worker is killed", later.result().gather() == whole)
-    told("it costs at most an interval", 8 * 40 <= counted.steps <= 8 * (40 + 2))
+    told("it costs at most an interval", 8 * 40 <= len(parts) <= 8 * (40 + 2))
+
+
+def added_workers(client, folder):
+    """Two workers that come to four when a run has begun compute a tenth of its parts or more. The
+    run waits for them where it draws."""
+
+    def filling(X, Y):
+        while X.size > 1 and not (folder / "added").exists():
+            time.sleep(0.01)
+        return 0.2 + 0 * X
+
+    first, parts = {*client.nthreads()}, parts_of(client)
+    with concurrent.futures.ThreadPoolExecutor(1) as threads:
+        later = threads.submit(eight_tiles(client, filling).run, 400, 10, folder / "kept", 2)
+        client.cluster.scale(6)
+        client.wait_for_workers(6)
+        (folder / "added").touch()
+        run = later.result()
+    told(
+        "a run with added workers is one run",
+        run.gather() == eight_tiles(client, 0.2).gather().run(400),
+    )
+    told("added workers compute", sum(worker not in first for worker in parts) >= 8 * 40 // 10)
 
 
 def saved_half(client, folder):
@@ -266,6 +292,7 @@ def main():
     with tempfile.TemporaryDirectory() as name:
         folder = pathlib.Path(name)
         with_workers([saved_half, folder], [random_tilings], [refusals], [killed_worker])
+        with_workers([added_workers])
         with_workers([rest_of_a_run, folder], [printed_examples])
     if has_memory:
         with_workers([large_area])
