@@ -8,6 +8,7 @@ import { GASES, SOLID } from "../page/src/gases.js";
 import { ProvedKernel, ScriptKernel } from "../page/src/kernel.js";
 import { block } from "../page/src/keystream.js";
 import { fillStates, printed, readScene, sceneOf } from "../page/src/scenes.js";
+import { sumsOf } from "../page/src/sums.js";
 import { check, end, tried } from "./checks.mjs";
 import { lots } from "./lots.mjs";
 
@@ -32,10 +33,10 @@ function run(scene, generations) {
 function sameSums(flow, wide, tall) {
   const words = ["coarse", "--generations", "0", "--block-width", `${wide}`, "--block-height", `${tall}`];
   const done = spawnSync(program, words, { input: sceneOf(flow).replace(/generation = .*/, "generation = 0"), maxBuffer: 1 << 28 });
-  const [, ...rows] = done.stdout.toString().trimEnd().split("\n"), numbers = flow.kernel.sums(wide, tall).numbers.slice();
-  const totals = flow.totals(), sum = (part) => numbers.filter((_, k) => k % 8 === 2 * part).reduce((a, b) => a + b, 0);
+  const [, ...rows] = done.stdout.toString().trimEnd().split("\n"), { numbers } = sumsOf(flow.kernel, wide, tall);
+  const totals = flow.totals(), sum = (part) => numbers.filter((_, k) => k % 4 === part).reduce((a, b) => a + b, 0);
   const isWhole = totals.every((total, part) => total === sum(part));
-  return isWhole && done.status === 0 && rows.every((row, i) => row.split(/[\s,]+/).slice(-4).every((value, k) => Number(value) === numbers[8 * i + 2 * k]));
+  return isWhole && done.status === 0 && rows.every((row, i) => row.split(/[\s,]+/).slice(-4).every((value, k) => Number(value) === numbers[4 * i + k]));
 }
 
 const textOf = (keys) => Object.entries(keys).map(([key, value]) => `${key} = ${value}\n`).join("");

@@ -23,6 +23,12 @@ export class Cells {
     return state;
   }
 
+  /** Whether a particle is in a direction of a cell. */
+  has(at, i) {
+    const { cells, per, width, gas: { directions } } = this.kernel, y = Math.floor(at / width), x = at - y * width;
+    return (cells[(y * directions + i) * per + (x >> 5)] >>> x & 1) > 0;
+  }
+
   states() {
     return Uint8Array.from({ length: this.number }, (_, at) => this.state(at));
   }
@@ -118,11 +124,11 @@ export class Cells {
     return left ? null : { flips, moved };
   }
 
-  /** From a random cell on, the next one with some bits of `mask` as wanted and no wall, or undefined. */
-  pick(lot, mask, wanted, isOut = (at) => false) {
+  /** From a random cell on, the next one with a particle in a direction, and none in another, or undefined. */
+  pick(lot, from, to, isOut = (at) => false) {
     for (let tries = 0, at = 0; tries < 64 + this.number; tries++) {
       at = tries < 64 ? Math.floor(lot() * this.number) : (at + 1) % this.number;
-      if ((this.state(at) & (SOLID | mask)) === wanted && !isOut(at)) return at;
+      if (this.has(at, from) && (from === to || !this.has(at, to)) && !isOut(at)) return at;
     }
   }
 }

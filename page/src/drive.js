@@ -56,15 +56,15 @@ export class Drive {
 
   /** Brings a flow to the wind. Returns whether there were particles to turn. */
   act(flow) {
-    const { cells, turned, kernel, gas: { units: [unit], momenta: [[east]] } } = flow;
+    const { cells, kernel, gas: { units: [unit], momenta: [[east]], moves } } = flow;
     this.px += kernel.pushed();
     const wanted = ((this.wind ?? 0) * this.particles - this.px * unit) / 2, sign = Math.sign(wanted);
-    const pair = 1 | turned[1], old = sign > 0 ? turned[1] : 1, steps = Math.round(Math.abs(wanted));
+    const west = moves.length / 2, from = sign > 0 ? west : 0, steps = Math.round(Math.abs(wanted));
     this.velocity.add((this.px * unit) / (this.particles || 1));
     for (let kick = 0; kick < steps; kick++) {
-      const at = cells.pick(this.draw, pair, old);
+      const at = cells.pick(this.draw, from, west - from);
       if (at === undefined) return false;
-      flow.flip(at, pair);
+      flow.flip(at, 1 | 1 << west);
     }
     this.px += 2 * east * sign * steps;
     this.force.add((2 * sign * steps) / this.fluid);

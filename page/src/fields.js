@@ -19,38 +19,66 @@ const ORANGE_PURPLE = [palette("2d004b 542788 8073ac b2abd2 d8daeb f7f7f7 fee0b6
 const fromZero = (most) => [0, most / 2, most];
 
 /**
- * The fields, by name: all that there is of each. `value` is of a block, NaN if it has none.
+ * The fields, by name: all that there is of each. `fill` writes the value of each block, NaN if it has none.
  * @type {Record<string, { key: string, label: string, legend: string, palette: Int32Array[], isSigned: boolean,
- *   ends: (most: number, middle: number) => number[], value: (means: TimeMean, i: number) => number }>}
+ *   ends: (most: number, middle: number) => number[], fill: (means: TimeMean, values: Float64Array) => void }>}
  */
 export const FIELDS = {
   speed: { key: "1", label: "speed", legend: "speed |u|, cells per generation", palette: SEQUENTIAL, isSigned: false,
-    ends: fromZero, value: ({ u, v }, i) => Math.sqrt(u[i] * u[i] + v[i] * v[i]) },
+    ends: fromZero, fill: speed },
   vorticity: { key: "2", label: "vorticity", legend: "vorticity, 1/generation: red anticlockwise", palette: RED_BLUE,
-    isSigned: true, ends: (most) => [-most, 0, most], value: vorticity },
+    isSigned: true, ends: (most) => [-most, 0, most], fill: vorticity },
   difference: { key: "6", label: "difference", legend: "cells that differ from the gas without the turn",
-    palette: SEQUENTIAL, isSigned: false, ends: fromZero,
-    value: ({ unlike, parts: [cells] }, i) => (cells[i] ? (unlike?.[8 * i + 2] ?? 0) / cells[i] : NaN) },
+    palette: SEQUENTIAL, isSigned: false, ends: fromZero, fill: difference },
   density: { key: "3", label: "density", legend: "filling d, from its mean", palette: ORANGE_PURPLE, isSigned: true,
-    ends: (most, middle) => [-most, middle, most], value: ({ filling, middle }, i) => filling[i] - middle },
+    ends: (most, middle) => [-most, middle, most], fill: density },
 };
 
+function speed({ u, v }, out) {
+  for (let i = 0; i < out.length; i++) out[i] = Math.sqrt(u[i] * u[i] + v[i] * v[i]);
+}
+
+/** The part of the cells that differ from a twin. */
+function difference({ unlike, parts }, out) {
+  const [cells] = parts;
+  for (let i = 0; i < out.length; i++) out[i] = cells[i] ? (unlike?.[4 * i + 1] ?? 0) / cells[i] : NaN;
+}
+
 /** dv/dx - du/dy by differences of neighbouring blocks, of one side if the other is solid, empty or past a wall. */
-function vorticity({ columns, rows, width, height, apart, tall, u, v }, i) {
-  const x = i % columns, y = (i - x) / columns, near = (values, at) => (values[at] === values[at] ? at : i);
-  const east = near(v, x < columns - 1 ? i + 1 : i + 1 - columns), west = near(v, x ? i - 1 : i - 1 + columns);
-  const north = y ? near(u, i - columns) : i, south = y < rows - 1 ? near(u, i + columns) : i;
-  const middle = (row) => ((row * height + Math.min(tall, (row + 1) * height) - 1) / 2) * apart;
-  const across = ((east === i ? 0 : 1) + (west === i ? 0 : 1)) * width;
-  const down = middle(south === i ? y : y + 1) - middle(north === i ? y : y - 1);
-  return u[i] === u[i] ? (across && (v[east] - v[west]) / across) - (down && (u[north] - u[south]) / down) : NaN;
+function vorticity({ columns, rows, width, height, apart, tall, u, v }, out) {
+  const middle = (y) => ((y * height + Math.min(tall, (y + 1) * height) - 1) / 2) * apart;
+  for (let y = 0, i = 0; y < rows; y++) {
+    const up = middle(y) - middle(y - 1), below = middle(y + 1) - middle(y);
+    for (let x = 0; x < columns; x++, i++) {
+      const east = v[x < columns - 1 ? i + 1 : i + 1 - columns], west = v[x ? i - 1 : i - 1 + columns];
+      const north = y ? u[i - columns] : NaN, south = y < rows - 1 ? u[i + columns] : NaN;
+      const hasEast = east === east, hasWest = west === west, hasNorth = north === north, hasSouth = south === south;
+      const across = (hasEast ? width : 0) + (hasWest ? width : 0), down = (hasNorth ? up : 0) + (hasSouth ? below : 0);
+      const dv = (hasEast ? east : v[i]) - (hasWest ? west : v[i]);
+      const du = (hasNorth ? north : u[i]) - (hasSouth ? south : u[i]);
+      out[i] = u[i] === u[i] ? (across && dv / across) - (down && du / down) : NaN;
+    }
+  }
+}
+
+/** How far the filling is from its mean. */
+function density(means, out) {
+  const [fluid, counts] = means.smoothed([0, 1]), { parts: [cells], gas: { directions }, middle } = means;
+  for (let i = 0; i < out.length; i++) out[i] = cells[i] ? counts[i] / fluid[i] / directions - middle : NaN;
 }
 
 /** Weights 1, 2, 1 in both directions, round the end. Loops of numbers take half as long as `map`. */
 function smoothen(part, across, columns, rows) {
   for (let y = 0, i = 0; y < rows; y++) {
-    const west = i, east = i + columns - 1;
-    for (; i <= east; i++) across[i] = part[i === west ? east : i - 1] + 2 * part[i] + part[i === east ? west : i + 1];
+    const first = part[i], east = i + columns - 1;
+    let before = part[east], here = first;
+    for (; i < east; i++) {
+      const next = part[i + 1];
+      across[i] = before + 2 * here + next;
+      before = here;
+      here = next;
+    }
+    across[i++] = before + 2 * here + first;
   }
   for (let y = 0, i = 0; y < rows; y++) {
     const north = y ? -columns : 0, south = y < rows - 1 ? columns : 0;
@@ -75,13 +103,13 @@ export class TimeMean {
   width = 1;
   height = 1;
   middle = 0; // the mean filling
-  /** @type {Float32Array[]} fluid cells, particles, momenta */
+  times = 0; // that the parts are smoothed
+  /** @type {Float64Array[]} fluid cells, particles, momenta */
   parts = [];
-  /** @type {Float32Array[]} the same, smoothed, and two that loops write to */
+  /** @type {Float64Array[]} the same, smoothed, and two that loops write to */
   smooth = [];
-  filling = new Float32Array(0);
-  u = this.filling;
-  v = this.filling;
+  u = new Float64Array(0);
+  v = this.u;
   pixels = new Uint8Array(0);
   /** @type {Int32Array | null} the sums of the cells that differ from a twin */
   unlike = null;
@@ -97,49 +125,55 @@ export class TimeMean {
 
   /** Takes sums into the mean, which keeps this part of what it was. */
   add({ columns, rows, width, height, numbers }, kept) {
-    const isNew = columns !== this.columns || rows !== this.rows, memory = isNew ? 0 : kept;
+    const isNew = columns !== this.columns || rows !== this.rows, memory = isNew ? 0 : kept, weight = 1 - memory;
     Object.assign(this, { columns, rows, width, height });
     if (isNew) {
-      const [a, b, c, d, ...made] = Array.from({ length: 13 }, () => new Float32Array(columns * rows));
-      this.parts = [a, b, c, d];
-      this.smooth = made.splice(0, 6);
-      [this.filling, this.u, this.v] = made;
+      const made = Array.from({ length: 12 }, () => new Float64Array(columns * rows));
+      this.parts = made.splice(0, 4);
+      [this.u, this.v, ...this.smooth] = made;
       this.pixels = new Uint8Array(columns * rows);
     }
-    this.parts.forEach((part, k) => {
-      for (let i = 0; i < part.length; i++) part[i] = memory * part[i] + (1 - memory) * numbers[8 * i + 2 * k];
-    });
+    const [cells, particles, px, py] = this.parts;
+    let [allCells, all] = [0, 0];
+    for (let i = 0, at = 0; i < cells.length; i++, at += 4) {
+      allCells += cells[i] = memory * cells[i] + weight * numbers[at];
+      all += particles[i] = memory * particles[i] + weight * numbers[at + 1];
+      px[i] = memory * px[i] + weight * numbers[at + 2];
+      py[i] = memory * py[i] + weight * numbers[at + 3];
+    }
+    this.middle = all / allCells / this.gas.directions;
   }
 
-  /** Finds the filling and the velocity of the blocks, smoothed some times over neighbours. NaN if one is solid. */
-  look(times) {
-    const { gas: { directions, units }, parts, smooth, columns, rows, filling, u, v } = this;
-    const [fluid, counts, px, py, across] = smooth, [cells, particles] = parts;
-    parts.forEach((part, k) => {
-      smooth[k].set(part);
-      for (let time = 0; time < times; time++) smoothen(smooth[k], across, columns, rows);
-    });
-    let [allCells, all] = [0, 0];
-    for (let i = 0; i < u.length; i++) {
-      allCells += cells[i];
-      all += particles[i];
-      const isSolid = !cells[i], isEmpty = isSolid || !counts[i];
-      filling[i] = isSolid ? NaN : counts[i] / fluid[i] / directions;
-      u[i] = isEmpty ? NaN : (px[i] * units[0]) / counts[i];
-      v[i] = isEmpty ? NaN : (py[i] * units[1]) / counts[i];
+  /** Some of the parts, smoothed over neighbours. */
+  smoothed(which) {
+    const { parts, smooth, columns, rows, times } = this;
+    for (const k of which) {
+      smooth[k].set(parts[k]);
+      for (let time = 0; time < times; time++) smoothen(smooth[k], smooth[4], columns, rows);
     }
-    this.middle = all / allCells / directions;
+    return which.map((k) => smooth[k]);
+  }
+
+  /** Finds the velocity of the blocks, smoothed some times. It is NaN if one is solid or empty. */
+  look(times) {
+    this.times = times;
+    const { gas: { units: [east, north] }, parts: [cells], u, v } = this, [counts, px, py] = this.smoothed([1, 2, 3]);
+    for (let i = 0; i < u.length; i++) {
+      const isEmpty = !cells[i] || !counts[i];
+      u[i] = isEmpty ? NaN : (px[i] * east) / counts[i];
+      v[i] = isEmpty ? NaN : (py[i] * north) / counts[i];
+    }
   }
 
   /** What is shown of a field: a byte per block, 0 if it is solid, and the largest value of the colours. */
   shown(name) {
-    const { value, isSigned } = FIELDS[name], { pixels } = this, values = this.smooth[5];
-    for (let i = 0; i < values.length; i++) values[i] = value(this, i);
+    const { fill, isSigned } = FIELDS[name], { pixels } = this, values = this.smooth[5];
+    fill(this, values);
     const most = (this.ranges[name] = rangeOf(values, this.ranges[name]));
-    const [zero, scale] = isSigned ? [128, 127] : [1, 254];
+    const zero = isSigned ? 128 : 1, scale = (isSigned ? 127 : 254) / most;
     for (let i = 0; i < values.length; i++) {
-      const colour = Math.max(1, Math.min(255, zero + (scale * values[i]) / most));
-      pixels[i] = values[i] === values[i] ? colour : 0;
+      const colour = zero + scale * values[i];
+      pixels[i] = colour < 1 ? 1 : colour > 255 ? 255 : colour; // NaN becomes 0
     }
     return { pixels, most };
   }

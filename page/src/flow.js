@@ -5,7 +5,7 @@ import { Drive } from "./drive.js";
 import { SOLID, collisions, turns } from "./gases.js";
 import { History } from "./history.js";
 import { copied } from "./kernel.js";
-import { totalsOf } from "./sums.js";
+import { sumsOf, totalsOf } from "./sums.js";
 
 const MOST_PATCHES = 64 * 2 ** 20; // bytes of what was done to the cells
 
@@ -55,9 +55,9 @@ export class Flow {
     this.kernel = this.cells.kernel = copied(this.kernel, make);
   }
 
-  /** Sums of blocks, and by the way of all cells. */
+  /** Sums of blocks, 1, 2, 4, 8, 16 or 32 columns wide, and by the way of all cells. */
   sums(wide, tall) {
-    const sums = this.kernel.sums(wide, tall);
+    const sums = sumsOf(this.kernel, wide, tall);
     this.summed = { changes: this.changes, totals: totalsOf(sums) };
     return sums;
   }
@@ -82,7 +82,7 @@ export class Flow {
   /** Flips bits of a cell now. */
   flip(at, bits) {
     if (this.direction < 0) this.isDisturbed = true;
-    else this.history.flip(this.generation, this.cells, at, bits);
+    else if (this.canTurn) this.history.flip(this.generation, this.cells, at, bits);
     this.cells.flip(at, bits);
   }
 

@@ -1,16 +1,18 @@
 // The kernels: they own a lattice's planes and advance them. Their cells are the same, bit for bit.
 import { blocks, keyStream } from "./keystream.js";
-import { bits, sumsOf } from "./sums.js";
+import { bits } from "./sums.js";
 
-const LINK = 5; // numbers of an entry of Planes.links
+const LINK = 4, PUSH = 3; // numbers of an entry of Planes.links, and of Planes.pushes
 
 /** A lattice's planes: `per` words of 32 cells a row and plane. */
 class Planes {
   cells = new Int32Array(0);
   solid = new Int32Array(0);
-  /** Where walls are near: a word of a plane, that of the opposite direction, its solid cells, those to which particles
-   * of the opposite direction come back, and the momentum of the direction eastwards. */
+  /** Where walls are near: a word of a plane, that of the opposite direction, its solid cells, and those to which
+   * particles of the opposite direction come back. */
   links = new Int32Array(0);
+  /** Where walls give momentum: a word of a plane, the cells to which particles come back, and what each is given. */
+  pushes = new Int32Array(0);
 
   /** @param {Gas} gas @param {number} width @param {number} height */
   constructor(gas, width, height) {
@@ -42,7 +44,8 @@ class Planes {
 
   /** Finds the links, after an edit of solid cells. */
   wallsChanged() {
-    const { gas: { moves, directions, momenta }, solid, height, per, words, last } = this, found = [];
+    const { gas: { moves, directions, momenta }, solid, height, per, words, last } = this;
+    const links = [], pushes = [];
     const wall = new Int32Array(per).fill(-1), ahead = new Int32Array(per); // above the first row, and below the last
     wall[words - 1] = last;
     for (let y = 0; y < height; y++) {
@@ -51,19 +54,21 @@ class Planes {
         const at = (y * directions + i) * per, back = (y * directions + (i + moves.length / 2) % moves.length) * per;
         this.shift(isIn ? solid : wall, isIn ? row * per : 0, ahead, 0, row & 1 ? odd : even);
         for (let k = 0; k < words; k++) {
-          const inside = solid[y * per + k];
-          if (ahead[k] | inside) found.push(at + k, back + k, inside, ahead[k] & ~inside, momenta[i][0]);
+          const inside = solid[y * per + k], returned = ahead[k] & ~inside;
+          if (returned | inside) links.push(at + k, back + k, inside, returned);
+          if (returned && momenta[i][0]) pushes.push(at + k, returned, 2 * momenta[i][0]);
         }
       });
     }
-    this.links = Int32Array.from(found);
+    this.links = Int32Array.from(links);
+    this.pushes = Int32Array.from(pushes);
   }
 
   /** The momentum eastwards that walls gave in the last generation, as a multiple of the gas's unit. */
   pushed() {
-    const { links, cells } = this;
+    const { pushes, cells } = this;
     let sum = 0;
-    for (let k = 0; k < links.length; k += LINK) sum += 2 * links[k + 4] * bits(cells[links[k]] & links[k + 3]);
+    for (let k = 0; k < pushes.length; k += PUSH) sum += pushes[k + 2] * bits(cells[pushes[k]] & pushes[k + 1]);
     return sum;
   }
 }
@@ -89,11 +94,6 @@ export class ScriptKernel extends Planes {
       collideRows(this, this.bits, this.words);
       this.move();
     }
-  }
-
-  /** Sums of blocks, 1, 2, 4, 8, 16 or 32 columns wide. */
-  sums(wide, tall) {
-    return sumsOf(this, wide, tall);
   }
 
   /** Two sets of planes take turns. A particle that would enter a solid cell stays and reverses. */
@@ -146,8 +146,6 @@ const INTERFACE = 1;
 
 /** The proved engine, a module with the calls of include/fhpgas.h. Only this class knows its memory's layout. */
 export class ProvedKernel extends Planes {
-  numbers = new Int32Array(0); // of the last sums
-
   /** @param {WebAssembly.Module} module @param {Gas} gas @param {number} width @param {number} height */
   constructor(module, gas, width, height) {
     super(gas, width, height);
@@ -158,8 +156,8 @@ export class ProvedKernel extends Planes {
     this.states = this.room((height * gas.directions * this.per) / 2);
     this.walls = this.room((height * this.per) / 2);
     this.work = this.room(Number(this.calls.fhpgas_work_words(gas.number, width)));
-    this.table = this.room(0); // the sums of blocks
-    this.look();
+    const seen = (room) => new Int32Array(this.calls.memory.buffer, Number(room[0]), 2 * Number(room[1]));
+    [this.cells, this.solid] = [this.states, this.walls].map(seen);
     this.wallsChanged();
   }
 
@@ -171,32 +169,11 @@ export class ProvedKernel extends Planes {
     return [BigInt(at), BigInt(words)];
   }
 
-  /** Sees the words of 32 bits of each room. After the memory has grown they are seen anew. */
-  look() {
-    const seen = (room) => new Int32Array(this.calls.memory.buffer, Number(room[0]), 2 * Number(room[1]));
-    [this.cells, this.solid, this.numbers] = [this.states, this.walls, this.table].map(seen);
-  }
-
-  /** Makes a call with the lattice's arrays. It returns 0 if it refuses nothing. */
-  call(name, numbers, ...rooms) {
-    const status = this.calls[name](this.gas.number, ...numbers, ...rooms.flat());
-    if (status) throw new Error(`the engine refuses ${name} with status ${status}`);
-  }
-
+  /** Some generations. The call returns 0 if it refuses nothing. */
   advance(count, generation, chirality, seed) {
-    const { width, height, walls, states, work } = this, when = [BigInt(seed), BigInt(generation), BigInt(count)];
-    this.call("fhpgas_advance", [CHIRALITIES[chirality], ...when, width, height, 0, 0, width], walls, states, work);
-  }
-
-  sums(wide, tall) {
-    const { width, height, walls, states } = this;
-    const columns = Math.ceil(width / wide), rows = Math.ceil(height / tall), words = 4 * columns * rows;
-    if (this.table[1] < words) {
-      this.table = this.room(words);
-      this.look();
-    }
-    const room = [this.table[0], BigInt(words)], numbers = this.numbers.subarray(0, 2 * words);
-    this.call("fhpgas_sums", [width, height, wide, tall], walls, states, room);
-    return { columns, rows, width: wide, height: tall, numbers };
+    const { gas, width, height, walls, states, work } = this, rooms = [...walls, ...states, ...work];
+    const when = [BigInt(seed), BigInt(generation), BigInt(count)], size = [width, height, 0, 0, width];
+    const status = this.calls.fhpgas_advance(gas.number, CHIRALITIES[chirality], ...when, ...size, ...rooms);
+    if (status) throw new Error(`the engine refuses to advance with status ${status}`);
   }
 }

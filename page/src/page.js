@@ -21,6 +21,7 @@ const live = {
   hasMoved: false,
   isScheduled: false,
   noteTimer: 0,
+  toldAt: 0, // when the numbers were written, or 0 if they must be
   addressTimer: 0,
   pending: /** @type {{ at: number[] | null, probe: number[] | null }} */ ({ at: null, probe: null }), // of the address
 };
@@ -28,6 +29,7 @@ const SCRIPT = "The kernel in this page computes the cells";
 const COPY = "a copy in JavaScript, free to pass on, compared with fhpgas bit for bit";
 const MOST = `At most ${count(MOST_CELLS)} cells.`;
 const panes = [paneOf(), paneOf()];
+const TOLD_EVERY = 100; // milliseconds: faster than anybody reads
 const isStill = matchMedia("(prefers-reduced-motion: reduce)").matches;
 const preset = () => PRESETS[$("scene").value];
 const isSlow = () => $("pace").value.endsWith(" s");
@@ -80,6 +82,7 @@ function seekEngine() {
 /** Takes the frame that is to be shown next. */
 function take({ frames, serial, canUndo, isRunning, strokes, state, hashes = [] }) {
   const isNew = serial !== shown.serial, before = isNew ? null : head();
+  if (isNew || canUndo !== shown.canUndo) live.toldAt = 0;
   const isMoved = frames[0].generation !== before?.generation;
   Object.assign(shown, { frames, serial, canUndo, hashes, isRunning: isSlow() ? shown.isRunning : isRunning });
   marks.pieces.splice(0, strokes);
@@ -188,12 +191,17 @@ function painted(begun) {
   tell("seen", {});
   shown.times.push([begun, generation]);
   if (shown.times.length > 50) shown.times.shift();
-  paintNumbers();
-  paintChart(numbersOf(head(), amount("length")));
-  update();
+  if (!shown.isRunning || begun > live.toldAt + TOLD_EVERY) tellNumbers(begun);
   shown.painted++;
   if (generation > 0 && !live.hasMoved) performance.mark("moved", { detail: shown.painted });
   live.hasMoved ||= generation > 0;
+}
+
+function tellNumbers(now) {
+  live.toldAt = now;
+  paintNumbers();
+  paintChart(numbersOf(head(), amount("length")));
+  update();
 }
 
 // -- where one looks

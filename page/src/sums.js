@@ -1,54 +1,80 @@
 // Sums over blocks of cells, by counting the bits of planes.
 
-const MOST_ROWS = 31; // of which a byte takes the counts
+const MOST_ROWS = 31; // of 8 columns, whose count a byte takes
+const HALVES = 0x00ff00ff, NOUGHT = 0x8000; // a word is two fields, in which this stands for 0
 
-/** Counts the bits of each field of a word, of 1, 2, 4 or 8 bits, in that field. */
-function counted(word, field) {
-  if (field === 1) return word;
-  let sum = word - ((word >>> 1) & 0x55555555);
-  if (field === 2) return sum;
-  sum = (sum & 0x33333333) + ((sum >>> 2) & 0x33333333);
-  return field === 4 ? sum : (sum + (sum >>> 4)) & 0x0f0f0f0f;
-}
+const twos = (word) => word - (word >>> 1 & 0x55555555);
+const fours = (two) => (two & 0x33333333) + (two >>> 2 & 0x33333333);
+const bytes = (word) => {
+  const four = fours(twos(word));
+  return (four + (four >>> 4)) & 0x0f0f0f0f;
+};
+/** What counts the bits of each field of a word, in that field. */
+const COUNTED = { 1: (word) => word, 2: twos, 4: (word) => fours(twos(word)), 8: bytes };
 
-export const bits = (word) => Math.imul(counted(word, 8), 0x01010101) >>> 24;
+export const bits = (word) => Math.imul(bytes(word), 0x01010101) >>> 24;
 
 /**
- * The sums of blocks whose width is 1, 2, 4, 8, 16 or 32, by rows from the top. `numbers` has four of 64 bits a block,
- * as fhpgas_sums, but only their lower halves: fluid cells, particles, and momenta in the gas's units.
+ * The sums of blocks whose width is 1, 2, 4, 8, 16 or 32, by rows from the top. `numbers` has four a block: fluid
+ * cells, particles, and momenta in the gas's units.
  * @param {{ cells: Int32Array, solid: Int32Array, width: number, height: number, per: number, gas: any }} planes
  */
 export function sumsOf({ cells, solid, width, height, per, gas: { directions, momenta } }, wide, tall) {
-  const columns = Math.ceil(width / wide), rows = Math.ceil(height / tall), once = wide < 8 ? 1 : MOST_ROWS;
-  const numbers = new Int32Array(8 * columns * rows);
+  const columns = Math.ceil(width / wide), rows = Math.ceil(height / tall), all = directions * per;
+  const parts = Math.max(1, 8 / wide), numbers = new Int32Array(4 * columns * rows);
+  const walls = new Int32Array(parts), counts = momenta.map(() => new Int32Array(parts));
   for (let i = 0; i < columns * rows; i++) {
     const x = (i % columns) * wide, y = Math.floor(i / columns) * tall;
-    numbers[8 * i] = Math.min(wide, width - x) * Math.min(tall, height - y);
+    numbers[4 * i] = Math.min(wide, width - x) * Math.min(tall, height - y);
   }
   for (let y = 0, end = 0; y < height; y = end) {
-    const row = Math.floor(y / tall), to = row * columns;
-    end = Math.min(height, (row + 1) * tall, y + once);
-    const add = (...plane) => addRows(end - y, width, wide, numbers, to, ...plane);
-    add([-1, 0, 0, 0], solid, y * per, per);
-    momenta.forEach((momentum, i) => add([0, 1, ...momentum], cells, (y * directions + i) * per, directions * per));
+    const row = Math.floor(y / tall);
+    end = Math.min(height, (row + 1) * tall, y + MOST_ROWS);
+    for (let x = 0; x < width; x += 32) {
+      const word = y * per + (x >> 5), block = { first: row * columns, columns, x, wide };
+      countRows(walls, solid, word, per, end - y);
+      counts.forEach((count, i) => countRows(count, cells, word + (y * (directions - 1) + i) * per, all, end - y));
+      addFields(numbers, block, walls, counts, momenta);
+    }
   }
   return { columns, rows, width: wide, height: tall, numbers };
 }
 
-/** Adds the bits of some rows of a plane, times weights, to the numbers of the blocks that begin at `to`. */
-function addRows(rows, width, wide, numbers, to, weights, plane, from, stride) {
-  const field = Math.min(8, wide), mask = (1 << field) - 1, shift = Math.log2(wide), [solid, one, px, py] = weights;
-  for (let j = 0; 32 * j < width; j++) {
-    let sum = 0;
-    for (let y = 0, at = from + j; y < rows; y++, at += stride) sum += counted(plane[at], field);
-    while (sum) {
-      const begin = (31 - Math.clz32(sum & -sum)) & -field, count = (sum >>> begin) & mask;
-      const at = 8 * (to + ((32 * j + begin) >> shift));
-      sum &= ~(mask << begin);
-      numbers[at] += solid * count;
-      numbers[at + 2] += one * count;
-      numbers[at + 4] += px * count;
-      numbers[at + 6] += py * count;
+/** Counts the bits of a plane's word in some rows. Field k of its byte b is counted in byte b of counts[k]. */
+function countRows(counts, plane, at, stride, rows) {
+  const parts = counts.length, field = 8 / parts, count = COUNTED[field], mask = ((1 << field) - 1) * 0x01010101;
+  let sum = 0;
+  if (parts === 1) {
+    for (let y = 0; y < rows; y++, at += stride) sum += bytes(plane[at]);
+    counts[0] = sum;
+    return;
+  }
+  counts.fill(0);
+  for (let y = 0; y < rows; y++, at += stride) {
+    const word = count(plane[at]);
+    for (let k = 0; k < parts; k++) counts[k] += word >>> k * field & mask;
+  }
+}
+
+/** Adds the counts of a word's fields to the numbers of their blocks, two fields at a time. */
+function addFields(numbers, { first, columns, x, wide }, walls, counts, momenta) {
+  const shift = Math.log2(wide);
+  for (let k = 0; k < 2 * walls.length; k++) {
+    const part = k >> 1, half = 8 * (k & 1);
+    let particles = 0, east = NOUGHT * 0x10001 | 0, north = east;
+    for (let i = 0; i < momenta.length; i++) {
+      const count = counts[i][part] >>> half & HALVES, momentum = momenta[i];
+      particles = particles + count | 0;
+      east = east + Math.imul(momentum[0], count) | 0;
+      north = north + Math.imul(momentum[1], count) | 0;
+    }
+    for (let from = 0; from < 32; from += 16) {
+      const column = x + half + from + part * wide >> shift, at = 4 * (first + column);
+      if (column >= columns) break;
+      numbers[at] -= walls[part] >>> half + from & 0xff;
+      numbers[at + 1] += particles >>> from & 0xffff;
+      numbers[at + 2] += (east >>> from & 0xffff) - NOUGHT;
+      numbers[at + 3] += (north >>> from & 0xffff) - NOUGHT;
     }
   }
 }
@@ -56,6 +82,6 @@ function addRows(rows, width, wide, numbers, to, weights, plane, from, stride) {
 /** Of all blocks: fluid cells, particles, and the momenta eastwards and northwards. */
 export function totalsOf({ numbers }) {
   const totals = [0, 0, 0, 0];
-  for (let k = 0; k < numbers.length; k += 2) totals[k >> 1 & 3] += numbers[k];
+  for (let k = 0; k < numbers.length; k++) totals[k & 3] += numbers[k];
   return totals;
 }

@@ -60,12 +60,12 @@ export function dense(flow, { at, radius }) {
   const { cells, gas, drive } = flow, inside = new Set(cells.near(at, at, radius));
   const isIn = (place) => inside.has(place);
   let moved = 0;
-  for (let bit = 1; bit < 1 << gas.directions; bit *= 2) {
+  for (let i = 0; i < gas.directions; i++) {
     for (const to of inside) {
-      if (cells.state(to) & (SOLID | bit) || drive.draw() > 0.7) continue;
-      const from = cells.pick(drive.draw, bit, bit, isIn);
+      if (cells.state(to) & (SOLID | 1 << i) || drive.draw() > 0.7) continue;
+      const from = cells.pick(drive.draw, i, i, isIn);
       if (from === undefined) break;
-      flow.edit([[from, bit], [to, bit]]);
+      flow.edit([[from, 1 << i], [to, 1 << i]]);
       moved++;
     }
   }
