@@ -26,7 +26,7 @@ extern "C" {
 #endif
 
 /* The number of this interface. Another number means that calls, numbers or arrays have another meaning. */
-#define FHPGAS_INTERFACE 1
+#define FHPGAS_INTERFACE 2
 
 /* The gases: FHP-I (6 directions), HPP (4), and FHP with a particle at rest (7). */
 enum { FHPGAS_FHP1 = 0, FHPGAS_HPP = 1, FHPGAS_FHP_REST = 2 };

@@ -493,7 +493,7 @@ class Choice(unittest.TestCase):
         self.assertEqual(loaded, names)
         engine.library.cache_clear()
         with unittest.mock.patch.object(engine, "INTERFACE", 0), self.assertWarnsRegex(
-            UserWarning, "left out: it has interface 1, and this package needs 0"
+            UserWarning, "left out: it has interface 2, and this package needs 0"
         ):
             self.assertIsNone(engine.library())
 

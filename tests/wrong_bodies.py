@@ -15,7 +15,7 @@ CRATES = needs.ROOT / "crates"
 TABLE = needs.ROOT / "tests/wrong_bodies.txt"
 TRIED = re.compile(r"must-fail (\w+)/([\w.-]+)\.edit: refused, as it must be(.*)")
 # the head of a function, or of a constant that a trait asks for
-FUNCTION = re.compile(r"^( *)(?:pub(?:\([^)]*\))? )?(?:fn|const) (\w+)")
+FUNCTION = re.compile(r'^( *)(?:pub(?:\([^)]*\))? )?(?:extern "C" )?(?:fn|const) (\w+)')
 
 
 def functions(lines):

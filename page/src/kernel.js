@@ -142,7 +142,7 @@ export function copied({ gas, width, height, cells, solid }, make) {
 }
 
 const CHIRALITIES = { seeded: 0, left: 1, right: 2 }; // of include/fhpgas.h
-const INTERFACE = 1;
+const INTERFACE = 2;
 
 /** The proved engine, a module with the calls of include/fhpgas.h. Only this class knows its memory's layout. */
 export class ProvedKernel extends Planes {

@@ -31,7 +31,7 @@ if TYPE_CHECKING:
 
 # Of include/fhpgas.h: the number of the interface, the numbers of gases and chiralities, what a
 # status says, and what the calls return and take. An array is followed by its length.
-INTERFACE = 1
+INTERFACE = 2
 GASES = {"fhp1": 0, "hpp": 1, "fhp-rest": 2}
 CHIRALITIES = {"seeded": 0, "left": 1, "right": 2}
 REFUSALS = {

@@ -1,4 +1,5 @@
 pub mod Packed
+pub mod Parts
 pub mod Draws
 pub mod Planes
 pub mod Turned

@@ -12,8 +12,8 @@ use crate::advance::advance;
 use crate::bytes::{pack, unpack};
 use crate::draw::Place;
 use crate::status::{
-    DONE, advance_status, directions_of, is_planes, is_size, pack_status, sums_status, turn_status,
-    unpack_status, words_of, work_of,
+    BLOCK, BYTE, CHIRALITY, DONE, GAS, GENERATIONS, LENGTH, PLACE, SIZE, are_below, blocks_in,
+    directions_of, is_place, is_planes, is_size, words_of, work_of,
 };
 use crate::sums::sum_blocks;
 use crate::turn::turn;
@@ -26,9 +26,9 @@ use gas_rows::chirality::Chirality;
 /// The number of this interface.
 #[unsafe(no_mangle)]
 pub extern "C" fn fhpgas_interface() -> u32
-    ensures number { result ≡ 1 }
+    ensures number { result ≡ 2 }
 {
-    1
+    2
 }
 
 /// The number of directions of a gas, 0 if there is no such gas.
@@ -79,23 +79,22 @@ pub extern "C" fn fhpgas_pack(
     ensures packed { result ≡ 0 → (x y : ℕ) → x < width → y < height →
         state_at planes width words.new x y ≡ slice_index bytes.now (y * width + x) }
 {
-    let status = pack_status(planes, width, height, bytes, words.len());
-    if status == DONE {
-        pack_lawful(planes, width, height, bytes, words);
+    if !is_planes(planes) {
+        return GAS;
     }
-    status
-}
-
-// Packs bytes that are lawful.
-fn pack_lawful(planes: u32, width: u32, height: u32, bytes: &[u8], words: &mut [u64])
-    requires lawful { pack_status planes width height bytes.now (length words.old) ≡ 0 }
-    ensures packed { (x y : ℕ) → x < width → y < height →
-        state_at planes width words.new x y ≡ slice_index bytes.now (y * width + x) }
-{
     let Some(size) = Size::new(width, height) else {
-        return;
+        return SIZE;
     };
+    if bytes.len() != height as usize * width as usize
+        || words.len() != words_of(planes, width, height)
+    {
+        return LENGTH;
+    }
+    if !are_below(bytes, planes) {
+        return BYTE;
+    }
     pack(size, planes as usize, bytes, words);
+    DONE
 }
 
 /// Writes planes into bytes.
@@ -112,40 +111,19 @@ pub extern "C" fn fhpgas_unpack(
     ensures unpacked { result ≡ 0 → (x y : ℕ) → x < width → y < height →
         slice_index bytes.new (y * width + x) ≡ state_at planes width words.now x y }
 {
-    let status = unpack_status(planes, width, height, words.len(), bytes.len());
-    if status == DONE {
-        unpack_lawful(planes, width, height, words, bytes);
+    if !is_planes(planes) {
+        return GAS;
     }
-    status
-}
-
-// Unpacks planes that are lawful.
-fn unpack_lawful(planes: u32, width: u32, height: u32, words: &[u64], bytes: &mut [u8])
-    requires lawful { unpack_status planes width height (length words.now) (length bytes.old) ≡ 0 }
-    ensures unpacked { (x y : ℕ) → x < width → y < height →
-        slice_index bytes.new (y * width + x) ≡ state_at planes width words.now x y }
-{
     let Some(size) = Size::new(width, height) else {
-        return;
+        return SIZE;
     };
+    if words.len() != words_of(planes, width, height)
+        || bytes.len() != height as usize * width as usize
+    {
+        return LENGTH;
+    }
     unpack(size, planes as usize, words, bytes);
-}
-
-// Turns the particles of a lattice whose arguments are lawful.
-fn turn_lawful(gas: u32, width: u32, height: u32, states: &mut [u64])
-    requires lawful { turn_status gas width height (length states.old) ≡ 0 }
-    ensures turned { (x y : ℕ) → x < width → y < height →
-        state_at (gas_numbered gas).dirs width states.new x y
-        ≡ turned (gas_numbered gas) (state_at (gas_numbered gas).dirs width states.old x y) }
-{
-    let Some(size) = Size::new(width, height) else {
-        return;
-    };
-    match gas {
-        0 => turn::<Fhp1>(size, states),
-        1 => turn::<Hpp>(size, states),
-        _ => turn::<FhpRest>(size, states),
-    }
+    DONE
 }
 
 /// Turns every particle of a lattice to the opposite direction.
@@ -157,39 +135,21 @@ pub extern "C" fn fhpgas_turn(gas: u32, width: u32, height: u32, states: &mut [u
         state_at (gas_numbered gas).dirs width states.new x y
         ≡ turned (gas_numbered gas) (state_at (gas_numbered gas).dirs width states.old x y) }
 {
-    let status = turn_status(gas, width, height, states.len());
-    if status == DONE {
-        turn_lawful(gas, width, height, states);
+    if gas >= 3 {
+        return GAS;
     }
-    status
-}
-
-// Sums the blocks of a lattice whose arguments are lawful.
-fn sums_lawful(
-    gas: u32,
-    width: u32,
-    height: u32,
-    block_width: u32,
-    block_height: u32,
-    solid: &[u64],
-    states: &[u64],
-    sums: &mut [i64],
-)
-    requires lawful { sums_status gas width height block_width block_height (length solid.now)
-        (length states.now) (length sums.old) ≡ 0 }
-    ensures summed { (col row : ℕ) → col < div_ceil width block_width →
-        row < div_ceil height block_height → row_words 4 sums.new (row * div_ceil width block_width + col)
-        ≡ sums_of (block_at (gas_numbered gas) (lattice_in (gas_numbered gas) width height solid.now
-        states.now) block_width block_height row col) }
-{
     let Some(size) = Size::new(width, height) else {
-        return;
+        return SIZE;
     };
-    match gas {
-        0 => sum_blocks::<Fhp1>(size, block_width, block_height, solid, states, sums),
-        1 => sum_blocks::<Hpp>(size, block_width, block_height, solid, states, sums),
-        _ => sum_blocks::<FhpRest>(size, block_width, block_height, solid, states, sums),
+    if states.len() != words_of(directions_of(gas), width, height) {
+        return LENGTH;
     }
+    match gas {
+        0 => turn::<Fhp1>(size, states),
+        1 => turn::<Hpp>(size, states),
+        _ => turn::<FhpRest>(size, states),
+    }
+    DONE
 }
 
 /// Sums the cells of a lattice by blocks.
@@ -212,29 +172,29 @@ pub extern "C" fn fhpgas_sums(
         ≡ sums_of (block_at (gas_numbered gas) (lattice_in (gas_numbered gas) width height solid.now
         states.now) block_width block_height row col) }
 {
-    let status = sums_status(
-        gas,
-        width,
-        height,
-        block_width,
-        block_height,
-        solid.len(),
-        states.len(),
-        sums.len(),
-    );
-    if status == DONE {
-        sums_lawful(
-            gas,
-            width,
-            height,
-            block_width,
-            block_height,
-            solid,
-            states,
-            sums,
-        );
+    if gas >= 3 {
+        return GAS;
     }
-    status
+    let Some(size) = Size::new(width, height) else {
+        return SIZE;
+    };
+    if block_width == 0 || block_height == 0 {
+        return BLOCK;
+    }
+    let fours = blocks_in(width, height, block_width, block_height);
+    if solid.len() != words_of(1, width, height)
+        || states.len() != words_of(directions_of(gas), width, height)
+        || sums.len() % 4 != 0
+        || sums.len() / 4 != fours
+    {
+        return LENGTH;
+    }
+    match gas {
+        0 => sum_blocks::<Fhp1>(size, block_width, block_height, solid, states, sums),
+        1 => sum_blocks::<Hpp>(size, block_width, block_height, solid, states, sums),
+        _ => sum_blocks::<FhpRest>(size, block_width, block_height, solid, states, sums),
+    }
+    DONE
 }
 
 // The chirality of a number.
@@ -245,39 +205,6 @@ fn chirality_of(number: u32, seed: u64) -> Chirality
         0 => Chirality::Seeded(seed),
         1 => Chirality::Left,
         _ => Chirality::Right,
-    }
-}
-
-// Advances a part whose arguments are lawful.
-fn advance_lawful(
-    gas: u32,
-    chirality: u32,
-    seed: u64,
-    first: u64,
-    generations: u64,
-    width: u32,
-    height: u32,
-    place: Place,
-    solid: &[u64],
-    states: &mut [u64],
-    work: &mut [u64],
-)
-    requires lawful { advance_status gas chirality first generations width height place.first_row
-        place.first_column place.whole_width (length solid.now) (length states.old)
-        (length work.old) ≡ 0 }
-    ensures done { lattice_in (gas_numbered gas) width height solid.now states.new
-        ≡ part_after (gas_numbered gas) (chirality_numbered chirality seed) place.whole_width
-        place.first_column place.first_row first
-        (lattice_in (gas_numbered gas) width height solid.now states.old) generations }
-{
-    let Some(size) = Size::new(width, height) else {
-        return;
-    };
-    let bits = chirality_of(chirality, seed);
-    match gas {
-        0 => advance::<Fhp1>(size, place, bits, first, generations, solid, states, work),
-        1 => advance::<Hpp>(size, place, bits, first, generations, solid, states, work),
-        _ => advance::<FhpRest>(size, place, bits, first, generations, solid, states, work),
     }
 }
 
@@ -310,37 +237,37 @@ pub extern "C" fn fhpgas_advance(
         ≡ lattice_after (gas_numbered gas) (chirality_numbered chirality seed) first
         (lattice_in (gas_numbered gas) width height solid.now states.old) generations }
 {
+    if gas >= 3 {
+        return GAS;
+    }
+    if chirality >= 3 {
+        return CHIRALITY;
+    }
+    let Some(size) = Size::new(width, height) else {
+        return SIZE;
+    };
     let place = Place {
         first_row,
         first_column,
         whole_width,
     };
-    let status = advance_status(
-        gas,
-        chirality,
-        first,
-        generations,
-        width,
-        height,
-        place,
-        solid.len(),
-        states.len(),
-        work.len(),
-    );
-    if status == DONE {
-        advance_lawful(
-            gas,
-            chirality,
-            seed,
-            first,
-            generations,
-            width,
-            height,
-            place,
-            solid,
-            states,
-            work,
-        );
+    if !is_place(place, width) {
+        return PLACE;
     }
-    status
+    if generations > u64::MAX - first {
+        return GENERATIONS;
+    }
+    if solid.len() != words_of(1, width, height)
+        || states.len() != words_of(directions_of(gas), width, height)
+        || work.len() != work_of(gas, width)
+    {
+        return LENGTH;
+    }
+    let bits = chirality_of(chirality, seed);
+    match gas {
+        0 => advance::<Fhp1>(size, place, bits, first, generations, solid, states, work),
+        1 => advance::<Hpp>(size, place, bits, first, generations, solid, states, work),
+        _ => advance::<FhpRest>(size, place, bits, first, generations, solid, states, work),
+    }
+    DONE
 }
