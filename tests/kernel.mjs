@@ -8,7 +8,7 @@ import { GASES, SOLID } from "../page/src/gases.js";
 import { ProvedKernel, ScriptKernel } from "../page/src/kernel.js";
 import { block } from "../page/src/keystream.js";
 import { fillStates, printed, readScene, sceneOf } from "../page/src/scenes.js";
-import { sumsOf } from "../page/src/sums.js";
+import { gathered, sumsOf } from "../page/src/sums.js";
 import { check, end, tried } from "./checks.mjs";
 import { lots } from "./lots.mjs";
 
@@ -35,7 +35,7 @@ function sameSums(flow, wide, tall) {
   const done = spawnSync(program, words, { input: sceneOf(flow).replace(/generation = .*/, "generation = 0"), maxBuffer: 1 << 28 });
   const [, ...rows] = done.stdout.toString().trimEnd().split("\n"), { numbers } = sumsOf(flow.kernel, wide, tall);
   const totals = flow.totals(), sum = (part) => numbers.filter((_, k) => k % 4 === part).reduce((a, b) => a + b, 0);
-  const isWhole = totals.every((total, part) => total === sum(part));
+  const isWhole = totals.every((total, part) => total === sum(part)) && String(gathered(flow.sums(1, 1), wide, tall).numbers) === String(numbers);
   return isWhole && done.status === 0 && rows.every((row, i) => row.split(/[\s,]+/).slice(-4).every((value, k) => Number(value) === numbers[4 * i + k]));
 }
 

@@ -55,6 +55,11 @@ export class Flow {
     this.kernel = this.cells.kernel = copied(this.kernel, make);
   }
 
+  /** The rows of a block that is as high as wide. */
+  tall(wide) {
+    return Math.max(1, Math.round(wide / this.gas.apart));
+  }
+
   /** Sums of blocks, 1, 2, 4, 8, 16 or 32 columns wide, and by the way of all cells. */
   sums(wide, tall) {
     const sums = sumsOf(this.kernel, wide, tall);

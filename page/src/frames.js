@@ -75,11 +75,11 @@ export class Watched {
   }
 
   /** The means over blocks and time of what is looked at. */
-  means({ block, smooth, span, field }, generations) {
-    const { flow, mean } = this, tall = Math.max(1, Math.round(block / flow.gas.apart));
-    mean.add(flow.sums(block, tall), span > 1 ? Math.exp(-generations / span) : 0);
+  means({ smooth, span, field }, generations, sums) {
+    const { mean } = this;
+    mean.add(sums, span > 1 ? Math.exp(-generations / span) : 0);
     mean.look(smooth);
-    mean.unlike = field === "difference" ? this.differences(block, tall) : null;
+    mean.unlike = field === "difference" ? this.differences(sums.width, sums.height) : null;
     return mean;
   }
 
@@ -91,8 +91,9 @@ export class Watched {
       stream.look();
       this.runs = shape ? runsOf(walls, shape) : "";
     }
-    if (generations || !stream.generations) stream.add(generations);
-    const mean = this.means(view, generations), [fluid, particles, px, py] = flow.totals(), all = particles || 1;
+    const sums = flow.sums(view.block, flow.tall(view.block));
+    if (generations || !stream.generations) stream.add(generations, sums);
+    const mean = this.means(view, generations, sums), [fluid, particles, px, py] = flow.totals(), all = particles || 1;
     const { columns, rows, width, height, u, v } = stream.mean, { fastest, blockage, incoming } = stream;
     cells.isBuilt = false;
     flow.notes = [];

@@ -1,6 +1,7 @@
 // The mean flow, on blocks of its own, whatever is shown: it carries the tracers, and the fastest block and the stream
 // that meets an obstacle are read from it.
 import { TimeMean } from "./fields.js";
+import { gathered } from "./sums.js";
 
 const MEMORY = 300; // generations of the mean
 const STEP = 20; // generations from one measurement to the next
@@ -38,14 +39,14 @@ export class Stream {
     this.box = bottom < 0 || east - west > width / 3 ? null : { west, top, bottom };
   }
 
-  /** Measures the flow again, but not for a few generations. */
-  add(gone) {
-    const { flow, mean, block } = this, generations = this.waiting + gone;
+  /** Measures the flow again, but not for a few generations, from sums of the cells as they are. */
+  add(gone, sums) {
+    const { flow, mean, block } = this, tall = flow.tall(block), generations = this.waiting + gone;
     this.waiting = this.generations && generations < STEP ? generations : 0;
     if (this.waiting) return;
     this.generations += generations;
     const memory = Math.min(MEMORY, Math.max(1, this.generations));
-    mean.add(flow.sums(block, Math.max(1, Math.round(block / flow.gas.apart))), Math.exp(-generations / memory));
+    mean.add(gathered(sums, block, tall) ?? flow.sums(block, tall), Math.exp(-generations / memory));
     mean.look(1);
     const speeds = mean.u.map((u, i) => u * u + mean.v[i] ** 2 || 0);
     this.fastest = Math.sqrt(speeds.reduce((a, b) => Math.max(a, b)));

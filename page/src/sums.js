@@ -79,9 +79,29 @@ function addFields(numbers, { first, columns, x, wide }, walls, counts, momenta)
   }
 }
 
+/** The sums of larger blocks, if each consists of whole smaller ones, else null. */
+export function gathered({ columns, rows, width, height, numbers }, wide, tall) {
+  if (wide % width || tall % height) return null;
+  const across = wide / width, down = tall / height, fewer = Math.ceil(columns / across);
+  const lines = Math.ceil(rows / down), sums = new Int32Array(4 * fewer * lines);
+  for (let y = 0, from = 0; y < rows; y++) {
+    const first = 4 * fewer * Math.floor(y / down);
+    for (let x = 0; x < columns; x++) {
+      const to = first + 4 * Math.floor(x / across);
+      for (let k = 0; k < 4; k++) sums[to + k] += numbers[from++];
+    }
+  }
+  return { columns: fewer, rows: lines, width: wide, height: tall, numbers: sums };
+}
+
 /** Of all blocks: fluid cells, particles, and the momenta eastwards and northwards. */
 export function totalsOf({ numbers }) {
-  const totals = [0, 0, 0, 0];
-  for (let k = 0; k < numbers.length; k++) totals[k & 3] += numbers[k];
-  return totals;
+  let fluid = 0, particles = 0, px = 0, py = 0;
+  for (let at = 0; at < numbers.length; at += 4) {
+    fluid += numbers[at];
+    particles += numbers[at + 1];
+    px += numbers[at + 2];
+    py += numbers[at + 3];
+  }
+  return [fluid, particles, px, py];
 }
