@@ -39,18 +39,13 @@ def summed_factor(gas, d, u=0.001):
 def in_a_channel(gas):
     """The numbers of particles that occur, and in how many generations walls and disc account for
     the change of the momentum."""
-    lattices = [
-        *fhpgas.draw_gas(
-            0.2, 0.2, solid=fhpgas.disc(fhpgas.Size(64, 24), 20, 12, 4, gas), gas=gas, seed=1
-        ).every(1, 100)
-    ]
-    lost = [
-        old.momentum - new.momentum - sum(fhpgas.forces(new).values())
-        for old, new in zip(lattices, lattices[1:])
-    ]
-    return " ".join(map(str, sorted({each.particles for each in lattices}))), sum(
-        abs(each).max() < 1e-6 for each in lost
-    )
+    solid = fhpgas.disc(fhpgas.Size(64, 24), 20, 12, 4, gas)
+    lattices = [*fhpgas.draw_gas(0.2, 0.2, solid=solid, gas=gas, seed=1).every(1, 100)]
+    balanced = 0
+    for old, new in zip(lattices, lattices[1:]):
+        lost = old.momentum - new.momentum - sum(fhpgas.forces(new).values())
+        balanced += abs(lost).max() < 1e-6
+    return sorted({each.particles for each in lattices}), balanced
 
 
 def draw(path, gas, changed, left, right):
@@ -58,55 +53,53 @@ def draw(path, gas, changed, left, right):
     states[::2, ::2] = changed, left[changed], right[changed]
     with common.axes(path, size=(1 + 0.6 * len(changed), 2.4)) as ax:
         fhpgas.Lattice(states, gas=gas).plot(ax=ax)
-        ax.set(
-            xticks=2 * np.arange(len(changed)), xticklabels=[f"{state:02x}" for state in changed]
-        )
-        ax.set(
-            yticks=gas.row_distance * (4.5 - np.array([0, 2, 4])),
-            yticklabels=["state", "left", "right"],
-            title=f"collisions of {gas}",
-        )
+        names = [f"{state:02x}" for state in changed]
+        heights = gas.row_distance * (4.5 - np.array([0, 2, 4]))
+        ax.set(xticks=2 * np.arange(len(changed)), xticklabels=names)
+        ax.set(yticks=heights, yticklabels=["state", "left", "right"])
+        ax.set_title(f"collisions of {gas}")
 
 
-@common.experiment
+def compare(gas, states, left, right):
+    """Prints how many tables and states are as they should be."""
+    tables = (("left", left), ("right", right))
+    rules = sum(np.array_equal(gas.collisions(s)[: len(states)], found) for s, found in tables)
+    is_kept = [
+        (of[left] == of[states]) & (of[right] == of[states]) for of in (gas.number, gas.px, gas.py)
+    ]
+    print(f"tables that are those of the rules: {rules} of 2")
+    kept = np.all(is_kept, 0).sum()
+    print(f"states that conserve particles and momentum: {kept} of {len(states)}")
+
+
+def print_sums(gas):
+    """Prints viscosity and Galilean factor beside the published formulas."""
+    for d in np.arange(1, 6) / 10:
+        print(f"d {d}: viscosity, summed {theory.viscosity(gas, d):.4f}", end=" ")
+        print(f"formula {VISCOSITIES[gas.name](d):.4f},", end=" ")
+        print(f"g, summed {summed_factor(gas, d):.4f}", end=" ")
+        print(f"formula {theory.galilean_factor(gas, d):.4f}")
+
+
 def main():
-    asked = common.Options(
-        __doc__, "fhp1", "fhp-rest", "hpp", figure="the states that collide, before and after"
-    ).parse_args()
+    figure = "the states that collide, before and after"
+    asked = common.Options(__doc__, "fhp1", "fhp-rest", "hpp", figure=figure).parse_args()
     gas = fhpgas.gas_named(asked.gas)
-    left, right, states = *(collided(gas, side) for side in ("left", "right")), np.arange(
-        1 << gas.directions
-    )
-    rules = sum(
-        np.array_equal(gas.collisions(side)[: len(states)], found)
-        for side, found in (("left", left), ("right", right))
-    )
-    kept = sum(
-        all(of[state] == of[left[state]] == of[right[state]] for of in (gas.number, gas.px, gas.py))
-        for state in states
-    )
+    left, right = (collided(gas, side) for side in ("left", "right"))
+    states = np.arange(1 << gas.directions)
     changed = np.flatnonzero(left != states)
     print(f"{gas.name}: {len(changed)} of {len(states)} states collide\nstate   left  right")
     for state in changed:
         print(f"   {state:02x}     {left[state]:02x}     {right[state]:02x}")
-    print(
-        f"tables that are those of the rules: {rules} of 2\nstates that conserve particles and"
-        f" momentum: {kept} of {len(states)}"
-    )
-    print(
-        "past a disc: particles {}, momentum balanced in {} of 100 generations".format(
-            *in_a_channel(gas)
-        )
-    )
+    compare(gas, states, left, right)
+    particles, balanced = in_a_channel(gas)
+    print("past a disc: particles", *particles, end=", ")
+    print(f"momentum balanced in {balanced} of 100 generations")
     if gas.name in VISCOSITIES:
-        sums, formulas = (theory.viscosity, summed_factor), (
-            lambda gas, d: VISCOSITIES[gas.name](d),
-            theory.galilean_factor,
-        )
-        fillings = np.arange(1, 6) / 10
-        columns = (of(gas, fillings) for pair in zip(sums, formulas) for of in pair)
-        line = "d {}: viscosity, summed {:.4f} formula {:.4f}, g, summed {:.4f} formula {:.4f}"
-        for row in zip(fillings, *columns):
-            print(line.format(*row))
+        print_sums(gas)
     if asked.picture:
         draw(asked.picture, gas, changed, left, right)
+
+
+if __name__ == "__main__":
+    common.experiment(main)

@@ -38,9 +38,20 @@ class Options(fault.Parser):
             self.option("--seeds", whole(2, 1000), *seeds, "how many")
 
     def option(self, name, kind, default, small, text, **more):
+        """An option with a default, and another for `--small`. It takes one or more values if they
+        are lists."""
         value = small if self.is_small else default
-        shown = " ".join(map(str, value)) if isinstance(value, list) else value
+        shown = value
+        if isinstance(value, list):
+            shown, more = " ".join(map(str, value)), dict(nargs="+", **more)
         self.add_argument(name, type=kind, default=value, help=f"{text}; default {shown}", **more)
+
+    def filling(self, least, most, usual):
+        self.option("--filling", number(least, most), *[usual] * 2, "the filling d", metavar="D")
+
+    def fillings(self, small):
+        tenths = [0.1, 0.2, 0.3, 0.4, 0.5]
+        self.option("--filling", number(0.05, 0.6), tenths, small, "fillings", metavar="D")
 
     def chirality(self):
         sides = "seeded", "left", "right"
@@ -57,22 +68,22 @@ def writable(path):
 
 def experiment(main):
     """Runs the main function of a script, whose faults are one line."""
-    if main.__module__ == "__main__":
-        with fault.one_line_faults(pathlib.Path(sys.argv[0]).name):
-            main()
+    with fault.one_line_faults(pathlib.Path(sys.argv[0]).name):
+        main()
+
+
+def runs(measured, asked):
+    """What a function of a seed returns for the seeds 1 to `--seeds`, on all cores."""
+    return fhpgas.side_by_side(measured, range(1, asked.seeds + 1))
 
 
 def compare(name, values, theory, digits=3):
     """Prints the mean of some values and its standard error, and what theory says. Returns the mean
     and the error."""
     mean, error = fhpgas.mean_and_error(values)
-    shown = (
-        round(float(value), digits) + 0.0 for value in (mean, error, theory)
-    )  # without a sign of 0
-    print(
-        "{:34} measured {:8.{d}f} +- {:.{d}f}  theory {:8.{d}f}".format(name, *shown, d=digits),
-        flush=True,
-    )
+    shown = [round(float(n), digits) + 0.0 for n in (mean, error, theory)]  # -0.0 is printed as 0.0
+    line = "{:34} measured {:8.{d}f} +- {:.{d}f}  theory {:8.{d}f}"
+    print(line.format(name, *shown, d=digits), flush=True)
     return mean, error
 
 

@@ -50,14 +50,13 @@ def draw(path, asked, times, means, errors, most):
         ax.legend(fontsize=8)
 
 
-@common.experiment
 def main():
     figure = "the entropy on the way there, back, and back with one particle not turned"
     reader = common.Options(__doc__, "fhp1", "fhp-rest", "hpp", figure=figure, seeds=(8, 4))
     reader.option("--size", common.whole(40, 2048), 192, 192, "columns and rows")
     reader.option("--generations", common.whole(PARTS, 10_000), 200, 200, "each way")
     asked = reader.parse_args()
-    runs = fhpgas.side_by_side(lambda seed: measured(asked, seed), range(1, asked.seeds + 1))
+    runs = common.runs(lambda seed: measured(asked, seed), asked)
     means, errors = fhpgas.mean_and_error(runs)
     times = asked.generations // PARTS * np.arange(PARTS + 1)
     print("generation" + "".join(f"{name:>22}" for name in NAMES))
@@ -68,3 +67,7 @@ def main():
     print(f"filled evenly {most:.4f}")
     if asked.picture:
         draw(asked.picture, asked, times, means, errors, most)
+
+
+if __name__ == "__main__":
+    common.experiment(main)

@@ -23,9 +23,8 @@ def drawn(gas, size, seed):
     """A gas whose directions are filled as START says."""
     lots, states = np.random.PCG64(seed), np.zeros((size, size), np.uint8)
     for i, chance in enumerate(START[gas]):
-        states |= (
-            lots.random_raw(size * size).reshape(size, size) < np.uint64(chance * 2**64)
-        ).astype(np.uint8) << i
+        is_filled = lots.random_raw(size * size) < np.uint64(chance * 2**64)
+        states |= is_filled.reshape(size, size).astype(np.uint8) << i
     return fhpgas.Lattice(states, gas=gas, seed=seed)
 
 
@@ -49,45 +48,37 @@ def draw(path, gas, means, errors, theory, names):
         for i, name in enumerate(names):
             left.plot(times, theory[:, i], f"C{i}", lw=1)
             left.errorbar(GENERATIONS, means[:, i], errors[:, i], fmt=f"C{i}o", ms=3, label=name)
-        left.set(
-            xlabel="generations",
-            ylabel="chance of a direction",
-            xscale="symlog",
-            title=f"{gas}: points measured, lines Boltzmann",
-        )
+        left.set(xlabel="generations", ylabel="chance of a direction", xscale="symlog")
+        left.set_title(f"{gas}: points measured, lines Boltzmann")
         right.plot(times, h_of(theory), "C1", lw=1, label="Boltzmann")
         right.plot(GENERATIONS, h_of(means), "C0o", ms=3, label="measured")
         right.set(xlabel="generations", ylabel="H per cell", xscale="symlog", title="H falls")
         left.legend(fontsize=8, ncols=2), right.legend()
 
 
-@common.experiment
 def main():
     reader = common.Options(__doc__, *START, figure="the directions and H over time", seeds=(8, 8))
     reader.option("--size", common.whole(160, 4096), 1024, 192, "columns and rows")
     asked = reader.parse_args()
     gas, start = fhpgas.gas_named(asked.gas), np.array(START[asked.gas])
-    runs = fhpgas.side_by_side(lambda seed: filled(asked, seed), range(1, asked.seeds + 1))
-    flow, (means, errors) = boltzmann.Flow(
-        gas, np.zeros((2, 1)), has_walls=False
-    ), fhpgas.mean_and_error(runs)
-    theory = np.array(
-        [*flow.every(np.resize(start, (2, gas.directions)).T[..., None], 1, GENERATIONS[-1])]
-    )[..., 0, 0]
+    runs = common.runs(lambda seed: filled(asked, seed), asked)
+    means, errors = fhpgas.mean_and_error(runs)
+    flow = boltzmann.Flow(gas, np.zeros((2, 1)), has_walls=False)
+    chances = np.resize(start, (2, gas.directions)).T[..., None]
+    theory = np.array([*flow.every(chances, 1, GENERATIONS[-1])])[..., 0, 0]
     names = ("E N W S" if gas.is_square else "E NE NW W SW SE rest").split()[: gas.directions]
     print("generation" + "".join(f"{name:>8}" for name in names) + "       H   H of Boltzmann")
     for generation, numbers in zip(GENERATIONS, means):
-        print(
-            f"{generation:10}"
-            + "".join(f"{n:8.4f}" for n in numbers)
-            + f"{h_of(numbers):9.4f}{h_of(theory[generation]):12.4f}"
-        )
-    for i, chance in enumerate(
-        fhpgas.equilibrium(gas, start.mean(), *(gas.velocities.T @ start / start.sum()))
-    ):
+        print(f"{generation:10}" + "".join(f"{n:8.4f}" for n in numbers), end="")
+        print(f"{h_of(numbers):9.4f}{h_of(theory[generation]):12.4f}")
+    velocity = gas.velocities.T @ start / start.sum()
+    for i, chance in enumerate(fhpgas.equilibrium(gas, start.mean(), *velocity)):
         common.compare(f"direction {i} and Fermi-Dirac", [run[-1][i] for run in runs], chance, 4)
-    common.compare(
-        "direction 0 after 2 and Boltzmann", [run[2][0] for run in runs], theory[2][0], 4
-    )
+    early = [run[2][0] for run in runs]
+    common.compare("direction 0 after 2 and Boltzmann", early, theory[2][0], 4)
     if asked.picture:
         draw(asked.picture, gas, means, errors, theory, names)
+
+
+if __name__ == "__main__":
+    common.experiment(main)

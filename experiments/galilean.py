@@ -24,33 +24,18 @@ def places(asked, momenta):
 
 
 def measured(asked, filling, seed):
-    rows, edge = (
-        asked.height,
-        asked.wave,
-    )  # within a wave's length walls act on the pressure: exp(-k y) = 1/200 at its end
-    lattice = fhpgas.draw_gas(
-        filling,
-        asked.wind,
-        np.resize(asked.across, asked.width),
-        size=fhpgas.Size(asked.width, rows),
-        gas=asked.gas,
-        seed=seed,
-    )
-    return places(
-        asked,
-        [
-            later.blocks(BLOCK, 1).py[edge : rows - edge].sum(0)
-            for later in lattice.every(STEP, PARTS)
-        ],
-    )
+    size, across = fhpgas.Size(asked.width, asked.height), np.resize(asked.across, asked.width)
+    lattice = fhpgas.draw_gas(filling, asked.wind, across, size=size, gas=asked.gas, seed=seed)
+    edge = asked.wave  # within it walls act on the pressure: exp(-k y) = 1/200 at its end
+    blocks = (later.blocks(BLOCK, 1) for later in lattice.every(STEP, PARTS))
+    return places(asked, [each.py[edge : asked.height - edge].sum(0) for each in blocks])
 
 
 def predicted(asked, filling):
     flow = boltzmann.Flow(asked.gas, np.zeros((2, asked.wave)), has_walls=False)
     states = flow.every(flow.at(filling, asked.wind, asked.across), STEP, PARTS)
-    return places(
-        asked, [flow.momentum(chances)[1].sum(0).reshape(-1, BLOCK).sum(1) for chances in states]
-    )
+    momenta = (flow.momentum(chances)[1].sum(0) for chances in states)
+    return places(asked, [each.reshape(-1, BLOCK).sum(1) for each in momenta])
 
 
 def draw(path, asked, waves):
@@ -66,44 +51,20 @@ def draw(path, asked, waves):
             ylabel="way of the wave, cells' widths",
             title=f"{asked.gas}, wind {asked.wind}, wave {asked.wave}",
         )
-        right.plot(
-            d, theory.galilean_factor(asked.gas, d), "0.6", lw=1, label="published, slow wind"
-        )
-        right.plot(
-            d,
-            theory.galilean_factor(asked.gas, d, asked.wind),
-            "k",
-            lw=1,
-            label="Fermi and Dirac, this wind",
-        )
+        slow, fast = (theory.galilean_factor(asked.gas, d, wind) for wind in (0, asked.wind))
+        right.plot(d, slow, "0.6", lw=1, label="published, slow wind")
+        right.plot(d, fast, "k", lw=1, label="Fermi and Dirac, this wind")
         right.set(xlabel="filling d", ylabel="Galilean factor g")
         left.legend(fontsize=8), right.legend(fontsize=8)
 
 
-@common.experiment
 def main():
-    reader = common.Options(
-        __doc__,
-        "fhp1",
-        "fhp-rest",
-        figure="the way of the waves, and g over the filling",
-        seeds=(8, 4),
-    )
-    reader.option(
-        "--filling",
-        common.number(0.05, 0.6),
-        [0.1, 0.2, 0.3, 0.4, 0.5],
-        [0.2, 0.5],
-        "fillings",
-        nargs="+",
-        metavar="D",
-    )
-    reader.option(
-        "--wind", common.number(0.02, 0.3), 0.2, 0.2, "the speed of the wind", metavar="U"
-    )
-    reader.option(
-        "--wave", common.whole(64, 4096), 128, 128, f"the length of the wave, a multiple of {BLOCK}"
-    )
+    figure = "the way of the waves, and g over the filling"
+    reader = common.Options(__doc__, "fhp1", "fhp-rest", figure=figure, seeds=(8, 4))
+    reader.fillings([0.2, 0.5])
+    speed, length = "the speed of the wind", f"the length of the wave, a multiple of {BLOCK}"
+    reader.option("--wind", common.number(0.02, 0.3), 0.2, 0.2, speed, metavar="U")
+    reader.option("--wave", common.whole(64, 4096), 128, 128, length)
     reader.option("--width", common.whole(64, 65536), 512, 512, "columns, a multiple of the wave")
     reader.option("--height", common.whole(256, 4096), 768, 512, "rows, more than two waves")
     asked, waves = reader.parse_args(), []
@@ -114,15 +75,15 @@ def main():
         )
     asked.across = ACROSS * np.sin(2 * np.pi * np.arange(asked.wave) / asked.wave)
     for filling in asked.filling:
-        runs = fhpgas.side_by_side(
-            lambda seed: measured(asked, filling, seed), range(1, asked.seeds + 1)
-        )
-        *found, expected = (
-            np.polyfit(TIMES, each, 1)[0] / asked.wind
-            for each in (*runs, predicted(asked, filling))
-        )
+        runs = common.runs(lambda seed: measured(asked, filling, seed), asked)
+        ways = *runs, predicted(asked, filling)
+        *found, expected = (np.polyfit(TIMES, way, 1)[0] / asked.wind for way in ways)
         common.compare(f"{asked.gas} d {filling}: g", found, expected, 4)
         print(f"{'':34} published {theory.galilean_factor(asked.gas, filling):19.4f}")
         waves.append((filling, *fhpgas.mean_and_error(runs), found))
     if asked.picture:
         draw(asked.picture, asked, waves)
+
+
+if __name__ == "__main__":
+    common.experiment(main)

@@ -68,19 +68,18 @@ def draw(path, asked, runs, kept, matrix):
         left.legend(), right.legend()
 
 
-@common.experiment
 def main():
     figure = "the correlation of the stress, and the spectrum of a wave of the density"
     reader = common.Options(__doc__, "fhp1", "fhp-rest", figure=figure, seeds=(8, 4))
-    reader.option("--filling", common.number(0.05, 0.6), 0.3, 0.3, "the filling d", metavar="D")
+    reader.filling(0.05, 0.6, 0.3)
     reader.option("--generations", common.whole(500, 1_000_000), 1000, 600, "in all")
     reader.option("--lags", common.whole(20, 100), 30, 20, "generations in the sum")
     asked = reader.parse_args()
-    nu, runs = theory.viscosity(asked.gas, asked.filling), range(1, asked.seeds + 1)
+    nu = theory.viscosity(asked.gas, asked.filling)
     kept, vectors = 1 - 1 / (4 * nu + 1 / 2), np.stack((0 * K, K), 1)
     matrices = boltzmann.generation_matrix(asked.gas, asked.filling, vectors)
     modes = -np.log([max(f[f.imag < -1e-9], key=abs) for f in np.linalg.eigvals(matrices)])
-    runs = fhpgas.side_by_side(lambda seed: measured(asked, seed), runs)
+    runs = common.runs(lambda seed: measured(asked, seed), asked)
     for lag in 1, 5, 20:
         shares = [correlations[lag] / correlations[0] for correlations, _ in runs]
         common.compare(f"stress after {lag}", shares, kept**lag, 4)
@@ -91,3 +90,7 @@ def main():
     common.compare("damping D", dampings, np.mean(modes.real / K**2))
     if asked.picture:
         draw(asked.picture, asked, runs, kept, matrices[0])
+
+
+if __name__ == "__main__":
+    common.experiment(main)

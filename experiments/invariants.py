@@ -24,55 +24,33 @@ def past_a_disc(gas, size, step):
 
 def stream(gas, size, step):
     east = np.where(np.arange(ROWS)[:, None] == MIDDLE, 0.3, 0)
-    lattice, found = (
-        fhpgas.draw_gas(0.2, east, size=fhpgas.Size(16 * size, ROWS), gas=gas, seed=1),
-        [],
-    )
-    print(
-        f"{gas}, a stream in one row: momentum eastwards of the rows {MIDDLE - 3} to"
-        f" {MIDDLE + 3}\ngeneration"
-    )
+    columns, found = 16 * size, []
+    lattice = fhpgas.draw_gas(0.2, east, size=fhpgas.Size(columns, ROWS), gas=gas, seed=1)
+    print(f"{gas}, a stream in one row: momentum eastwards of", end=" ")
+    print(f"the rows {MIDDLE - 3} to {MIDDLE + 3}\ngeneration")
     for later in lattice.every(step, 4):
-        found.append(later.gas.units[0] * later.blocks(16 * size, 1).px[:, 0])
-        print(
-            f"{later.generation:10}"
-            + "".join(f"{momentum:9.1f}" for momentum in found[-1][MIDDLE - 3 : MIDDLE + 4])
-        )
+        found.append(later.gas.units[0] * later.blocks(columns, 1).px[:, 0])
+        shown = found[-1][MIDDLE - 3 : MIDDLE + 4]
+        print(f"{later.generation:10}" + "".join(f"{momentum:9.1f}" for momentum in shown))
     return found
 
 
 def draw(path, momenta, streams, step):
     with common.axes(path, 1, 3, (4, 3.4)) as panels:
-        panels[0].plot(
-            momenta[:, 0],
-            momenta[:, 1:],
-            "o-",
-            ms=3,
-            lw=1,
-            label=("eastwards", "northwards", "staggered", "same", "same"),
-        )
-        panels[0].set(
-            xlabel="generations", ylabel="momentum", yscale="symlog", title="fhp1 past a disc"
-        ), panels[0].legend(fontsize=8)
+        label = "eastwards", "northwards", "staggered", "same", "same"
+        panels[0].plot(momenta[:, 0], momenta[:, 1:], "o-", ms=3, lw=1, label=label)
+        panels[0].set(xlabel="generations", ylabel="momentum", yscale="symlog")
+        panels[0].set_title("fhp1 past a disc")
+        panels[0].legend(fontsize=8)
+        heights = np.arange(ROWS)[::-1]
         for ax, (gas, found) in zip(panels[1:], streams.items()):
             for n, row in enumerate(found):
-                ax.plot(
-                    row,
-                    np.arange(ROWS)[::-1],
-                    f"C{n}o-",
-                    ms=3,
-                    lw=1,
-                    label=f"{n * step} generations",
-                )
-            ax.set(
-                xlabel="momentum eastwards of a row",
-                ylabel="row, from below",
-                title=f"{gas}, a stream in one row",
-            )
+                ax.plot(row, heights, f"C{n}o-", ms=3, lw=1, label=f"{n * step} generations")
+            ax.set(xlabel="momentum eastwards of a row", ylabel="row, from below")
+            ax.set_title(f"{gas}, a stream in one row")
             ax.legend(fontsize=8)
 
 
-@common.experiment
 def main():
     reader = common.Options(__doc__, figure="the momenta over time, and the streams")
     reader.option("--size", common.whole(16, 256), 128, 48, "columns and rows; even", metavar="N")
@@ -88,3 +66,7 @@ def main():
     streams = {gas: stream(gas, asked.size, step) for gas in ("hpp", "fhp1")}
     if asked.picture:
         draw(asked.picture, momenta, streams, step)
+
+
+if __name__ == "__main__":
+    common.experiment(main)

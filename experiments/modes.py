@@ -74,20 +74,23 @@ def draw(path, asked, waves, found):
         left.legend(fontsize=8)
 
 
-@common.experiment
 def main():
     reader = common.Options(__doc__, "fhp1", "fhp-rest", figure="all modes' rates", seeds=(8, 4))
     reader.chirality()
-    reader.option("--filling", common.number(0.05, 0.9), 0.3, 0.3, "the filling d", metavar="D")
-    rows = dict(nargs="+", metavar="ROWS")
-    reader.option("--height", common.whole(4, 256), [4, 8, 16, 32, 64], [8, 16], "rows", **rows)
+    reader.filling(0.05, 0.9, 0.3)
+    rows = [4, 8, 16, 32, 64]
+    reader.option("--height", common.whole(4, 256), rows, [8, 16], "rows", metavar="ROWS")
     asked, found = reader.parse_args(), []
     waves = [Wave(asked, rows) for rows in asked.height]
     for wave in waves:
-        runs = fhpgas.side_by_side(wave.measured, range(1, asked.seeds + 1))
+        runs = common.runs(wave.measured, asked)
         columns = zip(NAMES, zip(*runs), wave.numbers())
         found.append([common.compare(f"{wave.size[1]} rows: {n}", *each) for n, *each in columns])
     at, most = zone(asked, 48)
     print("waves that never fade:", *(f"({x:.3f}, {y:.3f})" for x, y in at[most > 1 - 1e-9]))
     if asked.picture:
         draw(asked.picture, asked, waves, found)
+
+
+if __name__ == "__main__":
+    common.experiment(main)

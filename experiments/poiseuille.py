@@ -15,6 +15,7 @@ from fhpgas import boltzmann, theory
 from fhpgas.gases import DRIVES
 
 SPAN = 8  # relaxation times, until the flow is steady
+NAMES = "viscosity", "slip K", "odd viscosity"
 
 
 class Channel:
@@ -26,21 +27,15 @@ class Channel:
         self.chirality, self.along = asked.chirality, asked.along
         self.size = fhpgas.Size(asked.cells // rows, rows)
         self.mass = self.gas.directions * asked.filling
-        flow, self.places = (self.gas, self.filling, self.chirality), (rows - 1) / 2 - np.arange(
-            rows
-        )
-        zero, viscosity = self.gas.row_distance**2 * (
-            rows**2 / 4 + theory.slip(*flow, self.along)
-        ), theory.viscosity(*flow)
-        self.force, time = (
-            2 * self.mass * viscosity * asked.speed / zero,
-            4 * zero / np.pi**2 / viscosity,
-        )
+        self.places = (rows - 1) / 2 - np.arange(rows)
+        flow = self.gas, self.filling, self.chirality
+        zero = self.gas.row_distance**2 * (rows**2 / 4 + theory.slip(*flow, self.along))
+        viscosity = theory.viscosity(*flow)
+        self.force = 2 * self.mass * viscosity * asked.speed / zero
+        time = 4 * zero / np.pi**2 / viscosity
         self.every = int(np.clip(time / 16, 1, 4))
-        self.settled, self.last = (
-            self.every * int(spans * time / self.every)
-            for spans in (SPAN, SPAN * (1 + asked.spans))
-        )
+        self.settled = self.every * int(SPAN * time / self.every)
+        self.last = self.every * int(SPAN * (1 + asked.spans) * time / self.every)
 
     def fits(self, flows, densities):
         """The viscosity, the slip K and the odd viscosity, from the rows' velocities and
@@ -48,42 +43,28 @@ class Channel:
         bend, middle = np.polyfit(self.places**2, flows, 1)
         if bend >= 0 or middle <= 0:
             raise fhpgas.Fault("the flow is not fastest in the middle: take more cells or seeds")
-        bent, rise = (
-            bend / self.gas.row_distance**2,
-            np.polyfit(self.gas.row_distance * self.places, densities, 1)[0],
-        )
+        bent = bend / self.gas.row_distance**2
+        rise = np.polyfit(self.gas.row_distance * self.places, densities, 1)[0]
         odd = -rise / self.mass * theory.sound_speed(self.gas) ** 2 / (2 * bent)
         return -self.force / (2 * bent * self.mass), -middle / bend - self.rows**2 / 4, odd
 
     def measured(self, seed):
-        lattice = fhpgas.draw_gas(
-            self.filling, size=self.size, gas=self.gas, chirality=self.chirality, seed=seed
-        )
+        flow = dict(gas=self.gas, chirality=self.chirality, seed=seed)
+        lattice, blocks = fhpgas.draw_gas(self.filling, size=self.size, **flow), []
         drive = dict(force=self.force, along=self.along, seed=seed)
-        points = lattice.driven(self.last, self.every, **drive)
-        steady = (
-            each
-            for point in points
-            if point.before.generation > self.settled
-            for each in (point.before, point.after)
-        )
-        blocks = [each.blocks(self.size[0], 1) for each in steady]
+        for point in lattice.driven(self.last, self.every, **drive):
+            if point.before.generation > self.settled:
+                pair = point.before, point.after
+                blocks += [each.blocks(self.size.columns, 1) for each in pair]
         total = sum(blocks[1:], blocks[0])
-        return total.east[:, 0], total.particles[:, 0] / len(blocks) / self.size[0]
+        return total.east[:, 0], total.particles[:, 0] / len(blocks) / self.size.columns
 
     def predicted(self):
         flow = boltzmann.Flow(self.gas, np.zeros((self.rows, 1)), self.chirality)
-        *_, last = flow.driven(
-            flow.at(self.filling),
-            2 * self.settled // self.every,
-            self.every,
-            self.force,
-            self.along,
-        )
-        return (
-            np.mean([flow.velocity(chances)[0, :, 0] for chances in last], 0),
-            flow.density(last[0])[:, 0],
-        )
+        points, drive = 2 * self.settled // self.every, (self.every, self.force, self.along)
+        *_, last = flow.driven(flow.at(self.filling), points, *drive)
+        speeds = [flow.velocity(chances)[0, :, 0] for chances in last]
+        return np.mean(speeds, 0), flow.density(last[0])[:, 0]
 
 
 def draw(path, asked, channel, profiles, slips):
@@ -95,89 +76,48 @@ def draw(path, asked, channel, profiles, slips):
         left.errorbar(mean, channel.places, xerr=error, fmt="C0.", label="measured")
         for side in (-1, 1):
             left.axhspan(side * channel.rows / 2, side * (fine[-1] + 1), color="0.8")
-        left.set(
-            xlabel="velocity eastwards",
-            ylabel="rows from the middle",
-            title=f"{asked.gas} {asked.chirality}, d = {asked.filling}",
-        )
-        middle.errorbar(
-            1e4 * (mean - line(channel.places**2)), channel.places, xerr=1e4 * error, fmt="C0."
-        )
-        middle.axvline(0, color="C1", lw=1), middle.set(
-            xlabel="(velocity − parabola) × 10⁴", title=f"{channel.rows} rows, {asked.seeds} seeds"
-        )
+        left.set(xlabel="velocity eastwards", ylabel="rows from the middle")
+        left.set_title(f"{asked.gas} {asked.chirality}, d = {asked.filling}")
+        rest = mean - line(channel.places**2)
+        middle.errorbar(1e4 * rest, channel.places, xerr=1e4 * error, fmt="C0.")
+        middle.axvline(0, color="C1", lw=1)
+        middle.set_xlabel("(velocity − parabola) × 10⁴")
+        middle.set_title(f"{channel.rows} rows, {asked.seeds} seeds")
         right.errorbar(asked.height, *zip(*slips), fmt="C0o", ms=3, label="measured")
-        right.axhline(
-            theory.slip(asked.gas, asked.filling, asked.chirality, asked.along),
-            color="C1",
-            lw=1,
-            label="formula",
-        )
-        right.set(
-            xlabel="rows H", ylabel="zero² − H²/4, squared rows", ylim=(0, None), title="slip K"
-        )
+        formula = theory.slip(asked.gas, asked.filling, asked.chirality, asked.along)
+        right.axhline(formula, color="C1", lw=1, label="formula")
+        right.set(xlabel="rows H", ylabel="zero² − H²/4, squared rows", ylim=(0, None))
+        right.set_title("slip K")
         left.legend(fontsize=8), right.legend(fontsize=8)
 
 
-@common.experiment
 def main():
-    reader = common.Options(
-        __doc__,
-        "fhp1",
-        "fhp-rest",
-        figure="the profile with its parabola, what is left, and the slip",
-        seeds=(8, 4),
-    )
+    figure = "the profile with its parabola, what is left, and the slip"
+    reader = common.Options(__doc__, "fhp1", "fhp-rest", figure=figure, seeds=(8, 4))
     reader.chirality()
     reader.option("--along", str, *DRIVES[:1] * 2, "what the force turns", choices=DRIVES)
-    reader.option("--filling", common.number(0.1, 0.6), 0.3, 0.3, "the filling d", metavar="D")
-    reader.option(
-        "--height",
-        common.whole(4, 128),
-        [8, 16, 32],
-        [8],
-        "rows, one or more",
-        nargs="+",
-        metavar="ROWS",
-    )
-    reader.option(
-        "--cells",
-        common.whole(4096, 4_000_000),
-        65_536,
-        16_384,
-        "of the channel, so columns are cells / rows",
-    )
-    reader.option(
-        "--speed",
-        common.number(0.01, 0.2),
-        0.08,
-        0.08,
-        "in the middle, as theory says",
-        metavar="U",
-    )
-    reader.option(
-        "--spans",
-        common.whole(1, 1000),
-        2,
-        3,
-        f"time of the samples, each {SPAN} times the time in which a flow relaxes",
-    )
+    reader.filling(0.1, 0.6, 0.3)
+    rows, cells = "rows, one or more", "of the channel, so columns are cells / rows"
+    time = f"time of the samples, each {SPAN} times the time in which a flow relaxes"
+    speed = "in the middle, as theory says"
+    reader.option("--height", common.whole(4, 128), [8, 16, 32], [8], rows, metavar="ROWS")
+    reader.option("--cells", common.whole(4096, 4_000_000), 65_536, 16_384, cells)
+    reader.option("--speed", common.number(0.01, 0.2), 0.08, 0.08, speed, metavar="U")
+    reader.option("--spans", common.whole(1, 1000), 2, 3, time)
     asked, slips = reader.parse_args(), []
     for channel in (Channel(asked, rows) for rows in asked.height):
-        profiles = fhpgas.side_by_side(channel.measured, range(1, asked.seeds + 1))
-        fits, expected = zip(*(channel.fits(*each) for each in profiles)), channel.fits(
-            *channel.predicted()
-        )
-        names = "viscosity", "slip K", "odd viscosity"
-        slips.append(
-            [
-                common.compare(f"{channel.rows} rows: {name}", *each)
-                for name, *each in zip(names, fits, expected)
-            ][1]
-        )
+        profiles = common.runs(channel.measured, asked)
+        fits = zip(*(channel.fits(*each) for each in profiles))
+        columns = zip(NAMES, fits, channel.fits(*channel.predicted()))
+        found = [common.compare(f"{channel.rows} rows: {n}", *each) for n, *each in columns]
+        slips.append(found[1])
     flow = asked.gas, asked.filling, asked.chirality
     formulas = theory.viscosity(*flow), theory.slip(*flow, asked.along), theory.odd_viscosity(*flow)
-    for name, value in zip(names, formulas):
+    for name, value in zip(NAMES, formulas):
         print(f"formula: {name} {round(value, 3) + 0.0:.3f}")
     if asked.picture:
         draw(asked.picture, asked, channel, profiles, slips)
+
+
+if __name__ == "__main__":
+    common.experiment(main)

@@ -19,12 +19,10 @@ EVERY = 9
 
 def measured(asked, solid, force, seed):
     lattice = fhpgas.draw_gas(asked.filling, solid=solid, gas=asked.gas, seed=seed)
-    points = [
-        *lattice.driven(EVERY * (asked.settled + asked.samples), EVERY, force=force, seed=seed)
-    ]
-    return np.mean([point.velocity for point in points[asked.settled + 1 :]]) * np.mean(
-        ~solid
-    ), points[-1].before.blocks(4, 4)
+    last = EVERY * (asked.settled + asked.samples)
+    points = [*lattice.driven(last, EVERY, force=force, seed=seed)]
+    speed = np.mean([point.velocity for point in points[asked.settled + 1 :]])
+    return speed * np.mean(~solid), points[-1].before.blocks(4, 4)
 
 
 def predicted(asked, solid, force):
@@ -36,80 +34,52 @@ def predicted(asked, solid, force):
 
 def draw(path, asked, fluxes, slope, blocks):
     with common.axes(path, 1, 2, (4.6, 3.6)) as (left, right):
-        left.plot(
-            (0, max(asked.force)),
-            (0, slope * max(asked.force)),
-            "C1",
-            lw=1,
-            label="Darcy, Boltzmann's permeability",
-        )
+        forces = np.array([0, max(asked.force)])
+        left.plot(forces, slope * forces, "C1", lw=1, label="Darcy, Boltzmann's permeability")
         left.errorbar(asked.force, *zip(*fluxes), fmt="C0o", ms=3, label="measured")
-        left.set(
-            xlabel="force per fluid cell",
-            ylabel="flux",
-            title=f"{asked.gas}, d = {asked.filling}, {asked.seeds} seeds",
-        )
+        left.set(xlabel="force per fluid cell", ylabel="flux")
+        left.set_title(f"{asked.gas}, d = {asked.filling}, {asked.seeds} seeds")
         left.ticklabel_format(axis="x", scilimits=(0, 0)), left.legend(fontsize=8)
         blocks.plot("speed", right)
 
 
-@common.experiment
+def medium(asked):
+    """Discs at random places, and the pores between them that are not joined to the largest."""
+    size = fhpgas.Size(asked.width, asked.height)
+    solid = fhpgas.porous(size, asked.share, asked.radius, 1, asked.gas)
+    pores, _ = label(~solid)
+    # In closed pores the force would act against nothing.
+    return solid | (pores != np.bincount(pores[~solid]).argmax())
+
+
 def main():
-    reader = common.Options(
-        __doc__,
-        "fhp-rest",
-        "fhp1",
-        figure="the flux over the force, and the flow through the medium",
-        seeds=(8, 4),
-    )
-    reader.option("--filling", common.number(0.1, 0.6), 0.2, 0.2, "the filling d", metavar="D")
+    figure = "the flux over the force, and the flow through the medium"
+    reader = common.Options(__doc__, "fhp-rest", "fhp1", figure=figure, seeds=(8, 4))
+    reader.filling(0.1, 0.6, 0.2)
     reader.option("--width", common.whole(16, 4096), 128, 80, "columns")
     reader.option("--height", common.whole(16, 4096), 96, 32, "rows")
     reader.option("--share", common.number(0, 0.7), 0.2, 0.2, "of solid cells, at least")
     reader.option("--radius", common.whole(1, 64), 6, 4, "of the discs")
-    reader.option(
-        "--force",
-        common.number(1e-5, 0.02),
-        [0.0005, 0.001, 0.002],
-        [0.002],
-        "on each fluid cell",
-        nargs="+",
-        metavar="F",
-    )
-    reader.option(
-        "--settled",
-        common.whole(10, 10_000),
-        30,
-        15,
-        f"turnings before the first sample, {EVERY} generations apart",
-    )
-    reader.option(
-        "--samples", common.whole(2, 100_000), 200, 85, "how many, at the turnings after these"
-    )
+    forces, turnings = [0.0005, 0.001, 0.002], f"turnings before the first sample, {EVERY}"
+    each, after = "on each fluid cell", "how many, at the turnings after these"
+    reader.option("--force", common.number(1e-5, 0.02), forces, [0.002], each, metavar="F")
+    reader.option("--settled", common.whole(10, 10_000), 30, 15, f"{turnings} generations apart")
+    reader.option("--samples", common.whole(2, 100_000), 200, 85, after)
     asked, fluxes = reader.parse_args(), []
-    solid = fhpgas.porous(
-        fhpgas.Size(asked.width, asked.height), asked.share, asked.radius, 1, asked.gas
-    )
-    pores, _ = label(~solid)
-    solid |= (
-        pores != np.bincount(pores[~solid]).argmax()
-    )  # in closed pores the force would act against nothing
+    solid = medium(asked)
     print(f"porosity {np.mean(~solid):.3f}")
-    unit = (
-        theory.viscosity(asked.gas, asked.filling)
-        * fhpgas.gas_named(asked.gas).directions
-        * asked.filling
-    )
+    viscosity = theory.viscosity(asked.gas, asked.filling)
+    unit = viscosity * fhpgas.gas_named(asked.gas).directions * asked.filling
     theories = fhpgas.side_by_side(lambda force: predicted(asked, solid, force), asked.force)
     for force, expected in zip(asked.force, theories):
-        found, blocks = zip(
-            *fhpgas.side_by_side(
-                lambda seed: measured(asked, solid, force, seed), range(1, asked.seeds + 1)
-            )
-        )
-        common.compare(
-            f"force {force}: permeability", unit / force * np.array(found), unit / force * expected
-        )
+        runs = common.runs(lambda seed: measured(asked, solid, force, seed), asked)
+        found, blocks = zip(*runs)
+        scale = unit / force
+        common.compare(f"force {force}: permeability", scale * np.array(found), scale * expected)
         fluxes.append(fhpgas.mean_and_error(found))
     if asked.picture:
         draw(asked.picture, asked, fluxes, theories[0] / asked.force[0], sum(blocks[1:], blocks[0]))
+
+
+if __name__ == "__main__":
+    common.experiment(main)

@@ -16,12 +16,8 @@ def letter(gas, size, seed=1):
     """A dense letter L in a thin gas."""
     (y, x), lines, arm = np.ogrid[:size, :size], size // 3, size // 8
     is_inside = (lines <= x) & (x < 2 * lines) & (lines <= y) & (y < 2 * lines)
-    return fhpgas.draw_gas(
-        np.where(is_inside & ((x < lines + arm) | (y >= 2 * lines - arm)), 0.8, 0.05),
-        gas=gas,
-        chirality="left",
-        seed=seed,
-    )
+    is_letter = is_inside & ((x < lines + arm) | (y >= 2 * lines - arm))
+    return fhpgas.draw_gas(np.where(is_letter, 0.8, 0.05), gas=gas, chirality="left", seed=seed)
 
 
 def turned(lattice):
@@ -38,61 +34,42 @@ def differing(one, other):
 
 
 def draw(path, shown, growth):
+    titles = "start", "before the way back", "back, all turned", "back, one not turned"
+    look = dict(block=(2, 2), vmin=0, vmax=shown[0].gas.directions / 2, colorbar=False)
+    times, numbers, most = zip(*growth)
     with common.axes(path, 1, 5, (3.2, 3.2)) as panels:
-        for ax, lattice, title in zip(
-            panels,
-            shown,
-            ("start", "before the way back", "back, all turned", "back, one not turned"),
-        ):
-            lattice.plot(
-                "density", ax, block=(2, 2), vmin=0, vmax=lattice.gas.directions / 2, colorbar=False
-            )
+        for ax, lattice, title in zip(panels, shown, titles):
+            lattice.plot("density", ax, **look)
             ax.set_title(title)
-        panels[-1].loglog(
-            *zip(*((time, most) for time, _, most in growth)),
-            "C1",
-            lw=1,
-            label="cone of one cell per generation",
-        )
-        panels[-1].loglog(
-            *zip(*((time, number) for time, number, _ in growth)), "C0o-", ms=3, label="measured"
-        )
+        panels[-1].loglog(times, most, "C1", lw=1, label="cone of one cell per generation")
+        panels[-1].loglog(times, numbers, "C0o-", ms=3, label="measured")
         panels[-1].set(xlabel="generations", title="cells that differ")
         panels[-1].legend(fontsize=8, loc="upper left")
 
 
-@common.experiment
 def main():
-    reader = common.Options(
-        __doc__,
-        "fhp1",
-        "fhp-rest",
-        "hpp",
-        figure="the density of the four states, and the growth of a difference",
-    )
+    figure = "the density of the four states, and the growth of a difference"
+    reader = common.Options(__doc__, "fhp1", "fhp-rest", "hpp", figure=figure)
     reader.option("--size", common.whole(40, 2048), 256, 64, "columns and rows")
     reader.option("--generations", common.whole(1, 10_000), 200, 60, "each way")
     asked = reader.parse_args()
     start = letter(asked.gas, asked.size)
     shown = [start, late := start.run(asked.generations)]
-    print(
-        f"{start.particles} particles in {asked.size**2} cells; there and back {asked.generations}"
-        " generations each"
-    )
+    print(f"{start.particles} particles in {asked.size**2} cells;", end=" ")
+    print(f"there and back {asked.generations} generations each")
     for name, lattice in (("all particles turned", late), ("and one of them not", turned(late))):
         shown.append(lattice.reverse().run(asked.generations).reverse())
         print(f"{name}: {differing(start, shown[-1])} cells differ from the start")
     other, sides = turned(start), 2 if asked.gas == "hpp" else 3
     print("generations  cells that differ    most")
-    growth = [
-        (
-            time,
-            differing(start.run(time), other.run(time)),
-            min(asked.size**2, 1 + sides * time * (time + 1)),
-        )
-        for time in TIMES
-    ]
-    for time, number, most in growth:
-        print(f"{time:11}{number:19}{most:8}")
+    growth = []
+    for time in TIMES:
+        number = differing(start.run(time), other.run(time))
+        growth.append((time, number, min(asked.size**2, 1 + sides * time * (time + 1))))
+        print("{:11}{:19}{:8}".format(*growth[-1]))
     if asked.picture:
         draw(asked.picture, shown, growth)
+
+
+if __name__ == "__main__":
+    common.experiment(main)

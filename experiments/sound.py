@@ -20,14 +20,11 @@ def wave(asked, is_diagonal):
     """The wave number, and the shape of the wave in the cells [y, x], or in the rows [y, 1] if it
     does not vary along x."""
     rows = asked.height
-    k, shape = np.pi / rows / fhpgas.gas_named(asked.gas).row_distance, np.cos(
-        np.pi * (np.arange(rows)[:, None] + 0.5) / rows
-    )
-    return (
-        (np.sqrt(2) * k, shape * np.cos(np.pi * np.arange(2 * rows) / rows))
-        if is_diagonal
-        else (k, shape)
-    )
+    k = np.pi / rows / fhpgas.gas_named(asked.gas).row_distance
+    shape = np.cos(np.pi * (np.arange(rows)[:, None] + 0.5) / rows)
+    if is_diagonal:
+        return np.sqrt(2) * k, shape * np.cos(np.pi * np.arange(2 * rows) / rows)
+    return k, shape
 
 
 def swing(t, frequency, rate, a, b):
@@ -40,12 +37,8 @@ def fit(values, k):
 
 def measured(asked, shape, seed):
     width = asked.width if shape.shape[1] == 1 else shape.shape[1]
-    lattice = fhpgas.draw_gas(
-        asked.filling * (1 + AMPLITUDE * shape),
-        size=fhpgas.Size(width, len(shape)),
-        gas=asked.gas,
-        seed=seed,
-    )
+    filling, size = asked.filling * (1 + AMPLITUDE * shape), fhpgas.Size(width, len(shape))
+    lattice = fhpgas.draw_gas(filling, size=size, gas=asked.gas, seed=seed)
     blocks = (later.blocks(width // shape.shape[1], 1) for later in lattice.every(STEP, SAMPLES))
     return [(shape * each.density).sum() / (shape**2).sum() for each in blocks]
 
@@ -59,53 +52,35 @@ def predicted(asked, shape):
 def draw(path, mean, error, k, name):
     fine, best = np.linspace(0, TIMES[-1], 1000), fit(mean, k)
     with common.axes(path, 2, 1, (7, 2.4), sharex=True) as (above, below):
-        above.plot(
-            fine,
-            swing(fine, *best),
-            "C1",
-            lw=1,
-            label=f"fit: c = {best[0] / k:.4f}, D = {best[1] / k**2:.3f}",
-        )
+        label = f"fit: c = {best[0] / k:.4f}, D = {best[1] / k**2:.3f}"
+        above.plot(fine, swing(fine, *best), "C1", lw=1, label=label)
         above.plot(fine, np.exp(-best[1] * fine) * np.hypot(*best[2:]), "C1:", lw=1)
         above.plot(TIMES, mean, "C0.", label="measured")
-        above.set(
-            ylabel="amplitude of the density", title=f"standing sound wave, {name}"
-        ), above.legend(loc="lower right")
+        above.set(ylabel="amplitude of the density", title=f"standing sound wave, {name}")
+        above.legend(loc="lower right")
         below.errorbar(TIMES, mean - swing(TIMES, *best), error, fmt="C0.", lw=0.7)
         below.axhline(0, color="C1", lw=1)
         below.set(xlabel="generations", ylabel="measured − fit")
 
 
-@common.experiment
 def main():
-    reader = common.Options(
-        __doc__,
-        "fhp1",
-        "fhp-rest",
-        "hpp",
-        figure="the swinging amplitude with its fit",
-        seeds=(40, 4),
-    )
-    reader.option("--filling", common.number(0.05, 0.9), 0.3, 0.3, "the filling d", metavar="D")
+    figure = "the swinging amplitude with its fit"
+    reader = common.Options(__doc__, "fhp1", "fhp-rest", "hpp", figure=figure, seeds=(40, 4))
+    reader.filling(0.05, 0.9, 0.3)
     reader.option("--height", common.whole(16, 512), 128, 32, "rows")
     reader.option("--width", common.whole(256, 65536), 2048, 2048, "columns")
     asked = reader.parse_args()
     for is_diagonal in (False, True) if asked.gas == "hpp" else (False,):
         k, shape = wave(asked, is_diagonal)
-        runs = fhpgas.side_by_side(
-            lambda seed: measured(asked, shape, seed), range(1, asked.seeds + 1)
-        )
-        name, fits, theory = (
-            "diagonal" if is_diagonal else "upwards",
-            [fit(values, k) for values in runs],
-            fit(predicted(asked, shape), k),
-        )
+        runs = common.runs(lambda seed: measured(asked, shape, seed), asked)
+        fits, theory = [fit(values, k) for values in runs], fit(predicted(asked, shape), k)
+        name = "diagonal" if is_diagonal else "upwards"
         common.compare(f"speed of sound {name}", [each[0] / k for each in fits], theory[0] / k, 4)
         common.compare(f"damping D {name}", [each[1] / k**2 for each in fits], theory[1] / k**2)
         if asked.picture and not is_diagonal:
-            draw(
-                asked.picture,
-                *fhpgas.mean_and_error(runs),
-                k,
-                f"{asked.gas}, d = {asked.filling}, {asked.height} rows, {asked.seeds} seeds",
-            )
+            title = f"{asked.gas}, d = {asked.filling}, {asked.height} rows, {asked.seeds} seeds"
+            draw(asked.picture, *fhpgas.mean_and_error(runs), k, title)
+
+
+if __name__ == "__main__":
+    common.experiment(main)

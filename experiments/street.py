@@ -24,42 +24,32 @@ class Street:
         self.radius, self.across, self.part = asked.radius, 2 * asked.radius, asked.part
         rows = 2 * round(asked.height * self.radius / fhpgas.gas_named(GAS).row_distance)
         self.size = fhpgas.Size(round(asked.length * self.across), rows)
-        column, row = round(2.5 * self.across), self.size[1] // 2
-        X, Y = fhpgas.positions(self.size, GAS)
-        self.places = lambda x, y: (
-            (x - X[row, column]) / self.across,
-            (y - Y[row, 0]) / self.across,
-        )
-        x, y = self.places(X, Y)
-        gust, solid = asked.flow / 2 * np.exp(-((x - 2) ** 2) - y**2), fhpgas.disc(
-            self.size, column, row, self.radius, GAS
-        )
-        lattice = fhpgas.draw_gas(FILLING, asked.flow, gust, solid=solid, gas=GAS, seed=asked.seed)
+        column, row = round(2.5 * self.across), rows // 2
+        x, y = fhpgas.positions(self.size, GAS)
+        self.middle = x[row, column], y[row, 0]
+        x, y = self.places(x, y)
+        gust = asked.flow / 2 * np.exp(-((x - 2) ** 2) - y**2)
+        solid = fhpgas.disc(self.size, column, row, self.radius, GAS)
+        start = fhpgas.draw_gas(FILLING, asked.flow, gust, solid=solid, gas=GAS, seed=asked.seed)
+        drive = dict(flow=asked.flow, seed=asked.seed)
         samples, self.fields = [], 0.0
-        for point in lattice.driven(
-            asked.generations, asked.part, flow=asked.flow, seed=asked.seed
-        ):
-            if 3 * point.before.generation >= asked.generations:
-                samples.append(
-                    (
-                        point.before.generation,
-                        point.velocity,
-                        *self.sampled(point.before.blocks(*BLOCK)),
-                    )
-                )
-        self.last, (self.times, self.speeds, self.incoming, self.sides) = (
-            point.before,
-            np.array(samples).T,
-        )
+        for point in start.driven(asked.generations, asked.part, **drive):
+            self.last, time = point.before, point.before.generation
+            if 3 * time >= asked.generations:
+                sample = self.sampled(self.last.blocks(*BLOCK))
+                samples.append((time, point.velocity, *sample))
+        self.times, self.speeds, self.incoming, self.sides = np.array(samples).T
+
+    def places(self, x, y):
+        return (x - self.middle[0]) / self.across, (y - self.middle[1]) / self.across
 
     def sampled(self, blocks):
         """The speed that meets the disc and the flow across in the wake. Adds to the fields: the
         speed, the squared vorticity by sign."""
         self.x, self.y = self.places(*blocks.positions)
         curl = np.nan_to_num(blocks.smooth(2).vorticity)
-        self.fields = self.fields + np.array(
-            [blocks.east, np.maximum(0, -curl) ** 2, np.maximum(0, curl) ** 2]
-        )
+        by_sign = np.maximum(0, -curl) ** 2, np.maximum(0, curl) ** 2
+        self.fields = self.fields + np.array([blocks.east, *by_sign])
         wake = blocks.north[abs(self.y) < 0.25][:, (self.x > 1) & (self.x < 2)].mean()
         return blocks.east[abs(self.y) < 0.5][:, (self.x > -2.5) & (self.x < -1.5)].mean(), wake
 
@@ -85,40 +75,35 @@ def report(street, times):
     is_fast = street.incoming.mean() * theory.galilean_factor(GAS, FILLING) * scale >= FIRST
     is_street = is_fast and len(halves) > 2
     if is_street:
-        print(
-            "half a period, mean of {}: {:.0f} +- {:.0f} generations".format(
-                len(halves), *fhpgas.mean_and_error(halves)
-            )
-        )
+        mean, error = fhpgas.mean_and_error(halves)
+        print(f"half a period, mean of {len(halves)}: {mean:.0f} +- {error:.0f} generations")
     for name, speeds in (("mean", street.speeds), ("incoming", street.incoming)):
         u, (first, *_, last) = speeds.mean(), (part.mean() for part in np.array_split(speeds, 4))
-        print(
-            f"{name} speed {u:.3f}, first {first:.3f}, at last {last:.3f}, Mach"
-            f" {u / theory.sound_speed(GAS):.2f}"
-        )
-        for wind in (0, u):
+        print(f"{name} speed {u:.3f}, first {first:.3f}, at last {last:.3f},", end=" ")
+        print(f"Mach {u / theory.sound_speed(GAS):.2f}")
+        for wind, kind in ((0, "slow flow"), (u, "flow across this wind")):
             g = theory.galilean_factor(GAS, FILLING, wind)
-            kind, reynolds, end = (
-                "flow across this wind" if wind else "slow flow",
-                g * u * scale,
-                "\n" * (not is_street),
-            )
-            print(f"    g of a {kind} {g:.3f}: Reynolds {reynolds:.0f}", end=end)
-            if is_street:
-                during = [
-                    speeds[(street.times >= a) & (street.times <= b)].mean()
-                    for a, b in zip(times, times[1:])
-                ]
-                numbers = *fhpgas.mean_and_error(street.radius / (halves * g * during)), 0.212 * (
-                    1 - 21.2 / reynolds
-                )
-                print(", Strouhal {:.3f} +- {:.3f}, a free cylinder's {:.3f}".format(*numbers))
-    if not is_street:
-        return print(
-            "no vortex street yet"
-            if is_fast
-            else f"no vortex street is expected below Reynolds {FIRST}"
-        )
+            reynolds = g * u * scale
+            print(f"    g of a {kind} {g:.3f}: Reynolds {reynolds:.0f}", end="")
+            print(strouhal(street, times, g * speeds, reynolds) if is_street else "")
+    if is_street:
+        heights(street)
+    elif is_fast:
+        print("no vortex street yet")
+    else:
+        print(f"no vortex street is expected below Reynolds {FIRST}")
+
+
+def strouhal(street, times, speeds, reynolds):
+    """The number St of each half period with the speed during it, as the end of a line."""
+    halves = zip(times, times[1:])
+    during = [speeds[(street.times >= a) & (street.times <= b)].mean() for a, b in halves]
+    mean, error = fhpgas.mean_and_error(street.radius / (np.diff(times) * during))
+    free = 0.212 * (1 - 21.2 / reynolds)
+    return f", Strouhal {mean:.3f} +- {error:.3f}, a free cylinder's {free:.3f}"
+
+
+def heights(street):
     print("heights of the vortices, in radii: clockwise, counter-clockwise")
     for behind in (1, 2, 4, 6, 8, 10, 12):
         print("{:3} D behind {:+6.2f} {:+6.2f}".format(behind, *street.heights(behind)))
@@ -126,70 +111,51 @@ def report(street, times):
 
 def draw(path, street, times):
     tall = 1 + 6.5 * street.size[1] / street.size[0]  # inches, for cells of the true shape
-    with common.axes(path, 3, 1, (9, (tall + 4) / 3), height_ratios=(tall, 2, 2)) as (
-        field,
-        wake,
-        ahead,
-    ):
-        most = 3 * street.incoming.mean() / street.across
+    most = 3 * street.incoming.mean() / street.across
+    with common.axes(path, 3, 1, (9, (tall + 4) / 3), height_ratios=(tall, 2, 2)) as panels:
+        field, wake, ahead = panels
         street.last.plot("vorticity", field, block=BLOCK, smooth=2, vmin=-most, vmax=most)
-        field.set_title(
-            f"{GAS}, d = {FILLING}, disc of {street.across} cells, generation"
-            f" {street.last.generation}"
-        )
+        title = f"{GAS}, d = {FILLING}, disc of {street.across} cells"
+        field.set_title(f"{title}, generation {street.last.generation}")
         wake.plot(street.times, street.sides, "C0", lw=1)
         wake.plot(times, np.full(len(times), street.sides.mean()), "C1.", label="changes of sign")
         wake.set(xlabel="generations", ylabel="flow across\nin the wake")
-        profile = street.fields[0][:, (street.x > -2.5) & (street.x < -1.5)].mean(1) / len(
-            street.times
-        )
-        ahead.plot(street.y, profile, "C0", lw=1, label="1 to 2 D ahead of the disc")
-        ahead.axhline(
-            street.speeds.mean(), color="0.5", lw=1, label="mean of the channel"
-        ), ahead.axvspan(-0.5, 0.5, color="0.9")
+        profile = street.fields[0][:, (street.x > -2.5) & (street.x < -1.5)].mean(1)
+        label = "1 to 2 D ahead of the disc"
+        ahead.plot(street.y, profile / len(street.times), "C0", lw=1, label=label)
+        ahead.axhline(street.speeds.mean(), color="0.5", lw=1, label="mean of the channel")
+        ahead.axvspan(-0.5, 0.5, color="0.9")
         ahead.set(xlabel="height from the disc's middle, D", ylabel="speed eastwards")
         wake.legend(fontsize=8), ahead.legend(fontsize=8)
 
 
-@common.experiment
 def main():
-    reader = common.Options(
-        __doc__,
-        figure="the vorticity at the end, the flow across in the wake, and the profile that meets"
-        " the disc",
-    )
+    figure = "the vorticity at the end, the flow across in the wake, and the profile that meets"
+    reader = common.Options(__doc__, figure=f"{figure} the disc")
     reader.option("--radius", common.whole(8, 400), 80, 16, "of the disc, in cells")
     reader.option("--height", common.number(2, 50), 5.5, 5.5, "of the channel, in diameters")
     reader.option("--length", common.number(6, 100), 20, 20, "of the channel, in diameters")
     reader.option("--flow", common.number(0.02, 0.35), 0.3, 0.15, "the mean speed", metavar="U")
-    reader.option(
-        "--generations",
-        common.whole(100, 10_000_000),
-        60_000,
-        1500,
-        "in all, a multiple of the part",
-    )
-    reader.option(
-        "--part",
-        common.whole(10, 10_000),
-        200,
-        50,
-        "generations from one turning of particles to the next",
-    )
+    generations, text = common.whole(100, 10_000_000), "in all, a multiple of the part"
+    reader.option("--generations", generations, 60_000, 1500, text)
+    text = "generations from one turning of particles to the next"
+    reader.option("--part", common.whole(10, 10_000), 200, 50, text)
     reader.option("--seed", common.whole(0, 2**31), 1, 1, "of the gas")
-    reader.add_argument(
-        "--scene", type=common.writable, metavar="FILE", help="keep the last lattice as a scene"
-    )
+    scene = dict(type=common.writable, metavar="FILE", help="keep the last lattice as a scene")
+    reader.add_argument("--scene", **scene)
     asked = reader.parse_args()
     street = Street(asked)
-    print(
-        f"{GAS}, d = {FILLING}, {street.size[0]} x {street.size[1]} cells, {asked.generations}"
-        f" generations, seed {asked.seed},",
-        f"disc {street.across} cells across, {1 / asked.height:.0%} of the channel",
-    )
+    columns, rows = street.size
+    print(f"{GAS}, d = {FILLING}, {columns} x {rows} cells,", end=" ")
+    print(f"{asked.generations} generations, seed {asked.seed},", end=" ")
+    print(f"disc {street.across} cells across, {1 / asked.height:.0%} of the channel")
     times = street.crossings()
     report(street, times)
     if asked.picture:
         draw(asked.picture, street, times)
     if asked.scene:
         street.last.save(asked.scene)
+
+
+if __name__ == "__main__":
+    common.experiment(main)

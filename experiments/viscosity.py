@@ -18,33 +18,20 @@ class Wave:
     """A shear wave of a filling in a channel of so many rows. `times` are k^2 x generations."""
 
     def __init__(self, asked, filling, rows):
-        self.flow, self.seeds = dict(gas=asked.gas, chirality=asked.chirality), range(
-            1, asked.seeds + 1
-        )
-        self.filling, self.rows, self.sine = (
-            filling,
-            rows,
-            np.sin(np.pi * (np.arange(rows)[:, None] + 0.5) / rows),
-        )
-        self.east, self.published = asked.speed * self.sine, theory.viscosity(
-            filling=filling, **self.flow
-        )
+        self.filling, self.rows = filling, rows
+        self.flow = dict(gas=asked.gas, chirality=asked.chirality)
+        self.sine = np.sin(np.pi * (np.arange(rows)[:, None] + 0.5) / rows)
+        self.east = asked.speed * self.sine
+        self.published = theory.viscosity(filling=filling, **self.flow)
         k = np.pi / rows / fhpgas.gas_named(asked.gas).row_distance
         self.step = max(1, round(1 / self.published / k**2 / PARTS))
         self.times = k**2 * self.step * np.arange(PARTS + 1)
 
     def measured(self, seed):
-        lattice = fhpgas.draw_gas(
-            self.filling,
-            self.east,
-            size=fhpgas.Size(CELLS // self.rows, self.rows),
-            seed=seed,
-            **self.flow,
-        )
-        momenta = [
-            later.blocks(CELLS // self.rows, 1).px for later in lattice.every(self.step, PARTS)
-        ]
-        return self.logarithms(momenta, f"seed {seed}")
+        size = fhpgas.Size(CELLS // self.rows, self.rows)
+        lattice = fhpgas.draw_gas(self.filling, self.east, size=size, seed=seed, **self.flow)
+        rows = (later.blocks(size.columns, 1) for later in lattice.every(self.step, PARTS))
+        return self.logarithms([each.px for each in rows], f"seed {seed}")
 
     def predicted(self):
         flow = boltzmann.Flow(solid=np.zeros((self.rows, 1)), **self.flow)
@@ -75,49 +62,31 @@ def draw(path, waves, title):
             )
             above.semilogy(wave.times, np.exp(line), f"C{n}", lw=1)
             below.errorbar(wave.times, mean - line, error, fmt=f"C{n}o-", ms=3, lw=0.7)
-        above.set(ylabel="amplitude / amplitude at 0", title=f"shear waves, {title}"), above.legend(
-            fontsize=8
-        )
+        above.set(ylabel="amplitude / amplitude at 0", title=f"shear waves, {title}")
+        above.legend(fontsize=8)
         below.set(xlabel="k² × generations", ylabel="logarithm − line")
 
 
-@common.experiment
 def main():
-    reader = common.Options(
-        __doc__,
-        "fhp1",
-        "fhp-rest",
-        figure="the decays on a logarithmic axis with their fits",
-        seeds=(16, 4),
-    )
+    figure = "the decays on a logarithmic axis with their fits"
+    reader = common.Options(__doc__, "fhp1", "fhp-rest", figure=figure, seeds=(16, 4))
     reader.chirality()
-    reader.option(
-        "--filling",
-        common.number(0.05, 0.6),
-        [0.1, 0.2, 0.3, 0.4, 0.5],
-        [0.2],
-        "fillings",
-        nargs="+",
-        metavar="D",
-    )
-    reader.option(
-        "--height", common.whole(8, 512), [64], [32], "rows, one or more", nargs="+", metavar="ROWS"
-    )
-    reader.option(
-        "--speed", common.number(0.005, 0.3), 0.15, 0.15, "u, the speed in the middle", metavar="U"
-    )
+    reader.fillings([0.2])
+    rows, speed = "rows, one or more", "u, the speed in the middle"
+    reader.option("--height", common.whole(8, 512), [64], [32], rows, metavar="ROWS")
+    reader.option("--speed", common.number(0.005, 0.3), 0.15, 0.15, speed, metavar="U")
     asked, waves = reader.parse_args(), []
     print(f"{asked.gas} {asked.chirality}\n   d  rows   measured        channel  published")
     for wave in (Wave(asked, filling, rows) for filling in asked.filling for rows in asked.height):
-        waves.append((wave, fhpgas.side_by_side(wave.measured, wave.seeds)))
-        numbers = (
-            *fhpgas.mean_and_error([wave.viscosity(run) for run in waves[-1][1]]),
-            wave.viscosity(wave.predicted()),
-            wave.published,
-        )
-        print(
-            "{:4} {:5} {:8.4f} +- {:.4f} {:8.4f} {:8.4f}".format(wave.filling, wave.rows, *numbers),
-            flush=True,
-        )
+        runs = common.runs(wave.measured, asked)
+        mean, error = fhpgas.mean_and_error([wave.viscosity(run) for run in runs])
+        print(f"{wave.filling:4} {wave.rows:5} {mean:8.4f} +- {error:.4f}", end=" ")
+        channel = wave.viscosity(wave.predicted())
+        print(f"{channel:8.4f} {wave.published:8.4f}", flush=True)
+        waves.append((wave, runs))
     if asked.picture:
         draw(asked.picture, waves, f"{asked.gas} {asked.chirality}, {asked.seeds} seeds")
+
+
+if __name__ == "__main__":
+    common.experiment(main)
