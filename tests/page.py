@@ -294,6 +294,8 @@ def continues(page, first, scene):
     page.choose("change", pace="50"), page.click("play")
     page.wait(f"head.generation >= {max(1000, first + 100)}")
     last, found = page.pause()
+    told = page.js("return $('numbers').textContent")
+    check("the numbers are of the cells that rest", told.startswith(f"{last:,}generation"), told)
     words = [PROGRAM, "run", "--generations", str(last - first)]
     ran = subprocess.run(words, input=scene, stdout=subprocess.PIPE, check=True)
     check(
@@ -384,6 +386,26 @@ def cells(page):
     check("a picture", page.saved("picture", ".png")[:8] == b"\x89PNG\r\n\x1a\n")
     page.click("film"), page.click("play"), page.wait("head.generation > 3000")
     check("a film", page.saved("film", ".webm")[:4] == b"\x1aE\xdf\xa3")
+
+
+def probe(page):
+    """The words of the probe stand beside its chart, whole."""
+    page.go(QUICK)
+    page.click("probe")
+    x, y = page.at(100, 60)
+    size = page.view.size
+    place = round(x - size["width"] / 2), round(y - size["height"] / 2)
+    ActionChains(page.driver).move_to_element_with_offset(page.view, *place).click().perform()
+    page.wait("marks.samples.length > 5 && $('found').textContent.includes('no period yet')")
+    edges = page.js(
+        "const [chart, words] = $('probed').children, box = words.getBoundingClientRect();"
+        "return [chart.getBoundingClientRect().right, box.left, words.scrollWidth - words.clientWidth, box.right, innerWidth]"
+    )
+    check(
+        "nothing of them is cut off",
+        edges[0] <= edges[1] and edges[2] == 0 and edges[3] <= edges[4],
+        edges,
+    )
 
 
 def keyboard(page):
@@ -573,7 +595,7 @@ def desk(room):
         page.go(link)
         found = page.js("return head.width * head.height - head.fluid")
         check("the address keeps what was drawn", found == solid, (found, solid))
-    for part in seeded, cells, keyboard, address:
+    for part in seeded, cells, probe, keyboard, address:
         tried(part, page)
     page.ended("desk")
 

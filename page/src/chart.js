@@ -2,9 +2,10 @@
 import { contextOf, line, nice, theme, write } from "./draw.js";
 import { count, round, strouhal } from "./numbers.js";
 import { LEAST_PERIODS, periodOf } from "./probe.js";
-import { $, amount, head, marks } from "./state.js";
+import { $, amount, head, marks, setText } from "./state.js";
 
-const U = "#2b8cd6", V = "#e0702a", PATIENCE = 500; // milliseconds between two searches for a period
+const COLOURS = { u: "#2b8cd6", v: "#e0702a" }; // the style sheet has them too
+const PATIENCE = 500; // milliseconds between two searches for a period
 const found = { at: 0, samples: marks.samples, period: /** @type {ReturnType<typeof periodOf>} */ (null) };
 
 /** The period of the probe's flow across, searched for now and then. */
@@ -36,11 +37,12 @@ function linesOf(numbers) {
 
 /** @param {ReturnType<import("./numbers.js").numbersOf>} numbers */
 export function paintChart(numbers) {
-  const { samples } = marks, canvas = $("chart");
-  canvas.hidden = !marks.probe;
+  const { samples } = marks;
+  $("probed").hidden = !marks.probe;
   if (!marks.probe || !samples.length) return;
-  const { width, height, context: c } = contextOf(canvas, true), words = Math.min(270, width / 2);
-  const box = { left: 58, right: width - words - 14, top: 10, bottom: height - 24 };
+  setText($("found"), linesOf(numbers).join("\n"));
+  const { width, height, context: c } = contextOf($("chart"), true);
+  const box = { left: 58, right: width - 14, top: 10, bottom: height - 24 };
   const values = samples.flatMap(({ u, v }) => [u, v]);
   const least = Math.min(0, ...values), largest = Math.max(0.01, ...values);
   const step = nice((largest - least) / 2.5), low = Math.floor(least / step), high = Math.ceil(largest / step);
@@ -56,10 +58,7 @@ export function paintChart(numbers) {
   for (let at = Math.ceil(first / ticks) * ticks; at <= last; at += ticks) {
     write(c, count(at), X(at), box.bottom + 18, { font: "13px", align: "center" });
   }
-  const say = (text, k, more = {}) => write(c, text, box.right + 12, box.top + 14 + 21 * k, { font: "14px", ...more });
-  [["u", "u, east", U], ["v", "v, north", V]].forEach(([part, text, colour], k) => {
-    line(c, samples.map((sample) => [X(sample.generation), Y(sample[part])]), colour, 2);
-    say(text, k, { font: "600 14px", colour });
-  });
-  linesOf(numbers).forEach((text, k) => say(text, k + 2));
+  for (const part of ["u", "v"]) {
+    line(c, samples.map((sample) => [X(sample.generation), Y(sample[part])]), COLOURS[part], 2);
+  }
 }

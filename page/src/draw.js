@@ -11,14 +11,15 @@ export function readTheme() {
   theme.isDark = matchMedia("(prefers-color-scheme: dark)").matches;
 }
 
-/** The context of a canvas in CSS pixels, with the pixels of the screen. */
+/** The context of a canvas in CSS pixels, with the pixels of the screen. A new size makes it empty. */
 export function contextOf(canvas, alpha) {
   const ratio = window.devicePixelRatio || 1, { width, height } = canvas.getBoundingClientRect();
   const [w, h] = [Math.round(width * ratio), Math.round(height * ratio)];
-  if (canvas.width !== w || canvas.height !== h) Object.assign(canvas, { width: w, height: h });
+  const isEmpty = canvas.width !== w || canvas.height !== h;
+  if (isEmpty) Object.assign(canvas, { width: w, height: h });
   const context = /** @type {CanvasRenderingContext2D} */ (canvas.getContext("2d", { alpha }));
   context.setTransform(ratio, 0, 0, ratio, 0, 0);
-  return { width, height, context };
+  return { width, height, context, isEmpty };
 }
 
 /** Puts pixels, which are words of their bytes, on a canvas. */

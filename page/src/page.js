@@ -150,22 +150,24 @@ function repaint() {
   requestAnimationFrame(paint);
 }
 
-/** Each frame of the worker is on the screen once, in its turn. */
+/** Each frame of the worker is on the screen once, in its turn. Words change less often, and all at once. */
 function paint(now) {
-  const next = shown.queue.shift(), begun = performance.now();
+  const next = shown.queue.shift();
   if (next) take(next);
-  const { width, height, context: c } = contextOf(view(), false);
+  const { width, height, context: c, isEmpty } = contextOf(view(), false);
   const { y, scale } = look.place, { height: rows, apart } = head();
   const part = motion.isOn ? Math.min(1, (now - motion.begun) / motion.span) : motion.phase / 2;
   const moment = { isCollided: part > 0.25, glide: Math.max(0, 2 * part - 1) };
   const end = ((rows - 0.5) * apart - y) * scale + 3; // of the lattice
   const bottom = Math.round(Math.min(height - stripHeight(width), Math.max(60, end)));
+  const isTold = !next || isEmpty || !shown.isRunning || now > live.toldAt + TOLD_EVERY;
   c.fillStyle = theme.paper;
-  c.fillRect(0, 0, width, height);
+  c.fillRect(0, 0, width, isTold ? height : bottom);
   shown.frames.forEach((_, k) => paintPane(c, k, paneWidth(width), bottom, moment));
   const stage = moment.glide ? "streaming" : moment.isCollided ? "after the collision" : "before the collision";
-  paintStrip(c, { width, top: bottom, stage });
-  if (next) painted(begun);
+  if (isTold) paintStrip(c, { width, top: bottom, stage });
+  if (next) painted(now);
+  if (next && isTold) tellNumbers(now);
   if (motion.isOn && part === 1) {
     Object.assign(motion, { isOn: false, phase: 2 });
     tell("step", {});
@@ -191,7 +193,6 @@ function painted(begun) {
   tell("seen", {});
   shown.times.push([begun, generation]);
   if (shown.times.length > 50) shown.times.shift();
-  if (!shown.isRunning || begun > live.toldAt + TOLD_EVERY) tellNumbers(begun);
   shown.painted++;
   if (generation > 0 && !live.hasMoved) performance.mark("moved", { detail: shown.painted });
   live.hasMoved ||= generation > 0;
@@ -251,6 +252,7 @@ function looked() {
     const [wide, tall] = [paneWidth(clientWidth), clientHeight / apart].map((part) => Math.ceil(part / scale) + 3);
     wanted.window = [left, top, wide, tall];
   }
+  live.toldAt = 0;
   const text = JSON.stringify(wanted);
   if (text !== look.sent) tell("view", wanted);
   look.sent = text;

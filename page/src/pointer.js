@@ -34,7 +34,7 @@ function pinch(moved, before, now) {
 /** @param {Tell} tell @param {Disc} disc */
 export function setProbe(tell, disc) {
   Object.assign(marks, { probe: disc, samples: [] });
-  $("chart").hidden = false;
+  $("probed").hidden = false;
   tell("probe", disc);
 }
 

@@ -14,8 +14,8 @@ const SOLIDS = {
   discs: (W, T, R) => (x, y) => Math.hypot(x - W / 5, Math.abs(y - T / 2) - 1.7 * R) <= R,
 };
 const PARTICLES = { pair: 0x09, triple: 0x15 };
-const isInL = (W, T) => (x, y) =>
-  x > 0.4 * W && x < 0.6 * W && y > 0.2 * T && y < 0.8 * T && (x < 0.46 * W || y > 0.66 * T);
+const isInL = (W, T, wide = 0.06 * Math.max(W, T)) => (x, y) =>
+  x > 0.4 * W && x < 0.6 * W && y > 0.2 * T && y < 0.8 * T && (x < 0.4 * W + wide || y > 0.8 * T - wide);
 
 /** Puts grains of a radius anywhere until three tenths are solid. */
 function putGrains({ drive, cells }, states, tall, radius) {

@@ -28,8 +28,9 @@ function paintWords(c, x, top, stage, isNarrow) {
   const { u, wind, direction, cells, width, height, generation } = head();
   const sides = ({ gas, chirality }) => (gas === "hpp" || isNarrow ? "" : `, pairs turn ${SIDES[chirality]}`);
   const arrow = Math.abs(u) < 0.005 && !wind ? "" : u < 0 ? "← wind" : "wind →";
+  const way = [arrow, direction > 0 ? "" : isNarrow ? "back" : "on the way back"];
   if (cells) write(c, `${stage}: orange particles collide`, x, top + 22, { font: "14px" });
-  else write(c, direction < 0 ? `${arrow}, on the way back` : arrow, x, top + 22, { font: "600 15px" });
+  else write(c, way.filter(Boolean).join(", "), x, top + 22, { font: "600 15px" });
   const gas = each((one) => one.gas + sides(one)), filling = each(({ middle }) => middle.toFixed(3));
   const when = isNarrow ? "" : `, generation ${count(generation)}`;
   write(c, `${gas}, d = ${filling}, ${width} × ${height} cells${when}`, 14, top + 48, { font: "14px" });

@@ -1,7 +1,7 @@
 // Tracers: marks that the mean flow carries, so that one sees that and where the gas flows.
 import { theme } from "./draw.js";
 
-const NUMBER = 420;
+const NUMBER = 420, ROOM = 700; // pixels that each has at least
 const LIFE = 900; // generations after which a mark begins elsewhere, on average
 const STREAK = 14; // pixels of the fastest streak
 const STILL = 0.004; // cells per generation: a slower mean flow is noise
@@ -39,10 +39,10 @@ export class Tracers {
 
   /** Paints streaks along the flow. */
   paint(c, frame, scale) {
-    const long = STREAK / Math.max(frame.fastest, 0.05);
+    const long = STREAK / Math.max(frame.fastest, 0.05), { width, height, apart } = frame;
     if (frame.fastest < STILL) return;
     c.beginPath();
-    for (const place of this.places) {
+    for (const place of this.places.slice(0, (width * height * apart * scale * scale) / ROOM)) {
       const [u, v] = velocityAt(frame, place), [x, y] = [place[0] * scale, place[1] * scale];
       if (!(Math.hypot(u, v) > STILL)) continue;
       c.moveTo(Math.max(0, x - u * long), y - v * long);
