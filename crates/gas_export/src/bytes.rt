@@ -58,7 +58,8 @@ fn unpack_row(width: u32, planes: usize, words: &[u64], bytes: &mut [u8])
 {
     let words_each = words_for(width);
     for j in 0..words_each {
-        let states = states_of(planes_at(words, words_each, planes, j), planes);
+        // Eight planes, those past the last one zero, so that the compiler knows how many.
+        let states = states_of(planes_at(words, words_each, planes, j), 8);
         let end = bytes.len().min(64 * j + 64);
         bytes[64 * j..end].copy_from_slice(&states[0..end - 64 * j]);
     }

@@ -35,7 +35,7 @@ loop-j-preserved c =
             let taken : slice_index new b ≡ slice_index c.states_of-states.result b = grind (arith, places) in
             subst (λ u. slice_index (put_mid (64 * j) n bytes new) u ≡ state c.args.words.now (words_in w) c.args.planes u) at
             (put-get 0 (64 * j) n b bytes new wide within b_in ∙ taken ∙ c.states_of-states.ensures.states b b_lt
-            ∙ word-state c.args.words.now c.planes_at.result c.words_for-words_each.result c.args.planes j b b_lt c.planes_at.ensures.planes
+            ∙ word-state c.args.words.now c.planes_at.result c.words_for-words_each.result c.args.planes j b c.requires.planes b_lt c.planes_at.ensures.planes c.planes_at.ensures.rest
             ∙ ap (λ (k : ℕ). state c.args.words.now k c.args.planes (64 * j + b)) each)
       ];
     }
