@@ -1,5 +1,5 @@
 -- Rows written among others, and a channel and its rows by words.
-use Rattle.std.proofs.Common.{◌≡◌, ◌≢◌, ◌⊎◌, ℕ, ◌+◌, ◌-◌, ◌*◌, ◌%◌, ◌<◌, ◌≤◌, Bool, true, false, List, length, get_or, Some, None, inl, inr, ap, ap₂, sym, ◌∙◌, arith, if◌then◌else◌}
+use Rattle.std.proofs.Common.{◌≡◌, ◌≢◌, ◌⊎◌, ℕ, ◌+◌, ◌-◌, ◌*◌, ◌%◌, ◌<◌, ◌≤◌, Bool, true, false, List, length, get_or, take, drop, Some, None, inl, inr, ap, ap₂, sym, ◌∙◌, arith, if◌then◌else◌}
 use Rattle.std.specs.List.{All}
 use Rattle.std.specs.Option.{option_map_or}
 use Rattle.std.proofs.lemmas.Bool.{cases_lt, cases_eq}
@@ -29,7 +29,7 @@ zero_bits words zero = bit-all_zero words zero
 pub row-within : (w h y : ℕ) → y < h → y * w + w ≤ h * w
 row-within w h y lt = omega (arith, mul-le (y + 1) w h w (omega (arith, lt)) (omega arith))
 
-row-get : {A : Type 0} (d : A) (m rows k j : ℕ) (xs : List A) → length xs ≡ rows * m → k < rows → j < m → get_or (row_words m xs k) j d ≡ get_or xs (k * m + j) d
+pub row-get : {A : Type 0} (d : A) (m rows k j : ℕ) (xs : List A) → length xs ≡ rows * m → k < rows → j < m → get_or (row_words m xs k) j d ≡ get_or xs (k * m + j) d
 row-get d m rows k j xs long in_rows lt =
     let within : k * m + m ≤ length xs = omega (arith, row-within m rows k in_rows, long) in
     grind (arith, places)
@@ -75,6 +75,36 @@ put-other d m rows y k s e xs ys es ee long wide in_rows k_in ne =
       | inr le ↦ inr (omega (arith, row-within m k y (omega (arith, le, ne))))
     ])
     ∙ sym (row-get d m rows k j xs long k_in j_in))
+
+-- a row under another name of its length: as it is read, and it and the others after it was written
+pub row-read : {A : Type 0} (n m y : ℕ) (xs : List A) → n ≡ m → take (y * n + n - y * n) (drop (y * n) xs) ≡ row_words m xs y
+row-read n m y xs e =
+    ap₂ (λ (k s : ℕ). take k (drop s xs)) (let cut : y * n + n - y * n ≡ m = omega (arith, e) in cut) (ap (λ (k : ℕ). y * k) e)
+
+row-cut : {A : Type 0} (n m rows y : ℕ) (xs : List A) → n ≡ m → length xs ≡ rows * m → y < rows → length (take (y * n + n - y * n) (drop (y * n) xs)) ≡ m
+row-cut n m rows y xs e long in_rows =
+    let cut : y * n + n - y * n ≡ m = omega (arith, e) in
+    let within : y * n + m ≤ length xs = omega (arith, ap (λ (k : ℕ). y * k) e, row-within m rows y in_rows, long) in
+    rw cut (grind (arith, places))
+
+pub row-written : {A : Type 0} (d : A) (n m rows y : ℕ) (xs ys : List A) → n ≡ m → length xs ≡ rows * m → length ys ≡ length (take (y * n + n - y * n) (drop (y * n) xs))
+    → y < rows → row_words m (put_mid (y * n) (y * n + n - y * n) xs ys) y ≡ ys
+row-written d n m rows y xs ys e long wide in_rows =
+    put-here d m rows y _ _ xs ys (ap (λ (k : ℕ). y * k) e) (let cut : y * n + n - y * n ≡ m = omega (arith, e) in cut) long
+    (wide ∙ row-cut n m rows y xs e long in_rows) in_rows
+
+pub row-apart : {A : Type 0} (d : A) (n m rows y k : ℕ) (xs ys : List A) → n ≡ m → length xs ≡ rows * m → length ys ≡ length (take (y * n + n - y * n) (drop (y * n) xs))
+    → y < rows → k < rows → k ≢ y → row_words m (put_mid (y * n) (y * n + n - y * n) xs ys) k ≡ row_words m xs k
+row-apart d n m rows y k xs ys e long wide in_rows k_in ne =
+    put-other d m rows y k _ _ xs ys (ap (λ (k : ℕ). y * k) e) (let cut : y * n + n - y * n ≡ m = omega (arith, e) in cut) long
+    (wide ∙ row-cut n m rows y xs e long in_rows) in_rows k_in ne
+
+pub row-put_long : {A : Type 0} (n m rows y : ℕ) (xs ys : List A) → n ≡ m → length xs ≡ rows * m → length ys ≡ length (take (y * n + n - y * n) (drop (y * n) xs))
+    → y < rows → length (put_mid (y * n) (y * n + n - y * n) xs ys) ≡ length xs
+row-put_long n m rows y xs ys e long wide in_rows =
+    let cut : y * n + n - y * n ≡ m = omega (arith, e) in
+    put-long (y * n) (y * n + n - y * n) xs ys (wide ∙ row-cut n m rows y xs e long in_rows ∙ sym cut)
+    (omega (arith, cut, ap (λ (k : ℕ). y * k) e, row-within m rows y in_rows, long))
 
 -- ---- the solid cells of the row above row y, of it, and of the row below it
 pub solid-above : (w h y x : ℕ) (solid wall above : List ℕ) → y < h → ((x : ℕ) → x < w → bit wall x ≡ true)

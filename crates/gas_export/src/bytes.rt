@@ -1,5 +1,5 @@
 //! Bytes of cells into planes and back.
-ghost use Rattle.std.specs.Prelude.{◌≡◌, ◌+◌, ◌*◌, ◌/◌, ◌<◌, ◌≤◌, ◌^◌, ◌≢◌, ℕ, length, slice_index};
+ghost use Rattle.std.specs.Prelude.{◌≡◌, ◌+◌, ◌*◌, ◌/◌, ◌<◌, ◌≤◌, ℕ, length, slice_index};
 ghost use Rattle.gas_geom.specs.Gas.{holds};
 ghost use Rattle.gas_bits.specs.Words.{words_in};
 ghost use Rattle.gas_bits.specs.Planes.{has, state};
@@ -11,27 +11,6 @@ use gas_bits::states::states_of;
 use gas_bits::word::words_for;
 use gas_geom::size::Size;
 
-// Writes the bytes of row `y` into its planes.
-fn pack_row(size: Size, planes: usize, y: usize, bytes: &[u8], words: &mut [u64])
-    requires planes { planes ≤ 8 }
-    requires row { y < size.height }
-    requires bytes { length bytes.now ≡ size.height * size.width }
-    requires words { length words.old ≡ size.height * (planes * words_in size.width) }
-    ensures long { length words.new ≡ length words.old }
-    ensures here { (i x : ℕ) → i < planes → x < size.width →
-        has (row_words (planes * words_in size.width) words.new y) (words_in size.width) i x
-        ≡ holds (slice_index bytes.now (y * size.width + x)) i }
-    ensures others { (k : ℕ) → k < size.height → k ≢ y →
-        row_words (planes * words_in size.width) words.new k
-        ≡ row_words (planes * words_in size.width) words.old k }
-{
-    let width = size.width() as usize;
-    let words_each = words_for(size.width());
-    let n = planes * words_each;
-    let row = &bytes[y * width..y * width + width];
-    load_states(&mut words[y * n..y * n + n], words_each, planes, row);
-}
-
 /// Writes bytes into planes.
 pub(crate) fn pack(size: Size, planes: usize, bytes: &[u8], words: &mut [u64])
     requires planes { planes ≤ 8 }
@@ -41,8 +20,12 @@ pub(crate) fn pack(size: Size, planes: usize, bytes: &[u8], words: &mut [u64])
         has (row_words (planes * words_in size.width) words.new y) (words_in size.width) i x
         ≡ holds (slice_index bytes.now (y * size.width + x)) i }
 {
-    for y in 0..size.height() {
-        pack_row(size, planes, y as usize, bytes, words);
+    let width = size.width() as usize;
+    let words_each = words_for(size.width());
+    let n = planes * words_each;
+    for y in 0..size.height() as usize {
+        let row = &bytes[y * width..y * width + width];
+        load_states(&mut words[y * n..y * n + n], words_each, planes, row);
     }
 }
 
@@ -65,25 +48,6 @@ fn unpack_row(width: u32, planes: usize, words: &[u64], bytes: &mut [u8])
     }
 }
 
-// Writes the planes of row `y` into its bytes.
-fn unpack_at(size: Size, planes: usize, y: usize, words: &[u64], bytes: &mut [u8])
-    requires planes { planes ≤ 8 }
-    requires row { y < size.height }
-    requires words { length words.now ≡ size.height * (planes * words_in size.width) }
-    requires bytes { length bytes.old ≡ size.height * size.width }
-    ensures long { length bytes.new ≡ length bytes.old }
-    ensures here { (x : ℕ) → x < size.width → slice_index bytes.new (y * size.width + x)
-        ≡ state_at planes size.width words.now x y }
-    ensures others { (x k : ℕ) → x < size.width → k < size.height → k ≢ y →
-        slice_index bytes.new (k * size.width + x) ≡ slice_index bytes.old (k * size.width + x) }
-{
-    let width = size.width() as usize;
-    let n = planes * words_for(size.width());
-    let row = row_at(words, size.height() as usize, y, n);
-    let start = y * width;
-    unpack_row(size.width(), planes, row, &mut bytes[start..start + width]);
-}
-
 /// Writes planes into bytes.
 pub(crate) fn unpack(size: Size, planes: usize, words: &[u64], bytes: &mut [u8])
     requires planes { planes ≤ 8 }
@@ -92,7 +56,16 @@ pub(crate) fn unpack(size: Size, planes: usize, words: &[u64], bytes: &mut [u8])
     ensures unpacked { (x y : ℕ) → x < size.width → y < size.height →
         slice_index bytes.new (y * size.width + x) ≡ state_at planes size.width words.now x y }
 {
-    for y in 0..size.height() {
-        unpack_at(size, planes, y as usize, words, bytes);
+    let width = size.width() as usize;
+    let rows = size.height() as usize;
+    let n = planes * words_for(size.width());
+    for y in 0..rows {
+        let row = row_at(words, rows, y, n);
+        unpack_row(
+            size.width(),
+            planes,
+            row,
+            &mut bytes[y * width..y * width + width],
+        );
     }
 }

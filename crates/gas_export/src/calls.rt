@@ -1,16 +1,17 @@
 //! The calls, as `include/fhpgas.h` has them.
-ghost use Rattle.std.specs.Prelude.{◌≡◌, ◌≢◌, ◌+◌, ◌*◌, ◌<◌, ◌&&◌, ℕ, nat_lt, if◌then◌else◌, length, slice_index};
+ghost use Rattle.std.specs.Prelude.{◌≡◌, ◌≢◌, ◌+◌, ◌*◌, ◌^◌, ◌<◌, ◌==◌, ◌&&◌, ℕ, nat_le, nat_lt, if◌then◌else◌, length, slice_index};
+ghost use Rattle.std.specs.List.{list_all};
 ghost use Rattle.std.specs.Int.{div_ceil};
 ghost use Rattle.gas_blocks.specs.Blocks.{block_at};
 ghost use Rattle.gas_stage.specs.Evolution.{lattice_after};
 ghost use Rattle.gas_export.specs.Planes.{lattice_in, gas_numbered, chirality_numbered, state_at, turned, row_words};
 ghost use Rattle.gas_export.specs.Sums.{sums_of};
 ghost use Rattle.gas_export.specs.Part.{part_after};
-ghost use Rattle.gas_export.specs.Statuses.{is_planes, is_size, words_of, work_of, advance_status, pack_status, unpack_status, turn_status, sums_status};
+ghost use Rattle.gas_export.specs.Statuses.{unless, is_planes, is_size, is_place, words_of, work_of, blocks_in};
 
 use crate::advance::advance;
 use crate::bytes::{pack, unpack};
-use crate::draw::Place;
+use crate::draw::Source;
 use crate::status::{
     BLOCK, BYTE, CHIRALITY, DONE, GAS, GENERATIONS, LENGTH, PLACE, SIZE, are_below, blocks_in,
     directions_of, is_place, is_planes, is_size, words_of, work_of,
@@ -74,7 +75,9 @@ pub extern "C" fn fhpgas_pack(
     bytes: &[u8],
     words: &mut [u64],
 ) -> u32
-    ensures status { result ≡ pack_status planes width height bytes.now (length words.old) }
+    ensures status { result ≡ unless (is_planes planes) 1 (unless (is_size width height) 3
+        (unless (length bytes.now == height * width && length words.old == words_of planes width height) 7
+        (unless (list_all (λ b. nat_lt b (2 ^ planes)) bytes.now) 8 0))) }
     ensures kept { result ≢ 0 → words.new ≡ words.old }
     ensures packed { result ≡ 0 → (x y : ℕ) → x < width → y < height →
         state_at planes width words.new x y ≡ slice_index bytes.now (y * width + x) }
@@ -106,7 +109,9 @@ pub extern "C" fn fhpgas_unpack(
     words: &[u64],
     bytes: &mut [u8],
 ) -> u32
-    ensures status { result ≡ unpack_status planes width height (length words.now) (length bytes.old) }
+    ensures status { result ≡ unless (is_planes planes) 1 (unless (is_size width height) 3
+        (unless (length words.now == words_of planes width height && length bytes.old == height * width) 7
+        0)) }
     ensures kept { result ≢ 0 → bytes.new ≡ bytes.old }
     ensures unpacked { result ≡ 0 → (x y : ℕ) → x < width → y < height →
         slice_index bytes.new (y * width + x) ≡ state_at planes width words.now x y }
@@ -129,7 +134,8 @@ pub extern "C" fn fhpgas_unpack(
 /// Turns every particle of a lattice to the opposite direction.
 #[unsafe(no_mangle)]
 pub extern "C" fn fhpgas_turn(gas: u32, width: u32, height: u32, states: &mut [u64]) -> u32
-    ensures status { result ≡ turn_status gas width height (length states.old) }
+    ensures status { result ≡ unless (nat_lt gas 3) 1 (unless (is_size width height) 3
+        (unless (length states.old == words_of (gas_numbered gas).dirs width height) 7 0)) }
     ensures kept { result ≢ 0 → states.new ≡ states.old }
     ensures turned { result ≡ 0 → (x y : ℕ) → x < width → y < height →
         state_at (gas_numbered gas).dirs width states.new x y
@@ -164,8 +170,11 @@ pub extern "C" fn fhpgas_sums(
     states: &[u64],
     sums: &mut [i64],
 ) -> u32
-    ensures status { result ≡ sums_status gas width height block_width block_height
-        (length solid.now) (length states.now) (length sums.old) }
+    ensures status { result ≡ unless (nat_lt gas 3) 1 (unless (is_size width height) 3
+        (unless (nat_le 1 block_width && nat_le 1 block_height) 6
+        (unless (length solid.now == words_of 1 width height &&
+        (length states.now == words_of (gas_numbered gas).dirs width height &&
+        length sums.old == blocks_in width height block_width block_height * 4)) 7 0))) }
     ensures kept { result ≢ 0 → sums.new ≡ sums.old }
     ensures summed { result ≡ 0 → (col row : ℕ) → col < div_ceil width block_width →
         row < div_ceil height block_height → row_words 4 sums.new (row * div_ceil width block_width + col)
@@ -225,8 +234,12 @@ pub extern "C" fn fhpgas_advance(
     states: &mut [u64],
     work: &mut [u64],
 ) -> u32
-    ensures status { result ≡ advance_status gas chirality first generations width height first_row
-        first_column whole_width (length solid.now) (length states.old) (length work.old) }
+    ensures status { result ≡ unless (nat_lt gas 3) 1 (unless (nat_lt chirality 3) 2
+        (unless (is_size width height) 3 (unless (is_place first_row first_column whole_width width) 4
+        (unless (nat_lt (first + generations) (2 ^ 64)) 5
+        (unless (length solid.now == words_of 1 width height &&
+        (length states.old == words_of (gas_numbered gas).dirs width height &&
+        length work.old == work_of gas width)) 7 0))))) }
     ensures kept { result ≢ 0 → states.new ≡ states.old }
     ensures kept_work { result ≢ 0 → work.new ≡ work.old }
     ensures done { result ≡ 0 → lattice_in (gas_numbered gas) width height solid.now states.new
@@ -246,12 +259,7 @@ pub extern "C" fn fhpgas_advance(
     let Some(size) = Size::new(width, height) else {
         return SIZE;
     };
-    let place = Place {
-        first_row,
-        first_column,
-        whole_width,
-    };
-    if !is_place(place, width) {
+    if !is_place(first_row, first_column, whole_width, width) {
         return PLACE;
     }
     if generations > u64::MAX - first {
@@ -263,11 +271,16 @@ pub extern "C" fn fhpgas_advance(
     {
         return LENGTH;
     }
-    let bits = chirality_of(chirality, seed);
+    let source = Source {
+        chirality: chirality_of(chirality, seed),
+        first_row,
+        first_column,
+        whole_width,
+    };
     match gas {
-        0 => advance::<Fhp1>(size, place, bits, first, generations, solid, states, work),
-        1 => advance::<Hpp>(size, place, bits, first, generations, solid, states, work),
-        _ => advance::<FhpRest>(size, place, bits, first, generations, solid, states, work),
+        0 => advance::<Fhp1>(size, source, first, generations, solid, states, work),
+        1 => advance::<Hpp>(size, source, first, generations, solid, states, work),
+        _ => advance::<FhpRest>(size, source, first, generations, solid, states, work),
     }
     DONE
 }

@@ -1,9 +1,6 @@
 //! The random bits of a row of a part.
-ghost use Rattle.std.specs.Prelude.{◌≡◌, ◌+◌, ◌<◌, ◌≤◌, ◌%◌, ◌/◌, ℕ, length};
+ghost use Rattle.std.specs.Prelude.{◌≡◌, ◌+◌, ◌<◌, ◌≤◌, ◌%◌, ℕ, length};
 ghost use Rattle.gas_bits.specs.Words.{words_in, bit};
-ghost use Rattle.gas_rows.specs.declared.chirality.Chirality.{Chirality};
-ghost use Rattle.gas_export.specs.Part.{part_bit};
-ghost use Rattle.gas_export.specs.Inner.Source.{IsSourceOf};
 
 use gas_bits::plane::fill;
 use gas_geom::gas::Gas;
@@ -11,69 +8,69 @@ use gas_rows::chirality::Chirality;
 use gas_rows::key::{draw, generator_of, seek};
 use rand_chacha::ChaCha20Rng;
 
-/// Where a part lies in a whole.
+/// Where the random bits of a part come from: the source of the whole, and where the part lies in it.
 #[derive(Clone, Copy)]
-pub(crate) struct Place {
+pub(crate) struct Source {
+    pub(crate) chirality: Chirality,
     pub(crate) first_row: u32,
     pub(crate) first_column: u32,
     pub(crate) whole_width: u32,
+    ghost column: { first_column % 32 ≡ 0 },
 }
 
-/// Whether bits are drawn, and the generator that they are drawn from. If none are drawn, `bits` gets
-/// those of every row.
-pub(crate) fn source_of(chirality: Chirality, width: u32, bits: &mut [u64]) -> (bool, ChaCha20Rng)
-    requires some_cells { 1 ≤ width }
-    requires long { length bits.old ≡ words_in width }
-    ensures long { length bits.new ≡ length bits.old }
-    ensures source { IsSourceOf chirality result.0 result.1.key width bits.new }
-{
-    match chirality {
-        Chirality::Seeded(seed) => (true, generator_of(seed)),
-        Chirality::Left => {
-            fill(bits, width, true);
-            (false, generator_of(0))
-        }
-        Chirality::Right => {
-            fill(bits, width, false);
-            (false, generator_of(0))
-        }
-    }
-}
+impl Source {
+    ghost use Rattle.gas_export.specs.Inner.Source.{bit_of, IsReady};
 
-/// Draws the bits of row `y` of a part, if there are any to be drawn and the gas looks at them.
-#[inline(always)]
-pub(crate) fn draw_row<G: Gas>(
-    seeded: bool,
-    generator: &mut ChaCha20Rng,
-    place: Place,
-    generation: u64,
-    y: u32,
-    width: u32,
-    bits: &mut [u64],
-)
-    requires some_cells { 1 ≤ width }
-    requires few_cells { width ≤ 65536 }
-    requires row { y < 65536 }
-    requires column { place.first_column % 32 ≡ 0 }
-    requires long { length bits.old ≡ words_in width }
-    ensures long { length bits.new ≡ length bits.old }
-    ensures source { (chirality : Chirality) →
-        IsSourceOf chirality seeded generator.old.key width bits.old →
-        IsSourceOf chirality seeded generator.new.key width bits.new }
-    ensures collisions { (chirality : Chirality) →
-        IsSourceOf chirality seeded generator.old.key width bits.old →
-        (s x : ℕ) → x < width → G.rules.collide s (bit bits.new x) ≡ G.rules.collide s
-        (part_bit chirality place.whole_width place.first_column place.first_row generation x y) }
-{
-    if !seeded {
-        return;
+    /// The generator that bits are drawn from. If none are drawn, `bits` gets those of every row.
+    pub(crate) fn generator(self, width: u32, bits: &mut [u64]) -> ChaCha20Rng
+        requires some_cells { 1 ≤ width }
+        requires long { length bits.old ≡ words_in width }
+        ensures long { length bits.new ≡ length bits.old }
+        ensures ready { IsReady self.chirality result.key width bits.new }
+    {
+        match self.chirality {
+            Chirality::Seeded(seed) => generator_of(seed),
+            Chirality::Left => {
+                fill(bits, width, true);
+                generator_of(0)
+            }
+            Chirality::Right => {
+                fill(bits, width, false);
+                generator_of(0)
+            }
+        }
     }
-    if !G::USES_CHIRALITY {
-        return;
+
+    /// Draws the bits of row `y` of a part, if there are any to be drawn and the gas looks at them.
+    #[inline(always)]
+    pub(crate) fn draw_row<G: Gas>(
+        self,
+        generator: &mut ChaCha20Rng,
+        generation: u64,
+        y: u32,
+        width: u32,
+        bits: &mut [u64],
+    )
+        requires some_cells { 1 ≤ width }
+        requires few_cells { width ≤ 65536 }
+        requires row { y < 65536 }
+        requires long { length bits.old ≡ words_in width }
+        requires ready { IsReady self.chirality generator.old.key width bits.old }
+        ensures long { length bits.new ≡ length bits.old }
+        ensures ready { IsReady self.chirality generator.new.key width bits.new }
+        ensures collisions { (s x : ℕ) → x < width →
+            G.rules.collide s (bit bits.new x) ≡ G.rules.collide s (bit_of self generation x y) }
+    {
+        let Chirality::Seeded(_) = self.chirality else {
+            return;
+        };
+        if !G::USES_CHIRALITY {
+            return;
+        }
+        let row = u64::from(self.first_row) + u64::from(y);
+        let key_words = u64::from(self.whole_width.div_ceil(32));
+        let first = row * key_words + u64::from(self.first_column / 32);
+        seek(generator, generation, first);
+        draw(bits, width, generator);
     }
-    let row = u64::from(place.first_row) + u64::from(y);
-    let key_words = u64::from(place.whole_width.div_ceil(32));
-    let first = row * key_words + u64::from(place.first_column / 32);
-    seek(generator, generation, first);
-    draw(bits, width, generator);
 }

@@ -4,7 +4,6 @@ ghost use Rattle.std.specs.List.{list_all};
 ghost use Rattle.gas_export.specs.Planes.{gas_numbered};
 ghost use Rattle.gas_export.specs.Statuses.{is_planes, is_size, is_place, words_of, work_of, blocks_in};
 
-use crate::draw::Place;
 use gas_bits::word::words_for;
 use gas_geom::fhp_rest::FhpRest;
 use gas_geom::fhp1::Fhp1;
@@ -44,12 +43,11 @@ pub(crate) fn is_size(width: u32, height: u32) -> bool
 }
 
 /// Whether a place of a part of that width is lawful.
-pub(crate) fn is_place(place: Place, width: u32) -> bool
-    ensures value { result ≡ is_place place.first_row place.first_column place.whole_width width }
+pub(crate) fn is_place(first_row: u32, first_column: u32, whole_width: u32, width: u32) -> bool
+    ensures value { result ≡ is_place first_row first_column whole_width width }
 {
-    let last = u64::from(place.first_column) + u64::from(width);
-    (place.first_row % 2 == 0 && place.first_column % 32 == 0)
-        && last <= u64::from(place.whole_width)
+    let last = u64::from(first_column) + u64::from(width);
+    (first_row % 2 == 0 && first_column % 32 == 0) && last <= u64::from(whole_width)
 }
 
 /// The number of directions of a gas.

@@ -64,27 +64,6 @@ fn put_block(sums: &mut [i64], number: usize, k: usize, block: Block)
     sums[start..start + 4].copy_from_slice(&four);
 }
 
-// Writes the sums of all blocks.
-fn put_blocks<'a, G: Gas>(words: &Words<'a, G>, width: u32, height: u32, sums: &mut [i64])
-    requires some_columns { 1 ≤ width }
-    requires some_rows { 1 ≤ height }
-    requires long { length sums.old
-        ≡ div_ceil words.now.size.height height * div_ceil words.now.size.width width * 4 }
-    ensures sums { (col row : ℕ) → col < div_ceil words.now.size.width width →
-        row < div_ceil words.now.size.height height →
-        row_words 4 sums.new (row * div_ceil words.now.size.width width + col)
-        ≡ sums_of (block_at G.rules (lattice_in G.rules words.now.size.width words.now.size.height
-        words.now.solid.now words.now.states.now) width height row col) }
-{
-    let columns = words.size.width().div_ceil(width) as usize;
-    let rows = words.size.height().div_ceil(height) as usize;
-    for k in 0..rows * columns {
-        let (row, col) = ((k / columns) as u32, (k % columns) as u32);
-        let block = Block::of::<G, Words<'a, G>>(words, col, row, width, height);
-        put_block(sums, rows * columns, k, block);
-    }
-}
-
 /// Writes the sums of the blocks of a lattice, by rows of blocks from the top, each from the left. A
 /// block has `width` columns and `height` rows, and fewer at the right and at the bottom if the lattice
 /// ends there.
@@ -111,5 +90,11 @@ pub(crate) fn sum_blocks<G: Gas>(
         states,
         gas: PhantomData,
     };
-    put_blocks(&words, width, height, sums);
+    let columns = size.width().div_ceil(width) as usize;
+    let rows = size.height().div_ceil(height) as usize;
+    for k in 0..rows * columns {
+        let (row, col) = ((k / columns) as u32, (k % columns) as u32);
+        let block = Block::of::<G, Words<G>>(&words, col, row, width, height);
+        put_block(sums, rows * columns, k, block);
+    }
 }

@@ -1,8 +1,8 @@
 //! The reversal: every particle of a lattice turned.
-ghost use Rattle.std.specs.Prelude.{◌≡◌, ◌≢◌, ◌*◌, ◌/◌, ◌<◌, ◌≤◌, ℕ, length, slice_index};
+ghost use Rattle.std.specs.Prelude.{◌≡◌, ◌*◌, ◌/◌, ◌<◌, ◌≤◌, ℕ, length, slice_index};
 ghost use Rattle.gas_bits.specs.Words.{words_in};
 ghost use Rattle.gas_bits.specs.Planes.{state};
-ghost use Rattle.gas_export.specs.Planes.{row_words, state_at, turned};
+ghost use Rattle.gas_export.specs.Planes.{state_at, turned};
 
 use gas_bits::planes::{planes_at, write_planes_at};
 use gas_bits::word::words_for;
@@ -37,21 +37,6 @@ fn turn_row<G: Gas>(row: &mut [u64], words_each: usize)
     }
 }
 
-// Turns the particles of row `y` of `rows` rows of `n` words.
-fn turn_at<G: Gas>(states: &mut [u64], words_each: usize, rows: usize, y: usize, n: usize)
-    requires few_words { words_each ≤ words_in 65536 }
-    requires row_long { n ≡ G.rules.dirs * words_each }
-    requires row { y < rows }
-    requires rows { length states.old ≡ rows * n }
-    ensures here { (x : ℕ) → x / 64 < words_each →
-        state (row_words n states.new y) words_each G.rules.dirs x
-        ≡ turned G.rules (state (row_words n states.old y) words_each G.rules.dirs x) }
-    ensures others { (k : ℕ) → k < rows → k ≢ y → row_words n states.new k ≡ row_words n states.old k }
-{
-    let start = y * n;
-    turn_row::<G>(&mut states[start..start + n], words_each);
-}
-
 /// Turns every particle to the opposite direction.
 pub(crate) fn turn<G: Gas>(size: Size, states: &mut [u64])
     requires states { length states.old ≡ size.height * (G.rules.dirs * words_in size.width) }
@@ -61,8 +46,7 @@ pub(crate) fn turn<G: Gas>(size: Size, states: &mut [u64])
 {
     let words_each = words_for(size.width());
     let n = directions::<G>() * words_each;
-    let rows = size.height() as usize;
-    for y in 0..rows {
-        turn_at::<G>(states, words_each, rows, y, n);
+    for y in 0..size.height() as usize {
+        turn_row::<G>(&mut states[y * n..y * n + n], words_each);
     }
 }

@@ -3,11 +3,9 @@ use Rattle.std.proofs.lemmas.Bool.{cases_lt, cases_eq, false≢true}
 use Rattle.gas_geom.specs.Channel.{ChannelModel}
 use Rattle.gas_geom.specs.Lattice.{collided}
 use Rattle.gas_layout.specs.Layout.{channel_of}
-use Rattle.gas_rows.specs.declared.chirality.Chirality.{Chirality}
 use Rattle.gas_bits.specs.Words.{words_in, bit}
 use Rattle.gas_export.specs.Planes.{row_words, state_at, solid_at}
-use Rattle.gas_export.specs.Part.{part_bit}
-use Rattle.gas_export.specs.Inner.Source.{IsSourceOf}
+use Rattle.gas_export.specs.Inner.Source.{bit_of, IsReady}
 use Rattle.gas_export.proofs.Planes.{cell-collided, zero_bits}
 use Rattle.gas_export.proofs.step.step.Goals as goal
 
@@ -45,6 +43,10 @@ stream_above-requires-clause-fluid g c is =
       ],
     )
 
+pub draw_row-requires-clause-ready : goal.draw_row-requires-clause-ready
+draw_row-requires-clause-ready g c =
+    subst (λ v. IsReady c.args.source.chirality c.loop-y.generator.key v c.loop-y.bits) (sym c.width-in-loop-y.ensures.value) c.loop-y.invariant.ready
+
 pub loop-y-preserved : goal.loop-y-preserved
 loop-y-preserved g c =
     let gas = g.G.Gas.rules in
@@ -53,25 +55,21 @@ loop-y-preserved g c =
     let y : ℕ = c.loop-y.y in
     let solid : List ℕ = c.args.solid.now in
     let ch : ChannelModel = channel_of w h (solid_at w solid) in
-    let f : Chirality → ℕ → ℕ → Bool = λ chirality. part_bit chirality c.args.place.whole_width c.args.place.first_column c.args.place.first_row c.args.generation in
+    let f : ℕ → ℕ → Bool = bit_of c.args.source c.args.generation in
     let row : c.row_at-row.result.now ≡ row_words (words_in w) solid y =
     c.row_at-row.ensures.part ∙ ap (λ (n : ℕ). row_words n solid y) (c.words_for-words_each.ensures.value ∙ ap words_in c.width.ensures.value) in
     let in_rows : y < h = omega (arith, c.loop-y-test.true, c.loop-y.auto.y-end, c.height-y-end.ensures.value) in
-    let given : (chirality : Chirality) → IsSourceOf chirality c.args.seeded c.args.generator.now.key w c.args.bits.now
-    → IsSourceOf chirality c.args.seeded c.loop-y.generator.key c.width-in-loop-y.result c.loop-y.bits =
-    λ chirality source. subst (λ v. IsSourceOf chirality c.args.seeded c.loop-y.generator.key v c.loop-y.bits) (sym c.width-in-loop-y.ensures.value) (c.loop-y.invariant.source chirality source) in
-    let hit : (chirality : Chirality) (at : ℕ → ℕ → ℕ) → IsSourceOf chirality c.args.seeded c.args.generator.now.key w c.args.bits.now
-    → ((x y : ℕ) → x < w → y < h → state_at gas.dirs w c.args.states.now x y ≡ at x y)
-    → (x k : ℕ) → x < w → k < y + 1 → y ≤ k + 2 → state_at gas.dirs w c.collide_row.new.kept x (k % 3) ≡ collided gas ch (f chirality) at x k =
-    λ chirality at source same x k in_row below above. elim (cases_lt k y) [
-      | inl lt ↦ c.collide_row.ensures.others x (k % 3) (omega arith) (λ e. absurd (omega (arith, lt, above, e))) ∙ c.loop-y.invariant.hit chirality at source same x k in_row lt above
+    let hit : (at : ℕ → ℕ → ℕ) → ((x y : ℕ) → x < w → y < h → state_at gas.dirs w c.args.states.now x y ≡ at x y)
+    → (x k : ℕ) → x < w → k < y + 1 → y ≤ k + 2 → state_at gas.dirs w c.collide_row.new.kept x (k % 3) ≡ collided gas ch f at x k =
+    λ at same x k in_row below above. elim (cases_lt k y) [
+      | inl lt ↦ c.collide_row.ensures.others x (k % 3) (omega arith) (λ e. absurd (omega (arith, lt, above, e))) ∙ c.loop-y.invariant.hit at same x k in_row lt above
       | inr le ↦
           let here : y ≡ k = omega (arith, le, below) in
-          subst (λ j. state_at gas.dirs w c.collide_row.new.kept x (j % 3) ≡ collided gas ch (f chirality) at x j) here
-          (cell-collided gas w h x y solid (f chirality) at _ _ _ in_row in_rows
+          subst (λ j. state_at gas.dirs w c.collide_row.new.kept x (j % 3) ≡ collided gas ch f at x j) here
+          (cell-collided gas w h x y solid f at _ _ _ in_row in_rows
           (c.collide_row.ensures.here x in_row ∙ ap (λ (q : Bool). if q then 0 else gas.collide (state_at gas.dirs w c.loop-y.states x y) (bit c.draw_row.new.bits x)) (ap (λ ws. bit ws x) row))
           (c.loop-y.invariant.fresh x y (omega arith) in_rows ∙ same x y in_row in_rows)
-          (c.draw_row.ensures.collisions chirality (given chirality source) _ x (omega (arith, in_row, c.width-in-loop-y.ensures.value))))
+          (c.draw_row.ensures.collisions _ x (omega (arith, in_row, c.width-in-loop-y.ensures.value))))
     ] in
     record {
       states = c.stream_above.ensures.long ∙ c.loop-y.invariant.states;
@@ -87,26 +85,26 @@ loop-y-preserved g c =
             λ x. subst (λ (k : ℕ). bit (row_words (words_in w) solid k) x ≡ false) above
                 (ap (λ ws. bit ws x) (sym row) ∙ zero_bits c.row_at-row.result.now (c.are_zero-here.ensures.zero is) x),
           );
-      source = λ chirality source. subst (λ v. IsSourceOf chirality c.args.seeded c.draw_row.new.generator.key v c.draw_row.new.bits) c.width-in-loop-y.ensures.value (c.draw_row.ensures.source chirality (given chirality source));
+      ready = subst (λ v. IsReady c.args.source.chirality c.draw_row.new.generator.key v c.draw_row.new.bits) c.width-in-loop-y.ensures.value c.draw_row.ensures.ready;
       fresh = λ x k le k_in. c.stream_above.ensures.others x k k_in (λ e. absurd (omega (arith, le, e))) ∙ c.loop-y.invariant.fresh x k (omega (arith, le)) k_in;
-      hit = λ chirality at source same x k in_row below above. hit chirality at source same x k in_row below (omega (arith, above));
-      gone = λ chirality at source same x k in_row below. elim (cases_eq (k + 1) y) [
-        | inl e ↦ c.stream_above.ensures.here (collided gas ch (f chirality) at) (λ k' x' le ge k_in lt. hit chirality at source same x' k' lt (omega (arith, le)) ge) x k in_row e
-        | inr ne ↦ c.stream_above.ensures.others x k (omega (arith, below, in_rows)) ne ∙ c.loop-y.invariant.gone chirality at source same x k in_row (omega (arith, below, ne))
+      hit = λ at same x k in_row below above. hit at same x k in_row below (omega (arith, above));
+      gone = λ at same x k in_row below. elim (cases_eq (k + 1) y) [
+        | inl e ↦ c.stream_above.ensures.here (collided gas ch f at) (λ k' x' le ge k_in lt. hit at same x' k' lt (omega (arith, le)) ge) x k in_row e
+        | inr ne ↦ c.stream_above.ensures.others x k (omega (arith, below, in_rows)) ne ∙ c.loop-y.invariant.gone at same x k in_row (omega (arith, below, ne))
       ];
     }
 
 pub returns-clause-next : goal.returns-clause-next
-returns-clause-next g c = λ chirality at source same x y in_row in_rows.
+returns-clause-next g c = λ at same x y in_row in_rows.
     let gas = g.G.Gas.rules in
     let w : ℕ = c.args.size.width in
     let h : ℕ = c.args.size.height in
     let ch : ChannelModel = channel_of w h (solid_at w c.args.solid.now) in
-    let f : ℕ → ℕ → Bool = part_bit chirality c.args.place.whole_width c.args.place.first_column c.args.place.first_row c.args.generation in
+    let f : ℕ → ℕ → Bool = bit_of c.args.source c.args.generation in
     let end : c.loop-y.y ≡ h = omega (arith, c.loop-y-test.false, c.loop-y.auto.y-end, c.height-y-end.ensures.value) in
     elim (cases_eq (y + 1) h) [
       | inl e ↦ c.stream_above-2.ensures.here (collided gas ch f at)
-          (λ k x' le ge k_in lt. c.loop-y.invariant.hit chirality at source same x' k lt (omega (arith, k_in, end)) (omega (arith, ge, end, c.height.ensures.value))) x y in_row (omega (arith, e, c.height.ensures.value))
+          (λ k x' le ge k_in lt. c.loop-y.invariant.hit at same x' k lt (omega (arith, k_in, end)) (omega (arith, ge, end, c.height.ensures.value))) x y in_row (omega (arith, e, c.height.ensures.value))
       | inr ne ↦ c.stream_above-2.ensures.others x y in_rows (λ e. absurd (omega (arith, e, ne, c.height.ensures.value)))
-          ∙ c.loop-y.invariant.gone chirality at source same x y in_row (omega (arith, in_rows, ne, end))
+          ∙ c.loop-y.invariant.gone at same x y in_row (omega (arith, in_rows, ne, end))
     ]

@@ -1,6 +1,6 @@
-use Rattle.std.proofs.Common.{◌≡◌, ◌+◌, ◌-◌, ◌*◌, ℤ, List, [], ◌∷◌, length, pos, to_z, of_z, w64, ap, ◌∙◌, refl, arith}
+use Rattle.std.proofs.Common.{◌≡◌, ℤ, [], ◌∷◌, pos, to_z, of_z, w64, ◌∙◌, refl, arith}
 use Rattle.std.proofs.lemmas.Int.{ints}
-use Rattle.gas_export.proofs.Planes.{put-here, put-other}
+use Rattle.gas_export.proofs.Planes.{row-written, row-apart}
 use Rattle.gas_export.proofs.sums.put_block.Goals as goal
 
 four-same : (a b c d a' b' c' d' : ℤ) → a ≡ a' → b ≡ b' → c ≡ c' → d ≡ d' → (a ∷ b ∷ c ∷ d ∷ []) ≡ (a' ∷ b' ∷ c' ∷ d' ∷ [])
@@ -12,13 +12,9 @@ returns-clause-here c =
     let particles : to_z w64 c.args.block.particles ≡ pos c.args.block.particles = omega (arith, ints, c.requires.particles) in
     let px : to_z w64 (of_z w64 c.args.block.px) ≡ c.args.block.px = omega (arith, ints) in
     let py : to_z w64 (of_z w64 c.args.block.py) ≡ c.args.block.py = omega (arith, ints) in
-    let cut : c.args.k * 4 + 4 - c.args.k * 4 ≡ 4 = omega arith in
-    put-here (pos 0) 4 c.args.number c.args.k _ _ c.args.sums.now c.copy_from_slice.new.self refl cut c.requires.long
-    (ap (λ (ws : List ℤ). length ws) c.copy_from_slice.ensures.after) c.requires.within
+    row-written (pos 0) 4 4 c.args.number c.args.k c.args.sums.now c.copy_from_slice.new.self refl c.requires.long c.copy_from_slice.auto.self c.requires.within
     ∙ c.copy_from_slice.ensures.after ∙ four-same _ _ _ _ _ _ _ _ fluid particles px py
 
 pub returns-clause-others : goal.returns-clause-others
 returns-clause-others c = λ j j_in ne.
-    let cut : c.args.k * 4 + 4 - c.args.k * 4 ≡ 4 = omega arith in
-    put-other (pos 0) 4 c.args.number c.args.k j _ _ c.args.sums.now c.copy_from_slice.new.self refl cut c.requires.long
-    (ap (λ (ws : List ℤ). length ws) c.copy_from_slice.ensures.after) c.requires.within j_in ne
+    row-apart (pos 0) 4 4 c.args.number c.args.k j c.args.sums.now c.copy_from_slice.new.self refl c.requires.long c.copy_from_slice.auto.self c.requires.within j_in ne
