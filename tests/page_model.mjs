@@ -136,6 +136,8 @@ tried("the program's sums of the same cells", () => {
   near("v", frame.v, (py * Math.sqrt(3)) / 2 / particles, 1e-9);
   near("the force", frame.force, (2 * kicks) / fluid, 1e-9);
   near("filling", frame.middle, 0.18, 0.003);
+  flow.turn();
+  near("u on the way back", frameOf(flow, 0).u, -(px + 4 * kicks) / 2 / particles, 1e-9);
   near("blocked part", frame.blockage, 22 / (128 * Math.sqrt(0.75)), 0.02);
 });
 

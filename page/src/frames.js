@@ -94,6 +94,7 @@ export class Watched {
     const sums = flow.sums(view.block, flow.tall(view.block));
     if (generations || !stream.generations) stream.add(generations, sums);
     const mean = this.means(view, generations, sums), [fluid, particles, px, py] = flow.totals(), all = particles || 1;
+    const [blown, force] = direction > 0 ? [drive.velocity.found, drive.force.found] : [null, null];
     const { columns, rows, width, height, u, v } = stream.mean, { fastest, blockage, incoming } = stream;
     cells.isBuilt = false;
     flow.notes = [];
@@ -102,7 +103,7 @@ export class Watched {
       per: kernel.per, chirality, seed, generation, direction, found, canTurn, mark, notes, fluid, particles,
       origin: history.origin.generation, isCut: history.isCut,
       // means over time, before particles are turned, and of the momentum that is added per fluid cell and generation
-      u: (drive.wind === null ? null : drive.velocity.found) ?? (px * gas.units[0]) / all, force: drive.force.found,
+      u: blown ?? (px * gas.units[0]) / all, force,
       v: (py * gas.units[1]) / all, wind: drive.wind,
       fastest, blockage, incoming, flow: { columns, rows, width, height, u, v },
       field: view.field, ...mean.shown(view.field), middle: mean.middle, columns: mean.columns, rows: mean.rows,

@@ -47,7 +47,7 @@ function paintAll(warnings) {
     "filling d": of(({ filling }) => filling.toFixed(3)),
     "mean u, cells per generation": each(({ u }) => fixed(u, 3)),
     "mean v": each(({ v }) => fixed(v, 3)),
-    "force per fluid cell and generation": each((frame) => (frame.wind === null ? "–" : value(frame.force))),
+    "force per fluid cell and generation": each(({ force }) => value(force)),
     "speed of the fastest block": each(({ fastest }) => fixed(fastest, 3)),
     "Mach of the fastest block": of(({ fastestMach }) => fastestMach.toFixed(2)),
     "Mach of the mean": of(({ mach }) => mach.toFixed(2)),
