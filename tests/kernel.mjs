@@ -35,7 +35,7 @@ function sameSums(flow, wide, tall) {
   const done = spawnSync(program, words, { input: sceneOf(flow).replace(/generation = .*/, "generation = 0"), maxBuffer: 1 << 28 });
   const [, ...rows] = done.stdout.toString().trimEnd().split("\n"), { numbers } = sumsOf(flow.kernel, wide, tall);
   const totals = flow.totals(), sum = (part) => numbers.filter((_, k) => k % 4 === part).reduce((a, b) => a + b, 0);
-  const isWhole = totals.every((total, part) => total === sum(part)) && String(gathered(flow.sums(1, 1), wide, tall).numbers) === String(numbers);
+  const isWhole = totals.every((total, part) => total === sum(part)) && (wide < 4 || String(gathered(sumsOf(flow.kernel, 4, 1), wide, tall).numbers) === String(numbers));
   return isWhole && done.status === 0 && rows.every((row, i) => row.split(/[\s,]+/).slice(-4).every((value, k) => Number(value) === numbers[4 * i + k]));
 }
 

@@ -147,6 +147,7 @@ export class TimeMean {
   /** Some of the parts, smoothed over neighbours. */
   smoothed(which) {
     const { parts, smooth, columns, rows, times } = this;
+    if (!times) return which.map((k) => parts[k]);
     for (const k of which) {
       smooth[k].set(parts[k]);
       for (let time = 0; time < times; time++) smoothen(smooth[k], smooth[4], columns, rows);

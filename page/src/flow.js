@@ -5,7 +5,7 @@ import { Drive } from "./drive.js";
 import { SOLID, collisions, turns } from "./gases.js";
 import { History } from "./history.js";
 import { copied } from "./kernel.js";
-import { sumsOf, totalsOf } from "./sums.js";
+import { FINE, sumsOf, totalsOf } from "./sums.js";
 
 const MOST_PATCHES = 64 * 2 ** 20; // bytes of what was done to the cells
 
@@ -60,10 +60,10 @@ export class Flow {
     return Math.max(1, Math.round(wide / this.gas.apart));
   }
 
-  /** Sums of blocks, 1, 2, 4, 8, 16 or 32 columns wide, and by the way of all cells. */
+  /** Sums of blocks, 1, 2, 4, 8, 16 or 32 columns wide, and by the way of all cells, if the blocks are few. */
   sums(wide, tall) {
     const sums = sumsOf(this.kernel, wide, tall);
-    this.summed = { changes: this.changes, totals: totalsOf(sums) };
+    if (wide > FINE) this.summed = { changes: this.changes, totals: totalsOf(sums) };
     return sums;
   }
 

@@ -45,7 +45,9 @@ export function paintLattice(c, frame, scale, { walls, tracers, field }, hasTrac
   const colours = coloursOf(frame.field), [across, down] = [width / block, height / blockRows]; // last blocks jut out
   c.globalAlpha = cells ? FAINT : 1;
   c.imageSmoothingEnabled = block > 1;
-  imageOf(field, columns, rows, (out) => pixels.forEach((value, i) => (out[i] = colours[value])));
+  imageOf(field, columns, rows, (out) => {
+    for (let i = 0; i < pixels.length; i++) out[i] = colours[pixels[i]];
+  });
   if (!cells || block > 1) c.drawImage(field, 0, 0, across, down, left, top, width * scale, tall);
   c.globalAlpha = 1;
   if (hasTracers && !cells) tracers.paint(c, frame, scale);

@@ -1,5 +1,7 @@
 // Sums over blocks of cells, by counting the bits of planes.
+import { SOLID } from "./gases.js";
 
+export const FINE = 2; // columns of blocks that are more work to add up than to count anew
 const MOST_ROWS = 31; // of 8 columns, whose count a byte takes
 const HALVES = 0x00ff00ff, NOUGHT = 0x8000; // a word is two fields, in which this stands for 0
 
@@ -10,7 +12,7 @@ const bytes = (word) => {
   return (four + (four >>> 4)) & 0x0f0f0f0f;
 };
 /** What counts the bits of each field of a word, in that field. */
-const COUNTED = { 1: (word) => word, 2: twos, 4: (word) => fours(twos(word)), 8: bytes };
+const COUNTED = { 2: twos, 4: (word) => fours(twos(word)), 8: bytes };
 
 export const bits = (word) => Math.imul(bytes(word), 0x01010101) >>> 24;
 
@@ -19,11 +21,54 @@ export const bits = (word) => Math.imul(bytes(word), 0x01010101) >>> 24;
  * cells, particles, and momenta in the gas's units.
  * @param {{ cells: Int32Array, solid: Int32Array, width: number, height: number, per: number, gas: any }} planes
  */
-export function sumsOf({ cells, solid, width, height, per, gas: { directions, momenta } }, wide, tall) {
-  const columns = Math.ceil(width / wide), rows = Math.ceil(height / tall), all = directions * per;
-  const parts = Math.max(1, 8 / wide), numbers = new Int32Array(4 * columns * rows);
+export function sumsOf(planes, wide, tall) {
+  const columns = Math.ceil(planes.width / wide), rows = Math.ceil(planes.height / tall);
+  const numbers = new Int32Array(4 * columns * rows);
+  if (wide === 1) addCells(numbers, planes, tall);
+  else addBlocks(numbers, planes, columns, wide, tall);
+  return { columns, rows, width: wide, height: tall, numbers };
+}
+
+/** The states of the cells x, x + 8, x + 16 and x + 24 of a row, as the bytes of a word. */
+function fourStates({ cells, solid, per, gas: { directions } }, x, y) {
+  const word = y * per + (x >> 5), first = word + y * (directions - 1) * per, bit = x & 7;
+  let states = (solid[word] >>> bit & 0x01010101) << 7;
+  for (let i = 0; i < directions; i++) states |= (cells[first + i * per] >>> bit & 0x01010101) << i;
+  return states;
+}
+
+/** The numbers of a fluid cell by its state. */
+function tableOf({ momenta }) {
+  const table = new Int32Array(4 * SOLID);
+  const add = (state, ...parts) => parts.forEach((part, k) => (table[4 * state + k] += part));
+  for (let state = 0; state < SOLID; state++) {
+    add(state, 1);
+    momenta.forEach((momentum, i) => state >> i & 1 && add(state, 0, 1, ...momentum));
+  }
+  return table;
+}
+
+/** Adds each cell to its block, which is one column wide. */
+function addCells(numbers, planes, tall) {
+  const { width, height, gas } = planes, table = tableOf(gas);
+  for (let y = 0; y < height; y++) {
+    const row = Math.floor(y / tall) * width;
+    for (let word = 0; word < width; word += 32) {
+      for (let x = word; x < Math.min(word + 8, width); x++) {
+        for (let at = x, states = fourStates(planes, x, y); at < Math.min(word + 32, width); at += 8, states >>>= 8) {
+          if (states & SOLID) continue;
+          for (let k = 0; k < 4; k++) numbers[4 * (row + at) + k] += table[4 * (states & SOLID - 1) + k];
+        }
+      }
+    }
+  }
+}
+
+/** Adds the words of each row of blocks, whose number is `columns`. */
+function addBlocks(numbers, { cells, solid, width, height, per, gas: { directions, momenta } }, columns, wide, tall) {
+  const parts = Math.max(1, 8 / wide), all = directions * per;
   const walls = new Int32Array(parts), counts = momenta.map(() => new Int32Array(parts));
-  for (let i = 0; i < columns * rows; i++) {
+  for (let i = 0; 4 * i < numbers.length; i++) {
     const x = (i % columns) * wide, y = Math.floor(i / columns) * tall;
     numbers[4 * i] = Math.min(wide, width - x) * Math.min(tall, height - y);
   }
@@ -37,7 +82,6 @@ export function sumsOf({ cells, solid, width, height, per, gas: { directions, mo
       addFields(numbers, block, walls, counts, momenta);
     }
   }
-  return { columns, rows, width: wide, height: tall, numbers };
 }
 
 /** Counts the bits of a plane's word in some rows. Field k of its byte b is counted in byte b of counts[k]. */
@@ -79,9 +123,9 @@ function addFields(numbers, { first, columns, x, wide }, walls, counts, momenta)
   }
 }
 
-/** The sums of larger blocks, if each consists of whole smaller ones, else null. */
+/** The sums of larger blocks, if each consists of whole smaller ones that are not fine, else null. */
 export function gathered({ columns, rows, width, height, numbers }, wide, tall) {
-  if (wide % width || tall % height) return null;
+  if (width <= FINE || wide % width || tall % height) return null;
   const across = wide / width, down = tall / height, fewer = Math.ceil(columns / across);
   const lines = Math.ceil(rows / down), sums = new Int32Array(4 * fewer * lines);
   for (let y = 0, from = 0; y < rows; y++) {
