@@ -38,7 +38,7 @@ pub use gas_pipe_members::plan::{Plan, PlanError, RunError};
 use gas_pipe_members::plan::{RunInput, Schedule};
 pub use gas_pipe_members::worker::Worker;
 pub use gas_pipe_model::pass;
-pub use gas_pipe_replay::answer::{Counts, Replay};
+pub use gas_pipe_replay::pass::{Counts, Replay};
 pub use gas_pipe_replay::replay;
 use gas_rows::chirality::Chirality;
 use gas_rows::lattice::Lattice;

@@ -10,7 +10,7 @@ use Rattle.gas_pipe_members.specs.Worker.{WorkerModel}
 use Rattle.gas_pipe_members.specs.Feeder.{FeederModel}
 use Rattle.gas_pipe_replay.specs.Replay.{counts_of}
 use Rattle.gas_pipe_replay.specs.Inner.LocalLine.{belt, Shows}
-use Rattle.gas_pipe_replay.specs.declared.answer.Counts.{Counts}
+use Rattle.gas_pipe_replay.specs.declared.pass.Counts.{Counts}
 
 pub counts_more : (gas : Rules) (input : RunInputModel) (f : FeederModel) (ws : List WorkerModel) (bs : List BeltModel) (s : State) → Shows gas input f ws bs s →
     (k : ℕ) → k ≤ input.plan.stages → (counts : List Counts) → counts ≡ map (counts_of s) (range_with_len 0 k) →

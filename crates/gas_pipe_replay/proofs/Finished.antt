@@ -16,7 +16,7 @@ use Rattle.gas_pipe_members.specs.Worker.{WorkerModel}
 use Rattle.gas_pipe_members.specs.Feeder.{FeederModel}
 use Rattle.gas_pipe_members.specs.Inner.Queue.{emptied}
 use Rattle.gas_pipe_replay.specs.Replay.{ReplayModel, counts_of, replay_of}
-use Rattle.gas_pipe_replay.specs.declared.answer.Counts.{Counts}
+use Rattle.gas_pipe_replay.specs.declared.pass.Counts.{Counts}
 use Rattle.gas_pipe_replay.specs.Inner.LocalLine.{Shows}
 use Rattle.gas_pipe_model.proofs.Generations.{pass_carries, rows_high, ends_last}
 use Rattle.gas_pipe_members.proofs.Emptied.{emptied_lattice}

@@ -8,7 +8,7 @@ use Rattle.gas_stage.specs.Evolution.{lattice_after}
 use Rattle.gas_pipe_model.specs.Line.{State, is_done}
 use Rattle.gas_pipe_model.specs.Pass.{RunInputModel, line_of, after}
 use Rattle.gas_pipe_model.specs.Plan.{PlanModel}
-use Rattle.gas_pipe_replay.specs.declared.answer.Counts.{Counts}
+use Rattle.gas_pipe_replay.specs.declared.pass.Counts.{Counts}
 
 -- the lattice, if the pass is done, and how far each belt is
 pub record ReplayModel : Type 0 where

@@ -1,8 +1,8 @@
 //! A pass of the line on one thread, in which the members make given turns.
 #![tactic(auto)]
 
-pub mod answer;
 mod local_line;
+pub mod pass;
 
 ghost use Rattle.std.specs.Prelude.{◌≡◌, ◌≤◌, ◌<◌, ◌+◌, ◌*◌, ◌^◌, ℕ, Err, IfOk, IsSome, ◌↔◌};
 ghost use Rattle.std.specs.Int.{div_ceil};
@@ -11,8 +11,8 @@ ghost use Rattle.gas_stage.specs.Evolution.{lattice_after};
 ghost use Rattle.gas_pipe_model.specs.Line.{HasRounds};
 ghost use Rattle.gas_pipe_replay.specs.Replay.{replay_of};
 
-use crate::answer::Replay;
 use crate::local_line::LocalLine;
+use crate::pass::Replay;
 use gas_geom::gas::Gas;
 use gas_pipe_members::plan::{Plan, RunError, RunInput, Schedule};
 use gas_rows::chirality::Chirality;

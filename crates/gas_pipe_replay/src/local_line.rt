@@ -9,7 +9,7 @@ ghost use Rattle.gas_pipe_members.specs.Worker.{WorkerModel};
 ghost use Rattle.gas_pipe_replay.specs.Replay.{counts_of};
 ghost use Rattle.gas_pipe_replay.specs.Inner.LocalLine.{HaveBegun, AreUnused, Shows};
 
-use crate::answer::Counts;
+use crate::pass::Counts;
 use gas_geom::gas::Gas;
 use gas_pipe_members::ends::Turned;
 use gas_pipe_members::feeder::Feeder;

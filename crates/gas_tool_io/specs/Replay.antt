@@ -5,7 +5,7 @@ use Rattle.std.specs.List.{flat_map, range_with_len}
 use Rattle.std.specs.Option.{option_map_or}
 use Rattle.gas_geom.specs.Gas.{Rules}
 use Rattle.gas_pipe_replay.specs.Replay.{ReplayModel}
-use Rattle.gas_pipe_replay.specs.declared.answer.Counts.{Counts}
+use Rattle.gas_pipe_replay.specs.declared.pass.Counts.{Counts}
 use Rattle.gas_tool_io.specs.Text.{line_feed, cells_text}
 
 -- the line of belt k: the numbers of rows put on it and taken from it

@@ -12,7 +12,7 @@ ghost use Rattle.gas_tool_io.specs.Replay.{belt_line, replay_text};
 use crate::output::{Sink, put_line};
 use crate::text::{WriteFault, put_cells};
 use gas_geom::gas::Gas;
-use gas_pipe_replay::answer::Replay;
+use gas_pipe_replay::pass::Replay;
 use std::io::Write;
 
 fn put_done<W: Write>(sink: &mut Sink, out: &mut W, done: bool)
