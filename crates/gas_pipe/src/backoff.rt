@@ -1,4 +1,4 @@
-//! When a member of the line that waits spins, yields and parks. Public for tests only.
+//! When a thread of the line that waits spins, yields and parks. Public for tests only.
 ghost use Rattle.std.specs.Prelude.{◌≡◌, ◌↔◌, Some, None, IfSome, IsSome, IsTrue, IsFalse, true, false};
 ghost use Rattle.gas_pipe.specs.declared.backoff.Phase.TheVariants.{Announce, Park};
 
@@ -22,7 +22,7 @@ const SPINS_WITHOUT_YIELDS: u32 = 128;
 pub(crate) const LONGEST_PARK_MILLIS: u64 = 1;
 
 // A trial is a wait without yields: it finds out whether yields are expensive. If they are, all
-// members of a run stop yielding for a while.
+// threads of a run stop yielding for a while.
 
 // Waits from the first trial to the next: few, so that busy processors are noticed soon.
 const FIRST_GAP: u32 = 4;
@@ -36,7 +36,7 @@ const LATE_WAKES: u32 = 3;
 // Waits of a ban: many, because it takes long to find out again that yields are expensive.
 const WAITS_WITHOUT_YIELDS: u64 = 16_384;
 
-/// What a member does after a try in which it could neither put nor take a row.
+/// What a thread does after a try in which it could neither put nor take a row.
 #[derive(Clone, Copy, Debug, PartialEq, Eq)]
 pub enum Phase {
     /// It tries again at once.
@@ -50,7 +50,7 @@ pub enum Phase {
     Park,
 }
 
-/// The policy by which one member waits: a value that is stepped after each try that failed.
+/// The policy by which one thread waits: a value that is stepped after each try that failed.
 /// Contracts see whether its last step announced a park.
 #[derive(Drop)]
 pub struct Backoff {
@@ -146,7 +146,7 @@ enum Mode {
     Banned,
 }
 
-/// The number of waits to come in which no member of a run yields. All members count them down, so
+/// The number of waits to come in which no thread of a run yields. All threads count them down, so
 /// the count is not exact.
 #[derive(Drop)]
 pub struct YieldBan {
@@ -169,14 +169,14 @@ impl YieldBan {
     fn is_banned_now(&self) -> bool {
         let left = self.waits.load(Ordering::Relaxed);
         if left > 0 {
-            // Members that count at the same time may count one wait for two.
+            // Threads that count at the same time may count one wait for two.
             self.waits.store(left - 1, Ordering::Relaxed);
         }
         left > 0
     }
 }
 
-// The mode of a member's waits, and when its trials come: further apart after each trial that ended
+// The mode of a thread's waits, and when its trials come: further apart after each trial that ended
 // without a late wake-up.
 #[derive(Drop)]
 struct Trials {

@@ -12,22 +12,22 @@ use std::{hint, thread};
 #[derive(Drop)]
 pub struct Waiter<'a> {
     wake_ups: &'a WakeUps,
-    member: usize,
+    thread: usize,
     before: usize,
     behind: usize,
     backoff: Backoff,
 }
 
 impl<'a> Waiter<'a> {
-    /// The waiter of a thread. The feeder's is number 0.
-    pub(crate) fn new(wake_ups: &'a WakeUps, member: u32) -> Self {
-        let member = member as usize;
-        let last = wake_ups.last_member();
+    /// The waiter of a thread. The caller's is number 0.
+    pub(crate) fn new(wake_ups: &'a WakeUps, thread: u32) -> Self {
+        let thread = thread as usize;
+        let last = wake_ups.last_thread();
         Waiter {
             wake_ups,
-            member,
-            before: if member == 0 { last } else { member - 1 },
-            behind: if member < last { member + 1 } else { 0 },
+            thread,
+            before: if thread == 0 { last } else { thread - 1 },
+            behind: if thread < last { thread + 1 } else { 0 },
             backoff: Backoff::new(),
         }
     }
@@ -41,9 +41,9 @@ impl<'a> Waiter<'a> {
         match phase {
             Phase::Spin => hint::spin_loop(),
             Phase::Yield => thread::yield_now(),
-            Phase::Announce => self.wake_ups.announce_park(self.member),
+            Phase::Announce => self.wake_ups.announce_park(self.thread),
             Phase::Park => {
-                let was_woken = self.wake_ups.park(rt, self.member);
+                let was_woken = self.wake_ups.park(rt, self.thread);
                 self.backoff.note_park(was_woken);
             }
         }
@@ -53,7 +53,7 @@ impl<'a> Waiter<'a> {
     // Ends a wait.
     fn end_wait(&mut self) {
         if self.backoff.end_wait() {
-            self.wake_ups.withdraw_park(self.member);
+            self.wake_ups.withdraw_park(self.thread);
         }
     }
 

@@ -15,8 +15,8 @@ const AWAKE: u64 = 0;
 
 const PARKING: u64 = 1;
 
-/// The stop flag of a run, and for each member of the line whether it parks or is about to: member
-/// 0 is the feeder, and member k is worker k. Contracts see the number of members.
+/// The stop flag of a run, and for each of its threads whether it parks or is about to. Threads are
+/// counted from the caller's, 0. Contracts see their number.
 #[derive(Drop)]
 pub struct WakeUps {
     stop: AtomicBool,
@@ -33,13 +33,13 @@ impl Model for WakeUps {
 }
 
 impl WakeUps {
-    /// The wake-ups of a feeder and this number of workers, all awake.
-    pub fn new(alloc: Global, workers: u32) -> Result<Self, AllocError>
-        ensures { IfOk result (λ w. w ≡ workers + 1) }
+    /// The wake-ups of the caller's thread and of this number of others, all awake.
+    pub fn new(alloc: Global, others: u32) -> Result<Self, AllocError>
+        ensures { IfOk result (λ w. w ≡ others + 1) }
     {
-        let members = workers as usize + 1;
-        let mut states = Vec::with_capacity(alloc, members)?;
-        for k in 0..members {
+        let threads = others as usize + 1;
+        let mut states = Vec::with_capacity(alloc, threads)?;
+        for k in 0..threads {
             states.push(CachePadded::new(AtomicU64::new(AWAKE)))?;
         }
         Ok(WakeUps {
@@ -59,36 +59,36 @@ impl WakeUps {
         self.stop.load(Ordering::SeqCst)
     }
 
-    /// The member that the feeder takes from.
-    pub(crate) fn last_member(&self) -> usize {
+    /// The thread that the caller's takes rows from.
+    pub(crate) fn last_thread(&self) -> usize {
         self.states.len().saturating_sub(1)
     }
 
-    /// The ban on yields that all members share.
+    /// The ban on yields that all threads share.
     pub(crate) fn yield_ban(&self) -> &YieldBan {
         &self.yield_ban
     }
 
-    fn set(&self, member: usize, state: u64) {
-        if let Some(current) = self.states.get(member) {
+    fn set(&self, thread: usize, state: u64) {
+        if let Some(current) = self.states.get(thread) {
             current.store(state, Ordering::SeqCst);
         }
     }
 
-    /// Announces that a member parks, so that its neighbours wake it.
-    pub fn announce_park(&self, member: usize) {
-        self.set(member, PARKING);
+    /// Announces that a thread parks, so that its neighbours wake it.
+    pub fn announce_park(&self, thread: usize) {
+        self.set(thread, PARKING);
     }
 
-    /// Withdraws the announcement of a member that goes on without a park.
-    pub fn withdraw_park(&self, member: usize) {
-        self.set(member, AWAKE);
+    /// Withdraws the announcement of a thread that goes on without a park.
+    pub fn withdraw_park(&self, thread: usize) {
+        self.set(thread, AWAKE);
     }
 
-    /// Parks a member until it is woken, but not for long, so that it also sees the stop flag.
+    /// Parks a thread until it is woken, but not for long, so that it also sees the stop flag.
     /// Returns at once if it was woken since it announced the park. Returns whether it was woken.
-    pub fn park<R: Wait>(&self, rt: &R, member: usize) -> bool {
-        let Some(state) = self.states.get(member) else {
+    pub fn park<R: Wait>(&self, rt: &R, thread: usize) -> bool {
+        let Some(state) = self.states.get(thread) else {
             return true;
         };
         state.park_timeout(
@@ -99,9 +99,9 @@ impl WakeUps {
         state.load(Ordering::SeqCst) == AWAKE
     }
 
-    /// Wakes a member that parks or has announced that it does.
-    pub fn wake(&self, member: usize) {
-        if let Some(state) = self.states.get(member) {
+    /// Wakes a thread that parks or has announced that it does.
+    pub fn wake(&self, thread: usize) {
+        if let Some(state) = self.states.get(thread) {
             if state.load(Ordering::SeqCst) == PARKING {
                 state.store(AWAKE, Ordering::SeqCst);
                 state.wake_one();
