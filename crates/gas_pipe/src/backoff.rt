@@ -6,7 +6,7 @@ use crossbeam_utils::CachePadded;
 use std::marker::Model;
 use std::sync::atomic::{AtomicU64, Ordering};
 
-// The numbers of the policy. Their reasons are in docs/DECISIONS.md ("How a member waits").
+// The numbers of the policy. Their reasons are in docs/DECISIONS.md ("How a thread waits").
 
 // Spins before the first yield: few, because the neighbour that makes the row may need the
 // processor.

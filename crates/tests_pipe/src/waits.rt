@@ -1,5 +1,5 @@
-//! How a member waits, stepped by hand: the phases of its waits, the bans on yields, and wake-ups.
-//! The numbers are those that docs/DECISIONS.md states ("How a member waits").
+//! How a thread waits, stepped by hand: the phases of its waits, the bans on yields, and wake-ups.
+//! The numbers are those that docs/DECISIONS.md states ("How a thread waits").
 
 use gas_pipe::backoff::Phase::{Announce, Park, Spin, Yield};
 use gas_pipe::backoff::{Backoff, Phase, YieldBan};
@@ -16,7 +16,7 @@ fn goes_on(rt: &impl Abort, backoff: &mut Backoff, ban: &YieldBan, phase: Phase,
     }
 }
 
-// The member parks twice, and before each park it announces it and tries once more; then the wait
+// The thread parks twice, and before each park it announces it and tries once more; then the wait
 // ends.
 fn parks(rt: &impl Abort, backoff: &mut Backoff, ban: &YieldBan, was_woken: bool) {
     for _ in 0..2 {
@@ -94,9 +94,9 @@ fn three_missed_waits_ban_yields(rt: HostRuntime) {
     yields(&rt, &mut backoff, &ban, true);
 }
 
-// All members of a run count a ban down. After it the first wait of each is a trial.
+// All threads of a run count a ban down. After it the first wait of each is a trial.
 #[test]
-fn a_ban_holds_for_all_members(rt: HostRuntime) {
+fn a_ban_holds_for_all_threads(rt: HostRuntime) {
     let (mut one, mut other, ban) = (Backoff::new(), Backoff::new(), YieldBan::new());
     for _ in 0..3 {
         tries_without_yields(&rt, &mut one, &ban, false);
@@ -130,7 +130,7 @@ fn the_stop_flag_ends_every_phase(rt: HostRuntime) {
     }
 }
 
-// A member takes a row as soon as it finds one; where it finds none it takes a step. Its neighbour
+// A thread takes a row as soon as it finds one; where it finds none it takes a step. Its neighbour
 // puts one row between a try and a step. Returns the step after which it found the row; None where
 // it parked and was not woken.
 fn found_at(rt: &impl Wait, wake_ups: &WakeUps, put_at: u32) -> Option<u32> {
