@@ -5,8 +5,9 @@ use Rattle.gas_geom.specs.Gas.{Rules}
 use Rattle.gas_rows.specs.Row.{RowModel}
 use Rattle.gas_belt.specs.Belt.{Belt, InnerModel}
 use Rattle.gas_pipe_model.specs.Pass.{RunInputModel}
+use Rattle.gas_pipe_members.specs.Feeder.{FeederModel}
 use Rattle.gas_pipe.specs.Inner.Hand.{HandModel, PostModel, post_of, post_in, HasCome, HasFinished}
-use Rattle.gas_pipe.specs.Inner.Chain.{ChainModel, FeedingModel, AllHaveCome, AllHaveFinished, IsRunning, SameHead, SameChain, put_first}
+use Rattle.gas_pipe.specs.Inner.Chain.{ChainModel, AllHaveCome, AllHaveFinished, IsRunning, SameHead, SameChain, put_first}
 use Rattle.gas_pipe.specs.Inner.Links.{IsUnused, posts_in, IsChainOf, OwnsFeeder, Linked, AllRunning, IsLinked, last_belt, workers_in}
 use Rattle.gas_pipe.specs.declared.chain.Head.{Head}
 use Rattle.gas_pipe.specs.declared.chain.Head.TheVariants.{Feeder, Worker}
@@ -51,7 +52,7 @@ all_come gas input k (suc n) (h ∷ hs) [] come unused posts count = absurd (ome
 
 pub all_running : (gas : Rules) (input : RunInputModel) (k : ℕ) (from : Belt) (cs : List ChainModel) → Linked gas input k from cs → AllRunning gas cs
 all_running gas input k from [] l = tt
-all_running gas input k from (c ∷ cs) l = (l.0.running, all_running gas input (suc k + length c.hands) c.tx.belt cs l.1)
+all_running gas input k from (c ∷ cs) l = ((input, l.0.running), all_running gas input (suc k + length c.hands) c.tx.belt cs l.1)
 
 pub last_belt_snoc : (from : Belt) (cs : List ChainModel) (c : ChainModel) → last_belt from (cs ++ c ∷ []) ≡ c.tx.belt
 last_belt_snoc from [] c = refl
@@ -77,24 +78,23 @@ counted [] (i ∷ is) e = absurd (let n : suc (length (map post_of is)) ≡ 0 = 
 counted (h ∷ hs) [] e = absurd (let n : 0 ≡ suc (length (map post_of hs)) = ap length e in omega (arith, n))
 
 -- the feeder's chain stays that while it runs
-same_feeder : (f : FeedingModel) (h : Head FeedingModel HandModel) → SameHead (Feeder f) h → (g : FeedingModel) × (h ≡ Feeder g) × (g.input ≡ f.input)
-same_feeder f (Feeder g) same = (g, refl, same)
+same_feeder : (f : FeederModel) (h : Head FeederModel HandModel) → SameHead (Feeder f) h → (g : FeederModel) × (h ≡ Feeder g)
+same_feeder f (Feeder g) same = (g, refl)
 same_feeder f (Worker w) same = absurd same
 
-pub owns_still : (gas : Rules) (input : RunInputModel) (c d : ChainModel) → OwnsFeeder gas input c → SameChain c d → IsRunning gas d → OwnsFeeder gas input d
+pub owns_still : (gas : Rules) (input : RunInputModel) (c d : ChainModel) → OwnsFeeder gas input c → SameChain c d → IsRunning gas input d → OwnsFeeder gas input d
 owns_still gas input c d owns same running =
-    let found = same_feeder owns.f d.head (subst (λ (h : Head FeedingModel HandModel). SameHead h d.head) owns.head same.head) in
+    let found = same_feeder owns.f d.head (subst (λ (h : Head FeederModel HandModel). SameHead h d.head) owns.head same.head) in
     let count : length d.hands ≡ length c.hands = counted c.hands d.hands same.hands in
     record {
       f = found.0;
       head = found.1;
-      input_is = found.2 ∙ owns.input_is;
       posts = same.hands ∙ owns.posts ∙ ap (posts_in input 0) (sym count);
       running = running;
     }
 
 -- so the line stays linked
-pub linked_still : (gas : Rules) (input : RunInputModel) (c d : ChainModel) (cs : List ChainModel) → IsLinked gas input c cs → SameChain c d → IsRunning gas d → IsLinked gas input d cs
+pub linked_still : (gas : Rules) (input : RunInputModel) (c d : ChainModel) (cs : List ChainModel) → IsLinked gas input c cs → SameChain c d → IsRunning gas input d → IsLinked gas input d cs
 linked_still gas input c d cs line same running =
     let count : length d.hands ≡ length c.hands = counted c.hands d.hands same.hands in
     record {

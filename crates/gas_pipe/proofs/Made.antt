@@ -6,9 +6,10 @@ use Rattle.gas_geom.specs.Channel.{ChannelModel}
 use Rattle.gas_rows.specs.Row.{RowModel}
 use Rattle.gas_belt.specs.Belt.{InnerModel, Sender, Receiver}
 use Rattle.gas_pipe_model.specs.Pass.{RunInputModel}
+use Rattle.gas_pipe_members.specs.Feeder.{FeederModel}
 use Rattle.gas_pipe.specs.Inner.Hand.{HandModel, PostModel, post_of, post_in, HasCome}
 use Rattle.gas_pipe.specs.Inner.Fed.{MayHaveFedInput}
-use Rattle.gas_pipe.specs.Inner.Chain.{ChainModel, FeedingModel, AllHaveCome, IsRunning, put_first}
+use Rattle.gas_pipe.specs.Inner.Chain.{ChainModel, AllHaveCome, IsRunning, put_first}
 use Rattle.gas_pipe.specs.Inner.Links.{IsBeltOf, IsUnused, posts_in, IsChainOf, OwnsFeeder}
 use Rattle.gas_pipe.specs.declared.chain.Head.TheVariants.{Feeder, Worker}
 use Rattle.gas_pipe.proofs.Chains.{posts_length, all_come, put_first_unused}
@@ -49,18 +50,16 @@ module _ (gas : Rules) (input : RunInputModel) (k n : ℕ) (hs : List HandModel)
   }
 
   -- the chain of the caller's thread
-  pub own_made : (f : FeedingModel) → k ≡ 0 → f.input ≡ input → MayHaveFedInput gas input f.feeder [] [] →
+  pub own_made : (f : FeederModel) → k ≡ 0 → MayHaveFedInput gas input f [] [] →
       OwnsFeeder gas input (record { head = Feeder f; hands = hs; belts = bs; rx = rx; tx = tx })
-  own_made f start input_is begun = record {
+  own_made f start begun = record {
     f = f;
     head = refl;
-    input_is = input_is;
     posts = posts_are ∙ ap (λ (i : ℕ). posts_in input i (length hs)) start;
     running = record {
       head =
-          subst (λ (i : RunInputModel). MayHaveFedInput gas i f.feeder (put_first bs tx.put) rx.taken) (sym input_is)
-          (subst (λ (l : List RowModel). MayHaveFedInput gas input f.feeder (put_first bs tx.put) l) (sym nothing_taken)
-          (subst (λ (l : List RowModel). MayHaveFedInput gas input f.feeder l []) (sym none) begun));
+          subst (λ (l : List RowModel). MayHaveFedInput gas input f (put_first bs tx.put) l) (sym nothing_taken)
+          (subst (λ (l : List RowModel). MayHaveFedInput gas input f l []) (sym none) begun);
       wide = belt.width ∙ sym (ap (λ (c : ChannelModel). c.width) begun.channel);
       hands = hands_come;
     };

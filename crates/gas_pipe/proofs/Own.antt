@@ -7,9 +7,10 @@ use Rattle.gas_belt.specs.Belt.{Sender, InnerModel, CarriedModel, carried_within
 use Rattle.gas_pipe_model.specs.Pass.{RunInputModel}
 use Rattle.gas_pipe_model.specs.Inner.Circle.{owes_in}
 use Rattle.gas_pipe_model.proofs.Circle.{on_first}
+use Rattle.gas_pipe_members.specs.Feeder.{FeederModel}
 use Rattle.gas_pipe.specs.Inner.Hand.{HandModel, PostModel}
 use Rattle.gas_pipe.specs.Inner.Fed.{MayHaveFedInput}
-use Rattle.gas_pipe.specs.Inner.Chain.{ChainModel, FeedingModel, HeadHasCome, HeadIsOver, AllHaveFinished, IsOver, put_first}
+use Rattle.gas_pipe.specs.Inner.Chain.{ChainModel, HeadHasCome, HeadIsOver, AllHaveFinished, IsOver, put_first}
 use Rattle.gas_pipe.specs.Inner.Links.{OwnsFeeder, posts_in, first_put, HaveMetUpTo}
 use Rattle.gas_pipe.specs.declared.chain.Head.{Head}
 use Rattle.gas_pipe.proofs.Meetings.{all_rows, evens, met_within, met_count}
@@ -23,16 +24,14 @@ module _ (gas : Rules) (input : RunInputModel) (own : ChainModel) (owns : OwnsFe
   abbrev pub all_put : List RowModel
   all_put = put_first own.belts own.tx.put
 
-  pub fed : MayHaveFedInput gas input owns.f.feeder all_put own.rx.taken
-  fed =
-      subst (λ (i : RunInputModel). MayHaveFedInput gas i owns.f.feeder all_put own.rx.taken) owns.input_is
-      (subst (λ (h : Head FeedingModel HandModel). HeadHasCome gas h own.rx.taken all_put) owns.head owns.running.head)
+  pub fed : MayHaveFedInput gas input owns.f all_put own.rx.taken
+  fed = subst (λ (h : Head FeederModel HandModel). HeadHasCome gas input h own.rx.taken all_put) owns.head owns.running.head
 
-  pub closed : owns.f.feeder.to_take ≡ 0
-  closed = subst (λ (h : Head FeedingModel HandModel). HeadIsOver gas h own.rx.taken all_put) owns.head over.head
+  pub closed : owns.f.to_take ≡ 0
+  closed = subst (λ (h : Head FeederModel HandModel). HeadIsOver gas h own.rx.taken all_put) owns.head over.head
 
   pub all_long : length all_put ≡ all_rows input
-  all_long = long input owns.f.feeder all_put own.rx.taken fed.channel closed fed.fed
+  all_long = long input owns.f all_put own.rx.taken fed.channel closed fed.fed
 
   hands : AllHaveFinished gas (posts_in input 0 (length own.hands)) own.belts own.tx.put
   hands = subst (λ (l : List PostModel). AllHaveFinished gas l own.belts own.tx.put) owns.posts over.hands

@@ -6,10 +6,11 @@ use Rattle.std.proofs.Math.Seq.{drop-cons, take-suc-set}
 use Rattle.gas_geom.specs.Gas.{Rules}
 use Rattle.gas_rows.specs.Row.{RowModel}
 use Rattle.gas_belt.specs.Belt.{InnerModel}
+use Rattle.gas_pipe_members.specs.Feeder.{FeederModel}
 use Rattle.gas_pipe.specs.Inner.Hand.{HandModel, PostModel, post_of, HasCome, HasFinished}
 use Rattle.gas_geom.specs.Channel.{ChannelModel}
 use Rattle.gas_pipe_model.specs.Pass.{RunInputModel}
-use Rattle.gas_pipe.specs.Inner.Chain.{FeedingModel, HeadHasCome, SameHead, width_of, AllHaveCome, AllHaveFinished, put_first}
+use Rattle.gas_pipe.specs.Inner.Chain.{HeadHasCome, SameHead, width_of, AllHaveCome, AllHaveFinished, put_first}
 use Rattle.gas_pipe.specs.declared.chain.Head.{Head}
 use Rattle.gas_pipe.specs.declared.chain.Head.TheVariants.{Feeder, Worker}
 
@@ -141,9 +142,9 @@ pub put_first_set : (ds : List InnerModel) (e : InnerModel) (u : List RowModel) 
 put_first_set [] e u some = absurd (omega (arith, some))
 put_first_set (x ∷ ds) e u some = refl
 
-pub same_width : (gas : Rules) (a b : Head FeedingModel HandModel) (t u t2 u2 : List RowModel) → HeadHasCome gas a t u → HeadHasCome gas b t2 u2 → SameHead a b → width_of b ≡ width_of a
-same_width gas (Feeder f) (Feeder g) t u t2 u2 old new same =
-    ap (λ (c : ChannelModel). c.width) (new.channel ∙ ap (λ (i : RunInputModel). i.lattice.channel) same ∙ sym old.channel)
-same_width gas (Worker h) (Worker i) t u t2 u2 old new same = ap (λ (p : PostModel). p.channel.width) same
-same_width gas (Feeder f) (Worker i) t u t2 u2 old new same = absurd same
-same_width gas (Worker h) (Feeder g) t u t2 u2 old new same = absurd same
+pub same_width : (gas : Rules) (input : RunInputModel) (a b : Head FeederModel HandModel) (t u t2 u2 : List RowModel) → HeadHasCome gas input a t u → HeadHasCome gas input b t2 u2 →
+    SameHead a b → width_of b ≡ width_of a
+same_width gas input (Feeder f) (Feeder g) t u t2 u2 old new same = ap (λ (c : ChannelModel). c.width) (new.channel ∙ sym old.channel)
+same_width gas input (Worker h) (Worker i) t u t2 u2 old new same = ap (λ (p : PostModel). p.channel.width) same
+same_width gas input (Feeder f) (Worker i) t u t2 u2 old new same = absurd same
+same_width gas input (Worker h) (Feeder g) t u t2 u2 old new same = absurd same

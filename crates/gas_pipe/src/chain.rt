@@ -1,10 +1,11 @@
 //! The members of a thread: the feeder or a worker, and the workers behind it.
 ghost use Rattle.std.specs.Prelude.{◌≡◌, ◌<◌, ◌++◌, length, map, take, drop, IsTrue};
 ghost use Rattle.gas_rows.specs.Row.{RowModel};
+ghost use Rattle.gas_pipe_model.specs.Pass.{RunInputModel};
 ghost use Rattle.gas_pipe.specs.declared.hand.Visited.TheVariants.{Over};
 ghost use Rattle.gas_pipe.specs.Inner.Hand.{post_of};
 ghost use Rattle.gas_pipe.specs.Inner.Fed.{MayHaveFedInput};
-ghost use Rattle.gas_pipe.specs.Inner.Chain.{HeadHasCome, HeadIsOver, SameHead, width_of, put_first, AllHaveCome, AllHaveFinished, IsRunning, SameChain, IsOver, EndsChain};
+ghost use Rattle.gas_pipe.specs.Inner.Chain.{HeadHasCome, HeadIsOver, SameHead, width_of, put_first, AllHaveCome, AllHaveFinished, IsRunning, IsReady, SameChain, IsOver, EndsChain};
 
 use crate::Gate;
 use crate::ends::{LinePut, LineTake};
@@ -17,99 +18,45 @@ use gas_belt::tx::Tx;
 use gas_geom::gas::Gas;
 use gas_pipe_members::ends::Turned;
 use gas_pipe_members::feeder::Feeder;
-use gas_pipe_members::plan::{RunInput, Schedule};
-use gas_rows::chirality::Chirality;
-use gas_rows::lattice::Lattice;
 use gas_rows::row::Row;
 use std::marker::Model;
-use std::snapshot::Snapshot;
 use std::sync::Wait;
 
-/// The input of a run as contracts read it. It borrows no lattice.
-#[derive(Drop)]
-pub struct KnownInput<G: Gas> {
-    lattice: Snapshot<Lattice<G>>,
-    chirality: Chirality,
-    schedule: Schedule,
-}
-
-impl<G: Gas> Model for KnownInput<G> {
-    ghost use Rattle.gas_pipe_model.specs.Pass.{RunInputModel};
-
-    ghost Value = { RunInputModel };
-
-    ghost view = { λ k. record {
-      chirality = k.chirality;
-      first = k.schedule.first;
-      lattice = k.lattice.value;
-      plan = k.schedule.plan;
-    } };
-}
-
-impl<G: Gas> KnownInput<G> {
-    pub(crate) fn of(input: &RunInput<'_, G>) -> KnownInput<G>
-        ensures { result ≡ input.now }
-    {
-        KnownInput {
-            lattice: Snapshot::of(input.lattice),
-            chirality: input.chirality,
-            schedule: input.schedule,
-        }
-    }
-}
-
-/// The feeder of a run, and the run's input.
-#[derive(Drop)]
-pub struct Feeding<G: Gas> {
-    pub feeder: Feeder<G>,
-    pub input: KnownInput<G>,
-}
-
-impl<G: Gas> Model for Feeding<G> {
-    ghost use Rattle.gas_pipe.specs.Inner.Chain.{FeedingModel};
-
-    ghost Value = { FeedingModel };
-
-    ghost view = { λ f. record { feeder = f.feeder; input = f.input } };
-}
-
-impl<G: Gas> Feeding<G> {
-    // Makes turns until no end is ready or all passes are over, and some 32 at most.
-    fn visit<T: LineTake<Row<G>>, P: LinePut<Row<G>>>(
-        &mut self,
-        waiter: &mut Waiter<'_>,
-        take: &mut T,
-        put: &mut P,
-    ) -> Visited
-        requires fed { MayHaveFedInput G.rules self.old.input self.old.feeder (P.put put.old)
-            (T.taken take.old) }
-        requires wide { (row : RowModel) → T.hands take.old row →
-            length row ≡ self.old.feeder.channel.width }
-        ensures input { self.new.input ≡ self.old.input }
-        ensures take { T.same take.old take.new }
-        ensures put { P.same put.old put.new }
-        ensures fed { MayHaveFedInput G.rules self.new.input self.new.feeder (P.put put.new)
-            (T.taken take.new) }
-        ensures over { result ≡ Over → self.new.feeder.to_take ≡ 0 }
-    {
-        let mut visited = Visited::Idle;
-        for _ in 0..MOST_TURNS {
-            match self.feeder.turn(put, take) {
-                Turned::Took => {
-                    take.tell_taken(waiter);
-                    visited = Visited::Moved;
-                }
-                Turned::Put => {
-                    put.tell_put(waiter);
-                    visited = Visited::Moved;
-                }
-                Turned::Done => return Visited::Over,
-                Turned::Idle => return visited,
-                Turned::Stray => unreachable!(),
+// Makes turns of the feeder until no end is ready or all passes are over, and some 32 at most.
+fn visit_feeder<G: Gas, T: LineTake<Row<G>>, P: LinePut<Row<G>>>(
+    feeder: &mut Feeder<G>,
+    waiter: &mut Waiter<'_>,
+    take: &mut T,
+    put: &mut P,
+) -> Visited
+    requires fed { (input : RunInputModel)
+        × MayHaveFedInput G.rules input feeder.old (P.put put.old) (T.taken take.old) }
+    requires wide { (row : RowModel) → T.hands take.old row →
+        length row ≡ feeder.old.channel.width }
+    ensures take { T.same take.old take.new }
+    ensures put { P.same put.old put.new }
+    ensures fed { (input : RunInputModel) →
+        MayHaveFedInput G.rules input feeder.old (P.put put.old) (T.taken take.old) →
+        MayHaveFedInput G.rules input feeder.new (P.put put.new) (T.taken take.new) }
+    ensures over { result ≡ Over → feeder.new.to_take ≡ 0 }
+{
+    let mut visited = Visited::Idle;
+    for _ in 0..MOST_TURNS {
+        match feeder.turn(put, take) {
+            Turned::Took => {
+                take.tell_taken(waiter);
+                visited = Visited::Moved;
             }
+            Turned::Put => {
+                put.tell_put(waiter);
+                visited = Visited::Moved;
+            }
+            Turned::Done => return Visited::Over,
+            Turned::Idle => return visited,
+            Turned::Stray => unreachable!(),
         }
-        visited
     }
+    visited
 }
 
 /// The first member of a thread.
@@ -119,7 +66,7 @@ pub enum Head<F, W> {
     Worker(W),
 }
 
-impl<'a, G: Gas> Head<Feeding<G>, Hand<'a, G>> {
+impl<'a, G: Gas> Head<Feeder<G>, Hand<'a, G>> {
     fn visit<H: Gate, T: LineTake<Row<G>>, P: LinePut<Row<G>>>(
         &mut self,
         gate: &H,
@@ -127,18 +74,21 @@ impl<'a, G: Gas> Head<Feeding<G>, Hand<'a, G>> {
         take: &mut T,
         put: &mut P,
     ) -> Visited
-        requires come { HeadHasCome G.rules self.old (T.taken take.old) (P.put put.old) }
+        requires come { (input : RunInputModel)
+            × HeadHasCome G.rules input self.old (T.taken take.old) (P.put put.old) }
         requires wide { (row : RowModel) → T.hands take.old row →
             length row ≡ width_of self.old }
         ensures same { SameHead self.old self.new }
         ensures take { T.same take.old take.new }
         ensures put { P.same put.old put.new }
-        ensures come { HeadHasCome G.rules self.new (T.taken take.new) (P.put put.new) }
+        ensures come { (input : RunInputModel) →
+            HeadHasCome G.rules input self.old (T.taken take.old) (P.put put.old) →
+            HeadHasCome G.rules input self.new (T.taken take.new) (P.put put.new) }
         ensures over { result ≡ Over →
             HeadIsOver G.rules self.new (T.taken take.new) (P.put put.new) }
     {
         match self {
-            Head::Feeder(feeding) => feeding.visit(waiter, take, put),
+            Head::Feeder(feeder) => visit_feeder(feeder, waiter, take, put),
             Head::Worker(hand) => hand.visit(gate, waiter, take, put),
         }
     }
@@ -149,7 +99,7 @@ impl<'a, G: Gas> Head<Feeding<G>, Hand<'a, G>> {
 #[derive(Drop)]
 pub struct Chain<'a, G: Gas> {
     pub thread: u32,
-    pub head: Head<Feeding<G>, Hand<'a, G>>,
+    pub head: Head<Feeder<G>, Hand<'a, G>>,
     pub hands: Vec<Hand<'a, G>>,
     pub belts: Vec<InnerBelt<G>>,
     pub rx: Rx<G>,
@@ -201,8 +151,9 @@ fn rotate_behind<G: Gas, H: Gate>(
 impl<'a, G: Gas> Chain<'a, G> {
     // A visit of each member.
     fn rotate<H: Gate>(&mut self, gate: &H, waiter: &mut Waiter<'_>) -> Visited
-        requires running { IsRunning G.rules self.old }
-        ensures running { IsRunning G.rules self.new }
+        requires ready { IsReady G.rules self.old }
+        ensures running { (input : RunInputModel) → IsRunning G.rules input self.old →
+            IsRunning G.rules input self.new }
         ensures same { SameChain self.old self.new }
         ensures over { result ≡ Over → IsOver G.rules self.new }
     {
@@ -242,8 +193,9 @@ impl<'a, G: Gas> Chain<'a, G> {
 
     // Makes the turns of its members until all are over. False if the stop flag was raised before.
     fn make_turns<H: Gate, R: Wait>(&mut self, shared: &Shared<'_, H, R>) -> bool
-        requires running { IsRunning G.rules self.old }
-        ensures running { IsRunning G.rules self.new }
+        requires ready { IsReady G.rules self.old }
+        ensures running { (input : RunInputModel) → IsRunning G.rules input self.old →
+            IsRunning G.rules input self.new }
         ensures same { SameChain self.old self.new }
         ensures over { IsTrue result → IsOver G.rules self.new }
     {
@@ -265,8 +217,9 @@ impl<'a, G: Gas> Chain<'a, G> {
     /// Makes all passes of its members. False if the stop flag was raised before. Its workers enter
     /// the gate before the first turn, and leave it after the last.
     pub(crate) fn run<H: Gate, R: Wait>(&mut self, shared: &Shared<'_, H, R>) -> bool
-        requires running { IsRunning G.rules self.old }
-        ensures running { IsRunning G.rules self.new }
+        requires ready { IsReady G.rules self.old }
+        ensures running { (input : RunInputModel) → IsRunning G.rules input self.old →
+            IsRunning G.rules input self.new }
         ensures same { SameChain self.old self.new }
         ensures over { IsTrue result → IsOver G.rules self.new }
     {
@@ -278,7 +231,7 @@ impl<'a, G: Gas> Chain<'a, G> {
 }
 
 impl<'a, G: Gas> ThreadJob<Ended<G>> for Chain<'a, G> {
-    ghost fresh = { λ c. IsRunning G.rules c };
+    ghost fresh = { λ c. IsReady G.rules c };
 
     ghost kept = { λ c e. EndsChain G.rules c e };
 

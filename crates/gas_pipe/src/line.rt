@@ -5,13 +5,13 @@ ghost use Rattle.gas_belt.specs.Belt.{carried_within};
 ghost use Rattle.gas_pipe_model.specs.Pass.{IsRunInput};
 ghost use Rattle.gas_pipe.specs.Inner.Hand.{post_of, HasCome};
 ghost use Rattle.gas_pipe.specs.Inner.Fed.{MayHaveFedInput};
-ghost use Rattle.gas_pipe.specs.Inner.Chain.{IsRunning, IsOver};
+ghost use Rattle.gas_pipe.specs.Inner.Chain.{IsOver};
 ghost use Rattle.gas_pipe.specs.Inner.Shares.{shares_before};
 ghost use Rattle.gas_pipe.specs.Inner.Links.{IsBeltOf, IsUnused, posts_in, IsChainOf, OwnsFeeder, IsLinked, Linked, AllRunning, HaveMetUpTo, IsRunOf, job_of, last_belt, workers_in, first_put};
 
 use crate::Gate;
 use crate::answer::Run;
-use crate::chain::{Chain, Feeding, Head, KnownInput};
+use crate::chain::{Chain, Head};
 use crate::hand::Hand;
 use crate::job::{Ended, JobPromise, Shared, start_job};
 use crate::wake_ups::WakeUps;
@@ -162,10 +162,7 @@ fn make_own_chain<'e, G: Gas>(
 {
     Ok(Chain {
         thread: 0,
-        head: Head::Feeder(Feeding {
-            feeder,
-            input: KnownInput::of(input),
-        }),
+        head: Head::Feeder(feeder),
         hands: make_hands(alloc, input, 0, n)?,
         belts: make_inner_belts(alloc, input, n)?,
         rx,
@@ -314,7 +311,7 @@ fn join_and_meet<G: Gas, R: Threads>(
         tx,
         ..
     } = own;
-    let Head::Feeder(feeding) = head else {
+    let Head::Feeder(feeder) = head else {
         unreachable!()
     };
     if !meet_all_within(within, &mut belts) {
@@ -328,7 +325,7 @@ fn join_and_meet<G: Gas, R: Threads>(
         return None;
     };
     Some(Run {
-        lattice: feeding.feeder.finish(),
+        lattice: feeder.finish(),
         plan: input.schedule.plan,
         belts,
     })

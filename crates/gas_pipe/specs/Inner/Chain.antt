@@ -11,11 +11,6 @@ use Rattle.gas_pipe.specs.Inner.Fed.{MayHaveFedInput}
 use Rattle.gas_pipe.specs.declared.chain.Head.{Head}
 use Rattle.gas_pipe.specs.declared.chain.Head.TheVariants.{Feeder, Worker}
 
--- the feeder, and the input of its run
-pub record FeedingModel : Type 0 where
-  pub feeder : FeederModel
-  pub input : RunInputModel
-
 -- what a thread returns: the ends that its members took from and put on, and the belts within
 pub record EndedModel : Type 0 where
   pub rx : Receiver
@@ -24,7 +19,7 @@ pub record EndedModel : Type 0 where
 
 -- what a thread is given: its members, the belts within, and the ends
 pub record ChainModel : Type 0 where
-  pub head : Head FeedingModel HandModel
+  pub head : Head FeederModel HandModel
   pub hands : List HandModel
   pub belts : List InnerModel
   pub rx : Receiver
@@ -35,25 +30,25 @@ abbrev pub put_first : List InnerModel → List RowModel → List RowModel
 put_first [] u = u
 put_first (b ∷ bs) u = b.put
 
--- the first member took the rows `taken` and put the rows `put`
-abbrev pub HeadHasCome : Rules → Head FeedingModel HandModel → List RowModel → List RowModel → Type 0
-HeadHasCome gas (Feeder f) taken put = MayHaveFedInput gas f.input f.feeder put taken
-HeadHasCome gas (Worker h) taken put = HasCome gas h taken put
+-- in a run of this input the first member took the rows `taken` and put the rows `put`
+abbrev pub HeadHasCome : Rules → RunInputModel → Head FeederModel HandModel → List RowModel → List RowModel → Type 0
+HeadHasCome gas input (Feeder f) taken put = MayHaveFedInput gas input f put taken
+HeadHasCome gas input (Worker h) taken put = HasCome gas h taken put
 
 -- and its passes are over
-abbrev pub HeadIsOver : Rules → Head FeedingModel HandModel → List RowModel → List RowModel → Type 0
-HeadIsOver gas (Feeder f) taken put = f.feeder.to_take ≡ 0
+abbrev pub HeadIsOver : Rules → Head FeederModel HandModel → List RowModel → List RowModel → Type 0
+HeadIsOver gas (Feeder f) taken put = f.to_take ≡ 0
 HeadIsOver gas (Worker h) taken put = HasFinished gas (post_of h) taken put
 
 -- it is the same member
-abbrev pub SameHead : Head FeedingModel HandModel → Head FeedingModel HandModel → Type 0
-SameHead (Feeder f) (Feeder g) = g.input ≡ f.input
+abbrev pub SameHead : Head FeederModel HandModel → Head FeederModel HandModel → Type 0
+SameHead (Feeder f) (Feeder g) = Unit {0}
 SameHead (Worker h) (Worker i) = post_of i ≡ post_of h
 SameHead _ _ = ⊥
 
 -- the width of the rows that it takes
-abbrev pub width_of : Head FeedingModel HandModel → ℕ
-width_of (Feeder f) = f.feeder.channel.width
+abbrev pub width_of : Head FeederModel HandModel → ℕ
+width_of (Feeder f) = f.channel.width
 width_of (Worker h) = h.worker.stage.channel.width
 
 -- each of the workers took from its belt, and put on the next one or, the last of them, on the end behind, on which the rows u were put
@@ -68,13 +63,17 @@ AllHaveFinished gas [] [] u = Unit {0}
 AllHaveFinished gas (p ∷ ps) (b ∷ bs) u = HasFinished gas p b.taken (put_first bs u) × AllHaveFinished gas ps bs u
 AllHaveFinished gas _ _ u = ⊥
 
--- all members took and put the rows of their ends
-pub record IsRunning (gas : Rules) (c : ChainModel) : Type 0 where
-  pub head : HeadHasCome gas c.head c.rx.taken (put_first c.belts c.tx.put)
+-- in a run of this input all members took and put the rows of their ends
+pub record IsRunning (gas : Rules) (input : RunInputModel) (c : ChainModel) : Type 0 where
+  pub head : HeadHasCome gas input c.head c.rx.taken (put_first c.belts c.tx.put)
   pub wide : c.rx.belt.width ≡ width_of c.head
   pub hands : AllHaveCome gas c.hands c.belts c.tx.put
 
--- and the passes of all are over
+-- in a run of some input
+abbrev pub IsReady : Rules → ChainModel → Type 0
+IsReady gas c = (input : RunInputModel) × IsRunning gas input c
+
+-- the passes of all are over
 pub record IsOver (gas : Rules) (c : ChainModel) : Type 0 where
   pub head : HeadIsOver gas c.head c.rx.taken (put_first c.belts c.tx.put)
   pub hands : AllHaveFinished gas (map post_of c.hands) c.belts c.tx.put

@@ -11,9 +11,10 @@ use Rattle.gas_rows.specs.Row.{RowModel}
 use Rattle.gas_stage.specs.Evolution.{lattice_after}
 use Rattle.gas_pipe_model.specs.Pass.{RunInputModel, carried_by_belts}
 use Rattle.gas_pipe_model.specs.Inner.Circle.{on_belt, owes_in}
+use Rattle.gas_pipe_members.specs.Feeder.{FeederModel}
 use Rattle.gas_pipe.specs.Run.{RunModel}
 use Rattle.gas_pipe.specs.Inner.Hand.{HandModel, PostModel, post_of, post_in}
-use Rattle.gas_pipe.specs.Inner.Chain.{ChainModel, EndedModel, FeedingModel, IsRunning}
+use Rattle.gas_pipe.specs.Inner.Chain.{ChainModel, EndedModel, IsRunning, IsReady}
 use Rattle.gas_pipe.specs.declared.chain.Head.TheVariants.{Feeder, Worker}
 
 -- the workers that take from the n belts from the k-th on, in a run of this input
@@ -40,16 +41,15 @@ pub record IsChainOf (gas : Rules) (input : RunInputModel) (k : ℕ) (from : Bel
   pub head : c.head ≡ Worker h
   pub posts : post_of h ∷ map post_of c.hands ≡ posts_in input k (suc (length c.hands))
   pub link : from ≡ c.rx.belt
-  pub running : IsRunning gas c
+  pub running : IsRunning gas input c
   pub nothing_taken : c.rx.taken ≡ []
 
 -- the chain of the caller's thread, which is ready: the feeder of this input, and the first workers
 pub record OwnsFeeder (gas : Rules) (input : RunInputModel) (c : ChainModel) : Type 0 where
-  pub f : FeedingModel
+  pub f : FeederModel
   pub head : c.head ≡ Feeder f
-  pub input_is : f.input ≡ input
   pub posts : map post_of c.hands ≡ posts_in input 0 (length c.hands)
-  pub running : IsRunning gas c
+  pub running : IsRunning gas input c
 
 -- the chains from belt k on: the first takes from the belt `from`, and each other from the belt of the one before
 abbrev pub Linked : Rules → RunInputModel → ℕ → Belt → List ChainModel → Type 0
@@ -78,7 +78,7 @@ pub record IsLinked (gas : Rules) (input : RunInputModel) (own : ChainModel) (ch
 -- all may start
 abbrev pub AllRunning : Rules → List ChainModel → Type 0
 AllRunning gas [] = Unit {0}
-AllRunning gas (c ∷ cs) = IsRunning gas c × AllRunning gas cs
+AllRunning gas (c ∷ cs) = IsReady gas c × AllRunning gas cs
 
 -- the job that a thread was given
 abbrev pub job_of : PromisedHandle (Option EndedModel) (JobPromise ChainModel) → ChainModel

@@ -4,7 +4,7 @@ use Rattle.gas_rows.specs.Row.{RowModel}
 use Rattle.gas_belt.specs.Belt.{Belt, Sender, CarriedModel, carried_within}
 use Rattle.gas_pipe_model.specs.Pass.{RunInputModel}
 use Rattle.gas_pipe_members.specs.Feeder.{FeederModel}
-use Rattle.gas_pipe.specs.Inner.Chain.{ChainModel, FeedingModel, IsOver}
+use Rattle.gas_pipe.specs.Inner.Chain.{ChainModel, IsOver}
 use Rattle.gas_pipe.specs.Inner.Links.{IsLinked, Linked, HaveMetUpTo, job_of, workers_in}
 use Rattle.gas_pipe.proofs.Own.{all_put, fed, closed, all_long, own_evens, own_count, first_all, has_met}
 use Rattle.gas_pipe.proofs.Settled.{last_on, last_whole, all_belts, taken_long, belts_are, lattice_is}
@@ -82,8 +82,7 @@ returns g c =
     let grown = c.in-Ok-push.ensures.items ∙ ap (λ (x : CarriedModel). c.join_threads.new.carried.items ++ x ∷ []) belt in
     let head = line.feeder.head in
     let is = c.in-Feeder.is in
-    let feeding : c.in-Feeder.feeding ≡ line.feeder.f = cc in
-    let feeder = ap (λ (x : FeedingModel). x.feeder) (c.feeding.view_is ∙ feeding) in
+    let feeder : c.in-Feeder.feeder ≡ line.feeder.f = cc in
     record {
       lattice =
           lattice_is gas g.met.G.Gas.laws input begun.is_input _ _ _ begun.channel closed_is line.stages begun.some begun.fed back

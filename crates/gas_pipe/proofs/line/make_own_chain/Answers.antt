@@ -9,7 +9,7 @@ returns-clause-owns g c =
     let asked = c.requires in
     own_made g.G.Gas.rules c.args.input.now 0 c.args.n c.in_ok-make_hands.field-0.items c.in_ok-make_inner_belts.field-0.items c.args.rx c.args.tx
     hands.come hands.posts belts.unused belts.count asked.nothing_taken asked.nothing_put asked.belt
-    (record { feeder = c.args.feeder; input = c.of.result }) refl c.of.ensures asked.begun
+    c.args.feeder refl asked.begun
 
 pub returns-clause-count : goal.returns-clause-count
 returns-clause-count g c =

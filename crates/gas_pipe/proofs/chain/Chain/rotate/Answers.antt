@@ -6,18 +6,19 @@ use Rattle.gas_pipe.proofs.Rotations.{none_left, some_left, put_on_first, at_end
 use Rattle.gas_pipe.proofs.chain.Chain.rotate.Goals as goal
 
 pub returns-then-is_empty-clause-running : goal.returns-then-is_empty-clause-running
-returns-then-is_empty-clause-running g c =
+returns-then-is_empty-clause-running g c input running =
     let gas = g.G.Gas.rules in
     let belts = c.self.inside.belts.items in
-    let old = subst (IsRunning gas) (sym c.self.view_is) c.requires.running in
+    let old = subst (IsRunning gas input) (sym c.self.view_is) running in
     let count : vec_len c.self.inside.belts ≡ length belts = omega (arith, c.self.inside.belts.ok) in
     let none = none_left belts (c.if-is_empty.ensures ∙ ap (λ (n : ℕ). n == 0) count) in
     let u = c.visit.new.put.put in
+    let come = c.visit.ensures.come input (subst (λ (l : List RowModel). HeadHasCome gas input c.self.inside.head c.self.inside.rx.taken l) (sym (put_first_none belts c.self.inside.tx.put none)) old.head) in
     record {
-      head = subst (λ (l : List RowModel). HeadHasCome gas c.visit.new.self c.visit.new.take.taken l) (put_first_none belts u none) c.visit.ensures.come;
+      head = subst (λ (l : List RowModel). HeadHasCome gas input c.visit.new.self c.visit.new.take.taken l) (put_first_none belts u none) come;
       wide =
           ap (λ (b : Belt). b.width) c.visit.ensures.take ∙ old.wide
-          ∙ sym (same_width gas c.self.inside.head c.visit.new.self _ _ _ _ old.head c.visit.ensures.come c.visit.ensures.same);
+          ∙ sym (same_width gas input c.self.inside.head c.visit.new.self _ _ _ _ old.head come c.visit.ensures.same);
       hands = at_end gas c.self.inside.hands.items belts c.self.inside.tx.put u none old.hands;
     }
 
@@ -25,7 +26,8 @@ pub returns-then-is_empty-clause-over : goal.returns-then-is_empty-clause-over
 returns-then-is_empty-clause-over g c over =
     let gas = g.G.Gas.rules in
     let belts = c.self.inside.belts.items in
-    let old = subst (IsRunning gas) (sym c.self.view_is) c.requires.running in
+    let input = c.requires.ready.0 in
+    let old = subst (IsRunning gas input) (sym c.self.view_is) c.requires.ready.1 in
     let count : vec_len c.self.inside.belts ≡ length belts = omega (arith, c.self.inside.belts.ok) in
     let none = none_left belts (c.if-is_empty.ensures ∙ ap (λ (n : ℕ). n == 0) count) in
     let u = c.visit.new.put.put in
@@ -38,7 +40,8 @@ pub rotate_behind-requires-clause-come : goal.rotate_behind-requires-clause-come
 rotate_behind-requires-clause-come g c =
     let gas = g.G.Gas.rules in
     let belts = c.self.inside.belts.items in
-    let old = subst (IsRunning gas) (sym c.self.view_is) c.requires.running in
+    let input = c.requires.ready.0 in
+    let old = subst (IsRunning gas input) (sym c.self.view_is) c.requires.ready.1 in
     let count : vec_len c.self.inside.belts ≡ length belts = omega (arith, c.self.inside.belts.ok) in
     let more = some_left belts (c.if-is_empty.ensures ∙ ap (λ (n : ℕ). n == 0) count) in
     let put = c.visit-visited.new.put in

@@ -1,13 +1,14 @@
 use Rattle.std.proofs.Common.{◌≡◌}
+use Rattle.gas_pipe_model.specs.Pass.{RunInputModel}
 use Rattle.gas_pipe.specs.Inner.Fed.{MayHaveFedInput}
 use Rattle.gas_pipe.specs.declared.hand.Visited.TheVariants.{Over}
-use Rattle.gas_pipe.proofs.chain.Feeding.visit.Given as goal
+use Rattle.gas_pipe.proofs.chain.visit_feeder.Given as goal
 
 abbrev pub invariant-loop : goal.invariant-loop
 invariant-loop g l = record {
-  input : l.self-inside.input ≡ l.fn.self.input;
   take : g.T.LineTake.same l.initial.take l.take;
   put : g.P.LinePut.same l.initial.put l.put;
   not_over : l.visited ≡ Over → ⊥;
-  fed : MayHaveFedInput g.G.Gas.rules l.self-inside.input l.self-inside.feeder (g.P.LinePut.put l.put) (g.T.LineTake.taken l.take);
+  fed : (input : RunInputModel) → MayHaveFedInput g.G.Gas.rules input l.initial.feeder (g.P.LinePut.put l.initial.put) (g.T.LineTake.taken l.initial.take) →
+      MayHaveFedInput g.G.Gas.rules input l.feeder (g.P.LinePut.put l.put) (g.T.LineTake.taken l.take);
 }

@@ -1,0 +1,63 @@
+use Rattle.std.proofs.Common.{◌≡◌, ◌++◌, ◌∷◌, [], List, refl, sym, ap, subst, ◌∙◌}
+use Rattle.std.specs.Int.{div_ceil}
+use Rattle.gas_geom.specs.Channel.{ChannelModel}
+use Rattle.gas_rows.specs.Row.{RowModel}
+use Rattle.gas_pipe_model.specs.Pass.{RunInputModel}
+use Rattle.gas_pipe_members.specs.Feeder.{FeederModel, MayHaveFed, Feeds}
+use Rattle.gas_pipe.specs.Inner.Fed.{MayHaveFedInput}
+use Rattle.gas_pipe.specs.declared.hand.Visited.TheVariants.{Moved, Over}
+use Rattle.gas_pipe.proofs.Fed.{fed_on}
+use Rattle.gas_pipe.proofs.Hands.{one_more}
+use Rattle.gas_pipe.proofs.chain.visit_feeder.Goals as goal
+use Rattle.gas_pipe.proofs.chain.visit_feeder.Goals.{in-Took, in-Put}
+
+pub loop-preserved : goal.loop-preserved
+loop-preserved g c =
+    let t = g.met.T.LineTake in
+    let p = g.met.P.LinePut in
+    let was = c.loop.invariant.fed in
+    elim c.match-turn.branch [
+      | in-Took w ↦
+          let did = w.in-Took.ensures.turned in
+          let took = t.take_is _ _ _ did.1 in
+          let rest = t.rests_is _ _ w.tell_taken.ensures in
+          let put = p.rests_is _ _ did.2 in
+          rw (w.take-is, w.put-is, w.visited-is) (record {
+            take = t.same_then _ _ _ c.loop.invariant.take (t.same_then _ _ _ took.1 rest.1);
+            put = p.same_then _ _ _ c.loop.invariant.put put.1;
+            not_over = λ over. cc;
+            fed = λ input begun. fed_on g.G.Gas.rules input c.loop.feeder c.turn.new.self (g.P.LinePut.put c.loop.put) (g.T.LineTake.taken c.loop.take) _ _ (λ l. l) (one_more did.0)
+                (was input begun) c.turn.ensures.channel did.3 put.0 (rest.0 ∙ took.0);
+          })
+      | in-Put w ↦
+          let did = w.in-Put.ensures.turned in
+          let put = p.put_is _ _ _ did.1 in
+          let rest = p.rests_is _ _ w.tell_put.ensures in
+          let took = t.rests_is _ _ did.2 in
+          rw (w.take-is, w.put-is, w.visited-is) (record {
+            take = t.same_then _ _ _ c.loop.invariant.take took.1;
+            put = p.same_then _ _ _ c.loop.invariant.put (p.same_then _ _ _ put.1 rest.1);
+            not_over = λ over. cc;
+            fed = λ input begun. fed_on g.G.Gas.rules input c.loop.feeder c.turn.new.self (g.P.LinePut.put c.loop.put) (g.T.LineTake.taken c.loop.take) _ _ (one_more did.0) (λ l. l)
+                (was input begun) c.turn.ensures.channel did.3 (rest.0 ∙ put.0) took.0;
+          })
+    ]
+
+pub returns-in-Done-clause-fed : goal.returns-in-Done-clause-fed
+returns-in-Done-clause-fed g c input begun =
+    let did = c.in-Done.ensures.turned in
+    rw (did.2, (g.met.P.LinePut.rests_is _ _ did.1).0, (g.met.T.LineTake.rests_is _ _ did.0).0) (c.loop.invariant.fed input begun)
+
+pub returns-in-Idle-clause-fed : goal.returns-in-Idle-clause-fed
+returns-in-Idle-clause-fed g c input begun =
+    let did = c.in-Idle.ensures.turned in
+    rw (did.2, (g.met.P.LinePut.rests_is _ _ did.1).0, (g.met.T.LineTake.rests_is _ _ did.0).0) (c.loop.invariant.fed input begun)
+
+pub unreachable-requires : goal.unreachable-requires
+unreachable-requires g c =
+    let t = g.met.T.LineTake in
+    let begun = c.requires.fed in
+    let was = c.loop.invariant.fed begun.0 begun.1 in
+    let stray = c.in-Stray.ensures.turned.2 was.fed.no_stray in
+    let wide = c.requires.wide stray.0 (t.same_hands _ _ _ c.loop.invariant.take (t.take_is _ _ _ stray.1).2) in
+    absurd (stray.3 (wide ∙ ap (λ (channel : ChannelModel). channel.width) (begun.1.channel ∙ sym was.channel)))
