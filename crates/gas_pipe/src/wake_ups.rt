@@ -1,12 +1,9 @@
 //! How the threads of a run wake and stop one another. Public for tests only.
 //!
 //! Parks and wakes have no contracts, because what they do depends on the other threads.
-ghost use Rattle.std.specs.Prelude.{◌≡◌, ◌+◌, IfOk};
-
 use crate::backoff::{LONGEST_PARK_MILLIS, YieldBan};
 use crossbeam_utils::CachePadded;
 use std::alloc::{AllocError, Global};
-use std::marker::Model;
 use std::sync::Wait;
 use std::sync::atomic::{AtomicBool, AtomicU64, Ordering};
 use std::time::Duration;
@@ -16,7 +13,7 @@ const AWAKE: u64 = 0;
 const PARKING: u64 = 1;
 
 /// The stop flag of a run, and for each of its threads whether it parks or is about to. Threads are
-/// counted from the caller's, 0. Contracts see their number.
+/// counted from the caller's, 0.
 #[derive(Drop)]
 pub struct WakeUps {
     stop: AtomicBool,
@@ -24,22 +21,12 @@ pub struct WakeUps {
     yield_ban: YieldBan,
 }
 
-impl Model for WakeUps {
-    ghost use Rattle.std.specs.Prelude.{ℕ, vec_len};
-
-    ghost Value = { ℕ };
-
-    ghost view = { λ w. vec_len w.states };
-}
-
 impl WakeUps {
     /// The wake-ups of the caller's thread and of this number of others, all awake.
-    pub fn new(alloc: Global, others: u32) -> Result<Self, AllocError>
-        ensures { IfOk result (λ w. w ≡ others + 1) }
-    {
+    pub fn new(alloc: Global, others: u32) -> Result<Self, AllocError> {
         let threads = others as usize + 1;
         let mut states = Vec::with_capacity(alloc, threads)?;
-        for k in 0..threads {
+        for _ in 0..threads {
             states.push(CachePadded::new(AtomicU64::new(AWAKE)))?;
         }
         Ok(WakeUps {
