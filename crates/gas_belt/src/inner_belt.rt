@@ -1,5 +1,5 @@
 //! A belt with both its ends on one thread: rows are moved.
-ghost use Rattle.std.specs.Prelude.{◌≡◌, ◌+◌, ◌≤◌, ◌<◌, ◌++◌, ◌∷◌, [], length, IfOk, OnOk, IfErr, OnErr, IfSome, IfNone};
+ghost use Rattle.std.specs.Prelude.{◌≡◌, ◌+◌, ◌-◌, ◌≤◌, ◌<◌, ◌++◌, ◌∷◌, [], length, IfOk, OnOk, IfErr, OnErr, IfSome, IfNone, IsSome, IsNone};
 
 use crate::history::History;
 use gas_geom::gas::Gas;
@@ -8,12 +8,12 @@ use std::alloc::{AllocError, Global};
 use std::collections::VecDeque;
 use std::marker::Model;
 
-// The spare rows beyond the places: the stage that takes from the belt keeps two rows of an open pass,
-// and its worker one that waits.
-const MORE_SPARES: usize = 3;
+// The most spare rows that are held, but for the one of a put.
+const MOST_SPARES: usize = 2;
 
-/// A belt with both its ends on one thread. It holds the rows under way, and spare rows for who
-/// puts on it. It counts the rows that were put.
+/// A belt with both its ends on one thread. It has the rows under way, and a spare row for each free
+/// place. The spare rows beyond these are held: a put adds one, and a take uses one. It counts the
+/// rows that were put.
 #[derive(Drop)]
 pub struct InnerBelt<G: Gas> {
     rows: VecDeque<Row<G>>,
@@ -26,7 +26,7 @@ pub struct InnerBelt<G: Gas> {
 }
 
 impl<G: Gas> Model for InnerBelt<G> {
-    ghost use Rattle.std.specs.Prelude.{◌≡◌, ◌++◌, ◌≤◌, length, All};
+    ghost use Rattle.std.specs.Prelude.{◌≡◌, ◌+◌, ◌-◌, ◌++◌, ◌≤◌, length, All, vec_len, vec_capacity};
     ghost use Rattle.std.specs.VecDeque.{deque_capacity};
     ghost use Rattle.gas_belt.specs.Belt.{InnerModel};
 
@@ -37,6 +37,7 @@ impl<G: Gas> Model for InnerBelt<G> {
       capacity = b.capacity;
       put = b.put;
       taken = b.taken;
+      held = length b.rows.items + vec_len b.spares - b.capacity;
     } };
 
     ghost invariant = { λ b. record {
@@ -45,14 +46,18 @@ impl<G: Gas> Model for InnerBelt<G> {
       few_rows : length b.rows.items ≤ b.capacity;
       room : b.capacity ≤ deque_capacity b.rows;
       few_places : b.capacity ≤ 1024;
+      enough_spares : b.capacity ≤ length b.rows.items + vec_len b.spares;
+      few_spares : vec_len b.spares ≤ b.capacity + 2;
+      room_for_spares : b.capacity + 2 ≤ vec_capacity b.spares;
+      wide_spares : All (λ row. length row ≡ b.width) b.spares.items;
       counted : b.count ≡ length b.put;
     } };
 }
 
 impl<G: Gas> InnerBelt<G> {
     /// An unused belt for rows of `width` cells, 1 to 65536, with places for `capacity` rows, 1 to
-    /// 1024. It has as many spare rows as a line needs that never stops for want of one: three more
-    /// than places. All memory of the belt is taken here.
+    /// 1024. It holds two spare rows, as a new belt between threads does. All memory of the belt is
+    /// taken here.
     pub fn new(alloc: Global, capacity: u32, width: u32) -> Result<Self, AllocError>
         requires few_places { capacity ≤ 1024 }
         requires some_cells { 1 ≤ width }
@@ -62,13 +67,14 @@ impl<G: Gas> InnerBelt<G> {
           capacity = capacity;
           put = [];
           taken = [];
+          held = 2;
         }) }
     {
         let rows = VecDeque::with_capacity(alloc, capacity as usize)?;
-        let most_spares = capacity as usize + MORE_SPARES;
+        let most_spares = capacity as usize + MOST_SPARES;
         let mut spares = Vec::with_capacity(alloc, most_spares)?;
-        for _ in 0..most_spares {
-            spares.push(Row::blank(alloc, width)?)?;
+        for k in 0..most_spares {
+            spares.push_reserved(Row::blank(alloc, width)?);
         }
         Ok(InnerBelt {
             rows,
@@ -89,12 +95,21 @@ impl<G: Gas> InnerBelt<G> {
         self.rows.len() as u32
     }
 
+    // The number of spare rows that are held.
+    #[inline(always)]
+    fn held(&self) -> usize
+        ensures value { result ≡ self.now.held }
+    {
+        self.rows.len() + self.spares.len() - self.capacity as usize
+    }
+
     /// Puts a row, or hands it back if the belt has no place for it, its width is not the belt's,
     /// or 2^64 - 1 rows were put. It takes no memory and never waits.
     #[inline(always)]
     pub fn try_put(&mut self, row: Row<G>) -> Result<(), Row<G>>
         ensures put { OnOk result (self.new ≡ record self.old {
           put = self.old.put ++ row ∷ [];
+          held = self.old.held + 1;
         }) }
         ensures back { IfErr result (λ r. r ≡ row) }
         ensures unchanged { OnErr result (self.new ≡ self.old) }
@@ -109,36 +124,50 @@ impl<G: Gas> InnerBelt<G> {
         Ok(())
     }
 
-    /// Takes the oldest row on the belt. None if no row is on it. It takes no memory and never
-    /// waits.
+    /// Takes the oldest row on the belt. None if no row is on it, or no spare row is held. It takes
+    /// no memory and never waits.
     #[inline(always)]
     pub fn try_take(&mut self) -> Option<Row<G>>
         ensures taken { IfSome result (λ row. self.new ≡ record self.old {
           taken = self.old.taken ++ row ∷ [];
+          held = self.old.held - 1;
         }) }
         ensures width { IfSome result (λ row. length row ≡ self.old.width) }
         ensures unchanged { IfNone result (self.new ≡ self.old) }
+        ensures empty { IsNone result → 0 < self.old.held → self.old.put ≡ self.old.taken }
     {
+        if self.held() == 0 {
+            return None;
+        }
         let row = self.rows.pop_front()?;
         self.taken.push(&row);
         Some(row)
     }
 
-    /// Keeps the row as a spare row, if there is room for it.
+    /// Holds the row as a spare row. It is dropped if two are held, or if its width is not the
+    /// belt's.
     #[inline(always)]
     pub fn give(&mut self, row: Row<G>)
-        ensures unchanged { self.new ≡ self.old }
+        ensures kept { length row ≡ self.old.width → self.old.held < 2 →
+            self.new.held ≡ self.old.held + 1 }
+        ensures never_fewer { self.old.held ≤ self.new.held }
+        ensures unchanged { self.new ≡ record self.old { held = self.new.held } }
     {
-        if self.spares.len() < self.spares.capacity() {
+        if row.width() == self.width && self.held() < MOST_SPARES {
             self.spares.push_reserved(row);
         }
     }
 
-    /// Hands out a spare row, if there is one.
+    /// Hands out a spare row, if one is held: after a put there is one.
     #[inline(always)]
     pub fn spare(&mut self) -> Option<Row<G>>
-        ensures unchanged { self.new ≡ self.old }
+        ensures some { 0 < self.old.held → IsSome result }
+        ensures width { IfSome result (λ row. length row ≡ self.old.width) }
+        ensures handed_out { self.new ≡ record self.old { held = self.old.held - 1 } }
     {
+        if self.held() == 0 {
+            return None;
+        }
         self.spares.pop()
     }
 }

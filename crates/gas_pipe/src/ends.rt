@@ -115,20 +115,21 @@ impl<G: Gas> LineTake<Row<G>> for Rx<G> {
 impl<G: Gas> LinePut<Row<G>> for InnerBelt<G> {
     ghost put = { λ b. b.put };
 
-    ghost same = { λ a b. b ≡ record a { put = b.put } };
+    ghost same = { λ a b. b ≡ record a { put = b.put; held = b.held } };
 
     ghost same_alone = { λ _. refl };
 
-    ghost same_then = { λ a b c ab bc. bc ∙ ap (λ (d : InnerModel). record d { put = c.put }) ab };
+    ghost same_then = { λ a b c ab bc. bc
+        ∙ ap (λ (d : InnerModel). record d { put = c.put; held = c.held }) ab };
 
     ghost put_is = { λ a row b step. (
       ap (λ (d : InnerModel). d.put) step,
-      step ∙ ap (λ (d : InnerModel). record a { put = d.put }) (sym step),
+      step ∙ ap (λ (d : InnerModel). record a { put = d.put; held = d.held }) (sym step),
     ) };
 
     ghost rests_is = { λ a b rests. (
       ap (λ (d : InnerModel). d.put) rests,
-      rests ∙ ap (λ (d : InnerModel). record a { put = d.put }) (sym rests),
+      rests ∙ ap (λ (d : InnerModel). record a { put = d.put; held = d.held }) (sym rests),
     ) };
 
     #[inline(always)]
@@ -140,25 +141,26 @@ impl<G: Gas> LinePut<Row<G>> for InnerBelt<G> {
 impl<G: Gas> LineTake<Row<G>> for InnerBelt<G> {
     ghost taken = { λ b. b.taken };
 
-    ghost same = { λ a b. b ≡ record a { taken = b.taken } };
+    ghost same = { λ a b. b ≡ record a { taken = b.taken; held = b.held } };
 
     ghost hands = { λ b row. length row ≡ b.width };
 
     ghost same_alone = { λ _. refl };
 
-    ghost same_then = { λ a b c ab bc. bc ∙ ap (λ (d : InnerModel). record d { taken = c.taken }) ab };
+    ghost same_then = { λ a b c ab bc. bc
+        ∙ ap (λ (d : InnerModel). record d { taken = c.taken; held = c.held }) ab };
 
     ghost same_hands = { λ a b row same wide. wide ∙ ap (λ (d : InnerModel). d.width) same };
 
     ghost take_is = { λ a row b step. (
       ap (λ (d : InnerModel). d.taken) step.0,
-      step.0 ∙ ap (λ (d : InnerModel). record a { taken = d.taken }) (sym step.0),
+      step.0 ∙ ap (λ (d : InnerModel). record a { taken = d.taken; held = d.held }) (sym step.0),
       step.1,
     ) };
 
     ghost rests_is = { λ a b rests. (
       ap (λ (d : InnerModel). d.taken) rests,
-      rests ∙ ap (λ (d : InnerModel). record a { taken = d.taken }) (sym rests),
+      rests ∙ ap (λ (d : InnerModel). record a { taken = d.taken; held = d.held }) (sym rests),
     ) };
 
     #[inline(always)]

@@ -1,6 +1,7 @@
 //! The two ends of a belt, and how spare rows go from one end to another.
-ghost use Rattle.std.specs.Prelude.{◌≡◌, ◌++◌, ◌∷◌, ℕ, List, [], length, refl, OnOk, IfErr, IfSome, IfNone, OnErr, IsOk, IsSome};
-ghost use Rattle.std.proofs.Common.{◌∙◌};
+ghost use Rattle.std.specs.Prelude.{◌≡◌, ◌++◌, ◌∷◌, ◌<◌, ℕ, List, [], length, refl, OnOk, IfErr, IfSome, IfNone, OnErr, IsOk, IsSome};
+ghost use Rattle.std.proofs.Common.{◌∙◌, ap};
+ghost use Rattle.gas_belt.specs.Belt.{InnerModel};
 
 use gas_belt::inner_belt::InnerBelt;
 use gas_belt::rx::Rx;
@@ -108,17 +109,19 @@ impl<G: Gas> TakeEnd<Row<G>> for Rx<G> {
     }
 }
 
-// A belt within a thread. Whether a put succeeds depends on its rows, of which neither end tells.
+// A belt within a thread. Whether a put succeeds depends on its row too.
 impl<G: Gas> PutEnd<Row<G>> for InnerBelt<G> {
-    ghost puts = { λ old row new. new ≡ record old { put = old.put ++ row ∷ [] } };
+    ghost puts = { λ old row new.
+        new ≡ record old { put = old.put ++ row ∷ []; held = new.held } };
 
-    ghost rests = { λ old new. new ≡ old };
+    ghost rests = { λ old new. new ≡ record old { held = new.held } };
 
     ghost ready = { λ _. ⊥ };
 
     ghost rests_alone = { λ _. refl };
 
-    ghost puts_and_rests = { λ a row b c step rests. rests ∙ step };
+    ghost puts_and_rests = { λ a row b c step rests.
+        rests ∙ ap (λ (d : InnerModel). record d { held = c.held }) step };
 
     #[inline(always)]
     fn try_put(&mut self, row: Row<G>) -> Result<(), Row<G>> {
@@ -132,16 +135,18 @@ impl<G: Gas> PutEnd<Row<G>> for InnerBelt<G> {
 }
 
 impl<G: Gas> TakeEnd<Row<G>> for InnerBelt<G> {
-    ghost takes = { λ old row new. (new ≡ record old { taken = old.taken ++ row ∷ [] })
+    ghost takes = { λ old row new.
+        (new ≡ record old { taken = old.taken ++ row ∷ []; held = new.held })
         × (length row ≡ old.width) };
 
-    ghost rests = { λ old new. new ≡ old };
+    ghost rests = { λ old new. new ≡ record old { held = new.held } };
 
-    ghost ready = { λ _. ⊥ };
+    ghost ready = { λ belt. (length belt.taken < length belt.put) × (0 < belt.held) };
 
     ghost rests_alone = { λ _. refl };
 
-    ghost takes_and_rests = { λ a row b c step rests. (rests ∙ step.0, step.1) };
+    ghost takes_and_rests = { λ a row b c step rests.
+        (rests ∙ ap (λ (d : InnerModel). record d { held = c.held }) step.0, step.1) };
 
     #[inline(always)]
     fn try_take(&mut self) -> Option<Row<G>> {

@@ -45,5 +45,5 @@ rotate_behind-requires-clause-come g c =
     let count : vec_len c.self.inside.belts ≡ length belts = omega (arith, c.self.inside.belts.ok) in
     let more = some_left belts (c.if-is_empty.ensures ∙ ap (λ (n : ℕ). n == 0) count) in
     let put = c.visit-visited.new.put in
-    let same = subst (λ (b : InnerModel). put ≡ record b { put = put.put }) c.index_mut.ensures.value c.visit-visited.ensures.put in
+    let same = subst (λ (b : InnerModel). put ≡ record b { put = put.put; held = put.held }) c.index_mut.ensures.value c.visit-visited.ensures.put in
     rw (c.deref_mut.ensures.value, c.deref_mut-2.ensures.value) (put_on_first gas c.self.inside.hands.items belts c.self.inside.tx.put _ put old.hands more same)
