@@ -11,10 +11,10 @@
 //! program apart that calls `run`.
 #![tactic(auto)]
 
-mod answer;
 pub mod backoff;
 mod chain;
 mod ends;
+mod finished;
 mod hand;
 mod job;
 mod line;
@@ -29,7 +29,7 @@ ghost use Rattle.gas_stage.specs.Evolution.{lattice_after};
 ghost use Rattle.gas_pipe_model.specs.Pass.{carried_by_belts};
 
 use crate::line::run_line;
-pub use answer::Run;
+pub use finished::Run;
 use gas_geom::gas::Gas;
 pub use gas_pipe_members::ends::{PutEnd, TakeEnd, Turned};
 pub use gas_pipe_members::feeder::Feeder;

@@ -10,8 +10,8 @@ ghost use Rattle.gas_pipe.specs.Inner.Shares.{shares_before};
 ghost use Rattle.gas_pipe.specs.Inner.Links.{IsBeltOf, IsUnused, posts_in, IsChainOf, OwnsFeeder, IsLinked, Linked, AllRunning, HaveMetUpTo, IsRunOf, job_of, last_belt, workers_in, first_put};
 
 use crate::Gate;
-use crate::answer::Run;
 use crate::chain::{Chain, Head};
+use crate::finished::Run;
 use crate::hand::Hand;
 use crate::job::{Ended, JobPromise, Shared, start_job};
 use crate::wake_ups::WakeUps;
