@@ -317,8 +317,7 @@ class Lattice(Value):
             return self.replace(states=states, generation=self.generation + generations)
         words = planned(len(self.states), generations, stages, capacity)
         text = call(self._scene(), "run", *words, is_checked=True)
-        keys: dict[str, Any] = {"gas": self.gas, "chirality": self.chirality, "seed": self.seed}
-        return _lattice_of(*cells_of(text), **keys)
+        return _lattice_of(*cells_of(text), gas=self.gas, chirality=self.chirality, seed=self.seed)
 
     def _span(self, generations: int) -> int:
         """The number of generations of a run that begins here."""
