@@ -206,8 +206,8 @@ class Processes(Package):
                 self.assertEqual(programs_of("ppid", os.getpid()), set())
 
     def test_a_signal_to_the_parent_ends_the_programs_too(self):
-        """Of a process that is signalled alone, as a notebook's is. An interrupt raises a
-        KeyboardInterrupt there."""
+        """Of a process that is signalled alone, as a notebook's is, also while it is stopped, as by
+        `kill %1` after Ctrl-Z. An interrupt raises a KeyboardInterrupt there."""
         script = (
             "import fhpgas, signal\nsignal.signal(signal.SIGINT, signal.default_int_handler)  # in"
             " the background it is ignored\nsignal.signal(signal.SIGHUP, signal.SIG_DFL)  # and this"
@@ -218,9 +218,10 @@ class Processes(Package):
         cases = itertools.product(
             (signal.SIGINT, signal.SIGTERM, signal.SIGHUP, signal.SIGKILL),
             ("long(0)", "fhpgas.side_by_side(long, range(2))"),
+            (False, True),
         )
-        for number, call in cases:
-            with self.subTest(number=number, call=call):
+        for number, call, is_stopped in cases:
+            with self.subTest(number=number, call=call, is_stopped=is_stopped):
                 words = [sys.executable, "-c", script + call]
                 with subprocess.Popen(
                     words,
@@ -232,7 +233,11 @@ class Processes(Package):
                     while not (runs := programs_of("sid", process.pid)):
                         self.assertIsNone(process.poll())
                         time.sleep(0.01)
+                    if is_stopped:
+                        process.send_signal(signal.SIGSTOP)
+                        os.waitid(os.P_PID, process.pid, os.WSTOPPED | os.WNOWAIT)
                     process.send_signal(number)
+                    process.send_signal(signal.SIGCONT)
                     said = process.communicate()[1]
                     self.assertEqual("KeyboardInterrupt" in said, number == signal.SIGINT)
                 while runs & programs_of("sid", process.pid):

@@ -76,10 +76,8 @@ def counted(values: Iterable[Any], total: int, unit: str) -> Iterator[Any]:
     """The values, with a bar of tqdm in a terminal, or in Jupyter if it has ipywidgets, if tqdm is
     there. A run of `side_by_side` shows none, and what runs below a bar shows no progress of its
     own."""
-    if "ipykernel" in sys.modules:  # without widgets tqdm warns, and writes a bar of text
-        is_seen = importlib.util.find_spec("ipywidgets") is not None
-    else:
-        is_seen = sys.stderr.isatty()
+    in_jupyter = "ipykernel" in sys.modules  # where tqdm without widgets warns, and writes a text
+    is_seen = importlib.util.find_spec("ipywidgets") if in_jupyter else sys.stderr.isatty()
     if not is_seen or share.get() or not importlib.util.find_spec("tqdm"):
         yield from values
         return
@@ -144,12 +142,22 @@ def side_by_side(
 def _results(futures: list[concurrent.futures.Future[Any]]) -> list[Any]:
     """What futures return. If one fails, those that did not begin are cancelled."""
     try:
-        for future in counted(concurrent.futures.as_completed(futures), len(futures), "run"):
+        for future in counted(_ended(futures), len(futures), "run"):
             future.result()
         return [future.result() for future in futures]
     finally:
         for future in futures:
             future.cancel()
+
+
+def _ended(futures: list[concurrent.futures.Future[Any]]) -> Iterator[Any]:
+    """The futures as they end. A signal that a stopped process gets may come to another thread when
+    it continues, and then Python sees it here only after a wait, so none is longer than a second.
+    """
+    left = set(futures)
+    while left:
+        done, left = concurrent.futures.wait(left, 1, concurrent.futures.FIRST_COMPLETED)
+        yield from done
 
 
 def alone(
