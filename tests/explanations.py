@@ -15,6 +15,14 @@ CASES = [  # a scene, the line that refuses it, and a part of the reason
     ('gas = "fhp1"\ncells = ["01"\n"01"]\n', "not TOML", "line 3, column 1: Unclosed array"),
     *(
         (
+            text,
+            "not TOML",
+            "end of document: Invalid value: a value is missing, or the bracket that closes a list",
+        )
+        for text in ('gas = "hpp"\ncells = ["01",\n', 'cells = [".."]\ngas =')
+    ),
+    *(
+        (
             f'gas = "{name}"\ncells = [".."]\n',
             "out of range",
             f'`gas` is "{name}"; its name here is `{gas}`',

@@ -34,8 +34,8 @@ NEWER = re.compile(r"\\[ex]|\{|\d:\d|0000-")
 MISTAKES = {
     "Cannot overwrite a value": "a key stands twice",
     "Unclosed array": "a comma is missing, or the bracket that closes the list",
-    "Invalid value": "a text needs quotes, a number has no 0 before it, and a hexadecimal one has"
-    " 0x",
+    "Invalid value": "a text needs quotes, a number no 0 before it, and a hexadecimal one 0x",
+    "Invalid value (at end of document)": "a value is missing, or the bracket that closes a list",
     "Illegal character '\\n'": "the quote that ends the text is missing",
     "Expected newline or end of document after a statement": "each key stands on a line of its own",
     "Expected '=' after a key in a key/value pair": "a key, `=` and a value make a line",
@@ -106,7 +106,7 @@ def sentence(message: str, text: str) -> str:
     """Where and why a text is not TOML, from what Python's reader says."""
     what, _, where = message.removesuffix(")").rpartition(" (at ")
     newer = "the text may be TOML 1.1, which the program reads and Python does not"
-    hint = MISTAKES.get(what, newer if NEWER.search(text) else "")
+    hint = MISTAKES.get(message) or MISTAKES.get(what, newer if NEWER.search(text) else "")
     if place := re.fullmatch(r"line (\d+), column (\d+)", where):
         line, column = text.split("\n")[int(place[1]) - 1], int(place[2]) - 1
         if line[column : column + 1] in {*"“”„‘’"}:
