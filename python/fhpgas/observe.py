@@ -168,8 +168,9 @@ def mean_and_error(values: Iterable[Any]) -> tuple[Any, Any]:
 
     Examples
     --------
-    >>> fhpgas.mean_and_error([1.0, 2.0, 3.0, 6.0])
-    (3.0, 1.0801234497346435)
+    >>> mean, error = fhpgas.mean_and_error([1.0, 2.0, 3.0, 6.0])
+    >>> f"{mean} +- {error:.4f}"
+    '3.0 +- 1.0801'
     """
     samples = _samples(values)
     return samples.mean(0), samples.std(0, ddof=1) / np.sqrt(len(samples))
@@ -212,7 +213,7 @@ def mean_of_series(values: Iterable[Any]) -> SeriesMean:
     Every value three times: a third of them is independent.
 
     >>> noise = np.random.PCG64(1).random_raw(4000) / 2.0**64
-    >>> 3600 < fhpgas.mean_of_series(np.repeat(noise, 3)).independent < 4400
+    >>> bool(3600 < fhpgas.mean_of_series(np.repeat(noise, 3)).independent < 4400)
     True
     """
     samples = _samples(values)

@@ -230,7 +230,9 @@ class Tiles:
 
         path, name = str(pathlib.Path(folder).absolute()), self.cells.name
         group = zarr.open_group(path)
-        self._computed(self.cells.to_zarr(path, name, overwrite=True, compute=False))
+        # Dask 2024.12 takes the keys of futures for cells, unless a task is between
+        cells = self.cells.map_blocks(np.asarray, dtype=np.uint8, meta=NO_CELLS)
+        self._computed(cells.to_zarr(path, name, overwrite=True, compute=False))
         kept = {"cells": name, "generation": self.generation, "gas": self.rules.gas.name}
         group.attrs.put(kept | {"chirality": self.rules.chirality, "seed": self.rules.seed})
         for old in {*group.array_keys()} - {name}:
