@@ -165,8 +165,8 @@ def particles(lattice: Lattice, ax: Axes) -> Axes:
             looks["offset_transform"] = ax.transData
             ax.add_collection(EllipseCollection(sizes, sizes, 0 * sizes, **looks))
     top, right = lattice.size[1] * gas.row_distance, X.max() + 0.6
-    ax.hlines((0, top), -0.6, right, "black", linewidth=2)
-    ax.set(aspect="equal", xlim=(-0.6, right), ylim=(-0.2, top + 0.2), xticks=[], yticks=[])
+    ax.hlines((0, top), -0.6, right, "black", linewidth=2, clip_on=False)
+    ax.set(aspect="equal", xlim=(-0.6, right), ylim=(0, top), xticks=[], yticks=[])
     ax.spines[:].set_visible(False)
     return ax
 
