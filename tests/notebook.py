@@ -12,7 +12,7 @@ import sys
 
 import needs
 
-os.environ["MPLBACKEND"] = "Agg"
+os.environ["MPLBACKEND"] = "module://matplotlib_inline.backend_inline"  # as Jupyter chooses itself
 os.environ["PYDEVD_DISABLE_FILE_VALIDATION"] = "1"  # or the kernel's debugger warns
 needs.built_program()
 needs.libraries("nbclient", "nbformat", "ipykernel")
@@ -38,13 +38,14 @@ def texts(cell):
 
 
 def shrink(cell):
-    """Leaves few colours in the pictures of a cell, and joins what it printed."""
+    """Leaves few colours in the pictures of a cell, rare ones too, as of the ends of a bar."""
     for out in cell.get("outputs", []):
         if "image/png" in out.get("data", {}):
             small, picture = io.BytesIO(), Image.open(
                 io.BytesIO(base64.b64decode(out["data"]["image/png"]))
             )
-            picture.convert("RGB").quantize(160).save(small, "png", optimize=True)
+            few = picture.convert("RGB").quantize(method=Image.Quantize.MAXCOVERAGE)
+            few.save(small, "png", optimize=True)
             out["data"]["image/png"] = base64.b64encode(small.getvalue()).decode()
 
 
@@ -94,6 +95,7 @@ def main():
             failed += 1
             print(f"FAILED: {path.name}: {why}")
     os.chdir(needs.ROOT / "notebooks")
+    os.environ["MPLBACKEND"] = "Agg"
     tried = TRIED if "--keep" not in sys.argv[1:] else []
     for values in tried:
         if why := fault_with("first_class.ipynb", *values):
