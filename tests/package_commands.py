@@ -389,6 +389,24 @@ class Commands(unittest.TestCase):
                     (done.returncode, part in done.stdout + done.stderr), (status, True), done
                 )
 
+    def test_an_output_that_takes_no_more_is_one_line(self):
+        """It is closed, full, or takes ASCII only."""
+        (self.room / "letters.toml").write_text('gas = "\u00e9\u2603"\ncells = [".."]\n')
+        for words, said in (
+            ("draw blocks >&-", "fhpgas-tools: standard output is closed\n"),
+            ("--help > /dev/full", "fhpgas-tools: standard output: No space left on device\n"),
+            ("explain letters.toml >&2", '`gas` is "\\xe9\\u2603"'),
+        ):
+            with self.subTest(words=words):
+                done = subprocess.run(
+                    ["bash", "-c", f"{sys.executable} -m fhpgas {words}"],
+                    env=os.environ | {"PYTHONIOENCODING": "ascii"},
+                    capture_output=True,
+                    text=True,
+                )
+                found = done.returncode, said in done.stderr, "Traceback" in done.stderr
+                self.assertEqual(found, (1, True, False), done)
+
     def test_drawn_scenes_are_as_asked(self):
         """The second reader counts the same cells as the program, and the scenes have what was
         asked for."""
