@@ -458,9 +458,10 @@ def address(page):
     )
     check("no key is of two controls", len(keys) == len(set(keys)), sorted(keys))
     page.js(
-        "window.kept = requestAnimationFrame, window.requestAnimationFrame = () => 0; fhpgas.live.isScheduled = false"
+        "window.kept = requestAnimationFrame, window.requestAnimationFrame = () => 0; fhpgas.live.isScheduled = false;"
+        "kept(() => { window.isPast = true; })"  # after what was asked for before
     )
-    page.wait("shown.queue.length === 2")  # as many as the worker sends ahead
+    page.wait("window.isPast && shown.queue.length === 2")  # as many as the worker sends ahead
     first = page.js("return head.generation")
     time.sleep(0.5)
     check("a page that is not painted rests", page.js("return head.generation") == first)
