@@ -16,6 +16,7 @@ const RED_BLUE = [palette("053061 2166ac 4393c3 92c5de d1e5f0 f7f7f7 fddbc7 f4a5
   palette("9eb0ff 72a5e8 3c87bf 2a5f85 183a50 12181f 351508 5f2410 91442c c8725f ffacac")];
 const ORANGE_PURPLE = [palette("2d004b 542788 8073ac b2abd2 d8daeb f7f7f7 fee0b6 fdb863 e08214 b35806 7f3b08"),
   palette("d8b8f5 a98bd6 7c62ad 513f78 2c2444 16161c 33220f 5e3d12 905f17 c68a2f ffc46b")];
+const ACROSS = 4; // of TimeMean.smooth
 const fromZero = (most) => [0, most / 2, most];
 
 /**
@@ -106,9 +107,10 @@ export class TimeMean {
   times = 0; // that the parts are smoothed
   /** @type {Float64Array[]} fluid cells, particles, momenta */
   parts = [];
-  /** @type {Float64Array[]} the same, smoothed, and two that loops write to */
+  /** @type {Float64Array[]} the same, smoothed, and one that a loop writes to. They are made when they are needed. */
   smooth = [];
-  u = new Float64Array(0);
+  values = new Float64Array(0); // of the field that is shown
+  u = this.values;
   v = this.u;
   pixels = new Uint8Array(0);
   /** @type {Int32Array | null} the sums of the cells that differ from a twin */
@@ -128,9 +130,8 @@ export class TimeMean {
     const isNew = columns !== this.columns || rows !== this.rows, memory = isNew ? 0 : kept, weight = 1 - memory;
     Object.assign(this, { columns, rows, width, height });
     if (isNew) {
-      const made = Array.from({ length: 12 }, () => new Float64Array(columns * rows));
-      this.parts = made.splice(0, 4);
-      [this.u, this.v, ...this.smooth] = made;
+      [this.u, this.v, this.values, ...this.parts] = Array.from({ length: 7 }, () => new Float64Array(columns * rows));
+      this.smooth = [];
       this.pixels = new Uint8Array(columns * rows);
     }
     const [cells, particles, px, py] = this.parts;
@@ -148,9 +149,10 @@ export class TimeMean {
   smoothed(which) {
     const { parts, smooth, columns, rows, times } = this;
     if (!times) return which.map((k) => parts[k]);
+    for (const k of [...which, ACROSS]) smooth[k] ??= new Float64Array(columns * rows);
     for (const k of which) {
       smooth[k].set(parts[k]);
-      for (let time = 0; time < times; time++) smoothen(smooth[k], smooth[4], columns, rows);
+      for (let time = 0; time < times; time++) smoothen(smooth[k], smooth[ACROSS], columns, rows);
     }
     return which.map((k) => smooth[k]);
   }
@@ -168,7 +170,7 @@ export class TimeMean {
 
   /** What is shown of a field: a byte per block, 0 if it is solid, and the largest value of the colours. */
   shown(name) {
-    const { fill, isSigned } = FIELDS[name], { pixels } = this, values = this.smooth[5];
+    const { fill, isSigned } = FIELDS[name], { pixels, values } = this;
     fill(this, values);
     const most = (this.ranges[name] = rangeOf(values, this.ranges[name]));
     const zero = isSigned ? 128 : 1, scale = (isSigned ? 127 : 254) / most;
