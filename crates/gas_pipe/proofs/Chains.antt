@@ -6,8 +6,8 @@ use Rattle.gas_rows.specs.Row.{RowModel}
 use Rattle.gas_belt.specs.Belt.{Belt, InnerModel}
 use Rattle.gas_pipe_model.specs.Pass.{RunInputModel}
 use Rattle.gas_pipe_members.specs.Feeder.{FeederModel}
-use Rattle.gas_pipe.specs.Inner.Hand.{HandModel, PostModel, post_of, post_in, HasCome, HasFinished}
-use Rattle.gas_pipe.specs.Inner.Chain.{ChainModel, AllHaveCome, AllHaveFinished, IsRunning, SameHead, SameChain, put_first}
+use Rattle.gas_pipe.specs.Inner.Hand.{HandModel, PostModel, post_of, post_in, HasCome}
+use Rattle.gas_pipe.specs.Inner.Chain.{ChainModel, AllHaveCome, IsRunning, SameHead, SameChain, put_first}
 use Rattle.gas_pipe.specs.Inner.Links.{IsUnused, posts_in, IsChainOf, OwnsFeeder, Linked, AllRunning, IsLinked, last_belt, workers_in}
 use Rattle.gas_pipe.specs.declared.chain.Head.{Head}
 use Rattle.gas_pipe.specs.declared.chain.Head.TheVariants.{Feeder, Worker}

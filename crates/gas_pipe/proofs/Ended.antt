@@ -5,7 +5,7 @@ use Rattle.gas_rows.specs.Row.{RowModel}
 use Rattle.gas_belt.specs.Belt.{Sender}
 use Rattle.gas_pipe_members.specs.Feeder.{FeederModel}
 use Rattle.gas_pipe.specs.Inner.Hand.{HandModel, PostModel, post_of, HasFinished}
-use Rattle.gas_pipe.specs.Inner.Chain.{ChainModel, EndedModel, HeadIsOver, SameHead, SameChain, IsOver, AllHaveFinished, EndsChain, put_first}
+use Rattle.gas_pipe.specs.Inner.Chain.{ChainModel, HeadIsOver, SameHead, SameChain, IsOver, AllHaveFinished, EndsChain, put_first}
 use Rattle.gas_pipe.specs.declared.chain.Head.{Head}
 use Rattle.gas_pipe.specs.declared.chain.Head.TheVariants.{Feeder, Worker}
 

@@ -9,7 +9,7 @@ use Rattle.gas_pipe_model.specs.Pass.{RunInputModel}
 use Rattle.gas_pipe_members.specs.Feeder.{FeederModel}
 use Rattle.gas_pipe.specs.Inner.Hand.{HandModel, PostModel, post_of, post_in, HasCome}
 use Rattle.gas_pipe.specs.Inner.Fed.{MayHaveFedInput}
-use Rattle.gas_pipe.specs.Inner.Chain.{ChainModel, AllHaveCome, IsRunning, put_first}
+use Rattle.gas_pipe.specs.Inner.Chain.{AllHaveCome, put_first}
 use Rattle.gas_pipe.specs.Inner.Links.{IsBeltOf, IsUnused, posts_in, IsChainOf, OwnsFeeder}
 use Rattle.gas_pipe.specs.declared.chain.Head.TheVariants.{Feeder, Worker}
 use Rattle.gas_pipe.proofs.Chains.{posts_length, all_come, put_first_unused}

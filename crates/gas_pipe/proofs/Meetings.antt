@@ -1,5 +1,5 @@
 -- The ends of the belts meet, one belt after another.
-use Rattle.std.proofs.Common.{◌≡◌, ℕ, zero, suc, ◌+◌, ◌*◌, ◌++◌, List, [], ◌∷◌, length, map, refl, ap, sym, subst, ◌∙◌, arith, append_assoc, append-nil, length-append, Option, All}
+use Rattle.std.proofs.Common.{◌≡◌, ℕ, zero, suc, ◌+◌, ◌*◌, ◌++◌, List, [], ◌∷◌, length, map, refl, ap, sym, subst, ◌∙◌, arith, append_assoc, append-nil, Option, All}
 use Rattle.std.proofs.lemmas.List.Elements.{All-nil, All-cons, All-head, All-tail}
 use Rattle.std.proofs.lemmas.List.FromFn.{map-range_with_len_more, length-map-range_with_len}
 use Rattle.std.specs.declared.thread.PromisedHandle.{PromisedHandle}
@@ -15,7 +15,7 @@ use Rattle.gas_pipe_model.proofs.PlanCircle.{is_circle}
 use Rattle.gas_pipe.specs.Inner.Hand.{PostModel, post_of, post_in, HasFinished}
 use Rattle.gas_pipe.specs.Inner.Chain.{ChainModel, EndedModel, AllHaveFinished, EndsChain, put_first}
 use Rattle.gas_pipe.proofs.Chains.{first_post, other_posts}
-use Rattle.gas_pipe.specs.Inner.Links.{posts_in, IsChainOf, Linked, last_belt, workers_in, job_of, carrying, rows_on_belt, belts_before, HaveMetUpTo}
+use Rattle.gas_pipe.specs.Inner.Links.{posts_in, Linked, last_belt, workers_in, job_of, carrying, rows_on_belt, belts_before, HaveMetUpTo}
 
 abbrev pub Handle : Type 0
 Handle = PromisedHandle (Option EndedModel) (JobPromise ChainModel)
@@ -109,9 +109,6 @@ module _ (gas : Rules) (input : RunInputModel) (is : IsRunInput gas input) (b : 
 
   hands : AllHaveFinished gas (posts_in input (suc a.k) (length (job_of h).hands)) e.belts e.spent.put
   hands = subst (λ (l : List PostModel). AllHaveFinished gas l e.belts e.spent.put) (ap other_posts a.linked.0.posts) ran.hands
-
-  pub meets_belt : s.belt ≡ e.rx.belt
-  meets_belt = a.linked.0.link ∙ sym ran.rx
 
   pub meets_all : length s.put ≡ length e.rx.taken
   meets_all = ap length a.reached.put_is ∙ on_long gas input is b long a.k ∙ sym head.whole

@@ -1,5 +1,5 @@
 -- The chain of the caller's thread, when its members are over.
-use Rattle.std.proofs.Common.{◌≡◌, ℕ, ◌+◌, ◌++◌, List, [], ◌∷◌, length, map, refl, ap, sym, subst, ◌∙◌, arith, zero-add, All}
+use Rattle.std.proofs.Common.{◌≡◌, ℕ, List, [], ◌∷◌, length, map, refl, ap, sym, subst, ◌∙◌, zero-add, All}
 use Rattle.std.specs.Int.{div_ceil}
 use Rattle.gas_geom.specs.Gas.{Rules}
 use Rattle.gas_rows.specs.Row.{RowModel}

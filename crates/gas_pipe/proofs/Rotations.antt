@@ -75,12 +75,6 @@ module _ (gas : Rules) (hs : List HandModel) (k : ℕ) (bs before behind : List 
         subst (λ (l : List InnerModel). AllHaveFinished gas (map post_of (drop k hs2)) l u2) (sym set_is)
         (subst (λ (l : List HandModel). AllHaveFinished gas (map post_of l) (c ∷ others) u2) (sym left) (ran, all))
 
-    pub first_put_same : put_first (set before 0 c ++ others) u2 ≡ put_first bs u
-    first_put_same =
-        let set_is : set before 0 c ++ others ≡ c ∷ others = ap (λ (l : List InnerModel). set l 0 c ++ others) (one_is before e long) in
-        let belts_are : bs ≡ b ∷ behind = parts ∙ ap (λ (l : List InnerModel). l ++ behind) (one_is before e long) in
-        ap (λ (l : List InnerModel). put_first l u2) set_is ∙ ap (λ (d : InnerModel). d.put) same ∙ ap (λ (l : List InnerModel). put_first l u) (sym belts_are)
-
   -- the workers behind it are as they were
   pub left_set : (i : HandModel) → drop k (set hs k i) ≡ i ∷ drop (suc k) hs
   left_set i = drop-set hs k i low ∙ ap (λ (n : ℕ). i ∷ drop n hs) (let e : k + 1 ≡ suc k = omega arith in e)

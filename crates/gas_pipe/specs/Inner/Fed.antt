@@ -1,6 +1,6 @@
 -- Inner words: what functions of this crate promise one another. No public contract cites them.
 -- The feeder of a run.
-use Rattle.std.specs.Prelude.{◌≡◌, ℕ, ◌<◌, List}
+use Rattle.std.specs.Prelude.{◌≡◌, ◌<◌, List}
 use Rattle.std.specs.Int.{div_ceil}
 use Rattle.gas_geom.specs.Gas.{Rules}
 use Rattle.gas_rows.specs.Row.{RowModel}

@@ -1,32 +1,13 @@
-use Rattle.std.proofs.Common.{rules, ◌≡◌, ◌+◌, ◌<◌, ◌++◌, [], suc, List, length, map, set, take, drop, subst, sym, ap, refl, ◌∙◌, arith}
+use Rattle.std.proofs.Common.{rules, ◌≡◌, ◌+◌, suc, List, length, set, take, drop, subst, sym, ap, ◌∙◌, arith}
 use Rattle.std.proofs.lemmas.List.{length-set, length-append}
 use Rattle.gas_rows.specs.Row.{RowModel}
 use Rattle.gas_belt.specs.Belt.{InnerModel}
-use Rattle.gas_pipe.specs.Inner.Hand.{HandModel, post_of, HasCome, HasFinished}
-use Rattle.gas_pipe.specs.Inner.Chain.{put_first}
-use Rattle.gas_pipe.proofs.Rotations.{low, here, none_left, some_left, placed, placed_over, first_put_same, left_set, kept_set, left_more, kept_more, goes_on, same_posts, at_end, at_end_over, put_first_none, put_first_set}
+use Rattle.gas_pipe.specs.Inner.Hand.{post_of, HasCome, HasFinished}
+use Rattle.gas_pipe.proofs.Rotations.{low, here, none_left, some_left, placed, placed_over, left_set, kept_set, left_more, kept_more, goes_on, same_posts, at_end, at_end_over, put_first_none, put_first_set}
 use Rattle.gas_pipe.proofs.chain.+rotate_behind.Goals as goal
 
-pub returns-then-is_empty-clause-posts : goal.returns-then-is_empty-clause-posts
-returns-then-is_empty-clause-posts g t c =
-    let hs = c.args.hands.now in
-    let before = c.split_at_mut-before.result.0.now in
-    let behind = c.split_at_mut-before.result.1.now in
-    let long : length before ≡ 1 = omega (arith, c.split_at_mut-before.ensures.front_len) in
-    same_posts hs c.args.k c.index-hands-k.result c.visit.new.self
-    (low g.G.Gas.rules hs c.args.k c.args.belts.now before behind c.args.tx.now.put c.index-hands-k.result c.index-before-0.result c.requires.some c.requires.come c.split_at_mut-before.ensures.value long)
-    c.visit.ensures.post
-
-pub returns-then-is_empty-clause-before : goal.returns-then-is_empty-clause-before
-returns-then-is_empty-clause-before g t c =
-    let hs = c.args.hands.now in
-    let before = c.split_at_mut-before.result.0.now in
-    let behind = c.split_at_mut-before.result.1.now in
-    let long : length before ≡ 1 = omega (arith, c.split_at_mut-before.ensures.front_len) in
-    kept_set g.G.Gas.rules hs c.args.k c.args.belts.now before behind c.args.tx.now.put c.index-hands-k.result c.index-before-0.result c.requires.some c.requires.come c.split_at_mut-before.ensures.value long c.visit.new.self
-
-pub returns-then-is_empty-clause-come : goal.returns-then-is_empty-clause-come
-returns-then-is_empty-clause-come g t c =
+pub returns-then-is_empty : goal.returns-then-is_empty
+returns-then-is_empty g t c =
     let hs = c.args.hands.now in
     let before = c.split_at_mut-before.result.0.now in
     let behind = c.split_at_mut-before.result.1.now in
@@ -35,25 +16,21 @@ returns-then-is_empty-clause-come g t c =
     let u = c.visit.new.put.put in
     let left = left_set g.G.Gas.rules hs c.args.k c.args.belts.now before behind c.args.tx.now.put c.index-hands-k.result c.index-before-0.result c.requires.some c.requires.come c.split_at_mut-before.ensures.value long c.visit.new.self in
     let all = (here g.G.Gas.rules hs c.args.k c.args.belts.now before behind c.args.tx.now.put c.index-hands-k.result c.index-before-0.result c.requires.some c.requires.come c.split_at_mut-before.ensures.value long).2 in
-    placed g.G.Gas.rules hs c.args.k c.args.belts.now before behind c.args.tx.now.put c.index-hands-k.result c.index-before-0.result c.requires.some c.requires.come c.split_at_mut-before.ensures.value long
-    c.visit.new.self c.visit.new.take c.visit.ensures.post c.visit.ensures.take u _ _ behind left
-    (subst (λ (l : List RowModel). HasCome g.G.Gas.rules c.visit.new.self c.visit.new.take.taken l) (put_first_none behind u none) c.visit.ensures.come)
-    (at_end g.G.Gas.rules (drop (suc c.args.k) hs) behind c.args.tx.now.put u none all)
-
-pub returns-then-is_empty-clause-over : goal.returns-then-is_empty-clause-over
-returns-then-is_empty-clause-over g t c over =
-    let hs = c.args.hands.now in
-    let before = c.split_at_mut-before.result.0.now in
-    let behind = c.split_at_mut-before.result.1.now in
-    let long : length before ≡ 1 = omega (arith, c.split_at_mut-before.ensures.front_len) in
-    let none = none_left behind c.if-is_empty.ensures in
-    let u = c.visit.new.put.put in
-    let left = left_set g.G.Gas.rules hs c.args.k c.args.belts.now before behind c.args.tx.now.put c.index-hands-k.result c.index-before-0.result c.requires.some c.requires.come c.split_at_mut-before.ensures.value long c.visit.new.self in
-    let all = (here g.G.Gas.rules hs c.args.k c.args.belts.now before behind c.args.tx.now.put c.index-hands-k.result c.index-before-0.result c.requires.some c.requires.come c.split_at_mut-before.ensures.value long).2 in
-    placed_over g.G.Gas.rules hs c.args.k c.args.belts.now before behind c.args.tx.now.put c.index-hands-k.result c.index-before-0.result c.requires.some c.requires.come c.split_at_mut-before.ensures.value long
-    c.visit.new.self c.visit.new.take c.visit.ensures.post c.visit.ensures.take u _ _ behind left
-    (subst (λ (l : List RowModel). HasFinished g.G.Gas.rules (post_of c.visit.new.self) c.visit.new.take.taken l) (put_first_none behind u none) (c.visit.ensures.over over))
-    (at_end_over g.G.Gas.rules (drop (suc c.args.k) hs) behind c.args.tx.now.put u none all)
+    record {
+      posts = same_posts hs c.args.k c.index-hands-k.result c.visit.new.self (low g.G.Gas.rules hs c.args.k c.args.belts.now before behind c.args.tx.now.put c.index-hands-k.result c.index-before-0.result c.requires.some c.requires.come c.split_at_mut-before.ensures.value long) c.visit.ensures.post;
+      before = kept_set g.G.Gas.rules hs c.args.k c.args.belts.now before behind c.args.tx.now.put c.index-hands-k.result c.index-before-0.result c.requires.some c.requires.come c.split_at_mut-before.ensures.value long c.visit.new.self;
+      first = search rules;
+      count = search rules;
+      tx = search rules;
+      come =
+          placed g.G.Gas.rules hs c.args.k c.args.belts.now before behind c.args.tx.now.put c.index-hands-k.result c.index-before-0.result c.requires.some c.requires.come c.split_at_mut-before.ensures.value long c.visit.new.self c.visit.new.take c.visit.ensures.post c.visit.ensures.take u _ _ behind left
+          (subst (λ (l : List RowModel). HasCome g.G.Gas.rules c.visit.new.self c.visit.new.take.taken l) (put_first_none behind u none) c.visit.ensures.come)
+          (at_end g.G.Gas.rules (drop (suc c.args.k) hs) behind c.args.tx.now.put u none all);
+      over = λ over.
+          placed_over g.G.Gas.rules hs c.args.k c.args.belts.now before behind c.args.tx.now.put c.index-hands-k.result c.index-before-0.result c.requires.some c.requires.come c.split_at_mut-before.ensures.value long c.visit.new.self c.visit.new.take c.visit.ensures.post c.visit.ensures.take u _ _ behind left
+          (subst (λ (l : List RowModel). HasFinished g.G.Gas.rules (post_of c.visit.new.self) c.visit.new.take.taken l) (put_first_none behind u none) (c.visit.ensures.over over))
+          (at_end_over g.G.Gas.rules (drop (suc c.args.k) hs) behind c.args.tx.now.put u none all);
+    }
 
 pub rotate_behind-requires : goal.rotate_behind-requires
 rotate_behind-requires g t c κs within =

@@ -1,11 +1,5 @@
-use Rattle.std.proofs.Common.{◌≡◌, ◌++◌, ◌∷◌, [], List, refl, sym, ap, subst, ◌∙◌}
-use Rattle.std.specs.Int.{div_ceil}
+use Rattle.std.proofs.Common.{sym, ap, ◌∙◌}
 use Rattle.gas_geom.specs.Channel.{ChannelModel}
-use Rattle.gas_rows.specs.Row.{RowModel}
-use Rattle.gas_pipe_model.specs.Pass.{RunInputModel}
-use Rattle.gas_pipe_members.specs.Feeder.{FeederModel, MayHaveFed, Feeds}
-use Rattle.gas_pipe.specs.Inner.Fed.{MayHaveFedInput}
-use Rattle.gas_pipe.specs.declared.hand.Visited.TheVariants.{Moved, Over}
 use Rattle.gas_pipe.proofs.Fed.{fed_on}
 use Rattle.gas_pipe.proofs.Hands.{one_more}
 use Rattle.gas_pipe.proofs.chain.visit_feeder.Goals as goal

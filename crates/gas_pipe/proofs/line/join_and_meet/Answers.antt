@@ -6,7 +6,7 @@ use Rattle.gas_pipe_model.specs.Pass.{RunInputModel}
 use Rattle.gas_pipe_members.specs.Feeder.{FeederModel}
 use Rattle.gas_pipe.specs.Inner.Chain.{ChainModel, IsOver}
 use Rattle.gas_pipe.specs.Inner.Links.{IsLinked, Linked, HaveMetUpTo, job_of, workers_in}
-use Rattle.gas_pipe.proofs.Own.{all_put, fed, closed, all_long, own_evens, own_count, first_all, has_met}
+use Rattle.gas_pipe.proofs.Own.{fed, closed, all_long, own_evens, own_count, first_all, has_met}
 use Rattle.gas_pipe.proofs.Settled.{last_on, last_whole, all_belts, taken_long, belts_are, lattice_is}
 use Rattle.gas_pipe.proofs.line.join_and_meet.Goals as goal
 

@@ -1,6 +1,5 @@
-use Rattle.std.proofs.Common.{rules, ◌∷◌, ◌++◌, [], List, length, map, refl, ap, sym, subst, ◌∙◌}
+use Rattle.std.proofs.Common.{rules, ◌++◌, List, length, map, refl, ap, sym, subst, ◌∙◌}
 use Rattle.std.specs.Vec.Iter.{into_iter_items}
-use Rattle.gas_rows.specs.Row.{RowModel}
 use Rattle.gas_belt.specs.Belt.{CarriedModel, carried_within}
 use Rattle.gas_pipe.specs.Inner.Chain.{EndedModel, EndsChain}
 use Rattle.gas_pipe.specs.Inner.Links.{first_put, job_of}

@@ -1,4 +1,4 @@
-use Rattle.std.proofs.Common.{◌≡◌, [], length, map, All}
+use Rattle.std.proofs.Common.{◌≡◌, [], map, All}
 use Rattle.gas_pipe.specs.Inner.Hand.{post_of, HasCome}
 use Rattle.gas_pipe.specs.Inner.Links.{posts_in}
 use Rattle.gas_pipe.proofs.line.make_hands.Given as goal

@@ -1,4 +1,3 @@
-use Rattle.std.proofs.Common.{refl}
 use Rattle.gas_pipe.proofs.Chains.{all_running, linked_still}
 use Rattle.gas_pipe.proofs.line.run_in_scope.Goals as goal
 

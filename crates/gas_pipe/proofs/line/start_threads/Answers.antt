@@ -1,4 +1,4 @@
-use Rattle.std.proofs.Common.{rules, sym, ap, ◌≡◌, ◌∙◌, ◌++◌, append-nil, map, [], List, length, arith}
+use Rattle.std.proofs.Common.{rules, sym, ap, ◌≡◌, ◌∙◌, ◌++◌, append-nil, map, [], List, arith}
 use denote.Param.Send.{sendable}
 use Rattle.std.proofs.lemmas.List.{nil_from_length}
 use Rattle.std.specs.Vec.Iter.{into_iter_items}

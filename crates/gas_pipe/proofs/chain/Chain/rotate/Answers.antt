@@ -1,7 +1,7 @@
-use Rattle.std.proofs.Common.{◌≡◌, ◌==◌, [], ℕ, List, length, vec_len, subst, sym, ap, refl, ◌∙◌, arith}
+use Rattle.std.proofs.Common.{◌≡◌, ◌==◌, ℕ, List, length, vec_len, subst, sym, ap, ◌∙◌, arith}
 use Rattle.gas_rows.specs.Row.{RowModel}
 use Rattle.gas_belt.specs.Belt.{Belt, InnerModel}
-use Rattle.gas_pipe.specs.Inner.Chain.{ChainModel, HeadHasCome, HeadIsOver, IsRunning, put_first}
+use Rattle.gas_pipe.specs.Inner.Chain.{HeadHasCome, HeadIsOver, IsRunning}
 use Rattle.gas_pipe.proofs.Rotations.{none_left, some_left, put_on_first, at_end, at_end_over, put_first_none, same_width}
 use Rattle.gas_pipe.proofs.chain.Chain.rotate.Goals as goal
 

@@ -1,39 +1,29 @@
-use Rattle.std.proofs.Common.{◌≡◌, ◌++◌, ◌∷◌, [], List, refl, sym, ap, subst, ◌∙◌}
-use Rattle.gas_rows.specs.Row.{RowModel}
+use Rattle.std.proofs.Common.{refl, sym, ap, subst, ◌∙◌}
 use Rattle.gas_pipe.specs.Inner.Hand.{HandModel, post_of, HasCome}
-use Rattle.gas_pipe.specs.declared.hand.Visited.{Visited}
-use Rattle.gas_pipe.specs.declared.hand.Visited.TheVariants.{Moved, Idle, Over}
 use Rattle.gas_pipe.proofs.Hands.{same_post, came_took, came_put, came_rests}
 use Rattle.gas_pipe.proofs.hand.Hand.visit.Goals as goal
 use Rattle.gas_pipe.proofs.hand.Hand.visit.Goals.{in-Took, in-Put, in-Done+else-not-begin_next}
 
-pub returns-then-not-begin_next-clause-come : goal.returns-then-not-begin_next-clause-come
-returns-then-not-begin_next-clause-come g c =
+pub returns-then-not-begin_next : goal.returns-then-not-begin_next
+returns-then-not-begin_next g c =
     let t = g.met.T.LineTake in
     let p = g.met.P.LinePut in
     let old = c.self.inside in
     let h : HandModel = record { who = old.who; first = old.schedule.first; plan = old.schedule.plan; pass = old.pass; worker = old.worker } in
     let did = c.in-Done.ensures.turned in
     let was = subst (λ (i : HandModel). HasCome g.G.Gas.rules i (g.T.LineTake.taken c.loop.take) (g.P.LinePut.put c.loop.put)) (sym c.self.view_is) c.loop.invariant.come in
-    let came =
-    came_rests g.G.Gas.rules h c.turn.new.self _ _ (g.T.LineTake.taken c.turn.new.take) (g.P.LinePut.put c.show.new.self) was c.turn.ensures.same did.2
-    (t.rests_is _ _ did.0).0 ((p.rests_is _ _ c.show.ensures).0 ∙ (p.rests_is _ _ did.1).0)
-    in
-    (c.if-not-begin_next.ensures.over refl _ _ came).0
-
-pub returns-then-not-begin_next-clause-over : goal.returns-then-not-begin_next-clause-over
-returns-then-not-begin_next-clause-over g c _ =
-    let t = g.met.T.LineTake in
-    let p = g.met.P.LinePut in
-    let old = c.self.inside in
-    let h : HandModel = record { who = old.who; first = old.schedule.first; plan = old.schedule.plan; pass = old.pass; worker = old.worker } in
-    let did = c.in-Done.ensures.turned in
-    let was = subst (λ (i : HandModel). HasCome g.G.Gas.rules i (g.T.LineTake.taken c.loop.take) (g.P.LinePut.put c.loop.put)) (sym c.self.view_is) c.loop.invariant.come in
-    let came =
-    came_rests g.G.Gas.rules h c.turn.new.self _ _ (g.T.LineTake.taken c.turn.new.take) (g.P.LinePut.put c.show.new.self) was c.turn.ensures.same did.2
-    (t.rests_is _ _ did.0).0 ((p.rests_is _ _ c.show.ensures).0 ∙ (p.rests_is _ _ did.1).0)
-    in
-    (c.if-not-begin_next.ensures.over refl _ _ came).1
+    let took = t.rests_is _ _ did.0 in
+    let put = p.rests_is _ _ did.1 in
+    let shown = p.rests_is _ _ c.show.ensures in
+    let came = came_rests g.G.Gas.rules h c.turn.new.self _ _ (g.T.LineTake.taken c.turn.new.take) (g.P.LinePut.put c.show.new.self) was c.turn.ensures.same did.2 took.0 (shown.0 ∙ put.0) in
+    let over = c.if-not-begin_next.ensures.over refl _ _ came in
+    record {
+      post = c.if-not-begin_next.ensures.post ∙ same_post h c.turn.new.self c.turn.ensures.same ∙ ap post_of c.self.view_is ∙ c.loop.invariant.post;
+      take = t.same_then _ _ _ c.loop.invariant.take took.1;
+      put = p.same_then _ _ _ c.loop.invariant.put (p.same_then _ _ _ put.1 shown.1);
+      come = over.0;
+      over = λ _. over.1;
+    }
 
 pub returns-in-Idle-clause-come : goal.returns-in-Idle-clause-come
 returns-in-Idle-clause-come g c =
