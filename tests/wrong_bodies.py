@@ -31,13 +31,15 @@ def functions(lines):
 
 
 def source_of(crate, folders):
-    """The source file of a folder of proofs, whose path has the modules, perhaps a type, and the function; and that function."""
+    """The source file of a folder of proofs, whose path has the modules, perhaps a type, and the function, after a + if it calls itself; and
+    that function."""
+    function = folders[-1].removeprefix("+")
     for length in range(len(folders) - 1, -1, -1):
         stem = "/".join(folders[:length]) or "lib"
         for path in (f"src/{stem}.rt", f"src/{stem}/mod.rt"):
             if (CRATES / crate / path).exists():
-                return path, folders[-1]
-    return "src/lib.rt", folders[-1]
+                return path, function
+    return "src/lib.rt", function
 
 
 def place(crate, told):
