@@ -1,8 +1,8 @@
 #!/usr/bin/env python3
 """Site updates per second (cells times generations by seconds) of `fhpgas run` and of other programs that compute the same lattice of
 FHP-I, filled at rate 300: one stage on one thread (probes), C on bit planes in place, on one thread and in bands on all
-(tests/oracles/bands.c), and what one would write in an afternoon, in C (tests/oracles/bytes.c) and in numpy (bytes.py, if numpy is
-installed, and only with chirality "left"). Under a seed it also makes only the random bits of the same number of updates.
+(tests/program/oracles/bands.c), and what one would write in an afternoon, in C (tests/program/oracles/bytes.c) and in numpy (bytes.py, if
+numpy is installed, and only with chirality "left"). Under a seed it also makes only the random bits of the same number of updates.
 
 Every program takes its turn in every round. A figure is the best of the rounds, followed by the middle one. The cost of reading and
 printing is taken off by runs of 0 generations: their best from the best, their middle from the middle, because the difference of two runs
@@ -52,7 +52,7 @@ def build(room):
             "-pthread",
             "-o",
             room / name,
-            ROOT / f"tests/oracles/{name}.c",
+            ROOT / f"tests/program/oracles/{name}.c",
         ]
         subprocess.run(["cc", *words], check=True)
     return level

@@ -1,8 +1,8 @@
 #!/bin/bash
 # The tests, as `make quick`, `make package` and `make test` call them. Ends with the counts. `make test` leaves a record in out/record.
-. "$(dirname "$0")/try.sh"
+. "$(dirname "$0")/lib/try.sh"
 set -o pipefail
-package=(package_{lattices,blocks,drawing,flows,processes}.py) # the tests of the package that runs lattices
+package=(package/{lattices,blocks,drawing,flows,processes}.py) # the tests of the package that runs lattices
 
 parts() { local name; for name; do part "tests/$name"; done; }
 
@@ -11,9 +11,9 @@ examples() {
     local name
     mkdir "$room/cases"
     for name; do
-        cp "tests/examples/$name.toml" "$room/cases/$name"
-        tr ' ' '\n' < "tests/examples/$name.words" > "$room/cases/$name.args"
-        cp "tests/examples/$name.wanted" "$room/cases/$name.stdout"
+        cp "tests/program/examples/$name.toml" "$room/cases/$name"
+        tr ' ' '\n' < "tests/program/examples/$name.words" > "$room/cases/$name.args"
+        cp "tests/program/examples/$name.wanted" "$room/cases/$name.stdout"
     done
     (cd crates/fhpgas && rt try --cases "$room/cases")
 }
@@ -21,10 +21,12 @@ examples() {
 # quick: for the time between edits. A program that FHPGAS names, or that is built and newer than the sources, is tried from outside, else a
 # few worked examples by `rt try`, in some minutes. Nothing is proved.
 quick() {
-    parts lint.sh imports.py links.py prose.py definitions.py proved.py derivation.py edges.py values.py
+    parts set_up/lint.sh package/imports.py documents/links.py documents/sentences_and_words.py documents/definitions.py \
+        documents/proved.py package/derivation.py program/code_without_contract.py package/tested_functions.py
     if [ -n "${FHPGAS-}" ] || tools/is_built; then
-        parts command_line.py help.py documents.py explanations.py "${package[@]}" package_commands.py
-        part tests/mutated_scenes.py 300
+        parts program/command_line.py program/help.py documents/printed_commands.py package/explanations.py "${package[@]}" \
+            package/commands.py
+        part tests/program/mutated_scenes.py 300
     elif has rt 'the program'; then
         part examples check_rectangles head_on_left obstacle_1 seeded_pairs filling coarse_uneven replay_done
     fi
@@ -32,9 +34,10 @@ quick() {
 
 # package: the package, the notebook, the page and the experiments, on the program that FHPGAS names, or on the engine and what make built
 package() {
-    parts engine.py "${package[@]}" package_commands.py explanations.py wheel.py documents.py notebook.py page.py
-    ! has node "the page's kernels" || { part node tests/kernel.mjs; part node tests/page_model.mjs; }
-    parts tiles.py experiments.py
+    parts package/engine.py "${package[@]}" package/commands.py package/explanations.py package/wheel.py \
+        documents/printed_commands.py package/notebook.py page/browser.py
+    ! has node "the page's kernels" || { part node tests/page/kernel.mjs; part node tests/page/model.mjs; }
+    parts package/tiles.py package/experiments.py
 }
 
 # gate: proves every crate from scratch, tries the wrong bodies of must-fail/ one by one, and runs the tests and the stored runs of the
@@ -50,22 +53,25 @@ gate() {
 
 case $1 in
     quick) quick ;;
-    package) tests/setup.sh && package ;;
+    package) tests/set_up/install.sh && package ;;
     test)
         unset FHPGAS # what is built here is tried
-        tests/setup.sh || exit 1
-        parts lint.sh imports.py definitions.py proved.py derivation.py edges.py values.py links.py prose.py libraries.sh make.sh waiting.sh
+        tests/set_up/install.sh || exit 1
+        parts set_up/lint.sh package/imports.py documents/definitions.py documents/proved.py package/derivation.py \
+            program/code_without_contract.py package/tested_functions.py documents/links.py documents/sentences_and_words.py \
+            set_up/missing_libraries.sh set_up/makefile.sh program/lost_wake_ups.sh
         [ ${#failed[@]} = 0 ] || exit 1
         gate
-        part tests/wrong_bodies.py "$room/gate"
+        part tests/program/wrong_bodies.py "$room/gate"
         part make -s AS_IS=1 engine
-        parts command_line.py help.py version.py oracle.py golly.py reference.py terminal.py library.py archive.sh large_scenes.py scale.py \
-            first_change.sh refusals.py
+        parts program/command_line.py program/help.py documents/version.py program/cells_beside_c.py program/cells_beside_golly.py \
+            program/reference_scenes.py program/terminal.py documents/library.py set_up/release.sh program/large_scenes.py \
+            program/largest_sizes.py documents/first_change.sh program/refused_memory.py
         package
         FHPGAS=$PWD/crates/fhpgas/out/fhpgas parts "${package[@]}"
-        part tests/mutated_scenes.py 5000
+        part tests/program/mutated_scenes.py 5000
         mkdir -p out
-        tests/record.py "$room/gate" "$room/parts" "$SECONDS" > out/record
+        tests/set_up/record.py "$room/gate" "$room/parts" "$SECONDS" > out/record
         ;;
 esac
 tell || [ $? = 77 ]

@@ -5,7 +5,7 @@ set -euo pipefail
 if [ -z "${1-}" ]; then echo 'usage: tools/reference.sh FOLDER' >&2; exit 2; fi
 folder=$(realpath -m -- "$1")
 cd "$(dirname "$0")/.."
-python=$(tests/needs.py | sed -n 1p)
+python=$(tests/lib/needs.py | sed -n 1p)
 room=$(mktemp -d)
 trap 'rm -rf "$room"' EXIT
 cat > "$room/conf.py" << END

@@ -1,12 +1,12 @@
 #!/bin/bash
-# Makes the wheel of the Python package, with the page in it, in FOLDER, without a network: for Linux on x86-64, with the engine's libraries, or,
-# with the word `any` and where `make` left no libraries, for every system, without them.
+# Makes the wheel of the Python package, with the page in it, in FOLDER, without a network: for Linux on x86-64, with the engine's
+# libraries, or, with the word `any` and where `make` left no libraries, for every system, without them.
 set -euo pipefail
 if [ -z "${1-}" ]; then echo 'usage: tools/wheel.sh FOLDER [any]' >&2; exit 2; fi
 mkdir -p "$1"
 folder=$(realpath -- "$1")
 cd "$(dirname "$0")/.."
-python=$(tests/needs.py | sed -n 1p)
+python=$(tests/lib/needs.py | sed -n 1p)
 room=$(mktemp -d)
 trap 'rm -rf "$room"' EXIT
 cp -r python page "$room"

@@ -1,4 +1,4 @@
-// The numbers of a flow, each with a test that knows it from elsewhere (tests/page_model.mjs), and numbers as texts.
+// The numbers of a flow, each with a test that knows it from elsewhere (tests/page/model.mjs), and numbers as texts.
 import { GASES } from "./gases.js";
 
 const FEW = 100; // particles that are no fluid

@@ -1,0 +1,73 @@
+#!/usr/bin/env python3
+"""Compares docs/LIBRARY.md with the crates: its program and its invariant are those of crates/example_columns, and the calls that it quotes
+have these signatures, and these clauses among theirs. The stored output of the example, which reads scenes/wind.toml, has the particles
+that the built fhpgas counts in blocks of one column. rt ci checks that the example prints that output. Ends with the counts."""
+
+import re
+import subprocess
+import sys
+
+sys.path.append(f"{sys.path[0]}/../lib")
+import needs
+
+PROGRAM = needs.built_program()
+EXAMPLE = needs.ROOT / "crates/example_columns"
+COLUMNS = "coarse --generations 12 --block-width 1 --block-height 16"  # blocks as high as the scene's lattice
+PAGE = (needs.ROOT / "docs/LIBRARY.md").read_text()
+
+
+def plain(text):
+    return " ".join(text.split())
+
+
+def functions(crate):
+    """The public functions of a crate, and of the crates whose names begin like its own, without line breaks."""
+    texts = [path.read_text() for path in (needs.ROOT / "crates").glob(f"{crate}*/src/**/*.rt")]
+    return [function for text in texts for function in plain(text).split("pub fn ")[1:]]
+
+
+def quoted(calls):
+    """Per call that a block quotes its crate, its signature and its clauses. A comment names the crate of the calls below it."""
+    for crate, below in re.findall(r"^// (\w+)(.*?)(?=^// |\Z)", calls, re.M | re.S):
+        for call in below.split("pub fn ")[1:]:
+            yield crate, *map(plain, re.split(r"^    (?=requires|ensures)", call, flags=re.M))
+
+
+def comparisons():
+    """What must be, and whether it is."""
+    program, calls = re.findall(r"^```rust\n(.*?)^```$", PAGE, re.M | re.S)
+    yield "the program is that of the example", (EXAMPLE / "src/main.rt").read_text().endswith(
+        f"\n{program}"
+    )
+    invariant = re.search(r"^ *(invariant-.*)$", PAGE, re.M)[1]
+    yield "so is the invariant", invariant in (
+        EXAMPLE / "proofs/in_column/Invariants.antt"
+    ).read_text().splitlines()
+    for crate, signature, *clauses in quoted(calls):
+        alike = [function for function in functions(crate) if function.startswith(f"{signature} ")]
+        yield f"{crate} has the call {signature}", any(
+            all(clause in function for clause in clauses) for function in alike
+        )
+    scene = (EXAMPLE / "stdin").read_text()
+    yield "the example reads scenes/wind.toml", scene == (
+        needs.ROOT / "scenes/wind.toml"
+    ).read_text()
+    table = subprocess.run(
+        [PROGRAM, *COLUMNS.split()], input=scene, capture_output=True, text=True, check=True
+    ).stdout
+    particles = [int(line.split()[3]) for line in table.splitlines()[1:]]
+    wanted = [
+        f"generation 12: {sum(particles)} particles",
+        *(f"column {x}: {n}" for x, n in enumerate(particles)),
+    ]
+    yield "it prints the particles of the columns", (
+        EXAMPLE / "stdout"
+    ).read_text().splitlines() == wanted
+
+
+compared = list(comparisons())
+failed = [what for what, is_so in compared if not is_so]
+for what in failed:
+    print(f"FAILED: {what}")
+print(f"{len(compared) - len(failed)} passed, {len(failed)} failed")
+sys.exit(bool(failed))

@@ -1,0 +1,176 @@
+#!/usr/bin/env python3
+"""Looks up the links of the Markdown files that lead into the repository: the file must exist, and the anchor must be a heading's, by the
+rule of hosts such as GitHub. Links to other places are not tried. The table in docs/ARCHITECTURE.md must have the crates of crates.txt, and
+only these. Its lists of where to put a change name only what exists, and for a gas and a key also places in page/ and python/. The help of
+the program must have the commands and the columns of docs/FORMATS.md. Ends with the counts."""
+
+import collections
+import pathlib
+import re
+import sys
+import urllib.parse
+
+ROOT = pathlib.Path(__file__).resolve().parents[2]
+FENCE = re.compile(r"^(```|~~~).*?^\1", re.M | re.S)
+CODE = re.compile(r"`[^`\n]*`")
+LINK = re.compile(
+    r"\]\(\s*<?([^)>\s]+)>?(?:\s+\"[^\"]*\")?\s*\)|^\[[^\]]+\]:\s*(\S+)|(?:src|href)=\"([^\"]+)\"",
+    re.M,
+)
+HEADING = re.compile(r"^#{1,6}[ \t]+(.*?)[ \t]*#*$", re.M)
+NAMED = re.compile(r"<\w+ (?:id|name)=\"([^\"]+)\"")
+SUFFIXES = (".rt", ".antt", ".py", ".js", ".mjs", ".c", ".h", ".md")
+ELSEWHERE = re.compile(r"[a-z][a-z0-9+.-]*:", re.I)
+
+
+def documents():
+    """The Markdown files, but for those that builds and version control keep."""
+    return [
+        path
+        for path in sorted(ROOT.rglob("*.md"))
+        if not {"out", ".git"} & set(path.relative_to(ROOT).parts)
+    ]
+
+
+def anchors(text):
+    """The anchors of a document: of a heading its letters, digits, hyphens and underscores in small letters, spaces as hyphens."""
+    text = FENCE.sub("", text)
+    found, seen = set(NAMED.findall(text)), collections.Counter()
+    for heading in HEADING.findall(text):
+        words = re.sub(r"\[([^\]]*)\]\([^)]*\)", r"\1", heading)
+        anchor = re.sub(r"[^\w\- ]", "", words.lower()).replace(" ", "-")
+        found.add(f"{anchor}-{seen[anchor]}" if seen[anchor] else anchor)
+        seen[anchor] += 1
+    return found
+
+
+def links(text):
+    """What a document links to, and the number of the line."""
+    hidden = re.sub(
+        CODE,
+        lambda found: " " * len(found.group()),
+        FENCE.sub(lambda found: "\n" * found.group().count("\n"), text),
+    )
+    for found in LINK.finditer(hidden):
+        yield next(filter(None, found.groups())), hidden.count("\n", 0, found.start()) + 1
+
+
+def fault(document, link):
+    """What is wrong with a link, or None."""
+    path, _, anchor = urllib.parse.unquote(link).partition("#")
+    target = (
+        (ROOT / path.lstrip("/") if path.startswith("/") else document.parent / path).resolve()
+        if path
+        else document
+    )
+    if ROOT not in (target, *target.parents) or not target.exists():
+        return "leads to no file"
+    if anchor and target.suffix == ".md" and anchor not in anchors(target.read_text()):
+        return "names no heading"
+    return None
+
+
+def crates():
+    """The crates that crates.txt lists, and the ones in the first column of the table in docs/ARCHITECTURE.md."""
+    listed = set(re.findall(r"^(\w+)(?: staticlib)?:", (ROOT / "crates.txt").read_text(), re.M))
+    table = (ROOT / "docs/ARCHITECTURE.md").read_text().split("| crate |")[1].split("\n\n")[0]
+    return listed, {
+        name
+        for row in table.split("\n")
+        if row.startswith("| `")
+        for name in re.findall(r"`(\w+)`", row.split("|")[1])
+    }
+
+
+def changes():
+    """The changes of docs/ARCHITECTURE.md with the places of each, where it says where to put a change: (heading, paths as written and on
+    this disk, or None for what is not there). A file without a folder is in the folder that was named last, in its item or before the
+    first."""
+    section = (ROOT / "docs/ARCHITECTURE.md").read_text().split("## Where to put a change")[1]
+    for change in re.split(r"^### ", section, flags=re.M)[1:]:
+        places, above = [], ROOT
+        for number, item in enumerate(re.split(r"^(?:- |\d+\. )", change, flags=re.M)):
+            folder = above
+            for name in re.findall(r"`([\w./-]+)`", item):
+                is_path = "/" in name or pathlib.Path(name).suffix in SUFFIXES
+                if not is_path and not re.fullmatch(r"(gas|tests)_\w+", name) or "NAME" in name:
+                    continue
+                bases = ROOT, ROOT / "crates", folder, folder.parent
+                found = (base / name.removeprefix("C/") for base in bases)
+                there = next((place for place in found if place.exists()), None)
+                places.append((name, there))
+                if there and is_path:
+                    folder = there if there.is_dir() else there.parent
+            if number == 0:
+                above = folder
+        yield change.split("\n")[0], places
+
+
+def faults_of_the_map():
+    """What the changes name and is not there, and what the ones that go through every room leave out."""
+    listed = dict(changes())
+    for change, places in listed.items():
+        yield from (f"{name} is not there" for name, there in places if not there)
+    for change in "Another gas", "Another key of a scene":
+        named = [there for _, there in listed.get(change, []) if there]
+        for room in "crates", "python", "page":
+            if not any(ROOT / room in place.parents for place in named):
+                yield f"'{change}' names nothing in {room}/"
+
+
+def help_and_formats():
+    """The commands and the columns of the program's help, and the ones of docs/FORMATS.md, in order."""
+    help_text, formats = (ROOT / "crates/gas_tool_cli/src/help.rt").read_text(), (
+        ROOT / "docs/FORMATS.md"
+    ).read_text()
+    table = formats.split("| column |")[1].split("\n\n")[0]
+    columns = [
+        name
+        for row in re.findall(r"^\| (`.*?) \|", table, re.M)
+        for name in re.findall(r"`(\w+)`", row)
+    ]
+    told = [
+        name
+        for names in re.findall(r"^  (\w+(?:, \w+)*)  +", help_text, re.M)
+        for name in names.split(", ")
+    ]
+    commands = re.findall(
+        r"^\| `(\w+)` \|", formats.split("## The command line")[1].split("\n\n## ")[0], re.M
+    )
+    return (re.findall(r'usage: "(?:\\\n)?fhpgas ([a-z]+)', help_text), commands), (told, columns)
+
+
+def faults_of_sources():
+    """How many faults the documents have of what the sources say."""
+    failed = 0
+    for name in sorted(set.symmetric_difference(*crates())):
+        failed += 1
+        print(
+            f"FAILED: {name} stands in crates.txt or in the table of docs/ARCHITECTURE.md, and not in both"
+        )
+    for wrong in faults_of_the_map():
+        failed += 1
+        print(f"FAILED: docs/ARCHITECTURE.md, 'Where to put a change': {wrong}")
+    for told, written in help_and_formats():
+        failed += told != written or not told
+        if told != written:
+            print(f"FAILED: the program's help has {told}, docs/FORMATS.md {written}")
+    return failed
+
+
+def main():
+    passed, failed = 0, faults_of_sources() if (ROOT / "crates.txt").exists() else 0
+    for document in documents():
+        for link, line in links(document.read_text()):
+            if ELSEWHERE.match(link):
+                continue
+            wrong = fault(document, link)
+            passed, failed = passed + (not wrong), failed + bool(wrong)
+            if wrong:
+                print(f"FAILED: {document.relative_to(ROOT)}:{line}: {link} {wrong}")
+    print(f"{passed} passed, {failed} failed")
+    return 1 if failed or not passed else 0
+
+
+if __name__ == "__main__":
+    sys.exit(main())

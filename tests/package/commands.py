@@ -1,0 +1,589 @@
+#!/usr/bin/env python3
+"""Tries the pictures and the command line of the package in python/: what they show and print
+beside hand-made values, the package's functions and the program, and what they refuse. Ends with
+the counts."""
+
+import contextlib
+import io
+import itertools
+import os
+import pathlib
+import re
+import shutil
+import signal
+import subprocess
+import sys
+import tempfile
+import time
+import unittest
+import unittest.mock
+
+sys.path.append(f"{sys.path[0]}/../lib")
+import needs
+import second_reader
+
+needs.built_program()
+needs.libraries()
+os.environ["PYTHONPATH"] = str(needs.ROOT / "python")
+import fhpgas  # noqa: E402 - finds the program by the lines above
+import matplotlib  # noqa: E402
+import numpy as np  # noqa: E402
+from fhpgas import __main__, drawing, pictures  # noqa: E402
+from matplotlib.figure import Figure  # noqa: E402
+from PIL import Image, ImageSequence  # noqa: E402
+
+matplotlib.use("agg")
+AREA = 'gas = "fhp1"\nseed = 7\nwidth = 66\nheight = 9\nrate = 300\nsolid = [[20, 2, 3, 4]]\n'
+COMMANDS = (
+    "",
+    "draw",
+    "draw discs",
+    "explain",
+    "picture",
+    "film",
+    "page",
+    "how-long",
+    "resume",
+    "long-run",
+    "drive",
+    "over-time",
+    "over-seeds",
+    "numbers",
+)
+REFUSED = {
+    2: """
+numbers --length 9 --filling 1e-300 --speed 0.1 | 1e-300
+numbers --length 9 --filling 1 --speed 0.1 | 0.9999
+numbers --length 9 --filling 0.2 --speed nan | nan
+numbers --length 9 --filling 0.2 --speed -1 | -1
+numbers --length 9 --filling 0.2 --speed 5 | 5
+numbers --length 9 --filling 0.2 | --filling and --speed
+numbers --length 9 --table a.toml --speed 1 | or a --table
+numbers --length 9 --table table | --scene
+numbers --length 9 --table table --gas fhp1 | --size
+numbers --length 9 --table table --scene a.toml | --block
+numbers --length 9 --table three | --gas
+numbers --length 0 --filling 0.2 --speed 0.1 | --length
+numbers --filling 0.2 --speed 0.1 --length inf | inf
+picture speed a.png a.toml --low nan | nan
+picture speed a.png a.toml --low inf | inf
+picture speed a.png a.toml --low 1 --high 0 | --low 1 is not below --high 0
+picture speed a.jpg a.toml | a.jpg is written as .png
+picture heat a.png a.toml | heat
+picture speed no/a.png a.toml | the folder of no/a.png
+picture speed a.png a.toml --smooth -1 | -1
+picture speed a.png table | table does not name its gas
+picture speed a.png three | three does not name its gas
+picture speed a.png table --gas fhp1 --size 66 9 | --block COLUMNS ROWS
+picture speed a.png a.toml --block 0 9 | 0
+film a.toml a.png --every 1 --until 2 | .gif
+film a.toml a.gif --every 3 --until 10 | no multiple
+film a.toml no/a.gif --every 1 --until 2 | the folder of no/a.gif
+film a.toml a.gif --every 0 --until 2 | 0
+film a.toml a.gif --every 1 --until 2 --flow 0.1 --force 0.1 | --force or --flow
+film a.toml a.gif --every 1 | --until
+draw  | SHAPE
+draw cubes | cubes
+draw blocks --width 0 | 0
+draw blocks --height 65537 | 65537
+draw blocks --filling 1.001 | 1.001
+draw blocks --seed -1 | -1
+draw blocks --gas fhp2 | fhp2
+draw blocks --wind x | x
+draw blocks --wind 0.1 0.2 0.3 | one northwards
+draw blocks --patch 0 0 1 1 1.1 | a filling of 0 to 1
+draw blocks --patch 0.5 0 1 1 1 | whole columns
+draw discs --disc 0 0 -1 | -1
+draw porous --share 1.01 | 1.01
+draw polygons --polygon nan 1 2 3 4 5 | nan
+draw polygons --polygon inf 1 2 3 4 5 | inf
+draw polygons --polygon 1 2 3 4 5 6 7 | two numbers each
+draw bitmap a.png --pixel 1e308 | 1e308
+draw blocks --rate 200 | --rate
+draw nozzle --throat x | x
+drive a.toml 10 5 --force nan | nan
+drive a.toml 10 5 --flow nan | nan
+drive a.toml 10 5 | --force or --flow
+drive a.toml 10 3 --flow 0.1 | no multiple
+drive a.toml 10 0 --flow 0.1 | 0
+over-time a.toml 10 3 | no multiple
+over-seeds a.toml --generations 1 --seeds 1 | 1
+how-long a.toml -1 | -1
+how-long a.toml 1e3 | 1e3
+over-seeds --generations 1 --drawn discs --seed 2 | --seed
+long-run a.toml 10 0 kept | 0
+long-run a.toml 10 4 ./a.toml | a.toml is the scene itself
+over-time later.toml 1 1 | later.toml has generation 3, which is past 1
+""",
+    1: """
+explain no.toml | no.toml: No such file
+how-long - 10 | scene: missing key
+resume a.toml no.txt | no.txt
+film no.toml a.gif --every 1 --until 1 | no.toml
+numbers --gas hpp --length 9 --filling 0.2 --speed 0.1 | hpp has no viscosity
+numbers --table - --length 9 --scene a.toml --block 8 9 | scene: missing key
+numbers --table empty.toml --length 9 | empty.toml has no particle
+numbers --table cut --length 9 --scene a.toml --block 11 9 | cut: this is no whole table
+picture speed a.png less --scene a.toml | less: 
+picture particles a.png table --scene a.toml --block 11 9 | no picture of 'particles'
+draw discs --disc 64 0 1 | 0 to 63
+draw blocks --block 60 0 5 1 | a block leaves
+draw nozzle --length 65 | 65
+draw polygons --polygon 1 2 3 4 | three corners
+draw bitmap no.png | no.png
+draw blocks --filling 0.8 --wind 0.25 | velocity
+draw blocks --width 65536 --height 512 --wind 0.1 | 67108864
+over-seeds --generations 1 --drawn discs --wind 0.95 | velocity
+over-seeds later.toml --generations 1 | `cells`
+long-run a.toml 10 4 no/kept | no/kept
+resume a.toml table | printed cells
+drive a.toml 20 10 --force 2 | particles to turn
+""",
+}  # commands by status, and a part of what is said
+
+
+def uneven():
+    """Blocks of 8 x 9 cells of 30 x 20: the last column has 6 columns, the last row 2 rows."""
+    sums = (
+        [[72, 36, 35, 54], [72, 72, 72, 54], [16, 16, 16, 12]],
+        [[72] * 4] * 3,
+        [[36] * 4] * 3,
+        [[-9] * 4] * 3,
+    )
+    gas = fhpgas.gas_named("fhp1")
+    return fhpgas.Blocks(*map(np.array, sums), gas, (8, 9), fhpgas.Size(30, 20))
+
+
+class Commands(unittest.TestCase):
+    @classmethod
+    def setUpClass(cls):
+        cls.room = pathlib.Path(tempfile.mkdtemp())
+        cls.addClassCleanup(shutil.rmtree, cls.room)
+        cls.start = fhpgas.Lattice.load(AREA)
+        table = fhpgas.coarse(AREA, 3, 11, 9).text()
+        cells = cls.start.run(3).text()
+        less = cells[: cells.rindex("\n", 0, -1) + 1]
+        for name, text in {
+            "a.toml": AREA,
+            "three": cells,
+            "less": less,
+            "table": table,
+            "cut": table[:-3],
+            "empty.toml": AREA.replace("300", "0"),
+            "later.toml": cls.start.run(3).scene(),
+        }.items():
+            (cls.room / name).write_text(text)
+        os.chdir(cls.room)
+
+    def command(self, *words, text=""):
+        """The status and the two outputs of a command, in this process."""
+        words, out, err = (
+            [word for part in words for word in str(part).split()],
+            io.StringIO(),
+            io.StringIO(),
+        )
+        given = io.TextIOWrapper(io.BytesIO(text.encode()))
+        with contextlib.redirect_stdout(out), contextlib.redirect_stderr(err), unittest.mock.patch(
+            "sys.stdin", given
+        ):
+            try:
+                status = __main__.main(words) or 0
+            except SystemExit as end:
+                status = end.code
+        return status, out.getvalue(), err.getvalue()
+
+    def printed(self, *words, **more):
+        status, out, err = self.command(*words, **more)
+        self.assertEqual((status, err), (0, ""), words)
+        return out
+
+    # -- pictures
+
+    def test_a_picture_shows_the_numbers_in_their_places(self):
+        """Less than half fluid is hidden."""
+        blocks, ax = uneven(), Figure().add_subplot()
+        image = blocks.plot("density", ax)
+        self.assertEqual(
+            image.get_array().mask.tolist(), [[False, False, True, False], [False] * 4, [False] * 4]
+        )
+        self.assertEqual(image.get_array()[:, :2].tolist(), [[1, 2], [1, 1], [4.5, 4.5]])
+        self.assertEqual((image.get_clim(), image.get_cmap().name), ((1, 6), "viridis"))
+        self.assertEqual(image.colorbar.ax.get_ylabel(), "density\n(particles per cell)")
+        left, right, bottom, top = image.get_extent()
+        self.assertTrue(
+            np.allclose(
+                (right - left, top - bottom, top), (32, 27 * np.sqrt(3) / 2, 20 * np.sqrt(3) / 2)
+            )
+        )
+        self.assertTrue(
+            np.allclose((*np.subtract(ax.get_xlim(), left), *ax.get_ylim()), (0, 30, 0, top))
+        )
+        self.assertEqual(
+            (ax.get_aspect(), ax.get_xlabel(), image.get_cmap()(np.ma.masked)[:3]),
+            (1, "x (cells)", (0.55, 0.55, 0.55)),
+        )
+
+    def test_a_picture_has_the_range_and_the_field_that_are_asked_for(self):
+        blocks = uneven()
+        image = blocks.plot("north", Figure().add_subplot(), colorbar=False)
+        self.assertTrue(
+            np.allclose(image.get_clim(), np.multiply((-1, 1), np.sqrt(3) / 16))
+        )  # signed: py / particles = 1/8 of sqrt(3)/2
+        image, smooth = blocks.plot("north", Figure().add_subplot(), smooth=1), blocks.smooth(1)
+        shown = image.get_array()
+        self.assertEqual(shown.compressed().tolist(), smooth.north[~shown.mask].tolist())
+        self.assertEqual(
+            blocks.plot(
+                np.arange(12).reshape(3, 4), Figure().add_subplot(), vmin=3, cmap="magma"
+            ).get_clim(),
+            (3, 11),
+        )
+        for what, part in (
+            ("heat", "no picture of 'heat'"),
+            ("particles", "no picture"),
+            (np.zeros(3), "[row, column]"),
+            (np.array([["a"] * 4] * 3), "[row, column]"),
+        ):
+            with self.subTest(part=part, what=str(what)):
+                with self.assertRaisesRegex(fhpgas.Fault, re.escape(part)):
+                    blocks.plot(what, Figure().add_subplot())
+
+    def test_arrows_stand_where_particles_are(self):
+        """A pair on an even row, a particle on an odd one, half a cell to the east, one at rest,
+        and a solid cell."""
+        states, solid = np.zeros((2, 3), int), np.zeros((2, 3), bool)
+        states[0, 1], states[1, 0], solid[1, 2] = 0b1001, 0b1000010, True
+        ax = fhpgas.Lattice(states, solid, "fhp-rest").plot(ax=Figure().add_subplot())
+        cells, *arrows, rest = [
+            c for c in ax.collections if not isinstance(c, matplotlib.collections.LineCollection)
+        ]
+        found = {
+            tuple(np.round((*place, u, v), 3).tolist())
+            for each in arrows
+            for place, u, v in zip(each.get_offsets(), each.U, each.V)
+        }
+        upper, lower = round(1.5 * np.sqrt(3) / 2, 3), round(0.5 * np.sqrt(3) / 2, 3)
+        self.assertEqual(
+            found,
+            {
+                (1, upper, 0.46, 0),
+                (1, upper, -0.46, 0),
+                (0.5, lower, 0.23, round(0.23 * np.sqrt(3), 3)),
+            },
+        )
+        self.assertTrue(np.allclose(rest.get_offsets(), [[0.5, lower]], atol=1e-3))
+        self.assertEqual(
+            [colour[0] == 0.55 for colour in cells.get_facecolors()], [False] * 5 + [True]
+        )
+        self.assertTrue(
+            np.allclose(
+                cells.get_paths()[0].vertices[:, 1].max(), upper + 1 / np.sqrt(3), atol=1e-3
+            )
+        )
+
+    def test_strips_and_films_have_one_range(self):
+        disc = fhpgas.disc(fhpgas.Size(256, 96), 60, 48, 12)
+        start = fhpgas.draw_gas(0.2, 0.3, solid=disc, chirality="left", seed=1)
+        many = [*start.every(20, 3)]
+        fields = [
+            lattice.blocks().vorticity[fhpgas.draw_gas(0, solid=disc).blocks().fluid >= 36]
+            for lattice in many
+        ]
+        most = max(np.abs(field).max() for field in fields)
+        figure = fhpgas.strip(many, "vorticity")
+        self.assertEqual(
+            [ax.get_title() for ax in figure.axes[:4]], [f"generation {20 * k}" for k in range(4)]
+        )
+        for ax in figure.axes[:4]:
+            self.assertTrue(np.allclose(ax.images[0].get_clim(), (-most, most)))
+            self.assertTrue((np.ma.getmaskarray(ax.images[1].get_array()) != disc).all())
+        self.assertEqual(
+            [ax.axison for ax in fhpgas.strip(start.every(1, 2), columns=2).axes],
+            [True] * 3 + [False, True],
+        )  # and the bar
+        for suffix in ("gif", "webp", "apng"):
+            with self.subTest(suffix=suffix):
+                path = self.room / f"film.{suffix}"
+                fhpgas.film(path, (lattice for lattice in many), "vorticity", smooth=1, dpi=50)
+                with Image.open(path) as film:
+                    frames = [
+                        np.asarray(frame.convert("RGB")) for frame in ImageSequence.Iterator(film)
+                    ]
+                self.assertEqual((len(frames), frames[0].shape[1]), (4, 350))
+                self.assertTrue(
+                    all((a != b).any() for a, b in itertools.combinations(frames, 2)), suffix
+                )
+                self.assertTrue(
+                    all((frame[:, 310:] == frames[0][:, 310:]).all() for frame in frames), suffix
+                )  # the bar of colours
+        fhpgas.film(self.room / "few.gif", self.start.replace(states=self.start.states).every(1, 2))
+        for call, part in (
+            (lambda: fhpgas.film("a.gif", []), "a state or more"),
+            (lambda: fhpgas.strip([]), "a state or more"),
+            (lambda: fhpgas.film("a.avi", many), "a film is written as"),
+            (lambda: fhpgas.plot(AREA), "a Lattice or of Blocks"),
+            (lambda: fhpgas.film("a.gif", many, block=8), "two integers"),
+            (lambda: fhpgas.plot(start, "particles"), "no picture of 'particles'"),
+            (lambda: fhpgas.film("a.gif", many, fps=0), "frames per second"),
+        ):
+            with self.subTest(part=part):
+                with self.assertRaisesRegex(fhpgas.Fault, part):
+                    call()
+
+    @unittest.skipUnless(shutil.which("ffmpeg"), "ffmpeg is missing")
+    def test_a_film_is_written_as_mp4(self):
+        fhpgas.film(self.room / "film.mp4", self.start.every(1, 2))
+        self.assertEqual((self.room / "film.mp4").read_bytes()[4:8], b"ftyp")
+
+    def test_a_notebook_shows_pictures(self):
+        for shown in (
+            self.start,
+            self.start.blocks(11, 3),
+            fhpgas.draw_gas(0.2, size=fhpgas.Size(100, 50)),
+        ):
+            self.assertEqual(shown._repr_png_()[:8], b"\x89PNG\r\n\x1a\n")
+            self.assertLess(len(repr(shown)), 100)
+
+    # -- the command line
+
+    def test_every_command_has_help_and_refuses_what_does_not_fit(self):
+        for words in COMMANDS:
+            with self.subTest(words=words):
+                self.assertIn("usage: ", self.printed(words, "--help"))
+        self.assertEqual(self.printed("--version"), f"fhpgas-tools {fhpgas.__version__}\n")
+        (self.room / "a.gif").unlink(missing_ok=True)
+        refused = [(2, f"{words} --colour", "fhpgas-tools: ") for words in COMMANDS]
+        refused += [
+            (status, *line.split(" | "))
+            for status, lines in REFUSED.items()
+            for line in lines.split("\n")[1:-1]
+        ]
+        for status, words, part in refused:
+            with self.subTest(words=words):
+                ended, out, err = self.command(words)
+                self.assertEqual((ended, out, err.count("\n")), (status, "", 1), (words, out, err))
+                self.assertIn(part, err, words)
+        self.assertFalse((self.room / "a.gif").exists())
+
+    def test_the_parser_knows_the_names_of_the_package(self):
+        self.assertIn(f"\n## {fhpgas.__version__}\n", (needs.ROOT / "CHANGELOG.md").read_text())
+        self.assertEqual(
+            (set(drawing.GAS_NAMES), tuple(__main__.FIELDS)),
+            (set(fhpgas.GASES), tuple(pictures.FIELDS)),
+        )
+        self.assertEqual(__main__.FILMS, pictures.PILLOW + pictures.FFMPEG)
+
+    def test_refused_scenes_are_explained_without_numpy(self):
+        """`-S` leaves out the packages of the system."""
+        for words, status, part in (
+            ("explain -", 1, "scene: not TOML\n"),
+            ("explain a.toml", 0, "not refused"),
+            ("--version", 0, fhpgas.__version__),
+            ("film a.toml a.gif --every 1 --until 1", 1, "lacks the package numpy"),
+        ):
+            with self.subTest(words=words):
+                words = [sys.executable, "-S", "-m", "fhpgas", *words.split()]
+                done = subprocess.run(
+                    words, input="x = " + "9" * 10_000, capture_output=True, text=True
+                )
+                self.assertEqual(
+                    (done.returncode, part in done.stdout + done.stderr), (status, True), done
+                )
+
+    def test_an_output_that_takes_no_more_is_one_line(self):
+        """It is closed, full, or takes ASCII only."""
+        (self.room / "letters.toml").write_text('gas = "\u00e9\u2603"\ncells = [".."]\n')
+        for words, said in (
+            ("draw blocks >&-", "fhpgas-tools: standard output is closed\n"),
+            ("--help > /dev/full", "fhpgas-tools: standard output: No space left on device\n"),
+            ("explain letters.toml >&2", '`gas` is "\\xe9\\u2603"'),
+        ):
+            with self.subTest(words=words):
+                done = subprocess.run(
+                    ["bash", "-c", f"{sys.executable} -m fhpgas {words}"],
+                    env=os.environ | {"PYTHONIOENCODING": "ascii"},
+                    capture_output=True,
+                    text=True,
+                )
+                found = done.returncode, said in done.stderr, "Traceback" in done.stderr
+                self.assertEqual(found, (1, True, False), done)
+
+    def test_drawn_scenes_are_as_asked(self):
+        """The second reader counts the same cells as the program, and the scenes have what was
+        asked for."""
+        for words, solid in (
+            ("blocks --width 20 --height 9 --block 3 2 4 5 --block 4 3 5 2", 24),
+            ("blocks --width 12 --height 8 --closed --gas hpp", 8),
+            ("discs --disc 10 8 1 --wind 0.3 -0.1", 7),
+            ("nozzle --throat 24", 0),
+            ("polygons --polygon 1.75 1.5 9.25 1.5 9.25 9.5 1.75 9.5", 60),
+            ("blocks --width 4999 --height 2 --block 4998 0 1 2", 2),
+            ("porous --share 1 --height 5 --wind 0.1", 320),
+            ("blocks --filling 0.20005 --closed", 24),
+        ):
+            with self.subTest(words=words):
+                text = self.printed("draw", words)
+                summary = fhpgas.check(text)
+                self.assertEqual(
+                    (summary.solid, summary.particles),
+                    (solid, second_reader.read(text.encode(), 10_000).particles()),
+                    words,
+                )
+        self.assertEqual(
+            self.printed("draw blocks --gas hpp --filling 0.03 --seed 9 --width 4999"),
+            'version = 2\ngas = "hpp"\nchirality = "seeded"\nseed = 9\nwidth = 4999\nheight ='
+            " 24\nrate = 30\n",
+        )
+        self.assertEqual(
+            self.printed("draw blocks --width 65536 --height 65536 --filling 0").count("\n"), 7
+        )
+        patch = fhpgas.Lattice.load(
+            self.printed(
+                "draw blocks --width 12 --height 8 --filling 0 --patch 2 3 4 2 0.6 --block 3 4 1 1"
+            )
+        )
+        self.assertTrue(
+            14 < patch.particles < 40 and not patch.states[:3].any() and patch.solid.sum() == 1
+        )
+
+    def test_a_wind_draws_the_gas_of_the_package(self):
+        self.assertIn(
+            "faster than sound, Mach 1.13\n",
+            self.command("draw blocks --filling 0.02 --wind 0.8")[2],
+        )
+        words = "--disc 20 20 8 --filling 0.3 --wind 0.2 0.1 --seed 5 --gas hpp"
+        drawn = fhpgas.Lattice.load(self.printed("draw discs --width 64 --height 47", words))
+        solid = fhpgas.disc(fhpgas.Size(64, 47), 20, 20, 8, "hpp")
+        self.assertEqual(drawn, fhpgas.draw_gas(0.3, 0.2, 0.1, solid=solid, gas="hpp", seed=5))
+
+    def test_commands_print_what_the_functions_return(self):
+        self.assertEqual(self.printed("resume a.toml three"), self.start.run(3).scene())
+        wanted = (
+            f"{lattice.text().split(chr(10))[0]}\n{lattice.blocks(11, 9).text()}"
+            for lattice in self.start.every(10, 2)
+        )
+        self.assertEqual(self.printed("over-time a.toml 20 10 --block 11 9"), "".join(wanted))
+        points = [*self.start.driven(20, 10, flow=0.1)]
+        self.assertEqual(
+            [float(word) for word in self.printed("drive a.toml 20 10 --flow 0.1").split()[3:]],
+            [
+                float(word)
+                for p in points
+                for word in (p.before.generation, f"{p.velocity:.5f}", f"{p.force:.3g}")
+            ],
+        )
+        wanted = (
+            r"^[\d,]+ MLUPS with 1 worker on 1 thread and 128 rows per belt\n"
+            r"1000 generations of 594 cells: about [\d.e-]+ seconds\n$"
+        )
+        self.assertRegex(self.printed("how-long a.toml 1000 --seconds 1"), wanted)
+        line = (
+            self.printed("over-seeds --seeds 3 --generations 5 --block 66 9 a.toml")
+            .split("\n")[1]
+            .split()
+        )
+        mean, error = fhpgas.mean_and_error(
+            fhpgas.coarse(fhpgas.with_seed(AREA, seed), 5, 66, 9).east[0, 0] for seed in (1, 2, 3)
+        )
+        self.assertTrue(
+            np.allclose([float(word) for word in line[5:7]], (mean, error), rtol=0.1),
+            (line, mean, error),
+        )
+        words = "--block 64 24 --drawn discs --disc 9 9 3 --wind 0.2"
+        drawn = self.printed("over-seeds --seeds 2 --generations 5", words).split("\n")[1].split()
+        speeds = [
+            fhpgas.draw_gas(0.2, 0.2, solid=fhpgas.disc(fhpgas.Size(64, 24), 9, 9, 3), seed=seed)
+            .coarse(5, 64, 24)
+            .east[0, 0]
+            for seed in (1, 2)
+        ]
+        self.assertAlmostEqual(float(drawn[5]), np.mean(speeds), places=5)
+
+    def test_a_long_run_goes_on_where_it_was_ended(self):
+        self.assertEqual(self.printed("long-run a.toml 4 4 kept").count("\n"), 1)
+        wanted = "".join(
+            f"generation {generation} particles {self.start.particles}\n" for generation in (8, 10)
+        )
+        self.assertEqual(self.printed("long-run a.toml 10 4 kept"), wanted)
+        self.assertEqual(fhpgas.Lattice.load(self.room / "kept"), self.start.run(10))
+        for generations in 10, 4:
+            with self.subTest(generations=generations):
+                self.assertEqual(
+                    self.printed(f"long-run a.toml {generations} 4 kept"),
+                    "kept has generation 10, so there was nothing to run\n",
+                )
+
+    def test_the_last_table_over_time_is_of_the_last_generation(self):
+        heads = re.findall(r"generation \d+", self.printed("over-time later.toml 7 2"))
+        self.assertEqual(heads, ["generation 3", "generation 5", "generation 7"])
+
+    def test_a_command_that_gets_sigterm_says_so_by_its_status(self):
+        """SIGTERM comes when the command has started its first program."""
+        (self.room / "long.toml").write_text(AREA.replace("66", "4096"))
+        words = "-m fhpgas over-seeds long.toml --seeds 4 --generations 1000000".split()
+        with subprocess.Popen([sys.executable, *words], stdout=subprocess.PIPE) as process:
+            tasks = pathlib.Path(f"/proc/{process.pid}/task")
+            while not any(path.read_text() for path in tasks.glob("*/children")):
+                self.assertIsNone(process.poll())
+                time.sleep(0.01)
+            process.send_signal(signal.SIGTERM)
+            self.assertEqual((process.communicate()[0], process.returncode), (b"", 143))
+
+    def test_numbers_of_a_table_are_those_of_its_filling_and_speed(self):
+        told = self.printed("numbers --filling 0.2 --speed 0.3 --length 40")
+        self.assertRegex(
+            told, r"mach +0\.4243\nreynolds +6\.533\n"
+        )  # 0.3 sqrt(2), and (3/8) 0.3 40 / (1 / (12 0.2 0.8^3) - 1/8)
+        head = "  col   row    fluid particles         px         py\n"
+        table = head + " 0 0 50 100 80 0\n 1 0 50 20 -8 0\n"
+        found = self.printed(
+            "numbers --table - --length 40 --gas fhp1 --size 20 5 --block 10 5", text=table
+        )
+        self.assertEqual(
+            found, f"{'filling':16}{0.2:12}\n{'speed':16}{0.3:12}\n{told}"
+        )  # 120 particles in 100 cells, 72 halves eastwards
+        for words in ("three --scene a.toml", "table --scene a.toml --block 11 9", "later.toml"):
+            with self.subTest(words=words):
+                self.assertIn(
+                    f"filling{self.start.particles / 6 / self.start.fluid:21.4g}",
+                    self.printed("numbers --length 9 --table", words),
+                )
+
+    def test_pictures_of_a_scene_of_its_cells_and_of_its_table_are_one(self):
+        high = self.start.run(3).blocks(11, 9).density.max()
+        for words in (
+            "later.toml --block 11 9",
+            "three --gas fhp1 --size 66 9 --block 11 9",
+            "table --scene a.toml --block 11 9",
+        ):
+            with self.subTest(words=words):
+                self.assertRegex(
+                    self.printed("picture density a.png", words),
+                    f"^density from [.0-9]+ to {high:.4g}\n$",
+                )
+        for name, begins in (
+            ("a.svg", b"<?xml"),
+            ("a.pdf", b"%PDF"),
+            ("a.webp", b"RIFF"),
+            ("a.png", b"\x89PNG"),
+        ):
+            with self.subTest(name=name):
+                self.printed("picture speed", name, "later.toml a.toml")
+                self.assertEqual((self.room / name).read_bytes()[: len(begins)], begins)
+        self.assertEqual(self.printed("picture particles a.svg three --scene a.toml"), "")
+
+    def test_a_film_computes_each_generation_once(self):
+        for more in ("", "--flow 0.1"):
+            with self.subTest(more=more):
+                run = fhpgas.Lattice.run
+                with unittest.mock.patch.object(fhpgas.Lattice, "run", autospec=True) as call:
+                    call.side_effect = run
+                    told = self.printed(
+                        "film a.toml a.gif --every 5 --until 40 --what density --block 11 9", more
+                    )
+                self.assertEqual(told, "a.gif: 9 frames, generations 0 to 40\n")
+                self.assertEqual(sum(each.args[1] for each in call.call_args_list), 40)
+
+
+if __name__ == "__main__":
+    needs.run_tests()

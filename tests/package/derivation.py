@@ -1,0 +1,198 @@
+#!/usr/bin/env python3
+"""Checks each formula of docs/DERIVATION.md, as it is printed there, against the Boltzmann equation
+of the package, for several fillings, and the slip and the viscosity at a wave number against the
+modes of a generation. Ends with the counts."""
+
+import sys
+import warnings
+
+sys.path.append(f"{sys.path[0]}/../lib")
+import needs
+
+needs.libraries()
+
+import numpy as np  # noqa: E402
+from fhpgas import boltzmann, equilibrium, gas_named, theory  # noqa: E402
+from fhpgas.gases import DRIVES  # noqa: E402
+
+warnings.simplefilter("ignore", theory.Correlated)
+GAS, FORCE = gas_named("fhp1"), 1e-8
+X, Y = GAS.velocities.T
+FILLINGS = 0.05, 0.1, 0.3, 0.5, 0.7
+STAGGERED = np.array([1, -1, 1, -1, 1, -1])
+
+
+def share(d):
+    return 3 * d * (1 - d) ** 3
+
+
+def staggered_share(d):
+    return 6 * d**2 * (1 - d) ** 2
+
+
+def viscosity(d):
+    return (1 / share(d) - 1 / 2) / 4
+
+
+def is_close(found, wanted, within=1e-9):
+    difference = np.max(abs(np.asarray(found) - wanted))
+    assert difference <= within * max(1, np.max(abs(np.asarray(wanted)))), (found, wanted)
+
+
+def sums(d):
+    """The sums over the directions at the top of the page."""
+    is_close([(X**2).sum(), (Y**2).sum(), X @ Y, (X**2) @ Y**2], [3, 3, 0, 3 / 4])
+
+
+def shares(d):
+    """2. What a collision undoes: shear, staggered, chiral, and what is conserved."""
+    collide = lambda n, side="seeded": boltzmann.collision_matrix("fhp1", d, side) @ n
+    shear, turned = np.array([1, -1 / 2, -1 / 2] * 2), np.exp(2j * np.pi / 3 * np.arange(6))
+    is_close(collide(shear), -share(d) * shear)
+    is_close(collide(STAGGERED), -staggered_share(d) * STAGGERED)
+    is_close(collide(turned, "left"), -d * (1 - d) ** 3 * (3 + 1j * 3**0.5) * turned)
+    for conserved in np.ones(6), X, Y:
+        is_close(collide(conserved), 0)
+    factors = np.linalg.eigvals(boltzmann.generation_matrix("fhp1", d, (0, 0))).real
+    left = 1 - np.array([0, 0, 0, share(d), share(d), staggered_share(d)])
+    is_close(np.sort(factors), np.sort(left), 1e-7)
+
+
+def sound(d):
+    """3. The speed of the waves that move, at a small wave number."""
+    for gas, square in ("fhp1", 1 / 2), ("fhp-rest", 3 / 7):
+        k = 1e-4
+        factors = np.linalg.eigvals(boltzmann.generation_matrix(gas, d, (k, 0)))
+        slow = factors[np.argsort(abs(factors - 1))[:3]]
+        is_close(np.sort(np.angle(slow)) / k, np.array([-1, 0, 1]) * square**0.5, 1e-5)
+
+
+def shear(d):
+    """4. The state of a uniform shear comes back after a generation, and its flux of momentum is
+    that of the viscosity."""
+    collide = np.eye(6) + boltzmann.collision_matrix("fhp1", d)
+    state = lambda y: 2 * d * y * X - 2 * d / share(d) * X * Y
+    is_close([(collide @ state(1 - y))[i] for i, y in enumerate(Y)], state(1))
+    crossing = [(collide @ state(-y / 2))[i] for i, y in enumerate(Y)]
+    is_close(-(X * Y) @ crossing / (6 * d), viscosity(d))
+    is_close(1 / (12 * d * (1 - d) ** 3) - 1 / 8, viscosity(d))
+    is_close(theory.viscosity("fhp1", d), viscosity(d))
+    left = (1 / (d * (1 - d) ** 3 * (3 + 1j * 3**0.5)) - 1 / 2) / 4
+    is_close(left.real, 1 / (16 * d * (1 - d) ** 3) - 1 / 8)
+    is_close(left.imag, -(3**0.5) / (48 * d * (1 - d) ** 3))
+    is_close(left.real, theory.viscosity("fhp1", d, "left"))
+    is_close(left.imag, theory.odd_viscosity("fhp1", d, "left"))
+
+
+def noise(d):
+    """5. The sum of Green and Kubo over the correlation that the collisions leave."""
+    stress, generation = X * Y, np.eye(6) + boltzmann.collision_matrix("fhp1", d)
+    left, correlations = d * (1 - d) * stress, []
+    for t in range(4000):
+        correlations.append(stress @ left)
+        left = generation @ left
+    is_close(correlations[:3], 3 / 4 * d * (1 - d) * (1 - share(d)) ** np.arange(3))
+    chi = d * (1 - d) * (X**2).sum()
+    is_close((sum(correlations) - correlations[0] / 2) / chi, viscosity(d), 1e-6)
+
+
+def factor(d):
+    """6. The flux xy of a slow wind at equilibrium, and the second order that carries it."""
+    u, g = np.array([0.002, 0.001]), (1 - 2 * d) / (2 * (1 - d))
+    chances = equilibrium("fhp1", d, *u)
+    second = 2 * d * (1 - 2 * d) / (1 - d) * ((X * u[0] + Y * u[1]) ** 2 - u @ u / 2)
+    is_close(chances, d + 2 * d * (X * u[0] + Y * u[1]) + second, 1e-7)
+    is_close(X * Y @ chances / (6 * d * u[0] * u[1]), g, 1e-3)
+    is_close(theory.galilean_factor("fhp1", d), g)
+
+
+def at_a_wave_number(d):
+    """A weak shear wave decays by the factor of its mode, with walls and without, and in a long
+    wave with the viscosity."""
+    rows, size = 64, 1e-6
+    k = np.pi / rows / GAS.row_distance
+    factors = np.linalg.eigvals(boltzmann.generation_matrix("fhp1", d, (0, k)))
+    slowest = max(factors[abs(factors.imag) < 1e-9].real)
+    for height, has_walls in (rows, True), (2 * rows, False):
+        wave = size * np.sin(np.pi * (np.arange(height)[:, None] + 1 / 2) / rows)
+        flow = boltzmann.Flow("fhp1", np.zeros((height, 1)), has_walls=has_walls)
+        *_, before, after = flow.every(flow.at(d, wave), 1, 1000)
+        left = [(flow.momentum(chances)[0] * wave).sum() for chances in (before, after)]
+        is_close(left[1] / left[0], slowest, 1e-5)
+    factors = np.linalg.eigvals(boltzmann.generation_matrix("fhp1", d, (0, 1e-4)))
+    slow = factors[np.argsort(abs(factors - 1))[:3]]
+    is_close(-np.log(max(slow[abs(slow.imag) < 1e-9].real)) / 1e-8, viscosity(d), 1e-4)
+
+
+def at_the_edge(gas):
+    """Three waves at the edge of the zone of wave vectors never fade: the staggered momenta, one
+    per axis."""
+    for angle in np.pi / 6 + np.pi / 3 * np.arange(3):
+        wave = 2 * np.pi / 3**0.5 * np.array([np.cos(angle), np.sin(angle)])
+        factors = np.linalg.eigvals(boltzmann.generation_matrix(gas, 0.3, wave))
+        is_close(np.sort(abs(factors + 1))[0], 0)
+        assert np.sort(abs(factors))[-2] < 1 - 1e-3, factors
+
+
+def slip(gas, d, side, along):
+    """7. The stationary flow under a weak force: the staggered sum, the parabola, its place at the
+    wall, with the shares of the modes."""
+    rows, flow = 10, boltzmann.Flow(gas, np.zeros((10, 1)), side)
+    x, mass = flow.gas.velocities[:, 0], flow.gas.directions * d
+    staggered, kappa = (
+        np.where(np.arange(len(x)) < 6, (-1.0) ** np.arange(len(x)), 0),
+        along == "rows",
+    )
+    kick = FORCE * (np.isin(np.arange(len(x)), (0, 3)) * x / 2 if kappa else x / 3)[:, None, None]
+    matrix = boltzmann.collision_matrix(gas, d, side)
+    m, nu = -(matrix @ staggered)[0], theory.viscosity(gas, d, side)
+    K = -1 / 4 + 8 * nu / 3 * ((2 + kappa * (1 - m)) / m - 1)
+    before = flow.at(d)
+    for _ in range(int(60 * (rows**2 / 4 + K) / nu / np.pi**2)):
+        before = flow.step(before + kick)
+    is_close(np.tensordot(staggered, before, 1) / FORCE, (2 + kappa * (1 - m)) / m, 1e-3)
+    speed = ((before + kick / 2) * x[:, None, None]).sum(0)[:, 0] / mass
+    places = (rows - 1) / 2 - np.arange(rows)
+    bend, middle = np.polyfit(places**2, speed, 1)
+    assert abs(speed - bend * places**2 - middle).max() < 1e-4 * middle, "no parabola"
+    is_close(-middle / bend - rows**2 / 4, K, 1e-3)
+    if side == "seeded":
+        B, h = 1 / (8 * nu), (rows - 1) / 2
+        A = (B * (h**2 + (h + 1) ** 2 - 1) - 1) / 2
+        is_close((before[[1, 5], :, 0].sum(0) - 2 * d) / FORCE, A - B * places**2, 1e-3)
+    is_close(-FORCE * flow.gas.row_distance**2 / 2 / bend / mass, nu, 1e-3)
+    wanted = (
+        8 * nu * (1 / m - 2 / 3) - 1 / 4 if kappa else 4 / 3 * (4 * nu * (1 / m - 1 / 2) - 3 / 16)
+    )
+    is_close(K, wanted)
+    is_close(theory.slip(gas, d, side, along), K)
+
+
+GASES = (
+    ("fhp1", 0.3, "seeded"),
+    ("fhp1", 0.1, "seeded"),
+    ("fhp1", 0.3, "left"),
+    ("fhp-rest", 0.2, "seeded"),
+)
+CASES = [
+    *((check, d) for check in (sums, shares, sound, shear, noise, factor) for d in FILLINGS),
+    *((at_a_wave_number, d) for d in FILLINGS[:4]),
+    *((at_the_edge, gas) for gas in ("fhp1", "fhp-rest")),
+    *((slip, *flow, along) for flow in GASES for along in DRIVES),
+]
+
+
+def main():
+    failed = 0
+    for check, *words in CASES:
+        try:
+            check(*words)
+        except AssertionError as fault:
+            failed += 1
+            print(f"FAILED: {check.__name__} {' '.join(map(str, words))}: {fault}")
+    print(f"{len(CASES) - failed} passed, {failed} failed")
+    return 1 if failed else 0
+
+
+if __name__ == "__main__":
+    sys.exit(main())

@@ -1,0 +1,314 @@
+#!/usr/bin/env python3
+"""Compares gases and shapes that are drawn with plain second implementations, or with values made
+by hand. Ends with the counts."""
+
+import hashlib
+import itertools
+import math
+import os
+import subprocess
+import sys
+
+sys.path.append(f"{sys.path[0]}/../lib")
+import needs
+from package_case import GASES, ROOT3, Package
+
+import fhpgas
+import numpy as np
+from fhpgas import Size
+from PIL import Image
+
+# SHA-256 of the states of 37 x 11 cells, seed 2^40 + 5, filling 0.2 and a shear, as the plain
+# implementation below draws them.
+DRAWN = {
+    "fhp1": "e908e3c376c09e75d01d96b40b56db3f808dbd69e21120fdd437d23ff8ef5de8",
+    "hpp": "f86c3a00bb0e3235335ed0c6fadd6909084ec35bac006ae3c5a0471e3bb83888",
+    "fhp-rest": "f72bed5b400caa7a56c33da10ee0ca53aff8a85ee8b383c9aba6c20e799a746f",
+}
+FACTOR = 0x2360ED051FC65DA44385DF649FCCF645  # of PCG64
+
+
+def raw_bits(seed):
+    """The words of 64 bits of PCG64(seed) by plain integers: M. E. O'Neill's XSL RR 128/64, from
+    the state that SeedSequence mixes."""
+
+    def hashed(value):
+        nonlocal constant
+        value = (value ^ constant) & 0xFFFFFFFF
+        constant = constant * multiplier & 0xFFFFFFFF
+        value = value * constant & 0xFFFFFFFF
+        return value ^ value >> 16
+
+    constant, multiplier = 0x43B0D7E5, 0x931E8875
+    words = [seed >> 32 * k & 0xFFFFFFFF for k in range(4)]
+    pool = [hashed(word) for word in words]
+    for source, to in itertools.permutations(range(4), 2):
+        mixed = 0xCA01F9DD * pool[to] - 0x4973F715 * hashed(pool[source]) & 0xFFFFFFFF
+        pool[to] = mixed ^ mixed >> 16
+    constant, multiplier = 0x8B51F9DD, 0x58F38DED
+    halves = [hashed(pool[k % 4]) for k in range(8)]
+    start, step = (
+        halves[k] << 64 | halves[k + 1] << 96 | halves[k + 2] | halves[k + 3] << 32 for k in (0, 4)
+    )
+    most, step = (1 << 128) - 1, step << 1 | 1
+    state = ((start + step) * FACTOR + step) & most
+    while True:
+        state = state * FACTOR + step & most
+        folded, turn = (state >> 64 ^ state) & (1 << 64) - 1, state >> 122
+        yield (folded >> turn | folded << 64 - turn) & (1 << 64) - 1
+
+
+def plainly_drawn(chances, columns, rows, seed):
+    """The states by the rule of `fhpgas.fields.drawn`, cell by cell, for the chances
+    [direction][row]."""
+    words, states = raw_bits(seed), np.zeros((rows, columns), np.uint8)
+    for y, i in itertools.product(range(rows), range(len(chances))):
+        lots = [
+            word >> 16 * k & 0xFFFF
+            for word in itertools.islice(words, -(-columns // 4))
+            for k in range(4)
+        ]
+        for x in range(columns):
+            states[y, x] |= (lots[x] < round(65536 * chances[i][y])) << i
+    return states
+
+
+class Drawing(Package):
+    def test_an_equilibrium_is_that_of_fermi_and_dirac(self):
+        """It has the wanted moments, and collisions keep it: the odds of the particles before
+        and after are the same."""
+        d, u, v = np.array(
+            [
+                [0.2, 0.3, 0.0],
+                [0.5, 0.1, -0.2],
+                [0.9, 0.02, 0.03],
+                [0.1, 0.0, 0.4],
+                [0, 0, 0],
+                [1, 0, 0],
+            ]
+        ).T
+        for gas in map(fhpgas.gas_named, GASES):
+            with self.subTest(gas=gas.name):
+                chances = fhpgas.equilibrium(gas, d, u, v)
+                self.same(
+                    (chances.sum(0), *(gas.velocities.T @ chances)),
+                    gas.directions * d * np.array([np.ones(6), u, v]),
+                )
+                odds = np.log(chances[:, :4] / (1 - chances[:, :4]))
+                states = slice(1 << gas.directions)
+                self.same(
+                    gas.bits[states] @ odds, gas.bits[gas.collisions("left")[states]] @ odds, 10
+                )
+        self.same(fhpgas.equilibrium("hpp", 0.2), [0.2] * 4)
+
+    def test_a_gas_is_drawn_from_the_raw_bits_of_pcg64(self):
+        """As plain integers give it, with or without vector instructions, row by row or at once."""
+        seed, shear = (1 << 40) + 5, (0.2, 0.3 * np.cos(np.arange(500) / 9)[:, None], 0.0)
+        for name in GASES:
+            with self.subTest(gas=name):
+                gas = fhpgas.gas_named(name)
+                found = fhpgas.draw_gas(
+                    0.2, shear[1][:11], size=Size(37, 11), gas=name, seed=seed
+                ).states
+                self.assertEqual(
+                    found.tolist(),
+                    plainly_drawn(
+                        fhpgas.equilibrium(gas, 0.2, shear[1][:11])[..., 0], 37, 11, seed
+                    ).tolist(),
+                )
+                self.assertEqual(hashlib.sha256(found.tobytes()).hexdigest(), DRAWN[name])
+                values = [np.array(field) for field in shear]
+                whole = fhpgas.fields.drawn(gas, values, (500, 130), 9)
+                for first, last, left, right in (
+                    (0, 1, 0, 130),
+                    (1, 300, 0, 129),
+                    (300, 500, 3, 8),
+                    (2, 9, 4, 130),
+                    (499, 500, 129, 130),
+                ):
+                    part = [value[first:last] if value.ndim else value for value in values]
+                    shape = last - first, right - left
+                    self.assertEqual(
+                        fhpgas.fields.drawn(gas, part, shape, 9, (first, left), 130).tolist(),
+                        whole[first:last, left:right].tolist(),
+                    )
+        script = (
+            "import fhpgas, hashlib, numpy as np; east = 0.3 * np.cos(np.arange(11) / 9)[:,"
+            " None]\nfor gas in fhpgas.GASES:\n"
+            "    print(hashlib.sha256(fhpgas.draw_gas(0.2, east, size=fhpgas.Size(37, 11),"
+            f" gas=gas, seed={seed}).states).hexdigest())"
+        )
+        core = getattr(np, "_core", None) or np.core
+        plain = os.environ | {
+            "NPY_DISABLE_CPU_FEATURES": " ".join(core._multiarray_umath.__cpu_dispatch__)
+        }
+        done = subprocess.run(
+            [sys.executable, "-c", script], env=plain, capture_output=True, text=True, check=True
+        )
+        self.assertEqual(done.stdout.split(), [DRAWN[gas] for gas in fhpgas.GASES])
+
+    def test_the_same_fields_draw_the_same_gas(self):
+        X, Y = fhpgas.positions(Size(64, 47))
+        disc = fhpgas.disc(Size(64, 47), 20, 20, 8)
+        one = fhpgas.draw_gas(0.3, X / 200, solid=disc, seed=2)
+        for fields in (
+            [[[0.3]] * 47, X / 200],
+            [0.3 + 0 * X, lambda X, Y: X / 200],
+            [lambda X, Y: 0.3 + 0 * Y, X / 200, 0 * Y[0]],
+        ):
+            self.assertEqual(fhpgas.draw_gas(*fields, size=Size(64, 47), solid=disc, seed=2), one)
+        self.assertEqual(
+            one,
+            fhpgas.Lattice(
+                np.where(disc, 0, fhpgas.draw_gas(0.3, X / 200, seed=2).states), disc, seed=2
+            ),
+        )
+        self.assertNotEqual(fhpgas.draw_gas(0.3, X / 200, solid=disc, seed=3), one)
+        self.assertGreater(*one.blocks(32, 47).east[0, ::-1])
+        along, size = np.arange(64) / 200, Size(64, 47)  # a profile along the rows
+        self.assertEqual(
+            fhpgas.draw_gas(0.3, along, size=size, gas="hpp"),
+            fhpgas.draw_gas(0.3, lambda X, Y: X / 200 + 0 * Y, size=size, gas="hpp"),
+        )
+        self.assertEqual(fhpgas.draw_gas(1, size=Size(5, 4)).particles, 120)
+        sparse = [
+            fhpgas.draw_gas(part / 65536, size=Size(1024, 512)).particles for part in (0.4, 0.6)
+        ]  # of 48 numbers that are 0, as a mean
+        self.assertTrue(sparse[0] == 0 and abs(sparse[1] - 48) < 5 * math.sqrt(48), sparse)
+
+    def test_discs_have_the_cells_within_their_radius(self):
+        """On the triangular lattice 1, 7 and 19 cells lie within 0, 1 and 2 steps, on the square
+        lattice 1, 5 and 13. Past the end too."""
+        for row, (radius, hexagon, square) in itertools.product(
+            (8, 9), ((0, 1, 1), (1, 7, 5), (2, 19, 13))
+        ):
+            with self.subTest(row=row, radius=radius):
+                self.assertEqual(
+                    [
+                        fhpgas.disc(Size(40, 24), 39, row, radius, gas).sum()
+                        for gas in ("fhp1", "hpp")
+                    ],
+                    [hexagon, square],
+                )
+        for gas, (row, radius) in itertools.product(
+            ("fhp1", "hpp"), ((0, 5.5), (7, 11), (22, 7 * ROOT3), (23, 60), (12, math.sqrt(43)))
+        ):
+            with self.subTest(gas=gas, row=row, radius=radius):
+                X, Y = fhpgas.positions(Size(40, 24), gas)
+                apart = [
+                    np.hypot(X - X[row, 33] + turn, Y - Y[row]) for turn in (-80, -40, 0, 40, 80)
+                ]
+                self.same(
+                    fhpgas.disc(Size(40, 24), 33, row, radius, gas),
+                    np.min(apart, 0) <= radius + 1e-9,
+                )
+
+    def test_shapes_have_their_cells(self):
+        corners = [(5, 5), (60, 12), (30, 55)]
+        area = (
+            abs(sum(a * d - b * c for (a, b), (c, d) in zip(corners, corners[1:] + corners[:1])))
+            / 2
+        )
+        self.assertAlmostEqual(
+            fhpgas.polygon(Size(80, 64), corners).sum(), area, delta=60
+        )  # half of the cells at its rim
+        box = np.zeros((9, 12), bool)
+        box[2:5, 3:7] = True
+        self.assertEqual(
+            fhpgas.polygon(Size(12, 9), [(3, 2), (7, 2), (7, 5), (3, 5)], "hpp").tolist(),
+            box.tolist(),
+        )
+        self.assertEqual(
+            fhpgas.polygon(Size(12, 9), [(11, 2), (15, 2), (15, 5), (11, 5)], "hpp").tolist(),
+            np.roll(box, 8, 1).tolist(),
+        )
+        crossed = fhpgas.polygon(
+            Size(20, 20),
+            [(0, 0), (10, 0), (10, 10), (0, 10), (0, 0), (5, 0), (5, 5), (0, 5)],
+            "hpp",
+        )
+        self.assertEqual((crossed.sum(), crossed[2, 2], crossed[2, 7]), (75, False, True))
+        porous, nozzle = fhpgas.porous(Size(60, 40), 0.25, 2, 5), fhpgas.nozzle(Size(64, 31), 7, 40)
+        self.assertTrue(600 <= porous.sum() < 619)
+        self.assertEqual(
+            (porous.tolist(), fhpgas.porous(Size(6, 5), 1, 0).all()),
+            (fhpgas.porous(Size(60, 40), 0.25, 2, 5).tolist(), True),
+        )
+        openings = (31 - nozzle.sum(0)).tolist()
+        self.assertTrue(
+            min(openings) == openings[32] == 7 and {31} == {*openings[:12], *openings[52:]}
+        )
+        self.assertEqual(openings[:33], sorted(openings[:33])[::-1])
+        for solid in (porous, nozzle | fhpgas.disc(Size(64, 31), 0, 15, 3), box, ~box):
+            with self.subTest(solid=solid.shape):
+                again = np.zeros_like(solid, int)
+                for x, y, w, h in fhpgas.shapes.rectangles(solid):
+                    again[y : y + h, x : x + w] += 1
+                self.assertEqual(again.tolist(), solid.astype(int).tolist())
+        self.assertEqual(
+            fhpgas.shapes.rectangles(~box),
+            [[0, 0, 12, 2], [0, 2, 3, 3], [7, 2, 5, 3], [0, 5, 12, 4]],
+        )
+
+    def test_a_picture_is_a_mask(self):
+        """The same letter as PBM, in both kinds, as PNG in grey, of 16 bits, in colours, of a
+        palette and transparent, and as an array."""
+        dark = np.array(
+            [[pixel == "#" for pixel in row] for row in ("###.", "#..#", "###.", "#.#.", "#..#")]
+        )
+        grey = Image.fromarray(np.where(dark, 90, 200).astype(np.uint8))
+        clear = Image.merge(
+            "RGBA",
+            [Image.new("L", (4, 5), 30)] * 3 + [Image.fromarray(dark.astype(np.uint8) * 255)],
+        )
+        deep = Image.fromarray(np.where(dark, 0x3000, 0xC000).astype(np.int32)).convert("I;16")
+        (self.room / "plain.pbm").write_text(
+            "P1 # letter\n4 5\n"
+            + "\n".join(" ".join("01"[d] for d in row) for row in dark.tolist())
+        )
+        grey.convert("1", dither=Image.Dither.NONE).save(self.room / "bits.pbm")
+        for k, image in enumerate((grey, grey.convert("P"), grey.convert("RGB"), clear, deep)):
+            image.save(self.room / f"{k}.png")
+        for picture in (*self.room.iterdir(), dark, dark.tolist()):
+            with self.subTest(picture=str(picture)):
+                found = fhpgas.bitmap(Size(12, 9), picture, 1, 2, 3, "hpp")
+                self.assertEqual(
+                    (found[3:8, 2:6].tolist(), found.sum()), (dark.tolist(), dark.sum()), picture
+                )
+        drawn = fhpgas.bitmap(Size(64, 40), dark, 6, 10, 4)
+        self.assertEqual(
+            [drawn[y][x] for y, x in ((5, 12), (30, 12), (25, 24), (5, 30), (3, 12), (15, 20))],
+            [1, 1, 1, 0, 0, 0],
+        )
+        self.assertAlmostEqual(drawn.sum(), dark.sum() * 36 / (ROOT3 / 2), delta=40)
+        for column, row in ((41, 4), (10, 6), (-1, 4), (10, -1)):
+            with self.subTest(column=column, row=row):
+                self.fault(
+                    "the picture leaves the channel of 64 x 40 cells",
+                    fhpgas.bitmap,
+                    Size(64, 40),
+                    dark,
+                    6,
+                    column,
+                    row,
+                )
+        for data in (b"GIF", (self.room / "0.png").read_bytes()[:50], b"P1\n4"):
+            with self.subTest(data=data):
+                (self.room / "letter").write_bytes(data)
+                self.fault(
+                    f"{self.room / 'letter'}: ", fhpgas.bitmap, Size(64, 40), self.room / "letter"
+                )
+
+    def test_equal_seeds_of_different_calls_are_separate_streams(self):
+        """Their raw bits differ in half of all places, and `gas` has the ones of PCG64(seed)."""
+        words = [
+            np.random.PCG64(5).random_raw(1000),
+            *(fhpgas.fields.lots_of(call, 5).random_raw(1000) for call in ("porous", "driven")),
+        ]
+        for one, other in itertools.combinations(words, 2):
+            differ = np.unpackbits((one ^ other).view(np.uint8)).mean()
+            self.assertAlmostEqual(differ, 1 / 2, delta=5 * 0.5 / math.sqrt(64_000))
+
+
+if __name__ == "__main__":
+    needs.run_tests()

@@ -1,0 +1,389 @@
+#!/usr/bin/env python3
+"""Runs the small form of every experiment, whose seeds are fixed: what it measures must be what
+theory says within its error, and far from what theory says of another gas. Every figure must show
+something. Compares theory, the Boltzmann solution and published formulas, and checks that a wrong
+use is refused in one line. Ends with the counts."""
+
+import concurrent.futures
+import pathlib
+import re
+import subprocess
+import sys
+import tempfile
+import warnings
+
+sys.path.append(f"{sys.path[0]}/../lib")
+import needs
+import numpy as np
+from PIL import Image
+
+needs.built_program()
+sys.path.insert(0, str(needs.ROOT / "experiments"))
+
+import street as street_script
+from fhpgas import Fault, boltzmann, theory
+
+LINE = re.compile(r"^(.*?) +measured +(\S+) \+- (\S+)  theory +(\S+)$", re.M)
+ERRORS = 4  # standard errors between measurement and theory, which come from few seeds
+CORRELATIONS = 0.12  # by which a measured viscosity may exceed Boltzmann's
+FORMULAS = {  # published viscosities
+    ("fhp1", "seeded"): lambda d: 1 / (12 * d * (1 - d) ** 3) - 1 / 8,
+    ("fhp1", "left"): lambda d: 1 / (16 * d * (1 - d) ** 3) - 1 / 8,
+    ("fhp-rest", "seeded"): lambda d: 1 / (28 * d * (1 - d) ** 3 * (1 - 4 * d / 7)) - 1 / 8,
+}
+REFUSED = [
+    "viscosity.py --gas hpp",
+    "viscosity.py --filling 2",
+    "viscosity.py --seeds 1",
+    "viscosity.py --colour",
+    "viscosity.py --chirality up",
+    "galilean.py --gas hpp",
+    "galilean.py --width 200",
+    "galilean.py --wave 100",
+    "invariants.py --size 33",
+    "street.py --radius 0",
+    "sound.py --filling 0.2 0.3",
+    "sound.py --filling nan",
+    "porous.py --small --share 0.71",
+    "equilibrium.py --size few",
+    "reversal.py --small --picture /none/there.png",
+    "collisions.py --gas fhp3",
+    "porous.py --settled 1",
+    "poiseuille.py --spans 0",
+]
+
+
+def ran(words):
+    """The status, output and error output of an experiment."""
+    script, *options = words.split()
+    done = subprocess.run(
+        [sys.executable, needs.ROOT / "experiments" / script, *options],
+        capture_output=True,
+        text=True,
+    )
+    return done.returncode, done.stdout, done.stderr
+
+
+def printed(words):
+    """The output of an experiment that draws its figure, which must have some ink and not be all
+    ink."""
+    with tempfile.TemporaryDirectory() as folder:
+        picture = pathlib.Path(folder, "figure.png")
+        status, output, fault = ran(f"{words} --picture {picture}")
+        assert status == 0 and not fault, f"status {status}: {fault}"
+        shades = np.asarray(Image.open(picture).convert("L"))
+    ink = np.mean(shades < 200)
+    assert (
+        min(shades.shape) >= 200 and 0.005 < ink < 0.9
+    ), f"a figure of {shades.shape} with {ink:.3f} ink"
+    return output
+
+
+def are_as_in_theory(words, names, most_error=0.1):
+    """The measurements whose names begin with one of these are within their errors, which are small
+    beside what is expected, or where that is 0 beside the smallest other number."""
+    found = [
+        (name, *map(float, numbers))
+        for name, *numbers in LINE.findall(printed(words))
+        if name.startswith(tuple(names))
+    ]
+    assert len(found) >= len(names), f"{len(found)} measurements"
+    smallest = min(abs(expected) for *_, expected in found if abs(expected) > 0.01)
+    for name, measured, error, expected in found:
+        assert (
+            abs(measured - expected) <= ERRORS * error + 0.001
+        ), f"{name}: {measured} +- {error}, theory {expected}"
+        assert error <= most_error * max(
+            abs(expected), smallest
+        ), f"{name}: the error {error} is too large to tell anything"
+    return {name: (measured, error) for name, measured, error, _ in found}
+
+
+def slips(gas, chirality, filling, others):
+    """The slip and the odd viscosity of a channel are those of theory, with their signs, and not
+    those of other gases or of no slip."""
+    words = (
+        f"poiseuille.py --small --seeds 16 --gas {gas} --chirality {chirality} --filling {filling}"
+    )
+    found = are_as_in_theory(
+        words, ["8 rows: viscosity", "8 rows: slip K", "8 rows: odd viscosity"]
+    )
+    (slip, error), (odd, odd_error) = (
+        found[f"8 rows: {name}"] for name in ("slip K", "odd viscosity")
+    )
+    assert (
+        all(abs(slip - theory.slip(*other)) > 5 * error for other in others) and slip > 5 * error
+    ), (slip, error)
+    assert abs(odd - theory.odd_viscosity(gas, filling, chirality)) <= ERRORS * odd_error + 0.01, (
+        odd,
+        odd_error,
+    )
+    sign = {"seeded": 0, "left": -1, "right": 1}[chirality]
+    assert sign * odd > 5 * odd_error or not sign, (odd, odd_error)
+
+
+def warns():
+    """Viscosities and numbers warn where correlations are large, and only there."""
+    for gas, side, filling, is_warned in (
+        ("fhp1", "seeded", 0.1, True),
+        ("fhp1", "left", 0.15, True),
+        ("fhp1", "right", 0.15, True),
+        ("fhp1", "seeded", 0.2, False),
+        ("fhp1", "seeded", [0.3, 0.05], True),
+        ("fhp-rest", "seeded", 0.2, True),
+        ("fhp-rest", "seeded", 0.05, False),
+    ):
+        for call in (
+            lambda: theory.viscosity(gas, filling, side),
+            lambda: isinstance(filling, float) and theory.numbers(gas, filling, 0.1, 9, side),
+        ):
+            with warnings.catch_warnings(record=True) as caught:
+                warnings.simplefilter("always")
+                told = call()
+            kinds = {each.category for each in caught}
+            assert kinds == ({theory.Correlated} if is_warned and told is not False else set())
+
+
+def remembers(gas):
+    """Noise has the viscosity and the sound of theory, and a collision undoes its share of the
+    stress."""
+    names = ["stress after 1", "viscosity", "speed of sound", "damping D"]
+    are_as_in_theory(f"green_kubo.py --small --gas {gas}", names, 0.2)
+
+
+def swings(gas):
+    """Waves fade and move as the modes say, and never fade only at rest and in three waves at the
+    edge of the zone."""
+    words = f"modes.py --small --gas {gas}"
+    are_as_in_theory(words, [f"{n} rows: {name}" for n in (8, 16) for name in ("visc", "speed")])
+    line = printed(words).splitlines()[-1]
+    found = {tuple(map(float, pair)) for pair in re.findall(r"\((\S+), (\S+)\)", line)}
+    edge = 3.628  # 2 pi / sqrt 3
+    wanted = {(0, 0), *((edge * np.sin(a), edge * np.cos(a)) for a in np.pi / 3 * np.arange(3))}
+    assert len(found) == 4, found
+    for x, y in wanted:
+        assert any(np.hypot(x - s * u, y - s * v) < 0.01 for u, v in found for s in (-1, 1)), found
+
+
+def forgets(gas):
+    """Entropy rises, falls again to its start if all particles are turned, and if one is not only
+    on a part of the way."""
+    output = printed(f"entropy.py --small --gas {gas}")
+    rows = [
+        [float(n) for n in line.replace("+-", "").split()] for line in output.splitlines()[1:12]
+    ]
+    there, back, other = np.array(rows)[:, 1::2].T
+    assert (there == back).all() and there[0] + 0.1 < there[-1], output
+    assert other.argmin() < 10 and there[0] < other.min() < other[-1] - 0.01, output
+    assert other[0] > other.min(), output
+
+
+def is_viscous(gas, chirality):
+    """The viscosity is between Boltzmann's in this channel and a little above, unlike the
+    viscosities of the other gases."""
+    row = (
+        printed(f"viscosity.py --small --gas {gas} --chirality {chirality}")
+        .splitlines()[-1]
+        .replace("+-", "")
+        .split()
+    )
+    filling, _, measured, error, channel, published = map(float, row)
+    assert abs(published - FORMULAS[gas, chirality](filling)) < 1e-4
+    fits = (
+        lambda value: value - ERRORS * error
+        <= measured
+        <= value * (1 + CORRELATIONS) + ERRORS * error
+    )
+    assert fits(channel), f"{measured} +- {error}, Boltzmann's {channel}"
+    others = [key for key, formula in FORMULAS.items() if fits(formula(filling))]
+    assert others == [(gas, chirality)], f"{measured} +- {error} could be of {others}"
+
+
+def collides(gas, number, states):
+    output = printed(f"collisions.py --gas {gas}")
+    for line in (
+        f"{gas}: {number} of {states} states collide",
+        "tables that are those of the rules: 2 of 2",
+        f"states that conserve particles and momentum: {states} of {states}",
+        "momentum balanced in 100 of 100 generations",
+    ):
+        assert line in output, line
+    sums = re.findall(r"summed (\S+) formula ([\d.]+)", output)
+    assert len(sums) == (0 if gas == "hpp" else 10) and all(
+        abs(float(a) - float(b)) < 2e-4 for a, b in sums
+    ), sums
+
+
+def returns(gas):
+    output = printed(f"reversal.py --small --gas {gas}")
+    back = [int(number) for number in re.findall(r": (\d+) cells differ", output)]
+    growth = [[int(number) for number in line.split()] for line in output.splitlines()[4:]]
+    assert (
+        back[0] == 0 < back[1]
+        and all(0 < differ <= most for _, differ, most in growth)
+        and growth[-1][1] > growth[0][1]
+    ), output
+
+
+def keeps():
+    output = printed("invariants.py --small")
+    groups = [
+        re.findall(r"^ +\d+ +(\S+) +(\S+)  (\(.*\))$", part, re.M)
+        for part in output.split("staggered")[1:]
+    ]
+    assert len(groups) == 2
+    for group in groups:
+        assert (
+            len(group) == 5
+            and len({kept for _, _, kept in group}) == 1
+            and len({east for east, _, _ in group}) == 5
+        ), group
+    streams = [
+        [line.split()[1:] for line in part.splitlines()[:5]]
+        for part in output.split("generation\n")[1:]
+    ]
+    assert len({*map(tuple, streams[0])}) == 1 and len({*map(tuple, streams[1])}) == 5, streams
+
+
+def decays_as_published(gas, chirality):
+    """A long slow shear wave of the Boltzmann equation decays with the published viscosity, its
+    particles stay, and a wind carries it with the Galilean factor of that wind, and not with that
+    of a slow one."""
+    length, d, wind = 256, 0.2, 0.25
+    k, x = 2 * np.pi / length, np.arange(length)
+    flow, shape = boltzmann.Flow(gas, np.zeros((2, length)), chirality, has_walls=False), np.sin(
+        k * x
+    )
+    at_rest, carried = flow.at(d, 0, 0.001 * shape), flow.at(d, wind, 0.001 * shape)
+    particles, sizes, turns = flow.density(at_rest).sum(), [], np.exp(-1j * k * x)
+    for _ in range(80):
+        at_rest, carried = flow.step(at_rest), flow.step(carried)
+        sizes.append(
+            (
+                (flow.velocity(at_rest)[1, 0] * shape).sum(),
+                np.angle((flow.momentum(carried)[1, 0] * turns).sum()),
+            )
+        )
+    (early, turned), (late, further) = sizes[39], sizes[79]
+    found, wanted = np.log(early / late) / 40 / k**2, FORMULAS[gas, chirality](d)
+    assert (
+        abs(found - wanted) < 0.02 * wanted
+        and abs(wanted - theory.viscosity(gas, d, chirality)) < 1e-9
+    ), (found, wanted)
+    assert abs(flow.density(at_rest).sum() - particles) < 1e-9
+    factor, slow, fast = (
+        (turned - further) / 40 / k / wind,
+        theory.galilean_factor(gas, d),
+        theory.galilean_factor(gas, d, wind),
+    )
+    assert abs(factor - fast) < 0.02 * fast < abs(factor - slow), (factor, slow, fast)
+
+
+def is_refused(words):
+    status, output, fault = ran(words)
+    assert (
+        status in (1, 2)
+        and not output
+        and fault.count("\n") == 1
+        and fault.startswith(words.split()[0])
+    ), (status, output, fault)
+
+
+def solves_no(*words):
+    try:
+        boltzmann.Flow(*words)
+    except Fault:
+        return
+    raise AssertionError("not refused")
+
+
+def street():
+    output = printed("street.py --small")
+    assert (
+        "no vortex street is expected below Reynolds 47" in output and "Strouhal" not in output
+    ), output
+
+
+def finds_periods():
+    """The changes of sign of a wave that is sampled every 200 generations, about a mean that is not
+    0."""
+    wave = object.__new__(street_script.Street)
+    wave.part, wave.times = 200, 20_000 + 200 * np.arange(200)
+    wave.sides = 0.03 + 0.2 * np.sin(np.pi * (wave.times - 20_100) / 2_345)
+    halves = np.diff(wave.crossings())
+    assert len(halves) == 16 and abs(halves.mean() - 2345) < 5, halves
+
+
+def takes_arrays():
+    """Theory of an array is an array of the theory of its numbers."""
+    fillings = np.array([[0.1, 0.3], [0.5, 0.7]])
+    for name, gas, *more in (
+        ("viscosity", "fhp-rest", "left"),
+        ("odd_viscosity", "fhp1", "right"),
+        ("slip", "fhp1"),
+        ("bulk_viscosity", "fhp-rest"),
+        ("noise", "hpp", 9),
+        ("galilean_factor", "fhp1", 0.2),
+        ("galilean_factor", "fhp-rest"),
+    ):
+        of = lambda d: getattr(theory, name)(gas, d, *more)
+        assert np.allclose(
+            of(fillings), [[of(float(d)) for d in row] for row in fillings], rtol=1e-12
+        )
+
+
+CASES = [
+    *(
+        (collides, gas, *numbers)
+        for gas, *numbers in (("fhp1", 5, 64), ("fhp-rest", 22, 128), ("hpp", 2, 16))
+    ),
+    *((returns, gas) for gas in ("fhp1", "fhp-rest", "hpp")),
+    (keeps,),
+    (street,),
+    (finds_periods,),
+    (takes_arrays,),
+    (warns,),
+    *((remembers, gas) for gas in ("fhp1", "fhp-rest")),
+    *((swings, gas) for gas in ("fhp1", "fhp-rest")),
+    *((forgets, gas) for gas in ("fhp1", "fhp-rest")),
+    *((is_viscous, *key) for key in FORMULAS),
+    *((decays_as_published, *key) for key in FORMULAS),
+    *(
+        (are_as_in_theory, f"equilibrium.py --small --gas {gas}", ["direction"], 0.05)
+        for gas in ("fhp1", "fhp-rest")
+    ),
+    *(
+        (are_as_in_theory, f"sound.py --small --gas {gas}", ["speed of sound", "damping"])
+        for gas in ("fhp1", "fhp-rest")
+    ),
+    (
+        are_as_in_theory,
+        "sound.py --small --gas hpp",
+        ["speed of sound diagonal", "damping D diagonal"],
+    ),
+    *(
+        (are_as_in_theory, f"galilean.py --small --gas {gas}", [gas])
+        for gas in ("fhp1", "fhp-rest")
+    ),
+    (slips, "fhp1", "seeded", 0.3, [("fhp1", 0.3, "left"), ("fhp-rest", 0.3)]),
+    (slips, "fhp1", "left", 0.3, [("fhp1", 0.3)]),
+    (slips, "fhp1", "right", 0.3, [("fhp1", 0.3)]),
+    (solves_no, "fhp1", np.zeros((3, 1)), "seeded", False),
+    (solves_no, "fhp1", [[0]], "up"),
+    (solves_no, "fhp1", [0]),
+    (are_as_in_theory, "porous.py --small", ["force"]),
+    *((is_refused, words) for words in REFUSED),
+]
+
+
+def tried(case):
+    try:
+        case[0](*case[1:])
+    except (AssertionError, ValueError, IndexError) as fault:
+        return f"FAILED: {case[0].__name__} {' '.join(map(str, case[1:]))}: {fault}"
+
+
+with concurrent.futures.ThreadPoolExecutor(2) as pool:
+    faults = [fault for fault in pool.map(tried, CASES) if fault]
+print("\n".join([*faults, f"{len(CASES) - len(faults)} passed, {len(faults)} failed"]))
+sys.exit(1 if faults else 0)

@@ -1,0 +1,114 @@
+#!/usr/bin/env python3
+"""Draws which module of the Python package and of the page imports which, with --draw as text: a module must not import itself through
+others, the data (lattice and blocks) must not import pictures, and nothing may use what another module of the package keeps private.
+Imports for types alone and inside of functions, such as of `plot`, are of what comes later and count for nothing. Ends with the counts."""
+
+import ast
+import graphlib
+import re
+import sys
+
+sys.path.append(f"{sys.path[0]}/../lib")
+import needs
+
+PACKAGE, PAGE = needs.ROOT / "python/fhpgas", needs.ROOT / "page/src"
+APART = [("lattice", "pictures"), ("blocks", "pictures"), ("reader", "lattice")]  # may not reach
+
+
+def statements(tree):
+    """The nodes of a module, without the ones for types alone and inside of functions, which run later."""
+    waiting = [tree]
+    while waiting:
+        node = waiting.pop()
+        yield node
+        if isinstance(node, ast.If) and "TYPE_CHECKING" in ast.unparse(node.test):
+            continue
+        if not isinstance(node, (ast.FunctionDef, ast.Lambda)):
+            waiting += ast.iter_child_nodes(node)
+
+
+def modules_of(node, all_modules):
+    """The modules of the package that a statement imports: {name here: module}."""
+    if not isinstance(node, ast.ImportFrom) or node.level != 1:
+        return {}
+    if node.module:
+        return {node.module: node.module}
+    return {it.asname or it.name: it.name for it in node.names if it.name in all_modules}
+
+
+def package():
+    """Per module of the package the ones that it imports, and the private names of others that it uses."""
+    trees = {path.stem: ast.parse(path.read_text()) for path in sorted(PACKAGE.glob("*.py"))}
+    graph, private = {}, []
+    for name, tree in trees.items():
+        here = {}
+        for node in statements(tree):
+            here |= modules_of(node, trees)
+            if isinstance(node, ast.ImportFrom) and node.level == 1:
+                private += [f"{name}: {it.name}" for it in node.names if it.name.startswith("_")]
+        for node in ast.walk(tree):
+            if isinstance(node, ast.Attribute) and isinstance(node.value, ast.Name):
+                is_private = node.attr.startswith("_") and not node.attr.startswith("__")
+                if is_private and node.value.id in here:
+                    private.append(f"{name}: {node.value.id}.{node.attr}")
+        graph[name] = set(here.values())
+    return graph, private
+
+
+def page():
+    """Per module of the page the ones that it imports."""
+    found = re.compile(r'^(?:import|export) [^;]*?from "\./(\w+)\.js"|^import "\./(\w+)\.js"', re.M)
+    return {
+        path.stem: {one or other for one, other in found.findall(path.read_text())}
+        for path in sorted(PAGE.glob("*.js"))
+    }
+
+
+def reached(graph, start):
+    """The modules that a module imports, through others too."""
+    found, waiting = set(), [start]
+    while waiting:
+        new = graph.get(waiting.pop(), set()) - found
+        found |= new
+        waiting += new
+    return found
+
+
+def cycle(graph):
+    """The modules of a cycle, or None."""
+    try:
+        graphlib.TopologicalSorter(graph).prepare()
+    except graphlib.CycleError as fault:
+        return " -> ".join(reversed(fault.args[1]))
+    return None
+
+
+def checks():
+    """What must be, and what is wrong with it, or nothing."""
+    graph, private = package()
+    yield "the package has no cycle of imports", cycle(graph)
+    yield "the page has none", cycle(page())
+    yield "no module of the package uses what another keeps private", ", ".join(private)
+    for one, other in APART:
+        assert {one, other} <= graph.keys()
+        yield f"{one} does not reach {other}", other if other in reached(graph, one) else None
+
+
+def main():
+    if sys.argv[1:] == ["--draw"]:
+        for graph in package()[0], page():
+            print(
+                *(f"{name}: {' '.join(sorted(below))}" for name, below in graph.items()), sep="\n"
+            )
+        return 0
+    tried = list(checks())
+    for what, wrong in tried:
+        if wrong:
+            print(f"FAILED: {what}: {wrong}")
+    failed = sum(bool(wrong) for _, wrong in tried)
+    print(f"{len(tried) - failed} passed, {failed} failed")
+    return 1 if failed else 0
+
+
+if __name__ == "__main__":
+    sys.exit(main())

@@ -1,0 +1,474 @@
+#!/usr/bin/env python3
+"""Compares lattices, their runs, texts, files and refusals with the program itself, or with values
+made by hand. Ends with the counts."""
+
+import copy
+import dataclasses
+import functools
+import itertools
+import math
+import os
+import pickle
+import re
+import subprocess
+import sys
+import unittest.mock
+
+sys.path.append(f"{sys.path[0]}/../lib")
+import needs
+from package_case import AREA, GASES, PROGRAM, TABLE, Package, wind
+
+import fhpgas
+import numpy as np
+from fhpgas import Size, program
+from matplotlib.figure import Figure
+
+CELLS = "generation 1 particles 2\n....02..\n........\n##10....\n"
+# Calls that do not fit, and a part of the line that says why, beside or below them. `start` is the
+# lattice of AREA, `solid` a mask of 64 x 47 cells.
+FAULTS = """
+Lattice([[0, 64]])
+    a state of fhp1 is an integer from 0 to 63, and row 0 column 1 has 64
+Lattice([[0], [-1]])                                row 1 column 0 has -1
+Lattice([[0.5]])                                    of the type float64
+Lattice([1])
+    arrays [y, x] of one shape, 1 to 65536 each way, not (1,) and (1,)
+Lattice([[1, 2]], [[0]])                            not (1, 2) and (1, 1)
+Lattice([[1]], [[1]])                               row 0 column 0 is solid and contains a particle
+Lattice([[1]], [[0.5]])                             solid cells are an array of truth values
+gas(0.2, solid=255 * np.ones((4, 4), np.uint8))     compare an image with a number
+forces(start)
+    a lattice of generation 0 has had no collision with a wall
+film("a.gif", start)                                a film or a strip has several states
+film("no/a.gif", [start])                           no/a.gif: No such file or directory
+mean([start.blocks(), start.blocks()])              blocks are added
+start.plot("speed", 1, block=8)                     a block is two integers, columns and rows, not 8
+Lattice([[0]], gas="fhp2")                          a gas is one of fhp1, hpp, fhp-rest, not 'fhp2'
+Lattice([[0]], chirality="up")
+    a chirality is one of seeded, left, right, not 'up'
+Lattice([[0]], seed=-1)
+    a seed is an integer from 0 to 9223372036854775807, not -1
+start.replace(seed=1.0)                             not 1.0
+start.run(np.arange(2))                             not array([0, 1])
+start.run(-1)
+    the number of generations is an integer from 0 to 1000000, not -1
+run(AREA, 1e3)                                      not 1000.0
+start.run(1, stages=65)
+    the number of stages is an integer from 1 to 64, not 65
+start.every(1, 2, stages=65)
+    the number of stages is an integer from 1 to 64, not 65
+start.driven(20, force=0, capacity=0)               the capacity is an integer from 1 to 1024, not 0
+start.long_run(4, 2, "kept.toml", stages=0)
+    the number of stages is an integer from 1 to 64, not 0
+run(AREA, 1, capacity=1025)
+    the capacity is an integer from 1 to 1024, not 1025
+start.coarse(1, 4097)
+    the number of columns of a block is an integer from 1 to 4096, not 4097
+start.blocks(0)
+    the number of columns of a block is an integer from 1, not 0
+start.every(-1, 2)                                  a step is an integer from 1 to 1000000, not -1
+start.save("/no/such/a.toml")                       No such file
+Lattice(np.zeros((8200, 4096), int)).run(1, 1)
+    the scene has 67240082 bytes, and the program reads 67108864
+run("no/such.toml", 1)                              no/such.toml: No such file
+check(AREA.encode())                                not as bytes
+Lattice.load(AREA + "colour = 1")                   scene: unknown key (`explain` says where)
+with_seed(start.scene(), 1)                         leave `cells` as they are
+with_seed(AREA + "particles = [[0, 0, 1]]", 1)      leave `particles` as they are
+with_seed(AREA.replace("300", "0"), 1)              `rate` is 0
+read_cells(CELLS, "fhp1", Size(3, 4))
+    the cells are 4 x 3 (columns x rows), and not 3 x 4
+read_cells(CELLS, "hpp", Size(4, 3))                from 0 to 15
+read_table(TABLE, "hpp", (2, 2), Size(6, 3))
+    no whole table of `coarse` with 3 columns and 2 rows of blocks
+start.blocks() + start.blocks(9, 9)
+    only blocks of one gas, one size and one lattice's size
+replace(start.blocks(), size=Size(66, 10))          66 x 10 cells have 9 x 2 blocks of 8 x 9
+start.blocks().smooth(-1)                           sigma is a number from 0
+start.blocks().smooth().text()                      smoothed sums have fractions
+start.reverse()                                     chirality "seeded" cannot be reversed
+GASES["hpp"].collisions("seeded")                   left or right, not 'seeded'
+equilibrium("fhp1", 0.2, 1.0)                       no fhp1 of filling 0.2 has the velocity 1, 0
+equilibrium("fhp1", [0.2, 0.9], 0.3)                no fhp1 of filling 0.9 has the velocity 0.3, 0
+equilibrium("hpp", 0.5, nan)                        the field `east` has a value that is not finite
+equilibrium("fhp1", 1.2)
+    a filling is the chance per direction, 0 to 1, not 1.2 (particles per cell are a density)
+gas(0.2)                                            the size is not known
+gas(0.2, 0.1 * np.ones((47, 1)))                    the size is not known
+gas(lambda X, Y: 0.2)                               the size is not known
+gas(0.2, size=64)
+    a size is fhpgas.Size(columns, rows), or a lattice or an array [y, x] of this size, not 64
+gas(0.2, size=solid.shape)                          of this size, not (47, 64)
+positions((64, 47))                                 of this size, not (64, 47)
+read_cells(CELLS, "fhp1", (4, 3))                   of this size, not (4, 3)
+gas(0.2, size=Size(64.0, 64))
+    the number of columns of a size is an integer from 1, not 64.0
+gas(0.2, size=Size(70000, 1))                       1 to 65536 each way
+gas(np.ones((3, 4)), size=Size(4, 4))
+    the field `filling` has the shape (3, 4), and the lattice 4 rows and 4 columns
+gas(0.2, size=Size(9, 9), solid=solid)              the field `solid` has the shape (47, 64)
+gas(np.ones((4, 5)), np.ones((2, 3)))               which do not fit together
+gas(0.2, None, size=Size(4, 4))
+    the field `east` is numbers or a function of the place, not None
+disc(Size(64, 24), 64, 0, 1)
+    the column of a disc is an integer from 0 to 63, not 64
+disc(Size(64, 24), 0, 0, nan)
+    the radius of a disc is a number from 0 to inf, not nan
+polygon(Size(9, 9), [(1, 2), (3, 4)])
+    a polygon has three corners (column, row) or more
+polygon(Size(9, 9), [1, 2, 3, 4, 5, 6])
+    a polygon has three corners (column, row) or more
+polygon(Size(9, 9), [(0, 0), (1, inf), (1, 1)])
+    at most 1e+06 away, not [(0, 0), (1, inf), (1, 1)]
+porous(Size(9, 9), 30, 1)
+    the share of solid cells is a number from 0 to 1, not 30
+porous(Size(9, 9), 0.3, 1, np.random.default_rng())  a seed is an integer
+nozzle(Size(64, 24), 6, 65)
+    the length of a nozzle is an integer from 1 to 64
+bitmap(Size(64, 40), solid, 1)                      the picture leaves the channel of 64 x 40 cells
+bitmap(Size(64, 48), solid, 1e308)                  a number from 1e-09 to 65536, not 1e+308
+bitmap(Size(64, 40), "no.png")                      no.png: No such file
+bitmap(Size(64, 40), [1, 2, 3])                     not of the shape (3,)
+bitmap(Size(64, 48), solid, 0)                      the width of a pixel is a number
+next(start.driven(20))                              either by a force or towards a mean flow
+next(start.driven(20, 7, force=1))                  20 generations are not a multiple of 7
+next(start.driven(20, force=nan))                   a force is a number from -2 to 2, not nan
+next(start.driven(20, force=2))                     particles to turn
+gas(0, size=Size(4, 4)).driven(20, force=1)         no particle that could be turned
+start.driven(20, force=1, along="x")
+    a force acts along one of rows, directions, not 'x'
+"""
+CHIRALITIES = "seeded", "left", "right"
+SIZES = Size(64, 47), Size(65, 33), Size(1, 5), Size(7, 1)
+
+
+def printed(lattice, *words):
+    """What the program prints for a scene that is written here by docs/FORMATS.md."""
+    pairs = zip(lattice.states, lattice.solid)
+    rows = (
+        '"' + "".join("##" if wall else f"{state:02x}" for state, wall in zip(*pair)) + '"'
+        for pair in pairs
+    )
+    scene = (
+        f'version = 2\ngas = "{lattice.gas.name}"\nchirality = "{lattice.chirality}"\nseed ='
+        f" {lattice.seed}\n"
+        f'generation = {lattice.generation}\ncells = [{", ".join(rows)}]\n'
+    )
+    return subprocess.run(
+        [PROGRAM, *map(str, words)], input=scene, capture_output=True, text=True, check=True
+    ).stdout
+
+
+class Lattices(Package):
+    def test_what_does_not_fit_is_a_fault(self):
+        names = (
+            globals()
+            | vars(fhpgas)
+            | {"nan": math.nan, "inf": math.inf, "replace": dataclasses.replace}
+            | {"gas": fhpgas.draw_gas, "mean": fhpgas.mean_and_error}
+        )
+        names |= {"start": fhpgas.Lattice.load(AREA), "solid": wind((64, 47)).solid}
+        for call, part in re.findall(r"^(\S.*?)\s{2,}(.+)$", FAULTS, re.M):
+            with self.subTest(call=call):
+                self.fault(part, lambda: eval(call, names))
+
+    def test_a_lattice_does_not_change_and_is_equal_by_value(self):
+        states = np.array([[0, 0, 2, 0], [0] * 4, [0, 16, 0, 0]])
+        lattice, kept = fhpgas.Lattice(states, states < 0, seed=5, generation=7), states.tolist()
+        states[:] = 9
+        self.assertEqual(
+            (lattice.states.tolist(), lattice.size, lattice.particles, lattice.fluid),
+            (kept, (4, 3), 2, 12),
+        )
+        self.assertEqual(repr(lattice), "<Lattice fhp1 seeded 4 x 3, generation 7, 2 particles>")
+        self.assertIs(np.asarray(lattice), lattice.states)
+        self.assertEqual(np.add(lattice, 1).tolist(), (np.array(kept) + 1).tolist())
+        for one, others in (
+            (lattice, [lattice.replace()]),
+            (blocks := lattice.blocks(2, 2), [lattice.blocks(2, 2)]),
+        ):
+            for other in (*others, pickle.loads(pickle.dumps(one)), copy.deepcopy(one)):
+                arrays = [value for value in vars(other).values() if isinstance(value, np.ndarray)]
+                self.assertTrue(arrays and not any(array.flags.writeable for array in arrays))
+                self.assertEqual((other, hash(other)), (one, hash(one)))
+                self.assertRaises(dataclasses.FrozenInstanceError, setattr, other, "generation", 8)
+        walls = np.arange(12).reshape(3, 4) == 5
+        changes = {
+            "seed": 6,
+            "generation": 8,
+            "chirality": "left",
+            "gas": "fhp-rest",
+            "solid": walls,
+            "states": 0 * states,
+        }
+        for name, value in changes.items():
+            with self.subTest(name=name):
+                self.assertNotEqual(lattice.replace(**{name: value}), lattice, name)
+        self.assertNotEqual(dataclasses.replace(blocks, generation=8), blocks)
+
+    def test_runs_equal_the_program(self):
+        """Its bytes for a scene written by hand: also in parts, from a file, and in blocks."""
+        for gas, chirality, size in itertools.product(GASES, CHIRALITIES, SIZES):
+            with self.subTest(gas=gas, chirality=chirality, size=size):
+                start = wind(size, gas, chirality)
+                late = start.run(7, stages=3, capacity=2)
+                self.assertEqual(late.text(), printed(start, "run", "--generations", 7))
+                self.assertEqual(fhpgas.read_cells(late.text(), gas, size, chirality, 3), late)
+                self.assertEqual(
+                    [*start.run(3).every(2, 2)], [start.run(3), start.run(3).run(2), late]
+                )
+                start.save(self.room / "start.toml")
+                self.assertEqual(
+                    (
+                        fhpgas.Lattice.load(self.room / "start.toml"),
+                        fhpgas.Lattice.load(late.scene()),
+                    ),
+                    (start, late),
+                )
+                for block in ((7, 5), (64, 47), (1, 1)):
+                    text = printed(
+                        start,
+                        "coarse",
+                        "--generations",
+                        7,
+                        "--block-width",
+                        block[0],
+                        "--block-height",
+                        block[1],
+                    )
+                    self.assertEqual(
+                        (start.coarse(7, *block), fhpgas.read_table(text, gas, block, size, 7)),
+                        (late.blocks(*block),) * 2,
+                    )
+                    self.assertEqual(late.blocks(*block).text(), text)
+                whole = (start.coarse(7, None, None), fhpgas.coarse(start.scene(), 7, None, None))
+                self.assertEqual(whole, (late.blocks(None, None),) * 2)
+
+    def test_printed_texts_are_read_whole_or_not_at_all(self):
+        cells = fhpgas.read_cells(CELLS, "fhp1", Size(4, 3))
+        self.assertEqual(
+            (cells.generation, cells.states.tolist(), np.argwhere(cells.solid).tolist()),
+            (1, [[0, 0, 2, 0], [0] * 4, [0, 16, 0, 0]], [[2, 0]]),
+        )
+        wrong = [CELLS.replace("02", pair) for pair in ("0g", "0A", "80", "#.", "2", " 2", "03")]
+        wrong += [CELLS + "........\n", CELLS.replace("........\n", ""), CELLS + "\n", TABLE]
+        for text in (*(CELLS[:end] for end in range(len(CELLS))), *wrong):
+            with self.subTest(text=text):
+                self.fault("cells", fhpgas.read_cells, text, "fhp1", Size(4, 3))
+        wrong = [
+            TABLE.replace(*pair)
+            for pair in (
+                ("8", "x"),
+                ("    1     0", "    2     0"),
+                ("3          1", "3        1.0"),
+            )
+        ]
+        for text in (*(TABLE[:end] for end in range(len(TABLE))), TABLE + "\n", *wrong, CELLS):
+            with self.subTest(text=text):
+                self.fault(
+                    "this is no whole table of `coarse` with 3 columns and 1 rows",
+                    fhpgas.read_table,
+                    text,
+                    "hpp",
+                    (2, 2),
+                    Size(6, 2),
+                )
+
+    def test_a_key_that_only_a_later_program_reads_is_refused(self):
+        printed = program.call(AREA.encode(), "run", "--generations", 0)
+        with unittest.mock.patch.object(fhpgas.lattice, "call", return_value=printed):
+            self.fault("the key `later`", fhpgas.run, AREA + "later = 1\n", 0)
+            self.fault("the key `later`", fhpgas.Lattice.load, AREA + "later = 1\n")
+
+    def test_a_scene_is_passed_as_its_text_or_its_path(self):
+        (self.room / "d=0.3.toml").write_text(AREA)
+        start = fhpgas.Lattice.load(AREA)
+        self.assertEqual(
+            (start.gas.name, start.chirality, start.seed, start.generation, start.solid.sum()),
+            ("fhp1", "seeded", 7, 0, 12),
+        )
+        for scene in (AREA, self.room / "d=0.3.toml", str(self.room / "d=0.3.toml"), start.scene()):
+            with self.subTest(scene=scene):
+                self.assertEqual(
+                    fhpgas.check(scene), fhpgas.Summary("fhp1", 66, 9, 12, start.particles)
+                )
+                self.assertEqual(
+                    (fhpgas.run(scene, 5), fhpgas.coarse(scene, 5, 11, 4)),
+                    (start.run(5), start.run(5).blocks(11, 4)),
+                )
+        text = (
+            'version = 2\ngas = "hpp" # cells = ["##"]\ncells = [\n  "##01", # a ] mark\n'
+            '  "0100",\n]\nchirality = "left"\nseed = 4\n'
+        )
+        wanted = fhpgas.Lattice([[0, 1], [1, 0]], [[1, 0], [0, 0]], "hpp", "left", 4, 9)
+        self.assertEqual(fhpgas.Lattice.load(text + "generation = 9"), wanted)
+        # too long as a map
+        vast = (
+            'version = 2\ngas = "fhp1"\nwidth = 65536\nheight = 1024\nrate = 1000\ngeneration = 3\n'
+        )
+        found = fhpgas.coarse(vast, 1, 4096, 512)
+        self.assertEqual(
+            (found.fluid.shape, found.generation, {*found.particles.ravel().tolist()}),
+            ((2, 16), 4, {6 * 4096 * 512}),
+        )
+        self.assertEqual(
+            fhpgas.Lattice.load(fhpgas.with_seed(AREA, 8)),
+            fhpgas.Lattice.load(AREA.replace("seed = 7", "seed = 8")),
+        )
+        self.assertEqual([*self.room.iterdir()], [self.room / "d=0.3.toml"])
+
+    def test_frames_cost_as_many_generations_as_they_show(self):
+        start = fhpgas.Lattice.load(AREA)
+        with unittest.mock.patch.object(
+            fhpgas.Lattice, "run", autospec=True, side_effect=fhpgas.Lattice.run
+        ) as run:
+            self.assertEqual([each.generation for each in start.every(5, 20)], [*range(0, 101, 5)])
+            self.assertEqual(
+                [point.after.generation for point in start.driven(100, 5, flow=0.1)],
+                [*range(0, 101, 5)],
+            )
+        self.assertEqual([each.args[1] for each in run.call_args_list], [5] * 40)
+
+    def test_a_run_is_resumed_from_what_is_kept(self):
+        start, kept = fhpgas.Lattice.load(AREA), self.room / "kept.toml"
+        later = start.run(3)
+        self.assertEqual(start.resume(later.text()).run(4), start.run(7))
+        self.fault(
+            "66 x 9 (columns x rows), and not 64 x 9",
+            fhpgas.Lattice.load(AREA.replace("66", "64")).resume,
+            later.text(),
+        )
+        self.assertEqual(next(start.long_run(10, 4, kept)), start.run(4))
+        self.assertEqual([*start.long_run(10, 4, kept)], [start.run(8), start.run(10)])
+        self.assertEqual(
+            ([*start.long_run(10, 4, kept)], fhpgas.Lattice.load(kept)), ([], start.run(10))
+        )
+        later.save(kept)
+        for old, new, part in (
+            ("66", "64", "size is 66 x 9, and not 64 x 9"),
+            ("3, 4]", "3, 3]", "fluid is 582, and not 585"),
+            ("300", "301", f"particles is {start.particles}, and not"),
+            ("= 7", "= 8", "seed is 7, and not 8"),
+            ("fhp1", "fhp-rest", "gas is fhp1"),
+            ("seed", "chirality = 'left'\nseed", "chirality is seeded"),
+            ("gas", "version = 2\ngeneration = 4\ngas", "they are of generation 3, and it is of 4"),
+            (
+                "gas",
+                "version = 2\ngeneration = 3\ngas",
+                "they are of generation 3, and it is of 3, with other cells",
+            ),
+        ):
+            with self.subTest(part=part):
+                self.fault(part, fhpgas.Lattice.load(AREA.replace(old, new)).long_run, 10, 4, kept)
+        empty = start.replace(states=0 * start.states)
+        self.fault(
+            "other cells are solid",
+            empty.replace(solid=np.roll(start.solid, 1, 0)).resume,
+            empty.run(1).text(),
+        )
+        with unittest.mock.patch.object(
+            fhpgas.lattice,
+            "call",
+            side_effect=AssertionError("it computes before it tries its file"),
+        ):
+            self.fault("No such file", start.long_run, 10, 4, "/no/such/kept.toml")
+
+    def test_masked_values_are_hidden_or_refused(self):
+        start = wind((64, 47))
+        blocks, odd = start.blocks(), np.arange(64 * 47).reshape(47, 64) % 2 == 1
+        image = blocks.plot(np.ma.masked_where(blocks.east > 0.1, blocks.east), Figure().subplots())
+        self.assertTrue(np.ma.getmaskarray(image.get_array())[blocks.east > 0.1].all())
+        gas, states = fhpgas.gas_named("fhp1"), np.ma.masked_where(odd, start.states)
+        for function, *words in (
+            (fhpgas.Lattice, states),
+            (fhpgas.Lattice, [*states]),
+            (fhpgas.Lattice, 0 * start.states, np.ma.masked_where(odd, odd)),
+            (fhpgas.draw_gas, np.ma.masked_where(odd, 0.2 + 0 * odd)),
+            (fhpgas.draw_gas, lambda X, Y: np.ma.masked_where(odd, 0 * X + 0 * Y), 0.0, 0.0),
+            (fhpgas.bitmap, Size(64, 47), np.ma.masked_where(odd, odd)),
+            (fhpgas.boltzmann.Flow, "fhp1", np.ma.masked_where(odd, odd)),
+            (fhpgas.equilibrium, gas, np.ma.masked_where(odd, 0.2 + 0 * odd)),
+            (fhpgas.theory.viscosity, gas, np.ma.masked_equal([0.2, 0.3], 0.3)),
+            (fhpgas.flux, gas, np.ma.masked_equal(start.counts(), start.counts()[2])),
+            (fhpgas.forces, start.run(1), np.ma.masked_where(odd, odd)),
+            (fhpgas.mean_and_error, [np.ma.masked_equal([1.0, 2.0], 2.0), np.array([1.0, 3.0])]),
+            (fhpgas.polygon, Size(64, 47), np.ma.masked_equal([(0, 0), (9, 0), (0, 9)], 9)),
+        ):
+            with self.subTest(function=function):
+                call = functools.partial(function, *words)
+                if function is fhpgas.draw_gas and callable(words[0]):
+                    call = functools.partial(call, size=Size(64, 47))
+                self.fault("a masked value is none", call)
+
+    def test_a_file_is_saved_where_a_link_points_and_never_over_what_is_no_file(self):
+        start, room = fhpgas.Lattice.load(AREA), self.room / "saved"
+        (room / "there").mkdir(parents=True)
+        target, link = room / "there/a.toml", room / "link.toml"
+        link.symlink_to(target)
+        start.save(link)
+        target.chmod(0o640)
+        start.run(1).save(link)
+        self.assertTrue(link.is_symlink() and target.stat().st_mode & 0o777 == 0o640)
+        self.assertEqual(fhpgas.Lattice.load(target), start.run(1))
+        os.mkfifo(room / "fifo.toml")
+        for name in ("fifo.toml", "there", "/dev/null"):
+            with self.subTest(name=name):
+                for call in (
+                    start.save,
+                    lambda path: start.long_run(2, 1, path),
+                    start.blocks().save,
+                ):
+                    self.fault(f"{name} is no plain file", call, room / name)
+        lattices = [start.run(number) for number in range(8)]
+        shared = room / "shared.toml"
+        fhpgas.side_by_side(lambda lattice: [lattice.save(shared) for _ in range(20)], lattices)
+        self.assertIn(fhpgas.Lattice.load(shared), lattices)
+        names = {path.name for path in room.rglob("*")}
+        self.assertEqual(names, {"there", "a.toml", "link.toml", "fifo.toml", "shared.toml"})
+
+    def test_a_refusal_names_its_file(self):
+        (self.room / "wrong.toml").write_text("x\n")
+        path = self.room / "wrong.toml"
+        for call in (
+            fhpgas.check,
+            fhpgas.Lattice.load,
+            lambda path: fhpgas.with_seed(path, 1),
+            lambda path: fhpgas.coarse(path, 1),
+            lambda path: fhpgas.Lattice.load(AREA).long_run(2, 1, path),
+        ):
+            with self.subTest(call=call):
+                self.fault(f"{path}: scene: not TOML", call, path)
+        fhpgas.Lattice.load(AREA.replace("fhp1", "hpp")).save(path)
+        self.fault(f"{path}: the cells are", fhpgas.Lattice.load(AREA).long_run, 2, 1, path)
+
+    def test_sums_by_direction_are_counted(self):
+        for gas in GASES:
+            with self.subTest(gas=gas):
+                lattice = wind((65, 33), gas).run(2)
+                parts = [
+                    [
+                        lattice.states[top : top + 20, left : left + 30].ravel().tolist()
+                        for left in (0, 30, 60)
+                    ]
+                    for top in (0, 20)
+                ]
+                counts = [
+                    [[sum(state >> i & 1 for state in part) for part in row] for row in parts]
+                    for i in range(lattice.gas.directions)
+                ]
+                self.assertEqual(
+                    (lattice.counts(30, 20).tolist(), lattice.counts().tolist()),
+                    (counts, np.sum(counts, (1, 2)).tolist()),
+                )
+                self.same(lattice.counts(None, 20), np.sum(counts, 2, keepdims=True))
+                self.assertEqual(lattice.blocks(None, 9), lattice.blocks(65, 9))
+                self.same(lattice.momentum, np.sum(counts, (1, 2)) @ lattice.gas.velocities)
+                self.same(
+                    lattice.momentum,
+                    lattice.gas.units * [lattice.blocks().px.sum(), lattice.blocks().py.sum()],
+                    9,
+                )
+
+
+if __name__ == "__main__":
+    needs.run_tests()

@@ -1,0 +1,304 @@
+#!/usr/bin/env python3
+"""Tests how the program is found and ended, runs side by side, the examples of docstrings, and
+costs. Ends with the counts."""
+
+import concurrent.futures
+import contextlib
+import doctest
+import inspect
+import io
+import itertools
+import math
+import os
+import shutil
+import signal
+import subprocess
+import sys
+import threading
+import time
+import unittest.mock
+
+sys.path.append(f"{sys.path[0]}/../lib")
+import needs
+from package_case import PROGRAM, Package, wind
+
+import distributed
+import fhpgas
+import numpy as np
+from fhpgas import Size, runs
+from matplotlib.figure import Figure
+
+ROUNDS = 6  # of runs that fail, are killed and are interrupted
+
+
+def particles_of(seed):
+    """At the top of a module, as executors need it."""
+    return fhpgas.draw_gas(0.3, size=Size(66, 9), seed=seed).run(2).particles
+
+
+def long_run(number):
+    start = fhpgas.draw_gas(0.2, size=Size(4096, 64), seed=number)
+    return start.run(10**6, stages=2).particles
+
+
+def end(number, processes):
+    for process in processes:
+        with contextlib.suppress(ProcessLookupError):
+            os.kill(int(process), number)
+
+
+def is_function(value):
+    return inspect.isfunction(value) or inspect.ismethod(value)
+
+
+def wide(rows):
+    """The corners of a polygon that goes round the channel four hundred times."""
+    return [(-200_000, 0), (200_000, 0), (200_000, rows / 2), (-200_000, rows / 2)]
+
+
+def spent(call, rows):
+    """The processor time of a call."""
+    begun = time.process_time()
+    call(rows)
+    return time.process_time() - begun
+
+
+def programs_of(of, number):
+    """The processes of the program of a session, "sid", or a parent, "ppid", which have not ended.
+    A session that was begun outside of a container has no number in it."""
+    words = ["ps", "-e", "-o", f"pid=,{of}=,stat=,comm="]
+    lines = subprocess.run(words, capture_output=True, text=True, check=True).stdout.splitlines()
+    return {
+        pid
+        for pid, owner, state, name, *_ in map(str.split, lines)
+        if name == "fhpgas" and state[0] != "Z" and int(owner) == number
+    }
+
+
+class Processes(Package):
+    def test_the_program_is_found(self):
+        """In a folder as an archive unpacks, with a program next to the package, by FHPGAS, and
+        on the PATH."""
+        words = [
+            sys.executable,
+            "-c",
+            'import fhpgas; print(fhpgas.run(\'gas = "hpp"\\ncells = ["01.."]\', 1).text(),'
+            " end='')",
+        ]
+        shutil.copytree(
+            needs.ROOT / "python",
+            self.room / "python",
+            ignore=shutil.ignore_patterns("__pycache__"),
+        )
+        shutil.copy(PROGRAM, self.room / "fhpgas")
+
+        def ran(**more):
+            environment = {"PYTHONPATH": f"{self.room}/python", "PATH": "/nowhere"} | more
+            done = subprocess.run(words, capture_output=True, text=True, env=environment, cwd="/")
+            return done.stdout or done.stderr
+
+        self.assertEqual(ran(), "generation 1 particles 1\n..01\n")
+        for other, part in (
+            ("/no/such", "is missing"),
+            ("/bin/false", "does not start"),
+            ("/bin/ls", "or is another program"),
+        ):
+            with self.subTest(other=other):
+                self.assertRegex(ran(FHPGAS=other), f"{other} .*{part}")
+        (self.room / "bin").mkdir()
+        (self.room / "fhpgas").rename(self.room / "bin/fhpgas")
+        self.assertIn("the program fhpgas is not found", ran())
+        self.assertEqual(
+            (ran(PATH=f"{self.room}/bin"), ran(FHPGAS=f"{self.room}/bin/fhpgas")),
+            ("generation 1 particles 1\n..01\n",) * 2,
+        )
+        others = "{'numpy', 'matplotlib', 'scipy', 'PIL', 'distributed'}"
+        words[2] = f"import fhpgas, sys; print({others} & {{*sys.modules}})"
+        self.assertEqual(ran(), "{'numpy'}\n")
+
+    def test_a_plan_is_chosen_from_the_cores_of_the_process(self):
+        self.assertEqual(
+            [fhpgas.plan(1024, 1000, cores) for cores in (1, 4, 8, 64)],
+            [(8, 128, 1), (32, 128, 4), (64, 128, 8), (64, 128, 64)],
+        )
+        self.assertEqual(
+            [
+                fhpgas.plan(rows, steps, 4)[::2]
+                for rows, steps in ((256, 100), (24, 100), (9, 1), (1024, 3))
+            ],
+            [(16, 4), (1, 1), (1, 1), (3, 3)],
+        )
+        self.assertEqual(fhpgas.plan(24, 100, 4, stages=6), (6, 128, 4))
+        with unittest.mock.patch.object(os, "sched_getaffinity", lambda process: {5, 6}):
+            self.assertEqual(fhpgas.plan(1024, 1000), (16, 128, 2))
+
+    def test_bars_count_the_parts_of_a_run_in_a_terminal(self):
+        class Terminal(io.StringIO):
+            def isatty(self):
+                return True
+
+        start = wind((64, 47))
+        for cores, shown in ((0, True), (1, False)):
+            token = runs.share.set(cores)
+            with unittest.mock.patch.object(sys, "stderr", Terminal()) as terminal:
+                self.assertEqual(len([*start.every(1, 3)]), 4)
+                self.assertEqual(len([*start.driven(6, 2, force=0.001)]), 4)
+            runs.share.reset(token)
+            found = [f"0/{n} [00:00<?, ?{unit}/s]" for n, unit in ((3, "part"), (4, "point"))]
+            self.assertEqual([each in terminal.getvalue() for each in found], [shown] * 2)
+        self.assertEqual(runs.BARS, [])
+
+    def test_runs_go_side_by_side_in_order(self):
+        """In threads without a fork, by executors, and on a Dask cluster."""
+        alone = [particles_of(seed) for seed in range(5)]
+        with unittest.mock.patch("os.fork", side_effect=AssertionError):
+            self.assertEqual(fhpgas.side_by_side(lambda seed: particles_of(seed), range(5)), alone)
+        inner = fhpgas.side_by_side(lambda _: fhpgas.side_by_side(particles_of, range(5)), range(3))
+        self.assertEqual(inner, [alone] * 3)
+        for pool in (concurrent.futures.ThreadPoolExecutor, concurrent.futures.ProcessPoolExecutor):
+            with self.subTest(pool=pool):
+                with pool(2) as executor:
+                    self.assertEqual(fhpgas.side_by_side(particles_of, range(5), executor), alone)
+        with distributed.Client(
+            n_workers=2, threads_per_worker=1, dashboard_address=":0"
+        ) as client, client.get_executor() as executor:
+            self.assertEqual(fhpgas.side_by_side(particles_of, range(5), executor), alone)
+
+    def test_a_member_that_fails_or_is_killed_and_an_interrupt_end_all_runs(self):
+        """What was raised arrives as itself, and no program goes on. Of some members programs run,
+        of others the library, if it is here."""
+
+        class Own(Exception):
+            """It cannot be pickled."""
+
+        own = Own(lambda: None)
+
+        def failing(number):
+            if number == 2:
+                raise own
+            return long_run(number)
+
+        def killed(number):
+            if number == 2:
+                while not (found := programs_of("ppid", os.getpid())):
+                    time.sleep(0.01)
+                end(signal.SIGKILL, found)
+            return long_run(number)
+
+        def interrupted(number):
+            if number == 2:
+                signal.pthread_kill(threading.main_thread().ident, signal.SIGINT)
+            return fhpgas.side_by_side(long_run, [number] * 2)
+
+        for number in range(ROUNDS):
+            for function, raised in (
+                (failing, Own),
+                (killed, fhpgas.Fault),
+                (interrupted, KeyboardInterrupt),
+            ):
+                with unittest.mock.patch.dict(os.environ):
+                    if function is killed or number % 2:
+                        os.environ["FHPGAS"] = str(PROGRAM)
+                    with self.assertRaises(raised) as found, unittest.mock.patch.object(
+                        os, "sched_getaffinity", lambda process: {*range(4)}
+                    ):
+                        fhpgas.side_by_side(function, range(6))
+                self.assertTrue(raised is not Own or found.exception is own)
+                self.assertEqual(programs_of("ppid", os.getpid()), set())
+
+    def test_a_signal_to_the_parent_ends_the_programs_too(self):
+        """Of a process that is signalled alone, as a notebook's is, also while it is stopped, as by
+        `kill %1` after Ctrl-Z. An interrupt raises a KeyboardInterrupt there."""
+        script = (
+            "import fhpgas, signal\nsignal.signal(signal.SIGINT, signal.default_int_handler)  # in"
+            " the background it is ignored\nsignal.signal(signal.SIGHUP, signal.SIG_DFL)  # and this"
+            " by nohup\n"
+            "long = lambda seed: fhpgas.draw_gas(0.2, size=fhpgas.Size(4096, 64),"
+            " seed=seed).run(10**6, 16)\n"
+        )
+        cases = itertools.product(
+            (signal.SIGINT, signal.SIGTERM, signal.SIGHUP, signal.SIGKILL),
+            ("long(0)", "fhpgas.side_by_side(long, range(2))"),
+            (False, True),
+        )
+        for number, call, is_stopped in cases:
+            with self.subTest(number=number, call=call, is_stopped=is_stopped):
+                words = [sys.executable, "-c", script + call]
+                with subprocess.Popen(
+                    words,
+                    stderr=subprocess.PIPE,
+                    text=True,
+                    start_new_session=True,
+                    env=os.environ | {"FHPGAS": str(PROGRAM)},
+                ) as process:
+                    while not (runs := programs_of("sid", process.pid)):
+                        self.assertIsNone(process.poll())
+                        time.sleep(0.01)
+                    if is_stopped:
+                        process.send_signal(signal.SIGSTOP)
+                        os.waitid(os.P_PID, process.pid, os.WSTOPPED | os.WNOWAIT)
+                    process.send_signal(number)
+                    process.send_signal(signal.SIGCONT)
+                    said = process.communicate()[1]
+                    self.assertEqual("KeyboardInterrupt" in said, number == signal.SIGINT)
+                while runs & programs_of("sid", process.pid):
+                    time.sleep(0.01)
+
+    def test_examples_run_and_public_calls_have_their_sections(self):
+        self.addCleanup(os.chdir, os.getcwd())
+        os.chdir(self.room)
+        tried, modules = 0, {name for name in sys.modules if name.startswith("fhpgas.")}
+        for name in sorted(modules):
+            with self.subTest(module=name):
+                done = doctest.testmod(sys.modules[name], extraglobs={"fhpgas": fhpgas, "np": np})
+                self.assertEqual(done.failed, 0, name)
+                tried += done.attempted
+        self.assertGreater(tried, 90)
+        calls = {name: getattr(fhpgas, name) for name in fhpgas.__all__}
+        for kind in (fhpgas.Lattice, fhpgas.Blocks):
+            known = {name: getattr(kind, name) for name in vars(kind) if name[0] != "_"}
+            calls |= {name: call for name, call in known.items() if is_function(call)}
+        for name, call in calls.items():
+            with self.subTest(call=name):
+                if is_function(call) and [*inspect.signature(call).parameters] not in (
+                    [],
+                    ["self"],
+                ):
+                    for section in ("Parameters", "Examples"):
+                        self.assertIn(f"\n{section}\n", inspect.getdoc(call), name)
+
+    def test_costs_grow_as_sizes_do(self):
+        """A lattice of four times the rows takes at most 2.5^2 times the processor time, at best
+        of up to twenty tries of both in turn."""
+        room, figure = self.room, Figure()
+
+        def lattice(rows):
+            states = np.random.PCG64(1).random_raw(rows * 128).view(np.uint8).reshape(rows, 1024)
+            return fhpgas.Lattice(states & 63)
+
+        def film(source):
+            fhpgas.film(room / "film.gif", [source] * 3, "speed", dpi=20)
+
+        known = {rows: lattice(rows) for rows in (512, 2048)}
+        for name, call in (
+            ("porous", lambda rows: fhpgas.porous(Size(1024, rows), 0.3, 2)),
+            ("polygon", lambda rows: fhpgas.polygon(Size(1024, rows), wide(rows))),
+            ("picture", lambda rows: known[rows].plot("speed", figure.subplots())),
+            ("film", lambda rows: film(known[rows])),
+            ("blocks", lambda rows: known[rows].blocks()),
+            ("states", lambda rows: known[rows].replace(states=known[rows].states)),
+        ):
+            with self.subTest(name=name):
+                least = {512: math.inf, 2048: math.inf}
+                for _ in range(20):
+                    least = {rows: min(cost, spent(call, rows)) for rows, cost in least.items()}
+                    if least[2048] < 2.5**2 * least[512]:
+                        break
+                self.assertLess(least[2048], 2.5**2 * least[512], name)
+        later = known[512].replace(seed=5, generation=7)
+        self.assertIs(later.states, known[512].states)  # replace copies nothing that is checked
+        self.assertIs(later.replace(states=0 * later.states).solid, known[512].solid)
+
+
+if __name__ == "__main__":
+    needs.run_tests()

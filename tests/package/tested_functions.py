@@ -1,0 +1,75 @@
+#!/usr/bin/env python3
+"""Checks tests/package/tested_functions.txt: every public function and field of the package has a
+line there, and its test calls it, itself or by a function of its script. Ends with the counts."""
+
+import ast
+import inspect
+import sys
+
+sys.path.append(f"{sys.path[0]}/../lib")
+import needs
+
+needs.libraries()
+import fhpgas  # noqa: E402
+
+
+def public():
+    """The names of the functions that are public, and of the fields and methods of values."""
+    for name in fhpgas.__all__:
+        if inspect.isfunction(getattr(fhpgas, name)):
+            yield name
+    for kind in (fhpgas.Lattice, fhpgas.Blocks):
+        for name in dir(kind):
+            value = inspect.getattr_static(kind, name)
+            is_field = isinstance(value, property) or type(value).__name__ == "cached_property"
+            if name[0] != "_" and (is_field or isinstance(value, classmethod) or callable(value)):
+                yield f"{kind.__name__}.{name}"
+    for module in (fhpgas.theory, fhpgas.boltzmann):
+        for name, value in vars(module).items():
+            if inspect.isfunction(value) and value.__module__ == module.__name__ and name[0] != "_":
+                yield f"{module.__name__.rpartition('.')[2]}.{name}"
+
+
+def functions(script):
+    """The functions of a script of this folder by name, with methods."""
+    tree = ast.parse((needs.ROOT / f"tests/package/{script}.py").read_text())
+    return {node.name: node for node in ast.walk(tree) if isinstance(node, ast.FunctionDef)}
+
+
+def names(node, known, seen=()):
+    """The names and attributes, also in texts, of a function and of the ones that it uses."""
+    found = set()
+    for each in ast.walk(node):
+        if isinstance(each, ast.Attribute):
+            found.add(each.attr)
+        elif isinstance(each, ast.Name):
+            found.add(each.id)
+        elif isinstance(each, ast.Constant) and isinstance(each.value, str):
+            found.add(each.value)
+    for name in found & known.keys() - {*seen}:
+        found |= names(known[name], known, (*seen, name))
+    return found
+
+
+def main():
+    lines = (needs.ROOT / "tests/package/tested_functions.txt").read_text().splitlines()
+    rows = {}
+    for line in lines:
+        if not line.startswith("#"):
+            name, test, source = line.split(" | ")
+            rows[name] = test.split()
+    wrong = [f"{name} has no line" for name in public() if name not in rows]
+    wrong += [f"{name} is no public function" for name in rows.keys() - {*public()}]
+    for name, (script, test) in rows.items():
+        known = functions(script)
+        if test not in known:
+            wrong.append(f"{name}: {script}.py has no {test}")
+        elif name.rpartition(".")[2] not in names(known[test], known):
+            wrong.append(f"{name}: {test} of {script}.py does not call it")
+    print(*(f"FAILED: {each}" for each in wrong), sep="\n", end="\n" if wrong else "")
+    print(f"{len(rows) - len(wrong)} passed, {len(wrong)} failed")
+    return 1 if wrong else 0
+
+
+if __name__ == "__main__":
+    sys.exit(main())

@@ -1,0 +1,614 @@
+#!/usr/bin/env python3
+"""Uses the page from its file: in Chromium by real events of mouse, fingers and keys, in Firefox by a page that tests itself. Ends with the
+counts."""
+
+import base64
+import contextlib
+import hashlib
+import json
+import pathlib
+import re
+import shutil
+import subprocess
+import sys
+import tempfile
+import time
+
+sys.path.append(f"{sys.path[0]}/../lib")
+import needs
+
+PROGRAM = needs.built_program()
+needs.command("chromium")
+needs.libraries("selenium")
+from selenium import webdriver
+from selenium.common.exceptions import WebDriverException
+from selenium.webdriver.common.action_chains import ActionChains
+from selenium.webdriver.common.by import By
+from selenium.webdriver.common.keys import Keys
+
+WORDS = (
+    "--headless=new",
+    "--no-sandbox",
+    "--disable-dev-shm-usage",
+    "--disable-gpu",
+    "--no-first-run",
+    "--disable-background-networking",
+    "--disable-component-update",
+    "--disable-sync",
+)
+FILE = needs.ROOT / "page/fhpgas.html"
+PATIENCE = 600  # seconds: far more than anything takes, and nothing here depends on it
+SOLID = [0x78, 0x82, 0x8C]
+NAMES = "const { $, chosen, live, look, marks, motion, said, shown, speeds } = fhpgas, head = fhpgas.head(), view = $('view');"
+KNOWN = 'gas = "fhp1"\nchirality = "left"\ncells = ["01........##", "..09......##", "......04..##", "..........##"]\n'
+QUICK = "#scene=flow past a disc&size=256 x 128&radius=14&gas=fhp1&pace=10"
+counts = {True: 0, False: 0}
+
+
+def check(what, is_so, more=""):
+    counts[bool(is_so)] += 1
+    print("" if is_so else f"FAILED: {what} {more}\n", end="", flush=True)
+
+
+class Late(Exception):
+    """What was waited for did not come."""
+
+
+def tried(part, *words):
+    """What a part returns. One that does not come to its end has failed, and the next ones go on."""
+    try:
+        return part(*words)
+    except (Late, WebDriverException) as fault:
+        return check(part.__name__, False, fault)
+
+
+class Page:
+    """A tab of Chromium with the page, in a window of a size, with fingers if it is a phone's."""
+
+    def __init__(self, room, after="", size=(1300, 860), has_fingers=False):
+        options = webdriver.ChromeOptions()
+        for word in WORDS:
+            options.add_argument(word)
+        options.add_experimental_option("prefs", {"download.default_directory": str(room)})
+        options.set_capability("goog:loggingPrefs", {"browser": "ALL", "performance": "ALL"})
+        metrics = {"width": size[0], "height": size[1], "pixelRatio": 2 if has_fingers else 1}
+        metrics |= {"touch": has_fingers, "mobile": has_fingers}
+        options.add_experimental_option("mobileEmulation", {"deviceMetrics": metrics})
+        self.driver, self.room = webdriver.Chrome(options=options), room
+        self.driver.set_script_timeout(PATIENCE)
+        self.go(after)
+
+    def go(self, after):
+        self.driver.get("about:blank")
+        self.driver.get(f"file://{FILE}{after.replace(' ', '%20')}")
+        self.view = self.driver.find_element(By.ID, "view")
+        self.wait("shown.painted > 2")
+
+    def js(self, text, *values):
+        return self.driver.execute_script(NAMES + text, *values)
+
+    def wait(self, condition):
+        end = time.monotonic() + PATIENCE
+        while not (found := self.js(f"return {condition}")):
+            if time.monotonic() > end:
+                raise Late(f"{condition} did not come: {self.js('return live.notes')}")
+            time.sleep(0.02)
+        return found
+
+    def choose(self, *events, **values):
+        """Sets controls, with these events."""
+        for name, value in values.items():
+            self.js(
+                "const e = $(arguments[0]); e[e.type === 'checkbox' ? 'checked' : 'value'] = arguments[1];"
+                "for (const event of arguments[2]) e.dispatchEvent(new Event(event))",
+                name,
+                value,
+                events,
+            )
+
+    def click(self, name):
+        self.driver.find_element(By.ID, name).click()
+
+    def key(self, *keys):
+        ActionChains(self.driver).send_keys(*keys).perform()
+
+    def pause(self):
+        if self.js("return shown.isRunning"):
+            self.click("play")
+        return self.wait(
+            "shown.hashes.length && !shown.isRunning && [head.generation, shown.hashes[0]]"
+        )
+
+    def at(self, x, y):
+        """Where a place of the lattice is in the picture."""
+        return self.js(
+            "const { place } = look; return [(arguments[0] - place.x) * place.scale, (arguments[1] - place.y) * place.scale]",
+            x,
+            y,
+        )
+
+    def drag(self, tool, *places, waits=True):
+        """Draws a line over places of the lattice with a tool, and waits until the page says what came of it."""
+        self.click(tool)
+        notes = self.js("return live.notes.length")
+        width, height = self.js("return [view.clientWidth, view.clientHeight]")
+        chain = ActionChains(self.driver, duration=50)
+        for number, place in enumerate(places):
+            x, y = self.at(*place)
+            x, y = round(x - width / 2), round(y - height / 2)
+            chain.move_to_element_with_offset(self.view, x, y)
+            chain = chain if number else chain.click_and_hold()
+        chain.release().perform()
+        self.wait(f"live.notes.length > {notes}" if waits else "!live.isScheduled")
+
+    def touch(self, *moments):
+        """Moves fingers over the picture: for each moment their places in it."""
+        box = self.js("const { x, y } = view.getBoundingClientRect(); return [x, y]")
+        for number, fingers in enumerate((*moments, ())):
+            kind = "touchMove" if number else "touchStart"
+            points = [
+                {"x": x + box[0], "y": y + box[1], "id": n} for n, (x, y) in enumerate(fingers)
+            ]
+            words = {"type": kind if fingers else "touchEnd", "touchPoints": points}
+            self.driver.execute_cdp_cmd("Input.dispatchTouchEvent", words)
+
+    def saved(self, button, suffix):
+        """The file that a button saves."""
+        old = set(self.room.iterdir())
+        self.click(button)
+        for _ in range(20 * PATIENCE):
+            for file in set(self.room.glob(f"*{suffix}")) - old:
+                if file.stat().st_size:
+                    return file.read_bytes()
+            time.sleep(0.05)
+        raise Late(f"{button} saved nothing")
+
+    def open(self, text):
+        file = self.room / "given.toml"
+        file.write_text(text)
+        self.driver.find_element(By.ID, "file").send_keys(str(file))
+
+    def pixel(self, x, y):
+        """The colour of a place of the lattice on the screen."""
+        return self.js(
+            "const r = devicePixelRatio, [x, y] = arguments;"
+            "return [...view.getContext('2d').getImageData(x * r, y * r, 1, 1).data].slice(0, 3)",
+            *self.at(x, y),
+        )
+
+    def ended(self, way):
+        """Nothing was asked of other hosts, and there is no error."""
+        messages = [
+            json.loads(one["message"])["message"] for one in self.driver.get_log("performance")
+        ]
+        asked = [
+            one["params"]["request"]["url"]
+            for one in messages
+            if one["method"] == "Network.requestWillBeSent"
+        ]
+        strangers = [
+            url for url in asked if not url.startswith(("file:", "blob:", "data:", "about:"))
+        ]
+        check(f"{way}: no request leaves this computer", not strangers, strangers)
+        errors = [one for one in self.driver.get_log("browser") if one["level"] == "SEVERE"]
+        check(f"{way}: no error in the console", not errors, errors)
+        self.driver.quit()
+
+
+def begins(page):
+    """What is seen first."""
+    page.wait("head.generation > 20")
+    page.js(
+        "window.sent = shown.painted + shown.queue.length;"
+        "fhpgas.worker.addEventListener('message', ({ data }) => { sent += data.name === 'frames'; })"
+    )
+    moved = page.js("return performance.getEntriesByName('moved')[0]")
+    check("one of the first two pictures has moved", moved["detail"] <= 2, moved["detail"])
+    print(f"first motion after {moved['startTime']:.0f} ms")
+    wanted = "proved" if (FILE.parent / "engine.js").exists() else "script"
+    check(
+        "the kernel is the one that is there, and the page says which",
+        page.wait("live.engine") == wanted,
+    )
+    check(
+        "it says so",
+        page.js("return said.engine").startswith(
+            {"proved": "The proved", "script": "The kernel"}[wanted]
+        ),
+    )
+    look = "return [...view.getContext('2d').getImageData(0, 0, view.width, 300).data].reduce((a, b, i) => (a * 31 + b * (i % 7)) | 0, 0)"
+    first = page.js(look)
+    page.wait(f"head.generation > {page.js('return head.generation') + 20}")
+    check("the picture moves", page.js(look) != first)
+    check(
+        "each frame of the worker is painted or waits for its turn",
+        page.js("return sent === shown.painted + shown.queue.length"),
+    )
+    check("the wind is kept", abs(page.js("return head.u") - 0.14) < 0.02, page.js("return head.u"))
+    page.click("turn")
+    page.wait("head.direction < 0 || head.found !== null")
+    found = page.wait("head.found !== null && [head.found, head.generation]")
+    check("the first screen goes back to its start", found == [0, 0], found)
+    page.click("bare")
+    check(
+        "the picture without controls fills the window",
+        page.js("return view.clientWidth === innerWidth && view.clientHeight === innerHeight"),
+    )
+    page.key("q")
+    check("a key shows the controls again", page.js("return view.clientHeight < innerHeight"))
+    check("three numbers are shown", page.js("return $('numbers').children.length") == 3)
+    page.key("=")
+    check(
+        "a key opens all numbers", "force per fluid cell" in page.js("return $('all').textContent")
+    )
+    page.key("=")
+
+
+def edits(page):
+    """Obstacles are drawn, erased, undone and cleared. Returns the generation of a pause, the scene of then, and an address with
+    the number of solid cells that were there."""
+    page.choose("change", keep=False)
+    particles, solid = page.wait(
+        "head.wind === null && [head.particles, head.width * head.height - head.fluid]"
+    )
+    page.wait("head.generation > 100")
+    page.drag("draw", (120, 30), (150, 60), (170, 90))
+    drawn = page.wait(
+        f"head.width * head.height - head.fluid > {solid} + 500 && head.width * head.height - head.fluid"
+    )
+    check(
+        "an obstacle is drawn while it runs",
+        "particles were beneath" in page.js("return live.notes.at(-1)"),
+    )
+    page.click("undo")
+    page.wait(f"head.width * head.height - head.fluid === {solid}")
+    check("a stroke is undone", page.js("return head.particles") == particles)
+    page.drag("draw", (120, 30), (150, 60), (170, 90))
+    page.drag("erase", (150, 60), (160, 70))
+    page.wait(f"head.width * head.height - head.fluid < {drawn}")
+    page.js(
+        "window.kept = fhpgas.worker.onmessage, window.held = [], fhpgas.worker.onmessage = (event) => held.push(event)"
+    )
+    page.drag("draw", (200, 90), waits=False)
+    check(
+        "a click is shown before the gas has it", page.pixel(200, 90) == SOLID, page.pixel(200, 90)
+    )
+    page.js("fhpgas.worker.onmessage = kept, held.forEach(kept)")
+    link, solid = page.wait(
+        "!marks.pieces.length && head.runs && location.hash.endsWith(`&runs=${head.runs}`)"
+        " && [location.hash, head.width * head.height - head.fluid]"
+    )
+    page.drag("dense", (200, 40))
+    check("particles stay as many", particles == page.js("return head.particles"))
+    page.choose("change", chirality="right")
+    page.wait("head.chirality === 'right'")
+    generation, _ = page.pause()
+    check(
+        "how pairs turn changes in the same cells",
+        generation > 100 and page.js("return head.particles") == particles,
+    )
+    return generation, page.saved("save", ".toml"), link, solid
+
+
+def continues(page, first, scene):
+    """The program continues the scene to the page's cells, and then time turns."""
+    page.choose("change", pace="50"), page.click("play")
+    page.wait(f"head.generation >= {max(1000, first + 100)}")
+    last, found = page.pause()
+    told = page.js("return $('numbers').textContent")
+    check("the numbers are of the cells that rest", told.startswith(f"{last:,}generation"), told)
+    words = [PROGRAM, "run", "--generations", str(last - first)]
+    ran = subprocess.run(words, input=scene, stdout=subprocess.PIPE, check=True)
+    check(
+        "the program continues the saved scene to the page's cells",
+        found == hashlib.sha256(ran.stdout).hexdigest(),
+        (first, last),
+    )
+    check("the obstacle is in the saved scene", scene.count(b"##") + scene.count(b"\n") > 500)
+    page.click("turn")
+    found = page.wait("head.found !== null && [head.found, head.generation]")
+    check(f"{last} generations back, through all edits", found == [0, 0], found)
+    page.click("play"), page.wait("head.generation >= 500"), page.choose("change", pace="1")
+    page.click("turn"), page.click("play")
+    page.drag("flip", (60, 60)), page.choose("change", pace="50"), page.click("play")
+    check(
+        "with one particle turned it does not return",
+        page.wait("head.found !== null && head.found") > 100,
+    )
+
+
+def seeded(page):
+    """A seeded gas says why it does not go back, and goes on with left from the same cells. Another gas, or a new start."""
+    page.go(QUICK + "&chirality=seeded")
+    page.wait("head.generation > 50 && head.chirality === 'seeded'")
+    page.click("turn")
+    check(
+        "a seeded gas does not go back, and says why",
+        "random bits only run forwards" in page.js("return live.notes.at(-1)"),
+    )
+    page.click("offer")
+    generation = page.wait("head.chirality === 'left' && head.generation")
+    check("it goes on with left from these cells", generation > 50)
+    page.choose("change", gas="fhp-rest")
+    check(
+        "a gas changes in the same cells",
+        page.wait("head.gas === 'fhp-rest' && head.generation") >= generation,
+    )
+    particles = page.js("return head.particles")
+    page.choose("change", gas="hpp")
+    page.wait("head.gas === 'hpp'")
+    check(
+        "what cannot be a gas's cells is a new start, and the page says so",
+        "new start" in page.wait("live.notes.at(-1)"),
+    )
+    page.click("undo")
+    check(
+        "a new start is undone", page.wait("head.gas === 'fhp-rest' && head.particles") == particles
+    )
+    check("the controls too", page.js("return $('gas').value") == "fhp-rest")
+
+
+def cells(page):
+    """Single cells, and half steps. A scene that is refused. Files."""
+    page.open(KNOWN)
+    page.wait("head.width === 6 && head.cells && !motion.isOn && !shown.queue.length")
+    alone, meets, fluid = (
+        page.pixel(-0.28, 0),
+        page.pixel(1.5 + 0.28, 0.866),
+        page.pixel(3.5 - 0.28, 0.866),
+    )
+    check(
+        "single cells show their particles",
+        alone == page.pixel(3 + 0.15, 2 * 0.866 + 0.25) == [11, 60, 102],
+        alone,
+    )
+    check(
+        "colliding ones are orange, empty cells are empty",
+        meets == [209, 72, 15] and min(fluid) > 200,
+        (meets, fluid),
+    )
+    check(
+        "solid cells are drawn where they are", page.pixel(5, 0) == page.pixel(5.5, 0.866) == SOLID
+    )
+    page.click("half"), page.wait("motion.phase === 1 && !live.isScheduled")
+    check("half a step shows the pair turned", page.pixel(1.5 + 0.15, 0.866 - 0.25) == meets)
+    notes = page.js("return live.notes.length")
+    page.open(KNOWN.replace("01", "41"))
+    note = page.wait(f"live.notes.length > {notes} && live.notes.at(-1)")
+    check("a scene that is refused", note == "this page does not read cell 0 of row 0", note)
+    paste = "const data = new DataTransfer(); data.setData('text', arguments[0]);"
+    page.js(
+        paste + "document.dispatchEvent(new ClipboardEvent('paste', { clipboardData: data }))",
+        'gas = "hpp"\nwidth = 9\nheight = 8\nrate = 100\n',
+    )
+    check("a scene is pasted", page.wait("head.width === 9 && head.gas") == "hpp")
+    page.js(paste + "document.dispatchEvent(new DragEvent('drop', { dataTransfer: data }))", KNOWN)
+    check("a scene is dropped", page.wait("head.width === 6 && head.gas") == "fhp1")
+    check("a picture", page.saved("picture", ".png")[:8] == b"\x89PNG\r\n\x1a\n")
+    page.click("film"), page.click("play"), page.wait("head.generation > 3000")
+    check("a film", page.saved("film", ".webm")[:4] == b"\x1aE\xdf\xa3")
+
+
+def probe(page):
+    """The words of the probe stand beside its chart, whole."""
+    page.go(QUICK)
+    page.click("probe")
+    x, y = page.at(100, 60)
+    size = page.view.size
+    place = round(x - size["width"] / 2), round(y - size["height"] / 2)
+    ActionChains(page.driver).move_to_element_with_offset(page.view, *place).click().perform()
+    page.wait("marks.samples.length > 5 && $('found').textContent.includes('no period yet')")
+    edges = page.js(
+        "const [chart, words] = $('probed').children, box = words.getBoundingClientRect();"
+        "return [chart.getBoundingClientRect().right, box.left, words.scrollWidth - words.clientWidth, box.right, innerWidth]"
+    )
+    check(
+        "nothing of them is cut off",
+        edges[0] <= edges[1] and edges[2] == 0 and edges[3] <= edges[4],
+        edges,
+    )
+
+
+def keyboard(page):
+    """Focused controls keep their keys."""
+    page.go(QUICK)
+    page.js("$('erase').focus()")
+    page.key(Keys.SPACE)
+    check(
+        "Space presses the focused button",
+        page.js("return chosen.tool === 'erase' && shown.isRunning"),
+    )
+    page.js("$('wind').focus()")
+    page.key(Keys.ARROW_RIGHT)
+    check(
+        "arrows move the focused slider, and it keeps the focus",
+        page.js("return [$('wind').value, document.activeElement.id]") == ["0.16", "wind"],
+    )
+    check(
+        "it says its value",
+        page.js("return $('smooth').getAttribute('aria-valuetext')").endswith("cells"),
+    )
+    serial = page.js("return shown.serial")
+    page.js("$('scene').focus()")
+    page.key("v")
+    check(
+        "a letter in a list is the list's",
+        page.js("return $('scene').value === 'vortex street' && $('film').textContent === 'filmv'"),
+    )
+    page.wait(f"shown.serial > {serial}")
+    page.js("document.activeElement.blur()")
+
+
+def address(page):
+    """The address keeps the state. Controls have names and keys of their own. A page that nobody sees rests."""
+    page.choose("change", scene="porous medium"), page.wait("head.wind === 0.04")
+    page.choose("input", wind="0.06"), page.wait(
+        "head.wind === 0.06 && location.hash.includes('wind=0.06')"
+    )
+    page.driver.refresh()
+    page.wait("shown.painted > 2")
+    check(
+        "the address keeps the state",
+        page.js("return [head.wind, $('scene').value, head.gas]")
+        == [0.06, "porous medium", "fhp1"],
+    )
+    bare = "return [...document.querySelectorAll('button, select, input')].filter((e) => e.id !== 'file' && !(e.ariaLabel && e.getAttribute('aria-keyshortcuts'))).map((e) => e.id)"
+    check("every control has a name and a key", not (found := page.js(bare)), found)
+    keys = page.js(
+        "return [...document.querySelectorAll('[aria-keyshortcuts]')].map((e) => e.getAttribute('aria-keyshortcuts'))"
+    )
+    check("no key is of two controls", len(keys) == len(set(keys)), sorted(keys))
+    page.js(
+        "window.kept = requestAnimationFrame, window.requestAnimationFrame = () => 0; fhpgas.live.isScheduled = false;"
+        "kept(() => { window.isPast = true; })"  # after what was asked for before
+    )
+    page.wait("window.isPast && shown.queue.length === 2")  # as many as the worker sends ahead
+    first = page.js("return head.generation")
+    time.sleep(0.5)
+    check("a page that is not painted rests", page.js("return head.generation") == first)
+
+
+def phone(room):
+    """A phone, held upright and on its side."""
+    page = Page(room, size=(390, 844), has_fingers=True)
+    check(
+        "the picture has 90 % of a phone's width",
+        page.js(
+            "return head.width * look.place.scale >= 0.9 * innerWidth && document.documentElement.scrollWidth <= innerWidth"
+        ),
+    )
+    solid = page.js("return head.width * head.height - head.fluid")
+    page.touch([(200, 120)], [(220, 130)], [(240, 150)])
+    page.wait(f"head.width * head.height - head.fluid > {solid}")
+    check("one finger draws", True)
+    scale, solid = page.wait(
+        "!marks.pieces.length && [look.place.scale, head.width * head.height - head.fluid]"
+    )
+    page.touch([(150, 150), (250, 150)], [(100, 150), (300, 150)])
+    check("two fingers zoom", abs(page.js("return look.place.scale") / scale - 2) < 0.05)
+    check("and draw nothing", page.js("return head.width * head.height - head.fluid") == solid)
+    page.click("drawer")
+    check("a drawer opens", page.driver.find_element(By.ID, "gas").is_displayed())
+    page.click("drawer")
+    check("and closes", not page.driver.find_element(By.ID, "gas").is_displayed())
+    page.driver.execute_cdp_cmd(
+        "Emulation.setDeviceMetricsOverride",
+        {"width": 844, "height": 390, "deviceScaleFactor": 2, "mobile": True},
+    )
+    page.go("")
+    wide = page.js("return head.width * look.place.scale / innerWidth")
+    check("on its side too", 0.9 <= wide <= 1, wide)
+    page.click("turn")
+    check("the gas turns", page.wait("head.direction < 0 || head.found === 0"))
+    page.ended("phone")
+
+
+def large(room):
+    page = Page(room, "#scene=an L that comes back", (1920, 1080))
+    page.wait("head.generation > 100")
+    wide = page.js("return $('play').clientWidth")
+    page.pause()
+    check("buttons keep their width", page.js("return $('play').clientWidth") == wide)
+    page.click("turn")
+    check(
+        "the L comes back",
+        page.wait("head.found !== null && [head.found, head.generation]") == [0, 0],
+    )
+    page.choose("change", scene="HPP's square beside FHP's ring")
+    check(
+        "two gases have both their numbers",
+        page.wait(
+            "shown.frames.length === 2 && $('numbers').children[1].textContent.startsWith('–')"
+        ),
+    )
+    page.ended("large")
+
+
+SELF_TEST = """
+const until = async (isSo) => { for (let n = 0; n < 2000 && !isSo(); n++) await new Promise((go) => setTimeout(go, 30)); return isSo(); };
+(async () => {
+  const { $, shown, head, live, look } = fhpgas, said = (what, isSo) => dump(`RESULT ${isSo ? 1 : 0} ${what}\\n`);
+  const event = (kind, x, y) => $("view").dispatchEvent(new PointerEvent(kind, { clientX: x, clientY: y, pointerId: 1, pointerType: "mouse", bubbles: true }));
+  $("view").setPointerCapture = () => 0;
+  said("it moves", await until(() => head()?.generation > 50));
+  $("draw").click();
+  const solid = head().width * head().height - head().fluid, box = $("view").getBoundingClientRect();
+  const place = (x, y) => [box.x + (x - look.place.x) * look.place.scale, box.y + (y - look.place.y) * look.place.scale];
+  event("pointerdown", ...place(150, 40)), event("pointermove", ...place(170, 70)), event("pointerup", ...place(170, 70));
+  said("a stroke is drawn", await until(() => head().width * head().height - head().fluid > solid));
+  $("turn").click();
+  said("it comes back", await until(() => head().found === 0 && head().generation === 0));
+  said("the kernel is the one that is there", await until(() => live.engine === "@ENGINE@"));
+  dump("RESULT end\\n");
+})();
+"""
+
+
+def firefox(room):
+    """In Firefox a copy of the page tests itself, and dumps what it finds. Its policy allows the test too."""
+    program = shutil.which("firefox-esr") or shutil.which("firefox")
+    if not program:
+        return ["firefox-esr is missing"]
+    engine = FILE.parent / "engine.js"
+    script = SELF_TEST.replace("@ENGINE@", "proved" if engine.exists() else "script")
+    code = base64.b64encode(hashlib.sha256(script.encode()).digest()).decode()
+    text = re.sub("(script-src )", rf"\1'sha256-{code}' ", FILE.read_text("utf-8"), count=1)
+    (room / "page.html").write_text(
+        text.replace("</html>", f"<script>{script}</script>\n</html>"), "utf-8"
+    )
+    if engine.exists():
+        shutil.copy(engine, room)
+    (room / "user.js").write_text(
+        'user_pref("browser.dom.window.dump.enabled", true);\nuser_pref("browser.shell.checkDefaultBrowser", false);\n'
+    )
+    words = [
+        program,
+        "--headless",
+        "--no-remote",
+        "--profile",
+        str(room),
+        f"file://{room}/page.html{QUICK.replace(' ', '%20')}",
+    ]
+    found = []
+    with subprocess.Popen(
+        words, stdout=subprocess.PIPE, stderr=subprocess.DEVNULL, text=True
+    ) as browser:
+        try:
+            for line in browser.stdout:
+                found += re.findall("RESULT (.*)", line)
+                if found[-1:] == ["end"]:
+                    break
+        finally:
+            browser.terminate()
+    for line in found[:-1]:
+        check(f"Firefox: {line[2:]}", line[0] == "1")
+    check("Firefox tested all", len(found) == 5, found)
+    return []
+
+
+def desk(room):
+    """A window on a desk."""
+    page = Page(room)
+    tried(begins, page)
+    page.go(QUICK)
+    if edited := tried(edits, page):
+        *paused, link, solid = edited
+        tried(continues, page, *paused)
+        page.go(link)
+        found = page.js("return head.width * head.height - head.fluid")
+        check("the address keeps what was drawn", found == solid, (found, solid))
+    for part in seeded, cells, probe, keyboard, address:
+        tried(part, page)
+    page.ended("desk")
+
+
+def main():
+    with tempfile.TemporaryDirectory() as folder:
+        for part in desk, phone, large:
+            tried(part, pathlib.Path(folder))
+    with tempfile.TemporaryDirectory() as folder, contextlib.suppress(OSError):
+        left_out = firefox(pathlib.Path(folder))
+    return needs.told(counts[True], counts[False], *left_out)
+
+
+sys.exit(main())

@@ -1,0 +1,131 @@
+// Compares the page's kernels with the program, bit for bit, and its key stream with RFC 8439: the one in JavaScript, and, where `make`
+// left page/engine.js, the proved engine.
+//   node tests/page/kernel.mjs        the program is FHPGAS, or ./fhpgas
+import { spawnSync } from "node:child_process";
+import { existsSync, readFileSync, readdirSync } from "node:fs";
+import { Flow } from "../../page/src/flow.js";
+import { GASES, SOLID } from "../../page/src/gases.js";
+import { ProvedKernel, ScriptKernel } from "../../page/src/kernel.js";
+import { block } from "../../page/src/keystream.js";
+import { fillStates, printed, readScene, sceneOf } from "../../page/src/scenes.js";
+import { gathered, sumsOf } from "../../page/src/sums.js";
+import { check, end, tried } from "../lib/checks.mjs";
+import { lots } from "../lib/random_numbers.mjs";
+
+const root = new URL("../..", import.meta.url).pathname, program = process.env.FHPGAS ?? `${root}fhpgas`;
+const kernels = { script: (...size) => new ScriptKernel(...size) };
+if (existsSync(`${root}page/engine.js`)) {
+  new Function(readFileSync(`${root}page/engine.js`, "utf8"))();
+  const module = new WebAssembly.Module(Buffer.from(globalThis.FHPGAS_ENGINE, "base64"));
+  kernels.proved = (...size) => new ProvedKernel(module, ...size);
+} else console.log("the engine is left out, because page/engine.js is missing: run make");
+const MAPS = 200, AREAS = 18;
+
+// The line that the program prints first, and its rows.
+function run(scene, generations) {
+  const words = ["run", "--generations", generations, "--stages", 4, "--capacity", 64].map(String);
+  const done = spawnSync(program, words, { input: scene, maxBuffer: 1 << 28 });
+  if (done.status !== 0) throw new Error(`${done.error ?? done.stderr}`);
+  return done.stdout.toString().trimEnd().split("\n");
+}
+
+// Whether the sums of blocks are those of the program's table.
+function sameSums(flow, wide, tall) {
+  const words = ["coarse", "--generations", "0", "--block-width", `${wide}`, "--block-height", `${tall}`];
+  const done = spawnSync(program, words, { input: sceneOf(flow).replace(/generation = .*/, "generation = 0"), maxBuffer: 1 << 28 });
+  const [, ...rows] = done.stdout.toString().trimEnd().split("\n"), { numbers } = sumsOf(flow.kernel, wide, tall);
+  const totals = flow.totals(), sum = (part) => numbers.filter((_, k) => k % 4 === part).reduce((a, b) => a + b, 0);
+  const isWhole = totals.every((total, part) => total === sum(part)) && (wide < 4 || String(gathered(sumsOf(flow.kernel, 4, 1), wide, tall).numbers) === String(numbers));
+  return isWhole && done.status === 0 && rows.every((row, i) => row.split(/[\s,]+/).slice(-4).every((value, k) => Number(value) === numbers[4 * i + k]));
+}
+
+const textOf = (keys) => Object.entries(keys).map(([key, value]) => `${key} = ${value}\n`).join("");
+const spelled = (state) => (state === SOLID ? "##" : state ? state.toString(16).padStart(2, "0") : "..");
+const rowsOf = (cells, width, height) => Array.from({ length: height }, (_, y) =>
+  Array.from(cells.subarray(y * width, (y + 1) * width), spelled).join(""));
+
+function drawn(random, gas, width, height) {
+  const cells = new Uint8Array(width * height), rate = random.of([0.02, 0.1, 0.2, 0.35, 0.6]);
+  const singles = random.of([0, 0.001, 0.03]);
+  for (let at = 0; at < width * height; at++) {
+    for (let i = 0; i < gas.directions; i++) if (random.chance() < rate) cells[at] |= 1 << i;
+    if (random.chance() < singles) cells[at] = SOLID;
+  }
+  for (let n = random.below(5); n > 0; n--) {
+    const [left, top] = [width, height].map(random.below), [w, h] = [40, 20].map(random.below);
+    const across = Math.min(width, left + w + 1) - left;
+    for (let y = top; y <= Math.min(height - 1, top + h); y++) cells.fill(SOLID, y * width + left, y * width + left + across);
+  }
+  return cells;
+}
+
+const WIDTHS = [1, 2, 3, 7, 31, 32, 33, 47, 63, 64, 65, 95, 96, 97, 128, 129, 161, 255, 257], HEIGHTS = [1, 2, 3, 5, 8, 16, 33, 64];
+function map(number) {
+  const random = lots(number), gas = Object.values(GASES)[number % 3];
+  const chirality = ["seeded", "left", "right"][Math.floor(number / 3) % 3];
+  const width = random.of(WIDTHS), height = random.of(HEIGHTS), generations = 100 + random.below(400);
+  const first = random.of([0, 1, 2 ** 32 - 100, 10 ** 12]);
+  const seed = random.of([0n, 1n, 2n ** 32n, 2n ** 63n - 1n, BigInt(random.below(2 ** 32)) << 20n]);
+  const cells = drawn(random, gas, width, height);
+  const keys = { version: 2, gas: `"${gas.name}"`, chirality: `"${chirality}"`, seed, generation: first };
+  const [line, ...theirs] = run(textOf({ ...keys, cells: JSON.stringify(rowsOf(cells, width, height)) }), generations);
+  for (const [kernel, make] of Object.entries(kernels)) {
+    const flow = new Flow(make(gas, width, height), { chirality, seed: String(seed), generation: first });
+    flow.cells.fill(cells);
+    flow.begin();
+    for (let left = generations; left > 0; left -= 37) flow.advance(Math.min(37, left));
+    const name = `map ${number}, ${kernel}: ${gas.name}, ${chirality}, ${width} x ${height}, ${generations} generations`;
+    check(name, printed(flow) === `${line}\n${theirs.join("\n")}\n`);
+    const [wide, tall] = [random.of([1, 2, 4, 8, 16, 32]), 1 + random.below(height)];
+    check(`sums of ${name}`, sameSums(flow, wide, tall));
+  }
+}
+for (let number = 0; number < MAPS; number++) tried(`map ${number}`, () => map(number));
+
+// the filling of areas
+function area(number) {
+  const random = lots(1000 + number), gas = Object.values(GASES)[number % 3];
+  const width = random.of(WIDTHS), height = random.of(HEIGHTS), rate = random.of([0, 1, 200, 500, 999, 1000]);
+  const seed = random.of([0n, 7n, 2n ** 63n - 1n]);
+  const cells = new Uint8Array(width * height);
+  cells[0] = SOLID;
+  fillStates(gas, cells, seed, Array(gas.directions).fill(rate));
+  const [, ...theirs] = run(textOf({ gas: `"${gas.name}"`, width, height, rate, seed, solid: "[[0, 0, 1, 1]]" }), 0);
+  check(`area ${number}: ${gas.name}, ${width} x ${height}`, rowsOf(cells, width, height).join("\n") === theirs.join("\n"));
+}
+for (let number = 0; number < AREAS; number++) tried(`area ${number}`, () => area(number));
+
+// the scenes of the repository, as the page reads them
+function scene(name) {
+  const text = readFileSync(`${root}scenes/${name}`, "utf8"), { states, width, height } = readScene(text, 1 << 20);
+  check(`scenes/${name}`, rowsOf(states, width, height).join("\n") === run(text, 0).slice(1).join("\n"));
+}
+for (const name of readdirSync(`${root}scenes`).filter((file) => file.endsWith(".toml"))) tried(name, () => scene(name));
+
+// RFC 8439: the block of 2.3.2, and the test vectors 1 to 5 of appendix A.1
+const hex = (text) => Uint8Array.from(text.match(/../g), (two) => parseInt(two, 16));
+const zeros = (count) => "00".repeat(count);
+const VECTORS = [
+  ["000102030405060708090a0b0c0d0e0f101112131415161718191a1b1c1d1e1f", 1, "000000090000004a00000000",
+    "10f1e7e4d13b5915500fdd1fa32071c4c7d1f4c733c068030422aa9ac3d46c4ed2826446079faa0914c2d705d98b02a2b5129cd1de164eb9cbd083e8a2503c4e"],
+  [zeros(32), 0, zeros(12),
+    "76b8e0ada0f13d90405d6ae55386bd28bdd219b8a08ded1aa836efcc8b770dc7da41597c5157488d7724e03fb8d84a376a43b8f41518a11cc387b669b2ee6586"],
+  [zeros(32), 1, zeros(12),
+    "9f07e7be5551387a98ba977c732d080dcb0f29a048e3656912c6533e32ee7aed29b721769ce64e43d57133b074d839d531ed1f28510afb45ace10a1f4b794d6f"],
+  [zeros(31) + "01", 1, zeros(12),
+    "3aeb5224ecf849929b9d828db1ced4dd832025e8018b8160b82284f3c949aa5a8eca00bbb4a73bdad192b5c42f73f2fd4e273644c8b36125a64addeb006c13a0"],
+  ["00ff" + zeros(30), 2, zeros(12),
+    "72d54dfbf12ec44b362692df94137f328fea8da73990265ec1bbbea1ae9af0ca13b25aa26cb4a648cb9b9d1be65b2c0924a66c54d545ec1b7374f4872e99f096"],
+  [zeros(32), 0, zeros(11) + "02",
+    "c2c64d378cd536374ae204b9ef933fcd1a8b2288b3dfa49672ab765b54ee27c78a970e0e955c14f3a88e741b97c286f75f8fc299e8148362fa198a39531bed6d"],
+];
+for (const [key, counter, nonce, wanted] of VECTORS) {
+  const state = new Int32Array(16), bytes = new DataView(state.buffer), out = new Int32Array(16);
+  [0x61707865, 0x3320646e, 0x79622d32, 0x6b206574].forEach((word, i) => bytes.setUint32(4 * i, word, true));
+  hex(key).forEach((byte, i) => bytes.setUint8(16 + i, byte));
+  bytes.setUint32(48, counter, true);
+  hex(nonce).forEach((byte, i) => bytes.setUint8(52 + i, byte));
+  block(state, out, 0);
+  check(`RFC 8439, counter ${counter}`, Buffer.from(out.buffer).equals(Buffer.from(hex(wanted))));
+}
+end(MAPS);

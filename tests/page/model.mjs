@@ -1,0 +1,200 @@
+// Tries what the page computes beside its kernels: the way back through random histories, the drive, the probe, and each number
+// that is shown. Then builds the page again, if esbuild has the version of page/build.mjs, and checks its types.
+//   node tests/page/model.mjs [HISTORIES] [RUNS OF NOISE]
+//
+// number                        | known from
+// viscosity ν                   | Frisch and others, Complex Systems 1 (1987) 649, as docs/PHYSICS.md has it
+// factor g, Reynolds, Mach      | docs/EXPERIMENTS.md, the street: another program, in Python
+// Strouhal, its error           | the same; and waves of a known period
+// particles, fluid, u, v, force | the program's own sums of the same cells
+// filling                       | what the cells were filled with
+// fastest block, incoming, blocked part | a drawn flow whose speed is one, and the geometry of a disc
+// generation, differing cells   | counted here
+// updates, frames per second    | tests/page/browser.py, by the clock of the browser
+import { spawnSync } from "node:child_process";
+import { mkdtempSync, readFileSync, rmSync } from "node:fs";
+import { Flow } from "../../page/src/flow.js";
+import { Watched } from "../../page/src/frames.js";
+import { GASES, SOLID } from "../../page/src/gases.js";
+import { ScriptKernel } from "../../page/src/kernel.js";
+import { CORRELATED, numbersOf, strouhal, viscosity } from "../../page/src/numbers.js";
+import { periodOf } from "../../page/src/probe.js";
+import { readScene, sceneOf } from "../../page/src/scenes.js";
+import { drawn } from "../../page/src/starts.js";
+import { Stroke, cleared, dense, flipOne } from "../../page/src/tools.js";
+import { check, end, near, tried } from "../lib/checks.mjs";
+import { lots } from "../lib/random_numbers.mjs";
+
+const root = new URL("../..", import.meta.url).pathname, [histories = 60, noises = 12] = process.argv.slice(2).map(Number);
+const make = (...size) => new ScriptKernel(...size);
+
+// -- the way back, through whatever was done
+
+function history(number) {
+  const random = lots(number), gas = random.of(Object.values(GASES)), width = random.of([5, 31, 32, 64, 97, 130]), height = 3 + random.below(60);
+  const wind = random.chance() < 0.5 ? random.of([0, 0.1, 0.2]) : null;
+  const start = { gas: gas.name, chirality: gas.isHexagonal ? random.of(["left", "right"]) : "seeded", width, height, wind, keep: wind !== null,
+    filling: random.of([0.1, 0.2, 0.3]), shape: random.of(["none", "disc", "plate"]), radius: 2 + random.below(8), seed: String(number) };
+  const flow = drawn(make, { ...start, wind: wind ?? 0 }), first = flow.cells.kept(), particles = flow.totals()[1], strokes = [];
+  const place = () => [random.below(width), random.below(height) * gas.apart];
+  for (let n = 3 + random.below(8); n > 0; n--) {
+    const kind = random.below(9);
+    if (kind < 2) flow.advance(random.below(40));
+    else if (kind < 4) {
+      const stroke = new Stroke();
+      stroke.add(flow, { from: place(), to: place(), radius: 1 + random.below(4), solid: random.chance() < 0.7 });
+      strokes.push(stroke);
+    } else if (kind === 4) dense(flow, { at: place(), radius: 1 + random.below(5) });
+    else if (kind === 5) flipOne(flow, place());
+    else if (kind === 6) strokes.pop()?.undo(flow);
+    else if (kind === 7 && gas.isHexagonal) flow.setChirality(random.of(["left", "right"]));
+    else if (kind === 7) cleared(flow);
+    else if (flow.generation > 0) {
+      flow.back();
+      if (flow.found !== null) return check(`history ${number}: one step back`, flow.found === 0 && flow.cells.differing(first) === 0);
+    }
+  }
+  check(`history ${number}: particles`, flow.totals()[1] === particles);
+  const copy = readScene(sceneOf(flow), 1 << 20), isEqual = (state, at) => state === flow.cells.state(at);
+  check(`history ${number}: its scene is read back`, copy.states.every(isEqual) && copy.generation === flow.generation);
+  flow.turn();
+  if (flow.found === null) flow.advance(flow.generation + 1);
+  check(`history ${number}: back at its start`, flow.found === 0 && flow.generation === 0 && flow.cells.differing(first) === 0,
+    `${flow.found} cells differ at ${flow.generation}`);
+}
+for (let number = 0; number < histories; number++) tried(`history ${number}`, () => history(number));
+
+// A small memory of patches is cut, and the gas comes back to where it still reaches.
+tried("a way back that was cut", () => {
+  const flow = drawn(make, { gas: "fhp1", chirality: "left", width: 128, height: 64, filling: 0.2, wind: 0.1, keep: true, shape: "porous", radius: 4, seed: "3" });
+  flow.history.most = 20000;
+  flow.advance(300);
+  const { origin: { generation: origin } } = flow.history;
+  flow.turn();
+  flow.advance(1000);
+  check("a way back that was cut", origin > 0 && flow.generation === origin && flow.found === 0 && flow.notes.some((note) => note.includes("64 MB")),
+    [origin, flow.generation, flow.found]);
+});
+
+// One particle turned on the way changes what comes back.
+tried("one particle turned on the way back", () => {
+  const flow = drawn(make, { gas: "fhp1", chirality: "left", width: 128, height: 64, filling: 0.2, wind: 0, keep: false, shape: "letter", radius: 4, seed: "3" });
+  flow.advance(200);
+  flow.turn();
+  flipOne(flow, [60, 30]);
+  flow.advance(1000);
+  check("one particle turned on the way back", flow.generation === 0 && flow.found > 100, flow.found);
+});
+
+// -- the drive
+
+const porous = { gas: "fhp1", chirality: "left", width: 256, height: 128, filling: 0.2, wind: 0.1, keep: true, shape: "porous", radius: 6, seed: "1" };
+const atPace = (pace) => {
+  const flow = drawn(make, porous);
+  for (let g = 0; g < 400; g += pace) flow.advance(pace);
+  return [flow.drive.velocity.found, flow.drive.force.found];
+};
+tried("porous flow", () => {
+  const forces = [1, 10, 200].map(atPace);
+  check("porous flow at paces 1, 10 and 200 has one force", forces.every((one) => String(one) === String(forces[0])) && forces[0][1] > 0.001, forces);
+});
+
+// -- numbers
+
+const frameOf = (flow, generations = 1) => new Watched(flow).frame({ field: "speed", block: 8, smooth: 0, span: 1, window: null }, generations);
+near("ν of fhp1, seeded", viscosity("fhp1", 0.3, "seeded"), 1 / (12 * 0.3 * 0.7 ** 3) - 1 / 8, 1e-12);
+near("ν of fhp1, left", viscosity("fhp1", 0.3, "left"), 1 / (16 * 0.3 * 0.7 ** 3) - 1 / 8, 1e-12);
+near("ν of fhp-rest", viscosity("fhp-rest", 0.2, "seeded"), 1 / (28 * 0.2 * 0.8 ** 3 * (1 - 0.8 / 7)) - 1 / 8, 1e-12);
+const street = { gas: "fhp-rest", directions: 7, fluid: 1000, particles: 1260, u: 0.299, v: 0, chirality: "seeded", fastest: 0.374 };
+const numbers = numbersOf(street, 160);
+near("g", numbers.g, 0.455, 0.0005);
+near("Reynolds", numbers.reynolds, 79, 0.5);
+near("Mach", numbers.mach, 0.46, 0.005);
+near("Mach of the fastest block", numbers.fastestMach, 0.57, 0.005);
+check("its warning", numbers.warnings.some((text) => text.startsWith("Mach 0.57")));
+near("Strouhal of the mean speed", strouhal(160, 2 * 2383, numbers.g, 0.299), 0.247, 0.001);
+near("Strouhal of the incoming speed", strouhal(160, 2 * 2383, numbers.g, 0.374), 0.198, 0.001);
+const theory = readFileSync(`${root}python/fhpgas/theory.py`, "utf8");
+for (const [gas, sides] of Object.entries(CORRELATED)) {
+  for (const [side, [low, high]] of Object.entries(sides)) {
+    const line = theory.split("\n").find((text) => text.includes(`("${gas}", "${side}"): (`));
+    check(`the fillings at which ${gas} ${side} warns`, String(line?.match(/: \((.*)\),/)?.[1].split(", ").map(Number)) === `${low},${high}`, line);
+  }
+}
+const thin = (gas, particles) => numbersOf({ ...street, gas, directions: 6, particles, u: 0.1, fastest: 0.1 }, 100).warnings.length;
+check("a thin fhp1 warns, a dense one does not", thin("fhp1", 600) === 1 && thin("fhp1", 1200) === 0);
+check("hpp has no Reynolds number", numbersOf({ ...street, gas: "hpp", directions: 4 }, 100).reynolds === undefined);
+tried("the program's sums of the same cells", () => {
+  const start = { gas: "fhp-rest", chirality: "seeded", width: 256, height: 128, filling: 0.18, wind: 0.2, keep: true, shape: "disc", radius: 11, seed: "1" };
+  const program = process.env.FHPGAS ?? `${root}fhpgas`, flow = drawn(make, start), input = sceneOf(flow);
+  const words = ["coarse", "--generations", "1", "--block-width", "256", "--block-height", "128"];
+  const [fluid, particles, px, py] = spawnSync(program, words, { input }).stdout.toString().trim().split("\n")[1].trim().split(/ +/).slice(2).map(Number);
+  flow.advance(1);
+  const frame = frameOf(flow), kicks = Math.round((0.2 * particles - px / 2) / 2);
+  check("fluid and particles", frame.fluid === fluid && frame.particles === particles);
+  near("u before the turning", frame.u, px / 2 / particles, 1e-9);
+  near("v", frame.v, (py * Math.sqrt(3)) / 2 / particles, 1e-9);
+  near("the force", frame.force, (2 * kicks) / fluid, 1e-9);
+  near("filling", frame.middle, 0.18, 0.003);
+  flow.turn();
+  near("u on the way back", frameOf(flow, 0).u, -(px + 4 * kicks) / 2 / particles, 1e-9);
+  near("blocked part", frame.blockage, 22 / (128 * Math.sqrt(0.75)), 0.02);
+});
+
+// a flow that is one cell per generation ahead of a plate, and rests elsewhere
+tried("a flow ahead of a plate", () => {
+  const flow = new Flow(make(GASES.fhp1, 256, 64), { chirality: "left", seed: "0", generation: 0 });
+  const isAhead = (at) => at % 256 < 100, isPlate = (at) => at % 256 >= 100 && at % 256 < 104 && Math.abs(Math.floor(at / 256) - 32) < 8;
+  flow.cells.fill(Uint8Array.from({ length: 256 * 64 }, (_, at) => (isPlate(at) ? SOLID : isAhead(at) ? 0x01 : 0x09)));
+  flow.begin();
+  const frame = frameOf(flow);
+  near("incoming speed", frame.incoming, 1, 1e-6);
+  near("fastest block", frame.fastest, 1, 1e-6);
+  near("blocked part of a plate", frame.blockage, 15 / 64, 1e-9);
+});
+
+// -- the probe
+
+const wave = (period, noise, random) => Array.from({ length: 6000 }, (_, k) => {
+  const v = Math.sin((2 * Math.PI * 10 * k) / period) + noise * (random.chance() + random.chance() + random.chance() - 1.5);
+  return { generation: 10 * k, u: 0, v, incoming: 0.3 };
+});
+for (const period of [1000, 2500, 4766]) tried(`a wave of ${period} generations`, () => {
+  const found = periodOf(wave(period, 1, lots(period)), period / 3);
+  check(`a wave of ${period} generations`, found && Math.abs(found.period / period - 1) < 0.02 && found.error < 0.05 * period, JSON.stringify(found));
+  check("its incoming speed", Math.abs((found?.incoming ?? 0) - 0.3) < 1e-9);
+});
+check("seven periods are too few", periodOf(wave(8000, 0, lots(1)), 2500) === null);
+
+// Noise with a memory shows a period in at most 1 % of runs, looked at every 1,000 of 40,000 generations.
+let shows = 0;
+for (let run = 0; run < noises; run++) {
+  const random = lots(7000 + run), memory = [0, Math.exp(-1 / 10), Math.exp(-1 / 40), Math.exp(-1 / 100)][run % 4], samples = [];
+  const bell = () => Math.sqrt(-2 * Math.log(1 - random.chance())) * Math.cos(2 * Math.PI * random.chance());
+  let v = 0, isShown = false;
+  for (let k = 1; k <= 4000; k++) {
+    v = memory * v + Math.sqrt(1 - memory ** 2) * bell();
+    samples.push({ generation: 10 * k, u: 0, v, incoming: null });
+    isShown ||= k % 100 === 0 && periodOf(samples, run % 8 < 4 ? 744 : 1500) !== null;
+  }
+  if (isShown) shows++;
+}
+check("noise shows no period", shows <= Math.max(0.01 * noises, 0), `${shows} of ${noises}`);
+
+// -- the built page
+
+const version = spawnSync("esbuild", ["--version"], { encoding: "utf8" }).stdout?.trim();
+const recorded = readFileSync(`${root}page/build.mjs`, "utf8").match(/VERSION = "(.*)"/)[1];
+if (version === recorded) {
+  const folder = mkdtempSync("/tmp/page-"), built = `${folder}/page.html`;
+  const done = spawnSync("node", [`${root}page/build.mjs`, built], { encoding: "utf8" });
+  const [old, made] = [`${root}page/fhpgas.html`, built].map((file) => (done.status === 0 || file !== built ? readFileSync(file, "utf8") : ""));
+  check("page/fhpgas.html is what its sources make: run make page", old === made, done.stderr);
+  check("page/fhpgas.html has at most 200 KB", Buffer.byteLength(old) <= 200 * 1024);
+  rmSync(folder, { recursive: true });
+} else console.log(`page/fhpgas.html was not built again: esbuild ${recorded} is wanted, and here is ${version ?? "none"}`);
+const types = spawnSync("tsc", ["-p", `${root}page`], { encoding: "utf8" });
+if (types.error) console.log("the types of the page are left out, because tsc is missing: apt-get install node-typescript");
+else check("the types of the page", types.status === 0, types.stdout);
+
+end();

@@ -1,0 +1,132 @@
+#!/usr/bin/env python3
+"""Compares the built program with C programs that compute the same lattices in other ways, on twenty random maps with obstacles:
+tests/program/oracles/bytes.c, cell by cell from tables, for every gas, and tests/program/oracles/bands.c, on bit planes cut into bands, for
+FHP-I. The gases, chiralities, sizes, first generations and plans take turns, and seeds are fixed. All must print the same bytes. Ends with
+the counts."""
+
+import concurrent.futures
+import itertools
+import os
+import pathlib
+import random
+import subprocess
+import sys
+import tempfile
+
+sys.path.append(f"{sys.path[0]}/../lib")
+import needs
+
+PROGRAM = needs.built_program()
+MAPS = 20
+GASES = {"fhp1": 6, "fhp-rest": 7, "hpp": 4}  # and their directions
+CHIRALITIES = ["left", "right", "seeded"]
+SIZES = [
+    (1024, 1024),
+    (63, 700),
+    (2701, 150),
+    (64, 513),
+    (777, 1000),
+    (1, 300),
+    (5000, 90),
+    (130, 64),
+    (1000, 999),
+    (65, 2),
+    (6500, 64),
+]
+PLANS = [
+    (1, 1, 1),
+    (4, 2, 4),
+    (3, 1024, 2),
+    (64, 1, 5),
+    (16, 128, 4),
+    (2, 8, 1),
+    (7, 33, 3),
+    (33, 3, 33),
+]  # stages, places per belt, and threads
+GENERATIONS = range(150, 500)
+
+
+def drawn(rng, width, height, directions):
+    """The rows of a map: cells whose directions are filled with one probability, single solid cells, and some solid rectangles."""
+    states = range(1 << directions)
+    rate = rng.choice([0.02, 0.1, 0.3, 0.6])
+    weights = [
+        rate ** state.bit_count() * (1 - rate) ** (directions - state.bit_count())
+        for state in states
+    ]
+    cells = [f"{state:02x}" if state else ".." for state in states] + ["##"]
+    weights.append(rng.choice([0, 0.001, 0.02]))
+    rows = [rng.choices(cells, weights, k=width) for _ in range(height)]
+    for _ in range(rng.randrange(6)):
+        left, top = rng.randrange(width), rng.randrange(height)
+        right, bottom = min(width, left + rng.randint(1, 200)), min(
+            height, top + rng.randint(1, 100)
+        )
+        for row in rows[top:bottom]:
+            row[left:right] = ["##"] * (right - left)
+    return ["".join(row) for row in rows]
+
+
+def printed(words, text):
+    return subprocess.run(
+        [str(word) for word in words],
+        input=text.encode(),
+        capture_output=True,
+        timeout=300,
+        check=True,
+    ).stdout
+
+
+def fault(number, room):
+    """What differs on the map of that number, or None."""
+    rng = random.Random(number)
+    (gas, directions), chirality = list(itertools.product(GASES.items(), CHIRALITIES))[number % 9]
+    width, height = SIZES[number % len(SIZES)]
+    stages, capacity, threads = PLANS[number % len(PLANS)]
+    plan = ["--stages", stages, "--capacity", capacity, "--threads", threads]
+    first, seed, generations = (
+        rng.choice([0, 1, 2**32 - 100, 10**12]),
+        rng.randrange(2**63),
+        rng.choice(GENERATIONS),
+    )
+    rows = drawn(rng, width, height, directions)
+    keys = f'version = 2\ngas = "{gas}"\nchirality = "{chirality}"\nseed = {seed}\ngeneration = {first}\n'
+    ours = printed(
+        [PROGRAM, "run", "--generations", generations, *plan],
+        f"{keys}cells = {rows}\n",
+    )
+    word = seed if chirality == "seeded" else chirality
+    programs = [[room / "bytes", generations, word, gas]] + [
+        [room / "bands", generations, 3, word]
+    ] * (gas == "fhp1")
+    start = "\n".join([f"generation {first} particles 0", *rows, ""])
+    wrong = [words[0].name for words in programs if printed(words, start) != ours]
+    return (
+        f"map {number}: {gas}, {chirality}, {width} x {height}, {generations} generations, {stages} stages, {threads} threads: {wrong}"
+        if wrong
+        else None
+    )
+
+
+def main():
+    with tempfile.TemporaryDirectory() as folder, concurrent.futures.ThreadPoolExecutor(
+        os.cpu_count()
+    ) as pool:
+        room = pathlib.Path(folder)
+        for name in "bytes", "bands":
+            needs.compiled(
+                f"tests/program/oracles/{name}.c",
+                room / name,
+                "-O3",
+                "-march=x86-64-v2",
+                "-pthread",
+            )
+        faults = list(filter(None, pool.map(lambda number: fault(number, room), range(MAPS))))
+    for found in faults:
+        print(f"FAILED: {found}")
+    print(f"{MAPS - len(faults)} passed, {len(faults)} failed")
+    return 1 if faults else 0
+
+
+if __name__ == "__main__":
+    sys.exit(main())

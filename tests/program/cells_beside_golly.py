@@ -1,0 +1,107 @@
+#!/usr/bin/env python3
+"""Compares the built program with Golly's rule HPP, which other people wrote, on random lattices of HPP. Golly keeps a cell's particles as
+they leave the cell, so its state is ours after the collision. Its torus has no walls, so only rows are compared that no wall can have
+reached. Ends with the counts."""
+
+import pathlib
+import random
+import re
+import subprocess
+import sys
+import tempfile
+
+sys.path.append(f"{sys.path[0]}/../lib")
+import needs
+
+PROGRAM = needs.built_program()
+RULES = "/usr/share/golly/Rules/"
+LATTICES = 60
+BITS = {1: 4, 2: 2, 4: 1, 8: 8}  # our east, north, west and south in Golly's state
+HEAD_ON = {5: 10, 10: 5}
+LETTERS = ".ABCDEFGHIJKLMNO"  # Golly's states 0 to 15 in a pattern
+
+
+def leaving(state):
+    """Golly's state for the particles of a cell before their collision."""
+    collided = HEAD_ON.get(state, state)
+    return sum(theirs for ours, theirs in BITS.items() if collided & ours)
+
+
+def after_golly(rows, generations, room):
+    """The rows of a torus after so many generations of Golly."""
+    width, height = len(rows[0]), len(rows)
+    lines = "$\n".join("".join(LETTERS[leaving(state)] for state in row) for row in rows)
+    (room / "before.rle").write_text(
+        f"x = {width}, y = {height}, rule = HPP:T{width},{height}\n{lines}!\n"
+    )
+    words = [
+        "bgolly",
+        "-a",
+        "RuleLoader",
+        "-s",
+        RULES,
+        "-q",
+        "-q",
+        "-m",
+        str(generations),
+        "-o",
+        room / "after.rle",
+        room / "before.rle",
+    ]
+    subprocess.run(
+        words, stdout=subprocess.DEVNULL, stderr=subprocess.DEVNULL, check=True, timeout=100
+    )
+    found = [[0] * width for _ in range(height)]
+    x = y = 0
+    text = re.sub(r"^#.*\n|^x =.*\n", "", (room / "after.rle").read_text(), flags=re.M).split("!")[
+        0
+    ]
+    for count, letter in re.findall(r"(\d*)([.A-O$])", text):
+        times = int(count or 1)
+        if letter == "$":
+            x, y = 0, y + times
+        else:
+            found[y][x : x + times] = [LETTERS.index(letter)] * times
+            x += times
+    return found
+
+
+def after_ours(rows, generations):
+    """The same rows after our generations, as Golly's states."""
+    cells = ["".join(f"{state:02x}" for state in row) for row in rows]
+    printed = subprocess.run(
+        [PROGRAM, "run", "--generations", str(generations)],
+        input=f'gas = "hpp"\ncells = {cells}\n',
+        capture_output=True,
+        check=True,
+        text=True,
+    ).stdout.split("\n")[1:-1]
+    pairs = ([row[at : at + 2] for at in range(0, len(row), 2)] for row in printed)
+    return [[leaving(0 if pair == ".." else int(pair, 16)) for pair in row] for row in pairs]
+
+
+def is_alike(number, room):
+    rng = random.Random(number)
+    generations, width, rate = rng.randint(1, 40), rng.randint(4, 130), rng.choice([0.05, 0.2, 0.5])
+    height = 2 * generations + rng.randint(2, 40)
+    rows = [
+        [sum((rng.random() < rate) << i for i in range(4)) for _ in range(width)]
+        for _ in range(height)
+    ]
+    kept = slice(generations, height - generations)
+    return after_ours(rows, generations)[kept] == after_golly(rows, generations, room)[kept]
+
+
+def main():
+    needs.command("bgolly")
+    with tempfile.TemporaryDirectory() as folder:
+        differ = [
+            number for number in range(LATTICES) if not is_alike(number, pathlib.Path(folder))
+        ]
+    for number in differ:
+        print(f"FAILED: lattice {number} differs from Golly's")
+    print(f"{LATTICES - len(differ)} passed, {len(differ)} failed")
+    return 1 if differ else 0
+
+
+sys.exit(main())

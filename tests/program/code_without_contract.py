@@ -1,0 +1,149 @@
+#!/usr/bin/env python3
+"""Compares the code outside `answer`, which no contract speaks of, with what it may be. main passes arguments, input and output of the
+runtime on to `answer` unchanged and ends with the fault's status: its names are compared by what they mean, imports included. What watches
+a run has a clock and standard error, and the crates below have threads and waiting, and no other power of the runtime. Ends with the
+counts."""
+
+import re
+import sys
+
+sys.path.append(f"{sys.path[0]}/../lib")
+import needs
+
+CRATES = needs.ROOT / "crates"
+MAIN = """\
+#![tactic(auto)]
+
+fn is_terminal<R: std::rt::Files>(rt: &R, path: &str) -> bool {
+    let Ok(metadata) = std::fs::metadata(rt, path) else {
+        return false;
+    };
+    let device = metadata.rdev() >> 8 & 0xfff;
+    metadata.file_type().is_char_device() && matches!(device, 4 | 5 | 136..=143)
+}
+
+fn tell<R: Print + Eprint>(rt: &R, fault: &gas_tool::Fault) {
+    let _ = match fault {
+        gas_tool::Fault::Usage(gas_tool::UsageFault::Help(text)) => print!(rt; "{text}"),
+        gas_tool::Fault::Usage(gas_tool::UsageFault::Usage(text)) => eprint!(rt; "{text}"),
+        _ => eprintln!(rt; "{fault}"),
+    };
+}
+
+fn main(rt: HostRuntime) -> std::process::ExitCode {
+    let words = std::env::args(&rt);
+    let mut input = rt.reader();
+    let prompts = is_terminal(&rt, "/proc/self/fd/0");
+    let reports = is_terminal(&rt, "/proc/self/fd/2");
+    let mut terminal = crate::terminal::Terminal::new(&rt, prompts, reports);
+    let mut out = rt.stdout();
+    match gas_tool::answer(&rt, rt.alloc(), words, &mut input, &mut terminal, &mut out) {
+        Ok(()) => std::process::ExitCode::SUCCESS,
+        Err(fault) => {
+            tell(&rt, &fault);
+            std::process::ExitCode::from(fault.status())
+        }
+    }
+}
+"""
+# What a file can name of the runtime's powers, and what it can after an import. The last three words go round names or the language.
+SEEN = {"HostRuntime", "LibcRuntime", "Print", "Eprint", "Alloc", "unsafe", "extern", "macro_rules"}
+BROUGHT = SEEN | {
+    *(
+        "Abort",
+        "Clock",
+        "CpuClock",
+        "Env",
+        "Files",
+        "Input",
+        "Log",
+        "Memory",
+        "Net",
+        "Process",
+        "Processes",
+    ),
+    *("RandomSource", "Runtime", "Stderr", "Stdin", "Stdout", "Threads", "Wait", "*"),
+}
+HELD = {  # all other files below the program have none of them
+    "fhpgas/src/main.rt": {"HostRuntime", "Files", "Print", "Eprint"},
+    "fhpgas/src/terminal.rt": {"Clock", "Eprint"},
+    **dict.fromkeys(("gas_pipe", "gas_tool"), {"Threads", "Wait"}),
+    "gas_scene": {"macro_rules"},
+}
+
+
+def imports(tree, path=""):
+    """What the names of a `use` mean: {local name: its whole path}. A part of the tree is a path, and braces or another name after it."""
+    found, tree = {}, tree.strip()
+    head, _, inside = tree.partition("{")
+    if inside:
+        depth, part = 0, ""
+        for letter in inside[:-1] + ",":
+            depth += {"{": 1, "}": -1}.get(letter, 0)
+            if letter == "," and depth == 0:
+                found |= imports(part, path + head) if part.strip() else {}
+                part = ""
+            else:
+                part += letter
+        return found
+    whole, _, name = (path + tree).partition(" as ")
+    whole = whole.removesuffix("::self")
+    return {name.strip() or whole.split("::")[-1]: whole}
+
+
+def spelled_out(text):
+    """Code without its comments and `use` lines, its names by their whole paths."""
+    text = re.sub(r"^\s*//[^\n]*\n|//[^\n]*", "", text, flags=re.M)
+    text = re.sub(r"^ *(?:pub(?:\([^)]*\))? )?mod \w+;", "", text, flags=re.M)
+    uses = r"^ *(?:pub(?:\([^)]*\))? |ghost )?use ([^;]*);"
+    names = {}
+    for match in re.finditer(uses, text, re.M):
+        if "ghost" not in match.group().split("use")[0]:
+            names |= imports(match.group(1))
+    code = re.sub(uses, "", text, flags=re.M)
+    return (
+        re.sub(
+            r"(?<![\w.:])[A-Za-z_]\w*", lambda word: names.get(word.group(), word.group()), code
+        ),
+        names,
+    )
+
+
+def powers(path):
+    """The powers that a file names in its code or imports, whatever it calls them there."""
+    code, names = spelled_out(path.read_text())
+    paths = {*re.findall(r"\b(?:std|core)(?:::\w+)+", code), *names.values()}
+    parts = {
+        part
+        for path in paths
+        if re.match("(std|core)(::(?!simd)|$)", path)
+        for part in path.removesuffix("::rt").removeprefix("std::rt::").split("::")
+    }
+    return parts & BROUGHT | set(re.findall(r"\w+", code)) & SEEN
+
+
+def complaints():
+    lines = dict(re.findall(r"^(\w+):(.*)", (needs.ROOT / "crates.txt").read_text(), re.M))
+    below, waiting = set(), ["fhpgas"]
+    while waiting:
+        crate = waiting.pop()
+        below.add(crate)
+        waiting += [name for name in lines[crate].split() if name in lines and name not in below]
+    if spelled_out((CRATES / "fhpgas/src/main.rt").read_text())[0].split() != MAIN.split():
+        yield "main is not what passes all on to gas_tool::answer"
+    for crate in sorted(below):
+        for path in sorted((CRATES / crate / "src").rglob("*.rt")):
+            name = str(path.relative_to(CRATES))
+            held = powers(path)
+            may = HELD.get(name, set() if crate == "fhpgas" else HELD.get(crate, set()))
+            if more := held - may:
+                yield f"{name} has more of the runtime than it may: {', '.join(sorted(more))}"
+            elif name in HELD and held != may:
+                yield f"{name} has less of the runtime than this test says"
+
+
+wrong = list(complaints())
+for what in wrong:
+    print(f"FAILED: {what}")
+print(f"{len(HELD) + 1 - len(wrong)} passed, {len(wrong)} failed")
+sys.exit(bool(wrong))

@@ -1,0 +1,550 @@
+#!/usr/bin/env python3
+"""Runs the built program on the cases of tables: words, scenes and streams of every kind, with what it must print, on standard output and
+on standard error, and the status that it must end with. The cells of scenes with many rectangles come from a second reading of the text.
+Ends with the counts."""
+
+import concurrent.futures
+import itertools
+import os
+import pathlib
+import re
+import shutil
+import subprocess
+import sys
+import tempfile
+
+sys.path.append(f"{sys.path[0]}/../lib")
+import needs
+import second_reader
+
+PROGRAM = needs.built_program()
+SOMETHING = re.compile(r"(?s).+")
+MOST_CELLS = 400_000  # that the second reader takes
+
+# What `check` reads next to a scene that is refused, and the lines that refuse it.
+SYNTAX, UNKNOWN_KEY, BOTH_FORMS, MISSING, WRONG_TYPE, RANGE = (
+    f"scene: {reason}"
+    for reason in (
+        "not TOML",
+        "unknown key",
+        "both forms",
+        "missing key",
+        "wrong type",
+        "out of range",
+    )
+)
+STAGES, CAPACITY, GENERATIONS, THREADS = (
+    f"plan: {limit}"
+    for limit in (
+        "stages must be 1 to 64",
+        "capacity must be 1 to 1024",
+        "generations must be 0 to 1000000",
+        "threads must be 1 to the number of stages",
+    )
+)
+PASSES = "replay: the plan needs more than one pass"
+
+DRIFT = 'gas = "fhp1"\nchirality = "left"\ncells = ["........", "......01", "........"]\n'
+DRIFTED = "generation 1 particles 1\n........\n01......\n........\n"
+MAP = 'gas = "fhp1"\ncells = ["01"]\n'
+AREA = 'gas = "fhp1"\nwidth = 4\nheight = 2\n'
+STEPS = AREA + "solid = [[0, 0, 2, 1], [1, 0, 2, 2]]\n"
+WIDE = 'gas = "fhp1"\nwidth = 4096\nheight = 512\n'
+
+# What the program is refused as usage, with status 2.
+USAGE = [
+    "",
+    "run",
+    "dance --generations 1",
+    "run --generations",
+    "run --generations -1",
+    "run --generations 1 --generations 1",
+    "run --generations 1 --capacity many",
+    "run --generations 1 --threads",
+    "run --generations 1 --threads 1 --threads 2",
+    "replay --generations 1 --threads 1",
+    "check --generations 1",
+    "coarse --generations 1 --block-width 2",
+    "replay 0 1",
+    "replay --generations 18446744073709551616",
+    "replay --generations 1 0 feeder",
+    "replay --generations 1 -- -1",
+    "run extra --generations 1",
+    "run -- --generations 1",
+]
+OPTIONS = {
+    "--generations": "1",
+    "--stages": "1",
+    "--capacity": "1",
+    "--threads": "1",
+    "--block-width": "1",
+    "--block-height": "1",
+}
+NO_NUMBERS = ["", " 1", "-1", "1e3", "0x10", "1.0", "one", "99999999999999999999"]
+
+# The limits of the options: None if a value is taken, a line if it is refused, and USAGE if it is not such a number.
+LIMITS = {
+    "stages": {0: STAGES, 1: None, 64: None, 65: STAGES, 2**32 - 1: STAGES, 2**32: USAGE},
+    "capacity": {
+        0: CAPACITY,
+        1: None,
+        1024: None,
+        1025: CAPACITY,
+        2**32 - 1: CAPACITY,
+        2**32: USAGE,
+    },
+    "threads": {
+        0: THREADS,
+        1: None,
+        8: None,
+        64: None,
+        65: THREADS,
+        2**32 - 1: THREADS,
+        2**32: USAGE,
+    },
+    "generations": {
+        0: None,
+        1_000_000: None,
+        1_000_001: GENERATIONS,
+        2**64 - 1: GENERATIONS,
+        2**64: USAGE,
+    },
+    "block-width": {0: USAGE, 1: None, 4096: None, 4097: USAGE},
+    "block-height": {0: USAGE, 1: None, 4096: None, 4097: USAGE},
+}
+
+# Words that the program reads with the scene DRIFT: the status and what it prints.
+WORDS = [
+    *(
+        (f"run {words}", 0, DRIFTED, "")
+        for words in (
+            "--generations 1",
+            "--generations=1",
+            "--generations 0001",
+            "--generations +1",
+            "--capacity 1 --stages=64 --generations 1",
+            "--threads=3 --stages 5 --capacity 1 --generations 1",
+            "--threads 2 --generations 1",
+            "--threads 2 --stages 2 --generations 1",
+            "--threads 1 --capacity 1 --generations 1",
+        )
+    ),
+    # threads are refused last
+    ("run --generations 1 --threads 5 --stages 4", 1, "", THREADS + "\n"),
+    ("run --generations 1 --threads 0 --stages 65", 1, "", STAGES + "\n"),
+    ("run --generations 1000001 --threads 0", 1, "", GENERATIONS + "\n"),
+    # the scene's faults come before the plan's, and the plan's before the number of passes
+    ("replay --generations 2 --stages 1", 1, "", PASSES + "\n"),
+    ("replay --generations 2 --stages 1 --capacity 0", 1, "", CAPACITY + "\n"),
+    ("replay --generations 1000001", 1, "", GENERATIONS + "\n"),
+    # a turn is a number of 32 bits, and a turn of a missing member changes nothing
+    (
+        "replay --generations 0 4294967295",
+        0,
+        "done\n" + DRIFTED.replace("generation 1", "generation 0").replace("01......", "......01"),
+        "",
+    ),
+    ("replay --generations 0 4294967296", 2, "", SOMETHING),
+    *(
+        (f"{command} --help", 0, SOMETHING, "")
+        for command in ("", "run", "check", "coarse", "replay")
+    ),
+    ("coars --generations 1", 2, "", re.compile(r"(?s).*'coarse'.*")),
+    ("run --generation 1", 2, "", re.compile(r"(?s).*--generations.*")),
+]
+
+# Lines of bash, run in a folder with the scenes `drift` and `wide`: the status and what is printed.
+FAILED = re.compile(r"write: failed after \d+ bytes\n")
+STREAMS = [
+    ("./fhpgas run --generations 1 < drift > /dev/full", 4, "", "write: failed after 0 bytes\n"),
+    ("./fhpgas run --generations 1 --stages 0 < drift > /dev/full", 1, "", STAGES + "\n"),
+    ("./fhpgas replay --generations 2 --stages 1 < drift > /dev/full", 1, "", PASSES + "\n"),
+    ("./fhpgas run --generations 1 < drift >&-", 4, "", "write: failed after 0 bytes\n"),
+    ("./fhpgas run --generations 1 --stages 0 < drift 2>&-", 1, "", ""),
+    ("./fhpgas run --generations 1 < drift 2>&-", 0, DRIFTED, ""),
+    (
+        "./fhpgas run --generations 0 < wide | head -c 10 > /dev/null; exit ${PIPESTATUS[0]}",
+        4,
+        "",
+        FAILED,
+    ),
+    (
+        "(trap '' XFSZ; ulimit -f 1; ./fhpgas run --generations 0 < wide > cut); status=$?; wc -c < cut; exit $status",
+        4,
+        "1024\n",
+        "write: failed after 1024 bytes\n",
+    ),
+    ("./fhpgas run --generations 1 <&-", 1, "", "input: read failed\n"),
+    ("./fhpgas run --generations 1 < .", 1, "", "input: read failed\n"),
+    ("./fhpgas run --generations x < .", 2, "", SOMETHING),
+    ("./fhpgas run --generations 1 $'\\xff' < drift", 2, "", SOMETHING),
+    ("head -c 67108865 /dev/zero | ./fhpgas run --generations 1", 1, "", "input: too long\n"),
+]
+
+
+def row_length(row):
+    return f"scene: row {row} has a wrong length"
+
+
+def bad_cell(row, column):
+    return f"scene: row {row} cell {column} is not a cell"
+
+
+# What refuses texts, None if they are scenes: texts as they are, which may have several faults, of which the first in the order counts;
+TEXTS = {
+    SYNTAX: [
+        "gas = ",
+        b"\xff",
+        'gas = "fhp1"\nchirality = "left"\ncells = ["01"',
+        'gas = "fhp1"\ngas.a = 1\ncells = ["01"]',
+        "colour = 1\ngas = ",
+        'gas = "fhp1"\ngas = "fhp1"',
+    ],
+    UNKNOWN_KEY: [MAP + "colour = 1", 'colour = 1\ncells = ["01"]\nwidth = 4'],
+    BOTH_FORMS: ['cells = ["01"]\nwidth = 4', MAP + "width = 4"],
+    MISSING: [
+        "",
+        "[gas]\n",
+        'gas = "fhp1"',
+        'gas = "fhp1"\nchirality = "left"',
+        'gas = "fhp1"\nwidth = 4',
+        'gas = "fhp1"\nheight = 4',
+        "cells = 1",
+        'cells = ["01"]',
+    ],
+    WRONG_TYPE: [
+        MAP + "seed = true",
+        'gas = "fhp1"\ncells = ["01", 1]',
+        'gas = 1\ncells = ["01"]',
+        'gas.a = 1\ncells = ["01"]',
+        'gas = "fhp2"\ncells = [1]',
+    ],
+    RANGE: [
+        MAP + 'chirality = "both"',
+        'gas = "fhp2"\ncells = ["010"]',
+        'gas = "fhp1"\ncells = []',
+    ],
+    row_length(1): ['gas = "fhp1"\ncells = ["0101", "0g"]'],
+    row_length(2): ['gas = "fhp1"\ncells = ["0g01", "0101", "01"]'],
+    row_length(7): ['gas = "fhp1"\ncells = [' + '"..",' * 7 + '"....",]'],
+    bad_cell(1, 0): ['gas = "fhp1"\ncells = ["01", "0g"]'],
+    bad_cell(1, 1): ['gas = "fhp1"\ncells = ["0101", "010g", "0g01"]'],
+    bad_cell(7, 12): ['gas = "fhp1"\ncells = [' + f'"{".." * 13}",' * 7 + f'"{".." * 12}0.",]'],
+}
+# the keys of an area;
+AREAS = {
+    None: ["solid = [[3, 0, 1, 2]]", STEPS + "rate = 1000", STEPS + "particles = [[0, 1, 63]]"],
+    RANGE: [
+        STEPS + "particles = [[1, 0, 1]]",
+        STEPS + "particles = [[0, 1, 64]]",
+        "solid = [[3, 0, 2, 1]]",
+        "solid = [[0, 1, 1, 2]]",
+        "solid = [[0, 0, 0, 1]]",
+        "solid = [[0, -1, 1, 1]]",
+        "solid = [[0, 0, 9223372036854775807, 1]]",
+        "solid = [[9223372036854775807, 0, 9223372036854775807, 1]]",
+        "particles = [[4, 0, 1]]",
+        "particles = [[-1, 0, 1]]",
+        "particles = [[0, 2, 1]]",
+        "particles = [[0, 0, -1]]",
+        "seed = -1",
+        "rate = -1",
+        "rate = 1001",
+    ],
+    WRONG_TYPE: [
+        "rate = 1.0",
+        "[[solid]]",
+        "solid = [[0, 0, 1]]",
+        "solid = [[0, 0, 1, 1, 1]]",
+        "particles = [[0, 0, 1, 1]]",
+        "particles = [[0, 0]]",
+    ],
+    UNKNOWN_KEY: ["[x]"],
+}
+# what is next to a map or an area: the version decides whether there may be a generation, and an unknown version counts as 1;
+VERSIONS = {
+    None: [
+        "version = 1",
+        "version = 2",
+        "generation = 3\nversion = 2",
+        "generation = 1000000000000\nversion = 2",
+    ],
+    RANGE: [
+        "version = 0",
+        "version = 3",
+        "version = -2",
+        "generation = -1\nversion = 2",
+        "generation = 1000000000001\nversion = 2",
+    ],
+    WRONG_TYPE: [
+        'version = "1"',
+        'version = "2"',
+        "version = 2.0",
+        'generation = "1"\nversion = 2',
+    ],
+    UNKNOWN_KEY: [
+        "generation = 3",
+        "generation = 3\nversion = 1",
+        "generation = 3\nversion = 3",
+        'generation = 3\nversion = "2"',
+    ],
+}
+# the width and the height of an area, by the most that a version allows (mutated_scenes.py has the sides of maps);
+SIDES = {
+    None: lambda most: [(most, 1), (1, most)],
+    RANGE: lambda most: [(most + 1, 1), (1, most + 1), (0, 1), (1, 0), (1, -1)],
+}
+MOST_SIDE = {"": 4096, "version = 1\n": 4096, "version = 2\n": 65536}
+# and the cells of a row: two characters are a cell only if both are marks of one kind, or digits of a state that the gas has.
+CELLS = {
+    None: ["hpp ##", "hpp ..", "hpp 0f", "fhp1 3f", "fhp-rest 7f"],
+    bad_cell(0, 0): [
+        "hpp #.",
+        "hpp .#",
+        "hpp 10",
+        "fhp1 40",
+        "fhp1 0A",
+        "fhp1 0g",
+        "fhp1 é",
+        "fhp-rest 80",
+    ],
+    bad_cell(0, 1): ["hpp ..#0", "hpp ##.0"],
+    row_length(0): ["fhp1 é.", "fhp1 010", "fhp1 "],
+}
+
+# Rectangles that overlap, and their seams at whole words of 64 columns and whole blocks of 256.
+RECTANGLES = [
+    "width = 200\nheight = 6\nsolid = [[3, 1, 190, 2], [64, 0, 64, 4], [100, 2, 100, 3], [0, 4, 63, 1], [127, 0, 2, 1], [199, 0, 1, 6], "
+    "[3, 1, 190, 1], [10, 3, 20, 1]]",
+    "width = 65536\nheight = 6\nsolid = [[0, 0, 65536, 1], [63, 1, 1, 1], [65, 1, 1, 2], [128, 1, 64, 1], [256, 1, 65, 1], [447, 1, 65, 1], "
+    "[4095, 1, 1, 1], [4097, 1, 4095, 1], [65535, 1, 1, 1], [4096, 2, 4096, 2], [8192, 2, 4096, 1], [12289, 2, 8190, 1], "
+    "[32767, 2, 8194, 1], [61440, 2, 4096, 1], [1, 3, 65534, 1], [0, 5, 4096, 1], [4160, 5, 61376, 1]]",
+]
+WIDTHS = [1, 63, 64, 65, 127, 128, 4095, 4096, 4097, 4160, 8191, 8192, 65535, 65536]
+
+
+def scenes():
+    """The texts of the tables, and what refuses them."""
+    for wanted, texts in TEXTS.items():
+        yield from ((text, wanted) for text in texts)
+    for wanted, texts in AREAS.items():
+        yield from ((text if text.startswith("gas") else AREA + text, wanted) for text in texts)
+    for wanted, keys in VERSIONS.items():
+        yield from ((form + key, wanted) for form in (MAP, AREA) for key in keys)
+    for wanted, rows in CELLS.items():
+        yield from (('gas = "{}"\ncells = ["{}"]'.format(*row.split(" ")), wanted) for row in rows)
+    for version, most in MOST_SIDE.items():
+        for wanted, sides in SIDES.items():
+            yield from (
+                (f'{version}gas = "fhp1"\nwidth = {width}\nheight = {height}', wanted)
+                for width, height in sides(most)
+            )
+
+
+def cut_short():
+    """The first bytes of DRIFT, for each number of bytes: only whole lines are TOML, and only the whole map is a scene."""
+    ends = [at for at, mark in enumerate(DRIFT) if mark == "\n"]
+    whole = {0, *ends, *(end + 1 for end in ends)}
+    for length in range(len(DRIFT) + 1):
+        refusal = MISSING if length in whole else SYNTAX
+        yield DRIFT[:length], None if length >= ends[-1] else refusal
+
+
+def rectangles():
+    """The texts with rectangles, the lines of `check` and the printed cells."""
+    for keys in RECTANGLES:
+        text = f'version = 2\ngas = "hpp"\n{keys}'
+        lattice = second_reader.read(text.encode(), MOST_CELLS)
+        yield text, lattice.check_line(), lattice.printed()
+    for width in WIDTHS:
+        text = f'version = 2\ngas = "fhp1"\nrate = 1000\nwidth = {width}\nheight = 2\nsolid = [[0, 0, {width}, 2]]'
+        line = f"gas fhp1 width {width} height 2 solid {2 * width} particles 0\n"
+        yield text, line, "generation 0 particles 0\n" + ("##" * width + "\n") * 2
+
+
+def usage():
+    yield from (words.split() for words in USAGE)
+    for option, value in itertools.product(OPTIONS, NO_NUMBERS):
+        yield ["coarse", *itertools.chain(*({**OPTIONS, option: value}).items())]
+    whole = ["coarse", *itertools.chain(*OPTIONS.items())]
+    for option in OPTIONS:
+        others = [
+            word for name, value in OPTIONS.items() if name != option for word in (name, value)
+        ]
+        yield from (
+            [*whole, option, "1"],
+            ["coarse", *others, option],
+            ["coarse", *others, f"{option}="],
+        )
+
+
+def drifted(generation):
+    """The cells of DRIFT, whose particle moves a column to the east per generation."""
+    row = ["..", "..", "..", ".."]
+    row[(3 + generation) % 4] = "01"
+    return f"generation {generation} particles 1\n........\n{''.join(row)}\n........\n"
+
+
+def blocks(width, height):
+    """The table of DRIFT after one generation, when its particle is at (0, 1)."""
+    yield "  col   row    fluid particles         px         py\n"
+    for (row, top), (column, left) in itertools.product(
+        enumerate(range(0, 3, height)), enumerate(range(0, 4, width))
+    ):
+        fluid, held = (
+            min(width, 4 - left) * min(height, 3 - top),
+            left == 0 and top <= 1 < top + height,
+        )
+        yield f"{column:5} {row:5} {fluid:8} {held:9} {2 * held:10} {0:10}\n"
+
+
+def of_limits():
+    for option, limits in LIMITS.items():
+        for number, refusal in limits.items():
+            values = {
+                "generations": 1,
+                **({"block-width": 2, "block-height": 2} if option.startswith("block") else {}),
+                option: number,
+            }
+            words = [
+                "coarse" if len(values) > 2 else "run",
+                *(f"--{name}={value}" for name, value in values.items()),
+            ]
+            if refusal is USAGE:
+                yield words, DRIFT, 2, "", SOMETHING
+            elif refusal:
+                yield words, DRIFT, 1, "", refusal + "\n"
+            else:
+                told = (
+                    "".join(blocks(values["block-width"], values["block-height"]))
+                    if len(values) > 2
+                    else drifted(values["generations"])
+                )
+                yield words, DRIFT, 0, told, ""
+
+
+def many_turns():
+    """Twelve thousand turns and a hundred thousand on a column of cells. All of them count: without the last one a row is missing."""
+    for rows in 3_000, 25_050:
+        scene = f'version = 2\ngas = "fhp1"\nchirality = "left"\nwidth = 1\nheight = {rows}\nparticles = [[0, {rows - 1}, 1]]\n'
+        turns = "0 1 0 1 1 0 1 " + "0 0 1 1 " * (rows - 3) + "0 1 0 1 0"
+        words = ["replay", "--generations", "1", "--stages", "1", "--capacity", "1", *turns.split()]
+        belts = f"belt 0 put {rows} taken {rows}\nbelt 1 put {rows} taken "
+        yield words, scene, 0, f"done\n{belts}{rows}\ngeneration 1 particles 1\n" + "..\n" * (
+            rows - 1
+        ) + "01\n", ""
+        yield words[:-1], scene, 0, f"not done\n{belts}{rows - 1}\n", ""
+
+
+def on_threads(words):
+    """The words, and of a run also with its workers on one thread, on two, and each on its own."""
+    yield words
+    if words[0] in ("run", "coarse"):
+        given = dict(zip(words[1::2], words[2::2]))
+        stages = given.get("--stages", "4")
+        yield from ([*words, "--threads", threads] for threads in ("1", "2"))
+        yield [*words, *([] if "--stages" in given else ["--stages", stages]), "--threads", stages]
+
+
+def examples():
+    """The worked examples: NAME.toml, or else the scene of that name, with the words NAME.words prints NAME.wanted."""
+    for wanted in sorted((needs.ROOT / "tests/program/examples").glob("*.wanted")):
+        own = wanted.with_suffix(".toml")
+        scene = own if own.exists() else needs.ROOT / "scenes" / own.name
+        for words in on_threads(wanted.with_suffix(".words").read_text().split()):
+            yield words, scene.read_text(), 0, wanted.read_text(), ""
+
+
+def stored():
+    """Every scene of scenes/ runs, from its generation."""
+    for path in sorted((needs.ROOT / "scenes").glob("*.toml")):
+        scene = path.read_text()
+        first = int((re.findall(r"^generation = (\d+)$", scene, re.M) or ["0"])[0])
+        yield ["run", "--generations", "3"], scene, 0, re.compile(
+            rf"(?s)generation {first + 3} particles .+"
+        ), ""
+
+
+def version():
+    """The version is cited and has the newest entry of the changes, and the kit is what README names and what proves it, if it is here."""
+    cited = re.search(r"^version: (.*)$", (needs.ROOT / "CITATION.cff").read_text(), re.M).group(1)
+    kit = re.search(r"`(rattle-kit-[^`]*)`", (needs.ROOT / "README.md").read_text()).group(1)
+    here = (
+        subprocess.run(["rt", "version"], capture_output=True, text=True).stdout.strip()
+        if shutil.which("rt")
+        else kit
+    )
+    told = (
+        re.search(rf"^## {re.escape(cited)}\b", (needs.ROOT / "CHANGELOG.md").read_text(), re.M)
+        and re.sub(r"^(rattle-kit-\d+)[a-z]* ", r"\1 ", here) == kit
+    )
+    yield [
+        "--version"
+    ], "", 0, f"fhpgas {cited} ({kit})\n" if told else "what CHANGELOG and README tell", ""
+
+
+def programs():
+    """The cases of the program: words, standard input, status and what it prints."""
+    yield from ((words, DRIFT, 2, "", SOMETHING) for words in usage())
+    yield from ((words.split(), DRIFT, *wanted) for words, *wanted in WORDS)
+    yield ["run", "--generations", "1", "--stages", "0"], "", 1, "", MISSING + "\n"
+    for text, wanted in itertools.chain(scenes(), cut_short()):
+        yield (["check"], text, 1, "", wanted + "\n") if wanted else (
+            ["check"],
+            text,
+            0,
+            re.compile("gas .*\n"),
+            "",
+        )
+    for text, line, cells in rectangles():
+        yield ["check"], text, 0, line, ""
+        yield ["run", "--generations", "0"], text, 0, cells, ""
+    for cases in of_limits, many_turns, examples, stored, version:
+        yield from cases()
+
+
+def answer(words, text, room):
+    ran = subprocess.run(
+        words,
+        input=text if isinstance(text, bytes) else text.encode(),
+        capture_output=True,
+        timeout=120,
+        cwd=room,
+    )
+    return ran.returncode, ran.stdout.decode(errors="replace"), ran.stderr.decode(errors="replace")
+
+
+def is_like(came, wanted):
+    return bool(wanted.fullmatch(came)) if isinstance(wanted, re.Pattern) else came == wanted
+
+
+def fault(case, room):
+    """What is wrong with the output of a case, or None."""
+    words, text, *wanted = case
+    try:
+        came = answer(words, text, room)
+    except subprocess.TimeoutExpired as late:
+        return f"{text[:200]!r}: {late}"
+    if all(map(is_like, came, wanted)):
+        return None
+    return f"{words[:12]} on {text[:200]!r}: {wanted!r:.300} was expected, and came {came!r:.300}"
+
+
+def main():
+    with tempfile.TemporaryDirectory() as folder, concurrent.futures.ThreadPoolExecutor(
+        os.cpu_count()
+    ) as pool:
+        room = pathlib.Path(folder)
+        (room / "fhpgas").symlink_to(PROGRAM)
+        (room / "drift").write_text(DRIFT)
+        (room / "wide").write_text(WIDE)
+        cases = [([PROGRAM, *words], *case) for words, *case in programs()]
+        cases += [(["bash", "-c", line], "", *wanted) for line, *wanted in STREAMS]
+        faults = [found for found in pool.map(lambda case: fault(case, room), cases) if found]
+    for found in faults:
+        print(f"FAILED: {found}")
+    print(f"{len(cases) - len(faults)} passed, {len(faults)} failed")
+    return 1 if faults else 0
+
+
+sys.exit(main())

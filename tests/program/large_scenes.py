@@ -1,0 +1,198 @@
+#!/usr/bin/env python3
+"""Runs the built program on large texts of many kinds, under a small stack, and prints its answer, seconds and peak memory. Then the
+largest area, and the widest rows through the longest line, if memory allows.
+
+Fails if an answer is not as docs/FORMATS.md says. The times and sizes are only shown.
+Usage: tests/program/large_scenes.py [MEBIBYTES], by default 1. The program reads at most 64.
+"""
+import itertools
+import os
+import random
+import subprocess
+import sys
+import tempfile
+import time
+
+sys.path.append(f"{sys.path[0]}/../lib")
+import needs
+
+PROGRAM = needs.built_program()
+STACK = 256  # KiB
+BLOCK = 1 << 16
+SIDE, MOST_SIDE = 4096, 65536
+LARGEST_BYTES = 4 << 30  # that the largest area or the longest line may take
+AREA = f'gas = "fhp1"\nwidth = {SIDE}\nheight = {SIDE}\n'
+SHOWN = f"gas fhp1 width {SIDE} height {SIDE} solid %d particles %d"
+WRONG_TYPE, UNKNOWN, SYNTAX, RANGE, MISSING = (
+    f"scene: {reason}"
+    for reason in ("wrong type", "unknown key", "not TOML", "out of range", "missing key")
+)
+
+
+def repeated(before, item, after, size):
+    """The text before, the items that have room in the size, and the text after, in pieces."""
+    count, most = (size - len(before) - len(after)) // len(item), max(BLOCK // len(item), 1)
+    return [before] + [item * most] * (count // most) + [item * (count % most), after]
+
+
+def rectangle(rng):
+    x, y = rng.randrange(SIDE), rng.randrange(SIDE)
+    return f"[{x},{y},{rng.randint(1, SIDE - x)},{rng.randint(1, SIDE - y)}],"
+
+
+def areas(size):
+    """Areas with as many particles and rectangles as have room."""
+    at_random = random.Random(1)
+    column = "".join(f"[{SIDE // 2 + y % 2048},{y},1]," for y in range(SIDE))
+    wall = AREA + f"solid = [[0,0,1,{SIDE}]]\nparticles = ["
+    several = "".join(rectangle(at_random) for _ in range(2000))
+    half = repeated(AREA + "solid = [", f"[0,0,{SIDE // 2},{SIDE}],", "]\n", size // 2)
+    wide = 'version = 2\ngas = "fhp1"\nwidth = 65536\nheight = 2\nrate = 1000\nsolid = ['
+
+    def listed(before, item, least=0):
+        return repeated(before, item, "]\n", max(size, least))
+
+    def rectangles(width, height):
+        return listed(AREA + "solid = [", f"[0,0,{width},{height}],"), SHOWN % (width * height, 0)
+
+    yield "one particle, again and again", listed(AREA + "particles = [", "[0,0,1],"), SHOWN % (
+        0,
+        1,
+    )
+    yield "particles in a column of solid cells", listed(wall, "[0,0,1],"), RANGE
+    all_over = listed(AREA + "particles = [", column, 2 * len(column))
+    yield "particles all over the area", all_over, SHOWN % (0, SIDE)
+    yield "rectangles of one cell", *rectangles(1, 1)
+    yield "rectangles of a row", *rectangles(SIDE, 1)
+    yield "rectangles of a column", *rectangles(1, SIDE)
+    yield "rectangles of the area", *rectangles(SIDE, SIDE)
+    shuffled = listed(AREA + "solid = [[0,0,4096,4096],", several)
+    yield "rectangles at random", shuffled, SHOWN % (SIDE * SIDE, 0)
+    half += repeated("particles = [", column, "]\n", max(size // 2, 2 * len(column)))
+    yield "half rectangles, half particles", half, SHOWN % (SIDE * SIDE // 2, SIDE)
+    shown = "gas fhp1 width 65536 height 2 solid 131070 particles 12"
+    yield "rectangles across the widest rows", listed(wide, "[0,0,65535,2],"), shown
+
+
+def maps(size):
+    """Maps with as many rows as have room."""
+    rows = min(SIDE, size // (2 * SIDE + 4))
+    text = ['gas = "fhp1"\ncells = [\n'] + ['"' + "3f" * SIDE + '",\n'] * rows + ["]\n"]
+    yield "a map", text, f"gas fhp1 width {SIDE} height {rows} solid 0 particles {6 * SIDE * rows}"
+    wide = '"' + "##" * 65535 + '01",\n'
+    rows = max(size // len(wide), 1)
+    text = ['version = 2\ngas = "fhp1"\ncells = [\n'] + [wide] * rows + ["]\n"]
+    shown = f"gas fhp1 width 65536 height {rows} solid {65535 * rows} particles {rows}"
+    yield "a map of the widest rows", text, shown
+    yield "empty arrays", repeated(AREA + "solid = [", "[],", "]\n", size), WRONG_TYPE
+    yield "empty rows", repeated('gas = "fhp1"\ncells = [', '"",', "]\n", size), RANGE
+
+
+def numbered(form, size):
+    """Lines with the numbers from 0 on, in pieces, of about as many bytes."""
+    number = max(size // len(form % 10**6), 1)
+    for first in range(0, number, 10000):
+        yield "".join(form % k for k in range(first, first + 10000))
+
+
+def documents(size):
+    """Texts that are hardly scenes: nested, never ended, with many keys, and with hardly any."""
+    half = size // 2
+    nested = repeated("cells = ", "[", "", half) + repeated("", "]", "\n", half)
+    yield "nested arrays", nested, SYNTAX
+    inline = repeated("cells = ", "{a=", "1", 3 * size // 4) + repeated("", "}", "\n", size // 4)
+    yield "nested inline tables", inline, SYNTAX
+    yield "nested arrays that never end", repeated("cells = ", "[", "", size), SYNTAX
+    yield "one text", repeated('gas = "', "a", '"\ncells = []\n', size), RANGE
+    yield "one text that never ends", repeated('gas = "', "a", "", size), SYNTAX
+    yield "keys", list(numbered("k%d = 1\n", size)), UNKNOWN
+    yield "one key", repeated("", "k", " = 1\n", size), UNKNOWN
+    yield "one key twice", repeated("", "k", " = 1\n", half) * 2, SYNTAX
+    yield "one dotted key", repeated("", "k.", "k = 1\n", size), SYNTAX
+    yield "tables", list(numbered("[t%d]\n", size)), UNKNOWN
+    yield "comments", repeated("", "#\n", "", size), MISSING
+    yield "one comment", repeated("#", "a", "\n", size), MISSING
+    yield "empty lines", repeated("", "\n", "", size), MISSING
+    yield "bytes that are not UTF-8", [b"\xff" * min(size, BLOCK)] * (size // BLOCK), SYNTAX
+
+
+def texts(size):
+    """The texts as names, their pieces and what `check` must say of them."""
+    yield from itertools.chain(areas(size), maps(size), documents(size))
+    if has_memory():
+        side = MOST_SIDE
+        area = f'version = 2\ngas = "hpp"\nwidth = {side}\nheight = {side}\n'
+        yield "the largest area", [area], f"gas hpp width {side} height {side} solid 0 particles 0"
+
+
+def has_memory():
+    return needs.free_memory() >= LARGEST_BYTES
+
+
+def is_alike_through_longest_line():
+    """Whether 64 workers with 1,024 places per belt print what one worker prints pass by pass, on the widest rows."""
+    scene = f'version = 2\ngas = "fhp1"\nseed = 5\nwidth = {MOST_SIDE}\nheight = 64\nrate = 300\nsolid = [[65000, 10, 536, 9], [0, 12, 9, 30]]\n'
+    words = [PROGRAM, "run", "--generations", "70"]
+    plans = ["--stages", "64", "--capacity", "1024"], ["--stages", "1", "--capacity", "1"]
+    longest, shortest = (
+        subprocess.run(
+            [*words, *plan], input=scene.encode(), capture_output=True, check=True
+        ).stdout
+        for plan in plans
+    )
+    return longest == shortest and longest.startswith(b"generation 70 particles ")
+
+
+def answer(path):
+    """What the program prints for the text in the file, the seconds that it takes and its peak memory in KiB."""
+    with open(path, "rb") as text, tempfile.TemporaryFile() as said:
+        started = time.monotonic()
+        child = subprocess.Popen(
+            ["sh", "-c", f'ulimit -s {STACK}; exec "$0" check', PROGRAM],
+            stdin=text,
+            stdout=said,
+            stderr=said,
+        )
+        _, status, used = os.wait4(child.pid, 0)
+        seconds = time.monotonic() - started
+        child.returncode = os.waitstatus_to_exitcode(status)
+        said.seek(0)
+        line = said.read(1000).decode(errors="replace").strip()
+    return (
+        line if child.returncode in (0, 1) else f"status {child.returncode}: {line}",
+        seconds,
+        used.ru_maxrss,
+    )
+
+
+def main():
+    size = int(float(sys.argv[1] if len(sys.argv) > 1 else 1) * (1 << 20))
+    passed = failed = 0
+    print(f"{'text':40} {'bytes':>9} {'seconds':>8} {'peak MB':>8}  answer")
+    with tempfile.NamedTemporaryFile() as file:
+        for name, pieces, expected in texts(size):
+            file.seek(0)
+            file.truncate()
+            for piece in pieces:
+                file.write(piece if isinstance(piece, bytes) else piece.encode())
+            file.flush()
+            line, seconds, peak = answer(file.name)
+            print(
+                f"{name:40} {file.tell():9} {seconds:8.2f} {peak / 1000:8.0f}  {line}", flush=True
+            )
+            if line == expected:
+                passed += 1
+            else:
+                failed += 1
+                print(f"FAILED: {name}: {expected} was expected")
+    if not has_memory():
+        return needs.told(
+            passed, failed, "the largest area and the longest line for want of memory"
+        )
+    is_alike = is_alike_through_longest_line()
+    if not is_alike:
+        print("FAILED: the longest line prints another lattice")
+    return needs.told(passed + is_alike, failed + (not is_alike))
+
+
+sys.exit(main())

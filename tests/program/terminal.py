@@ -1,0 +1,92 @@
+#!/usr/bin/env python3
+"""Runs the program with standard error on a terminal: while generations are computed a line there shows how many, and is wiped before the
+program ends. Standard output has the same bytes as without a terminal, when standard error stays empty. Then with standard input on one,
+when it says that it awaits a scene. Ends with the counts."""
+import contextlib
+import os
+import pty
+import re
+import subprocess
+import sys
+import threading
+
+sys.path.append(f"{sys.path[0]}/../lib")
+import needs
+
+PROGRAM = needs.built_program()
+SCENE = b'gas = "fhp1"\nwidth = 512\nheight = 512\nrate = 300\n'
+GENERATIONS = 5001  # which take long enough on any machine that a line is due
+BLOCKS = f"coarse --generations {GENERATIONS} --block-width 512 --block-height 512"
+WIPE = "\r\x1b[K"
+LINE = re.compile(re.escape(WIPE) + r"(\d+) of (\d+) generations \((\d+) %\)")
+
+
+def read_to_end(terminal, told):
+    """Adds what a terminal shows to the list. A program waits for ever on a terminal that is full, so it is read meanwhile."""
+    with contextlib.suppress(OSError):
+        while part := os.read(terminal, 65536):
+            told.append(part)
+
+
+def on_terminal(words):
+    """The status, what came on standard output, and what the terminal showed."""
+    ours, theirs = pty.openpty()
+    process = subprocess.Popen(
+        [PROGRAM, *words.split()], stdin=subprocess.PIPE, stdout=subprocess.PIPE, stderr=theirs
+    )
+    os.close(theirs)
+    told = []
+    reader = threading.Thread(target=read_to_end, args=(ours, told))
+    reader.start()
+    answer, _ = process.communicate(SCENE)
+    reader.join()
+    os.close(ours)
+    return process.returncode, answer, b"".join(told).decode()
+
+
+def tells(told):
+    """Whether the terminal showed growing numbers of generations with their shares, and the line was wiped in the end."""
+    lines = [tuple(map(int, found.groups())) for found in LINE.finditer(told)]
+    right = all(
+        total == GENERATIONS and part < total and share == part * 100 // total
+        for part, total, share in lines
+    )
+    return lines != [] and lines == sorted(lines) and right and LINE.sub("", told) == WIPE
+
+
+def is_told(words, is_long):
+    plain = subprocess.run([PROGRAM, *words.split()], input=SCENE, capture_output=True)
+    status, answer, told = on_terminal(words)
+    return (
+        (status, answer) == (plain.returncode, plain.stdout) == (0, plain.stdout)
+        and not plain.stderr
+        and (tells(told) if is_long else told == "")
+    )
+
+
+def awaits_scene():
+    ours, theirs = pty.openpty()
+    process = subprocess.Popen(
+        [PROGRAM, "check"], stdin=theirs, stdout=subprocess.PIPE, stderr=subprocess.PIPE
+    )
+    os.close(theirs)
+    os.write(ours, SCENE.replace(b"rate = 300", b"rate = 0") + b"\x04")
+    answer, told = process.communicate()
+    os.close(ours)
+    line = b"fhpgas: type a scene, and end it by Ctrl-D on a line of its own\n"
+    return (process.returncode, answer, told) == (
+        0,
+        b"gas fhp1 width 512 height 512 solid 0 particles 0\n",
+        line,
+    )
+
+
+cases = {
+    words: is_told(words, words.count(str(GENERATIONS)))
+    for words in (f"run --generations {GENERATIONS}", BLOCKS, "check", "run --generations 0")
+}
+cases["a scene that is typed"] = awaits_scene()
+for name in (name for name, is_right in cases.items() if not is_right):
+    print(f"FAILED: {name}")
+print(f"{sum(cases.values())} passed, {len(cases) - sum(cases.values())} failed")
+sys.exit(not all(cases.values()))

@@ -1,0 +1,53 @@
+#!/usr/bin/env python3
+"""Prints the record of a run of `make test`, of the log of its gate, the lines of its parts and its seconds: what was proved by which kit,
+where each wrong body was refused, what the tests counted, and the checksum of the program. `make archive` packs it."""
+
+import datetime
+import hashlib
+import os
+import pathlib
+import re
+import subprocess
+import sys
+
+sys.path.append(f"{sys.path[0]}/../lib")
+import needs
+
+
+def said_by(*words):
+    return subprocess.run(words, capture_output=True, text=True, cwd=needs.ROOT).stdout.strip()
+
+
+def proofs(log):
+    """A line for each crate: its proved functions, and whether this run proved it."""
+    for crate in re.findall(r"^(\w+):", (needs.ROOT / "crates.txt").read_text(), re.M):
+        section = re.search(rf"^== {crate}\n(.*?)(?=^== |\Z)", log, re.M | re.S)
+        counts = re.search(
+            r"^logic=proved functions=\d+(?: axioms=\d+)?", section[1] if section else "", re.M
+        )
+        earlier = (
+            "proved in an earlier run on this machine"
+            if f"{crate} is kept" in log
+            else "not proved"
+        )
+        yield f"{crate:20} {counts[0] if counts else earlier}"
+
+
+def main():
+    log, parts = (pathlib.Path(word).read_text(errors="replace") for word in sys.argv[1:3])
+    program = needs.ROOT / "crates/fhpgas/out/fhpgas"
+    print(f"kit       {said_by('rt', 'version')}")
+    changed = " and changes" if said_by("git", "status", "--porcelain") else ""
+    print(f"commit    {said_by('git', 'rev-parse', 'HEAD')}{changed}")
+    print(
+        f"ended     {datetime.datetime.now(datetime.timezone.utc):%Y-%m-%d %H:%M} UTC, after {sys.argv[3]} seconds on {os.cpu_count()} processors"
+    )
+    print(f"program   SHA-256 {hashlib.sha256(program.read_bytes()).hexdigest()}")
+    print(f"gate      {log.strip().splitlines()[-1]}\n\nProofs\n")
+    print("\n".join(proofs(log)))
+    print("\nWrong bodies\n")
+    print("\n".join(re.findall(r"must-fail (\w+/.*)", log)))
+    print(f"\nTests\n\n{parts}", end="")
+
+
+main()

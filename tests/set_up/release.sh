@@ -1,0 +1,75 @@
+#!/bin/bash
+# Makes the release of the built program, unpacks its archive far from kit and sources, and runs the program and the Python package there.
+# Ends with the counts.
+. "$(dirname "$0")/../lib/try.sh"
+
+# alone WORDS..: a command in the unpacked folder, without this machine's environment
+alone() { (cd "$folder" && exec env -i PATH="${path-/nowhere}" PYTHONPATH=python "$@"); }
+
+# prints FILE SCENE: whether the unpacked program prints FILE for the scene, and leaves standard error empty
+prints() { alone ./fhpgas run --generations 1 < "$2" > "$room/printed" 2> "$room/told" && cmp "$room/printed" "$1" && [ ! -s "$room/told" ]; }
+
+refuses() { ! alone ./fhpgas check < /dev/null > "$room/printed" 2> "$room/told" && [ ! -s "$room/printed" ] && [ -s "$room/told" ]; }
+
+needs_libc() {
+    ldd "$folder/fhpgas" > "$room/needed" && ! grep -vE '^\s*(linux-vdso\.so\.1|(/lib64/)?ld-linux-x86-64\.so\.2|lib(c|m)\.so\.6) ' "$room/needed"
+}
+
+# runs_inside: the package runs a lattice by its own engine, and makes the cells that the program makes
+runs_inside() {
+    alone python3 -c 'import fhpgas
+start = fhpgas.draw_gas(0.2, size=fhpgas.Size(100, 40))
+assert fhpgas.engine.serves(start, 9) and start.run(9) == start.run(9, stages=1)'
+}
+
+# is_old_enough: the engine needs no newer C library than the wheel says
+is_old_enough() { [ "$({ grep -ahoP 'GLIBC_\K2[.0-9]+' "$folder"/python/fhpgas/*.so; echo 2.17; } | sort -V | tail -n 1)" = 2.17 ]; }
+
+python=$(tests/lib/needs.py | sed -n 1p)
+# number FILES..: how many they are
+number() { echo $#; }
+
+# has_files FILES..: whether the release has these files, which are not empty
+has_files() { local file; for file; do [ -s "$room/release/$file" ] || { echo "$file is missing"; return 1; }; done; }
+
+mkdir "$room/other place"
+try 'the release is made' tools/release.sh "$room/release"
+version=$(crates/fhpgas/out/fhpgas --version | cut -d ' ' -f 2)
+try 'it has archive, page and lesson' has_files "fhpgas-$version.tar.gz" fhpgas.html LESSON.md NOTICES.md LICENSE-MIT LICENSE-APACHE
+try 'it has a wheel for Linux and one for all systems' [ "$(number "$room/release"/*.whl)" = 2 ]
+try 'the sums are of all that is in it' [ "$(number "$room/release"/*)" = "$(($(grep -c '' "$room/release/SHA256SUMS") + 1))" ]
+try 'and are right' env -C "$room/release" sha256sum --check --quiet SHA256SUMS
+try 'the archive unpacks' tar -xzf "$room/release/fhpgas-$version.tar.gz" -C "$room/other place"
+folder=$(echo "$room/other place"/*)
+try 'it holds one folder' [ -d "$folder" ]
+try 'and in it nothing but files and folders' [ -z "$(find "$folder" ! -type f ! -type d)" ]
+try 'it is the built program' cmp "$folder/fhpgas" crates/fhpgas/out/fhpgas
+
+printf 'generation 1 particles 2\n....02..\n........\n..10....\n' > "$room/wanted"
+printf 'gas = "fhp1"\nchirality = "left"\ncells = ["........", "..09....", "........"]\n' > "$room/scene"
+try 'it prints the two particles flown apart' prints "$room/wanted" "$room/scene"
+try 'so it does for the scene that comes with it' prints "$room/wanted" "$folder/scenes/head_on.toml"
+try 'a scene of no text is refused' refuses
+try 'it needs the C library alone' needs_libc
+
+try 'the links of its documents lead to what is in it' "$folder/tests/documents/links.py"
+path=${python%/*}
+try 'the Python package finds the program' alone python3 -m fhpgas over-time scenes/wind.toml 2 1 > "$room/told"
+try 'it has an engine of its own' runs_inside
+wheel=$(cd "$folder" && echo fhpgas-*.whl)
+try 'the wheel says its platform' [ "${wheel#*-py3-none-}" = manylinux_2_17_x86_64.whl ]
+try 'and is right' is_old_enough
+if command -v wasm-opt > /dev/null; then try 'the page has the engine' cmp "$folder/page/engine.js" "$room/release/engine.js"; else leave_out "the page's engine"; fi
+try 'C has the header and an example' [ -s "$folder/include/fhpgas.h" -a -s "$folder/examples/profile.c" ]
+FHPGAS=$folder/fhpgas part tests/package/wheel.py "$folder"/fhpgas-*.whl
+
+if "$python" -c 'import sphinx, numpydoc' 2> /dev/null; then try 'it has the reference of the package' grep -q fhpgas.random_gas.draw_gas "$folder/docs/reference/index.html"; fi
+try 'README names the level' grep -qE 'built for x86-64-v[23]$' "$folder/README"
+try 'README says that there is no proof in hand' grep -q 'holds no proof' "$folder/README"
+for file in LICENSE-MIT LICENSE-APACHE; do try "$file" cmp "$file" "$folder/$file"; done
+for file in clap/LICENSE-MIT crossbeam_utils/LICENSE-MIT rand_chacha/LICENSE-MIT rtrb/LICENSE-MIT toml/LICENSE-MIT \
+    arrayvec/LICENSE-MIT serde/LICENSE-MIT thiserror/LICENSE strsim/LICENSE ryu/LICENSE ryu/LICENSE-ZMIJ core/LICENSE-UNICODE; do
+    try "the notice $file" [ -s "$folder/licences/$file" ]
+done
+try "Unicode's notice is its licence, version 3" grep -q 'UNICODE LICENSE V3' "$folder/licences/core/LICENSE-UNICODE"
+tell
