@@ -114,6 +114,11 @@ impl PopEnd {
             received self.new.ring ≡ received self.old.ring ++ self.new.words.items }
         ensures unchanged { IsFalse result → received self.new.ring ≡ received self.old.ring }
     {
+        // A try that finds no row is not worth a call.
+        let row_words = self.words.len();
+        if self.ring.cached_slots() < row_words && self.ring.slots() < row_words {
+            return false;
+        }
         replace_with(self, PhantomData::<G>, PopEnd::pop_by_value::<G>)
     }
 }
