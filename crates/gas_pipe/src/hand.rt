@@ -10,7 +10,7 @@ use crate::ends::{LinePut, LineTake};
 use crate::waiter::Waiter;
 use gas_geom::gas::Gas;
 use gas_pipe_members::ends::Turned;
-use gas_pipe_members::plan::{RunInput, Schedule};
+use gas_pipe_members::plan::{RunInput, Span};
 use gas_pipe_members::worker::Worker;
 use gas_rows::row::Row;
 use std::alloc::{AllocError, Global};
@@ -48,7 +48,7 @@ impl Visited {
 #[derive(Drop)]
 pub struct Hand<'a, G: Gas> {
     who: u32,
-    schedule: Schedule,
+    span: Span,
     pass: u64,
     worker: Worker<'a, G>,
 }
@@ -62,16 +62,16 @@ impl<'a, G: Gas> Model for Hand<'a, G> {
 
     ghost view = { λ h. record {
       who = h.who;
-      first = h.schedule.first;
-      plan = h.schedule.plan;
+      first = h.span.first;
+      plan = h.span.plan;
       pass = h.pass;
       worker = h.worker;
     } };
 
     ghost invariant = { λ h. record {
       some : 1 ≤ h.who;
-      one_of : h.who ≤ h.schedule.plan.stages;
-      within : h.pass < div_ceil h.schedule.plan.generations h.schedule.plan.stages;
+      one_of : h.who ≤ h.span.plan.stages;
+      within : h.pass < div_ceil h.span.plan.generations h.span.plan.stages;
     } };
 }
 
@@ -85,10 +85,10 @@ impl<'a, G: Gas> Hand<'a, G> {
         ensures come { IfOk result (λ h. HasCome G.rules h [] []) }
     {
         let mut worker = Worker::new(alloc, input.lattice.channel(), input.chirality)?;
-        worker.begin(input.schedule.generation(0, k + 1));
+        worker.begin(input.span.generation(0, k + 1));
         Ok(Hand {
             who: k + 1,
-            schedule: input.schedule,
+            span: input.span,
             pass: 0,
             worker,
         })
@@ -110,13 +110,12 @@ impl<'a, G: Gas> Hand<'a, G> {
             HasCome G.rules self.old taken put →
             HasCome G.rules self.new taken put × HasFinished G.rules (post_of self.new) taken put }
     {
-        if self.pass + 1 == self.schedule.plan.passes() {
+        if self.pass + 1 == self.span.plan.passes() {
             return false;
         }
         gate.enter(self.who);
         self.pass += 1;
-        self.worker
-            .begin(self.schedule.generation(self.pass, self.who));
+        self.worker.begin(self.span.generation(self.pass, self.who));
         true
     }
 

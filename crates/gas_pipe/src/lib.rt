@@ -35,7 +35,7 @@ pub use gas_pipe_members::ends::{PutEnd, TakeEnd, Turned};
 pub use gas_pipe_members::feeder::Feeder;
 pub use gas_pipe_members::plain_belt::PlainBelt;
 pub use gas_pipe_members::plan::{Plan, PlanError, RunError};
-use gas_pipe_members::plan::{RunInput, Schedule};
+use gas_pipe_members::plan::{RunInput, Span};
 pub use gas_pipe_members::worker::Worker;
 pub use gas_pipe_model::pass;
 pub use gas_pipe_replay::pass::{Counts, Replay};
@@ -119,7 +119,7 @@ pub fn run<G: Gas + Send, H: Gate + Sync, R: Threads + Wait + Sync>(
     let input = RunInput {
         lattice,
         chirality,
-        schedule: Schedule { first, plan },
+        span: Span { first, plan },
     };
     Ok(run_line(rt, alloc, gate, &input, feeder)?)
 }

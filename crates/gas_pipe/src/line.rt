@@ -65,7 +65,7 @@ fn make_belt<G: Gas>(alloc: Global, input: &RunInput<'_, G>) -> Result<(Tx<G>, R
     ensures nothing_taken { IfOk result (λ r. r.1.taken ≡ []) }
 {
     let width = input.lattice.channel().size().width();
-    belt(alloc, input.schedule.plan.capacity(), width)
+    belt(alloc, input.span.plan.capacity(), width)
 }
 
 // The workers that take from the belts from the k-th on, n of them.
@@ -98,7 +98,7 @@ fn make_inner_belts<G: Gas>(
     ensures count { IfOk result (λ belts. length belts.items ≡ n) }
 {
     let width = input.lattice.channel().size().width();
-    let capacity = input.schedule.plan.capacity().min(MOST_WITHIN);
+    let capacity = input.span.plan.capacity().min(MOST_WITHIN);
     let mut belts = Vec::with_capacity(alloc, n as usize)?;
     for k in 0..n {
         belts.push(InnerBelt::new(alloc, capacity, width)?)?;
@@ -179,7 +179,7 @@ fn make_line<'e, G: Gas>(
     requires begun { MayHaveFedInput G.rules input.now feeder [] [] }
     ensures linked { IfOk result (λ r. IsLinked G.rules input.now r.0 r.1.items) }
 {
-    let plan = input.schedule.plan;
+    let plan = input.span.plan;
     let first = first_share(plan);
     let own = if first == 0 { 0 } else { share(plan, 0) };
     let mut chains = Vec::with_capacity(alloc, plan.threads() as usize)?;
@@ -326,7 +326,7 @@ fn join_and_meet<G: Gas, R: Threads>(
     };
     Some(Run {
         lattice: feeder.finish(),
-        plan: input.schedule.plan,
+        plan: input.span.plan,
         belts,
     })
 }
@@ -345,7 +345,7 @@ fn run_in_scope<'s, 'e: 's, G: Gas + Send + 'e, H: Gate + Sync, R: Threads + Wai
     let Ok((mut own, chains)) = make_line(alloc, input, feeder) else {
         return None;
     };
-    let most_belts = input.schedule.plan.stages() as usize + 1;
+    let most_belts = input.span.plan.stages() as usize + 1;
     let Ok(belts) = Vec::with_capacity(alloc, most_belts) else {
         return None;
     };
@@ -370,7 +370,7 @@ pub(crate) fn run_line<G: Gas + Send, H: Gate + Sync, R: Threads + Wait + Sync>(
     requires begun { MayHaveFedInput G.rules input.now feeder [] [] }
     ensures { IfOk result (λ run. IsRunOf G.rules input.now run) }
 {
-    let plan = input.schedule.plan;
+    let plan = input.span.plan;
     let wake_ups = WakeUps::new(alloc, plan.threads() - first_share(plan))?;
     let shared = &Shared {
         rt,

@@ -181,13 +181,13 @@ impl Plan {
 
 /// A plan over a lattice of generation `first`.
 #[derive(Clone, Copy)]
-pub struct Schedule {
+pub struct Span {
     pub first: u64,
     pub plan: Plan,
     ghost room: { first + plan.generations < 2 ^ 64 },
 }
 
-impl Schedule {
+impl Span {
     /// The generation from which worker `who`, counted from 1, computes the step in a pass, counted
     /// from 0. None if it hands rows on unchanged.
     pub fn generation(&self, pass: u64, who: u32) -> Option<u64>
@@ -210,7 +210,7 @@ impl Schedule {
 pub struct RunInput<'a, G: Gas> {
     pub lattice: &'a Lattice<G>,
     pub chirality: Chirality,
-    pub schedule: Schedule,
+    pub span: Span,
 }
 
 impl<'a, G: Gas> Model for RunInput<'a, G> {
@@ -220,8 +220,8 @@ impl<'a, G: Gas> Model for RunInput<'a, G> {
 
     ghost view = { λ input. record {
       chirality = input.chirality;
-      first = input.schedule.first;
+      first = input.span.first;
       lattice = input.lattice.now;
-      plan = input.schedule.plan;
+      plan = input.span.plan;
     } };
 }

@@ -14,7 +14,7 @@ ghost use Rattle.gas_pipe_replay.specs.Replay.{replay_of};
 use crate::local_line::LocalLine;
 use crate::pass::Replay;
 use gas_geom::gas::Gas;
-use gas_pipe_members::plan::{Plan, RunError, RunInput, Schedule};
+use gas_pipe_members::plan::{Plan, RunError, RunInput, Span};
 use gas_rows::chirality::Chirality;
 use gas_rows::lattice::Lattice;
 use std::alloc::Global;
@@ -50,7 +50,7 @@ pub fn replay<G: Gas>(
     let input = RunInput {
         lattice,
         chirality,
-        schedule: Schedule { first, plan },
+        span: Span { first, plan },
     };
     let mut line = LocalLine::new(alloc, &input)?;
     line.run(turns);

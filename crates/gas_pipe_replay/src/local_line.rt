@@ -62,11 +62,11 @@ fn begin_workers<'a, G: Gas>(
     ensures some { 0 < input.now.plan.stages }
     ensures few { input.now.plan.stages ≤ 64 }
 {
-    let stages = input.schedule.plan.stages();
+    let stages = input.span.plan.stages();
     let mut workers = Vec::with_capacity(alloc, stages as usize)?;
     for k in 0..stages {
         let mut worker = Worker::new(alloc, input.lattice.channel(), input.chirality)?;
-        worker.begin(input.schedule.generation(0, k + 1));
+        worker.begin(input.span.generation(0, k + 1));
         workers.push(worker)?;
     }
     Ok(workers)
@@ -109,7 +109,7 @@ impl<'a, G: Gas> LocalLine<'a, G> {
         Ok(LocalLine {
             feeder,
             workers: begin_workers(alloc, input)?,
-            belts: make_belts(alloc, input.schedule.plan)?,
+            belts: make_belts(alloc, input.span.plan)?,
         })
     }
 

@@ -7,7 +7,7 @@ use gas_geom::fhp1::Fhp1;
 use gas_geom::size::Size;
 use gas_pipe::Turned::{Put, Stray};
 use gas_pipe::{Feeder, PlainBelt, Plan, PutEnd, TakeEnd, Worker};
-use gas_pipe_members::plan::Schedule;
+use gas_pipe_members::plan::Span;
 use gas_rows::channel::Channel;
 use gas_rows::chirality::Chirality;
 use gas_rows::chirality::Chirality::{Left, Seeded};
@@ -35,7 +35,7 @@ fn words(row: &Row<Fhp1>) -> Option<Words> {
 // A line over the first of these lattices, and the number of their rows.
 #[derive(Clone, Copy)]
 struct Line<'a> {
-    schedule: Schedule,
+    span: Span,
     lattices: &'a [Lattice<Fhp1>],
     height: u32,
 }
@@ -53,8 +53,8 @@ impl Line<'_> {
     fn beginning(&self, k: usize, put: u32) -> Option<Option<u64>> {
         let who = u32::try_from(k).ok()?;
         let pass = u64::from(put / self.height.max(1));
-        if pass < self.schedule.plan.passes() && who < self.schedule.plan.stages() {
-            Some(self.schedule.generation(pass, who + 1))
+        if pass < self.span.plan.passes() && who < self.span.plan.stages() {
+            Some(self.span.generation(pass, who + 1))
         } else {
             None
         }
@@ -203,7 +203,7 @@ fn carries(
         return Err(Fail::new("no lattice"));
     };
     let line = Line {
-        schedule: Schedule { first: 0, plan },
+        span: Span { first: 0, plan },
         lattices,
         height: first.channel().size().height(),
     };

@@ -13,7 +13,7 @@ returns-then-self-passes-clause-over g c _ taken put was =
 pub returns-clause-come : goal.returns-clause-come
 returns-clause-come g c _ taken put was =
     let old = c.self.inside in
-    let h : HandModel = record { who = old.who; first = old.schedule.first; plan = old.schedule.plan; pass = old.pass; worker = old.worker } in
+    let h : HandModel = record { who = old.who; first = old.span.first; plan = old.span.plan; pass = old.pass; worker = old.worker } in
     let came = subst (λ (i : HandModel). HasCome g.G.Gas.rules i taken put) (sym c.self.view_is) was in
     let closed = subst (λ (i : HandModel). IsClosed i.worker) (sym c.self.view_is) c.requires.closed in
     let begun = subst (λ (e : Option ℕ). MayHaveDone g.G.Gas.rules c.begin.new.self e [] []) c.generation.ensures.value c.begin.ensures.nothing_done in

@@ -6,6 +6,6 @@ use Rattle.gas_pipe.proofs.hand.Hand.new.Goals as goal
 
 pub returns-clause-come : goal.returns-clause-come
 returns-clause-come g c =
-    let schedule = c.input.inside.schedule in
-    let h : HandModel = record { who = c.args.k + 1; first = schedule.first; plan = schedule.plan; pass = 0; worker = c.begin.new.self } in
+    let span = c.input.inside.span in
+    let h : HandModel = record { who = c.args.k + 1; first = span.first; plan = span.plan; pass = 0; worker = c.begin.new.self } in
     begins g.G.Gas.rules h refl (subst (λ (e : Option ℕ). MayHaveDone g.G.Gas.rules c.begin.new.self e [] []) c.generation.ensures.value c.begin.ensures.nothing_done)

@@ -9,7 +9,7 @@ returns-then-not-begin_next g c =
     let t = g.met.T.LineTake in
     let p = g.met.P.LinePut in
     let old = c.self.inside in
-    let h : HandModel = record { who = old.who; first = old.schedule.first; plan = old.schedule.plan; pass = old.pass; worker = old.worker } in
+    let h : HandModel = record { who = old.who; first = old.span.first; plan = old.span.plan; pass = old.pass; worker = old.worker } in
     let did = c.in-Done.ensures.turned in
     let was = subst (λ (i : HandModel). HasCome g.G.Gas.rules i (g.T.LineTake.taken c.loop.take) (g.P.LinePut.put c.loop.put)) (sym c.self.view_is) c.loop.invariant.come in
     let took = t.rests_is _ _ did.0 in
@@ -30,7 +30,7 @@ returns-in-Idle-clause-come g c =
     let t = g.met.T.LineTake in
     let p = g.met.P.LinePut in
     let old = c.self.inside in
-    let h : HandModel = record { who = old.who; first = old.schedule.first; plan = old.schedule.plan; pass = old.pass; worker = old.worker } in
+    let h : HandModel = record { who = old.who; first = old.span.first; plan = old.span.plan; pass = old.pass; worker = old.worker } in
     let did = c.in-Idle.ensures.turned in
     let was = subst (λ (i : HandModel). HasCome g.G.Gas.rules i (g.T.LineTake.taken c.loop.take) (g.P.LinePut.put c.loop.put)) (sym c.self.view_is) c.loop.invariant.come in
     came_rests g.G.Gas.rules h c.turn.new.self _ _ (g.T.LineTake.taken c.turn.new.take) (g.P.LinePut.put c.turn.new.put) was c.turn.ensures.same did.2
@@ -47,7 +47,7 @@ loop-preserved g c =
     let t = g.met.T.LineTake in
     let p = g.met.P.LinePut in
     let old = c.self.inside in
-    let h : HandModel = record { who = old.who; first = old.schedule.first; plan = old.schedule.plan; pass = old.pass; worker = old.worker } in
+    let h : HandModel = record { who = old.who; first = old.span.first; plan = old.span.plan; pass = old.pass; worker = old.worker } in
     let was = subst (λ (i : HandModel). HasCome g.G.Gas.rules i (g.T.LineTake.taken c.loop.take) (g.P.LinePut.put c.loop.put)) (sym c.self.view_is) c.loop.invariant.come in
     let post = same_post h c.turn.new.self c.turn.ensures.same ∙ ap post_of c.self.view_is ∙ c.loop.invariant.post in
     elim c.match-turn.branch [
