@@ -5,7 +5,6 @@ counts."""
 import base64
 import contextlib
 import hashlib
-import json
 import pathlib
 import re
 import shutil
@@ -18,28 +17,13 @@ sys.path.append(f"{sys.path[0]}/../lib")
 import needs
 
 PROGRAM = needs.built_program()
-needs.command("chromium")
-needs.libraries("selenium")
-from selenium import webdriver
+from tab import FILE, Late, Page
 from selenium.common.exceptions import WebDriverException
 from selenium.webdriver.common.action_chains import ActionChains
 from selenium.webdriver.common.by import By
 from selenium.webdriver.common.keys import Keys
 
-WORDS = (
-    "--headless=new",
-    "--no-sandbox",
-    "--disable-dev-shm-usage",
-    "--disable-gpu",
-    "--no-first-run",
-    "--disable-background-networking",
-    "--disable-component-update",
-    "--disable-sync",
-)
-FILE = needs.ROOT / "page/fhpgas.html"
-PATIENCE = 600  # seconds: far more than anything takes, and nothing here depends on it
 SOLID = [0x78, 0x82, 0x8C]
-NAMES = "const { $, chosen, live, look, marks, motion, said, shown, speeds } = fhpgas, head = fhpgas.head(), view = $('view');"
 KNOWN = 'gas = "fhp1"\nchirality = "left"\ncells = ["01........##", "..09......##", "......04..##", "..........##"]\n'
 QUICK = "#scene=flow past a disc&size=256 x 128&radius=14&gas=fhp1&pace=10"
 counts = {True: 0, False: 0}
@@ -50,10 +34,6 @@ def check(what, is_so, more=""):
     print("" if is_so else f"FAILED: {what} {more}\n", end="", flush=True)
 
 
-class Late(Exception):
-    """What was waited for did not come."""
-
-
 def tried(part, *words):
     """What a part returns. One that does not come to its end has failed, and the next ones go on."""
     try:
@@ -62,137 +42,11 @@ def tried(part, *words):
         return check(part.__name__, False, fault)
 
 
-class Page:
-    """A tab of Chromium with the page, in a window of a size, with fingers if it is a phone's."""
-
-    def __init__(self, room, after="", size=(1300, 860), has_fingers=False):
-        options = webdriver.ChromeOptions()
-        for word in WORDS:
-            options.add_argument(word)
-        options.add_experimental_option("prefs", {"download.default_directory": str(room)})
-        options.set_capability("goog:loggingPrefs", {"browser": "ALL", "performance": "ALL"})
-        metrics = {"width": size[0], "height": size[1], "pixelRatio": 2 if has_fingers else 1}
-        metrics |= {"touch": has_fingers, "mobile": has_fingers}
-        options.add_experimental_option("mobileEmulation", {"deviceMetrics": metrics})
-        self.driver, self.room = webdriver.Chrome(options=options), room
-        self.driver.set_script_timeout(PATIENCE)
-        self.go(after)
-
-    def go(self, after):
-        self.driver.get("about:blank")
-        self.driver.get(f"file://{FILE}{after.replace(' ', '%20')}")
-        self.view = self.driver.find_element(By.ID, "view")
-        self.wait("shown.painted > 2")
-
-    def js(self, text, *values):
-        return self.driver.execute_script(NAMES + text, *values)
-
-    def wait(self, condition):
-        end = time.monotonic() + PATIENCE
-        while not (found := self.js(f"return {condition}")):
-            if time.monotonic() > end:
-                raise Late(f"{condition} did not come: {self.js('return live.notes')}")
-            time.sleep(0.02)
-        return found
-
-    def choose(self, *events, **values):
-        """Sets controls, with these events."""
-        for name, value in values.items():
-            self.js(
-                "const e = $(arguments[0]); e[e.type === 'checkbox' ? 'checked' : 'value'] = arguments[1];"
-                "for (const event of arguments[2]) e.dispatchEvent(new Event(event))",
-                name,
-                value,
-                events,
-            )
-
-    def click(self, name):
-        self.driver.find_element(By.ID, name).click()
-
-    def key(self, *keys):
-        ActionChains(self.driver).send_keys(*keys).perform()
-
-    def pause(self):
-        if self.js("return shown.isRunning"):
-            self.click("play")
-        return self.wait(
-            "shown.hashes.length && !shown.isRunning && [head.generation, shown.hashes[0]]"
-        )
-
-    def at(self, x, y):
-        """Where a place of the lattice is in the picture."""
-        return self.js(
-            "const { place } = look; return [(arguments[0] - place.x) * place.scale, (arguments[1] - place.y) * place.scale]",
-            x,
-            y,
-        )
-
-    def drag(self, tool, *places, waits=True):
-        """Draws a line over places of the lattice with a tool, and waits until the page says what came of it."""
-        self.click(tool)
-        notes = self.js("return live.notes.length")
-        width, height = self.js("return [view.clientWidth, view.clientHeight]")
-        chain = ActionChains(self.driver, duration=50)
-        for number, place in enumerate(places):
-            x, y = self.at(*place)
-            x, y = round(x - width / 2), round(y - height / 2)
-            chain.move_to_element_with_offset(self.view, x, y)
-            chain = chain if number else chain.click_and_hold()
-        chain.release().perform()
-        self.wait(f"live.notes.length > {notes}" if waits else "!live.isScheduled")
-
-    def touch(self, *moments):
-        """Moves fingers over the picture: for each moment their places in it."""
-        box = self.js("const { x, y } = view.getBoundingClientRect(); return [x, y]")
-        for number, fingers in enumerate((*moments, ())):
-            kind = "touchMove" if number else "touchStart"
-            points = [
-                {"x": x + box[0], "y": y + box[1], "id": n} for n, (x, y) in enumerate(fingers)
-            ]
-            words = {"type": kind if fingers else "touchEnd", "touchPoints": points}
-            self.driver.execute_cdp_cmd("Input.dispatchTouchEvent", words)
-
-    def saved(self, button, suffix):
-        """The file that a button saves."""
-        old = set(self.room.iterdir())
-        self.click(button)
-        for _ in range(20 * PATIENCE):
-            for file in set(self.room.glob(f"*{suffix}")) - old:
-                if file.stat().st_size:
-                    return file.read_bytes()
-            time.sleep(0.05)
-        raise Late(f"{button} saved nothing")
-
-    def open(self, text):
-        file = self.room / "given.toml"
-        file.write_text(text)
-        self.driver.find_element(By.ID, "file").send_keys(str(file))
-
-    def pixel(self, x, y):
-        """The colour of a place of the lattice on the screen."""
-        return self.js(
-            "const r = devicePixelRatio, [x, y] = arguments;"
-            "return [...view.getContext('2d').getImageData(x * r, y * r, 1, 1).data].slice(0, 3)",
-            *self.at(x, y),
-        )
-
-    def ended(self, way):
-        """Nothing was asked of other hosts, and there is no error."""
-        messages = [
-            json.loads(one["message"])["message"] for one in self.driver.get_log("performance")
-        ]
-        asked = [
-            one["params"]["request"]["url"]
-            for one in messages
-            if one["method"] == "Network.requestWillBeSent"
-        ]
-        strangers = [
-            url for url in asked if not url.startswith(("file:", "blob:", "data:", "about:"))
-        ]
-        check(f"{way}: no request leaves this computer", not strangers, strangers)
-        errors = [one for one in self.driver.get_log("browser") if one["level"] == "SEVERE"]
-        check(f"{way}: no error in the console", not errors, errors)
-        self.driver.quit()
+def end(page, way):
+    """Closes the page. Nothing was asked of other hosts, and there is no error."""
+    strangers, errors = page.close()
+    check(f"{way}: no request leaves this computer", not strangers, strangers)
+    check(f"{way}: no error in the console", not errors, errors)
 
 
 def begins(page):
@@ -500,7 +354,7 @@ def phone(room):
     check("on its side too", 0.9 <= wide <= 1, wide)
     page.click("turn")
     check("the gas turns", page.wait("head.direction < 0 || head.found === 0"))
-    page.ended("phone")
+    end(page, "phone")
 
 
 def large(room):
@@ -521,7 +375,7 @@ def large(room):
             "shown.frames.length === 2 && $('numbers').children[1].textContent.startsWith('–')"
         ),
     )
-    page.ended("large")
+    end(page, "large")
 
 
 SELF_TEST = """
@@ -599,7 +453,7 @@ def desk(room):
         check("the address keeps what was drawn", found == solid, (found, solid))
     for part in seeded, cells, probe, keyboard, address:
         tried(part, page)
-    page.ended("desk")
+    end(page, "desk")
 
 
 def main():
