@@ -46,7 +46,7 @@ function difference({ unlike, parts }, out) {
 }
 
 /** dv/dx - du/dy by differences of neighbouring blocks, of one side if the other is solid, empty or past a wall. */
-function vorticity({ columns, rows, width, height, apart, tall, u, v }, out) {
+function vorticity({ columns, rows, width, height, gas: { apart }, tall, u, v }, out) {
   const middle = (y) => ((y * height + Math.min(tall, (y + 1) * height) - 1) / 2) * apart;
   for (let y = 0, i = 0; y < rows; y++) {
     const up = middle(y) - middle(y - 1), below = middle(y + 1) - middle(y);
@@ -121,7 +121,6 @@ export class TimeMean {
   /** @param {Gas} gas @param {number} tall the height of the lattice */
   constructor(gas, tall) {
     this.gas = gas;
-    this.apart = gas.apart;
     this.tall = tall;
   }
 

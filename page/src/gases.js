@@ -107,7 +107,7 @@ export function collisions(gas, side) {
 }
 
 /** The chances of Fermi and Dirac at a filling and a velocity: h and q are changed until number and momentum fit. */
-export function equilibrium(gas, filling, u, v = 0) {
+export function equilibrium(gas, filling, u = 0, v = 0) {
   const speeds = velocities(gas), all = gas.directions * filling, q = [0, 0];
   let chances = [], h = 0;
   for (let step = 0; step < 2000; step++) {

@@ -32,16 +32,15 @@ export function block(state, out, at) {
   out[at + 12] = d0 + s12 | 0; out[at + 13] = d1 + s13 | 0; out[at + 14] = d2 + s14 | 0; out[at + 15] = d3 + s15 | 0;
 }
 
-const low = (value) => Number(BigInt(value) & 0xffffffffn) | 0;
-const high = (value) => Number(BigInt(value) >> 32n) | 0;
+const words = (value) => new Int32Array(BigUint64Array.of(BigInt(value)).buffer);
 
 /** Room for whole blocks with so many words. */
 export const blocks = (words) => new Int32Array(Math.ceil(words / 16) * 16);
 
 /** Fills whole blocks from a stream of a seed. */
 export function keyStream(seed, stream, out) {
-  const state = Int32Array.of(0x61707865, 0x3320646e, 0x79622d32, 0x6b206574, low(seed), high(seed), 0, 0, 0, 0, 0, 0,
-    0, 0, low(stream), high(stream));
+  const state = Int32Array.of(0x61707865, 0x3320646e, 0x79622d32, 0x6b206574, ...words(seed), 0, 0, 0, 0, 0, 0, 0, 0,
+    ...words(stream));
   for (let at = 0; at < out.length; at += 16) {
     state[12] = at >> 4;
     block(state, out, at);

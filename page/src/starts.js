@@ -36,11 +36,10 @@ export function drawn(make, start) {
   const all = (isInside, change) => {
     for (let at = 0; at < states.length; at++) if (isInside(...flow.cells.placeOf(at))) change(at);
   };
-  const thousandths = (chances) => chances.map((chance) => Math.round(1000 * chance));
-  const evenly = (chance) => thousandths(Array(gas.directions).fill(chance));
+  const rates = (part, ...speed) => equilibrium(gas, part, ...speed).map((chance) => Math.round(1000 * chance));
   /** Fills a part of the cells otherwise. */
-  const refill = (isInside, seed, rates) => {
-    const inner = fillStates(gas, states.slice(), seed, rates);
+  const refill = (isInside, seed, chances) => {
+    const inner = fillStates(gas, states.slice(), seed, chances);
     all(isInside, (at) => (states[at] = inner[at]));
   };
   if (shape in SOLIDS) all(SOLIDS[shape](width, tall, radius), (at) => (states[at] = SOLID));
@@ -52,11 +51,11 @@ export function drawn(make, start) {
     if (bit % across < width) states[Math.floor(bit / across) * width + (bit % across)] ^= SOLID;
   }
   if (shape in PARTICLES) states[width + 1] = PARTICLES[shape];
-  else fillStates(gas, states, seed, wind ? thousandths(equilibrium(gas, filling, wind)) : evenly(filling));
-  if (shape === "letter") refill(isInL(width, tall), BigInt(seed) + 1n, evenly(0.6));
+  else fillStates(gas, states, seed, rates(filling, wind));
+  if (shape === "letter") refill(isInL(width, tall), BigInt(seed) + 1n, rates(0.6));
   // a gust to the north behind the disc, which starts the street
   const isGust = (x, y) => Math.hypot(x - width / 5 - 4 * radius, y - tall / 2) < 2 * radius;
-  if (shape === "street") refill(isGust, seed, thousandths(equilibrium(gas, filling, wind, wind / 2)));
+  if (shape === "street") refill(isGust, seed, rates(filling, wind, wind / 2));
   flow.cells.fill(states);
   if (shape === "sound") dense(flow, { at: [width / 2, tall / 2], radius });
   flow.begin();

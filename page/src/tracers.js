@@ -13,28 +13,29 @@ function velocityAt({ flow: { columns, rows, width, height, u, v }, apart }, [x,
   return [u[at], -v[at]];
 }
 
+/** @returns {Place} anywhere in a frame */
+const anywhere = ({ width, height, apart }) => [Math.random() * width, Math.random() * (height - 1) * apart];
+
 export class Tracers {
   /** @type {Place[]} */
   places = [];
   generation = 0;
 
-  spread({ width, height, apart, generation }) {
-    const anywhere = () => /** @type {Place} */ ([Math.random() * width, Math.random() * (height - 1) * apart]);
-    this.places = Array.from({ length: Math.min(NUMBER, Math.floor((width * height) / 60)) }, anywhere);
-    this.generation = generation;
+  spread(frame) {
+    const number = Math.min(NUMBER, Math.floor((frame.width * frame.height) / 60));
+    this.places = Array.from({ length: number }, () => anywhere(frame));
+    this.generation = frame.generation;
   }
 
   /** Carries the marks to the generation of a frame. */
   carry(frame) {
     const { width, height, apart, generation } = frame, long = Math.abs(generation - this.generation);
     this.generation = generation;
-    for (const place of this.places) {
+    this.places = this.places.map((place) => {
       const [u, v] = velocityAt(frame, place), x = (place[0] + u * long + width) % width, y = place[1] + v * long;
       const isIn = y > 0 && y < (height - 1) * apart && x >= 0;
-      const isOver = !isIn || Math.random() < long / LIFE;
-      place[0] = isOver ? Math.random() * width : x;
-      place[1] = isOver ? Math.random() * (height - 1) * apart : y;
-    }
+      return isIn && Math.random() >= long / LIFE ? [x, y] : anywhere(frame);
+    });
   }
 
   /** Paints streaks along the flow. */

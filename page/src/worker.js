@@ -46,7 +46,7 @@ const actsOf = (work, flows) => ({
   probe: (disc) => flows.watched.forEach((watched) => watched.probe(disc)),
 });
 
-export class Work {
+class Work {
   flows = new Flows();
   /** @type {{ name: keyof Commands, value: any }[]} */
   queue = [];
@@ -62,11 +62,11 @@ export class Work {
   pace = 10;
   wanted = {}; // the last hash
   channel = new MessageChannel();
+  acts = actsOf(this, this.flows);
 
-  /** @param {<K extends keyof Answers>(name: K, value: Answers[K]) => void} post */
-  constructor(post) {
-    this.post = post;
-    this.acts = actsOf(this, this.flows);
+  /** @template {keyof Answers} K @param {K} name @param {Answers[K]} value */
+  post(name, value) {
+    postMessage({ name, value });
   }
 
   /** Waits for the word to run. */
@@ -143,3 +143,6 @@ export class Work {
     if (wanted === this.wanted) this.post("hashes", { hashes });
   }
 }
+
+const work = new Work();
+onmessage = ({ data }) => work.take(data.name, data.value);
