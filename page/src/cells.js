@@ -47,7 +47,6 @@ export class Cells {
     this.kernel.cells.fill(0);
     this.kernel.solid.fill(0);
     states.forEach((state, at) => state && this.flip(at, state));
-    this.isBuilt = true;
   }
 
   kept() {

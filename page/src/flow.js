@@ -7,8 +7,6 @@ import { History } from "./history.js";
 import { copied } from "./kernel.js";
 import { FINE, sumsOf, totalsOf } from "./sums.js";
 
-const MOST_PATCHES = 64 * 2 ** 20; // bytes of what was done to the cells
-
 export class Flow {
   direction = 1; // -1 on the way back
   changes = 0; // counts what happens to the cells
@@ -22,7 +20,7 @@ export class Flow {
   /** @type {Int32Array | null} the solid cells that the preset has */
   shape = null;
   summed = { changes: -1, totals: [0, 0, 0, 0] };
-  history = new History(MOST_PATCHES);
+  history = new History();
 
   /**
    * @param {Kernel} kernel

@@ -15,11 +15,7 @@ export class History {
   /** @type {Segment[]} */
   segments = [];
   isCut = false; // old patches were given up
-
-  /** @param {number} most bytes of patches that are kept */
-  constructor(most) {
-    this.most = most;
-  }
+  most = 64 * 2 ** 20; // bytes of patches that are kept
 
   /** The cells and the generation that the way back reaches. */
   get origin() {
