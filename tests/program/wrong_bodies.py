@@ -64,6 +64,8 @@ def place(crate, told):
         promised = next(clauses for name, clauses in reversed(at) if name == function)
     else:
         return "-", "-", "a limit of the prover" if "only by a limit" in told else told[:60]
+    if "the `invariant` of the struct" in told:  # rt may cut off the goal's name
+        return file, function, "not a clause: the invariant of its struct"
     if re.match(r"returns[\w-]*$", goal) and told.endswith(goal):
         return file, function, "a clause whose name rt cut off"
     if clause := re.search(r"^returns.*clause-(\w+)", goal):
