@@ -111,6 +111,7 @@ impl<G: Gas> InnerBelt<G> {
           put = self.old.put ++ row ∷ [];
           held = self.old.held + 1;
         }) }
+        ensures width { OnOk result (length row ≡ self.old.width) }
         ensures back { IfErr result (λ r. r ≡ row) }
         ensures unchanged { OnErr result (self.new ≡ self.old) }
     {

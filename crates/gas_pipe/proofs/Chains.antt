@@ -43,6 +43,7 @@ all_come gas input k (suc n) (h ∷ hs) (b ∷ bs) come unused posts count =
       subst (λ (l : List RowModel). HasCome gas h l (put_first bs [])) (sym fresh.nothing_taken)
           (subst (λ (l : List RowModel). HasCome gas h [] l) (sym (put_first_unused input bs others)) begun),
       ap (λ (l : List PostModel). (first_post (post_of h) l).channel.width) posts ∙ sym fresh.width,
+      omega (arith, fresh.two_spares, ap (λ (l : List RowModel). length l) (put_first_unused input bs others)),
       all_come gas input (suc k) n hs bs (All-tail (λ i. HasCome gas i [] []) h hs come) others (ap other_posts posts) (omega (arith, count)),
     )
 all_come gas input k zero (h ∷ hs) bs come unused posts count = absurd (let e : suc (length (map post_of hs)) ≡ 0 = ap length posts in omega (arith, e))

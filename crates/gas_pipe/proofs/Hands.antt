@@ -1,5 +1,5 @@
 -- The steps of a worker with its passes, and what it has put in the end.
-use Rattle.std.proofs.Common.{◌≡◌, ℕ, suc, ◌+◌, ◌*◌, List, [], ◌∷◌, ◌++◌, ap, sym, refl, ◌∙◌, length, length-append, append_assoc, append-nil, arith}
+use Rattle.std.proofs.Common.{◌≡◌, ℕ, suc, ◌+◌, ◌*◌, ◌≤◌, None, List, [], ◌∷◌, ◌++◌, ap, sym, refl, ◌∙◌, length, length-append, append_assoc, append-nil, arith}
 use Rattle.std.specs.Int.{div_ceil}
 use Rattle.std.proofs.Math.Nat.{suc-mul, zero-mul}
 use Rattle.gas_geom.specs.Gas.{Rules}
@@ -7,9 +7,10 @@ use Rattle.gas_geom.specs.Channel.{ChannelModel}
 use Rattle.gas_rows.specs.Row.{RowModel}
 use Rattle.gas_stage.specs.Stage.{owed}
 use Rattle.gas_pipe_members.specs.Worker.{WorkerModel, SameWorker, IsClosed, MayHaveDone, Does}
-use Rattle.gas_pipe_members.proofs.Workers.{closed_all}
+use Rattle.gas_stage.proofs.Owed.{owed-all}
+use Rattle.gas_pipe_members.proofs.Workers.{closed_all, gave_few, gave_most}
 use Rattle.gas_pipe_model.specs.Pass.{computes_from}
-use Rattle.gas_pipe_model.proofs.Circle.{owed_pass, owed_none}
+use Rattle.gas_pipe_model.proofs.Circle.{owed_pass, owed_none, owed_high}
 use Rattle.gas_pipe.specs.Inner.Hand.{PostModel, HandModel, post_of, owes_until, HasCome, HasFinished}
 
 -- the worker v in the place of that of h
@@ -107,3 +108,26 @@ begins gas h zero begun = record {
       ∙ ap (λ (n : ℕ). owes_until gas (post_of h) n []) zero
       ∙ owed_none h.worker.stage.channel.height (λ i. owed gas h.worker.stage.channel h.worker.stage.chirality (computes_from h.first h.plan i h.who)) []);
 }
+
+-- a worker owes as many rows as it took in whole passes
+pub until_high : (gas : Rules) (p : PostModel) (n : ℕ) (q : List RowModel) → n * p.channel.height ≤ length q → length (owes_until gas p n q) ≡ n * p.channel.height
+until_high gas p n q h =
+    owed_high p.channel.height (λ i. owed gas p.channel p.chirality (computes_from p.first p.plan i p.who))
+    (λ i l. owed-all gas p.channel p.chirality (computes_from p.first p.plan i p.who) l) n q h
+
+-- how many rows it took and put
+module _ (gas : Rules) (h : HandModel) (t p : List RowModel) (was : HasCome gas h t p) where
+  taken_long : length t ≡ h.pass * h.worker.stage.channel.height + length was.took
+  taken_long = ap (λ (l : List RowModel). length l) was.came ∙ length-append was.took_before was.took ∙ omega (arith, was.whole)
+
+  put_long : length p ≡ h.pass * h.worker.stage.channel.height + length was.gave
+  put_long =
+      ap (λ (l : List RowModel). length l) was.went ∙ length-append (owes_until gas (post_of h) h.pass was.took_before) was.gave
+      ∙ omega (arith, until_high gas (post_of h) h.pass was.took_before (omega (arith, was.whole)))
+
+  pub put_few : length p ≤ length t
+  put_few = omega (arith, taken_long, put_long, gave_few gas h.worker _ was.took was.gave was.done)
+
+  -- if none waits, it has put all but one at least
+  pub put_most : h.worker.waiting ≡ None → length t ≤ length p + 1
+  put_most none = omega (arith, taken_long, put_long, gave_most gas h.worker _ was.took was.gave was.done none)

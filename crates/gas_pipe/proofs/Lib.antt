@@ -1,3 +1,4 @@
+pub mod Spares
 pub mod Hands
 pub mod Fed
 pub mod Rotations

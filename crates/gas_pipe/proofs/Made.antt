@@ -1,5 +1,5 @@
 -- The chains of a line when they are made: no row was put on any belt.
-use Rattle.std.proofs.Common.{◌≡◌, ℕ, suc, List, [], ◌∷◌, length, map, refl, sym, ap, ◌∙◌, subst, All}
+use Rattle.std.proofs.Common.{◌≡◌, ℕ, suc, List, [], ◌∷◌, length, map, refl, sym, ap, ◌∙◌, subst, All, arith}
 use Rattle.std.proofs.lemmas.List.{length-map}
 use Rattle.gas_geom.specs.Gas.{Rules}
 use Rattle.gas_geom.specs.Channel.{ChannelModel}
@@ -29,9 +29,9 @@ module _ (gas : Rules) (input : RunInputModel) (k n : ℕ) (hs : List HandModel)
   hands_come = subst (λ (u : List RowModel). AllHaveCome gas hs bs u) (sym nothing_put) (all_come gas input k n hs bs come unused posts count)
 
   -- a chain of workers, the first of which is h
-  pub chain_made : (j : ℕ) (h : HandModel) → k ≡ suc j → post_of h ≡ post_in input j → HasCome gas h [] [] →
+  pub chain_made : (j : ℕ) (h : HandModel) → k ≡ suc j → post_of h ≡ post_in input j → HasCome gas h [] [] → rx.held ≡ 2 →
       IsChainOf gas input j rx.belt (record { head = Worker h; hands = hs; belts = bs; rx = rx; tx = tx })
-  chain_made j h behind post begun = record {
+  chain_made j h behind post begun two_spares = record {
     h = h;
     head = refl;
     posts =
@@ -44,6 +44,7 @@ module _ (gas : Rules) (input : RunInputModel) (k n : ℕ) (hs : List HandModel)
           subst (λ (l : List RowModel). HasCome gas h l (put_first bs tx.put)) (sym nothing_taken)
           (subst (λ (l : List RowModel). HasCome gas h [] l) (sym none) begun);
       wide = belt.width ∙ sym (ap (λ (p : PostModel). p.channel.width) post);
+      spares = omega (arith, two_spares, ap (λ (l : List RowModel). length l) none);
       hands = hands_come;
     };
     nothing_taken = nothing_taken;
@@ -61,6 +62,7 @@ module _ (gas : Rules) (input : RunInputModel) (k n : ℕ) (hs : List HandModel)
           subst (λ (l : List RowModel). MayHaveFedInput gas input f (put_first bs tx.put) l) (sym nothing_taken)
           (subst (λ (l : List RowModel). MayHaveFedInput gas input f l []) (sym none) begun);
       wide = belt.width ∙ sym (ap (λ (c : ChannelModel). c.width) begun.channel);
+      spares = tt;
       hands = hands_come;
     };
   }

@@ -10,11 +10,12 @@ use Rattle.gas_pipe.specs.declared.job.JobPromise.{JobPromise}
 use Rattle.gas_rows.specs.Row.{RowModel}
 use Rattle.gas_pipe_model.specs.Pass.{RunInputModel, IsRunInput, rows_on}
 use Rattle.gas_pipe_model.specs.Inner.Circle.{owes_in}
-use Rattle.gas_pipe_model.proofs.Circle.{on_high, on_next, owed_high}
+use Rattle.gas_pipe_model.proofs.Circle.{on_high, on_next}
 use Rattle.gas_pipe_model.proofs.PlanCircle.{is_circle}
 use Rattle.gas_pipe.specs.Inner.Hand.{PostModel, post_of, post_in, HasFinished}
 use Rattle.gas_pipe.specs.Inner.Chain.{ChainModel, EndedModel, AllHaveFinished, EndsChain, put_first}
 use Rattle.gas_pipe.proofs.Chains.{first_post, other_posts}
+use Rattle.gas_pipe.proofs.Hands.{until_high}
 use Rattle.gas_pipe.specs.Inner.Links.{posts_in, Linked, last_belt, workers_in, job_of, carrying, rows_on_belt, belts_before, HaveMetUpTo}
 
 abbrev pub Handle : Type 0
@@ -34,9 +35,7 @@ module _ (gas : Rules) (input : RunInputModel) (is : IsRunInput gas input) where
   -- a worker of the run that is over put as many rows as go over each belt
   pub put_long : (k : ℕ) (t p : List RowModel) → HasFinished gas (post_in input k) t p → length p ≡ all_rows input
   put_long k t p ran =
-      ap length ran.owes_is
-      ∙ owed_high input.lattice.channel.height input.plan.stages (owes_in gas input) (λ q. q) (rows_on gas input) (is_circle gas input is (λ q. q) (λ m q. refl) (λ n. refl))
-      k (div_ceil input.plan.generations input.plan.stages) t (omega (arith, ran.whole))
+      ap length ran.owes_is ∙ until_high gas (post_in input k) (div_ceil input.plan.generations input.plan.stages) t (omega (arith, ran.whole))
 
   -- so as many rows were put on each belt between such workers as were taken
   pub evens : (k n : ℕ) (bs : List InnerModel) (u : List RowModel) → length (put_first bs u) ≡ all_rows input → AllHaveFinished gas (posts_in input k n) bs u →

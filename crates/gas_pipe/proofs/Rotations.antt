@@ -7,7 +7,7 @@ use Rattle.gas_geom.specs.Gas.{Rules}
 use Rattle.gas_rows.specs.Row.{RowModel}
 use Rattle.gas_belt.specs.Belt.{InnerModel}
 use Rattle.gas_pipe_members.specs.Feeder.{FeederModel}
-use Rattle.gas_pipe.specs.Inner.Hand.{HandModel, PostModel, post_of, HasCome, HasFinished}
+use Rattle.gas_pipe.specs.Inner.Hand.{HandModel, PostModel, post_of, HasCome, HasFinished, HasSpares}
 use Rattle.gas_geom.specs.Channel.{ChannelModel}
 use Rattle.gas_pipe_model.specs.Pass.{RunInputModel}
 use Rattle.gas_pipe.specs.Inner.Chain.{HeadHasCome, SameHead, width_of, AllHaveCome, AllHaveFinished, put_first}
@@ -32,13 +32,14 @@ same_posts (x ∷ hs) (suc k) d i low same = ap (λ (l : List PostModel). post_o
 
 -- a row is put on the first belt
 pub put_on_first : (gas : Rules) (l : List HandModel) (ds : List InnerModel) (u : List RowModel) (f g : InnerModel) → AllHaveCome gas l ds u → 0 < length ds →
-    g ≡ record (get_or ds 0 f) { put = g.put; held = g.held } → AllHaveCome gas l (set ds 0 g) u
+    g ≡ record (get_or ds 0 f) { put = g.put } → AllHaveCome gas l (set ds 0 g) u
 put_on_first gas l [] u f g all few same = absurd (omega (arith, few))
 put_on_first gas [] (x ∷ ds) u f g all few same = absurd all
 put_on_first gas (j ∷ l) (x ∷ ds) u f g all few same = (
   subst (λ (t : List RowModel). HasCome gas j t (put_first ds u)) (sym (ap (λ (y : InnerModel). y.taken) same)) all.0,
   all.1 ∙ sym (ap (λ (y : InnerModel). y.width) same),
-  all.2,
+  omega (arith, all.2, ap (λ (y : InnerModel). y.held) same, ap (λ (y : InnerModel). length y.taken) same),
+  all.3,
 )
 
 module _ (gas : Rules) (hs : List HandModel) (k : ℕ) (bs before behind : List InnerModel) (u : List RowModel) (d : HandModel) (e : InnerModel) (some : 0 < length bs)
@@ -61,12 +62,13 @@ module _ (gas : Rules) (hs : List HandModel) (k : ℕ) (bs before behind : List 
   -- after the visit the worker is i, its belt is c, and the workers after it are `rest` between the belts `others`
   module _ (i : HandModel) (c : InnerModel) (post : post_of i ≡ post_of h) (same : c ≡ record b { taken = c.taken; held = c.held }) (u2 : List RowModel) (hs2 rest : List HandModel) (others : List InnerModel)
       (left : drop k hs2 ≡ i ∷ rest) where
-    pub placed : HasCome gas i c.taken (put_first others u2) → AllHaveCome gas rest others u2 → AllHaveCome gas (drop k hs2) (set before 0 c ++ others) u2
-    placed came all =
+    pub placed : HasCome gas i c.taken (put_first others u2) → HasSpares c.held c.taken (put_first others u2) → AllHaveCome gas rest others u2 →
+        AllHaveCome gas (drop k hs2) (set before 0 c ++ others) u2
+    placed came spares all =
         let wide : i.worker.stage.channel.width ≡ c.width = ap (λ (p : PostModel). p.channel.width) post ∙ here.1 ∙ ap (λ (d : InnerModel). d.width) (sym same) in
         let set_is : set before 0 c ++ others ≡ c ∷ others = ap (λ (l : List InnerModel). set l 0 c ++ others) (one_is before e long) in
         subst (λ (l : List InnerModel). AllHaveCome gas (drop k hs2) l u2) (sym set_is)
-        (subst (λ (l : List HandModel). AllHaveCome gas l (c ∷ others) u2) (sym left) (came, wide, all))
+        (subst (λ (l : List HandModel). AllHaveCome gas l (c ∷ others) u2) (sym left) (came, wide, spares, all))
 
     pub placed_over : HasFinished gas (post_of i) c.taken (put_first others u2) → AllHaveFinished gas (map post_of rest) others u2 →
         AllHaveFinished gas (map post_of (drop k hs2)) (set before 0 c ++ others) u2
@@ -101,12 +103,12 @@ module _ (gas : Rules) (hs : List HandModel) (k : ℕ) (bs before behind : List 
     kept_more = whole ∙ ap (λ (l : List HandModel). take k hs ++ l) (sym left_more)
 
   -- what is required to go on behind it
-  pub goes_on : (i : HandModel) (f g : InnerModel) → 0 < length behind → g ≡ record (get_or behind 0 f) { put = g.put; held = g.held } →
+  pub goes_on : (i : HandModel) (f g : InnerModel) → 0 < length behind → g ≡ record (get_or behind 0 f) { put = g.put } →
       AllHaveCome gas (drop (k + 1) (set hs k i)) (set behind 0 g) u
   goes_on i f g more same =
       let on : k + 1 ≡ suc k = omega arith in
       let less : k < k + 1 = omega arith in
-      let all = put_on_first gas (drop (suc k) hs) behind u f g here.2 more same in
+      let all = put_on_first gas (drop (suc k) hs) behind u f g here.3 more same in
       subst (λ (l : List HandModel). AllHaveCome gas l (set behind 0 g) u) (ap (λ (n : ℕ). drop n hs) (sym on) ∙ sym (drop-set-lt (k + 1) hs k i less)) all
 
 pub none_left : (ds : List InnerModel) → true ≡ (length ds == 0) → ds ≡ []

@@ -1,11 +1,11 @@
 //! The members of a thread: the feeder or a worker, and the workers behind it.
-ghost use Rattle.std.specs.Prelude.{◌≡◌, ◌<◌, ◌++◌, length, map, take, drop, IsTrue};
+ghost use Rattle.std.specs.Prelude.{◌≡◌, ◌<◌, ◌++◌, ◌↔◌, length, map, take, drop, IsTrue};
 ghost use Rattle.gas_rows.specs.Row.{RowModel};
 ghost use Rattle.gas_pipe_model.specs.Pass.{RunInputModel};
 ghost use Rattle.gas_pipe.specs.declared.hand.Visited.TheVariants.{Over};
 ghost use Rattle.gas_pipe.specs.Inner.Hand.{post_of};
 ghost use Rattle.gas_pipe.specs.Inner.Fed.{MayHaveFedInput};
-ghost use Rattle.gas_pipe.specs.Inner.Chain.{HeadHasCome, HeadIsOver, SameHead, width_of, put_first, AllHaveCome, AllHaveFinished, IsRunning, IsReady, SameChain, IsOver, EndsChain};
+ghost use Rattle.gas_pipe.specs.Inner.Chain.{HeadHasCome, HeadHasSpares, HeadIsOver, SameHead, width_of, put_first, AllHaveCome, AllHaveFinished, IsRunning, IsReady, SameChain, IsOver, EndsChain};
 
 use crate::Gate;
 use crate::ends::{LinePut, LineTake};
@@ -31,7 +31,7 @@ fn visit_feeder<G: Gas, T: LineTake<Row<G>>, P: LinePut<Row<G>>>(
 ) -> Visited
     requires fed { (input : RunInputModel)
         × MayHaveFedInput G.rules input feeder.old (P.put put.old) (T.taken take.old) }
-    requires wide { (row : RowModel) → T.hands take.old row →
+    requires wide { (row : RowModel) → T.fits take.old row →
         length row ≡ feeder.old.channel.width }
     ensures take { T.same take.old take.new }
     ensures put { P.same put.old put.new }
@@ -76,14 +76,17 @@ impl<'a, G: Gas> Head<Feeder<G>, Hand<'a, G>> {
     ) -> Visited
         requires come { (input : RunInputModel)
             × HeadHasCome G.rules input self.old (T.taken take.old) (P.put put.old) }
-        requires wide { (row : RowModel) → T.hands take.old row →
-            length row ≡ width_of self.old }
+        requires wide { (row : RowModel) →
+            T.fits take.old row ↔ (length row ≡ width_of self.old) }
+        requires alike { (row spare : RowModel) → P.alike row spare → length spare ≡ length row }
+        requires spares { HeadHasSpares self.old (T.spares take.old) (T.taken take.old) (P.put put.old) }
         ensures same { SameHead self.old self.new }
         ensures take { T.same take.old take.new }
         ensures put { P.same put.old put.new }
         ensures come { (input : RunInputModel) →
             HeadHasCome G.rules input self.old (T.taken take.old) (P.put put.old) →
             HeadHasCome G.rules input self.new (T.taken take.new) (P.put put.new) }
+        ensures spares { HeadHasSpares self.new (T.spares take.new) (T.taken take.new) (P.put put.new) }
         ensures over { result ≡ Over →
             HeadIsOver G.rules self.new (T.taken take.new) (P.put put.new) }
     {

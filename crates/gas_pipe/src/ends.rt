@@ -1,8 +1,11 @@
 //! The ends of the belts of a run: contracts know the rows that went over them, and the other
 //! threads are told of those.
-ghost use Rattle.std.specs.Prelude.{◌≡◌, ◌++◌, ◌∷◌, List, [], length, refl};
-ghost use Rattle.std.proofs.Common.{◌∙◌, ap, sym};
-ghost use Rattle.gas_belt.specs.Belt.{InnerModel, Belt};
+ghost use Rattle.std.specs.Prelude.{◌≡◌, ◌++◌, ◌∷◌, ◌+◌, ◌-◌, ◌≤◌, ◌↔◌, ℕ, List, [], Option, length, min, refl, IfSome, IsSome};
+ghost use Rattle.std.proofs.Common.{◌∙◌, ap, sym, subst};
+ghost use Rattle.std.proofs.Math.Nat.{add-sub_cancel};
+ghost use Rattle.gas_rows.specs.Row.{RowModel};
+ghost use Rattle.gas_belt.specs.Belt.{InnerModel, Sender, Receiver, Belt};
+ghost use Rattle.gas_pipe_members.specs.Ends.{Sends};
 
 use crate::waiter::Waiter;
 use gas_belt::inner_belt::InnerBelt;
@@ -20,6 +23,9 @@ pub trait LinePut<T>: PutEnd<T> {
     /// What a put leaves as it was.
     ghost same: { Self → Self → Type 0 };
 
+    /// The spare row is as wide as the row that was put.
+    ghost alike: { T → T → Type 0 };
+
     /// A row was put: tells the thread that takes from the belt, once it is shown the row.
     fn tell_put(&mut self, waiter: &mut Waiter<'_>)
         ensures { Self.PutEnd.rests self.old self.new };
@@ -32,8 +38,9 @@ pub trait LinePut<T>: PutEnd<T> {
 
     ghost same_then: { (a b c : Self) → same a b → same b c → same a c };
 
-    ghost put_is: { (a : Self) (row : T) (b : Self) → Self.PutEnd.puts a row b →
-        (put b ≡ put a ++ row ∷ []) × same a b };
+    ghost put_is: { (a : Self) (row : T) (spare : Option T) (b : Self) →
+        Sends Self.PutEnd.puts Self.PutEnd.lends a row spare b →
+        (put b ≡ put a ++ row ∷ []) × same a b × IsSome spare × IfSome spare (alike row) };
 
     ghost rests_is: { (a b : Self) → Self.PutEnd.rests a b → (put b ≡ put a) × same a b };
 }
@@ -43,11 +50,14 @@ pub trait LineTake<T>: TakeEnd<T> {
     /// All rows that were taken from it.
     ghost taken: { Self → List T };
 
+    /// The number of its spare rows for rows to come.
+    ghost spares: { Self → ℕ };
+
     /// What a take leaves as it was.
     ghost same: { Self → Self → Type 0 };
 
-    /// It may hand out the row.
-    ghost hands: { Self → T → Type 0 };
+    /// The row is as wide as the belt.
+    ghost fits: { Self → T → Type 0 };
 
     /// A row was taken: tells the thread that puts on the belt.
     fn tell_taken(&mut self, waiter: &mut Waiter<'_>)
@@ -57,12 +67,16 @@ pub trait LineTake<T>: TakeEnd<T> {
 
     ghost same_then: { (a b c : Self) → same a b → same b c → same a c };
 
-    ghost same_hands: { (a b : Self) (row : T) → same a b → hands b row → hands a row };
+    ghost same_fits: { (a b : Self) (row : T) → same a b → fits a row ↔ fits b row };
 
     ghost take_is: { (a : Self) (row : T) (b : Self) → Self.TakeEnd.takes a row b →
-        (taken b ≡ taken a ++ row ∷ []) × same a b × hands a row };
+        (taken b ≡ taken a ++ row ∷ []) × same a b × fits a row × (spares b ≡ spares a - 1) };
 
-    ghost rests_is: { (a b : Self) → Self.TakeEnd.rests a b → (taken b ≡ taken a) × same a b };
+    ghost get_is: { (a : Self) (row : T) (b : Self) → Self.TakeEnd.gets a row b →
+        (taken b ≡ taken a) × same a b × (fits a row → min 2 (spares a + 1) ≤ spares b) };
+
+    ghost rests_is: { (a b : Self) → Self.TakeEnd.rests a b →
+        (taken b ≡ taken a) × same a b × (spares b ≡ spares a) };
 }
 
 impl<G: Gas> LinePut<Row<G>> for Tx<G> {
@@ -70,13 +84,26 @@ impl<G: Gas> LinePut<Row<G>> for Tx<G> {
 
     ghost same = { λ a b. b.belt ≡ a.belt };
 
+    ghost alike = { λ row spare. length spare ≡ length row };
+
     ghost same_alone = { λ _. refl };
 
     ghost same_then = { λ a b c ab bc. bc ∙ ab };
 
-    ghost put_is = { λ a row b step. (step.1, step.0) };
+    ghost put_is = { λ a row spare b step.
+        let put = step.put.0 in
+        let lent = step.lent.1 in
+        let is = step.lent.0 ∙ ap (λ (t : Sender). t.spare) put in (
+          ap (λ (t : Sender). t.put) lent ∙ ap (λ (t : Sender). t.put) put,
+          ap (λ (t : Sender). t.belt) lent ∙ ap (λ (t : Sender). t.belt) put,
+          subst (λ (o : Option RowModel). IsSome o) (sym is) refl,
+          subst (λ (o : Option RowModel). IfSome o (λ s. length s ≡ length row)) (sym is) refl,
+        ) };
 
-    ghost rests_is = { λ a b rests. (rests.1, rests.0) };
+    ghost rests_is = { λ a b rests. (
+      ap (λ (t : Sender). t.put) rests,
+      ap (λ (t : Sender). t.belt) rests,
+    ) };
 
     #[inline(always)]
     fn tell_put(&mut self, waiter: &mut Waiter<'_>) {
@@ -91,19 +118,38 @@ impl<G: Gas> LinePut<Row<G>> for Tx<G> {
 impl<G: Gas> LineTake<Row<G>> for Rx<G> {
     ghost taken = { λ r. r.taken };
 
+    ghost spares = { λ r. r.held };
+
     ghost same = { λ a b. b.belt ≡ a.belt };
 
-    ghost hands = { λ r row. length row ≡ r.belt.width };
+    ghost fits = { λ r row. length row ≡ r.belt.width };
 
     ghost same_alone = { λ _. refl };
 
     ghost same_then = { λ a b c ab bc. bc ∙ ab };
 
-    ghost same_hands = { λ a b row same wide. wide ∙ ap (λ (c : Belt). c.width) same };
+    ghost same_fits = { λ a b row same.
+        let width = ap (λ (c : Belt). c.width) same in
+        ((λ wide. wide ∙ sym width), λ wide. wide ∙ width) };
 
-    ghost take_is = { λ a row b step. (step.1, step.0, step.2) };
+    ghost take_is = { λ a row b step. (
+      ap (λ (r : Receiver). r.taken) step.0,
+      ap (λ (r : Receiver). r.belt) step.0,
+      step.1,
+      ap (λ (r : Receiver). r.held) step.0,
+    ) };
 
-    ghost rests_is = { λ a b rests. (rests.1, rests.0) };
+    ghost get_is = { λ a row b step. (
+      ap (λ (r : Receiver). r.taken) step.0,
+      ap (λ (r : Receiver). r.belt) step.0,
+      step.1,
+    ) };
+
+    ghost rests_is = { λ a b rests. (
+      ap (λ (r : Receiver). r.taken) rests,
+      ap (λ (r : Receiver). r.belt) rests,
+      ap (λ (r : Receiver). r.held) rests,
+    ) };
 
     #[inline(always)]
     fn tell_taken(&mut self, waiter: &mut Waiter<'_>) {
@@ -115,21 +161,29 @@ impl<G: Gas> LineTake<Row<G>> for Rx<G> {
 impl<G: Gas> LinePut<Row<G>> for InnerBelt<G> {
     ghost put = { λ b. b.put };
 
-    ghost same = { λ a b. b ≡ record a { put = b.put; held = b.held } };
+    ghost same = { λ a b. b ≡ record a { put = b.put } };
+
+    ghost alike = { λ row spare. length spare ≡ length row };
 
     ghost same_alone = { λ _. refl };
 
-    ghost same_then = { λ a b c ab bc. bc
-        ∙ ap (λ (d : InnerModel). record d { put = c.put; held = c.held }) ab };
+    ghost same_then = { λ a b c ab bc. bc ∙ ap (λ (d : InnerModel). record d { put = c.put }) ab };
 
-    ghost put_is = { λ a row b step. (
-      ap (λ (d : InnerModel). d.put) step,
-      step ∙ ap (λ (d : InnerModel). record a { put = d.put; held = d.held }) (sym step),
-    ) };
+    ghost put_is = { λ a row spare b step.
+        let put = step.put.0 in
+        let lent = step.lent.0 in
+        let all = lent ∙ ap (λ (d : InnerModel). record d { held = d.held - 1 }) put
+        ∙ ap (λ (n : ℕ). record a { put = a.put ++ row ∷ []; held = n }) (add-sub_cancel a.held 1) in (
+          ap (λ (d : InnerModel). d.put) all,
+          all ∙ ap (λ (d : InnerModel). record a { put = d.put }) (sym all),
+          step.lent.1 step.put.2,
+          subst (λ (n : ℕ). IfSome spare (λ s. length s ≡ n))
+              (ap (λ (d : InnerModel). d.width) put ∙ sym step.put.1) step.lent.2,
+        ) };
 
     ghost rests_is = { λ a b rests. (
       ap (λ (d : InnerModel). d.put) rests,
-      rests ∙ ap (λ (d : InnerModel). record a { put = d.put; held = d.held }) (sym rests),
+      rests ∙ ap (λ (d : InnerModel). record a { put = d.put }) (sym rests),
     ) };
 
     #[inline(always)]
@@ -141,18 +195,29 @@ impl<G: Gas> LinePut<Row<G>> for InnerBelt<G> {
 impl<G: Gas> LineTake<Row<G>> for InnerBelt<G> {
     ghost taken = { λ b. b.taken };
 
+    ghost spares = { λ b. b.held };
+
     ghost same = { λ a b. b ≡ record a { taken = b.taken; held = b.held } };
 
-    ghost hands = { λ b row. length row ≡ b.width };
+    ghost fits = { λ b row. length row ≡ b.width };
 
     ghost same_alone = { λ _. refl };
 
     ghost same_then = { λ a b c ab bc. bc
         ∙ ap (λ (d : InnerModel). record d { taken = c.taken; held = c.held }) ab };
 
-    ghost same_hands = { λ a b row same wide. wide ∙ ap (λ (d : InnerModel). d.width) same };
+    ghost same_fits = { λ a b row same.
+        let width = ap (λ (d : InnerModel). d.width) same in
+        ((λ wide. wide ∙ sym width), λ wide. wide ∙ width) };
 
     ghost take_is = { λ a row b step. (
+      ap (λ (d : InnerModel). d.taken) step.0,
+      step.0 ∙ ap (λ (d : InnerModel). record a { taken = d.taken; held = d.held }) (sym step.0),
+      step.1,
+      ap (λ (d : InnerModel). d.held) step.0,
+    ) };
+
+    ghost get_is = { λ a row b step. (
       ap (λ (d : InnerModel). d.taken) step.0,
       step.0 ∙ ap (λ (d : InnerModel). record a { taken = d.taken; held = d.held }) (sym step.0),
       step.1,
@@ -161,6 +226,7 @@ impl<G: Gas> LineTake<Row<G>> for InnerBelt<G> {
     ghost rests_is = { λ a b rests. (
       ap (λ (d : InnerModel). d.taken) rests,
       rests ∙ ap (λ (d : InnerModel). record a { taken = d.taken; held = d.held }) (sym rests),
+      ap (λ (d : InnerModel). d.held) rests,
     ) };
 
     #[inline(always)]

@@ -1,8 +1,8 @@
 //! A worker of a plan with its passes, and its turns between any two ends.
-ghost use Rattle.std.specs.Prelude.{◌≡◌, ◌<◌, [], length, IfOk, IsTrue, IsFalse, List};
+ghost use Rattle.std.specs.Prelude.{◌≡◌, ◌<◌, ◌↔◌, [], length, IfOk, IsTrue, IsFalse, List, None};
 ghost use Rattle.gas_rows.specs.Row.{RowModel};
 ghost use Rattle.gas_pipe_members.specs.Worker.{IsClosed};
-ghost use Rattle.gas_pipe.specs.Inner.Hand.{post_of, post_in, HasCome, HasFinished};
+ghost use Rattle.gas_pipe.specs.Inner.Hand.{post_of, post_in, HasCome, HasFinished, HasSpares};
 ghost use Rattle.gas_pipe.specs.declared.hand.Visited.TheVariants.{Over};
 
 use crate::Gate;
@@ -119,7 +119,8 @@ impl<'a, G: Gas> Hand<'a, G> {
         true
     }
 
-    /// Makes turns until no end is ready or all passes are over, and some 32 at most.
+    /// Makes turns until no end is ready or all passes are over, and some 32 at most. Unless a row
+    /// waits to be put, the end that it takes from has a spare row for the next take.
     pub(crate) fn visit<H: Gate, T: LineTake<Row<G>>, P: LinePut<Row<G>>>(
         &mut self,
         gate: &H,
@@ -128,12 +129,16 @@ impl<'a, G: Gas> Hand<'a, G> {
         put: &mut P,
     ) -> Visited
         requires come { HasCome G.rules self.old (T.taken take.old) (P.put put.old) }
-        requires wide { (row : RowModel) → T.hands take.old row →
-            length row ≡ self.old.worker.stage.channel.width }
+        requires wide { (row : RowModel) →
+            T.fits take.old row ↔ (length row ≡ self.old.worker.stage.channel.width) }
+        requires alike { (row spare : RowModel) → P.alike row spare → length spare ≡ length row }
+        requires spares { HasSpares (T.spares take.old) (T.taken take.old) (P.put put.old) }
         ensures post { post_of self.new ≡ post_of self.old }
         ensures take { T.same take.old take.new }
         ensures put { P.same put.old put.new }
         ensures come { HasCome G.rules self.new (T.taken take.new) (P.put put.new) }
+        ensures spares { HasSpares (T.spares take.new) (T.taken take.new) (P.put put.new) }
+        ensures never_without { self.new.worker.waiting ≡ None → 0 < T.spares take.new }
         ensures over { result ≡ Over →
             HasFinished G.rules (post_of self.new) (T.taken take.new) (P.put put.new) }
     {

@@ -63,6 +63,7 @@ fn make_belt<G: Gas>(alloc: Global, input: &RunInput<'_, G>) -> Result<(Tx<G>, R
     ensures belt { IfOk result (λ r. IsBeltOf input.now r.0.belt) }
     ensures nothing_put { IfOk result (λ r. r.0.put ≡ []) }
     ensures nothing_taken { IfOk result (λ r. r.1.taken ≡ []) }
+    ensures two_spares { IfOk result (λ r. r.1.held ≡ 2) }
 {
     let width = input.lattice.channel().size().width();
     belt(alloc, input.span.plan.capacity(), width)
@@ -121,11 +122,13 @@ fn make_chain<'e, G: Gas>(
     requires few { k + n ≤ 64 }
     requires some { 0 < input.now.plan.generations }
     requires nothing_taken { rx.taken ≡ [] }
+    requires two_spares { rx.held ≡ 2 }
     requires belt { IsBeltOf input.now rx.belt }
     ensures chain { IfOk result (λ r. IsChainOf G.rules input.now k rx.belt r.0) }
     ensures count { IfOk result (λ r. length r.0.hands + 1 ≡ n) }
     ensures next { IfOk result (λ r. r.0.tx.belt ≡ r.1.belt) }
     ensures nothing_taken { IfOk result (λ r. r.1.taken ≡ []) }
+    ensures two_spares { IfOk result (λ r. r.1.held ≡ 2) }
     ensures belt { IfOk result (λ r. IsBeltOf input.now r.1.belt) }
 {
     let (tx, next) = make_belt(alloc, input)?;

@@ -1,3 +1,4 @@
+pub mod Ends
 pub mod Belt
 pub mod Worker
 pub mod Feeder

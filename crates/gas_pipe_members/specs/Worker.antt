@@ -52,11 +52,14 @@ abbrev pub HasMoreToTake : Rules → WorkerModel → Type 0
 HasMoreToTake gas w = (e : Option ℕ) (took gave : List RowModel) → MayHaveDone gas w e took gave → (length took < w.stage.channel.height) × (gave ≡ owes gas w e took)
 
 -- What a turn did that leads from one state to another, and why it did no more. Of an end it knows which rows a step takes or puts, that no
--- step was made, and that a try succeeds.
-abbrev pub WorkerTurned : Rules → WorkerModel → WorkerModel → (RowModel → Type 0) → Type 0 → Type 0 → (RowModel → Type 0) → Type 0 → Type 0 → Turned → Type 0
+-- step was made, and that a try succeeds. With a put goes the spare row that the end handed out, which went to the other end.
+abbrev pub WorkerTurned :
+    Rules → WorkerModel → WorkerModel → (RowModel → Type 0) → Type 0 → Type 0 → (RowModel → Option RowModel → Type 0) → Type 0 → Type 0 → Turned → Type 0
 WorkerTurned gas old new takes no_take can_take puts no_put can_put Took =
     (row : RowModel) × takes row × no_put × Does gas old (λ l. l ++ row ∷ []) (λ l. l) new × HasMoreToTake gas old
-WorkerTurned gas old new takes no_take can_take puts no_put can_put Put = (row : RowModel) × puts row × no_take × Does gas old (λ l. l) (λ l. l ++ row ∷ []) new
+WorkerTurned gas old new takes no_take can_take puts no_put can_put Put =
+    (row : RowModel) × Does gas old (λ l. l) (λ l. l ++ row ∷ []) new × (length row ≡ old.stage.channel.width)
+    × (spare : Option RowModel) × puts row spare
 WorkerTurned gas old new takes no_take can_take puts no_put can_put Idle =
     no_take × no_put × Does gas old (λ l. l) (λ l. l) new × ((e : Option ℕ) (took gave : List RowModel) → MayHaveDone gas old e took gave →
     (length gave < length (owes gas old e took) → can_put → ⊥) × (gave ≡ owes gas old e took → can_take → ⊥))

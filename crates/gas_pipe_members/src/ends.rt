@@ -1,7 +1,6 @@
 //! The two ends of a belt, and how spare rows go from one end to another.
-ghost use Rattle.std.specs.Prelude.{◌≡◌, ◌++◌, ◌∷◌, ◌<◌, ℕ, List, [], length, refl, OnOk, IfErr, IfSome, IfNone, OnErr, IsOk, IsSome};
-ghost use Rattle.std.proofs.Common.{◌∙◌, ap};
-ghost use Rattle.gas_belt.specs.Belt.{InnerModel};
+ghost use Rattle.std.specs.Prelude.{◌≡◌, ◌++◌, ◌∷◌, ◌+◌, ◌-◌, ◌<◌, ◌≤◌, ℕ, List, [], Option, Some, None, length, min, refl, OnOk, IfErr, IfSome, IfNone, OnErr, IsOk, IsSome};
+ghost use Rattle.gas_pipe_members.specs.Ends.{MayGet};
 
 use gas_belt::inner_belt::InnerBelt;
 use gas_belt::rx::Rx;
@@ -20,6 +19,9 @@ pub trait PutEnd<T> {
     /// A try to put succeeds.
     ghost ready: { Self → Type 0 };
 
+    /// The end hands out that row for reuse, or none. It is no step.
+    ghost lends: { Self → Option T → Self → Type 0 };
+
     /// Puts a row, or hands it back.
     fn try_put(&mut self, row: T) -> Result<(), T>
         ensures put { OnOk result (puts self.old row self.new) }
@@ -27,14 +29,11 @@ pub trait PutEnd<T> {
         ensures rests { OnErr result (rests self.old self.new) }
         ensures ready { ready self.old → IsOk result };
 
-    /// The row of the newest put, for reuse, if the end keeps it. It is no step.
+    /// After a put, a row for reuse, if the end has one.
     fn spare(&mut self) -> Option<T>
-        ensures rests { rests self.old self.new };
+        ensures lends { lends self.old result self.new };
 
     ghost rests_alone: { (end : Self) → rests end end };
-
-    ghost puts_and_rests: { (a : Self) (row : T) (b c : Self) → puts a row b → rests b c →
-        puts a row c };
 }
 
 /// An end that rows are taken from.
@@ -48,34 +47,36 @@ pub trait TakeEnd<T> {
     /// A try to take succeeds.
     ghost ready: { Self → Type 0 };
 
+    /// The end was given a row for reuse. It is no step.
+    ghost gets: { Self → T → Self → Type 0 };
+
     /// Takes the next row, if one came.
     fn try_take(&mut self) -> Option<T>
         ensures take { IfSome result (λ row. takes self.old row self.new) }
         ensures rests { IfNone result (rests self.old self.new) }
         ensures ready { ready self.old → IsSome result };
 
-    /// Lets the end reuse a row for one that it hands out later. It is no step.
+    /// Lets the end reuse a row for one that it hands out later.
     fn give(&mut self, row: T)
-        ensures rests { rests self.old self.new };
+        ensures gets { gets self.old row self.new };
 
     ghost rests_alone: { (end : Self) → rests end end };
-
-    ghost takes_and_rests: { (a : Self) (row : T) (b c : Self) → takes a row b → rests b c →
-        takes a row c };
 }
 
 // The ends of a belt between threads. Whether a try succeeds depends on the other thread, so neither
 // is known to be ready.
 impl<G: Gas> PutEnd<Row<G>> for Tx<G> {
-    ghost puts = { λ old row new. (new.belt ≡ old.belt) × (new.put ≡ old.put ++ row ∷ []) };
+    ghost puts = { λ old row new.
+        (new ≡ record old { put = old.put ++ row ∷ []; spare = Some row })
+        × (length row ≡ old.belt.width) };
 
-    ghost rests = { λ old new. (new.belt ≡ old.belt) × (new.put ≡ old.put) };
+    ghost rests = { λ old new. new ≡ old };
 
     ghost ready = { λ _. ⊥ };
 
-    ghost rests_alone = { λ _. (refl, refl) };
+    ghost lends = { λ old spare new. (spare ≡ old.spare) × (new ≡ record old { spare = None }) };
 
-    ghost puts_and_rests = { λ a row b c step rests. (rests.0 ∙ step.0, rests.1 ∙ step.1) };
+    ghost rests_alone = { λ _. refl };
 
     #[inline(always)]
     fn try_put(&mut self, row: Row<G>) -> Result<(), Row<G>> {
@@ -88,16 +89,18 @@ impl<G: Gas> PutEnd<Row<G>> for Tx<G> {
 }
 
 impl<G: Gas> TakeEnd<Row<G>> for Rx<G> {
-    ghost takes = { λ old row new. (new.belt ≡ old.belt) × (new.taken ≡ old.taken ++ row ∷ [])
+    ghost takes = { λ old row new.
+        (new ≡ record old { taken = old.taken ++ row ∷ []; held = old.held - 1 })
         × (length row ≡ old.belt.width) };
 
-    ghost rests = { λ old new. (new.belt ≡ old.belt) × (new.taken ≡ old.taken) };
+    ghost rests = { λ old new. new ≡ old };
 
     ghost ready = { λ _. ⊥ };
 
-    ghost rests_alone = { λ _. (refl, refl) };
+    ghost gets = { λ old row new. (new ≡ record old { held = new.held })
+        × (length row ≡ old.belt.width → min 2 (old.held + 1) ≤ new.held) };
 
-    ghost takes_and_rests = { λ a row b c step rests. (rests.0 ∙ step.0, rests.1 ∙ step.1, step.2) };
+    ghost rests_alone = { λ _. refl };
 
     #[inline(always)]
     fn try_take(&mut self) -> Option<Row<G>> {
@@ -112,16 +115,17 @@ impl<G: Gas> TakeEnd<Row<G>> for Rx<G> {
 // A belt within a thread. Whether a put succeeds depends on its row too.
 impl<G: Gas> PutEnd<Row<G>> for InnerBelt<G> {
     ghost puts = { λ old row new.
-        new ≡ record old { put = old.put ++ row ∷ []; held = new.held } };
+        (new ≡ record old { put = old.put ++ row ∷ []; held = old.held + 1 })
+        × (length row ≡ old.width) × (0 < new.held) };
 
-    ghost rests = { λ old new. new ≡ record old { held = new.held } };
+    ghost rests = { λ old new. new ≡ old };
 
     ghost ready = { λ _. ⊥ };
 
-    ghost rests_alone = { λ _. refl };
+    ghost lends = { λ old spare new. (new ≡ record old { held = old.held - 1 })
+        × (0 < old.held → IsSome spare) × IfSome spare (λ row. length row ≡ old.width) };
 
-    ghost puts_and_rests = { λ a row b c step rests.
-        rests ∙ ap (λ (d : InnerModel). record d { held = c.held }) step };
+    ghost rests_alone = { λ _. refl };
 
     #[inline(always)]
     fn try_put(&mut self, row: Row<G>) -> Result<(), Row<G>> {
@@ -136,17 +140,17 @@ impl<G: Gas> PutEnd<Row<G>> for InnerBelt<G> {
 
 impl<G: Gas> TakeEnd<Row<G>> for InnerBelt<G> {
     ghost takes = { λ old row new.
-        (new ≡ record old { taken = old.taken ++ row ∷ []; held = new.held })
+        (new ≡ record old { taken = old.taken ++ row ∷ []; held = old.held - 1 })
         × (length row ≡ old.width) };
 
-    ghost rests = { λ old new. new ≡ record old { held = new.held } };
+    ghost rests = { λ old new. new ≡ old };
 
     ghost ready = { λ belt. (length belt.taken < length belt.put) × (0 < belt.held) };
 
-    ghost rests_alone = { λ _. refl };
+    ghost gets = { λ old row new. (new ≡ record old { held = new.held })
+        × (length row ≡ old.width → min 2 (old.held + 1) ≤ new.held) };
 
-    ghost takes_and_rests = { λ a row b c step rests.
-        (rests ∙ ap (λ (d : InnerModel). record d { held = c.held }) step.0, step.1) };
+    ghost rests_alone = { λ _. refl };
 
     #[inline(always)]
     fn try_take(&mut self) -> Option<Row<G>> {
@@ -176,8 +180,8 @@ pub enum Turned {
 
 /// Moves a spare row from the end that it was put on to the end that it was taken from.
 pub(crate) fn return_spare<R: Drop, P: PutEnd<R>, T: TakeEnd<R>>(put: &mut P, take: &mut T)
-    ensures put { P.rests put.old put.new }
-    ensures take { T.rests take.old take.new }
+    ensures { (spare : Option R) × P.lends put.old spare put.new
+        × MayGet T.rests T.gets take.old spare take.new }
 {
     if let Some(row) = put.spare() {
         take.give(row);
@@ -186,7 +190,7 @@ pub(crate) fn return_spare<R: Drop, P: PutEnd<R>, T: TakeEnd<R>>(put: &mut P, ta
 
 /// Keeps the spare row of an end that rows are put on, if it has one and there is room for it.
 pub(crate) fn keep_spare<R: Drop, P: PutEnd<R>>(spares: &mut Vec<R>, put: &mut P)
-    ensures { P.rests put.old put.new }
+    ensures { (spare : Option R) × P.lends put.old spare put.new }
 {
     if let Some(row) = put.spare() {
         if spares.len() < spares.capacity() {
@@ -197,7 +201,7 @@ pub(crate) fn keep_spare<R: Drop, P: PutEnd<R>>(spares: &mut Vec<R>, put: &mut P
 
 /// Gives a row that was kept to an end that rows are taken from, if there is one.
 pub(crate) fn give_spare<R: Drop, T: TakeEnd<R>>(spares: &mut Vec<R>, take: &mut T)
-    ensures { T.rests take.old take.new }
+    ensures { (spare : Option R) × MayGet T.rests T.gets take.old spare take.new }
 {
     if let Some(row) = spares.pop() {
         take.give(row);

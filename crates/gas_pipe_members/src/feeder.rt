@@ -1,8 +1,9 @@
 //! The feeder of the line, over any two ends.
-ghost use Rattle.std.specs.Prelude.{◌≡◌, ◌<◌, ◌≤◌, ◌↔◌, ◌+◌, ◌*◌, ◌%◌, ◌++◌, ◌∷◌, ◌^◌, ℕ, [], List, IfOk, IsTrue, IsFalse, true, false, length, slice_index, drop};
+ghost use Rattle.std.specs.Prelude.{◌≡◌, ◌<◌, ◌≤◌, ◌↔◌, ◌+◌, ◌*◌, ◌%◌, ◌++◌, ◌∷◌, ◌^◌, ℕ, [], List, Option, IfOk, IsTrue, IsFalse, true, false, length, slice_index, drop};
 ghost use Rattle.gas_geom.specs.Lattice.{IsLattice};
 ghost use Rattle.gas_rows.specs.Row.{RowModel};
 ghost use mathlib.Core.List.{IsPrefix};
+ghost use Rattle.gas_pipe_members.specs.Ends.{Sends, Takes};
 ghost use Rattle.gas_pipe_members.specs.Feeder.{FeederModel, MayHaveFed, FeederTurned, emptied_row, emptied_from};
 
 use crate::ends::{PutEnd, TakeEnd, Turned, give_spare, keep_spare};
@@ -134,9 +135,9 @@ impl<G: Gas> Feeder<G> {
 
     // Puts the next row, if one is left to put and the end takes it.
     fn put_next<P: PutEnd<Row<G>>>(&mut self, put: &mut P) -> bool
-        ensures put { IsTrue result → (row : RowModel) × P.puts put.old row put.new
-            × (self.old
-            ≡ record self.new { rows = row ∷ self.new.rows; to_put = self.new.to_put + 1 }) }
+        ensures put { IsTrue result → (row : RowModel) × (self.old
+            ≡ record self.new { rows = row ∷ self.new.rows; to_put = self.new.to_put + 1 })
+            × (spare : Option RowModel) × Sends P.puts P.lends put.old row spare put.new }
         ensures rests { IsFalse result → P.rests put.old put.new × (self.new ≡ self.old) }
         ensures ready { IsFalse result → 0 < self.old.to_put → 0 < length self.old.rows →
             P.ready put.old → ⊥ }
@@ -192,8 +193,10 @@ impl<G: Gas> Feeder<G> {
     ) -> Turned
         ensures channel { self.new.channel ≡ self.old.channel }
         ensures turned { FeederTurned self.old self.new
-            (λ row. P.puts put.old row put.new) (P.rests put.old put.new) (P.ready put.old)
-            (λ row. T.takes take.old row take.new) (T.rests take.old take.new) (T.ready take.old) result }
+            (λ row. (spare : Option RowModel) × Sends P.puts P.lends put.old row spare put.new)
+            (P.rests put.old put.new) (P.ready put.old)
+            (λ row. Takes T.takes T.rests T.gets take.old row take.new)
+            (T.rests take.old take.new) (T.ready take.old) result }
         ensures never_ahead { result ≡ Turned.Took → (passes : ℕ) (rows gave took : List RowModel) →
             MayHaveFed self.old passes rows gave took → length took < length gave }
         ensures done_if { self.old.to_take ≡ 0 → result ≡ Turned.Done }

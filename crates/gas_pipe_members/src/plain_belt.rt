@@ -1,6 +1,5 @@
 //! A belt with both its ends on one thread.
-ghost use Rattle.std.specs.Prelude.{◌≡◌, ◌<◌, ◌≤◌, ◌++◌, ◌∷◌, [], length, refl, IfOk};
-ghost use Rattle.std.proofs.Common.{◌∙◌, ap, sym};
+ghost use Rattle.std.specs.Prelude.{◌≡◌, ◌<◌, ◌≤◌, ◌++◌, ◌∷◌, [], None, length, refl, IfOk};
 
 use crate::ends::{PutEnd, TakeEnd};
 use gas_geom::gas::Gas;
@@ -63,6 +62,8 @@ impl<G: Gas> PutEnd<Row<G>> for PlainBelt<G> {
 
     ghost ready = { λ belt. length belt.rows < belt.capacity };
 
+    ghost lends = { λ old spare new. (spare ≡ None) × (new ≡ old) };
+
     ghost rests_alone = { λ _. refl };
 
     fn try_put(&mut self, row: Row<G>) -> Result<(), Row<G>> {
@@ -74,30 +75,25 @@ impl<G: Gas> PutEnd<Row<G>> for PlainBelt<G> {
         }
     }
 
-    ghost puts_and_rests = { λ a row b c step rests. (step.0, rests ∙ step.1) };
-
     fn spare(&mut self) -> Option<Row<G>> {
         None
     }
 }
 
 impl<G: Gas> TakeEnd<Row<G>> for PlainBelt<G> {
-    ghost use Rattle.gas_pipe_members.specs.Belt.{BeltModel};
-
     ghost takes = { λ old row new. old ≡ record new { rows = row ∷ new.rows } };
 
     ghost rests = { λ old new. new ≡ old };
 
     ghost ready = { λ belt. 0 < length belt.rows };
 
+    ghost gets = { λ old row new. new ≡ old };
+
     ghost rests_alone = { λ _. refl };
 
     fn try_take(&mut self) -> Option<Row<G>> {
         self.rows.pop_front()
     }
-
-    ghost takes_and_rests = { λ a row b c step rests.
-        step ∙ ap (λ (end : BeltModel). record end { rows = row ∷ end.rows }) (sym rests) };
 
     fn give(&mut self, row: Row<G>) {
         drop(row);

@@ -3,6 +3,7 @@ ghost use Rattle.std.specs.Prelude.{◌≡◌, ◌<◌, ◌≤◌, ◌++◌, ◌
 ghost use Rattle.gas_geom.specs.Gas.{Rules};
 ghost use Rattle.gas_rows.specs.Row.{RowModel};
 ghost use mathlib.Core.List.{IsPrefix};
+ghost use Rattle.gas_pipe_members.specs.Ends.{MayGet, Sends};
 ghost use Rattle.gas_pipe_members.specs.Worker.{WorkerModel, SameWorker, IsClosed, MayHaveDone, Does, WorkerTurned, owes, HasDoneAll, HasMoreToTake};
 
 use crate::ends::{PutEnd, TakeEnd, Turned, return_spare};
@@ -25,7 +26,7 @@ pub struct Worker<'a, G: Gas> {
 }
 
 impl<'a, G: Gas> Model for Worker<'a, G> {
-    ghost use Rattle.std.specs.Prelude.{◌≡◌, true, IsSome};
+    ghost use Rattle.std.specs.Prelude.{◌≡◌, true, length, IfSome, IsSome};
     ghost use Rattle.gas_pipe_members.specs.Worker.{WorkerModel};
 
     ghost Value = { WorkerModel };
@@ -35,6 +36,7 @@ impl<'a, G: Gas> Model for Worker<'a, G> {
     ghost invariant = { λ w. record {
       same : w.channel.now ≡ w.stage.channel;
       stray_in_pass : w.stray ≡ true → IsSome w.stage.pass;
+      wide : IfSome w.waiting (λ row. length row ≡ w.channel.now.width);
     } };
 }
 
@@ -88,6 +90,7 @@ impl<'a, G: Gas> Worker<'a, G> {
         ensures same { SameWorker self.old self.new }
         ensures no_stray { self.new.stray ≡ false }
         ensures none_waits { self.new.waiting ≡ None }
+        ensures wide { IfSome result (λ row. length row ≡ self.old.stage.channel.width) }
         ensures put { IfSome result (λ row.
             Does G.rules self.old (λ l. l) (λ l. l ++ row ∷ []) self.new) }
         ensures waits { IfSome result (λ row.
@@ -111,8 +114,8 @@ impl<'a, G: Gas> Worker<'a, G> {
         self.stage.flush()
     }
 
-    // Tries to put a row. If it is handed back, it waits. The row of a put goes to the other end as
-    // a spare row. Returns whether it was put.
+    // Tries to put a row. If it is handed back, it waits. The spare row of a put goes to the other
+    // end. Returns whether the row was put.
     #[inline(always)]
     fn offer<T: TakeEnd<Row<G>>, P: PutEnd<Row<G>>>(
         &mut self,
@@ -121,10 +124,12 @@ impl<'a, G: Gas> Worker<'a, G> {
         put: &mut P,
     ) -> bool
         requires none { self.old.waiting ≡ None }
-        ensures take { T.rests take.old take.new }
-        ensures put { IsTrue result → P.puts put.old row put.new × (self.new ≡ self.old) }
+        requires wide { length row ≡ self.old.stage.channel.width }
+        ensures put { IsTrue result → (self.new ≡ self.old) × (spare : Option RowModel)
+            × Sends P.puts P.lends put.old row spare put.new
+            × MayGet T.rests T.gets take.old spare take.new }
         ensures idle { IsFalse result → P.rests put.old put.new × (P.ready put.old → ⊥)
-            × (self.new ≡ record self.old { waiting = Some row }) }
+            × T.rests take.old take.new × (self.new ≡ record self.old { waiting = Some row }) }
     {
         match put.try_put(row) {
             Ok(()) => {
@@ -165,7 +170,9 @@ impl<'a, G: Gas> Worker<'a, G> {
         ensures same { SameWorker self.old self.new }
         ensures turned { WorkerTurned G.rules self.old self.new
             (λ row. T.takes take.old row take.new) (T.rests take.old take.new) (T.ready take.old)
-            (λ row. P.puts put.old row put.new) (P.rests put.old put.new) (P.ready put.old) result }
+            (λ row spare. Sends P.puts P.lends put.old row spare put.new
+            × MayGet T.rests T.gets take.old spare take.new)
+            (P.rests put.old put.new) (P.ready put.old) result }
         ensures done_if_closed { IsClosed self.old → result ≡ Turned.Done }
         ensures done_if_all { (e : Option ℕ) (took gave : List RowModel) →
             MayHaveDone G.rules self.old e took gave →

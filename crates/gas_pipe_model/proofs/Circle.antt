@@ -45,20 +45,22 @@ owed_pass {A = A} H owe n xs q h l =
     ∙ ap (λ (zs : List A). zs ++ owe n (block H n (xs ++ q))) (owed_front H owe n xs q (omega arith))
     ∙ ap (λ (zs : List A). owed_in H owe n xs ++ owe n zs) (ap (take H) (drop_at xs q (n * H) h) ∙ take_all H q (omega arith))
 
+-- as many rows are owed as came, if that is so in each pass
+pub owed_high : {A : Type 0} (H : ℕ) (owe : ℕ → List A → List A) → ((n : ℕ) (q : List A) → length q ≡ H → length (owe n q) ≡ H) →
+    (n : ℕ) (q : List A) → n * H ≤ length q → length (owed_in H owe n q) ≡ n * H
+unfolding owed_in
+owed_high H owe whole zero q h = omega arith
+owed_high H owe whole (suc n) q h =
+    let e = suc-mul n H in
+    let room : H ≤ length (drop (n * H) q) = omega (arith, length-drop (n * H) q) in
+    length-append (owed_in H owe n q) (owe n (block H n q))
+    ∙ omega (arith, owed_high H owe whole n q (omega arith), whole n (block H n q) (length-take-le H (drop (n * H) q) room))
+
 module _ {A : Type 0} (H N : ℕ) (owe : ℕ → ℕ → List A → List A) (back : List A → List A) (rows : ℕ → ℕ → List A) (is : IsCircle H N owe back rows) where
   pub joined_high : (k n : ℕ) → length (joined (λ i. rows i k) n) ≡ n * H
   unfolding joined
   joined_high k zero = omega arith
   joined_high k (suc n) = length-append (joined (λ i. rows i k) n) (rows n k) ∙ omega (arith, joined_high k n, is.high n k, suc-mul n H)
-
-  pub owed_high : (k n : ℕ) (q : List A) → n * H ≤ length q → length (owed_in H (owe k) n q) ≡ n * H
-  unfolding owed_in
-  owed_high k zero q h = omega arith
-  owed_high k (suc n) q h =
-      let e = suc-mul n H in
-      let room : H ≤ length (drop (n * H) q) = omega (arith, length-drop (n * H) q) in
-      length-append (owed_in H (owe k) n q) (owe k n (block H n q))
-      ∙ omega (arith, owed_high k n q (omega arith), is.whole k n (block H n q) (length-take-le H (drop (n * H) q) room))
 
   owed_take : (k n : ℕ) (q : List A) → n * H ≤ length q → owed_in H (owe k) n (take (n * H) q) ≡ owed_in H (owe k) n q
   owed_take k n q h =
@@ -69,7 +71,7 @@ module _ {A : Type 0} (H N : ℕ) (owe : ℕ → ℕ → List A → List A) (bac
   owed_short k m zero q h =
       let e : m + 0 ≡ m = omega arith in
       let long : m * H ≤ length q = subst (λ (n : ℕ). n * H ≤ length q) e h in
-      ap (λ (n : ℕ). take (m * H) (owed_in H (owe k) n q)) e ∙ take_all (m * H) (owed_in H (owe k) m q) (omega (arith, owed_high k m q long))
+      ap (λ (n : ℕ). take (m * H) (owed_in H (owe k) n q)) e ∙ take_all (m * H) (owed_in H (owe k) m q) (omega (arith, owed_high H (owe k) (is.whole k) m q long))
   owed_short k m (suc d) q h =
       let e : m + suc d ≡ suc (m + d) = omega arith in
       let long : suc (m + d) * H ≤ length q = subst (λ (n : ℕ). n * H ≤ length q) e h in
@@ -77,7 +79,7 @@ module _ {A : Type 0} (H N : ℕ) (owe : ℕ → ℕ → List A → List A) (bac
       let fewer : m * H ≤ (m + d) * H = mul-le-mul_right H (let le : m ≤ m + d = omega arith in le) in
       ap (λ (n : ℕ). take (m * H) (owed_in H (owe k) n q)) e
       ∙ ap (take (m * H)) (owed_next H (owe k) (m + d) q)
-      ∙ take-append-le (m * H) (owed_in H (owe k) (m + d) q) (owe k (m + d) (block H (m + d) q)) (omega (arith, owed_high k (m + d) q less))
+      ∙ take-append-le (m * H) (owed_in H (owe k) (m + d) q) (owe k (m + d) (block H (m + d) q)) (omega (arith, owed_high H (owe k) (is.whole k) (m + d) q less))
       ∙ owed_short k m d q less
 
   -- the first rows that a worker owes are those that it owes for the first rows
@@ -111,7 +113,7 @@ module _ {A : Type 0} (H N : ℕ) (owe : ℕ → ℕ → List A → List A) (bac
     pub on_high : (k : ℕ) → length (on_belt H owe passes b k) ≡ passes * H
     unfolding on_belt
     on_high zero = long
-    on_high (suc k) = owed_high k passes (on_belt H owe passes b k) (omega (arith, on_high k))
+    on_high (suc k) = owed_high H (owe k) (is.whole k) passes (on_belt H owe passes b k) (omega (arith, on_high k))
 
     -- if belt 0 carries what it is to in n passes, all belts do
     along : (n : ℕ) → n ≤ passes → take (n * H) b ≡ joined (λ i. rows i 0) n → (k : ℕ) → take (n * H) (on_belt H owe passes b k) ≡ joined (λ i. rows i k) n

@@ -1,5 +1,5 @@
 -- A turn of the feeder brings a line to where the same turn brings its histories.
-use Rattle.std.proofs.Common.{◌≡◌, ℕ, zero, suc, ◌+◌, ◌≤◌, ◌<◌, inl, inr, true, false, List, [], ◌∷◌, ◌++◌, length, set, refl, ap, sym, ◌∙◌, subst, arith, length-append, append_assoc, length-set}
+use Rattle.std.proofs.Common.{◌≡◌, ℕ, zero, suc, ◌+◌, ◌≤◌, ◌<◌, inl, inr, true, false, List, [], ◌∷◌, ◌++◌, length, set, refl, ap, sym, ◌∙◌, subst, arith, length-append, append_assoc, length-set, Option}
 use Rattle.std.proofs.lemmas.Bool.{cases_lt, le-ltb}
 use Rattle.gas_geom.specs.Gas.{Rules, IsGas}
 use Rattle.gas_rows.specs.Row.{RowModel}
@@ -17,6 +17,7 @@ use Rattle.gas_pipe_model.proofs.Prefixes.{prefix_length}
 use Rattle.gas_pipe_model.proofs.Turns.{Fits, grown_other, turn_put, turn_take, turn_idle, put_short}
 use Rattle.gas_pipe_model.proofs.Generations.{pass_is_line, rows_high}
 use Rattle.gas_pipe_members.proofs.Feeds.{one_pass_prefix}
+use Rattle.gas_pipe_replay.proofs.PlainEnds.{PlainSends, PlainTakes, sent, taken}
 use Rattle.gas_pipe_replay.proofs.Slots.{at_two}
 use Rattle.gas_pipe_model.proofs.Opens.{put_shut, put_opened, take_opened, take_shut, grown_by, longer}
 use Rattle.gas_pipe_model.proofs.Wide.{under_way_is_wide}
@@ -24,8 +25,8 @@ use Rattle.gas_pipe_model.proofs.Wide.{under_way_is_wide}
 -- what a feeder's turn between two belts of one thread did
 abbrev pub TurnedBetween : FeederModel → FeederModel → BeltModel → BeltModel → BeltModel → BeltModel → Turned → Type 0
 TurnedBetween f v to to2 from from2 r = FeederTurned f v
-    (λ row. (length to.rows < to.capacity) × (to2 ≡ record to { rows = to.rows ++ row ∷ [] })) (to2 ≡ to) (length to.rows < to.capacity)
-    (λ row. from ≡ record from2 { rows = row ∷ from2.rows }) (from2 ≡ from) (0 < length from.rows) r
+    (λ row. (spare : Option RowModel) × PlainSends to row spare to2) (to2 ≡ to) (length to.rows < to.capacity)
+    (λ row. PlainTakes from row from2) (from2 ≡ from) (0 < length from.rows) r
 
 -- no belt has more rows put on it than the first
 put_below : (l : Line) → IsLine l → (s : State) → Fits l s → (k : ℕ) → k ≤ l.workers → length (s.put k) ≤ length (s.put 0)
@@ -123,7 +124,8 @@ module _ (gas : Rules) (input : RunInputModel) (f v : FeederModel) (ws : List Wo
   feeder_step : (r : Turned) → v.channel ≡ f.channel → TurnedBetween f v (belt bs 0) q (belt bs last) t r → Shown
   feeder_step Took same c =
       let row : RowModel = c.0 in
-      let holds_t : s.taken last ++ row ∷ t.rows ≡ s.put last = rw (ap (λ (b : BeltModel). b.rows) c.1) at holds_from in
+      let step = taken (belt bs last) row t c.1 in
+      let holds_t : s.taken last ++ row ∷ t.rows ≡ s.put last = rw (ap (λ (b : BeltModel). b.rows) step) at holds_from in
       let low = sh.some in
       let opens : take_open line s last ≡ true = take_opened line s last (longer (s.taken last) row t.rows (s.put last) holds_t) (inl refl) in
       let e : turn line s 0 ≡ after_take s last = (turn_take line s 0 (le-ltb last 0 (omega arith)) (shut_put c.5) opens).1 in
@@ -135,25 +137,26 @@ module _ (gas : Rules) (input : RunInputModel) (f v : FeederModel) (ws : List Wo
       (rw (first, c.2) holds_to)
       (rw now (append_assoc (s.taken last) (row ∷ []) t.rows ∙ holds_t))
       (ap (λ (b : BeltModel). b.capacity) c.2 ∙ cap_to)
-      (sym (ap (λ (b : BeltModel). b.capacity) c.1) ∙ cap_from))
+      (sym (ap (λ (b : BeltModel). b.capacity) step) ∙ cap_from))
   feeder_step Put same c =
       let row : RowModel = c.0 in
+      let step = sent (belt bs 0) row c.1.0 q c.1.1 in
       let fed : MayHaveFed v 1 (rows_on gas input 0 0) (s.put 0 ++ row ∷ []) (s.taken last) = c.3 1 (rows_on gas input 0 0) (s.put 0) (s.taken last) sh.fed in
       let pre = one_pass_prefix v (rows_on gas input 0 0) (s.put 0 ++ row ∷ []) (s.taken last) fed (high ∙ ap (λ c. c.height) (sym same)) in
       let comes : s.put 0 ++ row ∷ pre.0 ≡ (rows_on gas input 0 0) = sym (append_assoc (s.put 0) (row ∷ []) pre.0) ∙ pre.1 in
       let low = sh.some in
-      let room : length (belt bs 0).rows < (belt bs 0).capacity = c.1.0 in
+      let room : length (belt bs 0).rows < (belt bs 0).capacity = step.0 in
       let opens : put_open line s 0 ≡ true = put_opened line s 0 (longer (s.put 0) row pre.0 (rows_on gas input 0 0) comes) (omega (arith, length_to, cap_to, room)) in
       let e : turn line s 0 ≡ after_put line s 0 = (turn_put line s 0 (le-ltb last 0 (omega arith)) opens).1 in
       let now : grown s.put 0 (rows_on gas input 0 0) 0 ≡ s.put 0 ++ row ∷ [] = grown_by s.put 0 row pre.0 (rows_on gas input 0 0) comes in
       let behind : grown s.put 0 (rows_on gas input 0 0) last ≡ s.put last = grown_other s.put 0 (rows_on gas input 0 0) last (λ z. absurd (omega arith)) in
-      let rows : q.rows ≡ (belt bs 0).rows ++ row ∷ [] = ap (λ (b : BeltModel). b.rows) c.1.1 in
+      let rows : q.rows ≡ (belt bs 0).rows ++ row ∷ [] = ap (λ (b : BeltModel). b.rows) step.1 in
       subst (λ u. Shows gas input v ws (set (set bs 0 q) last t) u) (sym e)
       (shows_feeder (after_put line s 0) (λ j ne. grown_other s.put 0 (rows_on gas input 0 0) j ne) (λ j ne. refl) same
       (rw now fed)
       (rw (now, rows) (sym (append_assoc (s.taken 0) (belt bs 0).rows (row ∷ [])) ∙ ap (λ u. u ++ row ∷ []) holds_to))
       (rw (behind, c.2) holds_from)
-      (ap (λ (b : BeltModel). b.capacity) c.1.1 ∙ cap_to)
+      (ap (λ (b : BeltModel). b.capacity) step.1 ∙ cap_to)
       (ap (λ (b : BeltModel). b.capacity) c.2 ∙ cap_from))
   feeder_step Idle same c =
       let below = put_below line is_line s fits last (omega arith) in
@@ -167,7 +170,7 @@ module _ (gas : Rules) (input : RunInputModel) (f v : FeederModel) (ws : List Wo
       (λ more. absurd (omega (arith, more, few, closed, fed.takes, high)))
   feeder_step Stray same c =
       let came = c.2 sh.fed.no_stray in
-      let holds_t : s.taken last ++ came.0 ∷ t.rows ≡ s.put last = rw (ap (λ (b : BeltModel). b.rows) came.1) at holds_from in
+      let holds_t : s.taken last ++ came.0 ∷ t.rows ≡ s.put last = rw (ap (λ (b : BeltModel). b.rows) (taken (belt bs last) came.0 t came.1)) at holds_from in
       absurd (came.3 (under_way_is_wide gas input laws sh.is_input 0 s fits last (omega arith) came.0 t.rows holds_t ∙ sym (ap (λ c. c.width) sh.channel)))
 
   pub feeder_step_at : (r : Turned) (x y : BeltModel) → x ≡ belt bs 0 → y ≡ belt bs last → v.channel ≡ f.channel → TurnedBetween f v x q y t r → Shown

@@ -1,3 +1,4 @@
+pub mod PlainEnds
 pub mod Slots
 pub mod WorkerSteps
 pub mod FeederSteps

@@ -17,6 +17,7 @@ use Rattle.gas_pipe_model.proofs.Prefixes.{prefix_all}
 use Rattle.gas_pipe_model.proofs.Turns.{Fits, grown_other, turn_put, turn_take, turn_idle, put_short}
 use Rattle.gas_pipe_model.proofs.Generations.{pass_is_line, rows_high}
 use Rattle.gas_pipe_members.proofs.Workers.{done_prefix}
+use Rattle.gas_pipe_replay.proofs.PlainEnds.{PlainGets, PlainSends, got, sent}
 use Rattle.gas_pipe_replay.proofs.Slots.{at_set, at_two}
 use Rattle.gas_pipe_model.proofs.Opens.{put_shut, put_opened, take_opened, take_shut, grown_by, longer}
 use Rattle.gas_pipe_model.proofs.Wide.{under_way_is_wide}
@@ -25,7 +26,7 @@ use Rattle.gas_pipe_model.proofs.Wide.{under_way_is_wide}
 abbrev pub TurnedBetween : Rules → WorkerModel → WorkerModel → BeltModel → BeltModel → BeltModel → BeltModel → Turned → Type 0
 TurnedBetween gas w v from from2 to to2 r = WorkerTurned gas w v
     (λ row. from ≡ record from2 { rows = row ∷ from2.rows }) (from2 ≡ from) (0 < length from.rows)
-    (λ row. (length to.rows < to.capacity) × (to2 ≡ record to { rows = to.rows ++ row ∷ [] })) (to2 ≡ to) (length to.rows < to.capacity) r
+    (λ row spare. PlainSends to row spare to2 × PlainGets from spare from2) (to2 ≡ to) (length to.rows < to.capacity) r
 
 module _ (gas : Rules) (input : RunInputModel) (f : FeederModel) (ws : List WorkerModel) (bs : List BeltModel) (s : State) (k : ℕ) (w v : WorkerModel) (t q : BeltModel)
     (laws : IsGas gas) (fits : Fits (line_of gas input 0) s) (in_line : k < input.plan.stages) (sh : Shows gas input f ws bs s) (is : (d : WorkerModel) → get_or ws k d ≡ w) where
@@ -129,25 +130,27 @@ module _ (gas : Rules) (input : RunInputModel) (f : FeederModel) (ws : List Work
       (ap (λ (b : BeltModel). b.capacity) c.2 ∙ cap_to))
   worker_step Put same c =
       let row : RowModel = c.0 in
-      let done : MayHaveDone gas v from (s.taken k) (s.put (suc k) ++ row ∷ []) = c.3 from (s.taken k) (s.put (suc k)) was.done in
+      let step = sent (belt bs (suc k)) row c.3 q c.4.0 in
+      let rests = got (belt bs k) c.3 t c.4.1 in
+      let done : MayHaveDone gas v from (s.taken k) (s.put (suc k) ++ row ∷ []) = c.1 from (s.taken k) (s.put (suc k)) was.done in
       let pre = done_prefix gas v from (s.taken k) (s.put (suc k) ++ row ∷ []) done in
       let owed_is : owes gas v from (s.taken k) ≡ owed_on line s (suc k) =
       owes_line v (same.channel ∙ was.channel) (same.chirality ∙ was.chirality) (s.taken k) in
       let comes : s.put (suc k) ++ row ∷ pre.0 ≡ owed_on line s (suc k) = sym (append_assoc (s.put (suc k)) (row ∷ []) pre.0) ∙ pre.1 ∙ owed_is in
-      let room : length (belt bs (suc k)).rows < (belt bs (suc k)).capacity = c.1.0 in
+      let room : length (belt bs (suc k)).rows < (belt bs (suc k)).capacity = step.0 in
       let opens : put_open line s (suc k) ≡ true =
       put_opened line s (suc k) (longer (s.put (suc k)) row pre.0 (owed_on line s (suc k)) comes) (omega (arith, length_to, cap_to, room)) in
       let e : turn line s (suc k) ≡ after_put line s (suc k) = (turn_put line s (suc k) (le-ltb input.plan.stages (suc k) (omega arith)) opens).1 in
       let now : grown s.put (suc k) (owed_on line s (suc k)) (suc k) ≡ s.put (suc k) ++ row ∷ [] = grown_by s.put (suc k) row pre.0 (owed_on line s (suc k)) comes in
       let below : grown s.put (suc k) (owed_on line s (suc k)) k ≡ s.put k = grown_other s.put (suc k) (owed_on line s (suc k)) k (λ z. absurd (omega arith)) in
-      let rows : q.rows ≡ (belt bs (suc k)).rows ++ row ∷ [] = ap (λ (b : BeltModel). b.rows) c.1.1 in
+      let rows : q.rows ≡ (belt bs (suc k)).rows ++ row ∷ [] = ap (λ (b : BeltModel). b.rows) step.1 in
       subst (λ u. Shows gas input f (set ws k v) (set (set bs k t) (suc k) q) u) (sym e)
       (shows_worker (after_put line s (suc k)) (λ j ne. grown_other s.put (suc k) (owed_on line s (suc k)) j ne) (λ j ne. refl) same.channel same.chirality
       (rw now done)
-      (rw (below, c.2) holds_from)
+      (rw (below, rests) holds_from)
       (rw (now, rows) (sym (append_assoc (s.taken (suc k)) (belt bs (suc k)).rows (row ∷ [])) ∙ ap (λ u. u ++ row ∷ []) holds_to))
-      (ap (λ (b : BeltModel). b.capacity) c.2 ∙ cap_from)
-      (ap (λ (b : BeltModel). b.capacity) c.1.1 ∙ cap_to))
+      (ap (λ (b : BeltModel). b.capacity) rests ∙ cap_from)
+      (ap (λ (b : BeltModel). b.capacity) step.1 ∙ cap_to))
   worker_step Idle same c =
       let when = c.3 from (s.taken k) (s.put (suc k)) was.done in
       let nk : length (s.put k) ≡ length (s.taken k) + length (belt bs k).rows = sym (ap length holds_from) ∙ length-append (s.taken k) (belt bs k).rows in

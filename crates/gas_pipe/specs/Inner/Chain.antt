@@ -6,7 +6,7 @@ use Rattle.gas_rows.specs.Row.{RowModel}
 use Rattle.gas_belt.specs.Belt.{Sender, Receiver, InnerModel}
 use Rattle.gas_pipe_model.specs.Pass.{RunInputModel}
 use Rattle.gas_pipe_members.specs.Feeder.{FeederModel}
-use Rattle.gas_pipe.specs.Inner.Hand.{HandModel, PostModel, post_of, HasCome, HasFinished}
+use Rattle.gas_pipe.specs.Inner.Hand.{HandModel, PostModel, post_of, HasCome, HasFinished, HasSpares}
 use Rattle.gas_pipe.specs.Inner.Fed.{MayHaveFedInput}
 use Rattle.gas_pipe.specs.declared.chain.Head.{Head}
 use Rattle.gas_pipe.specs.declared.chain.Head.TheVariants.{Feeder, Worker}
@@ -35,7 +35,12 @@ abbrev pub HeadHasCome : Rules → RunInputModel → Head FeederModel HandModel 
 HeadHasCome gas input (Feeder f) taken put = MayHaveFedInput gas input f put taken
 HeadHasCome gas input (Worker h) taken put = HasCome gas h taken put
 
--- and its passes are over
+-- a worker that is the first member has spare rows at the end that it takes from, of which it took the rows `taken`
+abbrev pub HeadHasSpares : Head FeederModel HandModel → ℕ → List RowModel → List RowModel → Type 0
+HeadHasSpares (Feeder f) spares taken put = Unit {0}
+HeadHasSpares (Worker h) spares taken put = HasSpares spares taken put
+
+-- its passes are over
 abbrev pub HeadIsOver : Rules → Head FeederModel HandModel → List RowModel → List RowModel → Type 0
 HeadIsOver gas (Feeder f) taken put = f.to_take ≡ 0
 HeadIsOver gas (Worker h) taken put = HasFinished gas (post_of h) taken put
@@ -51,10 +56,12 @@ abbrev pub width_of : Head FeederModel HandModel → ℕ
 width_of (Feeder f) = f.channel.width
 width_of (Worker h) = h.worker.stage.channel.width
 
--- each of the workers took from its belt, and put on the next one or, the last of them, on the end behind, on which the rows u were put
+-- each of the workers took from its belt, which has spare rows, and put on the next one or, the last of them, on the end behind, on which the
+-- rows u were put
 abbrev pub AllHaveCome : Rules → List HandModel → List InnerModel → List RowModel → Type 0
 AllHaveCome gas [] [] u = Unit {0}
-AllHaveCome gas (h ∷ hs) (b ∷ bs) u = HasCome gas h b.taken (put_first bs u) × (h.worker.stage.channel.width ≡ b.width) × AllHaveCome gas hs bs u
+AllHaveCome gas (h ∷ hs) (b ∷ bs) u =
+    HasCome gas h b.taken (put_first bs u) × (h.worker.stage.channel.width ≡ b.width) × HasSpares b.held b.taken (put_first bs u) × AllHaveCome gas hs bs u
 AllHaveCome gas _ _ u = ⊥
 
 -- and their passes are over
@@ -67,6 +74,7 @@ AllHaveFinished gas _ _ u = ⊥
 pub record IsRunning (gas : Rules) (input : RunInputModel) (c : ChainModel) : Type 0 where
   pub head : HeadHasCome gas input c.head c.rx.taken (put_first c.belts c.tx.put)
   pub wide : c.rx.belt.width ≡ width_of c.head
+  pub spares : HeadHasSpares c.head c.rx.held c.rx.taken (put_first c.belts c.tx.put)
   pub hands : AllHaveCome gas c.hands c.belts c.tx.put
 
 -- in a run of some input

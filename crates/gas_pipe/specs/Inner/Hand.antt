@@ -1,6 +1,6 @@
 -- Inner words: what functions of this crate promise one another. No public contract cites them.
 -- A worker of a plan with its passes, and what it promises of its own two lists.
-use Rattle.std.specs.Prelude.{◌≡◌, ℕ, suc, ◌*◌, ◌++◌, List, length}
+use Rattle.std.specs.Prelude.{◌≡◌, ℕ, suc, ◌+◌, ◌*◌, ◌≤◌, ◌++◌, List, length}
 use Rattle.std.specs.Int.{div_ceil}
 use Rattle.gas_geom.specs.Gas.{Rules}
 use Rattle.gas_geom.specs.Channel.{ChannelModel}
@@ -54,3 +54,7 @@ pub record HasCome (gas : Rules) (h : HandModel) (taken put : List RowModel) : T
 pub record HasFinished (gas : Rules) (p : PostModel) (taken put : List RowModel) : Type 0 where
   pub whole : length taken ≡ div_ceil p.plan.generations p.plan.stages * p.channel.height
   pub owes_is : put ≡ owes_until gas p (div_ceil p.plan.generations p.plan.stages) taken
+
+-- The end that it takes from has two spare rows for rows to come, less the rows that it took and has not put.
+abbrev pub HasSpares : ℕ → List RowModel → List RowModel → Type 0
+HasSpares spares taken put = 2 + length put ≤ spares + length taken

@@ -27,12 +27,13 @@ pub record IsBeltOf (input : RunInputModel) (belt : Belt) : Type 0 where
   pub width : belt.width ≡ input.lattice.channel.width
   pub capacity : belt.capacity ≡ input.plan.capacity
 
--- a belt within a thread, unused, for rows of the input's lattice, and with at most the capacity of its plan
+-- a belt within a thread, unused, for rows of the input's lattice, with at most the capacity of its plan, and two spare rows
 pub record IsUnused (input : RunInputModel) (belt : InnerModel) : Type 0 where
   pub width : belt.width ≡ input.lattice.channel.width
   pub capacity : belt.capacity ≤ input.plan.capacity
   pub nothing_put : belt.put ≡ []
   pub nothing_taken : belt.taken ≡ []
+  pub two_spares : belt.held ≡ 2
 
 -- a chain that is ready, of the workers that take from the belts from the k-th on, the first of which is `from`, and that put on another belt of
 -- the input's plan

@@ -2,7 +2,7 @@ use Rattle.std.proofs.Common.{rules, ◌≡◌, ◌+◌, suc, List, length, set,
 use Rattle.std.proofs.lemmas.List.{length-set, length-append}
 use Rattle.gas_rows.specs.Row.{RowModel}
 use Rattle.gas_belt.specs.Belt.{InnerModel}
-use Rattle.gas_pipe.specs.Inner.Hand.{post_of, HasCome, HasFinished}
+use Rattle.gas_pipe.specs.Inner.Hand.{post_of, HasCome, HasFinished, HasSpares}
 use Rattle.gas_pipe.proofs.Rotations.{low, here, none_left, some_left, placed, placed_over, left_set, kept_set, left_more, kept_more, goes_on, same_posts, at_end, at_end_over, put_first_none, put_first_set}
 use Rattle.gas_pipe.proofs.chain.+rotate_behind.Goals as goal
 
@@ -15,7 +15,7 @@ returns-then-is_empty g t c =
     let none = none_left behind c.if-is_empty.ensures in
     let u = c.visit.new.put.put in
     let left = left_set g.G.Gas.rules hs c.args.k c.args.belts.now before behind c.args.tx.now.put c.index-hands-k.result c.index-before-0.result c.requires.some c.requires.come c.split_at_mut-before.ensures.value long c.visit.new.self in
-    let all = (here g.G.Gas.rules hs c.args.k c.args.belts.now before behind c.args.tx.now.put c.index-hands-k.result c.index-before-0.result c.requires.some c.requires.come c.split_at_mut-before.ensures.value long).2 in
+    let all = (here g.G.Gas.rules hs c.args.k c.args.belts.now before behind c.args.tx.now.put c.index-hands-k.result c.index-before-0.result c.requires.some c.requires.come c.split_at_mut-before.ensures.value long).3 in
     record {
       posts = same_posts hs c.args.k c.index-hands-k.result c.visit.new.self (low g.G.Gas.rules hs c.args.k c.args.belts.now before behind c.args.tx.now.put c.index-hands-k.result c.index-before-0.result c.requires.some c.requires.come c.split_at_mut-before.ensures.value long) c.visit.ensures.post;
       before = kept_set g.G.Gas.rules hs c.args.k c.args.belts.now before behind c.args.tx.now.put c.index-hands-k.result c.index-before-0.result c.requires.some c.requires.come c.split_at_mut-before.ensures.value long c.visit.new.self;
@@ -25,6 +25,7 @@ returns-then-is_empty g t c =
       come =
           placed g.G.Gas.rules hs c.args.k c.args.belts.now before behind c.args.tx.now.put c.index-hands-k.result c.index-before-0.result c.requires.some c.requires.come c.split_at_mut-before.ensures.value long c.visit.new.self c.visit.new.take c.visit.ensures.post c.visit.ensures.take u _ _ behind left
           (subst (λ (l : List RowModel). HasCome g.G.Gas.rules c.visit.new.self c.visit.new.take.taken l) (put_first_none behind u none) c.visit.ensures.come)
+          (subst (λ (l : List RowModel). HasSpares c.visit.new.take.held c.visit.new.take.taken l) (put_first_none behind u none) c.visit.ensures.spares)
           (at_end g.G.Gas.rules (drop (suc c.args.k) hs) behind c.args.tx.now.put u none all);
       over = λ over.
           placed_over g.G.Gas.rules hs c.args.k c.args.belts.now before behind c.args.tx.now.put c.index-hands-k.result c.index-before-0.result c.requires.some c.requires.come c.split_at_mut-before.ensures.value long c.visit.new.self c.visit.new.take c.visit.ensures.post c.visit.ensures.take u _ _ behind left
@@ -89,6 +90,7 @@ returns-clause-come g t c =
     placed g.G.Gas.rules hs c.args.k c.args.belts.now before behind c.args.tx.now.put c.index-hands-k-2.result c.index-before-0-2.result c.requires.some c.requires.come c.split_at_mut-before.ensures.value long
     c.visit-visited.new.self c.visit-visited.new.take c.visit-visited.ensures.post c.visit-visited.ensures.take u _ _ others left
     (subst (λ (l : List RowModel). HasCome g.G.Gas.rules c.visit-visited.new.self c.visit-visited.new.take.taken l) (sym put) c.visit-visited.ensures.come)
+    (subst (λ (l : List RowModel). HasSpares c.visit-visited.new.take.held c.visit-visited.new.take.taken l) (sym put) c.visit-visited.ensures.spares)
     c.rotate_behind.ensures.come
 
 pub returns-clause-over : goal.returns-clause-over

@@ -1,6 +1,7 @@
-use Rattle.std.proofs.Common.{sym, ap, ◌∙◌}
+use Rattle.std.proofs.Common.{◌≡◌, sym, ap, ◌∙◌}
 use Rattle.gas_geom.specs.Channel.{ChannelModel}
 use Rattle.gas_pipe.proofs.Fed.{fed_on}
+use Rattle.gas_pipe.proofs.Spares.{got_any}
 use Rattle.gas_pipe.proofs.Hands.{one_more}
 use Rattle.gas_pipe.proofs.chain.visit_feeder.Goals as goal
 use Rattle.gas_pipe.proofs.chain.visit_feeder.Goals.{in-Took, in-Put}
@@ -13,19 +14,21 @@ loop-preserved g c =
     elim c.match-turn.branch [
       | in-Took w ↦
           let did = w.in-Took.ensures.turned in
-          let took = t.take_is _ _ _ did.1 in
+          let took = t.take_is _ did.0 _ did.1.took in
+          let got = got_any g.T.TakeEnd.rests g.T.TakeEnd.gets (λ a b. (g.T.LineTake.taken b ≡ g.T.LineTake.taken a) × g.T.LineTake.same a b)
+          (λ a b rests. let is = t.rests_is a b rests in (is.0, is.1)) (λ a row b gets. let is = t.get_is a row b gets in (is.0, is.1)) _ did.1.spare _ did.1.got in
           let rest = t.rests_is _ _ w.tell_taken.ensures in
           let put = p.rests_is _ _ did.2 in
           rw (w.take-is, w.put-is, w.visited-is) (record {
-            take = t.same_then _ _ _ c.loop.invariant.take (t.same_then _ _ _ took.1 rest.1);
+            take = t.same_then _ _ _ c.loop.invariant.take (t.same_then _ _ _ took.1 (t.same_then _ _ _ got.1 rest.1));
             put = p.same_then _ _ _ c.loop.invariant.put put.1;
             not_over = λ over. cc;
             fed = λ input begun. fed_on g.G.Gas.rules input c.loop.feeder c.turn.new.self (g.P.LinePut.put c.loop.put) (g.T.LineTake.taken c.loop.take) _ _ (λ l. l) (one_more did.0)
-                (was input begun) c.turn.ensures.channel did.3 put.0 (rest.0 ∙ took.0);
+                (was input begun) c.turn.ensures.channel did.3 put.0 (rest.0 ∙ got.0 ∙ took.0);
           })
       | in-Put w ↦
           let did = w.in-Put.ensures.turned in
-          let put = p.put_is _ _ _ did.1 in
+          let put = p.put_is _ did.0 did.1.0 _ did.1.1 in
           let rest = p.rests_is _ _ w.tell_put.ensures in
           let took = t.rests_is _ _ did.2 in
           rw (w.take-is, w.put-is, w.visited-is) (record {
@@ -53,5 +56,5 @@ unreachable-requires g c =
     let begun = c.requires.fed in
     let was = c.loop.invariant.fed begun.0 begun.1 in
     let stray = c.in-Stray.ensures.turned.2 was.fed.no_stray in
-    let wide = c.requires.wide stray.0 (t.same_hands _ _ _ c.loop.invariant.take (t.take_is _ _ _ stray.1).2) in
+    let wide = c.requires.wide stray.0 ((t.same_fits _ _ _ c.loop.invariant.take).1 (t.take_is _ stray.0 _ stray.1.took).2) in
     absurd (stray.3 (wide ∙ ap (λ (channel : ChannelModel). channel.width) (begun.1.channel ∙ sym was.channel)))

@@ -19,6 +19,7 @@ loop-k-preserved g c =
       capacity = omega (arith, ap (λ (b : InnerModel). b.capacity) made, few);
       nothing_put = ap (λ (b : InnerModel). b.put) made;
       nothing_taken = ap (λ (b : InnerModel). b.taken) made;
+      two_spares = ap (λ (b : InnerModel). b.held) made;
     } in
     record {
       unused = subst (All (IsUnused c.args.input.now)) (sym items) (All-push (IsUnused c.args.input.now) belts one was.unused fresh);

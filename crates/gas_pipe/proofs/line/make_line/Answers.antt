@@ -29,6 +29,7 @@ loop-k-init g c =
       end = rw none refl;
       count = rw none (let e : c.if-first-eq0.own + 0 ≡ c.if-first-eq0.own = omega arith in e);
       made = own;
+      two_spares = c.in_ok-first_tx.ensures.two_spares;
       nothing_taken = c.in_ok-first_tx.ensures.nothing_taken;
       belt = search rules;
     }
@@ -51,6 +52,7 @@ loop-k-preserved g c =
       end = rw (items, last_belt_snoc first chains) made.next;
       count = omega (arith, ap workers_in items, workers_snoc chains chain, was.count, made.count);
       made = ap (λ (n : ℕ). n + workers) was.made ∙ next;
+      two_spares = made.two_spares;
       nothing_taken = made.nothing_taken;
       belt = made.belt;
     }

@@ -9,6 +9,7 @@ invariant-loop-k g l = record {
   end : last_belt l.initial.last.belt l.chains.items ≡ l.last.belt;
   count : l.initial.made + workers_in l.chains.items ≡ l.made;
   made : l.made ≡ shares_before l.fn.input.plan l.k;
+  two_spares : l.last.held ≡ 2;
   nothing_taken : l.last.taken ≡ [];
   belt : IsBeltOf l.fn.input l.last.belt;
 }

@@ -1,6 +1,9 @@
-use Rattle.std.proofs.Common.{refl, sym, ap, subst, ◌∙◌}
-use Rattle.gas_pipe.specs.Inner.Hand.{HandModel, post_of, HasCome}
-use Rattle.gas_pipe.proofs.Hands.{same_post, came_took, came_put, came_rests}
+use Rattle.std.proofs.Common.{refl, sym, ap, subst, ◌≡◌, ◌<◌, ◌∙◌, ◌∷◌, [], None, List, length, length-append, arith}
+use Rattle.gas_geom.specs.Channel.{ChannelModel}
+use Rattle.gas_rows.specs.Row.{RowModel}
+use Rattle.gas_pipe.specs.Inner.Hand.{HandModel, PostModel, post_of, HasCome, HasSpares}
+use Rattle.gas_pipe.proofs.Spares.{got_some, fewer_spares, more_spares}
+use Rattle.gas_pipe.proofs.Hands.{same_post, came_took, came_put, came_rests, put_few, put_most}
 use Rattle.gas_pipe.proofs.hand.Hand.visit.Goals as goal
 use Rattle.gas_pipe.proofs.hand.Hand.visit.Goals.{in-Took, in-Put, in-Done+else-not-begin_next}
 
@@ -17,27 +20,43 @@ returns-then-not-begin_next g c =
     let shown = p.rests_is _ _ c.show.ensures in
     let came = came_rests g.G.Gas.rules h c.turn.new.self _ _ (g.T.LineTake.taken c.turn.new.take) (g.P.LinePut.put c.show.new.self) was c.turn.ensures.same did.2 took.0 (shown.0 ∙ put.0) in
     let over = c.if-not-begin_next.ensures.over refl _ _ came in
+    let spares : HasSpares (g.T.LineTake.spares c.turn.new.take) (g.T.LineTake.taken c.turn.new.take) (g.P.LinePut.put c.show.new.self) =
+    rw (took.0, took.2, shown.0, put.0) c.loop.invariant.spares in
     record {
       post = c.if-not-begin_next.ensures.post ∙ same_post h c.turn.new.self c.turn.ensures.same ∙ ap post_of c.self.view_is ∙ c.loop.invariant.post;
       take = t.same_then _ _ _ c.loop.invariant.take took.1;
       put = p.same_then _ _ _ c.loop.invariant.put (p.same_then _ _ _ put.1 shown.1);
       come = over.0;
+      spares = spares;
+      never_without = λ none. omega (arith, spares, put_most g.G.Gas.rules _ _ _ over.0 none);
       over = λ _. over.1;
     }
 
-pub returns-in-Idle-clause-come : goal.returns-in-Idle-clause-come
-returns-in-Idle-clause-come g c =
+pub returns-in-Idle : goal.returns-in-Idle
+returns-in-Idle g c =
     let t = g.met.T.LineTake in
     let p = g.met.P.LinePut in
     let old = c.self.inside in
     let h : HandModel = record { who = old.who; first = old.span.first; plan = old.span.plan; pass = old.pass; worker = old.worker } in
     let did = c.in-Idle.ensures.turned in
     let was = subst (λ (i : HandModel). HasCome g.G.Gas.rules i (g.T.LineTake.taken c.loop.take) (g.P.LinePut.put c.loop.put)) (sym c.self.view_is) c.loop.invariant.come in
-    came_rests g.G.Gas.rules h c.turn.new.self _ _ (g.T.LineTake.taken c.turn.new.take) (g.P.LinePut.put c.turn.new.put) was c.turn.ensures.same did.2
-    (t.rests_is _ _ did.0).0 (p.rests_is _ _ did.1).0
+    let took = t.rests_is _ _ did.0 in
+    let put = p.rests_is _ _ did.1 in
+    let come = came_rests g.G.Gas.rules h c.turn.new.self _ _ (g.T.LineTake.taken c.turn.new.take) (g.P.LinePut.put c.turn.new.put) was c.turn.ensures.same did.2 took.0 put.0 in
+    let spares : HasSpares (g.T.LineTake.spares c.turn.new.take) (g.T.LineTake.taken c.turn.new.take) (g.P.LinePut.put c.turn.new.put) =
+    rw (took.0, took.2, put.0) c.loop.invariant.spares in
+    record {
+      post = same_post h c.turn.new.self c.turn.ensures.same ∙ ap post_of c.self.view_is ∙ c.loop.invariant.post;
+      take = t.same_then _ _ _ c.loop.invariant.take took.1;
+      put = p.same_then _ _ _ c.loop.invariant.put put.1;
+      come = come;
+      spares = spares;
+      never_without = λ none. omega (arith, spares, put_most g.G.Gas.rules _ _ _ come none);
+      over = λ over. absurd (c.loop.invariant.not_over over);
+    }
 
-pub returns-in-Idle-clause-over : goal.returns-in-Idle-clause-over
-returns-in-Idle-clause-over g c over = absurd (c.loop.invariant.not_over over)
+pub returns-clause-never_without : goal.returns-clause-never_without
+returns-clause-never_without g c none = omega (arith, c.loop.invariant.spares, put_most g.G.Gas.rules _ _ _ c.loop.invariant.come none)
 
 pub returns-clause-over : goal.returns-clause-over
 returns-clause-over g c over = absurd (c.loop.invariant.not_over over)
@@ -61,19 +80,31 @@ loop-preserved g c =
             take = t.same_then _ _ _ c.loop.invariant.take (t.same_then _ _ _ took.1 rest.1);
             put = p.same_then _ _ _ c.loop.invariant.put put.1;
             not_over = λ over. cc;
+            spares = fewer_spares _ _ _ _ _ _ c.loop.invariant.spares (rest.2 ∙ took.3)
+                (ap (λ (l : List RowModel). length l) (rest.0 ∙ took.0) ∙ length-append (g.T.LineTake.taken c.loop.take) (did.0 ∷ []))
+                (ap (λ (l : List RowModel). length l) put.0);
             come = came_took g.G.Gas.rules h c.turn.new.self _ _ _ _ was c.turn.ensures.same did.0 did.3 (rest.0 ∙ took.0) put.0;
           })
       | in-Put w ↦
           let did = w.in-Put.ensures.turned in
-          let put = p.put_is _ _ _ did.1 in
+          let put = p.put_is _ did.0 did.3 _ did.4.0 in
           let rest = p.rests_is _ _ w.tell_put.ensures in
-          let took = t.rests_is _ _ did.2 in
+          let got = got_some g.T.TakeEnd.rests g.T.TakeEnd.gets (g.P.LinePut.alike did.0) _ did.3 _ put.2 put.3 did.4.1 in
+          let took = t.get_is _ got.0 _ got.2 in
+          let wide : length got.0 ≡ c.args.self.now.worker.stage.channel.width =
+          c.requires.alike did.0 got.0 got.1 ∙ did.2 ∙ ap (λ (q : PostModel). q.channel.width) (ap post_of c.self.view_is ∙ c.loop.invariant.post) in
+          let fits = (t.same_fits _ _ _ c.loop.invariant.take).0 ((c.requires.wide got.0).1 wide) in
+          let came = came_put g.G.Gas.rules h c.turn.new.self _ _ _ _ was c.turn.ensures.same did.0 did.1 took.0 (rest.0 ∙ put.0) in
           rw (w.self-is, w.take-is, w.put-is, w.visited-is) (record {
             post = post;
             take = t.same_then _ _ _ c.loop.invariant.take took.1;
             put = p.same_then _ _ _ c.loop.invariant.put (p.same_then _ _ _ put.1 rest.1);
             not_over = λ over. cc;
-            come = came_put g.G.Gas.rules h c.turn.new.self _ _ _ _ was c.turn.ensures.same did.0 did.3 took.0 (rest.0 ∙ put.0);
+            spares = more_spares _ _ _ _ _ _ c.loop.invariant.spares (took.2 fits)
+                (ap (λ (l : List RowModel). length l) took.0)
+                (ap (λ (l : List RowModel). length l) (rest.0 ∙ put.0) ∙ length-append (g.P.LinePut.put c.loop.put) (did.0 ∷ []))
+                (put_few g.G.Gas.rules _ _ _ came);
+            come = came;
           })
       | in-Done+else-not-begin_next w ↦
           let did = w.in-Done.ensures.turned in
@@ -86,6 +117,7 @@ loop-preserved g c =
             take = t.same_then _ _ _ c.loop.invariant.take took.1;
             put = p.same_then _ _ _ c.loop.invariant.put (p.same_then _ _ _ put.1 rest.1);
             not_over = c.loop.invariant.not_over;
+            spares = rw (took.0, took.2, rest.0, put.0) c.loop.invariant.spares;
             come = w.if-not-begin_next.ensures.come refl _ _ came;
           })
     ]

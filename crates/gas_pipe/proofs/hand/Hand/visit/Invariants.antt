@@ -1,5 +1,5 @@
 use Rattle.std.proofs.Common.{◌≡◌}
-use Rattle.gas_pipe.specs.Inner.Hand.{post_of, HasCome}
+use Rattle.gas_pipe.specs.Inner.Hand.{post_of, HasCome, HasSpares}
 use Rattle.gas_pipe.specs.declared.hand.Visited.TheVariants.{Over}
 use Rattle.gas_pipe.proofs.hand.Hand.visit.Given as goal
 
@@ -10,4 +10,5 @@ invariant-loop g l = record {
   put : g.P.LinePut.same l.initial.put l.put;
   not_over : l.visited ≡ Over → ⊥;
   come : HasCome g.G.Gas.rules l.self (g.T.LineTake.taken l.take) (g.P.LinePut.put l.put);
+  spares : HasSpares (g.T.LineTake.spares l.take) (g.T.LineTake.taken l.take) (g.P.LinePut.put l.put);
 }

@@ -9,10 +9,9 @@ pub returns-clause-turned : goal.returns-clause-turned
 returns-clause-turned g c =
     let rests = c.if-put_next.ensures.rests refl in
     let inside : c.self-2.inside.to_put < c.self-2.inside.to_take = omega (arith, c.self-2.invariant.put_first, c.if-self-2.false) in
-    let step : g.T.TakeEnd.takes c.args.take.now c.in-Some.row c.give_spare.new.take = search rules in
     let some = subst (λ (f : FeederModel). f.to_put < f.to_take) c.self-2.view_is inside in (
       c.in-Some.row,
-      step,
+      record { between = c.try_take.new.self; spare = c.give_spare.ensures.0; took = c.in-Some.ensures.take; got = c.give_spare.ensures.1 },
       rests.0,
       (λ passes rows gave took fed.
           subst (λ (f : FeederModel). MayHaveFed f passes rows gave (took ++ c.in-Some.row ∷ [])) (sym c.self-3.view_is)

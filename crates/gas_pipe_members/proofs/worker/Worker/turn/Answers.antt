@@ -6,17 +6,18 @@ pub returns-then-is_put-clause-turned : goal.returns-then-is_put-clause-turned
 returns-then-is_put-clause-turned g c =
     let put = c.if-is_put.ensures.put refl in (
       c.in-Some.row,
-      put.0,
-      c.offer-is_put.ensures.take,
-      subst (λ (w : WorkerModel). Does g.G.Gas.rules c.args.self.now (λ l. l) (λ l. l ++ c.in-Some.row ∷ []) w) (sym put.1) c.in-Some.ensures.put,
+      subst (λ (w : WorkerModel). Does g.G.Gas.rules c.args.self.now (λ l. l) (λ l. l ++ c.in-Some.row ∷ []) w) (sym put.0) c.in-Some.ensures.put,
+      search rules,
+      put.1,
+      (put.2, put.3),
     )
 
 pub returns-else-is_put-clause-turned : goal.returns-else-is_put-clause-turned
 returns-else-is_put-clause-turned g c =
     let idle = c.if-is_put.ensures.idle refl in (
-      c.offer-is_put.ensures.take,
+      idle.2,
       idle.0,
-      subst (λ (w : WorkerModel). Does g.G.Gas.rules c.args.self.now (λ l. l) (λ l. l) w) (sym idle.2) c.in-Some.ensures.waits,
+      subst (λ (w : WorkerModel). Does g.G.Gas.rules c.args.self.now (λ l. l) (λ l. l) w) (sym idle.3) c.in-Some.ensures.waits,
       λ e took gave done. ((λ _ ready. idle.1 ready), (λ all _. c.in-Some.ensures.owing refl e took gave done all)),
     )
 
