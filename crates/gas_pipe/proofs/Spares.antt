@@ -1,22 +1,26 @@
 -- The spare rows of the end that a worker takes from.
-use Rattle.std.proofs.Common.{◌≡◌, ℕ, ◌+◌, ◌-◌, ◌≤◌, List, length, min, Option, Some, None, IsSome, IfSome, inl, inr, arith}
+use Rattle.std.proofs.Common.{◌≡◌, ℕ, ◌+◌, ◌-◌, ◌≤◌, List, length, min, Option, Some, None, IsSome, IfSome, inl, inr, arith, ap, subst, sym}
 use Rattle.std.proofs.lemmas.Bool.{cases_lt, false≢true}
 use Rattle.std.proofs.Math.Nat.{le-min}
 use Rattle.gas_rows.specs.Row.{RowModel}
 use Rattle.gas_pipe_members.specs.Ends.{MayGet}
 use Rattle.gas_pipe.specs.Inner.Hand.{HasSpares}
 
+-- an end that is as it was
+pub stays : {End Row : Type 0} (rows : End → List Row) (same : End → End → Type 0) → ((a : End) → same a a) → (a b : End) → b ≡ a → (rows b ≡ rows a) × same a b
+stays rows same alone a b is = (ap rows is, subst (same a) (sym is) (alone a))
+
 -- what any end does that is given a row, or none
-pub got_any : {End Row : Type 0} (rests : End → End → Type 0) (gets : End → Row → End → Type 0) (P : End → End → Type 0) → ((a b : End) → rests a b → P a b) →
-    ((a : End) (row : Row) (b : End) → gets a row b → P a b) → (old : End) (spare : Option Row) (new : End) → MayGet rests gets old spare new → P old new
-got_any rests gets P if_none if_some old None new is = if_none old new is
-got_any rests gets P if_none if_some old (Some row) new is = if_some old row new is
+pub got_any : {End Row : Type 0} (gets : End → Row → End → Type 0) (P : End → End → Type 0) → ((a b : End) → b ≡ a → P a b) →
+    ((a : End) (row : Row) (b : End) → gets a row b → P a b) → (old : End) (spare : Option Row) (new : End) → MayGet gets old spare new → P old new
+got_any gets P if_none if_some old None new is = if_none old new is
+got_any gets P if_none if_some old (Some row) new is = if_some old row new is
 
 -- there is a row, and it was given
-pub got_some : {End Row : Type 0} (rests : End → End → Type 0) (gets : End → Row → End → Type 0) (P : Row → Type 0) (old : End) (spare : Option Row) (new : End) →
-    IsSome spare → IfSome spare P → MayGet rests gets old spare new → (row : Row) × P row × gets old row new
-got_some rests gets P old None new some all is = absurd (false≢true some)
-got_some rests gets P old (Some row) new some all is = (row, all, is)
+pub got_some : {End Row : Type 0} (gets : End → Row → End → Type 0) (P : Row → Type 0) (old : End) (spare : Option Row) (new : End) →
+    IsSome spare → IfSome spare P → MayGet gets old spare new → (row : Row) × P row × gets old row new
+got_some gets P old None new some all is = absurd (false≢true some)
+got_some gets P old (Some row) new some all is = (row, all, is)
 
 -- a row was taken
 pub fewer_spares : (a b : ℕ) (t p t2 p2 : List RowModel) → HasSpares a t p → b ≡ a - 1 → length t2 ≡ length t + 1 → length p2 ≡ length p → HasSpares b t2 p2

@@ -28,11 +28,11 @@ pub trait LinePut<T>: PutEnd<T> {
 
     /// A row was put: tells the thread that takes from the belt, once it is shown the row.
     fn tell_put(&mut self, waiter: &mut Waiter<'_>)
-        ensures { Self.PutEnd.rests self.old self.new };
+        ensures { self.new ≡ self.old };
 
     /// Shows the thread that takes from the belt all rows that were put.
     fn show(&mut self, waiter: &mut Waiter<'_>)
-        ensures { Self.PutEnd.rests self.old self.new };
+        ensures { self.new ≡ self.old };
 
     ghost same_alone: { (a : Self) → same a a };
 
@@ -41,8 +41,6 @@ pub trait LinePut<T>: PutEnd<T> {
     ghost put_is: { (a : Self) (row : T) (spare : Option T) (b : Self) →
         Sends Self.PutEnd.puts Self.PutEnd.lends a row spare b →
         (put b ≡ put a ++ row ∷ []) × same a b × IsSome spare × IfSome spare (alike row) };
-
-    ghost rests_is: { (a b : Self) → Self.PutEnd.rests a b → (put b ≡ put a) × same a b };
 }
 
 /// An end that rows are taken from, of a belt of a run.
@@ -61,7 +59,7 @@ pub trait LineTake<T>: TakeEnd<T> {
 
     /// A row was taken: tells the thread that puts on the belt.
     fn tell_taken(&mut self, waiter: &mut Waiter<'_>)
-        ensures { Self.TakeEnd.rests self.old self.new };
+        ensures { self.new ≡ self.old };
 
     ghost same_alone: { (a : Self) → same a a };
 
@@ -74,9 +72,6 @@ pub trait LineTake<T>: TakeEnd<T> {
 
     ghost get_is: { (a : Self) (row : T) (b : Self) → Self.TakeEnd.gets a row b →
         (taken b ≡ taken a) × same a b × (fits a row → min 2 (spares a + 1) ≤ spares b) };
-
-    ghost rests_is: { (a b : Self) → Self.TakeEnd.rests a b →
-        (taken b ≡ taken a) × same a b × (spares b ≡ spares a) };
 }
 
 impl<G: Gas> LinePut<Row<G>> for Tx<G> {
@@ -99,11 +94,6 @@ impl<G: Gas> LinePut<Row<G>> for Tx<G> {
           subst (λ (o : Option RowModel). IsSome o) (sym is) refl,
           subst (λ (o : Option RowModel). IfSome o (λ s. length s ≡ length row)) (sym is) refl,
         ) };
-
-    ghost rests_is = { λ a b rests. (
-      ap (λ (t : Sender). t.put) rests,
-      ap (λ (t : Sender). t.belt) rests,
-    ) };
 
     #[inline(always)]
     fn tell_put(&mut self, waiter: &mut Waiter<'_>) {
@@ -145,12 +135,6 @@ impl<G: Gas> LineTake<Row<G>> for Rx<G> {
       step.1,
     ) };
 
-    ghost rests_is = { λ a b rests. (
-      ap (λ (r : Receiver). r.taken) rests,
-      ap (λ (r : Receiver). r.belt) rests,
-      ap (λ (r : Receiver). r.held) rests,
-    ) };
-
     #[inline(always)]
     fn tell_taken(&mut self, waiter: &mut Waiter<'_>) {
         waiter.note_taken();
@@ -180,11 +164,6 @@ impl<G: Gas> LinePut<Row<G>> for InnerBelt<G> {
           subst (λ (n : ℕ). IfSome spare (λ s. length s ≡ n))
               (ap (λ (d : InnerModel). d.width) put ∙ sym step.put.1) step.lent.2,
         ) };
-
-    ghost rests_is = { λ a b rests. (
-      ap (λ (d : InnerModel). d.put) rests,
-      rests ∙ ap (λ (d : InnerModel). record a { put = d.put }) (sym rests),
-    ) };
 
     #[inline(always)]
     fn tell_put(&mut self, _waiter: &mut Waiter<'_>) {}
@@ -221,12 +200,6 @@ impl<G: Gas> LineTake<Row<G>> for InnerBelt<G> {
       ap (λ (d : InnerModel). d.taken) step.0,
       step.0 ∙ ap (λ (d : InnerModel). record a { taken = d.taken; held = d.held }) (sym step.0),
       step.1,
-    ) };
-
-    ghost rests_is = { λ a b rests. (
-      ap (λ (d : InnerModel). d.taken) rests,
-      rests ∙ ap (λ (d : InnerModel). record a { taken = d.taken; held = d.held }) (sym rests),
-      ap (λ (d : InnerModel). d.held) rests,
     ) };
 
     #[inline(always)]

@@ -1,5 +1,5 @@
 //! The two ends of a belt, and how spare rows go from one end to another.
-ghost use Rattle.std.specs.Prelude.{◌≡◌, ◌++◌, ◌∷◌, ◌+◌, ◌-◌, ◌<◌, ◌≤◌, ℕ, List, [], Option, Some, None, length, min, refl, OnOk, IfErr, IfSome, IfNone, OnErr, IsOk, IsSome};
+ghost use Rattle.std.specs.Prelude.{◌≡◌, ◌++◌, ◌∷◌, ◌+◌, ◌-◌, ◌<◌, ◌≤◌, ℕ, List, [], Option, Some, None, length, min, OnOk, IfErr, IfSome, IfNone, OnErr, IsOk, IsSome};
 ghost use Rattle.gas_pipe_members.specs.Ends.{MayGet};
 
 use gas_belt::inner_belt::InnerBelt;
@@ -13,9 +13,6 @@ pub trait PutEnd<T> {
     /// The step by which a row is put.
     ghost puts: { Self → T → Self → Type 0 };
 
-    /// No row was put.
-    ghost rests: { Self → Self → Type 0 };
-
     /// A try to put succeeds.
     ghost ready: { Self → Type 0 };
 
@@ -26,23 +23,18 @@ pub trait PutEnd<T> {
     fn try_put(&mut self, row: T) -> Result<(), T>
         ensures put { OnOk result (puts self.old row self.new) }
         ensures back { IfErr result (λ r. r ≡ row) }
-        ensures rests { OnErr result (rests self.old self.new) }
+        ensures unchanged { OnErr result (self.new ≡ self.old) }
         ensures ready { ready self.old → IsOk result };
 
     /// After a put, a row for reuse, if the end has one.
     fn spare(&mut self) -> Option<T>
         ensures lends { lends self.old result self.new };
-
-    ghost rests_alone: { (end : Self) → rests end end };
 }
 
 /// An end that rows are taken from.
 pub trait TakeEnd<T> {
     /// The step by which a row is taken.
     ghost takes: { Self → T → Self → Type 0 };
-
-    /// No row was taken.
-    ghost rests: { Self → Self → Type 0 };
 
     /// A try to take succeeds.
     ghost ready: { Self → Type 0 };
@@ -53,14 +45,12 @@ pub trait TakeEnd<T> {
     /// Takes the next row, if one came.
     fn try_take(&mut self) -> Option<T>
         ensures take { IfSome result (λ row. takes self.old row self.new) }
-        ensures rests { IfNone result (rests self.old self.new) }
+        ensures unchanged { IfNone result (self.new ≡ self.old) }
         ensures ready { ready self.old → IsSome result };
 
     /// Lets the end reuse a row for one that it hands out later.
     fn give(&mut self, row: T)
         ensures gets { gets self.old row self.new };
-
-    ghost rests_alone: { (end : Self) → rests end end };
 }
 
 // The ends of a belt between threads. Whether a try succeeds depends on the other thread, so neither
@@ -70,13 +60,9 @@ impl<G: Gas> PutEnd<Row<G>> for Tx<G> {
         (new ≡ record old { put = old.put ++ row ∷ []; spare = Some row })
         × (length row ≡ old.belt.width) };
 
-    ghost rests = { λ old new. new ≡ old };
-
     ghost ready = { λ _. ⊥ };
 
     ghost lends = { λ old spare new. (spare ≡ old.spare) × (new ≡ record old { spare = None }) };
-
-    ghost rests_alone = { λ _. refl };
 
     #[inline(always)]
     fn try_put(&mut self, row: Row<G>) -> Result<(), Row<G>> {
@@ -93,14 +79,10 @@ impl<G: Gas> TakeEnd<Row<G>> for Rx<G> {
         (new ≡ record old { taken = old.taken ++ row ∷ []; held = old.held - 1 })
         × (length row ≡ old.belt.width) };
 
-    ghost rests = { λ old new. new ≡ old };
-
     ghost ready = { λ _. ⊥ };
 
     ghost gets = { λ old row new. (new ≡ record old { held = new.held })
         × (length row ≡ old.belt.width → min 2 (old.held + 1) ≤ new.held) };
-
-    ghost rests_alone = { λ _. refl };
 
     #[inline(always)]
     fn try_take(&mut self) -> Option<Row<G>> {
@@ -118,14 +100,10 @@ impl<G: Gas> PutEnd<Row<G>> for InnerBelt<G> {
         (new ≡ record old { put = old.put ++ row ∷ []; held = old.held + 1 })
         × (length row ≡ old.width) × (0 < new.held) };
 
-    ghost rests = { λ old new. new ≡ old };
-
     ghost ready = { λ _. ⊥ };
 
     ghost lends = { λ old spare new. (new ≡ record old { held = old.held - 1 })
         × (0 < old.held → IsSome spare) × IfSome spare (λ row. length row ≡ old.width) };
-
-    ghost rests_alone = { λ _. refl };
 
     #[inline(always)]
     fn try_put(&mut self, row: Row<G>) -> Result<(), Row<G>> {
@@ -143,14 +121,10 @@ impl<G: Gas> TakeEnd<Row<G>> for InnerBelt<G> {
         (new ≡ record old { taken = old.taken ++ row ∷ []; held = old.held - 1 })
         × (length row ≡ old.width) };
 
-    ghost rests = { λ old new. new ≡ old };
-
     ghost ready = { λ belt. (length belt.taken < length belt.put) × (0 < belt.held) };
 
     ghost gets = { λ old row new. (new ≡ record old { held = new.held })
         × (length row ≡ old.width → min 2 (old.held + 1) ≤ new.held) };
-
-    ghost rests_alone = { λ _. refl };
 
     #[inline(always)]
     fn try_take(&mut self) -> Option<Row<G>> {
@@ -181,7 +155,7 @@ pub enum Turned {
 /// Moves a spare row from the end that it was put on to the end that it was taken from.
 pub(crate) fn return_spare<R: Drop, P: PutEnd<R>, T: TakeEnd<R>>(put: &mut P, take: &mut T)
     ensures { (spare : Option R) × P.lends put.old spare put.new
-        × MayGet T.rests T.gets take.old spare take.new }
+        × MayGet T.gets take.old spare take.new }
 {
     if let Some(row) = put.spare() {
         take.give(row);
@@ -201,7 +175,7 @@ pub(crate) fn keep_spare<R: Drop, P: PutEnd<R>>(spares: &mut Vec<R>, put: &mut P
 
 /// Gives a row that was kept to an end that rows are taken from, if there is one.
 pub(crate) fn give_spare<R: Drop, T: TakeEnd<R>>(spares: &mut Vec<R>, take: &mut T)
-    ensures { (spare : Option R) × MayGet T.rests T.gets take.old spare take.new }
+    ensures { (spare : Option R) × MayGet T.gets take.old spare take.new }
 {
     if let Some(row) = spares.pop() {
         take.give(row);

@@ -138,7 +138,7 @@ impl<G: Gas> Feeder<G> {
         ensures put { IsTrue result → (row : RowModel) × (self.old
             ≡ record self.new { rows = row ∷ self.new.rows; to_put = self.new.to_put + 1 })
             × (spare : Option RowModel) × Sends P.puts P.lends put.old row spare put.new }
-        ensures rests { IsFalse result → P.rests put.old put.new × (self.new ≡ self.old) }
+        ensures unchanged { IsFalse result → (put.new ≡ put.old) × (self.new ≡ self.old) }
         ensures ready { IsFalse result → 0 < self.old.to_put → 0 < length self.old.rows →
             P.ready put.old → ⊥ }
     {
@@ -194,9 +194,9 @@ impl<G: Gas> Feeder<G> {
         ensures channel { self.new.channel ≡ self.old.channel }
         ensures turned { FeederTurned self.old self.new
             (λ row. (spare : Option RowModel) × Sends P.puts P.lends put.old row spare put.new)
-            (P.rests put.old put.new) (P.ready put.old)
-            (λ row. Takes T.takes T.rests T.gets take.old row take.new)
-            (T.rests take.old take.new) (T.ready take.old) result }
+            (put.new ≡ put.old) (P.ready put.old)
+            (λ row. Takes T.takes T.gets take.old row take.new)
+            (take.new ≡ take.old) (T.ready take.old) result }
         ensures never_ahead { result ≡ Turned.Took → (passes : ℕ) (rows gave took : List RowModel) →
             MayHaveFed self.old passes rows gave took → length took < length gave }
         ensures done_if { self.old.to_take ≡ 0 → result ≡ Turned.Done }

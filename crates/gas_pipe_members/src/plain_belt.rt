@@ -1,5 +1,5 @@
 //! A belt with both its ends on one thread.
-ghost use Rattle.std.specs.Prelude.{◌≡◌, ◌<◌, ◌≤◌, ◌++◌, ◌∷◌, [], None, length, refl, IfOk};
+ghost use Rattle.std.specs.Prelude.{◌≡◌, ◌<◌, ◌≤◌, ◌++◌, ◌∷◌, [], None, length, IfOk};
 
 use crate::ends::{PutEnd, TakeEnd};
 use gas_geom::gas::Gas;
@@ -58,13 +58,9 @@ impl<G: Gas> PutEnd<Row<G>> for PlainBelt<G> {
     ghost puts = { λ old row new. (length old.rows < old.capacity)
         × (new ≡ record old { rows = old.rows ++ row ∷ [] }) };
 
-    ghost rests = { λ old new. new ≡ old };
-
     ghost ready = { λ belt. length belt.rows < belt.capacity };
 
     ghost lends = { λ old spare new. (spare ≡ None) × (new ≡ old) };
-
-    ghost rests_alone = { λ _. refl };
 
     fn try_put(&mut self, row: Row<G>) -> Result<(), Row<G>> {
         if self.rows.len() < self.capacity as usize {
@@ -83,13 +79,9 @@ impl<G: Gas> PutEnd<Row<G>> for PlainBelt<G> {
 impl<G: Gas> TakeEnd<Row<G>> for PlainBelt<G> {
     ghost takes = { λ old row new. old ≡ record new { rows = row ∷ new.rows } };
 
-    ghost rests = { λ old new. new ≡ old };
-
     ghost ready = { λ belt. 0 < length belt.rows };
 
     ghost gets = { λ old row new. new ≡ old };
-
-    ghost rests_alone = { λ _. refl };
 
     fn try_take(&mut self) -> Option<Row<G>> {
         self.rows.pop_front()

@@ -127,9 +127,9 @@ impl<'a, G: Gas> Worker<'a, G> {
         requires wide { length row ≡ self.old.stage.channel.width }
         ensures put { IsTrue result → (self.new ≡ self.old) × (spare : Option RowModel)
             × Sends P.puts P.lends put.old row spare put.new
-            × MayGet T.rests T.gets take.old spare take.new }
-        ensures idle { IsFalse result → P.rests put.old put.new × (P.ready put.old → ⊥)
-            × T.rests take.old take.new × (self.new ≡ record self.old { waiting = Some row }) }
+            × MayGet T.gets take.old spare take.new }
+        ensures idle { IsFalse result → (put.new ≡ put.old) × (P.ready put.old → ⊥)
+            × (take.new ≡ take.old) × (self.new ≡ record self.old { waiting = Some row }) }
     {
         match put.try_put(row) {
             Ok(()) => {
@@ -169,10 +169,10 @@ impl<'a, G: Gas> Worker<'a, G> {
     ) -> Turned
         ensures same { SameWorker self.old self.new }
         ensures turned { WorkerTurned G.rules self.old self.new
-            (λ row. T.takes take.old row take.new) (T.rests take.old take.new) (T.ready take.old)
+            (λ row. T.takes take.old row take.new) (take.new ≡ take.old) (T.ready take.old)
             (λ row spare. Sends P.puts P.lends put.old row spare put.new
-            × MayGet T.rests T.gets take.old spare take.new)
-            (P.rests put.old put.new) (P.ready put.old) result }
+            × MayGet T.gets take.old spare take.new)
+            (put.new ≡ put.old) (P.ready put.old) result }
         ensures done_if_closed { IsClosed self.old → result ≡ Turned.Done }
         ensures done_if_all { (e : Option ℕ) (took gave : List RowModel) →
             MayHaveDone G.rules self.old e took gave →

@@ -1,4 +1,4 @@
-use Rattle.std.proofs.Common.{rules, ◌≡◌, ◌+◌, suc, List, length, set, take, drop, subst, sym, ap, ◌∙◌, arith}
+use Rattle.std.proofs.Common.{rules, ◌≡◌, ◌+◌, suc, List, length, set, drop, subst, sym, ap, ◌∙◌, arith}
 use Rattle.std.proofs.lemmas.List.{length-set, length-append}
 use Rattle.gas_rows.specs.Row.{RowModel}
 use Rattle.gas_belt.specs.Belt.{InnerModel}

@@ -1,7 +1,7 @@
 use Rattle.std.proofs.Common.{◌≡◌, sym, ap, ◌∙◌}
 use Rattle.gas_geom.specs.Channel.{ChannelModel}
 use Rattle.gas_pipe.proofs.Fed.{fed_on}
-use Rattle.gas_pipe.proofs.Spares.{got_any}
+use Rattle.gas_pipe.proofs.Spares.{stays, got_any}
 use Rattle.gas_pipe.proofs.Hands.{one_more}
 use Rattle.gas_pipe.proofs.chain.visit_feeder.Goals as goal
 use Rattle.gas_pipe.proofs.chain.visit_feeder.Goals.{in-Took, in-Put}
@@ -15,10 +15,10 @@ loop-preserved g c =
       | in-Took w ↦
           let did = w.in-Took.ensures.turned in
           let took = t.take_is _ did.0 _ did.1.took in
-          let got = got_any g.T.TakeEnd.rests g.T.TakeEnd.gets (λ a b. (g.T.LineTake.taken b ≡ g.T.LineTake.taken a) × g.T.LineTake.same a b)
-          (λ a b rests. let is = t.rests_is a b rests in (is.0, is.1)) (λ a row b gets. let is = t.get_is a row b gets in (is.0, is.1)) _ did.1.spare _ did.1.got in
-          let rest = t.rests_is _ _ w.tell_taken.ensures in
-          let put = p.rests_is _ _ did.2 in
+          let got = got_any g.T.TakeEnd.gets (λ a b. (g.T.LineTake.taken b ≡ g.T.LineTake.taken a) × g.T.LineTake.same a b)
+          (λ a b is. stays g.T.LineTake.taken g.T.LineTake.same t.same_alone a b is) (λ a row b gets. let is = t.get_is a row b gets in (is.0, is.1)) _ did.1.spare _ did.1.got in
+          let rest = stays g.T.LineTake.taken g.T.LineTake.same t.same_alone _ _ w.tell_taken.ensures in
+          let put = stays g.P.LinePut.put g.P.LinePut.same p.same_alone _ _ did.2 in
           rw (w.take-is, w.put-is, w.visited-is) (record {
             take = t.same_then _ _ _ c.loop.invariant.take (t.same_then _ _ _ took.1 (t.same_then _ _ _ got.1 rest.1));
             put = p.same_then _ _ _ c.loop.invariant.put put.1;
@@ -29,8 +29,8 @@ loop-preserved g c =
       | in-Put w ↦
           let did = w.in-Put.ensures.turned in
           let put = p.put_is _ did.0 did.1.0 _ did.1.1 in
-          let rest = p.rests_is _ _ w.tell_put.ensures in
-          let took = t.rests_is _ _ did.2 in
+          let rest = stays g.P.LinePut.put g.P.LinePut.same p.same_alone _ _ w.tell_put.ensures in
+          let took = stays g.T.LineTake.taken g.T.LineTake.same t.same_alone _ _ did.2 in
           rw (w.take-is, w.put-is, w.visited-is) (record {
             take = t.same_then _ _ _ c.loop.invariant.take took.1;
             put = p.same_then _ _ _ c.loop.invariant.put (p.same_then _ _ _ put.1 rest.1);
@@ -43,12 +43,12 @@ loop-preserved g c =
 pub returns-in-Done-clause-fed : goal.returns-in-Done-clause-fed
 returns-in-Done-clause-fed g c input begun =
     let did = c.in-Done.ensures.turned in
-    rw (did.2, (g.met.P.LinePut.rests_is _ _ did.1).0, (g.met.T.LineTake.rests_is _ _ did.0).0) (c.loop.invariant.fed input begun)
+    rw (did.2, did.1, did.0) (c.loop.invariant.fed input begun)
 
 pub returns-in-Idle-clause-fed : goal.returns-in-Idle-clause-fed
 returns-in-Idle-clause-fed g c input begun =
     let did = c.in-Idle.ensures.turned in
-    rw (did.2, (g.met.P.LinePut.rests_is _ _ did.1).0, (g.met.T.LineTake.rests_is _ _ did.0).0) (c.loop.invariant.fed input begun)
+    rw (did.2, did.1, did.0) (c.loop.invariant.fed input begun)
 
 pub unreachable-requires : goal.unreachable-requires
 unreachable-requires g c =

@@ -1,8 +1,7 @@
-use Rattle.std.proofs.Common.{refl, sym, ap, subst, ◌≡◌, ◌<◌, ◌∙◌, ◌∷◌, [], None, List, length, length-append, arith}
-use Rattle.gas_geom.specs.Channel.{ChannelModel}
+use Rattle.std.proofs.Common.{refl, sym, ap, subst, ◌≡◌, ◌∙◌, ◌∷◌, [], List, length, length-append, arith}
 use Rattle.gas_rows.specs.Row.{RowModel}
 use Rattle.gas_pipe.specs.Inner.Hand.{HandModel, PostModel, post_of, HasCome, HasSpares}
-use Rattle.gas_pipe.proofs.Spares.{got_some, fewer_spares, more_spares}
+use Rattle.gas_pipe.proofs.Spares.{stays, got_some, fewer_spares, more_spares}
 use Rattle.gas_pipe.proofs.Hands.{same_post, came_took, came_put, came_rests, put_few, put_most}
 use Rattle.gas_pipe.proofs.hand.Hand.visit.Goals as goal
 use Rattle.gas_pipe.proofs.hand.Hand.visit.Goals.{in-Took, in-Put, in-Done+else-not-begin_next}
@@ -15,13 +14,13 @@ returns-then-not-begin_next g c =
     let h : HandModel = record { who = old.who; first = old.span.first; plan = old.span.plan; pass = old.pass; worker = old.worker } in
     let did = c.in-Done.ensures.turned in
     let was = subst (λ (i : HandModel). HasCome g.G.Gas.rules i (g.T.LineTake.taken c.loop.take) (g.P.LinePut.put c.loop.put)) (sym c.self.view_is) c.loop.invariant.come in
-    let took = t.rests_is _ _ did.0 in
-    let put = p.rests_is _ _ did.1 in
-    let shown = p.rests_is _ _ c.show.ensures in
+    let took = stays g.T.LineTake.taken g.T.LineTake.same t.same_alone _ _ did.0 in
+    let put = stays g.P.LinePut.put g.P.LinePut.same p.same_alone _ _ did.1 in
+    let shown = stays g.P.LinePut.put g.P.LinePut.same p.same_alone _ _ c.show.ensures in
     let came = came_rests g.G.Gas.rules h c.turn.new.self _ _ (g.T.LineTake.taken c.turn.new.take) (g.P.LinePut.put c.show.new.self) was c.turn.ensures.same did.2 took.0 (shown.0 ∙ put.0) in
     let over = c.if-not-begin_next.ensures.over refl _ _ came in
     let spares : HasSpares (g.T.LineTake.spares c.turn.new.take) (g.T.LineTake.taken c.turn.new.take) (g.P.LinePut.put c.show.new.self) =
-    rw (took.0, took.2, shown.0, put.0) c.loop.invariant.spares in
+    rw (did.0, c.show.ensures, did.1) c.loop.invariant.spares in
     record {
       post = c.if-not-begin_next.ensures.post ∙ same_post h c.turn.new.self c.turn.ensures.same ∙ ap post_of c.self.view_is ∙ c.loop.invariant.post;
       take = t.same_then _ _ _ c.loop.invariant.take took.1;
@@ -40,11 +39,11 @@ returns-in-Idle g c =
     let h : HandModel = record { who = old.who; first = old.span.first; plan = old.span.plan; pass = old.pass; worker = old.worker } in
     let did = c.in-Idle.ensures.turned in
     let was = subst (λ (i : HandModel). HasCome g.G.Gas.rules i (g.T.LineTake.taken c.loop.take) (g.P.LinePut.put c.loop.put)) (sym c.self.view_is) c.loop.invariant.come in
-    let took = t.rests_is _ _ did.0 in
-    let put = p.rests_is _ _ did.1 in
+    let took = stays g.T.LineTake.taken g.T.LineTake.same t.same_alone _ _ did.0 in
+    let put = stays g.P.LinePut.put g.P.LinePut.same p.same_alone _ _ did.1 in
     let come = came_rests g.G.Gas.rules h c.turn.new.self _ _ (g.T.LineTake.taken c.turn.new.take) (g.P.LinePut.put c.turn.new.put) was c.turn.ensures.same did.2 took.0 put.0 in
     let spares : HasSpares (g.T.LineTake.spares c.turn.new.take) (g.T.LineTake.taken c.turn.new.take) (g.P.LinePut.put c.turn.new.put) =
-    rw (took.0, took.2, put.0) c.loop.invariant.spares in
+    rw (did.0, did.1) c.loop.invariant.spares in
     record {
       post = same_post h c.turn.new.self c.turn.ensures.same ∙ ap post_of c.self.view_is ∙ c.loop.invariant.post;
       take = t.same_then _ _ _ c.loop.invariant.take took.1;
@@ -73,14 +72,14 @@ loop-preserved g c =
       | in-Took w ↦
           let did = w.in-Took.ensures.turned in
           let took = t.take_is _ _ _ did.1 in
-          let rest = t.rests_is _ _ w.tell_taken.ensures in
-          let put = p.rests_is _ _ did.2 in
+          let rest = stays g.T.LineTake.taken g.T.LineTake.same t.same_alone _ _ w.tell_taken.ensures in
+          let put = stays g.P.LinePut.put g.P.LinePut.same p.same_alone _ _ did.2 in
           rw (w.self-is, w.take-is, w.put-is, w.visited-is) (record {
             post = post;
             take = t.same_then _ _ _ c.loop.invariant.take (t.same_then _ _ _ took.1 rest.1);
             put = p.same_then _ _ _ c.loop.invariant.put put.1;
             not_over = λ over. cc;
-            spares = fewer_spares _ _ _ _ _ _ c.loop.invariant.spares (rest.2 ∙ took.3)
+            spares = fewer_spares _ _ _ _ _ _ c.loop.invariant.spares (ap g.T.LineTake.spares w.tell_taken.ensures ∙ took.3)
                 (ap (λ (l : List RowModel). length l) (rest.0 ∙ took.0) ∙ length-append (g.T.LineTake.taken c.loop.take) (did.0 ∷ []))
                 (ap (λ (l : List RowModel). length l) put.0);
             come = came_took g.G.Gas.rules h c.turn.new.self _ _ _ _ was c.turn.ensures.same did.0 did.3 (rest.0 ∙ took.0) put.0;
@@ -88,8 +87,8 @@ loop-preserved g c =
       | in-Put w ↦
           let did = w.in-Put.ensures.turned in
           let put = p.put_is _ did.0 did.3 _ did.4.0 in
-          let rest = p.rests_is _ _ w.tell_put.ensures in
-          let got = got_some g.T.TakeEnd.rests g.T.TakeEnd.gets (g.P.LinePut.alike did.0) _ did.3 _ put.2 put.3 did.4.1 in
+          let rest = stays g.P.LinePut.put g.P.LinePut.same p.same_alone _ _ w.tell_put.ensures in
+          let got = got_some g.T.TakeEnd.gets (g.P.LinePut.alike did.0) _ did.3 _ put.2 put.3 did.4.1 in
           let took = t.get_is _ got.0 _ got.2 in
           let wide : length got.0 ≡ c.args.self.now.worker.stage.channel.width =
           c.requires.alike did.0 got.0 got.1 ∙ did.2 ∙ ap (λ (q : PostModel). q.channel.width) (ap post_of c.self.view_is ∙ c.loop.invariant.post) in
@@ -108,16 +107,16 @@ loop-preserved g c =
           })
       | in-Done+else-not-begin_next w ↦
           let did = w.in-Done.ensures.turned in
-          let put = p.rests_is _ _ did.1 in
-          let rest = p.rests_is _ _ w.show.ensures in
-          let took = t.rests_is _ _ did.0 in
+          let put = stays g.P.LinePut.put g.P.LinePut.same p.same_alone _ _ did.1 in
+          let rest = stays g.P.LinePut.put g.P.LinePut.same p.same_alone _ _ w.show.ensures in
+          let took = stays g.T.LineTake.taken g.T.LineTake.same t.same_alone _ _ did.0 in
           let came = came_rests g.G.Gas.rules h c.turn.new.self _ _ (g.T.LineTake.taken c.turn.new.take) (g.P.LinePut.put w.show.new.self) was c.turn.ensures.same did.2 took.0 (rest.0 ∙ put.0) in
           rw (w.self-is, w.take-is, w.put-is, w.visited-is) (record {
             post = w.begin_next.ensures.post ∙ post;
             take = t.same_then _ _ _ c.loop.invariant.take took.1;
             put = p.same_then _ _ _ c.loop.invariant.put (p.same_then _ _ _ put.1 rest.1);
             not_over = c.loop.invariant.not_over;
-            spares = rw (took.0, took.2, rest.0, put.0) c.loop.invariant.spares;
+            spares = rw (did.0, w.show.ensures, did.1) c.loop.invariant.spares;
             come = w.if-not-begin_next.ensures.come refl _ _ came;
           })
     ]

@@ -1,4 +1,4 @@
-use Rattle.std.proofs.Common.{rules, ◌++◌, ◌∷◌, [], ◌<◌, ◌∙◌, ap, sym, subst, refl, arith}
+use Rattle.std.proofs.Common.{◌++◌, ◌∷◌, [], ◌<◌, ◌∙◌, ap, sym, subst, refl, arith}
 use Rattle.gas_geom.specs.Lattice.{IsLattice}
 use Rattle.gas_pipe_members.specs.Feeder.{FeederModel, MayHaveFed}
 use Rattle.gas_pipe_members.proofs.Feeds.{fed_take}
@@ -7,7 +7,7 @@ use Rattle.gas_pipe_members.proofs.feeder.Feeder.turn.Goals as goal
 
 pub returns-clause-turned : goal.returns-clause-turned
 returns-clause-turned g c =
-    let rests = c.if-put_next.ensures.rests refl in
+    let rests = c.if-put_next.ensures.unchanged refl in
     let inside : c.self-2.inside.to_put < c.self-2.inside.to_take = omega (arith, c.self-2.invariant.put_first, c.if-self-2.false) in
     let some = subst (λ (f : FeederModel). f.to_put < f.to_take) c.self-2.view_is inside in (
       c.in-Some.row,
@@ -35,7 +35,7 @@ returns-clause-whole g c = λ closed.
 
 pub returns-clause-never_ahead : goal.returns-clause-never_ahead
 returns-clause-never_ahead g c = λ _ passes rows gave took fed.
-    let rests = c.if-put_next.ensures.rests refl in
+    let rests = c.if-put_next.ensures.unchanged refl in
     let inside : c.self-2.inside.to_put < c.self-2.inside.to_take = omega (arith, c.self-2.invariant.put_first, c.if-self-2.false) in
     let some = subst (λ (f : FeederModel). f.to_put < f.to_take) (c.self-2.view_is ∙ rests.1) inside in
     omega (arith, fed.puts, fed.takes, some)
