@@ -18,8 +18,8 @@ leave_out() { if [ "${CI-}" = true ]; then try "$1 is left out" false; else left
 # has COMMAND WHAT: whether the command is here, without which this is left out
 has() { command -v "$1" > /dev/null || { leave_out "$2, because $1 is missing" && false; }; }
 
-# part WORDS..: tries a script or a function, and prints its last line and its seconds, or all that it says if it fails. Status 77 says that
-# the script left something out. A script that hangs is aborted after an hour, and Python then says where it stood.
+# part WORDS..: tries a script or a function, and prints its counts or its last line and its seconds, or all that it says if it fails.
+# Status 77 says that the script left something out. A script that hangs is aborted after an hour, and Python then says where it stood.
 part() {
     local begun=$SECONDS status=0 limit=(env PYTHONFAULTHANDLER=1 timeout --foreground -v -s ABRT -k 60 3600)
     [ "$(type -t "$1")" != function ] || limit=()
@@ -29,7 +29,7 @@ part() {
         77) leave_out "$*" ;;
         *) failed+=("$*") && cat "$room/log" && echo "FAILED: $*" && return ;;
     esac
-    echo "$*: $(tail -n 1 "$room/log") ($((SECONDS - begun)) s)" | tee -a "$room/parts"
+    echo "$*: $({ grep ' passed, ' "$room/log" || cat "$room/log"; } | tail -n 1) ($((SECONDS - begun)) s)" | tee -a "$room/parts"
 }
 
 # tell: prints what failed and the counts, and ends with 0 if all passed, with 77 if something was left out and the rest passed, else with 1
