@@ -10,6 +10,7 @@ use Rattle.gas_pipe_members.specs.Feeder.{FeederModel}
 use Rattle.gas_pipe.specs.Inner.Hand.{HandModel, PostModel, post_of, HasCome, HasFinished, HasSpares}
 use Rattle.gas_geom.specs.Channel.{ChannelModel}
 use Rattle.gas_pipe_model.specs.Pass.{RunInputModel}
+use Rattle.gas_pipe.specs.Inner.Ends.{but_put, but_taken}
 use Rattle.gas_pipe.specs.Inner.Chain.{HeadHasCome, SameHead, width_of, AllHaveCome, AllHaveFinished, put_first}
 use Rattle.gas_pipe.specs.declared.chain.Head.{Head}
 use Rattle.gas_pipe.specs.declared.chain.Head.TheVariants.{Feeder, Worker}
@@ -32,7 +33,7 @@ same_posts (x ∷ hs) (suc k) d i low same = ap (λ (l : List PostModel). post_o
 
 -- a row is put on the first belt
 pub put_on_first : (gas : Rules) (l : List HandModel) (ds : List InnerModel) (u : List RowModel) (f g : InnerModel) → AllHaveCome gas l ds u → 0 < length ds →
-    g ≡ record (get_or ds 0 f) { put = g.put } → AllHaveCome gas l (set ds 0 g) u
+    but_put g ≡ but_put (get_or ds 0 f) → AllHaveCome gas l (set ds 0 g) u
 put_on_first gas l [] u f g all few same = absurd (omega (arith, few))
 put_on_first gas [] (x ∷ ds) u f g all few same = absurd all
 put_on_first gas (j ∷ l) (x ∷ ds) u f g all few same = (
@@ -60,7 +61,7 @@ module _ (gas : Rules) (hs : List HandModel) (k : ℕ) (bs before behind : List 
       subst (λ (l : List InnerModel). AllHaveCome gas (h ∷ drop (suc k) hs) l u) belts_are (subst (λ (l : List HandModel). AllHaveCome gas l bs u) hands_are come)
 
   -- after the visit the worker is i, its belt is c, and the workers after it are `rest` between the belts `others`
-  module _ (i : HandModel) (c : InnerModel) (post : post_of i ≡ post_of h) (same : c ≡ record b { taken = c.taken; held = c.held }) (u2 : List RowModel) (hs2 rest : List HandModel) (others : List InnerModel)
+  module _ (i : HandModel) (c : InnerModel) (post : post_of i ≡ post_of h) (same : but_taken c ≡ but_taken b) (u2 : List RowModel) (hs2 rest : List HandModel) (others : List InnerModel)
       (left : drop k hs2 ≡ i ∷ rest) where
     pub placed : HasCome gas i c.taken (put_first others u2) → HasSpares c.held c.taken (put_first others u2) → AllHaveCome gas rest others u2 →
         AllHaveCome gas (drop k hs2) (set before 0 c ++ others) u2
@@ -103,7 +104,7 @@ module _ (gas : Rules) (hs : List HandModel) (k : ℕ) (bs before behind : List 
     kept_more = whole ∙ ap (λ (l : List HandModel). take k hs ++ l) (sym left_more)
 
   -- what is required to go on behind it
-  pub goes_on : (i : HandModel) (f g : InnerModel) → 0 < length behind → g ≡ record (get_or behind 0 f) { put = g.put } →
+  pub goes_on : (i : HandModel) (f g : InnerModel) → 0 < length behind → but_put g ≡ but_put (get_or behind 0 f) →
       AllHaveCome gas (drop (k + 1) (set hs k i)) (set behind 0 g) u
   goes_on i f g more same =
       let on : k + 1 ≡ suc k = omega arith in

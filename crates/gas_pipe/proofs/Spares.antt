@@ -1,5 +1,5 @@
 -- The spare rows of the end that a worker takes from.
-use Rattle.std.proofs.Common.{◌≡◌, ℕ, ◌+◌, ◌-◌, ◌≤◌, List, length, min, Option, Some, None, IsSome, IfSome, inl, inr, arith, ap, subst, sym}
+use Rattle.std.proofs.Common.{◌≡◌, ℕ, ◌+◌, ◌-◌, ◌≤◌, List, length, min, Option, Some, None, IsSome, IfSome, inl, inr, arith, ap}
 use Rattle.std.proofs.lemmas.Bool.{cases_lt, false≢true}
 use Rattle.std.proofs.Math.Nat.{le-min}
 use Rattle.gas_rows.specs.Row.{RowModel}
@@ -7,8 +7,8 @@ use Rattle.gas_pipe_members.specs.Ends.{MayGet}
 use Rattle.gas_pipe.specs.Inner.Hand.{HasSpares}
 
 -- an end that is as it was
-pub stays : {End Row : Type 0} (rows : End → List Row) (same : End → End → Type 0) → ((a : End) → same a a) → (a b : End) → b ≡ a → (rows b ≡ rows a) × same a b
-stays rows same alone a b is = (ap rows is, subst (same a) (sym is) (alone a))
+pub stays : {End Rows Kept : Type 0} (rows : End → Rows) (kept : End → Kept) (a b : End) → b ≡ a → (rows b ≡ rows a) × (kept b ≡ kept a)
+stays rows kept a b is = (ap rows is, ap kept is)
 
 -- what any end does that is given a row, or none
 pub got_any : {End Row : Type 0} (gets : End → Row → End → Type 0) (P : End → End → Type 0) → ((a b : End) → b ≡ a → P a b) →

@@ -31,10 +31,10 @@ fn visit_feeder<G: Gas, T: LineTake<Row<G>>, P: LinePut<Row<G>>>(
 ) -> Visited
     requires fed { (input : RunInputModel)
         × MayHaveFedInput G.rules input feeder.old (P.put put.old) (T.taken take.old) }
-    requires wide { (row : RowModel) → T.fits take.old row →
+    requires wide { (row : RowModel) → T.fits (T.kept take.old) row →
         length row ≡ feeder.old.channel.width }
-    ensures take { T.same take.old take.new }
-    ensures put { P.same put.old put.new }
+    ensures take { T.kept take.new ≡ T.kept take.old }
+    ensures put { P.kept put.new ≡ P.kept put.old }
     ensures fed { (input : RunInputModel) →
         MayHaveFedInput G.rules input feeder.old (P.put put.old) (T.taken take.old) →
         MayHaveFedInput G.rules input feeder.new (P.put put.new) (T.taken take.new) }
@@ -77,12 +77,12 @@ impl<'a, G: Gas> Head<Feeder<G>, Hand<'a, G>> {
         requires come { (input : RunInputModel)
             × HeadHasCome G.rules input self.old (T.taken take.old) (P.put put.old) }
         requires wide { (row : RowModel) →
-            T.fits take.old row ↔ (length row ≡ width_of self.old) }
+            T.fits (T.kept take.old) row ↔ (length row ≡ width_of self.old) }
         requires alike { (row spare : RowModel) → P.alike row spare → length spare ≡ length row }
         requires spares { HeadHasSpares self.old (T.spares take.old) (T.taken take.old) (P.put put.old) }
         ensures same { SameHead self.old self.new }
-        ensures take { T.same take.old take.new }
-        ensures put { P.same put.old put.new }
+        ensures take { T.kept take.new ≡ T.kept take.old }
+        ensures put { P.kept put.new ≡ P.kept put.old }
         ensures come { (input : RunInputModel) →
             HeadHasCome G.rules input self.old (T.taken take.old) (P.put put.old) →
             HeadHasCome G.rules input self.new (T.taken take.new) (P.put put.new) }

@@ -1,11 +1,12 @@
 //! The ends of the belts of a run: contracts know the rows that went over them, and the other
 //! threads are told of those.
-ghost use Rattle.std.specs.Prelude.{◌≡◌, ◌++◌, ◌∷◌, ◌+◌, ◌-◌, ◌≤◌, ◌↔◌, ℕ, List, [], Option, length, min, refl, IfSome, IsSome};
+ghost use Rattle.std.specs.Prelude.{◌≡◌, ◌++◌, ◌∷◌, ◌+◌, ◌-◌, ◌≤◌, ℕ, List, [], Option, length, min, refl, IfSome, IsSome};
 ghost use Rattle.std.proofs.Common.{◌∙◌, ap, sym, subst};
 ghost use Rattle.std.proofs.Math.Nat.{add-sub_cancel};
 ghost use Rattle.gas_rows.specs.Row.{RowModel};
 ghost use Rattle.gas_belt.specs.Belt.{InnerModel, Sender, Receiver, Belt};
 ghost use Rattle.gas_pipe_members.specs.Ends.{Sends};
+ghost use Rattle.gas_pipe.specs.Inner.Ends.{but_put, but_taken};
 
 use crate::waiter::Waiter;
 use gas_belt::inner_belt::InnerBelt;
@@ -17,11 +18,13 @@ use gas_rows::row::Row;
 
 /// An end that rows are put on, of a belt of a run.
 pub trait LinePut<T>: PutEnd<T> {
-    /// All rows that were put on it.
-    ghost put: { Self → List T };
+    ghost Kept: { Type 0 };
 
     /// What a put leaves as it was.
-    ghost same: { Self → Self → Type 0 };
+    ghost kept: { Self → Kept };
+
+    /// All rows that were put on it.
+    ghost put: { Self → List T };
 
     /// The spare row is as wide as the row that was put.
     ghost alike: { T → T → Type 0 };
@@ -34,56 +37,48 @@ pub trait LinePut<T>: PutEnd<T> {
     fn show(&mut self, waiter: &mut Waiter<'_>)
         ensures { self.new ≡ self.old };
 
-    ghost same_alone: { (a : Self) → same a a };
-
-    ghost same_then: { (a b c : Self) → same a b → same b c → same a c };
-
     ghost put_is: { (a : Self) (row : T) (spare : Option T) (b : Self) →
         Sends Self.PutEnd.puts Self.PutEnd.lends a row spare b →
-        (put b ≡ put a ++ row ∷ []) × same a b × IsSome spare × IfSome spare (alike row) };
+        (put b ≡ put a ++ row ∷ []) × (kept b ≡ kept a) × IsSome spare × IfSome spare (alike row) };
 }
 
 /// An end that rows are taken from, of a belt of a run.
 pub trait LineTake<T>: TakeEnd<T> {
+    ghost Kept: { Type 0 };
+
+    /// What a take leaves as it was.
+    ghost kept: { Self → Kept };
+
     /// All rows that were taken from it.
     ghost taken: { Self → List T };
 
     /// The number of its spare rows for rows to come.
     ghost spares: { Self → ℕ };
 
-    /// What a take leaves as it was.
-    ghost same: { Self → Self → Type 0 };
-
     /// The row is as wide as the belt.
-    ghost fits: { Self → T → Type 0 };
+    ghost fits: { Kept → T → Type 0 };
 
     /// A row was taken: tells the thread that puts on the belt.
     fn tell_taken(&mut self, waiter: &mut Waiter<'_>)
         ensures { self.new ≡ self.old };
 
-    ghost same_alone: { (a : Self) → same a a };
-
-    ghost same_then: { (a b c : Self) → same a b → same b c → same a c };
-
-    ghost same_fits: { (a b : Self) (row : T) → same a b → fits a row ↔ fits b row };
-
     ghost take_is: { (a : Self) (row : T) (b : Self) → Self.TakeEnd.takes a row b →
-        (taken b ≡ taken a ++ row ∷ []) × same a b × fits a row × (spares b ≡ spares a - 1) };
+        (taken b ≡ taken a ++ row ∷ []) × (kept b ≡ kept a) × fits (kept a) row
+        × (spares b ≡ spares a - 1) };
 
     ghost get_is: { (a : Self) (row : T) (b : Self) → Self.TakeEnd.gets a row b →
-        (taken b ≡ taken a) × same a b × (fits a row → min 2 (spares a + 1) ≤ spares b) };
+        (taken b ≡ taken a) × (kept b ≡ kept a)
+        × (fits (kept a) row → min 2 (spares a + 1) ≤ spares b) };
 }
 
 impl<G: Gas> LinePut<Row<G>> for Tx<G> {
+    ghost Kept = { Belt };
+
+    ghost kept = { λ t. t.belt };
+
     ghost put = { λ t. t.put };
 
-    ghost same = { λ a b. b.belt ≡ a.belt };
-
     ghost alike = { λ row spare. length spare ≡ length row };
-
-    ghost same_alone = { λ _. refl };
-
-    ghost same_then = { λ a b c ab bc. bc ∙ ab };
 
     ghost put_is = { λ a row spare b step.
         let put = step.put.0 in
@@ -106,21 +101,15 @@ impl<G: Gas> LinePut<Row<G>> for Tx<G> {
 }
 
 impl<G: Gas> LineTake<Row<G>> for Rx<G> {
+    ghost Kept = { Belt };
+
+    ghost kept = { λ r. r.belt };
+
     ghost taken = { λ r. r.taken };
 
     ghost spares = { λ r. r.held };
 
-    ghost same = { λ a b. b.belt ≡ a.belt };
-
-    ghost fits = { λ r row. length row ≡ r.belt.width };
-
-    ghost same_alone = { λ _. refl };
-
-    ghost same_then = { λ a b c ab bc. bc ∙ ab };
-
-    ghost same_fits = { λ a b row same.
-        let width = ap (λ (c : Belt). c.width) same in
-        ((λ wide. wide ∙ sym width), λ wide. wide ∙ width) };
+    ghost fits = { λ belt row. length row ≡ belt.width };
 
     ghost take_is = { λ a row b step. (
       ap (λ (r : Receiver). r.taken) step.0,
@@ -143,15 +132,13 @@ impl<G: Gas> LineTake<Row<G>> for Rx<G> {
 
 // Both ends of a belt within a thread are there, so no other thread is told.
 impl<G: Gas> LinePut<Row<G>> for InnerBelt<G> {
+    ghost Kept = { InnerModel };
+
+    ghost kept = { but_put };
+
     ghost put = { λ b. b.put };
 
-    ghost same = { λ a b. b ≡ record a { put = b.put } };
-
     ghost alike = { λ row spare. length spare ≡ length row };
-
-    ghost same_alone = { λ _. refl };
-
-    ghost same_then = { λ a b c ab bc. bc ∙ ap (λ (d : InnerModel). record d { put = c.put }) ab };
 
     ghost put_is = { λ a row spare b step.
         let put = step.put.0 in
@@ -159,7 +146,7 @@ impl<G: Gas> LinePut<Row<G>> for InnerBelt<G> {
         let all = lent ∙ ap (λ (d : InnerModel). record d { held = d.held - 1 }) put
         ∙ ap (λ (n : ℕ). record a { put = a.put ++ row ∷ []; held = n }) (add-sub_cancel a.held 1) in (
           ap (λ (d : InnerModel). d.put) all,
-          all ∙ ap (λ (d : InnerModel). record a { put = d.put }) (sym all),
+          ap but_put all,
           step.lent.1 step.put.2,
           subst (λ (n : ℕ). IfSome spare (λ s. length s ≡ n))
               (ap (λ (d : InnerModel). d.width) put ∙ sym step.put.1) step.lent.2,
@@ -172,33 +159,26 @@ impl<G: Gas> LinePut<Row<G>> for InnerBelt<G> {
 }
 
 impl<G: Gas> LineTake<Row<G>> for InnerBelt<G> {
+    ghost Kept = { InnerModel };
+
+    ghost kept = { but_taken };
+
     ghost taken = { λ b. b.taken };
 
     ghost spares = { λ b. b.held };
 
-    ghost same = { λ a b. b ≡ record a { taken = b.taken; held = b.held } };
-
-    ghost fits = { λ b row. length row ≡ b.width };
-
-    ghost same_alone = { λ _. refl };
-
-    ghost same_then = { λ a b c ab bc. bc
-        ∙ ap (λ (d : InnerModel). record d { taken = c.taken; held = c.held }) ab };
-
-    ghost same_fits = { λ a b row same.
-        let width = ap (λ (d : InnerModel). d.width) same in
-        ((λ wide. wide ∙ sym width), λ wide. wide ∙ width) };
+    ghost fits = { λ belt row. length row ≡ belt.width };
 
     ghost take_is = { λ a row b step. (
       ap (λ (d : InnerModel). d.taken) step.0,
-      step.0 ∙ ap (λ (d : InnerModel). record a { taken = d.taken; held = d.held }) (sym step.0),
+      ap but_taken step.0,
       step.1,
       ap (λ (d : InnerModel). d.held) step.0,
     ) };
 
     ghost get_is = { λ a row b step. (
       ap (λ (d : InnerModel). d.taken) step.0,
-      step.0 ∙ ap (λ (d : InnerModel). record a { taken = d.taken; held = d.held }) (sym step.0),
+      ap but_taken step.0,
       step.1,
     ) };
 

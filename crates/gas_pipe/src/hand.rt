@@ -130,12 +130,12 @@ impl<'a, G: Gas> Hand<'a, G> {
     ) -> Visited
         requires come { HasCome G.rules self.old (T.taken take.old) (P.put put.old) }
         requires wide { (row : RowModel) →
-            T.fits take.old row ↔ (length row ≡ self.old.worker.stage.channel.width) }
+            T.fits (T.kept take.old) row ↔ (length row ≡ self.old.worker.stage.channel.width) }
         requires alike { (row spare : RowModel) → P.alike row spare → length spare ≡ length row }
         requires spares { HasSpares (T.spares take.old) (T.taken take.old) (P.put put.old) }
         ensures post { post_of self.new ≡ post_of self.old }
-        ensures take { T.same take.old take.new }
-        ensures put { P.same put.old put.new }
+        ensures take { T.kept take.new ≡ T.kept take.old }
+        ensures put { P.kept put.new ≡ P.kept put.old }
         ensures come { HasCome G.rules self.new (T.taken take.new) (P.put put.new) }
         ensures spares { HasSpares (T.spares take.new) (T.taken take.new) (P.put put.new) }
         ensures never_without { self.new.worker.waiting ≡ None → 0 < T.spares take.new }

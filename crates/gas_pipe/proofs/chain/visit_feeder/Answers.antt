@@ -1,4 +1,4 @@
-use Rattle.std.proofs.Common.{◌≡◌, sym, ap, ◌∙◌}
+use Rattle.std.proofs.Common.{◌≡◌, sym, ap, subst, ◌∙◌}
 use Rattle.gas_geom.specs.Channel.{ChannelModel}
 use Rattle.gas_pipe.proofs.Fed.{fed_on}
 use Rattle.gas_pipe.proofs.Spares.{stays, got_any}
@@ -15,13 +15,13 @@ loop-preserved g c =
       | in-Took w ↦
           let did = w.in-Took.ensures.turned in
           let took = t.take_is _ did.0 _ did.1.took in
-          let got = got_any g.T.TakeEnd.gets (λ a b. (g.T.LineTake.taken b ≡ g.T.LineTake.taken a) × g.T.LineTake.same a b)
-          (λ a b is. stays g.T.LineTake.taken g.T.LineTake.same t.same_alone a b is) (λ a row b gets. let is = t.get_is a row b gets in (is.0, is.1)) _ did.1.spare _ did.1.got in
-          let rest = stays g.T.LineTake.taken g.T.LineTake.same t.same_alone _ _ w.tell_taken.ensures in
-          let put = stays g.P.LinePut.put g.P.LinePut.same p.same_alone _ _ did.2 in
+          let got = got_any g.T.TakeEnd.gets (λ a b. (g.T.LineTake.taken b ≡ g.T.LineTake.taken a) × (g.T.LineTake.kept b ≡ g.T.LineTake.kept a))
+          (λ a b is. stays g.T.LineTake.taken g.T.LineTake.kept _ _ is) (λ a row b gets. let is = t.get_is a row b gets in (is.0, is.1)) _ did.1.spare _ did.1.got in
+          let rest = stays g.T.LineTake.taken g.T.LineTake.kept _ _ w.tell_taken.ensures in
+          let put = stays g.P.LinePut.put g.P.LinePut.kept _ _ did.2 in
           rw (w.take-is, w.put-is, w.visited-is) (record {
-            take = t.same_then _ _ _ c.loop.invariant.take (t.same_then _ _ _ took.1 (t.same_then _ _ _ got.1 rest.1));
-            put = p.same_then _ _ _ c.loop.invariant.put put.1;
+            take = rest.1 ∙ got.1 ∙ took.1 ∙ c.loop.invariant.take;
+            put = put.1 ∙ c.loop.invariant.put;
             not_over = λ over. cc;
             fed = λ input begun. fed_on g.G.Gas.rules input c.loop.feeder c.turn.new.self (g.P.LinePut.put c.loop.put) (g.T.LineTake.taken c.loop.take) _ _ (λ l. l) (one_more did.0)
                 (was input begun) c.turn.ensures.channel did.3 put.0 (rest.0 ∙ got.0 ∙ took.0);
@@ -29,11 +29,11 @@ loop-preserved g c =
       | in-Put w ↦
           let did = w.in-Put.ensures.turned in
           let put = p.put_is _ did.0 did.1.0 _ did.1.1 in
-          let rest = stays g.P.LinePut.put g.P.LinePut.same p.same_alone _ _ w.tell_put.ensures in
-          let took = stays g.T.LineTake.taken g.T.LineTake.same t.same_alone _ _ did.2 in
+          let rest = stays g.P.LinePut.put g.P.LinePut.kept _ _ w.tell_put.ensures in
+          let took = stays g.T.LineTake.taken g.T.LineTake.kept _ _ did.2 in
           rw (w.take-is, w.put-is, w.visited-is) (record {
-            take = t.same_then _ _ _ c.loop.invariant.take took.1;
-            put = p.same_then _ _ _ c.loop.invariant.put (p.same_then _ _ _ put.1 rest.1);
+            take = took.1 ∙ c.loop.invariant.take;
+            put = rest.1 ∙ put.1 ∙ c.loop.invariant.put;
             not_over = λ over. cc;
             fed = λ input begun. fed_on g.G.Gas.rules input c.loop.feeder c.turn.new.self (g.P.LinePut.put c.loop.put) (g.T.LineTake.taken c.loop.take) _ _ (one_more did.0) (λ l. l)
                 (was input begun) c.turn.ensures.channel did.3 (rest.0 ∙ put.0) took.0;
@@ -56,5 +56,5 @@ unreachable-requires g c =
     let begun = c.requires.fed in
     let was = c.loop.invariant.fed begun.0 begun.1 in
     let stray = c.in-Stray.ensures.turned.2 was.fed.no_stray in
-    let wide = c.requires.wide stray.0 ((t.same_fits _ _ _ c.loop.invariant.take).1 (t.take_is _ stray.0 _ stray.1.took).2) in
+    let wide = c.requires.wide stray.0 (subst (λ (k : g.T.LineTake.Kept). g.T.LineTake.fits k stray.0) c.loop.invariant.take (t.take_is _ stray.0 _ stray.1.took).2) in
     absurd (stray.3 (wide ∙ ap (λ (channel : ChannelModel). channel.width) (begun.1.channel ∙ sym was.channel)))

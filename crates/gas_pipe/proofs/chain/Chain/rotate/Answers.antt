@@ -1,6 +1,7 @@
 use Rattle.std.proofs.Common.{◌≡◌, ◌==◌, ℕ, List, length, vec_len, subst, sym, ap, ◌∙◌, arith}
 use Rattle.gas_rows.specs.Row.{RowModel}
 use Rattle.gas_belt.specs.Belt.{Belt, InnerModel}
+use Rattle.gas_pipe.specs.Inner.Ends.{but_put}
 use Rattle.gas_pipe.specs.Inner.Chain.{HeadHasCome, HeadHasSpares, HeadIsOver, IsRunning}
 use Rattle.gas_pipe.proofs.Rotations.{none_left, some_left, put_on_first, at_end, at_end_over, put_first_none, same_width}
 use Rattle.gas_pipe.proofs.chain.Chain.rotate.Goals as goal
@@ -46,5 +47,5 @@ rotate_behind-requires-clause-come g c =
     let count : vec_len c.self.inside.belts ≡ length belts = omega (arith, c.self.inside.belts.ok) in
     let more = some_left belts (c.if-is_empty.ensures ∙ ap (λ (n : ℕ). n == 0) count) in
     let put = c.visit-visited.new.put in
-    let same = subst (λ (b : InnerModel). put ≡ record b { put = put.put }) c.index_mut.ensures.value c.visit-visited.ensures.put in
+    let same = subst (λ (b : InnerModel). but_put put ≡ but_put b) c.index_mut.ensures.value c.visit-visited.ensures.put in
     rw (c.deref_mut.ensures.value, c.deref_mut-2.ensures.value) (put_on_first gas c.self.inside.hands.items belts c.self.inside.tx.put _ put old.hands more same)

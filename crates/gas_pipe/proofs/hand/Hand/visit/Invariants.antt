@@ -6,8 +6,8 @@ use Rattle.gas_pipe.proofs.hand.Hand.visit.Given as goal
 abbrev pub invariant-loop : goal.invariant-loop
 invariant-loop g l = record {
   post : post_of l.self ≡ post_of l.initial.self;
-  take : g.T.LineTake.same l.initial.take l.take;
-  put : g.P.LinePut.same l.initial.put l.put;
+  take : g.T.LineTake.kept l.take ≡ g.T.LineTake.kept l.initial.take;
+  put : g.P.LinePut.kept l.put ≡ g.P.LinePut.kept l.initial.put;
   not_over : l.visited ≡ Over → ⊥;
   come : HasCome g.G.Gas.rules l.self (g.T.LineTake.taken l.take) (g.P.LinePut.put l.put);
   spares : HasSpares (g.T.LineTake.spares l.take) (g.T.LineTake.taken l.take) (g.P.LinePut.put l.put);
