@@ -1,5 +1,4 @@
 pub mod Packed
-pub mod Parts
 pub mod Draws
 pub mod Planes
 pub mod Turned

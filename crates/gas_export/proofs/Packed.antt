@@ -1,5 +1,5 @@
 -- Bytes of cells and their planes.
-use Rattle.std.proofs.Common.{◌≡◌, ℕ, zero, suc, ◌+◌, ◌*◌, ◌^◌, ◌<◌, ◌≤◌, Bool, if◌then◌else◌, true, false, List, length, slice_index, nat_lt, inl, inr, ap, sym, subst, ◌∙◌, arith}
+use Rattle.std.proofs.Common.{◌≡◌, ℕ, zero, suc, ◌+◌, ◌*◌, ◌^◌, ◌<◌, ◌≤◌, Bool, if◌then◌else◌, true, false, List, length, slice_index, nat_lt, inl, inr, ap, sym, ◌∙◌, arith}
 use Rattle.std.specs.List.{list_all}
 use Rattle.std.proofs.lemmas.Bool.{cases_lt, cases_eq, false≢true}
 use Rattle.std.proofs.lemmas.Bool.Decides.{nat_tests}
@@ -23,15 +23,12 @@ byte-lt planes k bytes within all = elim (cases_lt (slice_index bytes k) (2 ^ pl
 ]
 
 -- bytes below 2 ^ planes whose bits the planes hold
-pub packed-bytes : (planes w w' h h' : ℕ) (bytes new : List ℕ) → w ≡ w' → h ≡ h' → length bytes ≡ h * w
-    → list_all (λ b. nat_lt b (2 ^ planes)) bytes ≡ true
-    → ((i x y : ℕ) → i < planes → x < w' → y < h' → has (row_words (planes * words_in w') new y) (words_in w') i x ≡ holds (slice_index bytes (y * w' + x)) i)
+pub packed-bytes : (planes w h : ℕ) (bytes new : List ℕ) → length bytes ≡ h * w → list_all (λ b. nat_lt b (2 ^ planes)) bytes ≡ true
+    → ((i x y : ℕ) → i < planes → x < w → y < h → has (row_words (planes * words_in w) new y) (words_in w) i x ≡ holds (slice_index bytes (y * w + x)) i)
     → (x y : ℕ) → x < w → y < h → state_at planes w new x y ≡ slice_index bytes (y * w + x)
-packed-bytes planes w w' h h' bytes new ew eh long below each x y lt in_rows =
+packed-bytes planes w h bytes new long below each x y lt in_rows =
     state-from (row_words (planes * words_in w) new y) (words_in w) planes x (slice_index bytes (y * w + x))
-    (byte-lt planes (y * w + x) bytes (omega (arith, long, lt, row-within w h y in_rows)) below)
-    (λ i hi. subst (λ (v : ℕ). has (row_words (planes * words_in v) new y) (words_in v) i x ≡ holds (slice_index bytes (y * v + x)) i) (sym ew)
-    (each i x y hi (omega (arith, lt, ew)) (omega (arith, in_rows, eh))))
+    (byte-lt planes (y * w + x) bytes (omega (arith, long, lt, row-within w h y in_rows)) below) (λ i hi. each i x y hi lt in_rows)
 
 -- planes that are zero hold nothing
 narrowed : (m n : ℕ) (f : ℕ → Bool) → n ≤ m → ((i : ℕ) → n ≤ i → f i ≡ false) → set_of m f ≡ set_of n f

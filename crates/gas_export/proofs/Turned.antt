@@ -1,15 +1,11 @@
 -- Particles turned to the opposite direction.
-use Rattle.std.proofs.Common.{◌≡◌, ◌≢◌, ◌<◌, ◌+◌, ◌*◌, ◌/◌, ◌%◌, ◌&&◌, ◌==◌, not, ℕ, ℤ, Bool, List, get_or, ap, sym, ◌∙◌, if◌then◌else◌, arith}
+use Rattle.std.proofs.Common.{◌≡◌, ◌≢◌, ◌<◌, ◌+◌, ◌*◌, ◌/◌, ◌%◌, ◌&&◌, ◌==◌, not, ℕ, Bool, List, get_or, ap, sym, ◌∙◌, if◌then◌else◌, arith}
 use Rattle.std.proofs.lemmas.Bool.Decides.{nat_tests}
-use Rattle.std.specs.Int.{div_ceil}
-use Rattle.gas_blocks.specs.Blocks.{block_at}
 use Rattle.gas_geom.specs.Gas.{Rules, IsGas, holds}
-use Rattle.gas_geom.specs.Size.{SizeModel}
 use Rattle.gas_geom.proofs.Holds.{holds-zero, set_of-same}
 use Rattle.gas_bits.specs.Planes.{has, state}
 use Rattle.gas_bits.proofs.Cells.{holds-state}
-use Rattle.gas_export.specs.Planes.{row_words, lattice_in, turned}
-use Rattle.gas_export.specs.Sums.{sums_of}
+use Rattle.gas_export.specs.Planes.{turned}
 
 -- a word that is written, and one that is not
 pub turned-word : (row : List ℕ) (n i x j word : ℕ) (old : Bool) → x / 64 ≡ j → word ≡ get_or row (i * n + j) 0
@@ -29,13 +25,3 @@ unfolding state
 state-turned gas laws old new n x each =
     set_of-same gas.dirs (λ i. has new n i x) (λ i. holds (state old n gas.dirs x) (gas.opposite i))
     (λ i lt. each i lt ∙ sym (holds-state old n gas.dirs x (gas.opposite i) (laws.opposite_within i lt)))
-
--- sums under other names of the gas and the size
-pub sums-renamed : (gas gas' : Rules) (w h : ℕ) (size : SizeModel) (bw bh : ℕ) (solid states : List ℕ) (sums : List ℤ) → gas ≡ gas' → size ≡ record { width = w; height = h }
-    → ((col row : ℕ) → col < div_ceil size.width bw → row < div_ceil size.height bh
-    → row_words 4 sums (row * div_ceil size.width bw + col) ≡ sums_of (block_at gas' (lattice_in gas' size.width size.height solid states) bw bh row col))
-    → (col row : ℕ) → col < div_ceil w bw → row < div_ceil h bh → row_words 4 sums (row * div_ceil w bw + col) ≡ sums_of (block_at gas (lattice_in gas w h solid states) bw bh row col)
-sums-renamed gas gas' w h size bw bh solid states sums eg made done =
-    let ew : w ≡ size.width = sym (ap (λ (s : SizeModel). s.width) made) in
-    let eh : h ≡ size.height = sym (ap (λ (s : SizeModel). s.height) made) in
-    rw (eg, ew, eh) done

@@ -1,9 +1,9 @@
 //! Bytes of cells into planes and back.
-ghost use Rattle.std.specs.Prelude.{◌≡◌, ◌+◌, ◌*◌, ◌/◌, ◌<◌, ◌≤◌, ℕ, length, slice_index};
-ghost use Rattle.gas_geom.specs.Gas.{holds};
+ghost use Rattle.std.specs.Prelude.{◌≡◌, ◌+◌, ◌*◌, ◌/◌, ◌<◌, ◌≤◌, ◌^◌, ℕ, true, nat_lt, length, slice_index};
+ghost use Rattle.std.specs.List.{list_all};
 ghost use Rattle.gas_bits.specs.Words.{words_in};
-ghost use Rattle.gas_bits.specs.Planes.{has, state};
-ghost use Rattle.gas_export.specs.Planes.{row_words, state_at};
+ghost use Rattle.gas_bits.specs.Planes.{state};
+ghost use Rattle.gas_export.specs.Planes.{state_at};
 
 use crate::rows::row_at;
 use gas_bits::planes::{load_states, planes_at};
@@ -15,10 +15,10 @@ use gas_geom::size::Size;
 pub(crate) fn pack(size: Size, planes: usize, bytes: &[u8], words: &mut [u64])
     requires planes { planes ≤ 8 }
     requires bytes { length bytes.now ≡ size.height * size.width }
+    requires below { list_all (λ b. nat_lt b (2 ^ planes)) bytes.now ≡ true }
     requires words { length words.old ≡ size.height * (planes * words_in size.width) }
-    ensures packed { (i x y : ℕ) → i < planes → x < size.width → y < size.height →
-        has (row_words (planes * words_in size.width) words.new y) (words_in size.width) i x
-        ≡ holds (slice_index bytes.now (y * size.width + x)) i }
+    ensures packed { (x y : ℕ) → x < size.width → y < size.height →
+        state_at planes size.width words.new x y ≡ slice_index bytes.now (y * size.width + x) }
 {
     let width = size.width() as usize;
     let words_each = words_for(size.width());

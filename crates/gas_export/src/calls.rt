@@ -1,5 +1,5 @@
 //! The calls, as `include/fhpgas.h` has them.
-ghost use Rattle.std.specs.Prelude.{◌≡◌, ◌≢◌, ◌+◌, ◌*◌, ◌^◌, ◌<◌, ◌==◌, ◌&&◌, ℕ, nat_le, nat_lt, if◌then◌else◌, length, slice_index};
+ghost use Rattle.std.specs.Prelude.{◌≡◌, ◌≢◌, ◌+◌, ◌*◌, ◌^◌, ◌<◌, ◌≤◌, ◌==◌, ◌&&◌, ℕ, nat_le, nat_lt, if◌then◌else◌, length, slice_index};
 ghost use Rattle.std.specs.List.{list_all};
 ghost use Rattle.std.specs.Int.{div_ceil};
 ghost use Rattle.gas_blocks.specs.Blocks.{block_at};
@@ -12,17 +12,60 @@ ghost use Rattle.gas_export.specs.Statuses.{unless, is_planes, is_size, is_place
 use crate::advance::advance;
 use crate::bytes::{pack, unpack};
 use crate::draw::Source;
-use crate::status::{
-    BLOCK, BYTE, CHIRALITY, DONE, GAS, GENERATIONS, LENGTH, PLACE, SIZE, are_below, blocks_in,
-    directions_of, is_place, is_planes, is_size, words_of, work_of,
-};
+use crate::status::{Status, are_below, is_place, is_planes};
 use crate::sums::sum_blocks;
 use crate::turn::turn;
+use gas_bits::word::words_for;
 use gas_geom::fhp_rest::FhpRest;
 use gas_geom::fhp1::Fhp1;
 use gas_geom::hpp::Hpp;
 use gas_geom::size::Size;
 use gas_rows::chirality::Chirality;
+use gas_rows::collision::directions;
+
+/// Returns a status unless something is lawful.
+macro_rules! lawful {
+    ($holds:expr, $status:ident) => {
+        if !$holds {
+            return Status::$status as u32;
+        }
+    };
+}
+
+/// Calls a function for the gas of a number.
+macro_rules! for_gas {
+    ($gas:ident, $call:ident($($argument:expr),*)) => {
+        match $gas {
+            0 => $call::<Fhp1>($($argument),*),
+            1 => $call::<Hpp>($($argument),*),
+            _ => $call::<FhpRest>($($argument),*),
+        }
+    };
+}
+
+// The number of directions of the gas of a number.
+fn directions_of(gas: u32) -> usize
+    ensures value { result ≡ (gas_numbered gas).dirs }
+    ensures few { result ≤ 8 }
+{
+    for_gas!(gas, directions())
+}
+
+// The number of words of so many planes.
+fn words_of(planes: usize, size: Size) -> usize
+    requires planes { planes ≤ 8 }
+    ensures value { result ≡ words_of planes size.width size.height }
+{
+    size.height() as usize * (planes * words_for(size.width()))
+}
+
+// The number of words of the memory that generations are computed in.
+fn work_of(gas: u32, width: u32) -> usize
+    requires few_cells { width ≤ 65536 }
+    ensures value { result ≡ work_of gas width }
+{
+    (3 * directions_of(gas) + 2) * words_for(width)
+}
 
 /// The number of this interface.
 #[unsafe(no_mangle)]
@@ -37,7 +80,11 @@ pub extern "C" fn fhpgas_interface() -> u32
 pub extern "C" fn fhpgas_directions(gas: u32) -> u32
     ensures number { result ≡ (if nat_lt gas 3 then (gas_numbered gas).dirs else 0) }
 {
-    if gas < 3 { directions_of(gas) } else { 0 }
+    if gas < 3 {
+        directions_of(gas) as u32
+    } else {
+        0
+    }
 }
 
 /// The number of words of so many planes, 0 if their number or the size is not lawful.
@@ -46,10 +93,9 @@ pub extern "C" fn fhpgas_words(planes: u32, width: u32, height: u32) -> usize
     ensures number { result ≡ (if is_planes planes && is_size width height then words_of planes width height
         else 0) }
 {
-    if is_planes(planes) && is_size(width, height) {
-        words_of(planes, width, height)
-    } else {
-        0
+    match Size::new(width, height) {
+        Some(size) if is_planes(planes) => words_of(planes as usize, size),
+        _ => 0,
     }
 }
 
@@ -59,7 +105,7 @@ pub extern "C" fn fhpgas_words(planes: u32, width: u32, height: u32) -> usize
 pub extern "C" fn fhpgas_work_words(gas: u32, width: u32) -> usize
     ensures number { result ≡ (if nat_lt gas 3 && is_size width 1 then work_of gas width else 0) }
 {
-    if gas < 3 && is_size(width, 1) {
+    if gas < 3 && Size::new(width, 1).is_some() {
         work_of(gas, width)
     } else {
         0
@@ -82,22 +128,15 @@ pub extern "C" fn fhpgas_pack(
     ensures packed { result ≡ 0 → (x y : ℕ) → x < width → y < height →
         state_at planes width words.new x y ≡ slice_index bytes.now (y * width + x) }
 {
-    if !is_planes(planes) {
-        return GAS;
-    }
+    lawful!(is_planes(planes), Gas);
     let Some(size) = Size::new(width, height) else {
-        return SIZE;
+        return Status::Size as u32;
     };
-    if bytes.len() != height as usize * width as usize
-        || words.len() != words_of(planes, width, height)
-    {
-        return LENGTH;
-    }
-    if !are_below(bytes, planes) {
-        return BYTE;
-    }
+    lawful!(bytes.len() == height as usize * width as usize, Length);
+    lawful!(words.len() == words_of(planes as usize, size), Length);
+    lawful!(are_below(bytes, planes), Byte);
     pack(size, planes as usize, bytes, words);
-    DONE
+    Status::Done as u32
 }
 
 /// Writes planes into bytes.
@@ -116,19 +155,14 @@ pub extern "C" fn fhpgas_unpack(
     ensures unpacked { result ≡ 0 → (x y : ℕ) → x < width → y < height →
         slice_index bytes.new (y * width + x) ≡ state_at planes width words.now x y }
 {
-    if !is_planes(planes) {
-        return GAS;
-    }
+    lawful!(is_planes(planes), Gas);
     let Some(size) = Size::new(width, height) else {
-        return SIZE;
+        return Status::Size as u32;
     };
-    if words.len() != words_of(planes, width, height)
-        || bytes.len() != height as usize * width as usize
-    {
-        return LENGTH;
-    }
+    lawful!(words.len() == words_of(planes as usize, size), Length);
+    lawful!(bytes.len() == height as usize * width as usize, Length);
     unpack(size, planes as usize, words, bytes);
-    DONE
+    Status::Done as u32
 }
 
 /// Turns every particle of a lattice to the opposite direction.
@@ -141,21 +175,13 @@ pub extern "C" fn fhpgas_turn(gas: u32, width: u32, height: u32, states: &mut [u
         state_at (gas_numbered gas).dirs width states.new x y
         ≡ turned (gas_numbered gas) (state_at (gas_numbered gas).dirs width states.old x y) }
 {
-    if gas >= 3 {
-        return GAS;
-    }
+    lawful!(gas < 3, Gas);
     let Some(size) = Size::new(width, height) else {
-        return SIZE;
+        return Status::Size as u32;
     };
-    if states.len() != words_of(directions_of(gas), width, height) {
-        return LENGTH;
-    }
-    match gas {
-        0 => turn::<Fhp1>(size, states),
-        1 => turn::<Hpp>(size, states),
-        _ => turn::<FhpRest>(size, states),
-    }
-    DONE
+    lawful!(states.len() == words_of(directions_of(gas), size), Length);
+    for_gas!(gas, turn(size, states));
+    Status::Done as u32
 }
 
 /// Sums the cells of a lattice by blocks.
@@ -181,29 +207,20 @@ pub extern "C" fn fhpgas_sums(
         ≡ sums_of (block_at (gas_numbered gas) (lattice_in (gas_numbered gas) width height solid.now
         states.now) block_width block_height row col) }
 {
-    if gas >= 3 {
-        return GAS;
-    }
+    lawful!(gas < 3, Gas);
     let Some(size) = Size::new(width, height) else {
-        return SIZE;
+        return Status::Size as u32;
     };
-    if block_width == 0 || block_height == 0 {
-        return BLOCK;
-    }
-    let fours = blocks_in(width, height, block_width, block_height);
-    if solid.len() != words_of(1, width, height)
-        || states.len() != words_of(directions_of(gas), width, height)
-        || sums.len() % 4 != 0
-        || sums.len() / 4 != fours
-    {
-        return LENGTH;
-    }
-    match gas {
-        0 => sum_blocks::<Fhp1>(size, block_width, block_height, solid, states, sums),
-        1 => sum_blocks::<Hpp>(size, block_width, block_height, solid, states, sums),
-        _ => sum_blocks::<FhpRest>(size, block_width, block_height, solid, states, sums),
-    }
-    DONE
+    lawful!(block_width > 0 && block_height > 0, Block);
+    let blocks = height.div_ceil(block_height) as usize * width.div_ceil(block_width) as usize;
+    lawful!(solid.len() == words_of(1, size), Length);
+    lawful!(states.len() == words_of(directions_of(gas), size), Length);
+    lawful!(sums.len() % 4 == 0 && sums.len() / 4 == blocks, Length);
+    for_gas!(
+        gas,
+        sum_blocks(size, block_width, block_height, solid, states, sums)
+    );
+    Status::Done as u32
 }
 
 // The chirality of a number.
@@ -250,37 +267,25 @@ pub extern "C" fn fhpgas_advance(
         ≡ lattice_after (gas_numbered gas) (chirality_numbered chirality seed) first
         (lattice_in (gas_numbered gas) width height solid.now states.old) generations }
 {
-    if gas >= 3 {
-        return GAS;
-    }
-    if chirality >= 3 {
-        return CHIRALITY;
-    }
+    lawful!(gas < 3, Gas);
+    lawful!(chirality < 3, Chirality);
     let Some(size) = Size::new(width, height) else {
-        return SIZE;
+        return Status::Size as u32;
     };
-    if !is_place(first_row, first_column, whole_width, width) {
-        return PLACE;
-    }
-    if generations > u64::MAX - first {
-        return GENERATIONS;
-    }
-    if solid.len() != words_of(1, width, height)
-        || states.len() != words_of(directions_of(gas), width, height)
-        || work.len() != work_of(gas, width)
-    {
-        return LENGTH;
-    }
+    lawful!(is_place(first_row, first_column, whole_width, width), Place);
+    lawful!(generations <= u64::MAX - first, Generations);
+    lawful!(solid.len() == words_of(1, size), Length);
+    lawful!(states.len() == words_of(directions_of(gas), size), Length);
+    lawful!(work.len() == work_of(gas, width), Length);
     let source = Source {
         chirality: chirality_of(chirality, seed),
         first_row,
         first_column,
         whole_width,
     };
-    match gas {
-        0 => advance::<Fhp1>(size, source, first, generations, solid, states, work),
-        1 => advance::<Hpp>(size, source, first, generations, solid, states, work),
-        _ => advance::<FhpRest>(size, source, first, generations, solid, states, work),
-    }
-    DONE
+    for_gas!(
+        gas,
+        advance(size, source, first, generations, solid, states, work)
+    );
+    Status::Done as u32
 }

@@ -6,6 +6,7 @@ use Rattle.gas_bits.specs.Words.{words_in}
 use Rattle.gas_bits.specs.Planes.{has}
 use Rattle.gas_export.specs.Planes.{row_words}
 use Rattle.gas_export.proofs.Planes.{row-within, row-get, row-read, row-written, row-apart, row-put_long}
+use Rattle.gas_export.proofs.Packed.{packed-bytes}
 use Rattle.gas_export.proofs.bytes.pack.Goals as goal
 
 pub slice_bounds-load_states-end : goal.slice_bounds-load_states-end
@@ -48,3 +49,9 @@ loop-y-preserved c =
             ∙ c.loop-y.invariant.packed i x k in_planes lt (omega (arith, below, ne))
       ];
     }
+
+pub returns : goal.returns
+returns c = record {
+  packed = packed-bytes c.args.planes c.args.size.width c.args.size.height c.args.bytes.now c.loop-y.words c.requires.bytes c.requires.below
+      (λ i x y i_in lt in_rows. c.loop-y.invariant.packed i x y i_in lt (omega (arith, in_rows, c.loop-y-test.false, c.height-y-end.ensures.value)));
+}

@@ -1,46 +1,28 @@
-use Rattle.std.proofs.Common.{◌≡◌, ap, arith}
+use Rattle.std.proofs.Common.{◌≡◌, ◌+◌, ℕ, ap, ap₂, arith}
+use Rattle.std.proofs.Math.Path.{fun_ext}
 use Rattle.std.proofs.lemmas.Bool.Decides.{nat_tests}
-use Rattle.gas_geom.specs.Fhp1.{fhp1}
-use Rattle.gas_geom.specs.Hpp.{hpp}
 use Rattle.gas_geom.specs.FhpRest.{fhp_rest}
+use Rattle.gas_geom.specs.Size.{SizeModel}
+use Rattle.gas_rows.specs.Chirality.{chirality_bit}
+use Rattle.gas_rows.specs.declared.chirality.Chirality.{Chirality}
+use Rattle.gas_export.specs.Part.{part_bit}
 use Rattle.gas_export.specs.Planes.{gas_numbered, chirality_numbered}
-use Rattle.gas_export.proofs.Parts.{part-renamed, whole-renamed}
+use Rattle.gas_export.proofs.calls.fhpgas_advance.Goals.{in-0, in-1, in_default-gas}
 use Rattle.gas_export.proofs.calls.fhpgas_advance.Goals as goal
 
-pub returns-in-0-clause-done : goal.returns-in-0-clause-done
-returns-in-0-clause-done c =
-    λ zero. part-renamed (gas_numbered c.args.gas) fhp1 (chirality_numbered c.args.chirality c.args.seed) c.chirality_of.result c.args.width c.args.height c.in-Some.size
-    c.args.whole_width c.args.first_column c.args.first_row c.args.first c.args.generations c.args.solid.now c.args.states.now c.advance.new.states
-    (ap gas_numbered c.in-0.is) c.chirality_of.ensures.value c.in-Some.ensures.made c.advance.ensures.done
+-- the bits of a part that is the whole
+bits_of_whole : (chi : Chirality) (w : ℕ) → part_bit chi w 0 0 ≡ chirality_bit chi w
+bits_of_whole chi w = fun_ext (λ g. fun_ext (λ x. fun_ext (λ y. let column : 0 + x ≡ x = omega arith in let row : 0 + y ≡ y = omega arith in ap₂ (chirality_bit chi w g) column row)))
 
-pub returns-in-0-clause-whole : goal.returns-in-0-clause-whole
-returns-in-0-clause-whole c =
-    λ zero. whole-renamed (gas_numbered c.args.gas) fhp1 (chirality_numbered c.args.chirality c.args.seed) c.chirality_of.result c.args.width c.args.height c.in-Some.size
-    c.args.whole_width c.args.first_column c.args.first_row c.args.first c.args.generations c.args.solid.now c.args.states.now c.advance.new.states
-    (ap gas_numbered c.in-0.is) c.chirality_of.ensures.value c.in-Some.ensures.made c.advance.ensures.done
+pub returns-clause-done : goal.returns-clause-done
+returns-clause-done c = λ zero.
+    let ew = ap (λ (s : SizeModel). s.width) c.in-Some.ensures.made in
+    let eh = ap (λ (s : SizeModel). s.height) c.in-Some.ensures.made in
+    rw (← ew, ← eh, ← c.chirality_of.ensures.value) (elim c.match-gas.branch [
+      | in-0 w ↦ rw (w.states-is, ap gas_numbered w.in-0.is) w.advance.ensures.done
+      | in-1 w ↦ rw (w.states-is, ap gas_numbered w.in-1.is) w.advance-in-1.ensures.done
+      | in_default-gas w ↦ let rest : gas_numbered c.args.gas ≡ fhp_rest = grind (arith, nat_tests) in rw (w.states-is, rest) w.advance-in_default-gas.ensures.done
+    ])
 
-pub returns-in-1-clause-done : goal.returns-in-1-clause-done
-returns-in-1-clause-done c =
-    λ zero. part-renamed (gas_numbered c.args.gas) hpp (chirality_numbered c.args.chirality c.args.seed) c.chirality_of.result c.args.width c.args.height c.in-Some.size
-    c.args.whole_width c.args.first_column c.args.first_row c.args.first c.args.generations c.args.solid.now c.args.states.now c.advance-in-1.new.states
-    (ap gas_numbered c.in-1.is) c.chirality_of.ensures.value c.in-Some.ensures.made c.advance-in-1.ensures.done
-
-pub returns-in-1-clause-whole : goal.returns-in-1-clause-whole
-returns-in-1-clause-whole c =
-    λ zero. whole-renamed (gas_numbered c.args.gas) hpp (chirality_numbered c.args.chirality c.args.seed) c.chirality_of.result c.args.width c.args.height c.in-Some.size
-    c.args.whole_width c.args.first_column c.args.first_row c.args.first c.args.generations c.args.solid.now c.args.states.now c.advance-in-1.new.states
-    (ap gas_numbered c.in-1.is) c.chirality_of.ensures.value c.in-Some.ensures.made c.advance-in-1.ensures.done
-
-pub returns-in_default-gas-clause-done : goal.returns-in_default-gas-clause-done
-returns-in_default-gas-clause-done c =
-    let rest : gas_numbered c.args.gas ≡ fhp_rest = grind (arith, nat_tests) in
-    λ zero. part-renamed (gas_numbered c.args.gas) fhp_rest (chirality_numbered c.args.chirality c.args.seed) c.chirality_of.result c.args.width c.args.height c.in-Some.size
-    c.args.whole_width c.args.first_column c.args.first_row c.args.first c.args.generations c.args.solid.now c.args.states.now c.advance-in_default-gas.new.states
-    rest c.chirality_of.ensures.value c.in-Some.ensures.made c.advance-in_default-gas.ensures.done
-
-pub returns-in_default-gas-clause-whole : goal.returns-in_default-gas-clause-whole
-returns-in_default-gas-clause-whole c =
-    let rest : gas_numbered c.args.gas ≡ fhp_rest = grind (arith, nat_tests) in
-    λ zero. whole-renamed (gas_numbered c.args.gas) fhp_rest (chirality_numbered c.args.chirality c.args.seed) c.chirality_of.result c.args.width c.args.height c.in-Some.size
-    c.args.whole_width c.args.first_column c.args.first_row c.args.first c.args.generations c.args.solid.now c.args.states.now c.advance-in_default-gas.new.states
-    rest c.chirality_of.ensures.value c.in-Some.ensures.made c.advance-in_default-gas.ensures.done
+pub returns-clause-whole : goal.returns-clause-whole
+returns-clause-whole c = λ zero er ec ew. rw (er, ec, ew, bits_of_whole (chirality_numbered c.args.chirality c.args.seed) c.args.width) at (returns-clause-done c zero)

@@ -1,21 +1,17 @@
 use Rattle.std.proofs.Common.{◌≡◌, ap, arith}
 use Rattle.std.proofs.lemmas.Bool.Decides.{nat_tests}
-use Rattle.gas_geom.specs.Fhp1.{fhp1}
-use Rattle.gas_geom.specs.Hpp.{hpp}
 use Rattle.gas_geom.specs.FhpRest.{fhp_rest}
+use Rattle.gas_geom.specs.Size.{SizeModel}
 use Rattle.gas_export.specs.Planes.{gas_numbered}
-use Rattle.gas_export.proofs.Turned.{sums-renamed}
+use Rattle.gas_export.proofs.calls.fhpgas_sums.Goals.{in-0, in-1, in_default-gas}
 use Rattle.gas_export.proofs.calls.fhpgas_sums.Goals as goal
 
-pub returns-in-0-clause-summed : goal.returns-in-0-clause-summed
-returns-in-0-clause-summed c =
-    λ zero. sums-renamed (gas_numbered c.args.gas) fhp1 c.args.width c.args.height c.in-Some.size c.args.block_width c.args.block_height c.args.solid.now c.args.states.now c.sum_blocks.new.sums (ap gas_numbered c.in-0.is) c.in-Some.ensures.made c.sum_blocks.ensures.sums
-
-pub returns-in-1-clause-summed : goal.returns-in-1-clause-summed
-returns-in-1-clause-summed c =
-    λ zero. sums-renamed (gas_numbered c.args.gas) hpp c.args.width c.args.height c.in-Some.size c.args.block_width c.args.block_height c.args.solid.now c.args.states.now c.sum_blocks-in-1.new.sums (ap gas_numbered c.in-1.is) c.in-Some.ensures.made c.sum_blocks-in-1.ensures.sums
-
-pub returns-in_default-gas-clause-summed : goal.returns-in_default-gas-clause-summed
-returns-in_default-gas-clause-summed c =
-    let rest : gas_numbered c.args.gas ≡ fhp_rest = grind (arith, nat_tests) in
-    λ zero. sums-renamed (gas_numbered c.args.gas) fhp_rest c.args.width c.args.height c.in-Some.size c.args.block_width c.args.block_height c.args.solid.now c.args.states.now c.sum_blocks-in_default-gas.new.sums rest c.in-Some.ensures.made c.sum_blocks-in_default-gas.ensures.sums
+pub returns-clause-summed : goal.returns-clause-summed
+returns-clause-summed c = λ zero.
+    let ew = ap (λ (s : SizeModel). s.width) c.in-Some.ensures.made in
+    let eh = ap (λ (s : SizeModel). s.height) c.in-Some.ensures.made in
+    rw (← ew, ← eh) (elim c.match-gas.branch [
+      | in-0 w ↦ rw (w.sums-is, ap gas_numbered w.in-0.is) w.sum_blocks.ensures.sums
+      | in-1 w ↦ rw (w.sums-is, ap gas_numbered w.in-1.is) w.sum_blocks-in-1.ensures.sums
+      | in_default-gas w ↦ let rest : gas_numbered c.args.gas ≡ fhp_rest = grind (arith, nat_tests) in rw (w.sums-is, rest) w.sum_blocks-in_default-gas.ensures.sums
+    ])
