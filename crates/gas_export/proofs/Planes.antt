@@ -8,7 +8,7 @@ use Rattle.std.proofs.lemmas.List.{places, ext_get_or}
 use Rattle.std.proofs.lemmas.Nat.{mul-le}
 use borrow.Rule.Slice.PartMut.{put_mid}
 use Rattle.gas_geom.specs.Gas.{Rules}
-use Rattle.gas_geom.specs.Lattice.{collided}
+use Rattle.gas_geom.specs.Lattice.{cell, rows_of, collided}
 use Rattle.gas_geom.specs.Channel.{is_solid}
 use Rattle.gas_geom.specs.Moves.{row_after}
 use Rattle.gas_geom.specs.declared.moves.Move.TheVariants.{Back, On}
@@ -140,9 +140,15 @@ rows-about dirs w h y solid kept up mid down at in_rows up_is mid_is down_is sam
 }
 
 -- a collided cell
-pub cell-collided : (gas : Rules) (w h x y : ℕ) (solid : List ℕ) (f : ℕ → ℕ → Bool) (at : ℕ → ℕ → ℕ) (s n : ℕ) (b : Bool) → x < w → y < h
-    → n ≡ (if solid_at w solid x y then 0 else gas.collide s b) → s ≡ at x y → gas.collide s b ≡ gas.collide s (f x y)
-    → n ≡ collided gas (channel_of w h (solid_at w solid)) f at x y
-cell-collided gas w h x y solid f at s n b in_row in_rows is es eb =
-    is ∙ ap (λ (t : ℕ). if solid_at w solid x y then 0 else t) (eb ∙ ap (λ t. gas.collide t (f x y)) es)
-    ∙ ap (λ (q : Bool). if q then 0 else gas.collide (at x y) (f x y)) (sym (value-rows_of w h (solid_at w solid) x y false in_row in_rows))
+abbrev pub collided_at : Rules → ℕ → ℕ → List ℕ → (ℕ → ℕ → Bool) → List ℕ → ℕ → ℕ → ℕ
+collided_at gas w h solid f states = collided gas (channel_of w h (solid_at w solid)) f (cell (rows_of w h (state_at gas.dirs w states)))
+
+pub cell-hit : (gas : Rules) (w h x y : ℕ) (solid states words : List ℕ) (f : ℕ → ℕ → Bool) (n : ℕ) (b : Bool) → x < w → y < h
+    → words ≡ row_words (gas.dirs * words_in w) states y
+    → n ≡ (if solid_at w solid x y then 0 else gas.collide (state words (words_in w) gas.dirs x) b)
+    → ((s : ℕ) → gas.collide s b ≡ gas.collide s (f x y))
+    → n ≡ collided_at gas w h solid f states x y
+cell-hit gas w h x y solid states words f n b in_row in_rows row is eb =
+    is ∙ ap (λ (t : ℕ). if solid_at w solid x y then 0 else t) (eb (state words (words_in w) gas.dirs x)
+    ∙ ap (λ t. gas.collide t (f x y)) (ap (λ ws. state ws (words_in w) gas.dirs x) row ∙ sym (value-rows_of w h (state_at gas.dirs w states) x y 0 in_row in_rows)))
+    ∙ ap (λ (q : Bool). if q then 0 else gas.collide (cell (rows_of w h (state_at gas.dirs w states)) x y) (f x y)) (sym (value-rows_of w h (solid_at w solid) x y false in_row in_rows))

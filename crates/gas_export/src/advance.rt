@@ -5,9 +5,9 @@ ghost use Rattle.gas_export.specs.Planes.{lattice_in};
 ghost use Rattle.gas_export.specs.Part.{part_after};
 
 use crate::draw::Source;
-use crate::step::step;
+use crate::rows::words_each;
+use crate::step::Channel;
 use gas_bits::plane::fill;
-use gas_bits::word::words_for;
 use gas_geom::gas::Gas;
 use gas_geom::size::Size;
 
@@ -30,23 +30,13 @@ pub(crate) fn advance<G: Gas>(
         source.chirality source.whole_width source.first_column source.first_row first
         (lattice_in G.rules size.width size.height solid.now states.old) generations }
 {
-    let words_each = words_for(size.width());
+    let words_each = words_each(size);
     let (wall, rest) = work.split_at_mut(words_each);
     let (bits, kept) = rest.split_at_mut(words_each);
     fill(wall, size.width(), true);
-    let mut generator = source.generator(size.width(), bits);
+    let channel = Channel { size, solid, wall };
+    let mut generator = source.generator(size, bits);
     for done in 0..generations {
-        let generation = first + done;
-        step::<G>(
-            size,
-            source,
-            &mut generator,
-            generation,
-            solid,
-            wall,
-            states,
-            bits,
-            kept,
-        );
+        channel.step::<G>(source, &mut generator, first + done, states, bits, kept);
     }
 }

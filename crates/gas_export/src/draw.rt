@@ -4,6 +4,7 @@ ghost use Rattle.gas_bits.specs.Words.{words_in, bit};
 
 use gas_bits::plane::fill;
 use gas_geom::gas::Gas;
+use gas_geom::size::Size;
 use gas_rows::chirality::Chirality;
 use gas_rows::key::{draw, generator_of, seek};
 use rand_chacha::ChaCha20Rng;
@@ -22,20 +23,18 @@ impl Source {
     ghost use Rattle.gas_export.specs.Inner.Source.{bit_of, IsReady};
 
     /// The generator that bits are drawn from. If none are drawn, `bits` gets those of every row.
-    pub(crate) fn generator(self, width: u32, bits: &mut [u64]) -> ChaCha20Rng
-        requires some_cells { 1 ≤ width }
-        requires long { length bits.old ≡ words_in width }
-        ensures long { length bits.new ≡ length bits.old }
-        ensures ready { IsReady self.chirality result.key width bits.new }
+    pub(crate) fn generator(self, size: Size, bits: &mut [u64]) -> ChaCha20Rng
+        requires long { length bits.old ≡ words_in size.width }
+        ensures ready { IsReady self.chirality result.key size.width bits.new }
     {
         match self.chirality {
             Chirality::Seeded(seed) => generator_of(seed),
             Chirality::Left => {
-                fill(bits, width, true);
+                fill(bits, size.width(), true);
                 generator_of(0)
             }
             Chirality::Right => {
-                fill(bits, width, false);
+                fill(bits, size.width(), false);
                 generator_of(0)
             }
         }
@@ -48,17 +47,13 @@ impl Source {
         generator: &mut ChaCha20Rng,
         generation: u64,
         y: u32,
-        width: u32,
+        size: Size,
         bits: &mut [u64],
     )
-        requires some_cells { 1 ≤ width }
-        requires few_cells { width ≤ 65536 }
-        requires row { y < 65536 }
-        requires long { length bits.old ≡ words_in width }
-        requires ready { IsReady self.chirality generator.old.key width bits.old }
-        ensures long { length bits.new ≡ length bits.old }
-        ensures ready { IsReady self.chirality generator.new.key width bits.new }
-        ensures collisions { (s x : ℕ) → x < width →
+        requires row { y < size.height }
+        requires ready { IsReady self.chirality generator.old.key size.width bits.old }
+        ensures ready { IsReady self.chirality generator.new.key size.width bits.new }
+        ensures collisions { (s x : ℕ) → x < size.width →
             G.rules.collide s (bit bits.new x) ≡ G.rules.collide s (bit_of self generation x y) }
     {
         let Chirality::Seeded(_) = self.chirality else {
@@ -71,6 +66,6 @@ impl Source {
         let key_words = u64::from(self.whole_width.div_ceil(32));
         let first = row * key_words + u64::from(self.first_column / 32);
         seek(generator, generation, first);
-        draw(bits, width, generator);
+        draw(bits, size.width(), generator);
     }
 }

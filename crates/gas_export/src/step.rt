@@ -1,168 +1,145 @@
 //! One generation in place. Three rows beside the lattice keep the collided rows that streaming reads.
-ghost use Rattle.std.specs.Prelude.{◌≡◌, ◌≢◌, ◌+◌, ◌-◌, ◌*◌, ◌/◌, ◌%◌, ◌<◌, ◌≤◌, ℕ, Bool, true, false, if◌then◌else◌, IsTrue, length};
-ghost use Rattle.gas_geom.specs.Lattice.{streamed, collided};
+ghost use Rattle.std.specs.Prelude.{◌≡◌, ◌≢◌, ◌+◌, ◌-◌, ◌*◌, ◌/◌, ◌%◌, ◌<◌, ◌≤◌, ℕ, true, false, IsTrue, length};
+ghost use Rattle.gas_geom.specs.Lattice.{rows_of, streamed, next};
 ghost use Rattle.gas_bits.specs.Words.{words_in, bit};
 ghost use Rattle.gas_layout.specs.Layout.{channel_of};
-ghost use Rattle.gas_export.specs.Planes.{state_at, solid_at};
-ghost use Rattle.gas_export.specs.Inner.Fluid.{AreFluidAbout};
+ghost use Rattle.gas_export.specs.Planes.{row_words, state_at, solid_at};
+ghost use Rattle.gas_export.specs.Inner.Fluid.{AreFluidAbove};
 ghost use Rattle.gas_export.specs.Inner.Source.{bit_of, IsReady};
 
 use crate::draw::Source;
-use crate::rows::{row_at, row_or};
+use crate::rows::{row_length, solid_at, states_at, words_each};
 use gas_bits::plane::are_zero;
-use gas_bits::word::words_for;
 use gas_geom::gas::Gas;
 use gas_geom::size::Size;
-use gas_rows::collision::{Collision, directions};
+use gas_rows::collision::Collision;
 use gas_rows::stream::Neighbourhood;
 use rand_chacha::ChaCha20Rng;
 
 // The number of rows beside the lattice.
 const KEPT: usize = 3;
 
-// Copies row `y` of a lattice to its place among the kept rows, and collides it there. `solid` has the
-// solid cells of the row.
-#[inline(always)]
-fn collide_row<G: Gas>(
-    size: Size,
-    states: &[u64],
-    solid: &[u64],
-    all_fluid: bool,
-    y: u32,
-    bits: &[u64],
-    kept: &mut [u64],
-)
-    requires row { y < size.height }
-    requires states { length states.now ≡ size.height * (G.rules.dirs * words_in size.width) }
-    requires solid { length solid.now ≡ words_in size.width }
-    requires fluid { IsTrue all_fluid → (x : ℕ) → bit solid.now x ≡ false }
-    requires bits { length bits.now ≡ words_in size.width }
-    requires kept { length kept.old ≡ 3 * (G.rules.dirs * words_in size.width) }
-    ensures long { length kept.new ≡ length kept.old }
-    ensures here { (x : ℕ) → x < size.width → state_at G.rules.dirs size.width kept.new x (y % 3)
-        ≡ (if bit solid.now x then 0 else G.rules.collide
-        (state_at G.rules.dirs size.width states.now x y) (bit bits.now x)) }
-    ensures others { (x j : ℕ) → j < 3 → j ≢ y % 3 →
-        state_at G.rules.dirs size.width kept.new x j
-        ≡ state_at G.rules.dirs size.width kept.old x j }
-{
-    let words_each = words_for(size.width());
-    let n = directions::<G>() * words_each;
-    let row = row_at(states, size.height() as usize, y as usize, n);
-    let start = y as usize % KEPT * n;
-    let copy = &mut kept[start..start + n];
-    copy.copy_from_slice(row);
-    let collision = Collision {
-        words_each,
-        solid,
-        chi: bits,
-        all_fluid,
-    };
-    collision.collide::<G>(copy);
+/// The solid cells of a lattice, and a row whose cells are all solid.
+#[derive(Clone, Copy)]
+pub(crate) struct Channel<'a, 'b> {
+    pub(crate) size: Size,
+    pub(crate) solid: &'a [u64],
+    pub(crate) wall: &'b [u64],
+    ghost solid_long: { length solid.now ≡ size.height * words_in size.width },
+    ghost wall_long: { length wall.now ≡ words_in size.width },
+    ghost all_wall: { (x : ℕ) → x < size.width → bit wall.now x ≡ true },
 }
 
-// Streams the row above row `y`, if there is one, from the kept rows. `wall` has every cell solid. Not
-// inlined, so that a compiler has the registers for it.
-#[inline(never)]
-fn stream_above<G: Gas>(
-    size: Size,
-    kept: &[u64],
-    solid: &[u64],
-    wall: &[u64],
-    y: u32,
-    all_fluid: bool,
-    states: &mut [u64],
-)
-    requires row { y ≤ size.height }
-    requires kept { length kept.now ≡ 3 * (G.rules.dirs * words_in size.width) }
-    requires solid { length solid.now ≡ size.height * words_in size.width }
-    requires wall { length wall.now ≡ words_in size.width }
-    requires all_wall { (x : ℕ) → x < size.width → bit wall.now x ≡ true }
-    requires fluid { IsTrue all_fluid → AreFluidAbout size.width size.height solid.now (y - 1) }
-    requires states { length states.old ≡ size.height * (G.rules.dirs * words_in size.width) }
-    ensures long { length states.new ≡ length states.old }
-    ensures here { (at : ℕ → ℕ → ℕ) →
-        ((k x : ℕ) → k ≤ y → y ≤ k + 2 → k < size.height → x < size.width →
-        state_at G.rules.dirs size.width kept.now x (k % 3) ≡ at x k) →
-        (x k : ℕ) → x < size.width → k + 1 ≡ y → state_at G.rules.dirs size.width states.new x k
-        ≡ streamed G.rules (channel_of size.width size.height (solid_at size.width solid.now)) at x k }
-    ensures others { (x k : ℕ) → k < size.height → k + 1 ≢ y →
-        state_at G.rules.dirs size.width states.new x k
-        ≡ state_at G.rules.dirs size.width states.old x k }
-{
-    if y == 0 {
-        return;
+impl<'a, 'b> Channel<'a, 'b> {
+    // The number of rows without a solid cell above row `y + 1`, from the number of those above row `y`.
+    fn fluid_to(&self, y: u32, above: usize) -> usize
+        requires row { y < self.now.size.height }
+        requires above { AreFluidAbove self.now.size.width self.now.solid.now y above }
+        ensures fluid { AreFluidAbove self.now.size.width self.now.solid.now (y + 1) result }
+    {
+        if are_zero(solid_at(self.size, self.solid, y)) {
+            above + 1
+        } else {
+            0
+        }
     }
-    let words_each = words_for(size.width());
-    let n = directions::<G>() * words_each;
-    let rows = size.height() as usize;
-    let row = y as usize - 1;
-    let above = row_at(kept, KEPT, (row + 2) % KEPT, n);
-    let middle = row_at(kept, KEPT, row % KEPT, n);
-    let below = row_at(kept, KEPT, (row + 1) % KEPT, n);
-    let solid_above = row_or(solid, rows, row.wrapping_sub(1), words_each, wall);
-    let solid_middle = row_at(solid, rows, row, words_each);
-    let solid_below = row_or(solid, rows, row + 1, words_each, wall);
-    let neighbourhood = Neighbourhood {
-        above,
-        middle,
-        below,
-        solid_above,
-        solid_middle,
-        solid_below,
-        width: size.width(),
-        y: y - 1,
-        all_fluid,
-    };
-    let start = row * n;
-    neighbourhood.stream::<G>(&mut states[start..start + n]);
-}
 
-/// One generation of a part. `wall` has every cell solid, `bits` has the random bits of a row if none
-/// are drawn, and `kept` has room for three rows.
-pub(crate) fn step<G: Gas>(
-    size: Size,
-    source: Source,
-    generator: &mut ChaCha20Rng,
-    generation: u64,
-    solid: &[u64],
-    wall: &[u64],
-    states: &mut [u64],
-    bits: &mut [u64],
-    kept: &mut [u64],
-)
-    requires solid { length solid.now ≡ size.height * words_in size.width }
-    requires wall { length wall.now ≡ words_in size.width }
-    requires all_wall { (x : ℕ) → x < size.width → bit wall.now x ≡ true }
-    requires states { length states.old ≡ size.height * (G.rules.dirs * words_in size.width) }
-    requires bits { length bits.old ≡ words_in size.width }
-    requires kept { length kept.old ≡ 3 * (G.rules.dirs * words_in size.width) }
-    requires ready { IsReady source.chirality generator.old.key size.width bits.old }
-    ensures long { length states.new ≡ length states.old }
-    ensures bits_long { length bits.new ≡ length bits.old }
-    ensures kept_long { length kept.new ≡ length kept.old }
-    ensures ready { IsReady source.chirality generator.new.key size.width bits.new }
-    ensures next { (at : ℕ → ℕ → ℕ) →
-        ((x y : ℕ) → x < size.width → y < size.height →
-        state_at G.rules.dirs size.width states.old x y ≡ at x y) →
-        (x y : ℕ) → x < size.width → y < size.height →
-        state_at G.rules.dirs size.width states.new x y
-        ≡ streamed G.rules (channel_of size.width size.height (solid_at size.width solid.now))
-        (collided G.rules (channel_of size.width size.height (solid_at size.width solid.now))
-        (bit_of source generation) at) x y }
-{
-    let words_each = words_for(size.width());
-    let rows = size.height() as usize;
-    // Whether the last row but one and the last row have no solid cell. The wall above has some.
-    let (mut before, mut last) = (false, false);
-    for y in 0..size.height() {
-        source.draw_row::<G>(generator, generation, y, size.width(), bits);
-        let row = row_at(solid, rows, y as usize, words_each);
-        let here = are_zero(row);
-        collide_row::<G>(size, states, row, here, y, bits, kept);
-        stream_above::<G>(size, kept, solid, wall, y, before & last & here, states);
-        before = last;
-        last = here;
+    // The solid cells of row `y`, or the wall if there is no such row.
+    #[inline(always)]
+    fn row_or_wall(&self, y: u32) -> &[u64]
+        ensures part { y < self.now.size.height →
+            result.now ≡ row_words (words_in self.now.size.width) self.now.solid.now y }
+        ensures past { self.now.size.height ≤ y → result.now ≡ self.now.wall.now }
+        ensures long { length result.now ≡ words_in self.now.size.width }
+    {
+        if y < self.size.height() {
+            solid_at(self.size, self.solid, y)
+        } else {
+            self.wall
+        }
     }
-    stream_above::<G>(size, kept, solid, wall, size.height(), false, states);
+
+    // Streams the row above row `y`, if there is one, from the kept rows. Not inlined, so that a compiler
+    // has the registers for it.
+    #[inline(never)]
+    fn stream_above<G: Gas>(&self, kept: &[u64], y: u32, all_fluid: bool, states: &mut [u64])
+        requires row { y ≤ self.now.size.height }
+        requires kept { length kept.now ≡ 3 * (G.rules.dirs * words_in self.now.size.width) }
+        requires fluid { IsTrue all_fluid → (y < self.now.size.height)
+            × AreFluidAbove self.now.size.width self.now.solid.now (y + 1) 3 }
+        requires states { length states.old
+            ≡ self.now.size.height * (G.rules.dirs * words_in self.now.size.width) }
+        ensures here { (at : ℕ → ℕ → ℕ) → ((x k : ℕ) → k ≤ y → y ≤ k + 2 → k < self.now.size.height →
+            x < self.now.size.width →
+            state_at G.rules.dirs self.now.size.width kept.now x (k % 3) ≡ at x k) →
+            (x k : ℕ) → x < self.now.size.width → k + 1 ≡ y →
+            state_at G.rules.dirs self.now.size.width states.new x k ≡ streamed G.rules
+            (channel_of self.now.size.width self.now.size.height (solid_at self.now.size.width self.now.solid.now))
+            at x k }
+        ensures others { (k : ℕ) → k < self.now.size.height → k + 1 ≢ y →
+            row_words (G.rules.dirs * words_in self.now.size.width) states.new k
+            ≡ row_words (G.rules.dirs * words_in self.now.size.width) states.old k }
+    {
+        if y == 0 {
+            return;
+        }
+        let row = y as usize - 1;
+        let neighbourhood = Neighbourhood {
+            above: states_at::<G>(self.size, kept, KEPT, (row + 2) % KEPT),
+            middle: states_at::<G>(self.size, kept, KEPT, row % KEPT),
+            below: states_at::<G>(self.size, kept, KEPT, (row + 1) % KEPT),
+            solid_above: self.row_or_wall((y - 1).wrapping_sub(1)),
+            solid_middle: solid_at(self.size, self.solid, y - 1),
+            solid_below: self.row_or_wall(y),
+            width: self.size.width(),
+            y: y - 1,
+            all_fluid,
+        };
+        let n = row_length::<G>(self.size);
+        let start = row * n;
+        neighbourhood.stream::<G>(&mut states[start..start + n]);
+    }
+
+    /// One generation of a part. `bits` has the random bits of a row if none are drawn, and `kept` has
+    /// room for three rows.
+    pub(crate) fn step<G: Gas>(
+        &self,
+        source: Source,
+        generator: &mut ChaCha20Rng,
+        generation: u64,
+        states: &mut [u64],
+        bits: &mut [u64],
+        kept: &mut [u64],
+    )
+        requires states { length states.old
+            ≡ self.now.size.height * (G.rules.dirs * words_in self.now.size.width) }
+        requires kept { length kept.old ≡ 3 * (G.rules.dirs * words_in self.now.size.width) }
+        requires ready { IsReady source.chirality generator.old.key self.now.size.width bits.old }
+        ensures ready { IsReady source.chirality generator.new.key self.now.size.width bits.new }
+        ensures next { rows_of self.now.size.width self.now.size.height
+            (state_at G.rules.dirs self.now.size.width states.new) ≡ next G.rules
+            (channel_of self.now.size.width self.now.size.height (solid_at self.now.size.width self.now.solid.now))
+            (bit_of source generation) (rows_of self.now.size.width self.now.size.height
+            (state_at G.rules.dirs self.now.size.width states.old)) }
+    {
+        let n = row_length::<G>(self.size);
+        let rows = self.size.height() as usize;
+        let mut fluid = 0;
+        for y in 0..self.size.height() {
+            source.draw_row::<G>(generator, generation, y, self.size, bits);
+            fluid = self.fluid_to(y, fluid);
+            let collision = Collision {
+                words_each: words_each(self.size),
+                solid: solid_at(self.size, self.solid, y),
+                chi: bits,
+                all_fluid: fluid > 0,
+            };
+            let start = y as usize % KEPT * n;
+            let row = &mut kept[start..start + n];
+            row.copy_from_slice(states_at::<G>(self.size, states, rows, y as usize));
+            collision.collide::<G>(row);
+            self.stream_above::<G>(kept, y, fluid > 2, states);
+        }
+        self.stream_above::<G>(kept, self.size.height(), false, states);
+    }
 }

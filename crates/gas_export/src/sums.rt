@@ -6,13 +6,11 @@ ghost use Rattle.gas_blocks.specs.Blocks.{block_at};
 ghost use Rattle.gas_export.specs.Planes.{lattice_in, row_words};
 ghost use Rattle.gas_export.specs.Sums.{sums_of};
 
-use crate::rows::row_at;
-use gas_bits::word::words_for;
+use crate::rows::{solid_at, states_at};
 use gas_blocks::blocks::Block;
 use gas_blocks::rows::Rows;
 use gas_geom::gas::Gas;
 use gas_geom::size::Size;
-use gas_rows::collision::directions;
 use std::marker::PhantomData;
 
 // A lattice in the words of its solid cells and of its states.
@@ -34,14 +32,12 @@ impl<'a, G: Gas> Rows<G> for Words<'a, G> {
     }
 
     fn solid(&self, y: u32) -> &[u64] {
-        let rows = self.size.height() as usize;
-        row_at(self.solid, rows, y as usize, words_for(self.size.width()))
+        solid_at(self.size, self.solid, y)
     }
 
     fn states(&self, y: u32) -> &[u64] {
         let rows = self.size.height() as usize;
-        let n = directions::<G>() * words_for(self.size.width());
-        row_at(self.states, rows, y as usize, n)
+        states_at::<G>(self.size, self.states, rows, y as usize)
     }
 }
 

@@ -1,8 +1,7 @@
--- Inner words: what functions of this crate promise one another. No public contract cites them.
--- Here: where the random bits of a row come from.
-use Rattle.std.specs.Prelude.{◌≡◌, ℕ, ◌<◌, Bool, true, false, List}
+-- Where the random bits of a row come from.
+use Rattle.std.specs.Prelude.{◌≡◌, ℕ, ◌<◌, Bool, true, false, List, length}
 use Rattle.rand_chacha.specs.ChaCha.{key_of}
-use Rattle.gas_bits.specs.Words.{bit}
+use Rattle.gas_bits.specs.Words.{words_in, bit}
 use Rattle.gas_rows.specs.Key.{key_bytes}
 use Rattle.gas_rows.specs.declared.chirality.Chirality.{Chirality}
 use Rattle.gas_rows.specs.declared.chirality.Chirality.TheVariants.{Seeded, Left, Right}
@@ -13,8 +12,9 @@ use Rattle.gas_export.specs.declared.draw.Source.{Source}
 abbrev pub bit_of : Source → ℕ → ℕ → ℕ → Bool
 bit_of source = part_bit source.chirality source.whole_width source.first_column source.first_row
 
--- seeded bits are drawn under the key of their seed, and others are in the words for every row
-abbrev pub IsReady : Chirality → List ℕ → ℕ → List ℕ → Type 0
-IsReady (Seeded seed) key width bits = key ≡ key_of (key_bytes seed)
-IsReady Left key width bits = (x : ℕ) → x < width → bit bits x ≡ true
-IsReady Right key width bits = (x : ℕ) → x < width → bit bits x ≡ false
+-- the words have a row's bits, but if they are drawn, which they are under the key of their seed
+pub record IsReady (chirality : Chirality) (key : List ℕ) (width : ℕ) (bits : List ℕ) : Type 0 where
+  pub long : length bits ≡ words_in width
+  pub seeded : (seed : ℕ) → chirality ≡ Seeded seed → key ≡ key_of (key_bytes seed)
+  pub left : chirality ≡ Left → (x : ℕ) → x < width → bit bits x ≡ true
+  pub right : chirality ≡ Right → (x : ℕ) → x < width → bit bits x ≡ false

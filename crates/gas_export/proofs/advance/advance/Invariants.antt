@@ -1,4 +1,4 @@
-use Rattle.std.proofs.Common.{◌≡◌, length}
+use Rattle.std.proofs.Common.{◌≡◌}
 use Rattle.gas_geom.specs.Lattice.{rows_of, generation}
 use Rattle.gas_layout.specs.Layout.{channel_of}
 use Rattle.gas_export.specs.Planes.{state_at, solid_at}
@@ -7,9 +7,6 @@ use Rattle.gas_export.proofs.advance.advance.Given as goal
 
 abbrev pub invariant-loop-done : goal.invariant-loop-done
 invariant-loop-done g l = record {
-  states : length l.states ≡ length l.initial.states;
-  bits : length l.bits ≡ length l.initial.bits;
-  kept : length l.kept ≡ length l.initial.kept;
   ready : IsReady l.fn.source.chirality l.generator.key l.fn.size.width l.bits;
   rows : rows_of l.fn.size.width l.fn.size.height (state_at g.G.Gas.rules.dirs l.fn.size.width l.states)
       ≡ generation g.G.Gas.rules (channel_of l.fn.size.width l.fn.size.height (solid_at l.fn.size.width l.solid)) (bit_of l.fn.source) l.first
