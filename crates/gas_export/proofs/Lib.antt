@@ -1,5 +1,5 @@
 pub mod Packed
 pub mod Draws
+pub mod Written
 pub mod Planes
 pub mod Turned
-pub mod Turns

@@ -8,27 +8,16 @@ use Rattle.gas_geom.specs.Gas.{holds}
 use Rattle.gas_geom.specs.Lattice.{set_of}
 use Rattle.gas_geom.specs.Planes.{set_at, ZeroFrom}
 use Rattle.gas_geom.proofs.Holds.{set_of-same, holds-zero}
-use Rattle.gas_bits.specs.Words.{words_in}
 use Rattle.gas_bits.specs.Planes.{has, state}
-use Rattle.gas_bits.proofs.Cells.{state-from, has_word}
-use Rattle.gas_export.specs.Planes.{row_words, state_at}
-use Rattle.gas_export.proofs.Planes.{row-within}
+use Rattle.gas_bits.proofs.Cells.{has_word}
 
-byte-lt : (planes k : ℕ) (bytes : List ℕ) → k < length bytes → list_all (λ b. nat_lt b (2 ^ planes)) bytes ≡ true → slice_index bytes k < 2 ^ planes
+pub byte-lt : (planes k : ℕ) (bytes : List ℕ) → k < length bytes → list_all (λ b. nat_lt b (2 ^ planes)) bytes ≡ true → slice_index bytes k < 2 ^ planes
 byte-lt planes k bytes within all = elim (cases_lt (slice_index bytes k) (2 ^ planes)) [
   | inl lt ↦ lt
   | inr le ↦
       let not_below : nat_lt (slice_index bytes k) (2 ^ planes) ≡ false = grind (arith, nat_tests) in
       absurd (false≢true (sym (list_all_at (λ b. nat_lt b (2 ^ planes)) bytes k 0 within not_below) ∙ all))
 ]
-
--- bytes below 2 ^ planes whose bits the planes hold
-pub packed-bytes : (planes w h : ℕ) (bytes new : List ℕ) → length bytes ≡ h * w → list_all (λ b. nat_lt b (2 ^ planes)) bytes ≡ true
-    → ((i x y : ℕ) → i < planes → x < w → y < h → has (row_words (planes * words_in w) new y) (words_in w) i x ≡ holds (slice_index bytes (y * w + x)) i)
-    → (x y : ℕ) → x < w → y < h → state_at planes w new x y ≡ slice_index bytes (y * w + x)
-packed-bytes planes w h bytes new long below each x y lt in_rows =
-    state-from (row_words (planes * words_in w) new y) (words_in w) planes x (slice_index bytes (y * w + x))
-    (byte-lt planes (y * w + x) bytes (omega (arith, long, lt, row-within w h y in_rows)) below) (λ i hi. each i x y hi lt in_rows)
 
 -- planes that are zero hold nothing
 narrowed : (m n : ℕ) (f : ℕ → Bool) → n ≤ m → ((i : ℕ) → n ≤ i → f i ≡ false) → set_of m f ≡ set_of n f

@@ -5,7 +5,7 @@ ghost use Rattle.gas_bits.specs.Words.{words_in};
 ghost use Rattle.gas_bits.specs.Planes.{state};
 ghost use Rattle.gas_export.specs.Planes.{state_at};
 
-use crate::rows::row_at;
+use crate::rows::{row_at, words_each};
 use gas_bits::planes::{load_states, planes_at};
 use gas_bits::states::states_of;
 use gas_bits::word::words_for;
@@ -21,7 +21,7 @@ pub(crate) fn pack(size: Size, planes: usize, bytes: &[u8], words: &mut [u64])
         state_at planes size.width words.new x y ≡ slice_index bytes.now (y * size.width + x) }
 {
     let width = size.width() as usize;
-    let words_each = words_for(size.width());
+    let words_each = words_each(size);
     let n = planes * words_each;
     for y in 0..size.height() as usize {
         let row = &bytes[y * width..y * width + width];
@@ -35,7 +35,6 @@ fn unpack_row(width: u32, planes: usize, words: &[u64], bytes: &mut [u8])
     requires few_cells { width ≤ 65536 }
     requires words { length words.now ≡ planes * words_in width }
     requires bytes { length bytes.old ≡ width }
-    ensures long { length bytes.new ≡ length bytes.old }
     ensures unpacked { (x : ℕ) → x < width →
         slice_index bytes.new x ≡ state words.now (words_in width) planes x }
 {
@@ -58,7 +57,7 @@ pub(crate) fn unpack(size: Size, planes: usize, words: &[u64], bytes: &mut [u8])
 {
     let width = size.width() as usize;
     let rows = size.height() as usize;
-    let n = planes * words_for(size.width());
+    let n = planes * words_each(size);
     for y in 0..rows {
         let row = row_at(words, rows, y, n);
         unpack_row(

@@ -41,23 +41,18 @@ impl<'a, G: Gas> Rows<G> for Words<'a, G> {
     }
 }
 
-// Writes the sums of a block as the fours of `sums` at `k`.
-fn put_block(sums: &mut [i64], number: usize, k: usize, block: Block)
-    requires within { k < number }
-    requires long { length sums.old ≡ number * 4 }
+// The four numbers of a block.
+fn numbers_of(block: Block) -> [i64; 4]
     requires fluid { block.fluid < 2 ^ 63 }
     requires particles { block.particles < 2 ^ 63 }
-    ensures here { row_words 4 sums.new k ≡ sums_of block }
-    ensures others { (j : ℕ) → j < number → j ≢ k → row_words 4 sums.new j ≡ row_words 4 sums.old j }
+    ensures value { result ≡ sums_of block }
 {
-    let four = [
+    [
         block.fluid as i64,
         block.particles as i64,
         block.px,
         block.py,
-    ];
-    let start = k * 4;
-    sums[start..start + 4].copy_from_slice(&four);
+    ]
 }
 
 /// Writes the sums of the blocks of a lattice, by rows of blocks from the top, each from the left. A
@@ -91,6 +86,7 @@ pub(crate) fn sum_blocks<G: Gas>(
     for k in 0..rows * columns {
         let (row, col) = ((k / columns) as u32, (k % columns) as u32);
         let block = Block::of::<G, Words<G>>(&words, col, row, width, height);
-        put_block(sums, rows * columns, k, block);
+        let start = k * 4;
+        sums[start..start + 4].copy_from_slice(&numbers_of(block));
     }
 }

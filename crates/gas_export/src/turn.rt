@@ -4,8 +4,8 @@ ghost use Rattle.gas_bits.specs.Words.{words_in};
 ghost use Rattle.gas_bits.specs.Planes.{state};
 ghost use Rattle.gas_export.specs.Planes.{state_at, turned};
 
+use crate::rows::{row_length, words_each};
 use gas_bits::planes::{planes_at, write_planes_at};
-use gas_bits::word::words_for;
 use gas_geom::gas::Gas;
 use gas_geom::size::Size;
 use gas_rows::collision::directions;
@@ -44,8 +44,8 @@ pub(crate) fn turn<G: Gas>(size: Size, states: &mut [u64])
         state_at G.rules.dirs size.width states.new x y
         ≡ turned G.rules (state_at G.rules.dirs size.width states.old x y) }
 {
-    let words_each = words_for(size.width());
-    let n = directions::<G>() * words_each;
+    let words_each = words_each(size);
+    let n = row_length::<G>(size);
     for y in 0..size.height() as usize {
         turn_row::<G>(&mut states[y * n..y * n + n], words_each);
     }

@@ -6,7 +6,7 @@ use Rattle.gas_bits.specs.Words.{words_in}
 use Rattle.gas_bits.specs.Planes.{state}
 use Rattle.gas_bits.proofs.Cells.{part_length}
 use Rattle.gas_export.proofs.Packed.{word-state}
-use Rattle.gas_export.proofs.Planes.{put-long, put-get, put-apart}
+use Rattle.gas_export.proofs.Written.{put-long, put-get, put-apart}
 use Rattle.gas_export.proofs.bytes.unpack_row.Goals as goal
 
 pub loop-j-preserved : goal.loop-j-preserved

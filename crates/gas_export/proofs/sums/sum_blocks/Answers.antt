@@ -1,13 +1,13 @@
-use Rattle.std.proofs.Common.{◌≡◌, ◌<◌, ◌+◌, ◌*◌, ◌/◌, ◌%◌, ℕ, zero, suc, inl, inr, ap, ap₂, sym, subst, ◌∙◌, arith}
+use Rattle.std.proofs.Common.{◌≡◌, ◌<◌, ◌+◌, ◌*◌, ◌/◌, ◌%◌, ℕ, zero, suc, pos, refl, ap, ap₂, sym, ◌∙◌, arith}
 use Rattle.std.specs.Int.{div_ceil}
-use Rattle.std.proofs.lemmas.Bool.{cases_eq}
 use Rattle.std.proofs.lemmas.Nat.{div-mul-add, mod-mul-add, mul-add-lt}
 use Rattle.std.proofs.Math.Nat.{div-lt_iff_lt-mul, mod-lt, mul_comm}
 use Rattle.gas_geom.specs.Lattice.{LatticeModel}
 use Rattle.gas_blocks.specs.Blocks.{block_at}
 use Rattle.gas_blocks.proofs.Ranges.{begins-within}
-use Rattle.gas_export.specs.Planes.{lattice_in, row_words}
+use Rattle.gas_export.specs.Planes.{lattice_in}
 use Rattle.gas_export.specs.Sums.{sums_of}
+use Rattle.gas_export.proofs.Written.{row-put, one-more}
 use Rattle.gas_export.proofs.sums.sum_blocks.Goals as goal
 
 positive : (k r n : ℕ) → k < r * n → 0 < n
@@ -33,18 +33,13 @@ of-block-requires-clause-top g c =
 
 pub loop-k-preserved : goal.loop-k-preserved
 loop-k-preserved g c =
-    let lattice : LatticeModel = lattice_in g.G.Gas.rules c.args.size.width c.args.size.height c.args.solid.now c.args.states.now in
+    let columns : c.div_ceil-columns.result ≡ div_ceil c.args.size.width c.args.width = c.div_ceil-columns.ensures ∙ ap (λ n. div_ceil n c.args.width) c.width.ensures.value in
+    let rows : c.div_ceil-rows.result ≡ div_ceil c.args.size.height c.args.height = c.div_ceil-rows.ensures ∙ ap (λ n. div_ceil n c.args.height) c.height.ensures.value in
     let below : c.loop-k.k < c.div_ceil-rows.result * c.div_ceil-columns.result = omega (arith, c.loop-k-test.true, c.loop-k.auto.k-end) in
-    record {
-      long = c.put_block.auto.sums ∙ c.loop-k.invariant.long;
-      done = λ j lt. elim (cases_eq j c.loop-k.k) [
-        | inl e ↦
-            let here = c.put_block.ensures.here ∙ ap sums_of c.of-block.ensures.block in
-            subst (λ (i : ℕ). row_words 4 c.put_block.new.sums i
-            ≡ sums_of (block_at g.G.Gas.rules lattice c.args.width c.args.height (i / c.div_ceil-columns.result) (i % c.div_ceil-columns.result))) (sym e) here
-        | inr ne ↦ c.put_block.ensures.others j (omega (arith, lt, below)) ne ∙ c.loop-k.invariant.done j (omega (arith, lt, ne))
-      ];
-    }
+    one-more c.loop-k.invariant
+    (row-put (pos 0) 4 4 (c.div_ceil-rows.result * c.div_ceil-columns.result) c.loop-k.k c.loop-k.sums c.copy_from_slice.new.self refl
+    (c.loop-k.auto.sums ∙ c.requires.sums ∙ ap₂ (λ (a b : ℕ). a * b * 4) (sym rows) (sym columns)) c.copy_from_slice.auto.self below) below
+    (c.copy_from_slice.ensures.after ∙ c.numbers_of.ensures.value ∙ ap sums_of c.of-block.ensures.block)
 
 pub returns : goal.returns
 returns g c = record {

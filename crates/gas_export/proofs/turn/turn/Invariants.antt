@@ -1,13 +1,12 @@
-use Rattle.std.proofs.Common.{◌≡◌, ◌<◌, ◌≤◌, ℕ, length}
+use Rattle.std.proofs.Common.{◌≡◌, ◌<◌, ◌*◌, ℕ}
+use Rattle.gas_bits.specs.Words.{words_in}
+use Rattle.gas_bits.specs.Planes.{state}
 use Rattle.gas_export.specs.Planes.{state_at, turned}
+use Rattle.gas_export.proofs.Written.{AreDone}
 use Rattle.gas_export.proofs.turn.turn.Given as goal
 
--- the rows above y are turned, and the others are as before
+-- the rows above y are turned
 abbrev pub invariant-loop-y : goal.invariant-loop-y
-invariant-loop-y g l = record {
-  long : length l.states ≡ length l.initial.states;
-  done : (x k : ℕ) → x < l.fn.size.width → k < l.y
-      → state_at g.G.Gas.rules.dirs l.fn.size.width l.states x k ≡ turned g.G.Gas.rules (state_at g.G.Gas.rules.dirs l.fn.size.width l.initial.states x k);
-  rest : (x k : ℕ) → x < l.fn.size.width → l.y ≤ k → k < l.fn.size.height
-      → state_at g.G.Gas.rules.dirs l.fn.size.width l.states x k ≡ state_at g.G.Gas.rules.dirs l.fn.size.width l.initial.states x k;
-}
+invariant-loop-y g l = let gas = g.G.Gas.rules in let w = l.fn.size.width in
+    AreDone (λ k row. (x : ℕ) → x < w → state row (words_in w) gas.dirs x ≡ turned gas (state_at gas.dirs w l.initial.states x k))
+    (gas.dirs * words_in w) l.fn.size.height l.y l.initial.states l.states

@@ -8,7 +8,8 @@ use Rattle.gas_bits.specs.Words.{words_in, bit}
 use Rattle.gas_bits.specs.Planes.{state}
 use Rattle.gas_export.specs.Planes.{state_at, solid_at}
 use Rattle.gas_export.specs.Inner.Source.{bit_of}
-use Rattle.gas_export.proofs.Planes.{row-written, row-apart, collided_at, cell-hit}
+use Rattle.gas_export.proofs.Planes.{collided_at, cell-hit}
+use Rattle.gas_export.proofs.Written.{row-put}
 use Rattle.gas_export.proofs.step.Channel.step.Goals as goal
 
 pub loop-y-preserved : goal.loop-y-preserved
@@ -26,20 +27,19 @@ loop-y-preserved g c =
     let row : List ℕ = c.collide.new.words in
     let new : List ℕ = put_mid (y % 3 * n) (y % 3 * n + n - y % 3 * n) c.loop-y.kept row in
     let long : length c.loop-y.kept ≡ 3 * m = c.loop-y.auto.kept ∙ c.requires.kept in
-    let wide = c.collide.auto.words ∙ c.copy_from_slice.auto.self in
+    let put = row-put 0 n m 3 (y % 3) c.loop-y.kept row c.row_length-n.ensures.value long (c.collide.auto.words ∙ c.copy_from_slice.auto.self) (omega arith) in
     let in_rows : y < h = omega (arith, c.loop-y-test.true, c.height-y-end.ensures.value) in
     let hit : (x k : ℕ) → x < w → k < y + 1 → y ≤ k + 2 → state_at gas.dirs w new x (k % 3) ≡ at x k =
     λ x k in_row below above. elim (cases_eq k y) [
       | inl e ↦ subst (λ j. state_at gas.dirs w new x (j % 3) ≡ at x j) (sym e)
           (cell-hit gas w h x y solid c.args.states.now copied f _ _ in_row in_rows
           (c.copy_from_slice.ensures.after ∙ c.states_at.ensures.part ∙ c.loop-y.invariant.fresh y (omega arith) in_rows)
-          (ap (λ ws. state ws (words_in w) gas.dirs x) (row-written 0 n m 3 (y % 3) c.loop-y.kept row c.row_length-n.ensures.value long wide (omega arith))
+          (ap (λ ws. state ws (words_in w) gas.dirs x) put.here
           ∙ subst (λ (v : ℕ). x / 64 < v → state row v gas.dirs x ≡ (if bit c.solid_at.result.now x then 0 else gas.collide (state copied v gas.dirs x) (bit c.draw_row.new.bits x)))
           c.words_each.ensures.value (c.collide.ensures.collided x) (omega (arith, in_row))
           ∙ ap (λ ws. if bit ws x then 0 else gas.collide (state copied (words_in w) gas.dirs x) (bit c.draw_row.new.bits x)) c.solid_at.ensures.part)
           (λ s. c.draw_row.ensures.collisions s x in_row))
-      | inr ne ↦ ap (λ ws. state ws (words_in w) gas.dirs x)
-          (row-apart 0 n m 3 (y % 3) (k % 3) c.loop-y.kept row c.row_length-n.ensures.value long wide (omega arith) (omega arith) (λ e. absurd (omega (arith, below, above, ne, e))))
+      | inr ne ↦ ap (λ ws. state ws (words_in w) gas.dirs x) (put.others (k % 3) (omega arith) (λ e. absurd (omega (arith, below, above, ne, e))))
           ∙ c.loop-y.invariant.hit x k in_row (omega (arith, below, ne)) above
     ] in
     record {

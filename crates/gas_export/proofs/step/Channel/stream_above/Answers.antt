@@ -9,7 +9,8 @@ use Rattle.gas_rows.specs.Streaming.{AreRowsAbout}
 use Rattle.gas_layout.specs.Layout.{channel_of}
 use Rattle.gas_layout.proofs.Grids.{value-rows_of}
 use Rattle.gas_export.specs.Planes.{row_words, state_at, solid_at}
-use Rattle.gas_export.proofs.Planes.{row-within, row-written, row-apart, solid-above, solid-below, rows-about}
+use Rattle.gas_export.proofs.Planes.{solid-above, solid-below, rows-about}
+use Rattle.gas_export.proofs.Written.{row-within, row-put}
 use Rattle.gas_export.proofs.step.Channel.stream_above.Goals as goal
 
 pub slice_bounds-stream-end : goal.slice_bounds-stream-end
@@ -34,7 +35,7 @@ returns-clause-here g c = λ at same x k in_row e.
     let in_rows : y < h = omega (arith, e, c.requires.row) in
     let last : y ≡ k = omega (arith, e) in
     subst (λ (j : ℕ). state_at dirs w (put_mid (y * n) (y * n + n - y * n) c.args.states.now new) x j ≡ streamed g.G.Gas.rules ch at x j) last
-    (ap (λ ws. state ws (words_in w) dirs x) (row-written 0 n (dirs * words_in w) h y c.args.states.now new c.row_length-n.ensures.value c.requires.states c.stream.ensures.long in_rows)
+    (ap (λ ws. state ws (words_in w) dirs x) (row-put 0 n (dirs * words_in w) h y c.args.states.now new c.row_length-n.ensures.value c.requires.states c.stream.ensures.long in_rows).here
     ∙ subst (λ v. state new (words_in v) dirs x ≡ streamed g.G.Gas.rules ch at x y) width
     (c.stream.ensures.streamed ch at (record {
       wide = width;
@@ -53,5 +54,5 @@ returns-clause-here g c = λ at same x k in_row e.
 
 pub returns-clause-others : goal.returns-clause-others
 returns-clause-others g c = λ k k_in ne.
-    row-apart 0 c.row_length-n.result (g.G.Gas.rules.dirs * words_in c.args.self.now.size.width) c.args.self.now.size.height (c.args.y - 1) k c.args.states.now c.stream.new.out
-    c.row_length-n.ensures.value c.requires.states c.stream.ensures.long (omega (arith, c.if-y-eq0.false, c.requires.row)) k_in (λ e. absurd (omega (arith, e, ne, c.if-y-eq0.false)))
+    (row-put 0 c.row_length-n.result (g.G.Gas.rules.dirs * words_in c.args.self.now.size.width) c.args.self.now.size.height (c.args.y - 1) c.args.states.now c.stream.new.out
+    c.row_length-n.ensures.value c.requires.states c.stream.ensures.long (omega (arith, c.if-y-eq0.false, c.requires.row))).others k k_in (λ e. absurd (omega (arith, e, ne, c.if-y-eq0.false)))
