@@ -1,3 +1,26 @@
 -- Inner words: what functions of this crate promise one another. No public contract cites them.
-pub mod Source
-pub mod Fluid
+use Rattle.std.specs.Prelude.{◌≡◌, ◌≤◌, ◌<◌, ◌+◌, ℕ, Bool, true, false, List, length}
+use Rattle.rand_chacha.specs.ChaCha.{key_of}
+use Rattle.gas_bits.specs.Words.{words_in, bit}
+use Rattle.gas_rows.specs.Key.{key_bytes}
+use Rattle.gas_rows.specs.declared.chirality.Chirality.{Chirality}
+use Rattle.gas_rows.specs.declared.chirality.Chirality.TheVariants.{Seeded, Left, Right}
+use Rattle.gas_export.specs.Part.{part_bit}
+use Rattle.gas_export.specs.Planes.{row_words}
+use Rattle.gas_export.specs.declared.draw.Source.{Source}
+
+-- the n rows above row y are rows, and no cell of them is solid
+abbrev pub AreFluidAbove : ℕ → List ℕ → ℕ → ℕ → Type 0
+AreFluidAbove width solid y n =
+    (n ≤ y) × ((k x : ℕ) → k < y → y ≤ k + n → bit (row_words (words_in width) solid k) x ≡ false)
+
+-- the bit of a generation's cell (x, y)
+abbrev pub bit_of : Source → ℕ → ℕ → ℕ → Bool
+bit_of source = part_bit source.chirality source.whole_width source.first_column source.first_row
+
+-- the words have a row's bits, but if they are drawn, which they are under the key of their seed
+pub record IsReady (chirality : Chirality) (key : List ℕ) (width : ℕ) (bits : List ℕ) : Type 0 where
+  pub long : length bits ≡ words_in width
+  pub seeded : (seed : ℕ) → chirality ≡ Seeded seed → key ≡ key_of (key_bytes seed)
+  pub left : chirality ≡ Left → (x : ℕ) → x < width → bit bits x ≡ true
+  pub right : chirality ≡ Right → (x : ℕ) → x < width → bit bits x ≡ false

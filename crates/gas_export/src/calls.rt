@@ -9,10 +9,9 @@ ghost use Rattle.gas_export.specs.Sums.{sums_of};
 ghost use Rattle.gas_export.specs.Part.{part_after};
 ghost use Rattle.gas_export.specs.Statuses.{unless, is_planes, is_size, is_place, words_of, work_of, blocks_in};
 
-use crate::advance::advance;
 use crate::bytes::{pack, unpack};
 use crate::draw::Source;
-use crate::status::{Status, are_below, is_place, is_planes};
+use crate::step::advance;
 use crate::sums::sum_blocks;
 use crate::turn::turn;
 use gas_bits::word::words_for;
@@ -41,6 +40,34 @@ macro_rules! for_gas {
             _ => $call::<FhpRest>($($argument),*),
         }
     };
+}
+
+// What a call returns: done, or the first of these that is not lawful.
+enum Status {
+    Done,
+    Gas,
+    Chirality,
+    Size,
+    Place,
+    Generations,
+    Block,
+    Length,
+    Byte,
+}
+
+// Whether a number of planes is lawful.
+fn is_planes(planes: u32) -> bool
+    ensures value { result ≡ is_planes planes }
+{
+    planes >= 1 && planes <= 8
+}
+
+// Whether every byte has bits in so many planes alone.
+fn are_below(bytes: &[u8], planes: u32) -> bool
+    requires planes { planes ≤ 8 }
+    ensures value { result ≡ list_all (λ b. nat_lt b (2 ^ planes)) bytes.now }
+{
+    bytes.iter().all(|byte| u32::from(*byte) < 1 << planes)
 }
 
 // The number of directions of the gas of a number.
@@ -272,7 +299,11 @@ pub extern "C" fn fhpgas_advance(
     let Some(size) = Size::new(width, height) else {
         return Status::Size as u32;
     };
-    lawful!(is_place(first_row, first_column, whole_width, width), Place);
+    lawful!(first_row % 2 == 0 && first_column % 32 == 0, Place);
+    lawful!(
+        u64::from(first_column) + u64::from(width) <= u64::from(whole_width),
+        Place
+    );
     lawful!(generations <= u64::MAX - first, Generations);
     lawful!(solid.len() == words_of(1, size), Length);
     lawful!(states.len() == words_of(directions_of(gas), size), Length);

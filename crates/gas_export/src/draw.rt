@@ -20,24 +20,20 @@ pub(crate) struct Source {
 }
 
 impl Source {
-    ghost use Rattle.gas_export.specs.Inner.Source.{bit_of, IsReady};
+    ghost use Rattle.gas_export.specs.Inner.{bit_of, IsReady};
 
     /// The generator that bits are drawn from. If none are drawn, `bits` gets those of every row.
     pub(crate) fn generator(self, size: Size, bits: &mut [u64]) -> ChaCha20Rng
         requires long { length bits.old ≡ words_in size.width }
         ensures ready { IsReady self.chirality result.key size.width bits.new }
     {
-        match self.chirality {
-            Chirality::Seeded(seed) => generator_of(seed),
-            Chirality::Left => {
-                fill(bits, size.width(), true);
-                generator_of(0)
-            }
-            Chirality::Right => {
-                fill(bits, size.width(), false);
-                generator_of(0)
-            }
-        }
+        let (seed, bit) = match self.chirality {
+            Chirality::Seeded(seed) => (seed, false),
+            Chirality::Left => (0, true),
+            Chirality::Right => (0, false),
+        };
+        fill(bits, size.width(), bit);
+        generator_of(seed)
     }
 
     /// Draws the bits of row `y` of a part, if there are any to be drawn and the gas looks at them.

@@ -2,12 +2,10 @@
 //! `include/fhpgas.h` says what each call means. Nothing here takes memory.
 #![tactic(auto)]
 
-mod advance;
 mod bytes;
 pub mod calls;
 mod draw;
 mod rows;
-mod status;
 mod step;
 mod sums;
 mod turn;

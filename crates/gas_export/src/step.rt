@@ -1,15 +1,15 @@
-//! One generation in place. Three rows beside the lattice keep the collided rows that streaming reads.
-ghost use Rattle.std.specs.Prelude.{◌≡◌, ◌≢◌, ◌+◌, ◌-◌, ◌*◌, ◌/◌, ◌%◌, ◌<◌, ◌≤◌, ℕ, true, false, IsTrue, length};
+//! Generations of a part in place. Three rows beside the lattice keep the collided rows that streaming reads.
+ghost use Rattle.std.specs.Prelude.{◌≡◌, ◌≢◌, ◌+◌, ◌-◌, ◌*◌, ◌/◌, ◌%◌, ◌<◌, ◌≤◌, ◌^◌, ℕ, true, false, IsTrue, length};
 ghost use Rattle.gas_geom.specs.Lattice.{rows_of, streamed, next};
 ghost use Rattle.gas_bits.specs.Words.{words_in, bit};
 ghost use Rattle.gas_layout.specs.Layout.{channel_of};
-ghost use Rattle.gas_export.specs.Planes.{row_words, state_at, solid_at};
-ghost use Rattle.gas_export.specs.Inner.Fluid.{AreFluidAbove};
-ghost use Rattle.gas_export.specs.Inner.Source.{bit_of, IsReady};
+ghost use Rattle.gas_export.specs.Planes.{row_words, state_at, solid_at, lattice_in};
+ghost use Rattle.gas_export.specs.Part.{part_after};
+ghost use Rattle.gas_export.specs.Inner.{AreFluidAbove, bit_of, IsReady};
 
 use crate::draw::Source;
 use crate::rows::{row_length, solid_at, states_at, words_each};
-use gas_bits::plane::are_zero;
+use gas_bits::plane::{are_zero, fill};
 use gas_geom::gas::Gas;
 use gas_geom::size::Size;
 use gas_rows::collision::Collision;
@@ -19,12 +19,12 @@ use rand_chacha::ChaCha20Rng;
 // The number of rows beside the lattice.
 const KEPT: usize = 3;
 
-/// The solid cells of a lattice, and a row whose cells are all solid.
+// The solid cells of a lattice, and a row whose cells are all solid.
 #[derive(Clone, Copy)]
-pub(crate) struct Channel<'a, 'b> {
-    pub(crate) size: Size,
-    pub(crate) solid: &'a [u64],
-    pub(crate) wall: &'b [u64],
+struct Channel<'a, 'b> {
+    size: Size,
+    solid: &'a [u64],
+    wall: &'b [u64],
     ghost solid_long: { length solid.now ≡ size.height * words_in size.width },
     ghost wall_long: { length wall.now ≡ words_in size.width },
     ghost all_wall: { (x : ℕ) → x < size.width → bit wall.now x ≡ true },
@@ -100,9 +100,9 @@ impl<'a, 'b> Channel<'a, 'b> {
         neighbourhood.stream::<G>(&mut states[start..start + n]);
     }
 
-    /// One generation of a part. `bits` has the random bits of a row if none are drawn, and `kept` has
-    /// room for three rows.
-    pub(crate) fn step<G: Gas>(
+    // One generation of a part. `bits` has the random bits of a row if none are drawn, and `kept` has
+    // room for three rows.
+    fn step<G: Gas>(
         &self,
         source: Source,
         generator: &mut ChaCha20Rng,
@@ -141,5 +141,35 @@ impl<'a, 'b> Channel<'a, 'b> {
             self.stream_above::<G>(kept, y, fluid > 2, states);
         }
         self.stream_above::<G>(kept, self.size.height(), false, states);
+    }
+}
+
+/// Replaces the states of a part by those some generations later. `work` has room for a wall, a row's
+/// random bits and three rows.
+pub(crate) fn advance<G: Gas>(
+    size: Size,
+    source: Source,
+    first: u64,
+    generations: u64,
+    solid: &[u64],
+    states: &mut [u64],
+    work: &mut [u64],
+)
+    requires room { first + generations < 2 ^ 64 }
+    requires solid { length solid.now ≡ size.height * words_in size.width }
+    requires states { length states.old ≡ size.height * (G.rules.dirs * words_in size.width) }
+    requires work { length work.old ≡ (3 * G.rules.dirs + 2) * words_in size.width }
+    ensures done { lattice_in G.rules size.width size.height solid.now states.new ≡ part_after G.rules
+        source.chirality source.whole_width source.first_column source.first_row first
+        (lattice_in G.rules size.width size.height solid.now states.old) generations }
+{
+    let words_each = words_each(size);
+    let (wall, rest) = work.split_at_mut(words_each);
+    let (bits, kept) = rest.split_at_mut(words_each);
+    fill(wall, size.width(), true);
+    let channel = Channel { size, solid, wall };
+    let mut generator = source.generator(size, bits);
+    for done in 0..generations {
+        channel.step::<G>(source, &mut generator, first + done, states, bits, kept);
     }
 }

@@ -13,12 +13,6 @@ slice_bounds-load_states-end c =
     let many : c.args.planes * c.words_each-words_each.result ≡ c.args.planes * words_in c.args.size.width = ap (λ (k : ℕ). c.args.planes * k) c.words_each-words_each.ensures.value in
     omega (arith, c.loop-y.auto.words, c.requires.words, many, ap (λ (k : ℕ). y * k) many, row-within (c.args.planes * words_in c.args.size.width) c.args.size.height y (omega (arith, c.loop-y-test.true, c.height-y-end.ensures.value)))
 
-pub slice_bounds-row-end : goal.slice_bounds-row-end
-slice_bounds-row-end c =
-    let w : ℕ = c.args.size.width in
-    let y : ℕ = c.loop-y.y in
-    omega (arith, c.requires.bytes, c.width-width.ensures.value, ap (λ (k : ℕ). y * k) c.width-width.ensures.value, row-within w c.args.size.height y (omega (arith, c.loop-y-test.true, c.height-y-end.ensures.value)))
-
 pub loop-y-preserved : goal.loop-y-preserved
 loop-y-preserved c =
     let w : ℕ = c.args.size.width in

@@ -1,8 +1,8 @@
-use Rattle.std.proofs.Common.{◌<◌, ℕ, ◌*◌, ap, sym, ◌∙◌, arith}
+use Rattle.std.proofs.Common.{◌<◌, ℕ, ◌*◌, ap, ◌∙◌, arith}
 use Rattle.gas_bits.specs.Words.{words_in}
 use Rattle.gas_bits.specs.Planes.{state}
 use Rattle.gas_export.specs.Planes.{row_words}
-use Rattle.gas_export.proofs.Written.{row-within, row-get, row-put, one-more}
+use Rattle.gas_export.proofs.Written.{row-within, row-put, one-more}
 use Rattle.gas_export.proofs.bytes.unpack.Goals as goal
 
 pub slice_bounds-unpack_row-end : goal.slice_bounds-unpack_row-end
@@ -20,9 +20,3 @@ loop-y-preserved c =
     (λ x lt. c.unpack_row.ensures.unpacked x (omega (arith, lt, c.width.ensures.value))
     ∙ ap (λ (k : ℕ). state c.row_at-row.result.now (words_in k) c.args.planes x) c.width.ensures.value
     ∙ ap (λ ws. state ws (words_in w) c.args.planes x) (c.row_at-row.ensures.part ∙ ap (λ (k : ℕ). row_words (c.args.planes * k) c.args.words.now y) c.words_each.ensures.value))
-
-pub returns : goal.returns
-returns c = record {
-  unpacked = λ x y lt in_rows. sym (row-get 0 c.args.size.width c.args.size.height y x c.loop-y.bytes (c.loop-y.auto.bytes ∙ c.requires.bytes) in_rows lt)
-      ∙ c.loop-y.invariant.done y (omega (arith, in_rows, c.loop-y-test.false, c.height-rows.ensures.value)) x lt;
-}

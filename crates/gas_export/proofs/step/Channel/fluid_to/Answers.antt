@@ -5,9 +5,6 @@ use Rattle.gas_bits.proofs.Words.{bit-all_zero}
 use Rattle.gas_export.specs.Planes.{row_words}
 use Rattle.gas_export.proofs.step.Channel.fluid_to.Goals as goal
 
-pub overflow_add-result : goal.overflow_add-result
-overflow_add-result c = record { fits = omega (arith, c.requires.above.0) }
-
 pub returns-then-are_zero : goal.returns-then-are_zero
 returns-then-are_zero c = record {
   fluid = (

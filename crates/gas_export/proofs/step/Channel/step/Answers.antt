@@ -7,7 +7,7 @@ use Rattle.gas_layout.proofs.Grids.{rows_of-same}
 use Rattle.gas_bits.specs.Words.{words_in, bit}
 use Rattle.gas_bits.specs.Planes.{state}
 use Rattle.gas_export.specs.Planes.{state_at, solid_at}
-use Rattle.gas_export.specs.Inner.Source.{bit_of}
+use Rattle.gas_export.specs.Inner.{bit_of}
 use Rattle.gas_export.proofs.Planes.{collided_at, cell-hit}
 use Rattle.gas_export.proofs.Written.{row-put}
 use Rattle.gas_export.proofs.step.Channel.step.Goals as goal

@@ -3,8 +3,8 @@ use Rattle.gas_geom.specs.Lattice.{streamed}
 use Rattle.gas_bits.specs.Words.{words_in}
 use Rattle.gas_layout.specs.Layout.{channel_of}
 use Rattle.gas_export.specs.Planes.{row_words, state_at, solid_at}
-use Rattle.gas_export.specs.Inner.Fluid.{AreFluidAbove}
-use Rattle.gas_export.specs.Inner.Source.{bit_of, IsReady}
+use Rattle.gas_export.specs.Inner.{AreFluidAbove}
+use Rattle.gas_export.specs.Inner.{bit_of, IsReady}
 use Rattle.gas_export.proofs.Planes.{collided_at}
 use Rattle.gas_export.proofs.step.Channel.step.Given as goal
 

@@ -2,8 +2,8 @@ use Rattle.std.proofs.Common.{◌+◌, ℕ, add-one, ap, ◌∙◌}
 use Rattle.gas_geom.specs.Lattice.{next}
 use Rattle.gas_layout.specs.Layout.{channel_of}
 use Rattle.gas_export.specs.Planes.{solid_at}
-use Rattle.gas_export.specs.Inner.Source.{bit_of}
-use Rattle.gas_export.proofs.advance.advance.Goals as goal
+use Rattle.gas_export.specs.Inner.{bit_of}
+use Rattle.gas_export.proofs.step.advance.Goals as goal
 
 pub loop-done-preserved : goal.loop-done-preserved
 loop-done-preserved g c =

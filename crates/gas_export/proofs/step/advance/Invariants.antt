@@ -2,8 +2,8 @@ use Rattle.std.proofs.Common.{◌≡◌}
 use Rattle.gas_geom.specs.Lattice.{rows_of, generation}
 use Rattle.gas_layout.specs.Layout.{channel_of}
 use Rattle.gas_export.specs.Planes.{state_at, solid_at}
-use Rattle.gas_export.specs.Inner.Source.{bit_of, IsReady}
-use Rattle.gas_export.proofs.advance.advance.Given as goal
+use Rattle.gas_export.specs.Inner.{bit_of, IsReady}
+use Rattle.gas_export.proofs.step.advance.Given as goal
 
 abbrev pub invariant-loop-done : goal.invariant-loop-done
 invariant-loop-done g l = record {
