@@ -60,11 +60,7 @@ pub(crate) fn unpack(size: Size, planes: usize, words: &[u64], bytes: &mut [u8])
     let n = planes * words_each(size);
     for y in 0..rows {
         let row = row_at(words, rows, y, n);
-        unpack_row(
-            size.width(),
-            planes,
-            row,
-            &mut bytes[y * width..y * width + width],
-        );
+        let cells = &mut bytes[y * width..y * width + width];
+        unpack_row(size.width(), planes, row, cells);
     }
 }

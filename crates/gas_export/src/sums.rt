@@ -47,12 +47,8 @@ fn numbers_of(block: Block) -> [i64; 4]
     requires particles { block.particles < 2 ^ 63 }
     ensures value { result ≡ sums_of block }
 {
-    [
-        block.fluid as i64,
-        block.particles as i64,
-        block.px,
-        block.py,
-    ]
+    let particles = block.particles as i64;
+    [block.fluid as i64, particles, block.px, block.py]
 }
 
 /// Writes the sums of the blocks of a lattice, by rows of blocks from the top, each from the left. A
@@ -75,11 +71,12 @@ pub(crate) fn sum_blocks<G: Gas>(
         row_words 4 sums.new (row * div_ceil size.width width + col) ≡ sums_of (block_at G.rules
         (lattice_in G.rules size.width size.height solid.now states.now) width height row col) }
 {
+    let gas = PhantomData;
     let words = Words::<G> {
         size,
         solid,
         states,
-        gas: PhantomData,
+        gas,
     };
     let columns = size.width().div_ceil(width) as usize;
     let rows = size.height().div_ceil(height) as usize;

@@ -1,11 +1,22 @@
-use Rattle.std.proofs.Common.{◌≡◌, ◌<◌, ℕ, ◌+◌, ◌-◌, ◌*◌, ◌/◌, List, take, drop, slice_index, ap, subst, ◌∙◌, arith}
+use Rattle.std.proofs.Common.{◌≡◌, ◌<◌, ℕ, ◌+◌, ◌-◌, ◌*◌, ◌/◌, List, take, drop, slice_index, ap, subst, ◌∙◌, arith, ◌^◌, true, false, length, nat_lt, inl, inr, sym}
 use Rattle.gas_geom.specs.Gas.{holds}
 use Rattle.gas_bits.specs.Words.{words_in}
 use Rattle.gas_bits.specs.Planes.{has}
 use Rattle.gas_bits.proofs.Cells.{state-from}
-use Rattle.gas_export.proofs.Packed.{byte-lt}
 use Rattle.gas_export.proofs.Written.{row-within, row-get, row-read, row-put, one-more}
+use Rattle.std.specs.List.{list_all}
+use Rattle.std.proofs.lemmas.Bool.{cases_lt, false≢true}
+use Rattle.std.proofs.lemmas.Bool.Decides.{nat_tests}
+use Rattle.std.proofs.lemmas.List.Folds.{list_all_at}
 use Rattle.gas_export.proofs.bytes.pack.Goals as goal
+
+byte-lt : (planes k : ℕ) (bytes : List ℕ) → k < length bytes → list_all (λ b. nat_lt b (2 ^ planes)) bytes ≡ true → slice_index bytes k < 2 ^ planes
+byte-lt planes k bytes within all = elim (cases_lt (slice_index bytes k) (2 ^ planes)) [
+  | inl lt ↦ lt
+  | inr le ↦
+      let not_below : nat_lt (slice_index bytes k) (2 ^ planes) ≡ false = grind (arith, nat_tests) in
+      absurd (false≢true (sym (list_all_at (λ b. nat_lt b (2 ^ planes)) bytes k 0 within not_below) ∙ all))
+]
 
 pub slice_bounds-load_states-end : goal.slice_bounds-load_states-end
 slice_bounds-load_states-end c =

@@ -5,8 +5,8 @@ use Rattle.gas_export.specs.Planes.{row_words}
 use Rattle.gas_export.proofs.Written.{row-within, row-put, one-more}
 use Rattle.gas_export.proofs.bytes.unpack.Goals as goal
 
-pub slice_bounds-unpack_row-end : goal.slice_bounds-unpack_row-end
-slice_bounds-unpack_row-end c =
+pub slice_bounds-cells-end : goal.slice_bounds-cells-end
+slice_bounds-cells-end c =
     let y : ℕ = c.loop-y.y in
     omega (arith, c.loop-y.auto.bytes, c.requires.bytes, c.width-width.ensures.value, ap (λ (k : ℕ). y * k) c.width-width.ensures.value, row-within c.args.size.width c.args.size.height y (omega (arith, c.loop-y-test.true, c.height-rows.ensures.value)))
 
