@@ -71,12 +71,11 @@ pub(crate) fn sum_blocks<G: Gas>(
         row_words 4 sums.new (row * div_ceil size.width width + col) ≡ sums_of (block_at G.rules
         (lattice_in G.rules size.width size.height solid.now states.now) width height row col) }
 {
-    let gas = PhantomData;
     let words = Words::<G> {
         size,
         solid,
         states,
-        gas,
+        gas: PhantomData,
     };
     let columns = size.width().div_ceil(width) as usize;
     let rows = size.height().div_ceil(height) as usize;
