@@ -30,9 +30,15 @@ install() {
     look
 }
 
+install_missing() {
+    [ ${#missing[@]} = 0 ] || ! command -v apt-get > /dev/null || ! $sudo true 2> /dev/null || install "${missing[@]}"
+}
+
 look
 if [ "${SETUP-}" != no ]; then
-    [ ${#missing[@]} = 0 ] || ! command -v apt-get > /dev/null || ! $sudo true 2> /dev/null || install "${missing[@]}"
+    known=$python
+    install_missing
+    [ -n "$known" ] || install_missing # what libraries a new Python lacks is known only now
     if [ ${#lacks[@]} -gt 0 ] && "$python" -m pip --version > /dev/null 2>&1; then
         echo "installing by pip in $venv: ${lacks[*]}"
         [ "$python" = "$venv/bin/python" ] || "$python" -m venv --clear --without-pip --system-site-packages "$venv"
