@@ -8,7 +8,7 @@ use Rattle.std.proofs.Math.Pow.{pow_mono}
 use Rattle.std.proofs.Math.Nat.{mul-le-mul_right, pow-suc}
 use Rattle.gas_geom.specs.Gas.{holds}
 use Rattle.gas_bits.specs.Planes.{has, state}
-use Rattle.gas_bits.proofs.Sets.{set_from}
+use Rattle.gas_geom.proofs.Sets.{set_from}
 use Rattle.gas_geom.proofs.Holds.{holds-zero, set_of-lt, holds-set_of, set_of-same}
 
 -- ---- a cell

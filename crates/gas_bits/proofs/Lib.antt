@@ -5,7 +5,6 @@ pub mod Lanes
 pub mod Ones
 pub mod PlaneWrites
 pub mod Scatters
-pub mod Sets
 pub mod ShiftedBits
 pub mod Shifts
 pub mod Words

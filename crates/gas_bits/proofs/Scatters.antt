@@ -8,7 +8,7 @@ use Rattle.gas_geom.proofs.Holds.{holds-zero, set_of-same}
 use Rattle.gas_bits.specs.Words.{bit}
 use Rattle.gas_bits.specs.Planes.{has, state}
 use Rattle.gas_geom.specs.Lattice.{set_of}
-use Rattle.gas_bits.proofs.Sets.{set_from}
+use Rattle.gas_geom.proofs.Sets.{set_from}
 
 -- the set of a cell whose directions are kept or, where it is solid, dropped
 pub state-masked : (words : List ℕ) (n d y : ℕ) (f : ℕ → Bool) (solid : Bool) → ((i : ℕ) → i < d → has words n i y ≡ (f i && not solid)) →

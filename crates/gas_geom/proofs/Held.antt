@@ -18,7 +18,7 @@ held_below n s = filter (holds s) (range_with_len 0 n)
 abbrev one_or_none : Bool → ℕ → List ℕ
 one_or_none b n = if b then n ∷ [] else []
 
-held_below-more : (n s : ℕ) → held_below (suc n) s ≡ held_below n s ++ one_or_none (holds s n) n
+pub held_below-more : (n s : ℕ) → held_below (suc n) s ≡ held_below n s ++ one_or_none (holds s n) n
 held_below-more n s =
     ap (λ k. held_below k s) (sym (add-one n)) ∙ ap (filter (holds s)) (sym (map-id (range_with_len 0 (n + 1))))
     ∙ filter_of_map_range_with_len_more (holds s) (λ (k : ℕ). k) 0 n n (zero-add n)

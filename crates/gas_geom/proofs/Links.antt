@@ -22,39 +22,39 @@ abbrev is_held : (ℕ → ℕ → ℕ) → Place → Bool
 is_held at p = holds (at p.0 p.1) p.2
 
 module _ (gas : Rules) (laws : IsGas gas) (c : ChannelModel) where
-  abbrev from : Place → Option (ℕ × ℕ)
+  abbrev pub from : Place → Option (ℕ × ℕ)
   from p = behind gas c p.0 p.1 p.2
 
   -- the same place with the direction against
-  abbrev opposed : Place → Place
+  abbrev pub opposed : Place → Place
   opposed p = (p.0, p.1, gas.opposite p.2)
 
   -- the place of a neighbour with the direction against
-  abbrev beside : Place → ℕ × ℕ → Place
+  abbrev pub beside : Place → ℕ × ℕ → Place
   beside p u = (u.0, u.1, gas.opposite p.2)
 
-  abbrev landed : Place → Option (ℕ × ℕ) → Place
+  abbrev pub landed : Place → Option (ℕ × ℕ) → Place
   landed p None = p
   landed p (Some u) = if is_solid c u.0 u.1 then p else beside p u
 
-  abbrev other_end : Place → Place
+  abbrev pub other_end : Place → Place
   other_end p = if is_solid c p.0 p.1 then p else landed p (from p)
 
-  abbrev if_fluid : Place → Bool → Place
+  abbrev pub if_fluid : Place → Bool → Place
   if_fluid p solid = if solid then p else landed p (from p)
 
-  other_end-beside : (p : Place) (u : ℕ × ℕ) (solid : Bool) → is_solid c p.0 p.1 ≡ false → from p ≡ Some u → is_solid c u.0 u.1 ≡ solid →
+  pub other_end-beside : (p : Place) (u : ℕ × ℕ) (solid : Bool) → is_solid c p.0 p.1 ≡ false → from p ≡ Some u → is_solid c u.0 u.1 ≡ solid →
       other_end p ≡ (if solid then p else beside p u)
   other_end-beside p u solid fluid there e =
       ap (if_fluid p) fluid ∙ ap (landed p) there ∙ ap (λ (b : Bool). if b then p else beside p u) e
 
   -- what comes to a place: its own particle, sent back, or a neighbour's
-  data Meets (p : Place) : Type 0 where
+  pub data Meets (p : Place) : Type 0 where
     stays : other_end p ≡ p → (is_solid c p.0 p.1 ≡ false → (at : ℕ → ℕ → ℕ) → arriving gas c at p.0 p.1 p.2 ≡ is_held at (opposed p)) →
         Meets p
     comes : is_solid c p.0 p.1 ≡ false → (u : ℕ × ℕ) → from p ≡ Some u → is_solid c u.0 u.1 ≡ false → Meets p
 
-  meets : (p : Place) → Meets p
+  pub meets : (p : Place) → Meets p
   meets p = by (is_solid c p.0 p.1) refl (from p) refl
     where
       beside_it : is_solid c p.0 p.1 ≡ false → (u : ℕ × ℕ) → from p ≡ Some u → (b : Bool) → is_solid c u.0 u.1 ≡ b → Meets p
@@ -70,7 +70,7 @@ module _ (gas : Rules) (laws : IsGas gas) (c : ChannelModel) where
   abbrev Here : Place → Type 0
   Here = Within c.width c.height gas.dirs
 
-  other_end-within : (p : Place) → Here p → Here (other_end p)
+  pub other_end-within : (p : Place) → Here p → Here (other_end p)
   other_end-within p h = elim (meets p) [
     | stays e arrives ↦ subst Here (sym e) h
     | comes fluid u there e ↦
@@ -79,7 +79,7 @@ module _ (gas : Rules) (laws : IsGas gas) (c : ChannelModel) where
   ]
 
   -- the neighbour behind the neighbour behind is the cell itself, since steps lead back
-  other_end-twice : (p : Place) → Here p → other_end (other_end p) ≡ p
+  pub other_end-twice : (p : Place) → Here p → other_end (other_end p) ≡ p
   other_end-twice p h = elim (meets p) [
     | stays e arrives ↦ ap other_end e ∙ e
     | comes fluid u there e ↦
@@ -90,10 +90,10 @@ module _ (gas : Rules) (laws : IsGas gas) (c : ChannelModel) where
         ∙ ap (λ (i : ℕ). let r : Place = (p.0, p.1, i) in r) (laws.opposite_twice p.2 h.2)
   ]
 
-  opposed-within : (p : Place) → Here p → Here (opposed p)
+  pub opposed-within : (p : Place) → Here p → Here (opposed p)
   opposed-within p h = (h.0, h.1, laws.opposite_within p.2 h.2)
 
-  opposed-twice : (p : Place) → Here p → opposed (opposed p) ≡ p
+  pub opposed-twice : (p : Place) → Here p → opposed (opposed p) ≡ p
   opposed-twice p h = ap (λ (i : ℕ). let r : Place = (p.0, p.1, i) in r) (laws.opposite_twice p.2 h.2)
 
   module _ (at : ℕ → ℕ → ℕ) where
@@ -108,7 +108,7 @@ module _ (gas : Rules) (laws : IsGas gas) (c : ChannelModel) where
     ]
 
     -- what a place holds after streaming, where solid cells were empty before
-    held-streamed : ((x y : ℕ) → is_solid c x y ≡ true → at x y ≡ 0) →
+    pub held-streamed : ((x y : ℕ) → is_solid c x y ≡ true → at x y ≡ 0) →
         (p : Place) → Here p → held (streamed gas c at) p ≡ held at (opposed (other_end p))
     held-streamed empty p h = by (is_solid c p.0 p.1) refl
       where

@@ -3,7 +3,7 @@
 use Rattle.std.proofs.Common.{◌≡◌, ℕ, zero, suc, ◌+◌, ◌<◌, ◌^◌, Bool, true, false, if◌then◌else◌, List, [], length, get_or, ap, ◌∙◌, sym, refl, subst, arith, inl, inr}
 use Rattle.std.proofs.lemmas.Bool.{cases_lt}
 use Rattle.std.proofs.lemmas.List.{get_or_past}
-use Rattle.std.proofs.lemmas.List.FromFn.{get_or-map-range_with_len, length-map-range_with_len}
+use Rattle.std.proofs.lemmas.List.FromFn.{fill_by_all, get_or-map-range_with_len, length-map-range_with_len}
 use Rattle.std.proofs.lemmas.Nat.{pow_pos}
 use Rattle.gas_geom.specs.Gas.{Rules, IsGas}
 use Rattle.gas_geom.specs.Channel.{ChannelModel, is_solid}
@@ -24,6 +24,20 @@ cell-rows_of P w h at x y none here = elim (cases_lt y h) [
       let row = get_or_past (rows_of w h at) y [] (omega (arith, length-map-range_with_len (λ y'. row_of w (λ x'. at x' y')) 0 h)) in
       subst (λ (r : List ℕ). P (get_or r x 0)) (sym row) none
 ]
+
+-- a cell of rows that are made by cells
+pub cell-made : (w h : ℕ) (at : ℕ → ℕ → ℕ) (x y : ℕ) → x < w → y < h → cell (rows_of w h at) x y ≡ at x y
+cell-made w h at x y inx iny =
+    ap (λ (r : List ℕ). get_or r x 0) (get_or-map-range_with_len (λ v. row_of w (λ u. at u v)) 0 h y y [] iny (omega arith))
+    ∙ get_or-map-range_with_len (λ u. at u y) 0 w x x 0 inx (omega arith)
+
+-- rows that are made by the same cells
+pub rows_of-same : (w h : ℕ) (f g : ℕ → ℕ → ℕ) → ((x y : ℕ) → x < w → y < h → f x y ≡ g x y) → rows_of w h f ≡ rows_of w h g
+rows_of-same w h f g same =
+    fill_by_all (λ y. row_of w (λ x. g x y)) (rows_of w h f) h [] (length-map-range_with_len (λ y. row_of w (λ x. f x y)) 0 h)
+    (λ y iny. get_or-map-range_with_len (λ v. row_of w (λ x. f x v)) 0 h y y [] iny (omega arith)
+    ∙ fill_by_all (λ x. g x y) (row_of w (λ x. f x y)) w 0 (length-map-range_with_len (λ x. f x y) 0 w)
+    (λ x inx. get_or-map-range_with_len (λ u. f u y) 0 w x x 0 inx (omega arith) ∙ same x y inx iny))
 
 -- the next lattice is one, whatever the rows before it
 pub IsLattice-next : (gas : Rules) → IsGas gas → (c : ChannelModel) (chi : ℕ → ℕ → Bool) (rows : List (List ℕ)) → IsLattice gas c (next gas c chi rows)

@@ -1,6 +1,6 @@
 -- FHP-I, the gas of U. Frisch, B. Hasslacher and Y. Pomeau, "Lattice-gas automata for the Navier-Stokes equation",
 -- Physical Review Letters 56 (1986) 1505: six directions on the triangular lattice, no particle at rest.
-use Rattle.std.specs.Prelude.{◌+◌, ◌%◌, if◌then◌else◌, ◌==◌, List, [], ◌∷◌, slice_index_or, codes, ℤ, pos, negsuc}
+use Rattle.std.specs.Prelude.{ℕ, ◌+◌, ◌-◌, ◌%◌, if◌then◌else◌, ◌==◌, List, [], ◌∷◌, slice_index_or, codes, ℤ, pos, negsuc}
 use Rattle.gas_geom.specs.declared.moves.Move.{Move}
 use Rattle.gas_geom.specs.declared.moves.Move.TheVariants.{Back, Stay, On}
 use Rattle.gas_geom.specs.Gas.{Rules}
@@ -16,6 +16,14 @@ steps_from_odd = (On, Stay) ∷ (On, Back) ∷ (Stay, Back) ∷ (Back, Stay) ∷
 -- the momenta: eastwards in half units, northwards in units of half the square root of 3
 abbrev pub momenta : List (ℤ × ℤ)
 momenta = (pos 2, pos 0) ∷ (pos 1, pos 1) ∷ (negsuc 0, pos 1) ∷ (negsuc 1, pos 0) ∷ (negsuc 0, negsuc 0) ∷ (pos 1, negsuc 0) ∷ []
+
+-- The direction that comes to direction i by a turn by a sixth to the left, and by the mirror that keeps E and W. A particle at rest, which
+-- is direction 6 of another gas, stays.
+abbrev pub sixth : ℕ → ℕ
+sixth i = if i == 6 then 6 else (i + 5) % 6
+
+abbrev pub hexagon_mirror : ℕ → ℕ
+hexagon_mirror i = if i == 6 then 6 else (6 - i) % 6
 
 abbrev pub fhp1 : Rules
 fhp1 = record {

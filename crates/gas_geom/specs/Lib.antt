@@ -8,3 +8,6 @@ pub mod Channel
 pub mod Lattice
 pub mod Planes
 pub mod Laws
+pub mod Parts
+pub mod Backwards
+pub mod Momentum

@@ -1,8 +1,8 @@
 //! The gas FHP-I.
 
 ghost use Rattle.std.specs.Prelude.{◌≡◌, ◌<◌, ◌≤◌, ◌^◌, ℕ, true, refl};
-ghost use Rattle.gas_geom.specs.Fhp1.{fhp1};
-ghost use Rattle.gas_geom.specs.Laws.Trials.{IsGas-passed, uses-chirality};
+ghost use Rattle.gas_geom.specs.Fhp1.{fhp1, sixth, hexagon_mirror};
+ghost use Rattle.gas_geom.specs.Laws.Trials.{IsGas-passed, IsSymmetric-passed, uses-chirality};
 
 use crate::gas::Gas;
 
@@ -26,6 +26,12 @@ impl Gas for Fhp1 {
     ghost dirs_are = { refl };
 
     ghost laws = { IsGas-passed fhp1 refl };
+
+    ghost turn = { sixth };
+
+    ghost mirror = { hexagon_mirror };
+
+    ghost symmetry = { IsSymmetric-passed fhp1 sixth hexagon_mirror refl };
 
     ghost ignores = { uses-chirality fhp1 };
 

@@ -1,8 +1,9 @@
 //! The gas fhp-rest: FHP-I's lattice with particles at rest.
 
 ghost use Rattle.std.specs.Prelude.{◌≡◌, ◌<◌, ◌≤◌, ◌^◌, ℕ, true, refl};
+ghost use Rattle.gas_geom.specs.Fhp1.{sixth, hexagon_mirror};
 ghost use Rattle.gas_geom.specs.FhpRest.{fhp_rest};
-ghost use Rattle.gas_geom.specs.Laws.Trials.{IsGas-passed, uses-chirality};
+ghost use Rattle.gas_geom.specs.Laws.Trials.{IsGas-passed, IsSymmetric-passed, uses-chirality};
 
 use crate::fhp1::Fhp1;
 use crate::gas::Gas;
@@ -30,6 +31,12 @@ impl Gas for FhpRest {
     ghost dirs_are = { refl };
 
     ghost laws = { IsGas-passed fhp_rest refl };
+
+    ghost turn = { sixth };
+
+    ghost mirror = { hexagon_mirror };
+
+    ghost symmetry = { IsSymmetric-passed fhp_rest sixth hexagon_mirror refl };
 
     ghost ignores = { uses-chirality fhp_rest };
 

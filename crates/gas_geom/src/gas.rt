@@ -6,6 +6,7 @@ ghost use Rattle.gas_geom.specs.Moves.{amount};
 ghost use Rattle.gas_geom.specs.Gas.{Rules, IsGas, holds};
 ghost use Rattle.gas_geom.specs.Channel.{ChannelModel};
 ghost use Rattle.gas_geom.specs.Lattice.{IsLattice, next, generation, count};
+ghost use Rattle.gas_geom.specs.Backwards.{IsSymmetric};
 ghost use Rattle.gas_geom.specs.Planes.{set_at, ZeroFrom};
 
 /// A lattice gas. A direction is a number below `DIRS`, and a cell's state is the set of the
@@ -16,6 +17,12 @@ pub trait Gas {
     ghost DIRS: { ℕ };
 
     ghost USES_CHIRALITY: { Bool };
+
+    /// Which direction comes to each by the least turn of the lattice.
+    ghost turn: { ℕ → ℕ };
+
+    /// And by a mirror along its rows.
+    ghost mirror: { ℕ → ℕ };
 
     /// The number of directions, 1 to 8.
     const DIRS: u32;
@@ -58,6 +65,8 @@ pub trait Gas {
     ghost dirs_are: { rules.dirs ≡ DIRS };
 
     ghost laws: { IsGas rules };
+
+    ghost symmetry: { IsSymmetric rules turn mirror };
 
     ghost ignores: { USES_CHIRALITY ≡ false →
         (s : ℕ) (chi chi' : Bool) → rules.collide s chi ≡ rules.collide s chi' };

@@ -1,8 +1,8 @@
 //! The gas HPP.
 
 ghost use Rattle.std.specs.Prelude.{◌≡◌, ◌<◌, ◌≤◌, ◌^◌, ℕ, false, refl};
-ghost use Rattle.gas_geom.specs.Hpp.{hpp};
-ghost use Rattle.gas_geom.specs.Laws.Trials.{IsGas-passed};
+ghost use Rattle.gas_geom.specs.Hpp.{hpp, quarter, square_mirror};
+ghost use Rattle.gas_geom.specs.Laws.Trials.{IsGas-passed, IsSymmetric-passed};
 
 use crate::gas::Gas;
 
@@ -25,6 +25,12 @@ impl Gas for Hpp {
     ghost dirs_are = { refl };
 
     ghost laws = { IsGas-passed hpp refl };
+
+    ghost turn = { quarter };
+
+    ghost mirror = { square_mirror };
+
+    ghost symmetry = { IsSymmetric-passed hpp quarter square_mirror refl };
 
     ghost ignores = { λ _ s chi chi'. refl };
 

@@ -5,5 +5,6 @@ pub mod fhp1;
 pub mod fhp_rest;
 pub mod gas;
 pub mod hpp;
+pub mod laws;
 pub mod moves;
 pub mod size;

@@ -12,7 +12,7 @@ use Rattle.gas_bits.specs.Words.{words_in}
 use Rattle.gas_bits.specs.Planes.{has, state}
 use Rattle.gas_rows.specs.Inner.Planes.{ArePlanes, IsClear}
 use Rattle.gas_rows.specs.Planes.{cells_of, AreWordsOf}
-use Rattle.gas_bits.proofs.Sets.{set_from}
+use Rattle.gas_geom.proofs.Sets.{set_from}
 use Rattle.gas_rows.proofs.Cells.{length-cells, cells-lt, holds-cells, width_of, get_or-cells, holds-cells_all, cells-from, cells-written, IsClear-written}
 use Rattle.gas_bits.proofs.Cells.{has-set, place_in, state-lt, state-same, state-from, has_word}
 use Rattle.gas_geom.proofs.Holds.{holds-zero, holds-above}

@@ -1,6 +1,6 @@
 -- Facts about the few directions and sets of a gas, by trying each. Rules that pass all trials are those of a gas; where the rules are
 -- written out, the trials compute.
-use Rattle.std.proofs.Common.{◌≡◌, ℕ, zero, suc, ◌^◌, ◌<◌, ◌≤◌, Bool, true, false, not, ◌&&◌, ℤ, pos, negsuc, arith, ap, sym, ◌∙◌, refl}
+use Rattle.std.proofs.Common.{◌≡◌, ℕ, zero, suc, ◌^◌, ◌<◌, ◌≤◌, Bool, true, false, not, ◌&&◌, ℤ, pos, negsuc, ◌+ℤ◌, arith, ap, sym, ◌∙◌, refl}
 use Rattle.std.specs.Prelude.{◌==◌, nat_lt, unsigned_abs}
 use Rattle.std.specs.Ordering.{int_eq}
 use Rattle.std.proofs.lemmas.Bool.{agree_below, agree_below_at, and_parts}
@@ -9,6 +9,7 @@ use Rattle.gas_geom.specs.declared.moves.Move.{Move}
 use Rattle.gas_geom.specs.declared.moves.Move.TheVariants.{Back, Stay, On}
 use Rattle.gas_geom.specs.Moves.{amount}
 use Rattle.gas_geom.specs.Gas.{Rules, IsGas, particles, momentum_of}
+use Rattle.gas_geom.specs.Backwards.{IsSymmetric, renamed, turned}
 use Rattle.gas_geom.specs.Laws.Steps.{reversed, odd_after, neighbour-back}
 
 -- a test that holds at each number below n, which computes at a written-out n
@@ -87,6 +88,39 @@ module _ (gas : Rules) where
       (nat_lt 0 gas.dirs && nat_lt gas.dirs 9) && (holds_below is_opposed gas.dirs && holds_below has_small gas.dirs)
       && (holds_below (is_undone true) gas.dirs && holds_below (is_undone false) gas.dirs)
       && (holds_below (set_passes true) (2 ^ gas.dirs) && holds_below (set_passes false) (2 ^ gas.dirs))
+
+  -- ---- what a turn, a mirror and the other random bit do to the outcome
+  abbrev set_is_symmetric : (ℕ → ℕ) → (ℕ → ℕ) → Bool → ℕ → Bool
+  set_is_symmetric turn mirror chi s =
+      (gas.collide (gas.collide s chi) (not chi) == s && gas.collide (turned gas s) chi == turned gas (gas.collide s chi))
+      && (gas.collide (renamed gas turn s) chi == renamed gas turn (gas.collide s chi)
+      && gas.collide (renamed gas mirror s) (not chi) == renamed gas mirror (gas.collide s chi))
+
+  abbrev turns_momentum : ℕ → Bool
+  turns_momentum i =
+      let m = gas.momentum i in
+      let n = gas.momentum (gas.opposite i) in
+      same_pair (m.0 +ℤ n.0, m.1 +ℤ n.1) (pos 0, pos 0)
+
+  abbrev pub is_symmetric : (ℕ → ℕ) → (ℕ → ℕ) → Bool
+  is_symmetric turn mirror =
+      holds_below turns_momentum gas.dirs && holds_below (set_is_symmetric turn mirror true) (2 ^ gas.dirs) && holds_below (set_is_symmetric turn mirror false) (2 ^ gas.dirs)
+
+  module _ (turn mirror : ℕ → ℕ) (passed : is_symmetric turn mirror ≡ true) where
+    symmetric : (chi : Bool) (s : ℕ) → s < 2 ^ gas.dirs → set_is_symmetric turn mirror chi s ≡ true
+    symmetric true s h = each_below (set_is_symmetric turn mirror true) (2 ^ gas.dirs) s (grind arith) h
+    symmetric false s h = each_below (set_is_symmetric turn mirror false) (2 ^ gas.dirs) s (grind arith) h
+
+    pub IsSymmetric-passed : IsSymmetric gas turn mirror
+    IsSymmetric-passed = record {
+      momentum_turned = λ i h.
+          let both = same_pair-is _ _ (each_below turns_momentum gas.dirs i (grind arith) h) in
+          ((λ t. (both t).0), (λ t. (both t).1));
+      undone = λ s chi h. let p = symmetric chi s h in grind (arith, nat_tests);
+      of_turned = λ s chi h. let p = symmetric chi s h in grind (arith, nat_tests);
+      of_rotated = λ s chi h. let p = symmetric chi s h in grind (arith, nat_tests);
+      of_mirrored = λ s chi h. let p = symmetric chi s h in grind (arith, nat_tests);
+    }
 
   module _ (passed : passes ≡ true) where
     opposed : (i : ℕ) → i < gas.dirs → is_opposed i ≡ true
