@@ -28,16 +28,3 @@ pub record Receiver : Type 0 where
 pub record CarriedModel : Type 0 where
   pub put : List RowModel
   pub taken : List RowModel
-
--- a belt with both its ends on one thread: the width of its rows, its capacity in rows, all rows put on it and all rows taken from it, in
--- order, and the number of its spare rows beyond one for each free place
-pub record InnerModel : Type 0 where
-  pub width : ℕ
-  pub capacity : ℕ
-  pub put : List RowModel
-  pub taken : List RowModel
-  pub held : ℕ
-
--- what it carried
-abbrev pub carried_within : InnerModel → CarriedModel
-carried_within b = record { put = b.put; taken = b.taken }

@@ -1,4 +1,2 @@
 -- Inner words: what functions of this crate promise one another. No public contract cites them.
 pub mod Ring
-pub mod History
-pub mod Ends

@@ -1,42 +1,33 @@
 //! What a belt carried, once its ends are on one thread again.
 ghost use Rattle.std.specs.Prelude.{◌≡◌, length, IfOk, IfErr, OnOk, OnErr, ◌↔◌, IsOk};
 ghost use mathlib.Core.List.{IsPrefix};
-ghost use Rattle.gas_belt.specs.Belt.{carried_within};
 
-use crate::inner_belt::InnerBelt;
 use crate::rx::Rx;
 use crate::tx::Spent;
 use gas_geom::gas::Gas;
 use std::marker::Model;
 use std::snapshot::Snapshot;
 
-// The ends of a belt between threads, or a belt within a thread.
-#[derive(Drop)]
-enum Ends<S, R, B> {
-    Between(Snapshot<S>, Snapshot<R>),
-    Within(Snapshot<B>),
-}
-
 /// What a belt carried: all rows that were put on it and all rows that were taken from it. They are
 /// the same rows in the same order.
 #[derive(Drop)]
 pub struct Carried<G: Gas> {
     len: u64,
-    ends: Ends<Spent<G>, Rx<G>, InnerBelt<G>>,
+    spent: Snapshot<Spent<G>>,
+    rx: Snapshot<Rx<G>>,
 }
 
 impl<G: Gas> Model for Carried<G> {
     ghost use Rattle.std.specs.Prelude.{◌≡◌, length};
     ghost use Rattle.gas_belt.specs.Belt.{CarriedModel};
-    ghost use Rattle.gas_belt.specs.Inner.Ends.{carried_by};
 
     ghost Value = { CarriedModel };
 
-    ghost view = { λ c. carried_by c.ends };
+    ghost view = { λ c. record { put = c.spent.value.put; taken = c.rx.value.taken } };
 
     ghost invariant = { λ c. record {
-      same_rows : (carried_by c.ends).taken ≡ (carried_by c.ends).put;
-      count : c.len ≡ length (carried_by c.ends).put;
+      same_rows : c.rx.value.taken ≡ c.spent.value.put;
+      count : c.len ≡ length c.spent.value.put;
     } };
 }
 
@@ -70,18 +61,7 @@ pub fn meet<G: Gas>(spent: Spent<G>, rx: Rx<G>) -> Result<Carried<G>, (Spent<G>,
     }
     Ok(Carried {
         len: spent.count,
-        ends: Ends::Between(Snapshot::of(&spent), Snapshot::of(&rx)),
+        spent: Snapshot::of(&spent),
+        rx: Snapshot::of(&rx),
     })
-}
-
-/// What a belt within a thread carried, if as many rows were taken as were put.
-pub fn meet_within<G: Gas>(belt: InnerBelt<G>) -> Carried<G>
-    requires even { length belt.put ≡ length belt.taken }
-    ensures carried { result ≡ carried_within belt }
-    ensures equal { result.taken ≡ result.put }
-{
-    Carried {
-        len: belt.count,
-        ends: Ends::Within(Snapshot::of(&belt)),
-    }
 }

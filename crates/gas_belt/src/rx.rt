@@ -3,7 +3,7 @@ ghost use Rattle.std.specs.Prelude.{◌≡◌, ◌≢◌, ◌+◌, ◌-◌, ◌�
 ghost use Rattle.rtrb.specs.Ring.{received};
 ghost use Rattle.gas_belt.specs.Inner.Ring.{belt_of, row_words};
 
-use crate::ring_ends::PopEnd;
+use crate::pop_end::PopEnd;
 use gas_geom::gas::Gas;
 use gas_rows::row::Row;
 use std::alloc::{AllocError, Global};

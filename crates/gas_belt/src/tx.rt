@@ -1,8 +1,8 @@
 //! The end of a belt that rows are put on.
 ghost use Rattle.std.specs.Prelude.{◌≡◌, ◌++◌, ◌∷◌, [], length, OnOk, IfErr, OnErr, IsErr, Some, None};
-ghost use Rattle.gas_belt.specs.Inner.Ring.{belt_of, put_words};
+ghost use Rattle.rtrb.specs.Ring.{sent};
+ghost use Rattle.gas_belt.specs.Inner.Ring.{belt_of};
 
-use crate::ring_ends::PushEnd;
 use gas_geom::gas::Gas;
 use gas_rows::row::Row;
 use rtrb::Producer;
@@ -37,7 +37,7 @@ impl<G: Gas> Model for Spent<G> {
 /// The end of a belt that rows are put on. It counts them.
 #[derive(Drop)]
 pub struct Tx<G: Gas> {
-    end: PushEnd,
+    ring: Producer<u64>,
     count: u64,
     width: u32,
     spare: Option<Row<G>>,
@@ -45,32 +45,33 @@ pub struct Tx<G: Gas> {
 
 impl<G: Gas> Model for Tx<G> {
     ghost use Rattle.std.specs.Prelude.{◌≡◌, ◌*◌, length};
+    ghost use Rattle.rtrb.specs.Ring.{sent};
     ghost use Rattle.gas_belt.specs.Belt.{Sender};
-    ghost use Rattle.gas_belt.specs.Inner.Ring.{belt_of, row_words, rows_in, put_words};
+    ghost use Rattle.gas_belt.specs.Inner.Ring.{belt_of, row_words, rows_in};
 
     ghost Value = { Sender };
 
     ghost view = { λ t. record {
-      belt = belt_of G.rules.dirs t.width t.end.ring.end;
-      put = rows_in G.rules.dirs t.width t.count (put_words t.end);
+      belt = belt_of G.rules.dirs t.width t.ring.end;
+      put = rows_in G.rules.dirs t.width t.count (sent t.ring);
       spare = t.spare;
     } };
 
-    ghost invariant = { λ t. length (put_words t.end) ≡ row_words G.rules.dirs t.width * t.count };
+    ghost invariant = { λ t. length (sent t.ring) ≡ row_words G.rules.dirs t.width * t.count };
 }
 
 impl<G: Gas> Tx<G> {
     #[tactic(auto, using(crate::proofs::Parts::parts_none))]
-    pub(crate) fn new(end: PushEnd, width: u32) -> Self
-        requires nothing { put_words end ≡ [] }
+    pub(crate) fn new(ring: Producer<u64>, width: u32) -> Self
+        requires nothing { sent ring ≡ [] }
         ensures fresh { result ≡ record {
-          belt = belt_of G.rules.dirs width end.ring.end;
+          belt = belt_of G.rules.dirs width ring.end;
           put = [];
           spare = None;
         } }
     {
         Tx {
-            end,
+            ring,
             count: 0,
             width,
             spare: None,
@@ -78,8 +79,10 @@ impl<G: Gas> Tx<G> {
     }
 
     /// Puts a row, or hands it back if the belt has no place for it, its width is not the belt's,
-    /// or 2^64 - 1 rows were put. A row that was put becomes the spare row, and the other end is
-    /// shown it. It takes no memory and never waits.
+    /// or 2^64 - 1 rows were put. A row that was put becomes the spare row. It takes no memory and
+    /// never waits.
+    #[inline(always)]
+    #[tactic(auto, using(crate::proofs::Parts::parts_length, crate::proofs::Parts::parts_row))]
     pub fn try_put(&mut self, row: Row<G>) -> Result<(), Row<G>>
         ensures put { OnOk result (self.new ≡ record self.old {
           put = self.old.put ++ row ∷ [];
@@ -90,44 +93,15 @@ impl<G: Gas> Tx<G> {
         ensures unchanged { OnErr result (self.new ≡ self.old) }
         ensures no_more { length self.old.put ≡ u64.MAX → IsErr result }
     {
-        let tried = self.try_gather(row);
-        self.show();
-        tried
-    }
-
-    /// Puts a row as `try_put` does. On a belt with 8 places or more a short row may gather before
-    /// the other end is shown it, at the latest by `show` or `close`.
-    #[inline(always)]
-    #[tactic(auto, using(crate::proofs::Parts::parts_length, crate::proofs::Parts::parts_row))]
-    pub fn try_gather(&mut self, row: Row<G>) -> Result<(), Row<G>>
-        ensures put { OnOk result (self.new ≡ record self.old {
-          put = self.old.put ++ row ∷ [];
-          spare = Some row;
-        }) }
-        ensures width { OnOk result (length row ≡ self.old.belt.width) }
-        ensures back { IfErr result (λ r. r ≡ row) }
-        ensures unchanged { OnErr result (self.new ≡ self.old) }
-        ensures no_more { length self.old.put ≡ u64.MAX → IsErr result }
-    {
-        if self.count == u64::MAX || row.width() != self.width || !self.end.push(row.as_words()) {
+        if self.count == u64::MAX || row.width() != self.width {
             return Err(row);
         }
+        let Ok(()) = self.ring.push_entire_slice(row.as_words()) else {
+            return Err(row);
+        };
         self.count += 1;
         self.spare = Some(row);
         Ok(())
-    }
-
-    /// Whether rows that were put have gathered, so that the other end is not shown them yet.
-    pub fn has_gathered(&self) -> bool {
-        self.end.words_gathered > 0
-    }
-
-    /// Shows the other end all rows that were put. Returns whether some had gathered. It takes no
-    /// memory and never waits.
-    pub fn show(&mut self) -> bool
-        ensures unchanged { self.new ≡ self.old }
-    {
-        self.end.show()
     }
 
     /// Hands out the row of the newest put, for reuse. None if it was already handed out.
@@ -138,15 +112,12 @@ impl<G: Gas> Tx<G> {
         self.spare.take()
     }
 
-    /// Closes the end, and shows the other end all rows that were put. A `Spent` has no put, and
-    /// the spare row is dropped.
+    /// Closes the end. A `Spent` has no put, and the spare row is dropped.
     pub fn close(self) -> Spent<G>
         ensures spent { result ≡ record self { spare = None } }
     {
-        let mut end = self.end;
-        end.show();
         Spent {
-            ring: end.ring,
+            ring: self.ring,
             count: self.count,
             width: self.width,
             gas: PhantomData,

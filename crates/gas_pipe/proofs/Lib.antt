@@ -1,12 +1,6 @@
-pub mod Spares
-pub mod Hands
-pub mod Fed
-pub mod Rotations
-pub mod Ended
-pub mod Chains
-pub mod Meetings
-pub mod Settled
-pub mod Own
 pub mod Shares
-pub mod Sends
-pub mod Made
+pub mod Workers
+pub mod Ends
+pub mod Feeders
+pub mod Settled
+pub mod Meetings

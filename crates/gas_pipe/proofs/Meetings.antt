@@ -1,130 +1,153 @@
--- The ends of the belts meet, one belt after another.
-use Rattle.std.proofs.Common.{◌≡◌, ℕ, zero, suc, ◌+◌, ◌*◌, ◌++◌, List, [], ◌∷◌, length, map, refl, ap, sym, subst, ◌∙◌, arith, append_assoc, append-nil, Option, All}
-use Rattle.std.proofs.lemmas.List.Elements.{All-nil, All-cons, All-head, All-tail}
+-- How the workers of a run are linked, and how the ends of their belts meet, one belt after another.
+use Rattle.std.proofs.Common.{◌≡◌, ℕ, suc, ◌+◌, ◌*◌, ◌<◌, ◌++◌, Option, Some, None, IfSome, List, [], ◌∷◌, length, refl, ap, sym, subst, ◌∙◌, arith}
+use Rattle.std.specs.Prelude.{slice_index_or}
+use Rattle.std.specs.List.{remove}
+use Rattle.std.specs.Option.{option_to_list}
 use Rattle.std.proofs.lemmas.List.FromFn.{map-range_with_len_more, length-map-range_with_len}
-use Rattle.std.specs.declared.thread.PromisedHandle.{PromisedHandle}
 use Rattle.std.specs.Int.{div_ceil}
 use Rattle.gas_geom.specs.Gas.{Rules}
-use Rattle.gas_belt.specs.Belt.{Belt, Sender, InnerModel, CarriedModel, carried_within}
-use Rattle.gas_pipe.specs.declared.job.JobPromise.{JobPromise}
 use Rattle.gas_rows.specs.Row.{RowModel}
-use Rattle.gas_pipe_model.specs.Pass.{RunInputModel, IsRunInput, rows_on}
+use Rattle.gas_belt.specs.Belt.{Belt, Sender, CarriedModel}
+use Rattle.gas_pipe_model.specs.Pass.{RunInputModel, rows_on}
 use Rattle.gas_pipe_model.specs.Inner.Circle.{owes_in}
-use Rattle.gas_pipe_model.proofs.Circle.{on_high, on_next}
+use Rattle.gas_pipe_model.proofs.Circle.{on_high, on_next, on_first}
 use Rattle.gas_pipe_model.proofs.PlanCircle.{is_circle}
-use Rattle.gas_pipe.specs.Inner.Hand.{PostModel, post_of, post_in, HasFinished}
-use Rattle.gas_pipe.specs.Inner.Chain.{ChainModel, EndedModel, AllHaveFinished, EndsChain, put_first}
-use Rattle.gas_pipe.proofs.Chains.{first_post, other_posts}
-use Rattle.gas_pipe.proofs.Hands.{until_high}
-use Rattle.gas_pipe.specs.Inner.Links.{posts_in, Linked, last_belt, workers_in, job_of, carrying, rows_on_belt, belts_before, HaveMetUpTo}
+use Rattle.gas_pipe.specs.Inner.Worker.{LineWorkerModel, EndedModel, Job, job_in, HasCome, HasFinished, HasEnded}
+use Rattle.gas_pipe.specs.Inner.Feeder.{LineFeederModel}
+use Rattle.gas_pipe.specs.Inner.Own.{OwnModel, own_jobs, OwnHasCome, SameOwn, IsOver}
+use Rattle.gas_pipe.specs.Inner.Links.{Linked, last_belt, AllHaveCome, IsLinked, carrying, rows_on_belt, belts_before, HaveMet}
+use Rattle.gas_pipe.proofs.Settled.{long}
 
-abbrev pub Handle : Type 0
-Handle = PromisedHandle (Option EndedModel) (JobPromise ChainModel)
+-- one worker more
+pub last_belt_snoc : (from : Belt) (js : List Job) (j : Job) → last_belt from (js ++ j ∷ []) ≡ j.to
+last_belt_snoc from [] j = refl
+last_belt_snoc from (i ∷ js) j = last_belt_snoc i.to js j
 
--- how many rows go over each belt
-abbrev pub all_rows : RunInputModel → ℕ
-all_rows input = div_ceil input.plan.generations input.plan.stages * input.lattice.channel.height
+pub linked_snoc : (input : RunInputModel) (g k : ℕ) (from : Belt) (js : List Job) (j : Job) → g + length js ≡ k → Linked input g from js → j ≡ job_in input k (last_belt from js) j.to →
+    Linked input g from (js ++ j ∷ [])
+linked_snoc input g k from [] j at l next =
+    let e : k ≡ g = omega (arith, at) in
+    (subst (λ (n : ℕ). j ≡ job_in input n from j.to) e next, tt)
+linked_snoc input g k from (i ∷ js) j at l next =
+    let e : suc g + length js ≡ k = omega (arith, at) in
+    (l.0, linked_snoc input (suc g) k i.to js j e l.1 next)
+
+pub come_snoc : (gas : Rules) (ws : List LineWorkerModel) (w : LineWorkerModel) → AllHaveCome gas ws → HasCome gas w → AllHaveCome gas (ws ++ w ∷ [])
+come_snoc gas [] w all one = (one, tt)
+come_snoc gas (v ∷ ws) w all one = (all.0, come_snoc gas ws w all.1 one)
+
+-- the first of them apart
+pub come_own : (gas : Rules) (o : Option LineWorkerModel) (ws : List LineWorkerModel) → AllHaveCome gas (option_to_list o ++ ws) → IfSome o (λ w. HasCome gas w) × AllHaveCome gas ws
+come_own gas None ws all = (tt, all)
+come_own gas (Some w) ws all = all
+
+pub removed : (ws : List LineWorkerModel) (w : LineWorkerModel) → 0 < length ws → w ≡ slice_index_or ws 0 w → w ∷ remove ws 0 ≡ ws
+removed [] w some is = absurd (omega (arith, some))
+removed (v ∷ ws) w some is = ap (λ (u : LineWorkerModel). u ∷ ws) is
 
 -- one belt more
-pub on_more : (gas : Rules) (input : RunInputModel) (b : List RowModel) (k : ℕ) → belts_before gas input b (suc k) ≡ belts_before gas input b k ++ carrying (rows_on_belt gas input b k) ∷ []
+on_more : (gas : Rules) (input : RunInputModel) (b : List RowModel) (k : ℕ) → belts_before gas input b (suc k) ≡ belts_before gas input b k ++ carrying (rows_on_belt gas input b k) ∷ []
 on_more gas input b k =
     ap (belts_before gas input b) (let e : suc k ≡ k + 1 = omega arith in e)
     ∙ map-range_with_len_more (λ i. carrying (rows_on_belt gas input b i)) 0 k k (let e : 0 + k ≡ k = omega arith in e)
 
-module _ (gas : Rules) (input : RunInputModel) (is : IsRunInput gas input) where
-  -- a worker of the run that is over put as many rows as go over each belt
-  pub put_long : (k : ℕ) (t p : List RowModel) → HasFinished gas (post_in input k) t p → length p ≡ all_rows input
-  put_long k t p ran =
-      ap length ran.owes_is ∙ until_high gas (post_in input k) (div_ceil input.plan.generations input.plan.stages) t (omega (arith, ran.whole))
+module _ (gas : Rules) (input : RunInputModel) (f : LineFeederModel) where
+  -- as many rows were put on the belt that is reached as on the first
+  pub met_long : (jobs : List Job) (s : Sender) (now : List CarriedModel) → HaveMet gas input f jobs s now →
+      length s.put ≡ div_ceil input.plan.generations input.plan.stages * input.lattice.channel.height
+  met_long jobs s now met =
+      ap length met.put_is
+      ∙ on_high input.lattice.channel.height input.plan.threads (owes_in gas input) (λ q. q) (rows_on gas input) (is_circle gas input met.is_input (λ q. q) (λ m q. refl) (λ n. refl))
+      (div_ceil input.plan.generations input.plan.stages) f.tx.put met.long met.k
 
-  -- so as many rows were put on each belt between such workers as were taken
-  pub evens : (k n : ℕ) (bs : List InnerModel) (u : List RowModel) → length (put_first bs u) ≡ all_rows input → AllHaveFinished gas (posts_in input k n) bs u →
-      All (λ b. length b.put ≡ length b.taken) bs
-  evens k zero [] u long ran = All-nil (λ (c : InnerModel). length c.put ≡ length c.taken)
-  evens k (suc n) (b ∷ bs) u long ran =
-      All-cons (λ (c : InnerModel). length c.put ≡ length c.taken) b bs (long ∙ sym ran.0.whole) (evens (suc k) n bs u (put_long k b.taken (put_first bs u) ran.0) ran.1)
-  evens k zero (b ∷ bs) u long ran = absurd ran
-  evens k (suc n) [] u long ran = absurd ran
+  -- the belts that have met number as many as the workers before it
+  pub met_count : (jobs : List Job) (s : Sender) (now : List CarriedModel) → HaveMet gas input f jobs s now → length now + length jobs ≡ input.plan.threads
+  met_count jobs s now met =
+      let made : length now ≡ met.k = ap length met.belts ∙ length-map-range_with_len (λ i. carrying (rows_on_belt gas input f.tx.put i)) 0 met.k in
+      omega (arith, made, met.count)
 
-  module _ (b : List RowModel) (long : length b ≡ all_rows input) where
-    pub on_long : (k : ℕ) → length (rows_on_belt gas input b k) ≡ all_rows input
-    on_long k =
-        on_high input.lattice.channel.height input.plan.stages (owes_in gas input) (λ q. q) (rows_on gas input) (is_circle gas input is (λ q. q) (λ m q. refl) (λ n. refl))
-        (div_ceil input.plan.generations input.plan.stages) b long k
+  -- and one belt more
+  grown : (now : List CarriedModel) (k : ℕ) (put taken : List RowModel) → now ≡ belts_before gas input f.tx.put k → put ≡ rows_on_belt gas input f.tx.put k → taken ≡ put →
+      now ++ record { put = put; taken = taken } ∷ [] ≡ belts_before gas input f.tx.put (suc k)
+  grown now k put taken was put_is same =
+      ap (λ (l : List CarriedModel). l ++ record { put = put; taken = taken } ∷ []) was
+      ∙ ap (λ (l : List RowModel). belts_before gas input f.tx.put k ++ record { put = l; taken = taken } ∷ []) put_is
+      ∙ ap (λ (l : List RowModel). belts_before gas input f.tx.put k ++ record { put = rows_on_belt gas input f.tx.put k; taken = l } ∷ []) (same ∙ put_is)
+      ∙ sym (on_more gas input f.tx.put k)
 
-    -- the belt before worker k has met, and the worker is over
-    pub met : (k : ℕ) (put taken next : List RowModel) (now : List CarriedModel) → HaveMetUpTo gas input b k put now → taken ≡ put → HasFinished gas (post_in input k) taken next →
-        HaveMetUpTo gas input b (suc k) next (now ++ record { put = put; taken = taken } ∷ [])
-    met k put taken next now reached same ran =
-        let is_on : taken ≡ rows_on_belt gas input b k = same ∙ reached.put_is in
-        record {
-          put_is =
-              ran.owes_is ∙ rw is_on refl
-              ∙ sym (on_next input.lattice.channel.height (owes_in gas input) (div_ceil input.plan.generations input.plan.stages) b k);
-          belts =
-              ap (λ (l : List CarriedModel). l ++ record { put = put; taken = taken } ∷ []) reached.belts
-              ∙ ap (λ (l : List RowModel). belts_before gas input b k ++ record { put = l; taken = taken } ∷ []) reached.put_is
-              ∙ ap (λ (l : List RowModel). belts_before gas input b k ++ record { put = rows_on_belt gas input b k; taken = l } ∷ []) is_on
-              ∙ sym (on_more gas input b k);
-        }
+  -- at the last belt
+  pub met_last : (s : Sender) (now : List CarriedModel) (taken : List RowModel) → HaveMet gas input f [] s now → taken ≡ s.put →
+      (s.put ≡ rows_on_belt gas input f.tx.put input.plan.threads) × (now ++ record { put = s.put; taken = taken } ∷ [] ≡ belts_before gas input f.tx.put (input.plan.threads + 1))
+  met_last s now taken met same =
+      let last : met.k ≡ input.plan.threads = omega (arith, met.count) in
+      let after : suc met.k ≡ input.plan.threads + 1 = omega (arith, last) in (
+        met.put_is ∙ ap (rows_on_belt gas input f.tx.put) last,
+        grown now met.k s.put taken met.belts met.put_is same ∙ ap (belts_before gas input f.tx.put) after,
+      )
 
-    -- so have the belts of a thread
-    pub met_within : (k n : ℕ) (bs : List InnerModel) (u : List RowModel) (now : List CarriedModel) → HaveMetUpTo gas input b k (put_first bs u) now →
-        All (λ (c : InnerModel). c.taken ≡ c.put) bs → AllHaveFinished gas (posts_in input k n) bs u → HaveMetUpTo gas input b (k + n) u (now ++ map carried_within bs)
-    met_within k zero [] u now reached same ran =
-        let e : k ≡ k + 0 = omega arith in
-        subst (λ (l : List CarriedModel). HaveMetUpTo gas input b (k + 0) u l) (sym (append-nil now)) (subst (λ (j : ℕ). HaveMetUpTo gas input b j u now) e reached)
-    met_within k (suc n) (c ∷ cs) u now reached same ran =
-        let e : suc k + n ≡ k + suc n = omega arith in
-        let one = met k c.put c.taken (put_first cs u) now reached (All-head (λ (d : InnerModel). d.taken ≡ d.put) c cs same) ran.0 in
-        let rest = met_within (suc k) n cs u (now ++ carried_within c ∷ []) one (All-tail (λ (d : InnerModel). d.taken ≡ d.put) c cs same) ran.1 in
-        subst (λ (l : List CarriedModel). HaveMetUpTo gas input b (k + suc n) u l) (append_assoc now (carried_within c ∷ []) (map carried_within cs))
-        (subst (λ (j : ℕ). HaveMetUpTo gas input b j u ((now ++ carried_within c ∷ []) ++ map carried_within cs)) e rest)
-    met_within k zero (c ∷ cs) u now reached same ran = absurd ran
-    met_within k (suc n) [] u now reached same ran = absurd ran
+  -- the belt before the worker of the next job has met, and the worker has ended
+  module _ (j : Job) (js : List Job) (s : Sender) (now : List CarriedModel) (met : HaveMet gas input f (j ∷ js) s now) (e : EndedModel) (ran : HasEnded gas j e) where
+    job : HasFinished gas (job_in input met.k s.belt j.to) e.rx.taken e.spent.put
+    job = subst (λ (i : Job). HasFinished gas i e.rx.taken e.spent.put) met.leads.0 ran.finished
 
--- the belts that have met number as many
-pub met_count : (gas : Rules) (input : RunInputModel) (b : List RowModel) (k : ℕ) (put : List RowModel) (now : List CarriedModel) → HaveMetUpTo gas input b k put now → length now ≡ k
-met_count gas input b k put now reached = ap length reached.belts ∙ length-map-range_with_len (λ i. carrying (rows_on_belt gas input b i)) 0 k
+    pub meets : length s.put ≡ length e.rx.taken
+    meets = met_long (j ∷ js) s now met ∙ sym job.whole
 
--- s put on the belt that is reached, the k-th, and the rest of the chains go on from there
-pub record Ahead (gas : Rules) (input : RunInputModel) (b : List RowModel) (end : Belt) (total : ℕ) (rest : List Handle) (now : List CarriedModel) (s : Sender) : Type 0 where
-  pub k : ℕ
-  pub reached : HaveMetUpTo gas input b k s.put now
-  pub linked : Linked gas input k s.belt (map job_of rest)
-  pub end_is : last_belt s.belt (map job_of rest) ≡ end
-  pub count : k + workers_in (map job_of rest) ≡ total
+    pub one_belt : s.belt ≡ e.rx.belt
+    one_belt = sym (ran.from ∙ ap (λ (i : Job). i.from) met.leads.0)
 
--- the next thread, h, is joined
-module _ (gas : Rules) (input : RunInputModel) (is : IsRunInput gas input) (b : List RowModel) (long : length b ≡ all_rows input) (end : Belt) (total : ℕ) (h : Handle) (hs all : List Handle) (now : List CarriedModel)
-    (s : Sender) (e : EndedModel) (first : all ≡ h ∷ hs) (was : Ahead gas input b end total all now s) (ran : EndsChain gas (job_of h) e) where
-  a : Ahead gas input b end total (h ∷ hs) now s
-  a = subst (λ (l : List Handle). Ahead gas input b end total l now s) first was
+    pub goes : (now2 : List CarriedModel) → e.rx.taken ≡ s.put → now2 ≡ now ++ record { put = s.put; taken = e.rx.taken } ∷ [] → HaveMet gas input f js e.spent now2
+    goes now2 same is = record {
+      is_input = met.is_input;
+      long = met.long;
+      k = suc met.k;
+      put_is =
+          job.owes_is ∙ rw (same ∙ met.put_is) refl
+          ∙ sym (on_next input.lattice.channel.height (owes_in gas input) (div_ceil input.plan.generations input.plan.stages) f.tx.put met.k);
+      belts = is ∙ grown now met.k s.put e.rx.taken met.belts met.put_is same;
+      leads = subst (λ (c : Belt). Linked input (suc met.k) c js) (sym ran.to) met.leads.1;
+      count = omega (arith, met.count);
+      end_is = ap (λ (c : Belt). last_belt c js) ran.to ∙ met.end_is;
+    }
 
-  head : HasFinished gas (post_in input a.k) e.rx.taken (put_first e.belts e.spent.put)
-  head =
-      let c = a.linked.0 in
-      subst (λ (p : PostModel). HasFinished gas p e.rx.taken (put_first e.belts e.spent.put)) (ap (first_post (post_of c.h)) c.posts) (ran.head c.h c.head)
+-- the line stays linked while the own members have their turns
+pub linked_still : (input : RunInputModel) (own own2 : OwnModel) (others : List Job) → IsLinked input own others → SameOwn own own2 → IsLinked input own2 others
+linked_still input own own2 others line same = record {
+  stages = line.stages;
+  leads =
+      subst (λ (l : List Job). Linked input 0 own2.feeder.tx.belt (l ++ others)) (sym same.jobs)
+      (subst (λ (b : Belt). Linked input 0 b (own_jobs own ++ others)) (sym same.feeder.tx) line.leads);
+  count = ap (λ (l : List Job). length (l ++ others)) same.jobs ∙ line.count;
+  end =
+      ap (λ (l : List Job). last_belt own2.feeder.tx.belt (l ++ others)) same.jobs
+      ∙ ap (λ (b : Belt). last_belt b (own_jobs own ++ others)) same.feeder.tx ∙ line.end ∙ sym same.feeder.rx;
+}
 
-  hands : AllHaveFinished gas (posts_in input (suc a.k) (length (job_of h).hands)) e.belts e.spent.put
-  hands = subst (λ (l : List PostModel). AllHaveFinished gas l e.belts e.spent.put) (ap other_posts a.linked.0.posts) ran.hands
+-- the feeder and the own worker are over, and s is the closed end of belt 0
+pub met_first : (gas : Rules) (input : RunInputModel) (all own : OwnModel) (f : LineFeederModel) (others : List Job) (s : Sender) (now : List CarriedModel) → own ≡ all → f ≡ own.feeder → IsLinked input all others →
+    OwnHasCome gas input all → IsOver gas all → s ≡ record f.tx { spare = None } → now ≡ [] → HaveMet gas input own.feeder (own_jobs own ++ others) s now
+met_first gas input all own f others s now own_is f_is linked has_come is_over closed none = record {
+  is_input = come.feeder.is_input;
+  long = long input own.feeder.feeder own.feeder.tx.put own.feeder.rx.taken come.feeder.channel over.feeder come.feeder.fed;
+  k = 0;
+  put_is = put ∙ sym (on_first input.lattice.channel.height (owes_in gas input) (div_ceil input.plan.generations input.plan.stages) own.feeder.tx.put);
+  belts = none;
+  leads = subst (λ (c : Belt). Linked input 0 c (own_jobs own ++ others)) (sym belt) line.leads;
+  count = omega (arith, line.count);
+  end_is = ap (λ (c : Belt). last_belt c (own_jobs own ++ others)) belt ∙ line.end;
+}
+  where
+    line : IsLinked input own others
+    line = subst (λ (o : OwnModel). IsLinked input o others) (sym own_is) linked
 
-  pub meets_all : length s.put ≡ length e.rx.taken
-  meets_all = ap length a.reached.put_is ∙ on_long gas input is b long a.k ∙ sym head.whole
+    come : OwnHasCome gas input own
+    come = subst (λ (o : OwnModel). OwnHasCome gas input o) (sym own_is) has_come
 
-  pub meets_within : All (λ (c : InnerModel). length c.put ≡ length c.taken) e.belts
-  meets_within = evens gas input is (suc a.k) (length (job_of h).hands) e.belts e.spent.put (put_long gas input is a.k e.rx.taken (put_first e.belts e.spent.put) head) hands
+    over : IsOver gas own
+    over = subst (λ (o : OwnModel). IsOver gas o) (sym own_is) is_over
 
-  pub goes : (between : CarriedModel) (now2 : List CarriedModel) → e.rx.taken ≡ s.put → between ≡ record { put = s.put; taken = e.rx.taken } →
-      All (λ (c : InnerModel). c.taken ≡ c.put) e.belts → now2 ≡ (now ++ between ∷ []) ++ map carried_within e.belts → Ahead gas input b end total hs now2 e.spent
-  goes between now2 same is_between equal grown =
-      let one = met gas input is b long a.k s.put e.rx.taken (put_first e.belts e.spent.put) now a.reached same head in
-      let all = met_within gas input is b long (suc a.k) (length (job_of h).hands) e.belts e.spent.put (now ++ record { put = s.put; taken = e.rx.taken } ∷ []) one equal hands in
-      record {
-        k = suc a.k + length (job_of h).hands;
-        reached = subst (λ (l : List CarriedModel). HaveMetUpTo gas input b (suc a.k + length (job_of h).hands) e.spent.put l)
-            (sym (grown ∙ ap (λ (c : CarriedModel). (now ++ c ∷ []) ++ map carried_within e.belts) is_between)) all;
-        linked = subst (λ (c : Belt). Linked gas input (suc a.k + length (job_of h).hands) c (map job_of hs)) (sym ran.tx) a.linked.1;
-        end_is = ap (λ (c : Belt). last_belt c (map job_of hs)) ran.tx ∙ a.end_is;
-        count = omega (arith, a.count);
-      }
+    belt : s.belt ≡ own.feeder.tx.belt
+    belt = ap (λ (t : Sender). t.belt) closed ∙ ap (λ (l : LineFeederModel). l.tx.belt) f_is
+
+    put : s.put ≡ own.feeder.tx.put
+    put = ap (λ (t : Sender). t.put) closed ∙ ap (λ (l : LineFeederModel). l.tx.put) f_is

@@ -24,10 +24,9 @@ use Rattle.gas_pipe_model.proofs.Wide.{after_is_lattice}
 use Rattle.gas_pipe_members.specs.Feeder.{FeederModel, MayHaveFed}
 use Rattle.gas_pipe_members.specs.Inner.Queue.{emptied}
 use Rattle.gas_pipe.specs.Run.{RunModel}
-use Rattle.gas_pipe.specs.Inner.Links.{carrying, rows_on_belt, belts_before, IsRunOf, HaveMetUpTo}
+use Rattle.gas_pipe.specs.Inner.Links.{carrying, rows_on_belt, belts_before, IsRunOf}
 use Rattle.gas_pipe_members.proofs.Emptied.{take-emptied, emptied_joined}
 use Rattle.gas_pipe_members.proofs.Feeds.{fed_gave, fed_given, fed_taken, fed_holds}
-use Rattle.gas_pipe.proofs.Meetings.{on_more, on_long}
 
 -- what was put on belts that carried these rows, and what was taken from them
 pub all_put : (rows : List (List RowModel)) → map (λ (b : CarriedModel). b.put) (map carrying rows) ≡ rows
@@ -42,11 +41,11 @@ last_of [] last = refl
 last_of (x ∷ xs) last = last_of xs last
 
 -- a run with a generation to compute makes a belt more than it has workers
-pub belts_made_are : (gas : Rules) (input : RunInputModel) → 0 < input.plan.generations → length (map carrying (carried_by_belts gas input)) ≡ input.plan.stages + 1
+pub belts_made_are : (gas : Rules) (input : RunInputModel) → 0 < input.plan.generations → length (map carrying (carried_by_belts gas input)) ≡ input.plan.threads + 1
 belts_made_are gas input more =
     length-map (carried_by_belts gas input) carrying
     ∙ rw (ne_eqb input.plan.generations 0 (λ none. absurd (omega (arith, none, more))))
-    (length-map-range_with_len (carried_on gas input (div_ceil input.plan.generations input.plan.stages)) 0 (input.plan.stages + 1))
+    (length-map-range_with_len (carried_on gas input (div_ceil input.plan.generations input.plan.stages)) 0 (input.plan.threads + 1))
 
 -- what the belts of a run carry: the rows that come back on the last, except in the last pass, are the rows of the later passes on the
 -- first
@@ -54,15 +53,15 @@ module _ (gas : Rules) (input : RunInputModel) (is : IsRunInput gas input) (some
   abbrev passes_made : ℕ
   passes_made = div_ceil input.plan.generations input.plan.stages
 
-  carried_at : (k : ℕ) → k ≤ input.plan.stages → get_or (carried_by_belts gas input) k [] ≡ carried_on gas input passes_made k
+  carried_at : (k : ℕ) → k ≤ input.plan.threads → get_or (carried_by_belts gas input) k [] ≡ carried_on gas input passes_made k
   carried_at k le =
       rw (ne_eqb input.plan.generations 0 (λ none. absurd (omega (arith, none, more))))
-      (get_or-map-range_with_len (carried_on gas input passes_made) 0 (input.plan.stages + 1) k k [] (omega (arith, le)) (omega arith))
+      (get_or-map-range_with_len (carried_on gas input passes_made) 0 (input.plan.threads + 1) k k [] (omega (arith, le)) (omega arith))
 
-  round_of : (n : ℕ) → 0 < n → take ((n - 1) * input.lattice.channel.height) (carried_on gas input n input.plan.stages) ≡ drop input.lattice.channel.height (carried_on gas input n 0)
+  round_of : (n : ℕ) → 0 < n → take ((n - 1) * input.lattice.channel.height) (carried_on gas input n input.plan.threads) ≡ drop input.lattice.channel.height (carried_on gas input n 0)
   round_of n h =
       let e : n ≡ n - 1 + 1 = omega (arith, h) in
-      ap (λ (m : ℕ). take ((n - 1) * input.lattice.channel.height) (carried_on gas input m input.plan.stages)) e
+      ap (λ (m : ℕ). take ((n - 1) * input.lattice.channel.height) (carried_on gas input m input.plan.threads)) e
       ∙ round gas input is (n - 1)
       ∙ ap (λ (m : ℕ). drop input.lattice.channel.height (carried_on gas input m 0)) (sym e)
 
@@ -73,14 +72,14 @@ module _ (gas : Rules) (input : RunInputModel) (is : IsRunInput gas input) (some
       ∙ ap (λ (l : List (List RowModel)). get_or l 0 []) (all_put (carried_by_belts gas input))
       ∙ carried_at 0 (omega arith)
 
-  last_is : (xs : List CarriedModel) (last : CarriedModel) → xs ++ last ∷ [] ≡ map carrying (carried_by_belts gas input) → last.taken ≡ carried_on gas input passes_made input.plan.stages
+  last_is : (xs : List CarriedModel) (last : CarriedModel) → xs ++ last ∷ [] ≡ map carrying (carried_by_belts gas input) → last.taken ≡ carried_on gas input passes_made input.plan.threads
   last_is xs last is =
-      let long : length xs ≡ input.plan.stages = omega (arith, ap length is, length-append xs (last ∷ []), belts_made_are gas input more) in
+      let long : length xs ≡ input.plan.threads = omega (arith, ap length is, length-append xs (last ∷ []), belts_made_are gas input more) in
       sym (last_of xs last)
       ∙ ap (λ (l : List CarriedModel). get_or (map (λ (b : CarriedModel). b.taken) l) (length xs) []) is
       ∙ ap (λ (l : List (List RowModel)). get_or l (length xs) []) (all_taken (carried_by_belts gas input))
       ∙ ap (λ (k : ℕ). get_or (carried_by_belts gas input) k []) long
-      ∙ carried_at input.plan.stages (omega arith)
+      ∙ carried_at input.plan.threads (omega arith)
 
   pub rows_return : (r : RunModel) → IsRunOf gas input r → (first last : CarriedModel) (between : List CarriedModel) → r.belts ≡ first ∷ (between ++ last ∷ []) →
       take ((r.passes - 1) * input.lattice.channel.height) last.taken ≡ drop input.lattice.channel.height first.put
@@ -90,24 +89,6 @@ module _ (gas : Rules) (input : RunInputModel) (is : IsRunInput gas input) (some
       ∙ ap (take ((passes_made - 1) * input.lattice.channel.height)) (last_is (first ∷ between) last belts)
       ∙ round_of passes_made (some_passes input.plan.generations input.plan.stages some more)
       ∙ ap (drop input.lattice.channel.height) (sym (first_is first (between ++ last ∷ []) belts))
-
--- the last belt, whose ends meet when all workers are over
-module _ (gas : Rules) (input : RunInputModel) (is : IsRunInput gas input) (b : List RowModel) (k : ℕ) (put : List RowModel) (now : List CarriedModel)
-    (reached : HaveMetUpTo gas input b k put now) (last : k ≡ input.plan.stages) where
-  pub last_on : put ≡ rows_on_belt gas input b input.plan.stages
-  last_on = reached.put_is ∙ ap (rows_on_belt gas input b) last
-
-  pub last_whole : length b ≡ div_ceil input.plan.generations input.plan.stages * input.lattice.channel.height →
-      length put ≡ div_ceil input.plan.generations input.plan.stages * input.lattice.channel.height
-  last_whole long = ap length reached.put_is ∙ on_long gas input is b long k
-
-  pub all_belts : (now2 : List CarriedModel) → now2 ≡ now ++ carrying put ∷ [] → now2 ≡ belts_before gas input b (input.plan.stages + 1)
-  all_belts now2 grown =
-      grown
-      ∙ ap (λ (l : List CarriedModel). l ++ carrying put ∷ []) reached.belts
-      ∙ ap (λ (rows : List RowModel). belts_before gas input b k ++ carrying rows ∷ []) reached.put_is
-      ∙ sym (on_more gas input b k)
-      ∙ ap (belts_before gas input b) (let e : suc k ≡ input.plan.stages + 1 = omega (arith, last) in e)
 
 -- a lattice whose rows a feeder has
 pub is_lattice : (gas : Rules) (l : LatticeModel) (f : FeederModel) → f.channel ≡ l.channel → f.rows ≡ l.rows → IsLattice gas f.channel f.rows → IsLattice gas l.channel l.rows
@@ -135,18 +116,18 @@ module _ (gas : Rules) (laws : IsGas gas) (input : RunInputModel) (is : IsRunInp
   passes = div_ceil input.plan.generations input.plan.stages
 
   abbrev last_rows : ℕ → List RowModel
-  last_rows = λ i. rows_on gas input i input.plan.stages
+  last_rows = λ i. rows_on gas input i input.plan.threads
 
-  circle_of_workers : IsCircle high input.plan.stages (owes_in gas input) (emptied input.lattice.channel) (rows_on gas input)
+  circle_of_workers : IsCircle high input.plan.threads (owes_in gas input) (emptied input.lattice.channel) (rows_on gas input)
   circle_of_workers =
       let plain = is_circle gas input is (λ q. q) (λ m q. refl) (λ n. refl) in
       is_circle gas input is (emptied input.lattice.channel) (take-emptied input.lattice.channel)
-      (λ n. emptied_joined gas input.lattice.channel last_rows (λ i. after_is_lattice gas input laws is i input.plan.stages) n
-      (joined_high high input.plan.stages (owes_in gas input) (λ q. q) (rows_on gas input) plain input.plan.stages n))
+      (λ n. emptied_joined gas input.lattice.channel last_rows (λ i. after_is_lattice gas input laws is i input.plan.threads) n
+      (joined_high high input.plan.threads (owes_in gas input) (λ q. q) (rows_on gas input) plain input.plan.threads n))
 
   -- the feeder put b on belt 0, and took what is then on the last belt
   module _ (f : FeederModel) (b took : List RowModel) (channel : f.channel ≡ input.lattice.channel) (over : f.to_take ≡ 0) (some : 0 < input.plan.stages) (more : 0 < input.plan.generations)
-      (fed : MayHaveFed f passes input.lattice.rows b took) (back : took ≡ rows_on_belt gas input b input.plan.stages) where
+      (fed : MayHaveFed f passes input.lattice.rows b took) (back : took ≡ rows_on_belt gas input b input.plan.threads) where
     height : f.channel.height ≡ high
     height = ap (λ (c : ChannelModel). c.height) channel
 
@@ -154,29 +135,29 @@ module _ (gas : Rules) (laws : IsGas gas) (input : RunInputModel) (is : IsRunInp
     all_put_on = long input f b took channel over fed
 
     first : input.lattice.rows ≡ rows_on gas input 0 0
-    first = sym (begins_first gas input)
+    first = sym (begins_first gas input is.workers)
 
-    came : input.lattice.rows ++ emptied f.channel took ≡ rows_on gas input 0 0 ++ emptied input.lattice.channel (rows_on_belt gas input b input.plan.stages)
+    came : input.lattice.rows ++ emptied f.channel took ≡ rows_on gas input 0 0 ++ emptied input.lattice.channel (rows_on_belt gas input b input.plan.threads)
     came =
         ap (λ (l : List RowModel). l ++ emptied f.channel took) first
         ∙ ap (λ (c : ChannelModel). rows_on gas input 0 0 ++ emptied c took) channel
         ∙ ap (λ (l : List RowModel). rows_on gas input 0 0 ++ emptied input.lattice.channel l) back
 
-    put_round : b ≡ take (passes * high) (rows_on gas input 0 0 ++ emptied input.lattice.channel (rows_on_belt gas input b input.plan.stages))
+    put_round : b ≡ take (passes * high) (rows_on gas input 0 0 ++ emptied input.lattice.channel (rows_on_belt gas input b input.plan.threads))
     put_round =
         fed_gave f passes input.lattice.rows b took fed over
         ∙ ap (λ (h : ℕ). take (passes * h) (input.lattice.rows ++ emptied f.channel took)) height
         ∙ ap (take (passes * high)) came
 
     carries : (k : ℕ) → rows_on_belt gas input b k ≡ joined (λ i. rows_on gas input i k) passes
-    carries k = circle_law high input.plan.stages (owes_in gas input) (emptied input.lattice.channel) (rows_on gas input) circle_of_workers passes b all_put_on put_round k
+    carries k = circle_law high input.plan.threads (owes_in gas input) (emptied input.lattice.channel) (rows_on gas input) circle_of_workers passes b all_put_on put_round k
 
     -- each belt has carried the rows of all passes
-    pub belts_are : belts_before gas input b (input.plan.stages + 1) ≡ map carrying (carried_by_belts gas input)
+    pub belts_are : belts_before gas input b (input.plan.threads + 1) ≡ map carrying (carried_by_belts gas input)
     belts_are =
-        row_of-same (carrying []) (input.plan.stages + 1) (λ k. carrying (rows_on_belt gas input b k)) (λ k. carrying (carried_on gas input passes k))
+        row_of-same (carrying []) (input.plan.threads + 1) (λ k. carrying (rows_on_belt gas input b k)) (λ k. carrying (carried_on gas input passes k))
         (λ k _. ap carrying (carries k ∙ joined_is (λ i. rows_on gas input i k) passes))
-        ∙ sym (map-map carrying (carried_on gas input passes) (range_with_len 0 (input.plan.stages + 1)))
+        ∙ sym (map-map carrying (carried_on gas input passes) (range_with_len 0 (input.plan.threads + 1)))
         ∙ ap (map carrying) (sym (rw (ne_eqb input.plan.generations 0 (λ none. absurd (omega (arith, none, more)))) refl))
 
     abbrev before : ℕ
@@ -194,10 +175,10 @@ module _ (gas : Rules) (laws : IsGas gas) (input : RunInputModel) (is : IsRunInp
         fed_holds f passes input.lattice.rows b took fed over
         ∙ ap (λ (h : ℕ). drop (passes * h) (input.lattice.rows ++ emptied f.channel took)) height
         ∙ ap (drop (passes * high)) came
-        ∙ ap (λ (l : List RowModel). drop (passes * high) (rows_on gas input 0 0 ++ emptied input.lattice.channel l)) (carries input.plan.stages)
+        ∙ ap (λ (l : List RowModel). drop (passes * high) (rows_on gas input 0 0 ++ emptied input.lattice.channel l)) (carries input.plan.threads)
         ∙ ap (λ (l : List RowModel). drop (passes * high) (rows_on gas input 0 0 ++ l)) (circle_of_workers.kept passes)
         ∙ ap (λ (n : ℕ). drop (n * high) (rows_on gas input 0 0 ++ joined last_rows n)) one_more
-        ∙ left_over high input.plan.stages (owes_in gas input) (emptied input.lattice.channel) (rows_on gas input) circle_of_workers before
+        ∙ left_over high input.plan.threads (owes_in gas input) (emptied input.lattice.channel) (rows_on gas input) circle_of_workers before
         ∙ ends_last gas input before enough
       where
         enough : input.plan.generations ≤ (before + 1) * input.plan.stages

@@ -24,6 +24,7 @@ impl<G: Gas> Model for Run<G> {
     ghost view = { λ r. record {
       lattice = r.lattice;
       stages = r.plan.stages;
+      threads = r.plan.threads;
       passes = div_ceil r.plan.generations r.plan.stages;
       belts = r.belts.items;
     } };
@@ -44,6 +45,13 @@ impl<G: Gas> Run<G> {
         self.plan.passes()
     }
 
+    /// The number of threads that had stages: as many as workers.
+    pub fn threads(&self) -> u32
+        ensures value { result ≡ self.now.threads }
+    {
+        self.plan.threads()
+    }
+
     /// What each belt carried in all passes, one after another: from the belt that the feeder puts
     /// on to the belt that it takes from. There is none if no generation was to be computed.
     pub fn belts(&self) -> &[Carried<G>]
@@ -62,11 +70,11 @@ impl<G: Gas> Run<G> {
     /// The number of rows that went through a belt in a pass, both counted from 0: the height of
     /// the lattice. None if there was no such pass or no such belt.
     pub fn rows_through(&self, pass: u64, belt: u32) -> Option<u32>
-        ensures some { IfSome result (λ rows. (pass < self.now.passes) × (belt ≤ self.now.stages)
+        ensures some { IfSome result (λ rows. (pass < self.now.passes) × (belt ≤ self.now.threads)
             × (rows ≡ self.now.lattice.channel.height)) }
-        ensures none { IfNone result ((pass < self.now.passes) × (belt ≤ self.now.stages) → ⊥) }
+        ensures none { IfNone result ((pass < self.now.passes) × (belt ≤ self.now.threads) → ⊥) }
     {
-        let is_there = pass < self.passes() && belt <= self.plan.stages();
+        let is_there = pass < self.passes() && belt <= self.plan.threads();
         is_there.then_some(self.lattice.channel().size().height())
     }
 }

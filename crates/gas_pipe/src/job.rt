@@ -3,11 +3,6 @@ ghost use Rattle.std.specs.Prelude.{◌≡◌, IfSome};
 
 use crate::Gate;
 use crate::wake_ups::WakeUps;
-use gas_belt::inner_belt::InnerBelt;
-use gas_belt::rx::Rx;
-use gas_belt::tx::Spent;
-use gas_geom::gas::Gas;
-use std::marker::Model;
 use std::snapshot::Snapshot;
 use std::sync::Wait;
 use std::thread::{Promise, PromisedHandle, Scope};
@@ -69,21 +64,4 @@ pub(crate) fn start_job<
         { job.make(shared) },
     );
     started.ok()
-}
-
-/// What the members of a thread worked between, once they are over: the end that the first took
-/// from, the belts within, and the closed end that the last put on.
-#[derive(Drop)]
-pub struct Ended<G: Gas> {
-    pub rx: Rx<G>,
-    pub belts: Vec<InnerBelt<G>>,
-    pub spent: Spent<G>,
-}
-
-impl<G: Gas> Model for Ended<G> {
-    ghost use Rattle.gas_pipe.specs.Inner.Chain.{EndedModel};
-
-    ghost Value = { EndedModel };
-
-    ghost view = { λ e. record { rx = e.rx; belts = e.belts.items; spent = e.spent } };
 }

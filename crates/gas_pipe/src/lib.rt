@@ -1,9 +1,9 @@
 //! The line of workers, for other programs: plans, runs by threads, a pass turn by turn, and the
 //! members of the line over any ends of belts.
 //!
-//! Each worker of a run computes one generation from another, and rows go from worker to worker over
-//! belts. Each has a thread of its own, or consecutive workers share one. What a run gives depends
-//! neither on the number of workers or threads nor on the room on a belt.
+//! Each stage of a run computes one generation from another. A worker has one stage or several, one
+//! behind another, and a thread. Rows go from worker to worker over belts. What a run gives depends
+//! neither on the number of stages or threads nor on the room on a belt.
 //!
 //! Runs are defined here. The other items are named here, and promise what the contracts in their
 //! own crates say. The functions of `pass` do nothing: their contracts are the laws of a pass, for
@@ -12,12 +12,13 @@
 #![tactic(auto)]
 
 pub mod backoff;
-mod chain;
-mod ends;
 mod finished;
-mod hand;
 mod job;
 mod line;
+mod line_worker;
+mod own;
+mod share;
+mod stock;
 mod waiter;
 pub mod wake_ups;
 
@@ -46,15 +47,15 @@ use std::alloc::Global;
 use std::sync::Wait;
 use std::thread::Threads;
 
-/// A gate that each worker enters and leaves. It may wait. With fewer threads than workers, a gate in
-/// which one worker waits for another of its thread, or for one that wants a row of its thread, waits
-/// for ever.
+/// A gate that each stage enters and leaves. It may wait. With fewer threads than stages, a gate in
+/// which one stage waits for another of its thread, or for one that wants a row of its thread, waits for
+/// ever.
 pub trait Gate {
-    /// Called for worker `who`, counted from 1, on its thread, once before its first turn of each
-    /// pass.
+    /// Called for stage `who`, counted from 1, on the thread of its worker, once before the worker's
+    /// first turn of each pass.
     fn enter(&self, who: u32);
 
-    /// Called for worker `who` once, among the last acts of its thread, even if it stops early.
+    /// Called for stage `who` once, among the last acts of its thread, even if it stops early.
     fn leave(&self, who: u32);
 }
 
@@ -69,13 +70,14 @@ impl Gate for NoGate {
 }
 
 /// Advances a lattice of generation `first` by the generations of a plan. It blocks until all passes
-/// are over. It makes the belts, starts a thread for each worker, makes the feeder's turns on the
-/// caller's thread, and joins all threads. With fewer threads than workers, the workers are shared out
-/// evenly in their order, and the feeder and the first of them are on the caller's thread. Each
-/// worker enters the gate before each of its passes, and leaves it at the end of its thread. The rows
-/// of a pass follow the rows of the pass before on the same belts. Each belt carries one list of rows: all that was put on it and all that was taken
-/// from it. No memory is taken between the last start of a thread and the first join. `Memory` if a
-/// request for memory, or the start of a thread, was refused.
+/// are over. It makes a worker for each of the plan's threads and the belts between them, starts the
+/// threads, makes the feeder's turns on the caller's thread, and joins all threads. The stages are shared
+/// out evenly to the workers, in their order. With fewer threads than stages the first worker is on the
+/// caller's thread too. Each stage enters the gate before each of its passes, and leaves it at the end of
+/// its thread. The rows of a pass follow the rows of the pass before on the same belts. Each belt carries
+/// one list of rows: all that was put on it and all that was taken from it. No memory is taken between
+/// the last start of a thread and the first join. `Memory` if a request for memory, or the start of a
+/// thread, was refused.
 pub fn run<G: Gas + Send, H: Gate + Sync, R: Threads + Wait + Sync>(
     rt: &R,
     alloc: Global,
@@ -95,7 +97,9 @@ pub fn run<G: Gas + Send, H: Gate + Sync, R: Threads + Wait + Sync>(
         r.belts ≡ first_belt ∷ (between ++ last_belt ∷ []) →
         take ((r.passes - 1) * lattice.now.channel.height) last_belt.taken
         ≡ drop lattice.now.channel.height first_belt.put) }
-    ensures belts_made { 0 < plan.generations → IfOk result (λ r. length r.belts ≡ r.stages + 1) }
+    ensures belts_made { 0 < plan.generations → IfOk result (λ r. length r.belts ≡ r.threads + 1) }
+    ensures a_thread_each { plan.threads ≡ plan.stages → IfOk result (λ r. r.threads ≡ r.stages) }
+    ensures threads { IfOk result (λ r. r.threads ≡ plan.threads) }
     ensures lattice { IfOk result (λ r.
         r.lattice ≡ lattice_after G.rules chirality first lattice.now plan.generations) }
     ensures number { IfOk result (λ _. (n : ℕ) → n ≤ plan.generations →

@@ -1,23 +1,21 @@
 //! The line of workers of a run: how it is made, started, run to its end and joined.
-ghost use Rattle.std.specs.Prelude.{◌≡◌, ◌<◌, ◌≤◌, ◌+◌, ◌*◌, ◌++◌, [], length, map, All, IfOk, IfSome, IsTrue};
-ghost use Rattle.std.specs.Int.{div_ceil};
-ghost use Rattle.gas_belt.specs.Belt.{carried_within};
-ghost use Rattle.gas_pipe_model.specs.Pass.{IsRunInput};
-ghost use Rattle.gas_pipe.specs.Inner.Hand.{post_of, HasCome};
-ghost use Rattle.gas_pipe.specs.Inner.Fed.{MayHaveFedInput};
-ghost use Rattle.gas_pipe.specs.Inner.Chain.{IsOver};
-ghost use Rattle.gas_pipe.specs.Inner.Shares.{shares_before};
-ghost use Rattle.gas_pipe.specs.Inner.Links.{IsBeltOf, IsUnused, posts_in, IsChainOf, OwnsFeeder, IsLinked, Linked, AllRunning, HaveMetUpTo, IsRunOf, job_of, last_belt, workers_in, first_put};
+ghost use Rattle.std.specs.Prelude.{◌≡◌, ◌<◌, ◌≤◌, ◌+◌, ◌++◌, ◌∷◌, List, [], length, map, vec_len, vec_capacity, IfOk, IfSome};
+ghost use Rattle.std.specs.Option.{option_to_list};
+ghost use Rattle.gas_pipe_model.specs.Pass.{RunInputModel};
+ghost use Rattle.gas_pipe.specs.Inner.Worker.{Job, job_of, job_in, HasCome, HasFinished, HasEnded};
+ghost use Rattle.gas_pipe.specs.Inner.Feeder.{LineFeederModel, MayHaveFedInput};
+ghost use Rattle.gas_pipe.specs.Inner.Own.{OwnHasCome, IsOver};
+ghost use Rattle.gas_pipe.specs.Inner.Links.{AllHaveCome, IsLinked, worker_of, jobs_of, HaveMet, IsRunOf};
 
 use crate::Gate;
-use crate::chain::{Chain, Head};
 use crate::finished::Run;
-use crate::hand::Hand;
-use crate::job::{Ended, JobPromise, Shared, start_job};
+use crate::job::{JobPromise, Shared, start_job};
+use crate::line_worker::{Ended, LineWorker};
+use crate::own::{LineFeeder, Own};
+use crate::share::{Share, has_own_worker};
 use crate::wake_ups::WakeUps;
 use gas_belt::belt;
-use gas_belt::carried::{Carried, meet, meet_within};
-use gas_belt::inner_belt::InnerBelt;
+use gas_belt::carried::{Carried, meet};
 use gas_belt::rx::Rx;
 use gas_belt::tx::{Spent, Tx};
 use gas_geom::gas::Gas;
@@ -28,39 +26,11 @@ use std::sync::Wait;
 use std::thread;
 use std::thread::{PromisedHandle, Scope, Threads};
 
-// The most rows on a belt within a thread: as many as the turns of a visit put.
-const MOST_WITHIN: u32 = 16;
-
-// The first thread beside the caller's that gets workers: the caller's gets none if there is one for
-// each of them.
-fn first_share(plan: Plan) -> u32
-    ensures few { result ≤ 1 }
-    ensures shared { result ≡ 1 → plan.threads < plan.stages }
-    ensures below { result ≤ plan.threads }
-{
-    if plan.threads() == plan.stages() {
-        0
-    } else {
-        1
-    }
-}
-
-// The number of workers of the k-th of the threads that share them.
-fn share(plan: Plan, k: u32) -> u32
-    requires { k < plan.threads }
-    ensures some { 1 ≤ result }
-    ensures few { shares_before plan k + result ≤ 64 }
-    ensures next { shares_before plan k + result ≡ shares_before plan (k + 1) }
-{
-    let more = plan.stages() % plan.threads();
-    let gets_one_more = k + more >= plan.threads();
-    plan.stages() / plan.threads() + u32::from(gets_one_more)
-}
-
 // A belt for rows of the input's lattice.
 fn make_belt<G: Gas>(alloc: Global, input: &RunInput<'_, G>) -> Result<(Tx<G>, Rx<G>), AllocError>
     ensures one_belt { IfOk result (λ r. r.0.belt ≡ r.1.belt) }
-    ensures belt { IfOk result (λ r. IsBeltOf input.now r.0.belt) }
+    ensures wide { IfOk result (λ r. r.1.belt.width ≡ input.now.lattice.channel.width) }
+    ensures capacity { IfOk result (λ r. r.1.belt.capacity ≡ input.now.plan.capacity) }
     ensures nothing_put { IfOk result (λ r. r.0.put ≡ []) }
     ensures nothing_taken { IfOk result (λ r. r.1.taken ≡ []) }
     ensures two_spares { IfOk result (λ r. r.1.held ≡ 2) }
@@ -69,139 +39,83 @@ fn make_belt<G: Gas>(alloc: Global, input: &RunInput<'_, G>) -> Result<(Tx<G>, R
     belt(alloc, input.span.plan.capacity(), width)
 }
 
-// The workers that take from the belts from the k-th on, n of them.
-fn make_hands<'e, G: Gas>(
+// The worker of that number, which takes from an end, and the end of the belt behind it.
+fn make_worker<'e, G: Gas>(
     alloc: Global,
     input: &RunInput<'e, G>,
-    k: u32,
-    n: u32,
-) -> Result<Vec<Hand<'e, G>>, AllocError>
-    requires within { k + n ≤ input.now.plan.stages }
-    requires few { k + n ≤ 64 }
-    requires some { 0 < input.now.plan.generations }
-    ensures posts { IfOk result (λ hands. map post_of hands.items ≡ posts_in input.now k n) }
-    ensures come { IfOk result (λ hands. All (λ h. HasCome G.rules h [] []) hands.items) }
-{
-    let mut hands = Vec::with_capacity(alloc, n as usize)?;
-    for i in 0..n {
-        hands.push(Hand::new(alloc, input, k + i)?)?;
-    }
-    Ok(hands)
-}
-
-// Belts within a thread, n of them.
-fn make_inner_belts<G: Gas>(
-    alloc: Global,
-    input: &RunInput<'_, G>,
-    n: u32,
-) -> Result<Vec<InnerBelt<G>>, AllocError>
-    ensures unused { IfOk result (λ belts. All (IsUnused input.now) belts.items) }
-    ensures count { IfOk result (λ belts. length belts.items ≡ n) }
-{
-    let width = input.lattice.channel().size().width();
-    let capacity = input.span.plan.capacity().min(MOST_WITHIN);
-    let mut belts = Vec::with_capacity(alloc, n as usize)?;
-    for k in 0..n {
-        belts.push(InnerBelt::new(alloc, capacity, width)?)?;
-    }
-    Ok(belts)
-}
-
-// The chain of the workers that take from the belts from the k-th on, n of them, and the end of the
-// belt behind it.
-fn make_chain<'e, G: Gas>(
-    alloc: Global,
-    input: &RunInput<'e, G>,
-    thread: u32,
-    k: u32,
-    n: u32,
+    number: u32,
     rx: Rx<G>,
-) -> Result<(Chain<'e, G>, Rx<G>), AllocError>
-    requires one { 1 ≤ n }
-    requires within { k + n ≤ input.now.plan.stages }
-    requires few { k + n ≤ 64 }
+) -> Result<(LineWorker<'e, G>, Rx<G>), AllocError>
+    requires one_of { number < input.now.plan.threads }
     requires some { 0 < input.now.plan.generations }
+    requires wide { rx.belt.width ≡ input.now.lattice.channel.width }
     requires nothing_taken { rx.taken ≡ [] }
     requires two_spares { rx.held ≡ 2 }
-    requires belt { IsBeltOf input.now rx.belt }
-    ensures chain { IfOk result (λ r. IsChainOf G.rules input.now k rx.belt r.0) }
-    ensures count { IfOk result (λ r. length r.0.hands + 1 ≡ n) }
-    ensures next { IfOk result (λ r. r.0.tx.belt ≡ r.1.belt) }
+    ensures job { IfOk result (λ r. job_of r.0 ≡ job_in input.now number rx.belt r.1.belt) }
+    ensures come { IfOk result (λ r. HasCome G.rules r.0) }
+    ensures wide { IfOk result (λ r. r.1.belt.width ≡ input.now.lattice.channel.width) }
     ensures nothing_taken { IfOk result (λ r. r.1.taken ≡ []) }
     ensures two_spares { IfOk result (λ r. r.1.held ≡ 2) }
-    ensures belt { IfOk result (λ r. IsBeltOf input.now r.1.belt) }
 {
     let (tx, next) = make_belt(alloc, input)?;
-    let chain = Chain {
-        thread,
-        head: Head::Worker(Hand::new(alloc, input, k)?),
-        hands: make_hands(alloc, input, k + 1, n - 1)?,
-        belts: make_inner_belts(alloc, input, n - 1)?,
-        rx,
-        tx,
-    };
-    Ok((chain, next))
+    let worker = LineWorker::new(alloc, input, Share::of(input.span.plan, number), rx, tx)?;
+    Ok((worker, next))
 }
 
-// The chain of the caller's thread: the feeder, and the first n workers.
-fn make_own_chain<'e, G: Gas>(
-    alloc: Global,
-    input: &RunInput<'e, G>,
-    feeder: Feeder<G>,
-    n: u32,
-    rx: Rx<G>,
-    tx: Tx<G>,
-) -> Result<Chain<'e, G>, AllocError>
-    requires begun { MayHaveFedInput G.rules input.now feeder [] [] }
-    requires within { n ≤ input.now.plan.stages }
-    requires few { n ≤ 64 }
-    requires nothing_taken { rx.taken ≡ [] }
-    requires nothing_put { tx.put ≡ [] }
-    requires belt { IsBeltOf input.now rx.belt }
-    ensures owns { IfOk result (λ c. OwnsFeeder G.rules input.now c) }
-    ensures count { IfOk result (λ c. length c.hands ≡ n) }
-    ensures rx { IfOk result (λ c. c.rx ≡ rx) }
-    ensures tx { IfOk result (λ c. c.tx ≡ tx) }
+// Takes the first worker from them, if it is on the caller's thread.
+#[tactic(auto, using(crate::proofs::Meetings::removed))]
+fn take_own<'e, G: Gas>(
+    plan: Plan,
+    workers: &mut Vec<LineWorker<'e, G>>,
+) -> Option<LineWorker<'e, G>>
+    requires some { 0 < vec_len workers.old }
+    ensures all { option_to_list result ++ workers.new.items ≡ workers.old.items }
 {
-    Ok(Chain {
-        thread: 0,
-        head: Head::Feeder(feeder),
-        hands: make_hands(alloc, input, 0, n)?,
-        belts: make_inner_belts(alloc, input, n)?,
-        rx,
-        tx,
-    })
+    if has_own_worker(plan) {
+        Some(workers.remove(0))
+    } else {
+        None
+    }
 }
 
-// A line: the chain of the caller's thread, and those of the threads to start.
+// A line: the members of the caller's thread, and the workers of the threads to start.
 fn make_line<'e, G: Gas>(
     alloc: Global,
     input: &RunInput<'e, G>,
     feeder: Feeder<G>,
-) -> Result<(Chain<'e, G>, Vec<Chain<'e, G>>), AllocError>
+) -> Result<(Own<'e, G>, Vec<LineWorker<'e, G>>), AllocError>
     requires begun { MayHaveFedInput G.rules input.now feeder [] [] }
-    ensures linked { IfOk result (λ r. IsLinked G.rules input.now r.0 r.1.items) }
+    ensures linked { IfOk result (λ r. IsLinked input.now r.0 (map job_of r.1.items)) }
+    ensures own { IfOk result (λ r. OwnHasCome G.rules input.now r.0) }
+    ensures come { IfOk result (λ r. AllHaveCome G.rules r.1.items) }
 {
     let plan = input.span.plan;
-    let first = first_share(plan);
-    let own = if first == 0 { 0 } else { share(plan, 0) };
-    let mut chains = Vec::with_capacity(alloc, plan.threads() as usize)?;
-    let (first_tx, mut last) = make_belt(alloc, input)?;
-    let mut made = own;
-    for k in first..plan.threads() {
-        let workers = share(plan, k);
-        let thread = k + 1 - first;
-        let (chain, next) = make_chain(alloc, input, thread, made, workers, last)?;
-        chains.push(chain)?;
-        made += workers;
+    let mut workers = Vec::with_capacity(alloc, plan.threads() as usize)?;
+    let (tx, mut last) = make_belt(alloc, input)?;
+    for number in 0..plan.threads() {
+        let (worker, next) = make_worker(alloc, input, number, last)?;
+        workers.push(worker)?;
         last = next;
     }
-    let own_chain = make_own_chain(alloc, input, feeder, own, last, first_tx)?;
-    Ok((own_chain, chains))
+    let own = take_own(plan, &mut workers);
+    let feeder = LineFeeder {
+        feeder,
+        tx,
+        rx: last,
+        thread_behind: u32::from(own.is_none()),
+        thread_before: workers.len() as u32,
+    };
+    Ok((
+        Own {
+            feeder,
+            worker: own,
+        },
+        workers,
+    ))
 }
 
 // A thread of a run beside the caller's.
-type LineThread<'e, G> = PromisedHandle<Option<Ended<G>>, JobPromise<Chain<'e, G>>>;
+type LineThread<'e, G> = PromisedHandle<Option<Ended<G>>, JobPromise<LineWorker<'e, G>>>;
 
 // Raises the stop flag, and joins the threads.
 fn give_up<G: Gas, H: Gate, R: Threads + Wait>(
@@ -214,20 +128,20 @@ fn give_up<G: Gas, H: Gate, R: Threads + Wait>(
     }
 }
 
-// Starts a thread for each chain. None if memory or a start was refused. The threads that were started
+// Starts a thread for each worker. None if memory or a start was refused. The threads that were started
 // are then joined.
 fn start_threads<'s, 'e: 's, G: Gas + Send + 'e, H: Gate + Sync, R: Threads + Wait + Sync>(
     scope: &'s Scope<'s, &'e ()>,
     alloc: Global,
     shared: &'e Shared<'e, H, R>,
-    chains: Vec<Chain<'e, G>>,
+    workers: Vec<LineWorker<'e, G>>,
 ) -> Option<Vec<LineThread<'e, G>>>
-    requires { AllRunning G.rules chains.items }
-    ensures { IfSome result (λ threads. map job_of threads.items ≡ chains.entry.items) }
+    requires { AllHaveCome G.rules workers.items }
+    ensures { IfSome result (λ threads. map worker_of threads.items ≡ workers.entry.items) }
 {
-    let mut threads = Vec::with_capacity(alloc, chains.len()).ok()?;
-    for chain in chains {
-        let Some(thread) = start_job(scope, shared, chain) else {
+    let mut threads = Vec::with_capacity(alloc, workers.len()).ok()?;
+    for worker in workers {
+        let Some(thread) = start_job(scope, shared, worker) else {
             give_up(shared, threads);
             return None;
         };
@@ -236,97 +150,95 @@ fn start_threads<'s, 'e: 's, G: Gas + Send + 'e, H: Gate + Sync, R: Threads + Wa
     Some(threads)
 }
 
-// Adds what the belts within a thread carried. False if memory was refused.
-fn meet_all_within<G: Gas>(belts: Vec<InnerBelt<G>>, carried: &mut Vec<Carried<G>>) -> bool
-    requires even { All (λ b. length b.put ≡ length b.taken) belts.items }
-    ensures carried { IsTrue result →
-        carried.new.items ≡ carried.old.items ++ map carried_within belts.items }
-    ensures equal { IsTrue result → All (λ b. b.taken ≡ b.put) belts.items }
+// Lets the two ends of the belt before a worker meet: `carried` gets what it carried. Returns the
+// closed end of the belt behind the worker.
+fn meet_before<G: Gas>(spent: Spent<G>, ended: Ended<G>, carried: &mut Vec<Carried<G>>) -> Spent<G>
+    requires met { (input : RunInputModel) × (f : LineFeederModel) × (j : Job) × (others : List Job)
+        × HaveMet G.rules input f (j ∷ others) spent carried.old.items × HasEnded G.rules j ended }
+    requires room { vec_len carried.old < vec_capacity carried.old }
+    ensures met { (input : RunInputModel) (f : LineFeederModel) (j : Job) (others : List Job) →
+        HaveMet G.rules input f (j ∷ others) spent carried.old.items → HasEnded G.rules j ended →
+        HaveMet G.rules input f others result carried.new.items }
+    ensures len { vec_len carried.new ≡ vec_len carried.old + 1 }
+    ensures capacity { vec_capacity carried.new ≡ vec_capacity carried.old }
 {
-    for belt in belts {
-        let Ok(()) = carried.push(meet_within(belt)) else {
-            return false;
-        };
-    }
-    true
+    let Ended { rx, spent: next } = ended;
+    let Ok(before) = meet(spent, rx) else {
+        unreachable!()
+    };
+    carried.push_reserved(before);
+    next
 }
 
-// Joins the threads in order, and lets the two ends of the belt before each meet: `carried` gets
-// what it and the belts within the thread carried. Returns the closed end that the last thread put
-// on. None if a thread stopped early.
+// The same for the worker of the caller's thread, if there is one.
+fn meet_own<G: Gas>(
+    spent: Spent<G>,
+    worker: Option<LineWorker<'_, G>>,
+    carried: &mut Vec<Carried<G>>,
+) -> Spent<G>
+    requires over { IfSome worker (λ w. HasFinished G.rules (job_of w) w.rx.taken w.tx.put) }
+    requires met { (input : RunInputModel) × (f : LineFeederModel) × (others : List Job)
+        × HaveMet G.rules input f (map job_of (option_to_list worker) ++ others) spent carried.old.items }
+    requires room { vec_len carried.old < vec_capacity carried.old }
+    ensures met { (input : RunInputModel) (f : LineFeederModel) (others : List Job) →
+        HaveMet G.rules input f (map job_of (option_to_list worker.entry) ++ others) spent carried.old.items →
+        HaveMet G.rules input f others result carried.new.items }
+    ensures capacity { vec_capacity carried.new ≡ vec_capacity carried.old }
+{
+    match worker {
+        None => spent,
+        Some(worker) => meet_before(spent, worker.end(), carried),
+    }
+}
+
+// Joins the threads in order, and lets the two ends of the belt before each meet. Returns the closed
+// end that the last thread put on. None if a thread stopped early.
 fn join_threads<G: Gas, R: Threads>(
     rt: &R,
-    input: &RunInput<'_, G>,
     first: Spent<G>,
     threads: Vec<LineThread<'_, G>>,
     carried: &mut Vec<Carried<G>>,
 ) -> Option<Spent<G>>
-    requires input { IsRunInput G.rules input.now }
-    requires whole { length (first_put carried.old.items first.put)
-        ≡ div_ceil input.now.plan.generations input.now.plan.stages
-        * input.now.lattice.channel.height }
-    requires linked { Linked G.rules input.now (length carried.old.items) first.belt
-        (map job_of threads.items) }
-    requires reached { HaveMetUpTo G.rules input.now (first_put carried.old.items first.put)
-        (length carried.old.items) first.put carried.old.items }
-    ensures next { IfSome result (λ s.
-        s.belt ≡ last_belt first.belt (map job_of threads.entry.items)) }
-    ensures reached { IfSome result (λ s.
-        HaveMetUpTo G.rules input.now (first_put carried.old.items first.put)
-        (length carried.old.items + workers_in (map job_of threads.entry.items)) s.put
-        carried.new.items) }
+    requires met { (input : RunInputModel) × (f : LineFeederModel)
+        × HaveMet G.rules input f (jobs_of threads.items) first carried.old.items }
+    requires room { vec_len carried.old + length threads.items ≤ vec_capacity carried.old }
+    ensures met { IfSome result (λ s. (input : RunInputModel) (f : LineFeederModel) →
+        HaveMet G.rules input f (jobs_of threads.entry.items) first carried.old.items →
+        HaveMet G.rules input f [] s carried.new.items) }
+    ensures capacity { vec_capacity carried.new ≡ vec_capacity carried.old }
 {
     let mut spent = first;
     for thread in threads {
         let ended = thread.join(rt)?;
-        let Ok(between) = meet(spent, ended.rx) else {
-            unreachable!()
-        };
-        let Ok(()) = carried.push(between) else {
-            return None;
-        };
-        if !meet_all_within(ended.belts, carried) {
-            return None;
-        }
-        spent = ended.spent;
+        spent = meet_before(spent, ended, carried);
     }
     Some(spent)
 }
 
-// Joins the threads of a line whose feeder has put and taken all rows, and lets the two ends of each
-// belt meet: `belts` gets what they carried. None if a worker stopped early.
+// Joins the threads of a line whose own members are over, and lets the two ends of each belt meet:
+// `belts` gets what they carried. None if a worker stopped early.
 fn join_and_meet<G: Gas, R: Threads>(
     rt: &R,
     input: &RunInput<'_, G>,
-    own: Chain<'_, G>,
+    own: Own<'_, G>,
     threads: Vec<LineThread<'_, G>>,
     mut belts: Vec<Carried<G>>,
 ) -> Option<Run<G>>
-    requires linked { IsLinked G.rules input.now own (map job_of threads.items) }
+    requires linked { IsLinked input.now own (jobs_of threads.items) }
+    requires come { OwnHasCome G.rules input.now own }
     requires over { IsOver G.rules own }
     requires none { belts.items ≡ [] }
+    requires room { input.now.plan.threads < vec_capacity belts }
     ensures { IfSome result (λ run. IsRunOf G.rules input.now run) }
 {
-    let Chain {
-        head,
-        belts: within,
-        rx,
-        tx,
-        ..
-    } = own;
-    let Head::Feeder(feeder) = head else {
+    let Own { feeder, worker } = own;
+    let LineFeeder { feeder, tx, rx, .. } = feeder;
+    let first = meet_own(tx.close(), worker, &mut belts);
+    let spent = join_threads(rt, first, threads, &mut belts)?;
+    let Ok(last) = meet(spent, rx) else {
         unreachable!()
     };
-    if !meet_all_within(within, &mut belts) {
-        return None;
-    }
-    let spent = join_threads(rt, input, tx.close(), threads, &mut belts)?;
-    let Ok(carried) = meet(spent, rx) else {
-        unreachable!()
-    };
-    let Ok(()) = belts.push(carried) else {
-        return None;
-    };
+    belts.push_reserved(last);
     Some(Run {
         lattice: feeder.finish(),
         plan: input.span.plan,
@@ -345,14 +257,14 @@ fn run_in_scope<'s, 'e: 's, G: Gas + Send + 'e, H: Gate + Sync, R: Threads + Wai
     requires begun { MayHaveFedInput G.rules input.now feeder [] [] }
     ensures { IfSome result (λ run. IsRunOf G.rules input.now run) }
 {
-    let Ok((mut own, chains)) = make_line(alloc, input, feeder) else {
+    let Ok((mut own, workers)) = make_line(alloc, input, feeder) else {
         return None;
     };
-    let most_belts = input.span.plan.stages() as usize + 1;
+    let most_belts = input.span.plan.threads() as usize + 1;
     let Ok(belts) = Vec::with_capacity(alloc, most_belts) else {
         return None;
     };
-    let threads = start_threads(scope, alloc, shared, chains)?;
+    let threads = start_threads(scope, alloc, shared, workers)?;
     if !own.run(shared) {
         give_up(shared, threads);
         return None;
@@ -360,9 +272,8 @@ fn run_in_scope<'s, 'e: 's, G: Gas + Send + 'e, H: Gate + Sync, R: Threads + Wai
     join_and_meet(shared.rt, input, own, threads, belts)
 }
 
-/// Makes all passes of a plan over the feeder's rows: the workers share the plan's threads, and the
-/// feeder is on the caller's. Every thread that was started is over before it returns. The error
-/// means that memory, or the start of a thread, was refused.
+/// Makes all passes of a plan over the feeder's rows. Every thread that was started is over before it
+/// returns. The error means that memory, or the start of a thread, was refused.
 pub(crate) fn run_line<G: Gas + Send, H: Gate + Sync, R: Threads + Wait + Sync>(
     rt: &R,
     alloc: Global,
@@ -374,7 +285,7 @@ pub(crate) fn run_line<G: Gas + Send, H: Gate + Sync, R: Threads + Wait + Sync>(
     ensures { IfOk result (λ run. IsRunOf G.rules input.now run) }
 {
     let plan = input.span.plan;
-    let wake_ups = WakeUps::new(alloc, plan.threads() - first_share(plan))?;
+    let wake_ups = WakeUps::new(alloc, plan.threads() - u32::from(has_own_worker(plan)))?;
     let shared = &Shared {
         rt,
         wake_ups: &wake_ups,

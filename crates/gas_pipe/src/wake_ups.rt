@@ -46,11 +46,6 @@ impl WakeUps {
         self.stop.load(Ordering::SeqCst)
     }
 
-    /// The thread that the caller's takes rows from.
-    pub(crate) fn last_thread(&self) -> usize {
-        self.states.len().saturating_sub(1)
-    }
-
     /// The ban on yields that all threads share.
     pub(crate) fn yield_ban(&self) -> &YieldBan {
         &self.yield_ban

@@ -1,73 +1,92 @@
 -- What a worker has done, seen from its two lists.
-use Rattle.std.proofs.Common.{◌≡◌, ℕ, ◌+◌, ◌-◌, ◌≤◌, ◌==◌, ◌++◌, Bool, true, false, if◌then◌else◌, Option, Some, None, IsSome, List, [], length, drop, ap, ◌∙◌, sym, refl, subst, append_assoc, append-nil, arith}
-use Rattle.std.proofs.lemmas.List.{length-take, take-append-drop}
+use Rattle.std.proofs.Common.{◌≡◌, Bool, true, false, ℕ, ◌+◌, ◌<◌, ◌≤◌, ◌++◌, ◌∷◌, Option, Some, None, IsSome, List, [], length, ap, ◌∙◌, sym, refl, append_assoc, append-nil, length-append, arith}
 use Rattle.std.specs.Option.{option_to_list}
 use Rattle.gas_geom.specs.Gas.{Rules}
 use Rattle.gas_geom.specs.Channel.{ChannelModel}
-use Rattle.gas_geom.specs.Lattice.{next}
-use Rattle.gas_rows.specs.Chirality.{chirality_bit}
-use Rattle.gas_rows.specs.declared.chirality.Chirality.{Chirality}
-use Rattle.gas_stage.specs.Stage.{owed, given}
-use Rattle.gas_stage.proofs.Local.{length-next}
-use Rattle.gas_stage.proofs.Owed.{owed-all, owed-no_more}
+use Rattle.gas_stage.specs.Stages.{MayAllHaveBeenFed, given_by}
 use Rattle.gas_pipe_model.proofs.Prefixes.{prefix_length}
 use Rattle.gas_rows.specs.Row.{RowModel}
 use mathlib.Core.List.{IsPrefix}
+use Rattle.gas_pipe_model.proofs.Owes.{owed_by-no_more}
+use Rattle.gas_pipe_members.proofs.Composed.{given_by_prefix, given_by_long, given_by_none, fed_short, fed_unflushed, fed_all}
 use Rattle.gas_pipe_members.specs.Worker.{WorkerModel, IsClosed, MayHaveDone, owes}
 
--- what a stage returned before the flush is the beginning of what it owes
-given_prefix : (gas : Rules) (c : ChannelModel) (h : Chirality) (e : Option ℕ) (q : List RowModel) → IsPrefix (given gas c h e q) (owed gas c h e q)
-given_prefix gas c h None q = ([], append-nil q)
-given_prefix gas c h (Some g) q = by (length q == c.height)
-  where
-    rows : List RowModel
-    rows = next gas c (chirality_bit h c.width g) q
+module _ (gas : Rules) (w : WorkerModel) (es : List (Option ℕ)) (took gave : List RowModel) (done : MayHaveDone gas w es took gave) where
+  pub done_prefix : IsPrefix gave (owes gas w es took)
+  done_prefix =
+      let before = given_by_prefix gas w.stages.channel w.stages.chirality w.stages.flushed es took done.few in (
+        option_to_list w.waiting ++ before.0,
+        sym (append_assoc gave (option_to_list w.waiting) before.0) ∙ ap (λ (l : List RowModel). l ++ before.0) done.put_returned ∙ before.1,
+      )
 
-    by : (b : Bool) → IsPrefix (given gas c h (Some g) q) (if b then rows else given gas c h (Some g) q)
-    by true = (drop (length q - 1) rows, take-append-drop (length q - 1) rows)
-    by false = ([], append-nil (given gas c h (Some g) q))
+  -- a worker puts at most as many rows as it took
+  pub gave_few : length gave ≤ length took
+  gave_few = omega (arith, prefix_length gave (owes gas w es took) done_prefix, owed_by-no_more gas w.stages.channel w.stages.chirality es took)
 
-pub done_prefix : (gas : Rules) (w : WorkerModel) (e : Option ℕ) (took gave : List RowModel) → MayHaveDone gas w e took gave → IsPrefix gave (owes gas w e took)
-done_prefix gas w e took gave done = by w.stage.pass refl
-  where
-    by : (p : Option (Option ℕ)) → w.stage.pass ≡ p → IsPrefix gave (owes gas w e took)
-    by None is = (option_to_list w.waiting, done.put_all is)
-    by (Some q) is =
-        let before = given_prefix gas w.stage.channel w.stage.chirality e took in (
-          option_to_list w.waiting ++ before.0,
-          sym (append_assoc gave (option_to_list w.waiting) before.0)
-              ∙ ap (λ (l : List RowModel). l ++ before.0) (done.put_returned (subst IsSome (sym is) refl)) ∙ before.1,
+  module _ (none : w.waiting ≡ None) where
+    pub put_all : gave ≡ given_by gas w.stages.channel w.stages.chirality w.stages.flushed es took
+    put_all = sym (append-nil gave) ∙ ap (λ (o : Option RowModel). gave ++ option_to_list o) (sym none) ∙ done.put_returned
+
+    -- and if none waits, at most one for each stage fewer
+    pub gave_most : length took ≤ length gave + length es
+    gave_most =
+        omega (
+          arith,
+          ap (λ (l : List RowModel). length l) put_all,
+          given_by_long gas w.stages.channel w.stages.chirality w.stages.flushed es took done.few,
         )
 
--- if no pass is open, nothing is left to put
-pub closed_all : (gas : Rules) (w : WorkerModel) → IsClosed w → (e : Option ℕ) (took gave : List RowModel) → MayHaveDone gas w e took gave → gave ≡ owes gas w e took
-closed_all gas w closed e took gave done =
-    sym (append-nil gave) ∙ ap (λ (o : Option RowModel). gave ++ option_to_list o) (sym closed.waiting) ∙ done.put_all closed.stage
+    -- if rows are still to come, all that is owed was put
+    pub more_all : w.stages.fed < w.stages.channel.height → (length took < w.stages.channel.height) × (gave ≡ owes gas w es took)
+    more_all low =
+        let fewer : length took < w.stages.channel.height = omega (arith, done.fed.fed) in
+        (fewer, put_all ∙ fed_short gas w.stages.channel w.stages.chirality w.stages.flushed w.stages.stages es took done.fed.each fewer)
 
--- a worker puts at most as many rows as it took
-pub gave_few : (gas : Rules) (w : WorkerModel) (e : Option ℕ) (took gave : List RowModel) → MayHaveDone gas w e took gave → length gave ≤ length took
-gave_few gas w e took gave done =
-    omega (arith, prefix_length gave (owes gas w e took) (done_prefix gas w e took gave done), owed-no_more gas w.stage.channel w.stage.chirality e took)
+  -- if no pass is open, nothing is left to put
+  pub closed_all : IsClosed w → gave ≡ owes gas w es took
+  closed_all closed =
+      put_all closed.waiting ∙ fed_all gas w.stages.channel w.stages.chirality w.stages.flushed w.stages.stages es took done.fed.each closed.stages
 
-given_long : (gas : Rules) (c : ChannelModel) (h : Chirality) (e : Option ℕ) (q : List RowModel) → length q ≤ c.height → length q ≤ length (given gas c h e q) + 1
-given_long gas c h None q few = omega arith
-given_long gas c h (Some g) q few =
-    omega (arith, length-take (length q - 1) (next gas c (chirality_bit h c.width g) q), length-next gas c (chirality_bit h c.width g) q)
+  -- while more is returned than was put, not all that is owed was put
+  pub still_owes : (flushed : ℕ) (row : Option RowModel) → IsSome row → gave ++ option_to_list row ≡ given_by gas w.stages.channel w.stages.chirality flushed es took →
+      gave ≡ owes gas w es took → ⊥
+  still_owes flushed None some more all = cc
+  still_owes flushed (Some row) some more all =
+      let before = prefix_length (given_by gas w.stages.channel w.stages.chirality flushed es took) (owes gas w es took)
+      (given_by_prefix gas w.stages.channel w.stages.chirality flushed es took done.few) in
+      omega (arith, before, ap (λ (l : List RowModel). length l) more, length-append gave (row ∷ []), ap (λ (l : List RowModel). length l) all)
 
--- and if none waits, at most one fewer
-pub gave_most : (gas : Rules) (w : WorkerModel) (e : Option ℕ) (took gave : List RowModel) → MayHaveDone gas w e took gave → w.waiting ≡ None →
-    length took ≤ length gave + 1
-gave_most gas w e took gave done none = by w.stage.pass refl
-  where
-    all : gave ++ option_to_list w.waiting ≡ gave
-    all = ap (λ (o : Option RowModel). gave ++ option_to_list o) none ∙ append-nil gave
+pub no_stray : (stray : Bool) (flushed n : ℕ) → (stray ≡ true → flushed < n) → flushed ≡ n → stray ≡ false
+no_stray true flushed n in_pass all = absurd (omega (arith, in_pass refl, all))
+no_stray false flushed n in_pass all = refl
 
-    by : (p : Option (Option ℕ)) → w.stage.pass ≡ p → length took ≤ length gave + 1
-    by None is =
-        let long : length gave ≡ length (owes gas w e took) = ap (λ (l : List RowModel). length l) (sym all ∙ done.put_all is) in
-        let high = done.took_all is in
-        omega (arith, long, high, owed-all gas w.stage.channel w.stage.chirality e took high)
-    by (Some q) is =
-        let open_pass : IsSome w.stage.pass = subst IsSome (sym is) refl in
-        let long : length gave ≡ length (given gas w.stage.channel w.stage.chirality e took) = ap (λ (l : List RowModel). length l) (sym all ∙ done.put_returned open_pass) in
-        omega (arith, long, given_long gas w.stage.channel w.stage.chirality e took done.few)
+-- a pass that begins
+pub begun : (gas : Rules) (w : WorkerModel) (es : List (Option ℕ)) → w.stray ≡ false → w.waiting ≡ None → w.stages.flushed ≡ 0 → 0 < length w.stages.stages →
+    MayAllHaveBeenFed gas w.stages es [] → MayHaveDone gas w es [] []
+begun gas w es no_stray none unflushed some fed = record {
+  no_stray = no_stray;
+  few = omega arith;
+  fed = fed;
+  took_all = λ all. absurd (omega (arith, all, unflushed, some));
+  put_returned = ap (λ (o : Option RowModel). option_to_list o) none ∙ sym (given_by_none gas w.stages.channel w.stages.chirality w.stages.flushed es);
+}
+
+-- a row was fed
+pub accepted : (gas : Rules) (old new : WorkerModel) (row : RowModel) (es : List (Option ℕ)) (took gave : List RowModel) → MayHaveDone gas old es took gave →
+    new.stray ≡ old.stray → new.stages.channel ≡ old.stages.channel → new.stages.chirality ≡ old.stages.chirality → old.waiting ≡ None →
+    new.stages.flushed ≡ 0 → 0 < length new.stages.stages → old.stages.fed < old.stages.channel.height →
+    MayAllHaveBeenFed gas new.stages es (took ++ row ∷ []) →
+    given_by gas old.stages.channel old.stages.chirality 0 es (took ++ row ∷ [])
+    ≡ given_by gas old.stages.channel old.stages.chirality 0 es took ++ option_to_list new.waiting →
+    MayHaveDone gas new es (took ++ row ∷ []) gave
+accepted gas old new row es took gave done stray channel chirality none unflushed some low fed gives = record {
+  no_stray = stray ∙ done.no_stray;
+  few = omega (arith, length-append took (row ∷ []), done.fed.fed, ap (λ (c : ChannelModel). c.height) channel);
+  fed = fed;
+  took_all = λ all. absurd (omega (arith, all, unflushed, some));
+  put_returned =
+      rw (channel, chirality, unflushed) (ap (λ (l : List RowModel). l ++ option_to_list new.waiting)
+      (put_all gas old es took gave done none
+      ∙ fed_unflushed gas old.stages.channel old.stages.chirality old.stages.flushed old.stages.stages es took done.fed.each (omega (arith, done.fed.fed)))
+      ∙ sym gives);
+}

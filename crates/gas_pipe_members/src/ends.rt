@@ -1,8 +1,7 @@
 //! The two ends of a belt, and how spare rows go from one end to another.
-ghost use Rattle.std.specs.Prelude.{◌≡◌, ◌++◌, ◌∷◌, ◌+◌, ◌-◌, ◌<◌, ◌≤◌, ℕ, List, [], Option, Some, None, length, min, OnOk, IfErr, IfSome, IfNone, OnErr, IsOk, IsSome};
+ghost use Rattle.std.specs.Prelude.{◌≡◌, ◌++◌, ◌∷◌, ◌+◌, ◌-◌, ◌≤◌, [], Option, Some, None, length, min, OnOk, IfErr, IfSome, IfNone, OnErr, IsOk, IsSome};
 ghost use Rattle.gas_pipe_members.specs.Ends.{MayGet};
 
-use gas_belt::inner_belt::InnerBelt;
 use gas_belt::rx::Rx;
 use gas_belt::tx::Tx;
 use gas_geom::gas::Gas;
@@ -66,7 +65,7 @@ impl<G: Gas> PutEnd<Row<G>> for Tx<G> {
 
     #[inline(always)]
     fn try_put(&mut self, row: Row<G>) -> Result<(), Row<G>> {
-        Tx::try_gather(self, row)
+        Tx::try_put(self, row)
     }
 
     fn spare(&mut self) -> Option<Row<G>> {
@@ -91,49 +90,6 @@ impl<G: Gas> TakeEnd<Row<G>> for Rx<G> {
 
     fn give(&mut self, row: Row<G>) {
         Rx::give(self, row);
-    }
-}
-
-// A belt within a thread. Whether a put succeeds depends on its row too.
-impl<G: Gas> PutEnd<Row<G>> for InnerBelt<G> {
-    ghost puts = { λ old row new.
-        (new ≡ record old { put = old.put ++ row ∷ []; held = old.held + 1 })
-        × (length row ≡ old.width) × (0 < new.held) };
-
-    ghost ready = { λ _. ⊥ };
-
-    ghost lends = { λ old spare new. (new ≡ record old { held = old.held - 1 })
-        × (0 < old.held → IsSome spare) × IfSome spare (λ row. length row ≡ old.width) };
-
-    #[inline(always)]
-    fn try_put(&mut self, row: Row<G>) -> Result<(), Row<G>> {
-        InnerBelt::try_put(self, row)
-    }
-
-    #[inline(always)]
-    fn spare(&mut self) -> Option<Row<G>> {
-        InnerBelt::spare(self)
-    }
-}
-
-impl<G: Gas> TakeEnd<Row<G>> for InnerBelt<G> {
-    ghost takes = { λ old row new.
-        (new ≡ record old { taken = old.taken ++ row ∷ []; held = old.held - 1 })
-        × (length row ≡ old.width) };
-
-    ghost ready = { λ belt. (length belt.taken < length belt.put) × (0 < belt.held) };
-
-    ghost gets = { λ old row new. (new ≡ record old { held = new.held })
-        × (length row ≡ old.width → min 2 (old.held + 1) ≤ new.held) };
-
-    #[inline(always)]
-    fn try_take(&mut self) -> Option<Row<G>> {
-        InnerBelt::try_take(self)
-    }
-
-    #[inline(always)]
-    fn give(&mut self, row: Row<G>) {
-        InnerBelt::give(self, row);
     }
 }
 

@@ -1,9 +1,11 @@
 //! The plan of a run: the stages of its line, the capacity of a belt, and the generations to
 //! compute. Also what a run of a plan is given, and why it may end without a result.
 
-ghost use Rattle.std.specs.Prelude.{◌≡◌, ◌≤◌, ◌<◌, ◌+◌, ◌*◌, ◌^◌, IfOk, IfErr, None, Some};
+ghost use Rattle.std.specs.Prelude.{◌≡◌, ◌≤◌, ◌<◌, ◌+◌, ◌-◌, ◌*◌, ◌^◌, IfOk, IfErr, None, Some};
 ghost use Rattle.std.specs.Int.{div_ceil};
-ghost use Rattle.gas_pipe_model.specs.Pass.{computes_from};
+ghost use Rattle.gas_stage.specs.Stages.{passes_from};
+ghost use Rattle.gas_pipe_model.specs.Pass.{computes_from, generations_of};
+ghost use Rattle.gas_pipe_model.specs.Plan.{before};
 ghost use Rattle.gas_pipe_members.specs.Plan.{plan_refusal, threads_refusal};
 ghost use Rattle.gas_pipe_members.specs.declared.plan.RunError.TheVariants.{Memory};
 
@@ -45,7 +47,7 @@ impl From<AllocError> for RunError {
 }
 
 /// The number of stages, 1 to 64, the capacity of a belt, 1 to 1024 rows, the number of generations
-/// to compute, 0 to 1,000,000, and the number of threads that share the workers, 1 to the number of
+/// to compute, 0 to 1,000,000, and the number of threads that share the stages, 1 to the number of
 /// stages.
 #[derive(Clone, Copy)]
 pub struct Plan {
@@ -88,7 +90,7 @@ impl Model for Plan {
 }
 
 impl Plan {
-    /// A plan with a thread for each worker, or the first refusal: stages, then capacity, then
+    /// A plan with a thread for each stage, or the first refusal: stages, then capacity, then
     /// generations.
     pub fn new(stages: u32, capacity: u32, generations: u64) -> Result<Plan, PlanError>
         ensures refused { IfErr result (λ e. plan_refusal stages capacity generations ≡ Some e) }
@@ -116,7 +118,7 @@ impl Plan {
         }
     }
 
-    /// The plan with its workers on that number of threads. Refused unless it is 1 to the number of
+    /// The plan with its stages on that number of threads. Refused unless it is 1 to the number of
     /// stages.
     pub fn on(self, threads: u32) -> Result<Plan, PlanError>
         ensures refused { IfErr result (λ e. threads_refusal self.stages threads ≡ Some e) }
@@ -127,6 +129,16 @@ impl Plan {
             Err(PlanError::Threads)
         } else {
             Ok(Plan { threads, ..self })
+        }
+    }
+
+    /// The plan with a thread for each stage.
+    pub fn with_thread_each(self) -> Plan
+        ensures made { result ≡ record self { threads = self.stages } }
+    {
+        Plan {
+            threads: self.stages,
+            ..self
         }
     }
 
@@ -159,14 +171,27 @@ impl Plan {
         self.generations
     }
 
-    /// The number of threads that share the workers. With fewer threads than stages the feeder shares
-    /// the first of them; else it has a thread beside them.
+    /// The number of threads that share the stages, and so of workers. With fewer threads than stages
+    /// the feeder is on the thread of the first worker; else it has a thread beside them.
     pub fn threads(self) -> u32
         ensures value { result ≡ self.threads }
         ensures some { 1 ≤ result }
         ensures few { result ≤ self.stages }
+        ensures most { result ≤ 64 }
     {
         self.threads
+    }
+
+    /// The number of stages in front of belt k: those of the first k workers. There is a worker for
+    /// each thread, and the stages are shared out evenly. The last workers have one more, if some are
+    /// left.
+    pub fn before(self, k: u32) -> u32
+        requires within { k ≤ self.threads }
+        ensures value { result ≡ before self k }
+        ensures few { result ≤ self.stages }
+    {
+        let more = (k + self.stages % self.threads).saturating_sub(self.threads);
+        k * (self.stages / self.threads) + more
     }
 
     /// The number of passes through the line. A pass computes at most one generation per stage.
@@ -202,6 +227,27 @@ impl Span {
         } else {
             None
         }
+    }
+
+    /// What the stages of worker `who`, counted from 1, do in a pass, counted from 0, if there is a
+    /// worker for each thread of the plan: the generation from which the first stage computes the
+    /// step, and how many stages compute. The others hand rows on unchanged.
+    pub fn generations(&self, pass: u64, who: u32) -> (u64, u32)
+        requires pass { pass * self.now.plan.stages < self.now.plan.generations }
+        requires some { 1 ≤ who }
+        requires one_of { who ≤ self.now.plan.threads }
+        ensures passes { passes_from result.0 result.1
+            (before self.now.plan who - before self.now.plan (who - 1))
+            ≡ generations_of self.now.first self.now.plan pass who }
+        ensures room { result.0 + result.1 ≤ 2 ^ 64 }
+    {
+        let in_front = self.plan.before(who - 1);
+        let stages = self.plan.before(who) - in_front;
+        let generations = self.plan.generations();
+        let done = pass * u64::from(self.plan.stages()) + u64::from(in_front);
+        let left = generations.saturating_sub(done);
+        let computing = left.min(u64::from(stages)) as u32;
+        (self.first + (generations - left), computing)
     }
 }
 

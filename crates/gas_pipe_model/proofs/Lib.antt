@@ -8,5 +8,7 @@ pub mod Opens
 pub mod Generations
 pub mod Wide
 pub mod Boundaries
+pub mod Owes
+pub mod Shares
 pub mod Circle
 pub mod PlanCircle

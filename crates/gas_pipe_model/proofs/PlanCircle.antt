@@ -5,8 +5,8 @@ use Rattle.std.specs.List.{range_with_len}
 use Rattle.std.proofs.lemmas.List.Concat.{flat_map-append}
 use Rattle.gas_geom.specs.Gas.{Rules}
 use Rattle.gas_rows.specs.Row.{RowModel}
-use Rattle.gas_stage.proofs.Owed.{owed-all}
-use Rattle.gas_pipe_model.specs.Pass.{RunInputModel, IsRunInput, computes_from, rows_on, carried_on}
+use Rattle.gas_pipe_model.proofs.Owes.{owed_by-all}
+use Rattle.gas_pipe_model.specs.Pass.{RunInputModel, IsRunInput, generations_of, rows_on, carried_on}
 use Rattle.gas_pipe_model.specs.Inner.Circle.{joined, IsCircle, owes_in}
 use Rattle.gas_pipe_model.proofs.Generations.{rows_high, owes_next, begins_next}
 use Rattle.gas_pipe_model.proofs.Circle.{goes_round}
@@ -28,22 +28,22 @@ joined_is rows (suc n) =
 
 module _ (gas : Rules) (input : RunInputModel) (is : IsRunInput gas input) where
   pub is_circle : (back : List RowModel → List RowModel) → ((m : ℕ) (q : List RowModel) → take m (back q) ≡ back (take m q)) →
-      ((n : ℕ) → back (joined (λ i. rows_on gas input i input.plan.stages) n) ≡ joined (λ i. rows_on gas input i input.plan.stages) n) →
-      IsCircle input.lattice.channel.height input.plan.stages (owes_in gas input) back (rows_on gas input)
+      ((n : ℕ) → back (joined (λ i. rows_on gas input i input.plan.threads) n) ≡ joined (λ i. rows_on gas input i input.plan.threads) n) →
+      IsCircle input.lattice.channel.height input.plan.threads (owes_in gas input) back (rows_on gas input)
   is_circle back front kept = record {
-    whole = λ k n q h. owed-all gas input.lattice.channel input.chirality (computes_from input.first input.plan n (suc k)) q h;
+    whole = λ k n q h. owed_by-all gas input.lattice.channel input.chirality (generations_of input.first input.plan n (suc k)) q h;
     high = rows_high gas input is;
     on = λ n k. owes_next gas input is n k;
-    again = λ n. sym (begins_next gas input n ∙ ap (λ (m : ℕ). rows_on gas input m 0) (let e : n + 1 ≡ suc n = omega arith in e));
+    again = λ n. sym (begins_next gas input is.workers n ∙ ap (λ (m : ℕ). rows_on gas input m 0) (let e : n + 1 ≡ suc n = omega arith in e));
     front = front;
     kept = kept;
   }
 
-  pub round : (n : ℕ) → take (n * input.lattice.channel.height) (carried_on gas input (n + 1) input.plan.stages) ≡ drop input.lattice.channel.height (carried_on gas input (n + 1) 0)
+  pub round : (n : ℕ) → take (n * input.lattice.channel.height) (carried_on gas input (n + 1) input.plan.threads) ≡ drop input.lattice.channel.height (carried_on gas input (n + 1) 0)
   round n =
       let e : n + 1 ≡ suc n = omega arith in
-      ap (λ (m : ℕ). take (n * input.lattice.channel.height) (carried_on gas input m input.plan.stages)) e
-      ∙ ap (take (n * input.lattice.channel.height)) (sym (joined_is (λ i. rows_on gas input i input.plan.stages) (suc n)))
-      ∙ goes_round input.lattice.channel.height input.plan.stages (owes_in gas input) (λ q. q) (rows_on gas input) (is_circle (λ q. q) (λ m q. refl) (λ m. refl)) n
+      ap (λ (m : ℕ). take (n * input.lattice.channel.height) (carried_on gas input m input.plan.threads)) e
+      ∙ ap (take (n * input.lattice.channel.height)) (sym (joined_is (λ i. rows_on gas input i input.plan.threads) (suc n)))
+      ∙ goes_round input.lattice.channel.height input.plan.threads (owes_in gas input) (λ q. q) (rows_on gas input) (is_circle (λ q. q) (λ m q. refl) (λ m. refl)) n
       ∙ ap (drop input.lattice.channel.height) (joined_is (λ i. rows_on gas input i 0) (suc n))
       ∙ ap (λ (m : ℕ). drop input.lattice.channel.height (carried_on gas input m 0)) (sym e)

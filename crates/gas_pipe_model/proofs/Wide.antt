@@ -7,13 +7,14 @@ use Rattle.gas_rows.specs.Chirality.{chirality_bit}
 use Rattle.gas_geom.proofs.Runs.{IsLattice-generation}
 use Rattle.gas_rows.specs.Row.{RowModel}
 use Rattle.gas_pipe_model.specs.Line.{State}
+use Rattle.gas_pipe_model.specs.Plan.{before}
 use Rattle.gas_pipe_model.specs.Pass.{RunInputModel, IsRunInput, line_of, rows_on}
 use Rattle.gas_pipe_model.proofs.Turns.{Fits, put_carried}
 use Rattle.gas_pipe_model.proofs.Generations.{pass_is_line, carries}
 
 pub after_is_lattice : (gas : Rules) (input : RunInputModel) → IsGas gas → IsRunInput gas input → (n k : ℕ) → IsLattice gas input.lattice.channel (rows_on gas input n k)
 after_is_lattice gas input laws is n k =
-    IsLattice-generation gas laws input.lattice.channel (chirality_bit input.chirality input.lattice.channel.width) input.first input.lattice.rows is.lattice (min (n * input.plan.stages + k) input.plan.generations)
+    IsLattice-generation gas laws input.lattice.channel (chirality_bit input.chirality input.lattice.channel.width) input.first input.lattice.rows is.lattice (min (n * input.plan.stages + before input.plan k) input.plan.generations)
 
 row_is_wide : (gas : Rules) (input : RunInputModel) → IsGas gas → IsRunInput gas input → (n k : ℕ) (xs : List RowModel) (row : RowModel) (ys : List RowModel) → xs ++ row ∷ ys ≡ rows_on gas input n k →
     length row ≡ input.lattice.channel.width
@@ -26,7 +27,7 @@ row_is_wide gas input laws is n k xs row ys e =
     ap length (sym there) ∙ lattice.wide (length xs) low
 
 -- a row on belt k in pass n
-pub under_way_is_wide : (gas : Rules) (input : RunInputModel) → IsGas gas → IsRunInput gas input → (n : ℕ) (s : State) → Fits (line_of gas input n) s → (k : ℕ) → k ≤ input.plan.stages →
+pub under_way_is_wide : (gas : Rules) (input : RunInputModel) → IsGas gas → IsRunInput gas input → (n : ℕ) (s : State) → Fits (line_of gas input n) s → (k : ℕ) → k ≤ input.plan.threads →
     (row : RowModel) (rest : List RowModel) → s.taken k ++ row ∷ rest ≡ s.put k → length row ≡ input.lattice.channel.width
 under_way_is_wide gas input laws is n s fits k h row rest e =
     let pre = put_carried (line_of gas input n) (pass_is_line gas input is n) s fits k h in

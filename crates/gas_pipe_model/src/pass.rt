@@ -1,12 +1,24 @@
 //! The laws of the line of a pass over a lattice, for every list of turns, and of all passes of a
 //! plan.
-ghost use Rattle.std.specs.Prelude.{◌≡◌, ℕ, true, false, ◌+◌, ◌*◌, ◌≤◌, List, ◌++◌, length, take, drop};
+ghost use Rattle.std.specs.Prelude.{◌≡◌, ℕ, true, false, ◌+◌, ◌*◌, ◌<◌, ◌≤◌, List, ◌++◌, length, take, drop};
 ghost use mathlib.Core.List.{IsPrefix};
 ghost use Rattle.gas_rows.specs.Row.{RowModel};
 ghost use Rattle.gas_pipe_model.specs.Line.{start, moves, events, is_done, HasRounds};
 ghost use Rattle.gas_geom.specs.Gas.{Rules};
+ghost use Rattle.gas_pipe_model.specs.Plan.{PlanModel, before};
 ghost use Rattle.gas_pipe_model.specs.Pass.{RunInputModel, IsRunInput, line_of, after, rows_on, carried_on};
 ghost use Rattle.gas_stage.specs.Evolution.{lattice_after};
+
+/// No stage is in front of the first belt, all are in front of the last, and with a worker for each
+/// stage one more is in front of each belt.
+pub fn stages_in_order()
+    ensures first { (plan : PlanModel) → 0 < plan.threads → before plan 0 ≡ 0 }
+    ensures next { (plan : PlanModel) (k : ℕ) → before plan k ≤ before plan (k + 1) }
+    ensures last { (plan : PlanModel) → 0 < plan.threads →
+        before plan plan.threads ≡ plan.stages }
+    ensures each { (plan : PlanModel) (k : ℕ) → 0 < plan.threads → plan.threads ≡ plan.stages →
+        k ≤ plan.stages → before plan k ≡ k }
+{}
 
 /// Each belt carries one row for each row of the lattice. For all rows of a belt the worker after
 /// it owes the rows of the next belt. What a worker owes only grows at its end as rows come. It is
@@ -33,7 +45,7 @@ pub fn pass_in_order()
         IsRunInput gas input →
         IsPrefix ((after gas input n turns).taken k) ((after gas input n turns).put k) }
     ensures put { (gas : Rules) (input : RunInputModel) (n : ℕ) (turns : List ℕ) (k : ℕ) →
-        IsRunInput gas input → k ≤ input.plan.stages →
+        IsRunInput gas input → k ≤ input.plan.threads →
         IsPrefix ((after gas input n turns).put k) (rows_on gas input n k) }
 {}
 
@@ -48,29 +60,29 @@ pub fn pass_under_way()
 pub fn pass_never_stuck()
     ensures mover { (gas : Rules) (input : RunInputModel) (n : ℕ) (turns : List ℕ) →
         IsRunInput gas input → is_done (line_of gas input n) (after gas input n turns) ≡ false →
-        (m : ℕ) × ((m ≤ input.plan.stages)
+        (m : ℕ) × ((m ≤ input.plan.threads)
         × (moves (line_of gas input n) (after gas input n turns) m ≡ true)) }
 {}
 
 /// If the pass is done, each belt has carried the rows of one generation, by one event for each put
-/// and each take. If there are workers enough, the last belt has carried the last generation.
+/// and each take. If there are stages enough, the last belt has carried the last generation.
 pub fn pass_at_the_end()
     ensures put { (gas : Rules) (input : RunInputModel) (n : ℕ) (turns : List ℕ) (k : ℕ) →
         IsRunInput gas input → is_done (line_of gas input n) (after gas input n turns) ≡ true →
-        k ≤ input.plan.stages → (after gas input n turns).put k ≡ rows_on gas input n k }
+        k ≤ input.plan.threads → (after gas input n turns).put k ≡ rows_on gas input n k }
     ensures taken { (gas : Rules) (input : RunInputModel) (n : ℕ) (turns : List ℕ) (k : ℕ) →
         IsRunInput gas input → is_done (line_of gas input n) (after gas input n turns) ≡ true →
-        k ≤ input.plan.stages → (after gas input n turns).taken k ≡ rows_on gas input n k }
+        k ≤ input.plan.threads → (after gas input n turns).taken k ≡ rows_on gas input n k }
     ensures last { (gas : Rules) (input : RunInputModel) (n : ℕ) (turns : List ℕ) →
         IsRunInput gas input → is_done (line_of gas input n) (after gas input n turns) ≡ true →
         input.plan.generations ≤ (n + 1) * input.plan.stages →
-        (after gas input n turns).taken input.plan.stages
+        (after gas input n turns).taken input.plan.threads
         ≡ (lattice_after gas input.chirality input.first input.lattice
         input.plan.generations).rows }
     ensures count { (gas : Rules) (input : RunInputModel) (n : ℕ) (turns : List ℕ) →
         IsRunInput gas input → is_done (line_of gas input n) (after gas input n turns) ≡ true →
         events (line_of gas input n) turns start
-        ≡ 2 * input.lattice.channel.height * (input.plan.stages + 1) }
+        ≡ 2 * input.lattice.channel.height * (input.plan.threads + 1) }
 {}
 
 /// The pass is done after any turns that can be cut into rounds, each with a turn of every member,
@@ -78,23 +90,24 @@ pub fn pass_at_the_end()
 pub fn pass_done_in_rounds()
     ensures done { (gas : Rules) (input : RunInputModel) (n : ℕ) (turns : List ℕ) →
         IsRunInput gas input →
-        HasRounds input.plan.stages (2 * input.lattice.channel.height * (input.plan.stages + 1))
+        HasRounds input.plan.threads
+        (2 * input.lattice.channel.height * (input.plan.threads + 1))
         turns → is_done (line_of gas input n) (after gas input n turns) ≡ true }
 {}
 
 /// The first pass of a plan begins with the rows of its lattice. Each later pass begins with the
 /// rows that the pass before it ended with.
 pub fn passes_in_order()
-    ensures first { (gas : Rules) (input : RunInputModel) →
+    ensures first { (gas : Rules) (input : RunInputModel) → IsRunInput gas input →
         rows_on gas input 0 0 ≡ input.lattice.rows }
-    ensures next { (gas : Rules) (input : RunInputModel) (n : ℕ) →
-        rows_on gas input n input.plan.stages ≡ rows_on gas input (n + 1) 0 }
+    ensures next { (gas : Rules) (input : RunInputModel) (n : ℕ) → IsRunInput gas input →
+        rows_on gas input n input.plan.threads ≡ rows_on gas input (n + 1) 0 }
 {}
 
 /// In all passes of a plan but the last, the rows that come back on the last belt are the rows that
 /// follow the lattice's own on the first.
 pub fn rows_return()
     ensures round { (gas : Rules) (input : RunInputModel) (n : ℕ) → IsRunInput gas input →
-        take (n * input.lattice.channel.height) (carried_on gas input (n + 1) input.plan.stages)
+        take (n * input.lattice.channel.height) (carried_on gas input (n + 1) input.plan.threads)
         ≡ drop input.lattice.channel.height (carried_on gas input (n + 1) 0) }
 {}

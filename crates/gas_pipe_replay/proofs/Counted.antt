@@ -13,7 +13,7 @@ use Rattle.gas_pipe_replay.specs.Inner.LocalLine.{belt, Shows}
 use Rattle.gas_pipe_replay.specs.declared.pass.Counts.{Counts}
 
 pub counts_more : (gas : Rules) (input : RunInputModel) (f : FeederModel) (ws : List WorkerModel) (bs : List BeltModel) (s : State) → Shows gas input f ws bs s →
-    (k : ℕ) → k ≤ input.plan.stages → (counts : List Counts) → counts ≡ map (counts_of s) (range_with_len 0 k) →
+    (k : ℕ) → k ≤ input.plan.threads → (counts : List Counts) → counts ≡ map (counts_of s) (range_with_len 0 k) →
     (taken here : ℕ) → taken ≡ length (s.taken k) → here ≡ length (belt bs k).rows →
     counts ++ record { put = taken + here; taken = taken } ∷ [] ≡ map (counts_of s) (range_with_len 0 (k + 1))
 counts_more gas input f ws bs s sh k h counts before taken here is_taken is_here =

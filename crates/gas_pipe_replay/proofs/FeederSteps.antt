@@ -43,7 +43,7 @@ module _ (gas : Rules) (input : RunInputModel) (f v : FeederModel) (ws : List Wo
   is_line = pass_is_line gas input sh.is_input 0
 
   abbrev last : ℕ
-  last = input.plan.stages
+  last = input.plan.threads
 
   holds_to : s.taken 0 ++ (belt bs 0).rows ≡ s.put 0
   holds_to = sh.holds 0 (omega arith)
@@ -72,12 +72,11 @@ module _ (gas : Rules) (input : RunInputModel) (f v : FeederModel) (ws : List Wo
       s2.taken 0 ++ q.rows ≡ s2.put 0 → s2.taken last ++ t.rows ≡ s2.put last → q.capacity ≡ input.plan.capacity → t.capacity ≡ input.plan.capacity →
       Shows gas input v ws (set (set bs 0 q) last t) s2
   shows_feeder s2 puts takens same_channel fed holds_q holds_t cap_q cap_t =
-      let low : 0 < last = sh.some in
+      let low : 0 < last = sh.is_input.workers in
       let top : last < length bs = let a = sh.belts_are in omega arith in
       let none : BeltModel = record { rows = []; capacity = 0 } in
       record {
         is_input = sh.is_input;
-        some = sh.some;
         workers_are = sh.workers_are;
         belts_are = length-set (set bs 0 q) last t ∙ length-set bs 0 q ∙ sh.belts_are;
         channel = same_channel ∙ sh.channel;
@@ -126,7 +125,7 @@ module _ (gas : Rules) (input : RunInputModel) (f v : FeederModel) (ws : List Wo
       let row : RowModel = c.0 in
       let step = taken (belt bs last) row t c.1 in
       let holds_t : s.taken last ++ row ∷ t.rows ≡ s.put last = rw (ap (λ (b : BeltModel). b.rows) step) at holds_from in
-      let low = sh.some in
+      let low = sh.is_input.workers in
       let opens : take_open line s last ≡ true = take_opened line s last (longer (s.taken last) row t.rows (s.put last) holds_t) (inl refl) in
       let e : turn line s 0 ≡ after_take s last = (turn_take line s 0 (le-ltb last 0 (omega arith)) (shut_put c.5) opens).1 in
       let now : grown s.taken last (s.put last) last ≡ s.taken last ++ row ∷ [] = grown_by s.taken last row t.rows (s.put last) holds_t in
@@ -144,7 +143,7 @@ module _ (gas : Rules) (input : RunInputModel) (f v : FeederModel) (ws : List Wo
       let fed : MayHaveFed v 1 (rows_on gas input 0 0) (s.put 0 ++ row ∷ []) (s.taken last) = c.3 1 (rows_on gas input 0 0) (s.put 0) (s.taken last) sh.fed in
       let pre = one_pass_prefix v (rows_on gas input 0 0) (s.put 0 ++ row ∷ []) (s.taken last) fed (high ∙ ap (λ c. c.height) (sym same)) in
       let comes : s.put 0 ++ row ∷ pre.0 ≡ (rows_on gas input 0 0) = sym (append_assoc (s.put 0) (row ∷ []) pre.0) ∙ pre.1 in
-      let low = sh.some in
+      let low = sh.is_input.workers in
       let room : length (belt bs 0).rows < (belt bs 0).capacity = step.0 in
       let opens : put_open line s 0 ≡ true = put_opened line s 0 (longer (s.put 0) row pre.0 (rows_on gas input 0 0) comes) (omega (arith, length_to, cap_to, room)) in
       let e : turn line s 0 ≡ after_put line s 0 = (turn_put line s 0 (le-ltb last 0 (omega arith)) opens).1 in

@@ -2,11 +2,11 @@
 use Rattle.std.proofs.Common.{◌≡◌, ℕ, suc, ◌+◌, ◌≤◌, ◌<◌, inl, inr, true, false, List, [], ◌∷◌, ◌++◌, length, get_or, set, refl, ap, sym, ◌∙◌, subst, arith, length-append, append_assoc, length-set, Option}
 use Rattle.std.proofs.lemmas.Bool.{cases_lt, le-ltb}
 use Rattle.gas_geom.specs.Gas.{Rules, IsGas}
-use Rattle.gas_stage.specs.Stage.{owed as stage_owes}
+use Rattle.gas_stage.specs.Stages.{owed_by}
 use Rattle.gas_rows.specs.Row.{RowModel}
 use Rattle.gas_pipe_model.specs.Line.{Line, State, owed_on, grown, put_open, take_open, turn}
 use Rattle.gas_pipe_model.specs.Inner.Line.{after_put, after_take, IsLine}
-use Rattle.gas_pipe_model.specs.Pass.{RunInputModel, computes_from, line_of, rows_on}
+use Rattle.gas_pipe_model.specs.Pass.{RunInputModel, generations_of, line_of, rows_on}
 use Rattle.gas_pipe_members.specs.Belt.{BeltModel}
 use Rattle.gas_pipe_members.specs.Worker.{WorkerModel, SameWorker, MayHaveDone, WorkerTurned, owes}
 use Rattle.gas_pipe_members.specs.Feeder.{FeederModel}
@@ -29,7 +29,7 @@ TurnedBetween gas w v from from2 to to2 r = WorkerTurned gas w v
     (λ row spare. PlainSends to row spare to2 × PlainGets from spare from2) (to2 ≡ to) (length to.rows < to.capacity) r
 
 module _ (gas : Rules) (input : RunInputModel) (f : FeederModel) (ws : List WorkerModel) (bs : List BeltModel) (s : State) (k : ℕ) (w v : WorkerModel) (t q : BeltModel)
-    (laws : IsGas gas) (fits : Fits (line_of gas input 0) s) (in_line : k < input.plan.stages) (sh : Shows gas input f ws bs s) (is : (d : WorkerModel) → get_or ws k d ≡ w) where
+    (laws : IsGas gas) (fits : Fits (line_of gas input 0) s) (in_line : k < input.plan.threads) (sh : Shows gas input f ws bs s) (is : (d : WorkerModel) → get_or ws k d ≡ w) where
   abbrev line : Line
   line = line_of gas input 0
 
@@ -39,19 +39,19 @@ module _ (gas : Rules) (input : RunInputModel) (f : FeederModel) (ws : List Work
   was : IsAt gas input k w (s.taken k) (s.put (suc k))
   was = subst (λ (u : WorkerModel). IsAt gas input k u (s.taken k) (s.put (suc k))) (is w) (sh.done k w in_line)
 
-  abbrev from : Option ℕ
-  from = computes_from input.first input.plan 0 (suc k)
+  abbrev from : List (Option ℕ)
+  from = generations_of input.first input.plan 0 (suc k)
 
   -- what the worker owes is what the line says
-  owes_line : (u : WorkerModel) → u.stage.channel ≡ input.lattice.channel → u.stage.chirality ≡ input.chirality → (took : List RowModel) →
-      owes gas u from took ≡ stage_owes gas input.lattice.channel input.chirality from took
+  owes_line : (u : WorkerModel) → u.stages.channel ≡ input.lattice.channel → u.stages.chirality ≡ input.chirality → (took : List RowModel) →
+      owes gas u from took ≡ owed_by gas input.lattice.channel input.chirality from took
   owes_line u c r took =
-      ap (λ x. stage_owes gas x u.stage.chirality from took) c ∙ ap (λ x. stage_owes gas input.lattice.channel x from took) r
+      ap (λ x. owed_by gas x u.stages.chirality from took) c ∙ ap (λ x. owed_by gas input.lattice.channel x from took) r
 
   owes_this : owes gas w from (s.taken k) ≡ owed_on line s (suc k)
   owes_this = owes_line w was.channel was.chirality (s.taken k)
 
-  low : k ≤ input.plan.stages
+  low : k ≤ input.plan.threads
   low = omega arith
 
   holds_from : s.taken k ++ (belt bs k).rows ≡ s.put k
@@ -71,7 +71,7 @@ module _ (gas : Rules) (input : RunInputModel) (f : FeederModel) (ws : List Work
 
   -- the line after a change of the worker and its two belts
   shows_worker : (s2 : State) → ((j : ℕ) → (j ≡ suc k → ⊥) → s2.put j ≡ s.put j) → ((j : ℕ) → (j ≡ k → ⊥) → s2.taken j ≡ s.taken j) →
-      v.stage.channel ≡ w.stage.channel → v.stage.chirality ≡ w.stage.chirality → MayHaveDone gas v from (s2.taken k) (s2.put (suc k)) →
+      v.stages.channel ≡ w.stages.channel → v.stages.chirality ≡ w.stages.chirality → MayHaveDone gas v from (s2.taken k) (s2.put (suc k)) →
       s2.taken k ++ t.rows ≡ s2.put k → s2.taken (suc k) ++ q.rows ≡ s2.put (suc k) → t.capacity ≡ input.plan.capacity → q.capacity ≡ input.plan.capacity →
       Shows gas input f (set ws k v) (set (set bs k t) (suc k) q) s2
   shows_worker s2 puts takens same_channel same_chirality done holds_t holds_q cap_t cap_q =
@@ -81,11 +81,10 @@ module _ (gas : Rules) (input : RunInputModel) (f : FeederModel) (ws : List Work
       let none : BeltModel = record { rows = []; capacity = 0 } in
       record {
         is_input = sh.is_input;
-        some = sh.some;
         workers_are = length-set ws k v ∙ sh.workers_are;
         belts_are = length-set (set bs k t) (suc k) q ∙ length-set bs k t ∙ sh.belts_are;
         channel = sh.channel;
-        fed = rw (puts 0 (λ e. absurd (omega arith)), takens input.plan.stages (λ e. absurd (omega arith))) sh.fed;
+        fed = rw (puts 0 (λ e. absurd (omega arith)), takens input.plan.threads (λ e. absurd (omega arith))) sh.fed;
         done = λ j d h. at_set ws k j v d l1 (λ u. IsAt gas input j u (s2.taken j) (s2.put (suc j)))
             (λ e. subst (λ i. IsAt gas input i v (s2.taken i) (s2.put (suc i))) (sym e)
             (record { channel = same_channel ∙ was.channel; chirality = same_chirality ∙ was.chirality; done = done }))
@@ -103,7 +102,7 @@ module _ (gas : Rules) (input : RunInputModel) (f : FeederModel) (ws : List Work
   still_step : SameWorker w v → t ≡ belt bs k → q ≡ belt bs (suc k) → MayHaveDone gas v from (s.taken k) (s.put (suc k)) →
       put_open line s (suc k) ≡ false → take_open line s k ≡ false → Shown
   still_step same same_t same_q done shut no_take =
-      let e : turn line s (suc k) ≡ s = (turn_idle line s (suc k) (le-ltb input.plan.stages (suc k) (omega arith)) shut no_take).1 in
+      let e : turn line s (suc k) ≡ s = (turn_idle line s (suc k) (le-ltb input.plan.threads (suc k) (omega arith)) shut no_take).1 in
       subst (λ u. Shows gas input f (set ws k v) (set (set bs k t) (suc k) q) u) (sym e)
       (shows_worker s (λ j ne. refl) (λ j ne. refl) same.channel same.chirality done
       (rw same_t holds_from)
@@ -118,7 +117,7 @@ module _ (gas : Rules) (input : RunInputModel) (f : FeederModel) (ws : List Work
       let n : length (s.put (suc k)) ≡ length (owed_on line s (suc k)) = ap length ((c.4 from (s.taken k) (s.put (suc k)) was.done).1 ∙ owes_this) in
       let shut : put_open line s (suc k) ≡ false = put_shut line s (suc k) (λ more. absurd (omega arith)) in
       let opens : take_open line s k ≡ true = take_opened line s k (longer (s.taken k) row t.rows (s.put k) holds_k) (inr n) in
-      let e : turn line s (suc k) ≡ after_take s k = (turn_take line s (suc k) (le-ltb input.plan.stages (suc k) (omega arith)) shut opens).1 in
+      let e : turn line s (suc k) ≡ after_take s k = (turn_take line s (suc k) (le-ltb input.plan.threads (suc k) (omega arith)) shut opens).1 in
       let now : grown s.taken k (s.put k) k ≡ s.taken k ++ row ∷ [] = grown_by s.taken k row t.rows (s.put k) holds_k in
       let above : grown s.taken k (s.put k) (suc k) ≡ s.taken (suc k) = grown_other s.taken k (s.put k) (suc k) (λ z. absurd (omega arith)) in
       subst (λ u. Shows gas input f (set ws k v) (set (set bs k t) (suc k) q) u) (sym e)
@@ -140,7 +139,7 @@ module _ (gas : Rules) (input : RunInputModel) (f : FeederModel) (ws : List Work
       let room : length (belt bs (suc k)).rows < (belt bs (suc k)).capacity = step.0 in
       let opens : put_open line s (suc k) ≡ true =
       put_opened line s (suc k) (longer (s.put (suc k)) row pre.0 (owed_on line s (suc k)) comes) (omega (arith, length_to, cap_to, room)) in
-      let e : turn line s (suc k) ≡ after_put line s (suc k) = (turn_put line s (suc k) (le-ltb input.plan.stages (suc k) (omega arith)) opens).1 in
+      let e : turn line s (suc k) ≡ after_put line s (suc k) = (turn_put line s (suc k) (le-ltb input.plan.threads (suc k) (omega arith)) opens).1 in
       let now : grown s.put (suc k) (owed_on line s (suc k)) (suc k) ≡ s.put (suc k) ++ row ∷ [] = grown_by s.put (suc k) row pre.0 (owed_on line s (suc k)) comes in
       let below : grown s.put (suc k) (owed_on line s (suc k)) k ≡ s.put k = grown_other s.put (suc k) (owed_on line s (suc k)) k (λ z. absurd (omega arith)) in
       let rows : q.rows ≡ (belt bs (suc k)).rows ++ row ∷ [] = ap (λ (b : BeltModel). b.rows) step.1 in
@@ -167,7 +166,7 @@ module _ (gas : Rules) (input : RunInputModel) (f : FeederModel) (ws : List Work
   worker_step Done same c =
       let all = c.4 from (s.taken k) (s.put (suc k)) was.done in
       let m : length (s.put (suc k)) ≡ length (owed_on line s (suc k)) = ap length (all.1 ∙ owes_this) in
-      let high : w.stage.channel.height ≡ length (rows_on gas input 0 0) = ap (λ c. c.height) was.channel ∙ sym (rows_high gas input sh.is_input 0 0) in
+      let high : w.stages.channel.height ≡ length (rows_on gas input 0 0) = ap (λ c. c.height) was.channel ∙ sym (rows_high gas input sh.is_input 0 0) in
       let few = put_short line is_line s fits k low in
       still_step same c.0 c.1 (c.2 from (s.taken k) (s.put (suc k)) was.done)
       (put_shut line s (suc k) (λ more. absurd (omega (arith, more, m))))

@@ -19,11 +19,16 @@ pub record ReplayModel : Type 0 where
 abbrev pub counts_of : State → ℕ → Counts
 counts_of s k = record { put = length (s.put k); taken = length (s.taken k) }
 
+-- the input of a replay, which has a worker for each stage of its plan
+abbrev pub input_of : Chirality → ℕ → LatticeModel → PlanModel → RunInputModel
+input_of chirality first lattice plan =
+    record { chirality = chirality; first = first; lattice = lattice; plan = record plan { threads = plan.stages } }
+
 -- The state of the one pass of a plan after these turns: how far each of its belts is and, if it is done, the lattice after all
 -- generations. Without a generation to compute there is no belt, and it is done at once.
 abbrev pub replay_of : Rules → Chirality → ℕ → LatticeModel → PlanModel → List ℕ → ReplayModel
 replay_of gas chirality first lattice plan turns =
-    let input : RunInputModel = record { chirality = chirality; first = first; lattice = lattice; plan = plan } in
+    let input : RunInputModel = input_of chirality first lattice plan in
     if plan.generations == 0 then record { lattice = Some lattice; belts = [] }
     else record {
       lattice = if is_done (line_of gas input 0) (after gas input 0 turns) then Some (lattice_after gas chirality first lattice plan.generations) else None;

@@ -19,9 +19,10 @@ use gas_rows::chirality::Chirality;
 use gas_rows::lattice::Lattice;
 use std::alloc::Global;
 
-/// Makes one pass over a lattice of generation `first` on one thread. Each number in `turns` lets
-/// that member make a turn: 0 is the feeder, k is worker k, and a number above the workers' is no
-/// member's. A plan that needs more than one pass is refused.
+/// Makes one pass over a lattice of generation `first` on one thread, with a worker for each stage,
+/// whatever threads the plan has. Each number in `turns` lets that member make a turn: 0 is the
+/// feeder, k is worker k, and a number above the workers' is no member's. A plan that needs more
+/// than one pass is refused.
 pub fn replay<G: Gas>(
     alloc: Global,
     lattice: &Lattice<G>,
@@ -50,7 +51,10 @@ pub fn replay<G: Gas>(
     let input = RunInput {
         lattice,
         chirality,
-        span: Span { first, plan },
+        span: Span {
+            first,
+            plan: plan.with_thread_each(),
+        },
     };
     let mut line = LocalLine::new(alloc, &input)?;
     line.run(turns);

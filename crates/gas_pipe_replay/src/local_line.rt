@@ -51,20 +51,21 @@ fn turn_feeder<G: Gas>(feeder: &mut Feeder<G>, belts: &mut [PlainBelt<G>]) -> Tu
     feeder.turn(&mut before[0], &mut behind[0])
 }
 
-// Makes the workers of a pass, and lets each begin it.
+// Makes the workers of a pass, one for each stage, and lets each begin it.
 fn begin_workers<'a, G: Gas>(
     alloc: Global,
     input: &RunInput<'a, G>,
 ) -> Result<Vec<Worker<'a, G>>, AllocError>
     requires some { 0 < input.now.plan.generations }
+    requires each { input.now.plan.threads ≡ input.now.plan.stages }
     ensures begun { IfOk result (λ workers.
-        HaveBegun G.rules input.now workers.items input.now.plan.stages) }
-    ensures some { 0 < input.now.plan.stages }
-    ensures few { input.now.plan.stages ≤ 64 }
+        HaveBegun G.rules input.now workers.items input.now.plan.threads) }
+    ensures some { 0 < input.now.plan.threads }
+    ensures few { input.now.plan.threads ≤ 64 }
 {
-    let stages = input.span.plan.stages();
-    let mut workers = Vec::with_capacity(alloc, stages as usize)?;
-    for k in 0..stages {
+    let count = input.span.plan.threads();
+    let mut workers = Vec::with_capacity(alloc, count as usize)?;
+    for k in 0..count {
         let mut worker = Worker::new(alloc, input.lattice.channel(), input.chirality)?;
         worker.begin(input.span.generation(0, k + 1));
         workers.push(worker)?;
@@ -74,12 +75,12 @@ fn begin_workers<'a, G: Gas>(
 
 // Makes the plan's belts, one more than it has workers.
 fn make_belts<G: Gas>(alloc: Global, plan: Plan) -> Result<Vec<PlainBelt<G>>, AllocError>
-    ensures unused { IfOk result (λ belts. AreUnused plan.capacity belts.items (plan.stages + 1)) }
+    ensures unused { IfOk result (λ belts. AreUnused plan.capacity belts.items (plan.threads + 1)) }
     ensures some { 0 < plan.capacity }
 {
     let capacity = plan.capacity();
-    let mut belts = Vec::with_capacity(alloc, plan.stages() as usize + 1)?;
-    for _ in 0..=plan.stages() {
+    let mut belts = Vec::with_capacity(alloc, plan.threads() as usize + 1)?;
+    for _ in 0..=plan.threads() {
         belts.push(PlainBelt::new(alloc, capacity)?)?;
     }
     Ok(belts)
@@ -101,6 +102,7 @@ impl<'a, G: Gas> LocalLine<'a, G> {
     /// The line of a plan's first pass before its first turn.
     pub(crate) fn new(alloc: Global, input: &RunInput<'a, G>) -> Result<Self, AllocError>
         requires some { 0 < input.now.plan.generations }
+        requires each { input.now.plan.threads ≡ input.now.plan.stages }
         ensures input { IfOk result (λ _. IsRunInput G.rules input.now) }
         ensures begun { IfOk result (λ line. HasMade G.rules input.now line []) }
     {
@@ -156,7 +158,7 @@ impl<'a, G: Gas> LocalLine<'a, G> {
         ensures few { IfOk result (λ counts. length counts.items ≤ 65) }
         ensures value { IfOk result (λ counts. (input : RunInputModel) (turns : List ℕ) →
             HasMade G.rules input self.now turns → counts.items
-            ≡ map (counts_of (after G.rules input 0 turns)) (range_with_len 0 (input.plan.stages + 1))) }
+            ≡ map (counts_of (after G.rules input 0 turns)) (range_with_len 0 (input.plan.threads + 1))) }
     {
         let mut counts = Vec::with_capacity(alloc, self.belts.len())?;
         for k in 0..self.belts.len() {
@@ -171,7 +173,7 @@ impl<'a, G: Gas> LocalLine<'a, G> {
     pub(crate) fn finish(self) -> Option<Lattice<G>>
         ensures { (input : RunInputModel) (turns : List ℕ) → HasMade G.rules input self.entry turns →
             result ≡ (if is_done (line_of G.rules input 0) (after G.rules input 0 turns)
-            then Some (record input.lattice { rows = rows_on G.rules input 0 input.plan.stages })
+            then Some (record input.lattice { rows = rows_on G.rules input 0 input.plan.threads })
             else None) }
     {
         if self.feeder.is_closed() {

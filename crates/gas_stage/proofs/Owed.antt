@@ -17,7 +17,7 @@ module _ (gas : Rules) (c : ChannelModel) (chirality : Chirality) where
   abbrev by_length : ℕ → List (List ℕ) → Bool → List (List ℕ)
   by_length g q whole = if whole then rows g q else take (length q - 1) (rows g q)
 
-  owed-whole : (g : ℕ) (q : List (List ℕ)) → length q ≡ c.height → owed gas c chirality (Some g) q ≡ rows g q
+  pub owed-whole : (g : ℕ) (q : List (List ℕ)) → length q ≡ c.height → owed gas c chirality (Some g) q ≡ rows g q
   owed-whole g q e = ap (by_length g q) (eq-eqb (length q) c.height e)
 
   -- the rows whose neighbours have come are among those owed

@@ -1,2 +1,3 @@
 -- Inner words: what functions of this crate promise one another. No public contract cites them.
 pub mod Passes
+pub mod Stages

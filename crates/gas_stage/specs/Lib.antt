@@ -1,3 +1,4 @@
 pub mod Stage
+pub mod Stages
 pub mod Evolution
 pub mod Inner

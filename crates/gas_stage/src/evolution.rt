@@ -1,5 +1,5 @@
 //! Generations of a whole lattice, by one stage on one thread.
-ghost use Rattle.std.specs.Prelude.{ℕ, ◌≡◌, ◌<◌, ◌++◌, ◌+◌, ◌^◌, None, IsSome, IfOk};
+ghost use Rattle.std.specs.Prelude.{ℕ, ◌≡◌, length, min, ◌<◌, ◌++◌, ◌+◌, ◌^◌, None, IsSome, IfOk};
 ghost use Rattle.std.specs.Option.{option_to_list};
 ghost use Rattle.std.specs.VecDeque.{deque_len, deque_capacity};
 ghost use Rattle.gas_geom.specs.Gas.{Rules};
@@ -7,6 +7,7 @@ ghost use Rattle.gas_geom.specs.Lattice.{LatticeModel, IsLattice, next, generati
 ghost use Rattle.gas_rows.specs.Chirality.{chirality_bit};
 ghost use Rattle.gas_rows.specs.declared.chirality.Chirality.{Chirality};
 ghost use Rattle.gas_stage.specs.Evolution.{lattice_after};
+ghost use Rattle.gas_stage.specs.Stages.{passes_from, owed_by};
 
 use crate::stage::Stage;
 use gas_geom::gas::Gas;
@@ -38,6 +39,15 @@ pub fn lattice_after<G: Gas>(
     drop(stage);
     Ok(Lattice::from_rows(channel, Vec::from(rows)))
 }
+
+/// A pass of stages one behind another over all rows of a lattice gives the rows of the lattice as
+/// many generations later as stages compute.
+pub fn a_pass_of_stages()
+    ensures lattice { (gas : Rules) (chirality : Chirality) (first computing count : ℕ) (l : LatticeModel) →
+        length l.rows ≡ l.channel.height →
+        owed_by gas l.channel chirality (passes_from first computing count) l.rows
+        ≡ (lattice_after gas chirality first l (min count computing)).rows }
+{}
 
 /// Generations add up: m generations and then n more, counted on from there, lead to the lattice
 /// of m + n generations.

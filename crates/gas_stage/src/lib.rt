@@ -2,5 +2,7 @@
 #![tactic(auto)]
 
 pub mod evolution;
+pub mod reversal;
 pub mod stage;
+pub mod stages;
 pub mod stream;

@@ -40,8 +40,8 @@ pub(crate) const RUN: Help = Help {
        (put `<` before the scene's file)",
     about: "Compute generations of the scene and print the cells",
     notes: "\
-A line of N workers computes the generations. Each worker computes one generation, row by row, from
-the rows of the worker before it. It has a thread of its own, or T threads share the workers: choose
+A line of N stages computes the generations. Each stage computes one generation, row by row, from
+the rows of the stage before it. It has a thread of its own, or T threads share the stages: choose
 as many threads as there are free cores. The output does not depend on T, N and C.
 
 The first line has the generation reached and the number of particles. Then come the rows of the
@@ -91,13 +91,13 @@ Example: fhpgas replay --generations 1 --stages 1 0 1 0 1 < scene.toml",
 
 pub(crate) const GENERATIONS: &str = "Generations (time steps) to compute: 0 to 1000000";
 
-pub(crate) const STAGES: &str = "Workers of the line, one generation each: 1 to 64 [default: 4]";
+pub(crate) const STAGES: &str = "Stages of the line, one generation each: 1 to 64 [default: 4]";
 
 pub(crate) const CAPACITY: &str =
     "Rows in a belt, the queue between two workers: 1 to 1024 [default: 2]";
 
 pub(crate) const THREADS: &str = "\
-Threads that share the workers: 1 to N [default: N]. With --threads
+Threads that share the stages: 1 to N [default: N]. With --threads
 the default N is 8 T, at most 64, and the default C 128";
 
 pub(crate) const BLOCK_WIDTH: &str = "Columns of cells in a block: 1 to 4096";

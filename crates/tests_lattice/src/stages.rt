@@ -1,6 +1,6 @@
-//! Passes of a stage, and rows that are streamed by themselves.
+//! Passes of a stage and of stages one behind another, and rows that are streamed by themselves.
 
-ghost use Rattle.std.specs.Prelude.{◌≡◌, length, IfOk, IsOk, None};
+ghost use Rattle.std.specs.Prelude.{◌≡◌, ◌+◌, ◌≤◌, ◌^◌, length, IfOk, IsOk, None};
 ghost use Rattle.gas_geom.specs.Channel.{free_channel};
 
 use gas_geom::fhp1::Fhp1;
@@ -9,6 +9,7 @@ use gas_rows::channel::Channel;
 use gas_rows::chirality::Chirality;
 use gas_rows::row::Row;
 use gas_stage::stage::Stage;
+use gas_stage::stages::Stages;
 use gas_stage::stream::stream_row;
 use std::alloc::Global;
 use std::process::Abort;
@@ -123,6 +124,108 @@ fn one_row(rt: HostRuntime) -> Result<(), Fail> {
     )?;
     let passed_on = [((0, 0x01), Some((0, 0x01)))];
     pass(&rt, alloc, &mut stage, &channel, None, &passed_on, None)
+}
+
+// How many rows were given so far, with one more if this row is the next that is wanted.
+fn given_with(rt: &impl Abort, row: Option<Row<Fhp1>>, wanted: &[OneCell], given: usize) -> usize {
+    let Some(row) = row else {
+        return given;
+    };
+    assert!(rt; given < wanted.len(), "a row too many");
+    assert!(rt; has_only(&row, wanted[given]), "row {given}");
+    given + 1
+}
+
+// A pass of stages, of which the first `computing` compute from generation `first` on: the rows that
+// the first is fed, and those that the last has to give.
+fn pass_of_stages(
+    rt: &impl Abort,
+    alloc: Global,
+    stages: &mut Stages<'_, Fhp1>,
+    channel: &Channel,
+    first: u64,
+    computing: u32,
+    rows: &[OneCell],
+    wanted: &[OneCell],
+) -> Result<(), Fail>
+    requires closed { stages.old.flushed ≡ length stages.old.stages }
+    requires channel { stages.old.channel ≡ channel.now }
+    ensures closed { IsOk result → stages.new.flushed ≡ length stages.new.stages }
+    ensures channel { IsOk result → stages.new.channel ≡ channel.now }
+{
+    let size = channel.size();
+    let mut given = 0;
+    stages.begin(first % (1 << 60), computing);
+    for &cell in rows {
+        let row = row_with(alloc, size, cell)?;
+        assert!(rt; stages.is_open() && stages.fed() < size.height());
+        given = given_with(rt, stages.feed(row), wanted, given);
+    }
+    assert!(rt; stages.fed() == size.height());
+    while stages.is_open() {
+        given = given_with(rt, stages.flush(), wanted, given);
+    }
+    assert!(rt; given == wanted.len());
+    Ok(())
+}
+
+// Passes of 1, 2 and 8 stages in which all compute, some, and none.
+#[test]
+fn stages_of_one_row(rt: HostRuntime) -> Result<(), Fail> {
+    let alloc = rt.alloc();
+    let channel = channel_of(alloc, 4, 1)?;
+    for count in [1, 2, 8] {
+        assert!(rt; count > 0 && count <= 64);
+        let mut stages = Stages::new(alloc, &channel, Chirality::Left, count)?;
+        assert!(rt; stages.count() == count && !stages.is_open());
+        for computing in 0..=count {
+            let rows = [(0, 0x01)];
+            let wanted = [(computing % 4, 0x01)];
+            pass_of_stages(
+                &rt,
+                alloc,
+                &mut stages,
+                &channel,
+                7,
+                computing,
+                &rows,
+                &wanted,
+            )?;
+        }
+    }
+    Ok(())
+}
+
+// The two particles of `two_rows`, which come back from the walls.
+#[test]
+fn stages_of_two_rows(rt: HostRuntime) -> Result<(), Fail> {
+    let alloc = rt.alloc();
+    let channel = channel_of(alloc, 4, 2)?;
+    let generations = [
+        [(0, 0x20), (2, 0x02)],
+        [(3, 0x02), (0, 0x20)],
+        [(3, 0x10), (0, 0x04)],
+        [(0, 0x04), (2, 0x10)],
+    ];
+    for count in [3, 8] {
+        assert!(rt; count > 0 && count <= 64);
+        let mut stages = Stages::new(alloc, &channel, Chirality::Left, count)?;
+        for computing in 0..4 {
+            let rows = &generations[0];
+            let wanted = &generations[computing as usize];
+            pass_of_stages(
+                &rt,
+                alloc,
+                &mut stages,
+                &channel,
+                0,
+                computing,
+                rows,
+                wanted,
+            )?;
+        }
+    }
+    Ok(())
 }
 
 #[test]

@@ -1,4 +1,4 @@
-//! Belts between threads.
+//! Belts.
 
 ghost use Rattle.std.specs.Prelude.{◌≡◌, IfOk};
 
@@ -41,16 +41,11 @@ fn number(row: &Row<Fhp1>) -> u32 {
 // A step with a belt, and its expected outcome. Rows are named by their numbers.
 #[derive(Clone, Copy)]
 enum Step {
-    // A row is put, put so that it may gather, or handed back.
+    // A row is put or handed back.
     Put(u32),
-    Gathered(u32),
     PutBack(u32),
-    GatheredBack(u32),
     // A row of another width, in cells, is handed back.
     OtherBack(u32),
-    // Rows that gathered are shown, or there were none.
-    Shown,
-    NothingShown,
     Spare(u32),
     NoSpare,
     Taken(u32),
@@ -65,29 +60,16 @@ fn is_numbered(row: Option<Row<Fhp1>>, width: u32, n: u32) -> bool {
     row.is_some_and(|row| row.width() == width && number(&row) == n)
 }
 
-// Puts a row, so that it may gather or not. Returns it if it is handed back.
-fn offer(tx: &mut Tx<Fhp1>, row: Row<Fhp1>, gathers: bool) -> Option<Row<Fhp1>>
-    ensures { tx.new.belt ≡ tx.old.belt }
-{
-    if gathers {
-        tx.try_gather(row).err()
-    } else {
-        tx.try_put(row).err()
-    }
-}
-
-// The same of a new row of this width, with this number.
+// Puts a new row of this width, with this number. Returns it if it is handed back.
 fn put(
     alloc: Global,
     tx: &mut Tx<Fhp1>,
-    gathers: bool,
     width: u32,
     n: u32,
 ) -> Result<Option<Row<Fhp1>>, AllocError>
     ensures { tx.new.belt ≡ tx.old.belt }
 {
-    let row = numbered_row(alloc, width, n)?;
-    Ok(offer(tx, row, gathers))
+    Ok(tx.try_put(numbered_row(alloc, width, n)?).err())
 }
 
 // Does a step with the end that rows are put on. Returns whether its outcome is the expected one.
@@ -95,13 +77,9 @@ fn send(alloc: Global, tx: &mut Tx<Fhp1>, width: u32, step: Step) -> Result<bool
     ensures { tx.new.belt ≡ tx.old.belt }
 {
     Ok(match step {
-        Step::Put(n) => put(alloc, tx, false, width, n)?.is_none(),
-        Step::Gathered(n) => put(alloc, tx, true, width, n)?.is_none(),
-        Step::PutBack(n) => is_numbered(put(alloc, tx, false, width, n)?, width, n),
-        Step::GatheredBack(n) => is_numbered(put(alloc, tx, true, width, n)?, width, n),
-        Step::OtherBack(cells) => is_numbered(put(alloc, tx, false, cells, 5)?, cells, 5),
-        Step::Shown => tx.has_gathered() && tx.show(),
-        Step::NothingShown => !tx.has_gathered() && !tx.show(),
+        Step::Put(n) => put(alloc, tx, width, n)?.is_none(),
+        Step::PutBack(n) => is_numbered(put(alloc, tx, width, n)?, width, n),
+        Step::OtherBack(cells) => is_numbered(put(alloc, tx, cells, 5)?, cells, 5),
         Step::Spare(n) => is_numbered(tx.spare(), width, n),
         Step::NoSpare => tx.spare().is_none(),
         _ => true,

@@ -1,7 +1,7 @@
 //! The rows that each belt of a line carries, compared one by one. All members have their turns on
 //! one thread. A belt has one place: a row is looked at as soon as it is put.
 
-use super::helpers::{feeder, finished, turn_feeder, turn_worker, worker};
+use super::helpers::{feeder, finished, turn_feeder, turn_stages, worker};
 use super::runs::{Cell, full_lattice, lattice};
 use gas_geom::fhp1::Fhp1;
 use gas_geom::size::Size;
@@ -48,13 +48,13 @@ impl Line<'_> {
         words(lattice.row(n % lattice.channel().size().height()))
     }
 
-    // What worker `k`, counted from 0, begins its next pass with, if there is one, after it has put
-    // that number of rows.
-    fn beginning(&self, k: usize, put: u32) -> Option<Option<u64>> {
+    // The generation from which worker `k`, counted from 0, begins its next pass, and how many of its
+    // stages compute, if there is a next pass after it has put that number of rows.
+    fn beginning(&self, k: usize, put: u32) -> Option<(u64, u32)> {
         let who = u32::try_from(k).ok()?;
         let pass = u64::from(put / self.height.max(1));
-        if pass < self.span.plan.passes() && who < self.span.plan.stages() {
-            Some(self.span.generation(pass, who + 1))
+        if pass < self.span.plan.passes() && who < self.span.plan.threads() {
+            Some(self.span.generations(pass, who + 1))
         } else {
             None
         }
@@ -96,7 +96,7 @@ fn turn_member(
     assert!(rt; k < workers.len() && workers.len() < belts.len());
     let (before, behind) = belts.split_at_mut(k + 1);
     let next = line.beginning(k, behind[0].carried);
-    match turn_worker(
+    match turn_stages(
         &mut workers[k],
         next,
         &mut before[k].rows,
@@ -151,16 +151,17 @@ fn play(
     are_over(rt, line, belts);
 }
 
-// Workers that have begun no pass.
+// A worker for each thread of a plan, with its share of the stages, that has begun no pass.
 fn workers<'a>(
     alloc: Global,
     channel: &'a Channel,
     chirality: Chirality,
-    stages: u32,
+    plan: Plan,
 ) -> Result<Vec<Worker<'a, Fhp1>>, AllocError> {
     let mut workers = Vec::new(alloc);
-    for _ in 0..stages {
-        workers.push(worker(alloc, channel, chirality)?)?;
+    for k in 0..plan.threads() {
+        let stages = plan.before(k + 1).wrapping_sub(plan.before(k));
+        workers.push(worker(alloc, channel, chirality, stages)?)?;
     }
     Ok(workers)
 }
@@ -207,7 +208,7 @@ fn carries(
         lattices,
         height: first.channel().size().height(),
     };
-    let mut workers = workers(alloc, first.channel(), chirality, plan.stages())?;
+    let mut workers = workers(alloc, first.channel(), chirality, plan)?;
     let mut belts = belts(alloc, carried)?;
     let mut feeder = feeder(alloc, first, plan.passes())?;
     play(rt, &line, &mut feeder, &mut workers, &mut belts);
@@ -229,8 +230,17 @@ fn one_cell_each(
     Ok(lattices)
 }
 
-// Two workers compute five generations, in each of which this one cell is not empty. The second
-// worker hands the rows of the third pass on.
+// Stages and threads of lines that compute five generations, and the generations that each belt
+// carries. In the last pass some stages hand rows on.
+const LINES: [(u32, u32, &[&[usize]]); 5] = [
+    (2, 2, &[&[0, 2, 4], &[1, 3, 5], &[2, 4, 5]]),
+    (2, 1, &[&[0, 2, 4], &[2, 4, 5]]),
+    (3, 2, &[&[0, 3], &[1, 4], &[3, 5]]),
+    (4, 3, &[&[0, 4], &[1, 5], &[2, 5], &[4, 5]]),
+    (7, 2, &[&[0], &[3], &[5]]),
+];
+
+// Lines compute five generations, in each of which this one cell is not empty.
 fn carries_one_cell(
     rt: &impl Abort,
     alloc: Global,
@@ -239,9 +249,11 @@ fn carries_one_cell(
     cells: &[Cell],
 ) -> Result<(), Fail> {
     let lattices = one_cell_each(alloc, size, cells)?;
-    let carried: [&[usize]; 3] = [&[0, 2, 4], &[1, 3, 5], &[2, 4, 5]];
-    let plan = Plan::new(2, 1, 5)?;
-    carries(rt, alloc, (chirality, plan), &lattices, &carried)
+    for (stages, threads, carried) in LINES {
+        let plan = Plan::new(stages, 1, 5)?.on(threads)?;
+        carries(rt, alloc, (chirality, plan), &lattices, carried)?;
+    }
+    Ok(())
 }
 
 // It moves one column to the east in each generation.

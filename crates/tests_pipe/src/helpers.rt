@@ -33,13 +33,17 @@ pub(super) fn feeder(
     Ok(feeder)
 }
 
-/// A worker that has begun no pass.
+/// A worker of 1 to 64 stages that has begun no pass.
 pub(super) fn worker(
     alloc: Global,
     channel: &Channel,
     chirality: Chirality,
+    stages: u32,
 ) -> Result<Worker<'_, Fhp1>, AllocError> {
-    Worker::new(alloc, channel, chirality)
+    if stages == 1 {
+        return Worker::new(alloc, channel, chirality);
+    }
+    Worker::with_stages(alloc, channel, chirality, stages.clamp(1, 64))
 }
 
 /// A turn of a worker. After its last turn in a pass it begins the next one, if there is one.
@@ -52,6 +56,21 @@ pub(super) fn turn_worker(
     let turned = worker.turn(before, behind);
     if let (Turned::Done, Some(generation)) = (turned, next) {
         worker.begin(generation);
+    }
+    turned
+}
+
+/// A turn of a worker, as `turn_worker` makes it. In the next pass so many of its stages compute from
+/// that generation on.
+pub(super) fn turn_stages(
+    worker: &mut Worker<'_, Fhp1>,
+    next: Option<(u64, u32)>,
+    before: &mut PlainBelt<Fhp1>,
+    behind: &mut PlainBelt<Fhp1>,
+) -> Turned {
+    let turned = worker.turn(before, behind);
+    if let (Turned::Done, Some((first, computing))) = (turned, next) {
+        worker.begin_stages(first.min(1_000_000), computing);
     }
     turned
 }

@@ -141,7 +141,7 @@ fn plays_on(
     case: &Case,
 ) -> Result<(), AllocError> {
     let mut belts = belts_of(alloc, case)?;
-    let mut worker = worker(alloc, lattice.channel(), Chirality::Left)?;
+    let mut worker = worker(alloc, lattice.channel(), Chirality::Left, 1)?;
     let mut feeder = feeder(alloc, lattice, case.passes)?;
     let mut generation = 0;
     for (member, wanted) in case.turns {

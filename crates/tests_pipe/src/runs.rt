@@ -139,7 +139,7 @@ fn went_through<G: Gas>(rt: &impl Abort, run: &Run<G>, passes: u64, belts: u32, 
     assert!(rt; run.rows_through(passes, 0).is_none());
 }
 
-// Asserts that a run of `stages` workers on so many threads, from generation `first` on, comes to these
+// Asserts that a run of `stages` stages on so many threads, from generation `first` on, comes to these
 // cells.
 fn comes_to_on<G: Gas + Send, R: Abort + Threads + Wait + Sync>(
     rt: &R,
@@ -157,13 +157,13 @@ fn comes_to_on<G: Gas + Send, R: Abort + Threads + Wait + Sync>(
         rt,
         &run,
         passes,
-        stages.wrapping_add(1),
+        threads.wrapping_add(1),
         lattice.channel().size().height(),
     );
     Ok(())
 }
 
-// The same on one thread, on two, and on a thread for each worker.
+// The same on one thread, on two, on three, and on a thread for each stage.
 fn comes_to<G: Gas + Send, R: Abort + Threads + Wait + Sync>(
     rt: &R,
     alloc: Global,
@@ -172,7 +172,7 @@ fn comes_to<G: Gas + Send, R: Abort + Threads + Wait + Sync>(
     (stages, first): (u32, u64),
     after: (u64, &[Cell]),
 ) -> Result<(), Fail> {
-    for threads in [1, stages.min(2), stages] {
+    for threads in [1, stages.min(2), stages.min(3), stages] {
         let line = (stages, threads, first);
         comes_to_on(rt, alloc, lattice, chirality, line, after)?;
     }
@@ -397,6 +397,28 @@ fn of_other_lines(rt: HostRuntime) -> Result<(), Fail> {
     plays::<Fhp1, _>(&rt, rt.alloc(), (2, 10), &DRIFT)
 }
 
+// One particle that moves east on seven columns and 1,024 rows.
+fn tall_lattice(alloc: Global) -> Result<Lattice<Fhp1>, Fail> {
+    let size = Size::new(7, 1024).ok_or("a size")?;
+    Ok(lattice(alloc, size, &[(0, 511, 0x01)])?)
+}
+
+#[test]
+fn of_everyday_length_on_two_threads(rt: HostRuntime) -> Result<(), Fail> {
+    let lattice = tall_lattice(rt.alloc())?;
+    let plan = Plan::new(16, 128, 4096)?.on(2)?;
+    let run = run_from(&rt, rt.alloc(), &lattice, Left, 0, plan, &NoGate)?;
+    has_cells(&rt, run.lattice(), &[(1, 511, 0x01)]);
+    Ok(())
+}
+
+#[test]
+fn of_sixteen_stages_on_three_threads(rt: HostRuntime) -> Result<(), Fail> {
+    let lattice = tall_lattice(rt.alloc())?;
+    let after: (u64, &[Cell]) = (37, &[(2, 511, 0x01)]);
+    comes_to_on(&rt, rt.alloc(), &lattice, Left, (16, 3, 0), after)
+}
+
 // Five columns and four rows of this state, with an obstacle at (2, 1).
 pub(super) fn full_lattice<G: Gas>(alloc: Global, state: u8) -> Result<Lattice<G>, Fail> {
     let size = Size::new(5, 4).ok_or("a size")?;
@@ -437,8 +459,8 @@ fn full_lattices_in_three_passes(rt: HostRuntime) -> Result<(), Fail> {
     stays_full::<FhpRest, _>(&rt, rt.alloc(), 0x7f, 133)
 }
 
-// Adds up who entered, who left, and how often those who left had entered by then: worker k counts
-// 256^(k - 1), for up to 4 workers.
+// Adds up who entered, who left, and how often those who left had entered by then: stage k counts
+// 256^(k - 1), for up to 4 stages.
 #[derive(Drop)]
 struct Counts {
     entered: AtomicU64,
@@ -485,7 +507,7 @@ impl Gate for Counts {
     }
 }
 
-// Asserts how often the workers of a run of five generations enter and leave, the latter once and
+// Asserts how often the stages of a run of five generations enter and leave, the latter once and
 // after all passes, on any number of threads.
 fn counts_are<R: Abort + Threads + Wait + Sync>(
     rt: &R,
@@ -505,7 +527,7 @@ fn counts_are<R: Abort + Threads + Wait + Sync>(
 }
 
 #[test]
-fn each_worker_enters_each_pass_and_leaves_at_last(rt: HostRuntime) -> Result<(), Fail> {
+fn each_stage_enters_each_pass_and_leaves_at_last(rt: HostRuntime) -> Result<(), Fail> {
     counts_are(&rt, rt.alloc(), 1, 0x5, 0x1)?;
     counts_are(&rt, rt.alloc(), 2, 0x303, 0x101)?;
     counts_are(&rt, rt.alloc(), 4, 0x202_0202, 0x101_0101)

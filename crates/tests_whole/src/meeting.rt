@@ -18,22 +18,24 @@ use std::test::Fail;
 use std::thread;
 use std::thread::Threads;
 
-// A gate in which each worker waits until all have entered as often as it has. It counts those for
-// whom the others never came.
+// A gate in which each worker of `stages` stages waits with its first one until all have entered as often
+// as it has. It counts those for whom the others never came.
 #[derive(Drop)]
 struct Meeting {
+    stages: u32,
     entered: Vec<AtomicU64>,
     left: AtomicU64,
     missed: AtomicU64,
 }
 
 impl Meeting {
-    fn of(alloc: Global, workers: usize) -> Result<Meeting, AllocError> {
+    fn of(alloc: Global, workers: usize, stages: u32) -> Result<Meeting, AllocError> {
         let mut entered = Vec::with_capacity(alloc, workers)?;
         for _ in 0..workers {
             entered.push(AtomicU64::new(0))?;
         }
         Ok(Meeting {
+            stages,
             entered,
             left: AtomicU64::new(0),
             missed: AtomicU64::new(0),
@@ -47,7 +49,11 @@ impl Meeting {
     }
 
     fn waits(&self, who: u32) -> bool {
-        let Some(mine) = self.entered.get(who.wrapping_sub(1) as usize) else {
+        let before = who.wrapping_sub(1);
+        if before % self.stages.max(1) != 0 {
+            return true;
+        }
+        let Some(mine) = self.entered.get((before / self.stages.max(1)) as usize) else {
             return false;
         };
         let times = mine.fetch_add(1, Ordering::SeqCst).wrapping_add(1);
@@ -60,10 +66,10 @@ impl Meeting {
         false
     }
 
-    // Asserts that no worker waited in vain, and how many threads ended.
-    fn was_kept(&self, rt: &impl Abort, threads: u64) {
+    // Asserts that no worker waited in vain, and how many stages left.
+    fn was_kept(&self, rt: &impl Abort, stages: u64) {
         assert_eq!(rt; self.missed.load(Ordering::SeqCst), 0);
-        assert_eq!(rt; self.left.load(Ordering::SeqCst), threads);
+        assert_eq!(rt; self.left.load(Ordering::SeqCst), stages);
     }
 }
 
@@ -91,7 +97,7 @@ fn assert_prints<R: Abort + Threads + Wait + Sync>(
 ) -> Result<(), Fail>
     requires { IsAllowed request.now }
 {
-    let gate = Meeting::of(alloc, 4)?;
+    let gate = Meeting::of(alloc, 4, 1)?;
     let mut out = Vec::new(alloc);
     perform(rt, alloc, SCENE, request, &gate, &mut out)?;
     assert!(rt; out.as_slice() == wanted.as_bytes());
@@ -107,16 +113,16 @@ fn drifting_lattice(alloc: Global) -> Result<Lattice<Fhp1>, Fail> {
     Ok(lattice)
 }
 
-// A run of four workers for five generations. It promises nothing, so that no test carries the
-// promises of `run`.
+// A run of so many stages on so many threads for five generations. It promises nothing, so that no test
+// carries the promises of `run`.
 fn run_through<R: Threads + Wait + Sync>(
     rt: &R,
     alloc: Global,
     lattice: &Lattice<Fhp1>,
-    capacity: u32,
+    (stages, threads, capacity): (u32, u32, u32),
     gate: &Meeting,
 ) -> Result<Run<Fhp1>, Fail> {
-    let plan = Plan::new(4, capacity, 5)?;
+    let plan = Plan::new(stages, capacity, 5)?.on(threads)?;
     Ok(run(rt, alloc, lattice, Chirality::Left, 0, plan, gate)?)
 }
 
@@ -128,24 +134,33 @@ fn has_drifted(rt: &impl Abort, lattice: &Lattice<Fhp1>) {
     assert!(rt; lattice.count() == 1);
 }
 
-// The workers of a run of two passes meet before each, however many rows a belt has places for.
+// The workers of a run meet before each pass, in which each waits for a stage of each other thread: on
+// fewer threads one of them waits in vain.
 fn workers_meet<R: Abort + Threads + Wait + Sync>(
     rt: &R,
     alloc: Global,
-    capacity: u32,
+    plan: (u32, u32, u32),
+    stages: u32,
 ) -> Result<(), Fail> {
     let lattice = drifting_lattice(alloc)?;
-    let gate = Meeting::of(alloc, 4)?;
-    let run = run_through(rt, alloc, &lattice, capacity, &gate)?;
-    gate.was_kept(rt, 4);
+    let gate = Meeting::of(alloc, plan.1 as usize, stages)?;
+    let run = run_through(rt, alloc, &lattice, plan, &gate)?;
+    gate.was_kept(rt, u64::from(plan.0));
     has_drifted(rt, run.lattice());
     Ok(())
 }
 
 #[test]
 fn all_workers_of_a_run_meet(rt: HostRuntime) -> Result<(), Fail> {
-    workers_meet(&rt, rt.alloc(), 1)?;
-    workers_meet(&rt, rt.alloc(), 32)
+    workers_meet(&rt, rt.alloc(), (4, 4, 1), 1)?;
+    workers_meet(&rt, rt.alloc(), (4, 4, 32), 1)
+}
+
+// The belts have places for all rows of a pass, since a worker that waits may keep others from theirs.
+#[test]
+fn all_workers_of_several_stages_meet(rt: HostRuntime) -> Result<(), Fail> {
+    workers_meet(&rt, rt.alloc(), (4, 2, 32), 2)?;
+    workers_meet(&rt, rt.alloc(), (6, 3, 32), 2)
 }
 
 #[test]

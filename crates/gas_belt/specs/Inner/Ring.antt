@@ -5,12 +5,10 @@ use Rattle.std.specs.Global.{Global}
 use Rattle.rtrb.specs.declared.AnyItems.{AnyItems}
 use Rattle.rtrb.specs.declared.end.End.{End}
 use Rattle.rtrb.specs.Ends.{capacity_of}
-use Rattle.rtrb.specs.Ring.{sent}
 use Rattle.gas_rows.specs.Planes.{cells_of}
 use Rattle.gas_rows.specs.Row.{RowModel}
 use Rattle.gas_bits.specs.Words.{words_in}
 use Rattle.gas_belt.specs.Belt.{Belt}
-use Rattle.gas_belt.specs.declared.ring_ends.PushEnd.{PushEnd}
 
 -- the number of words of a row of that width
 abbrev pub row_words : ℕ → ℕ → ℕ
@@ -20,10 +18,6 @@ row_words dirs width = dirs * words_in width
 abbrev pub belt_of : ℕ → ℕ → End ℕ Global AnyItems → Belt
 belt_of dirs width e =
     record { width = width; capacity = capacity_of e / row_words dirs width; ring = (e.words, e.slots, e.names, e.heap) }
-
--- all words that were put: those that were pushed, and then those that gathered
-abbrev pub put_words : PushEnd → List ℕ
-put_words e = sent e.ring ++ take e.words_gathered e.gathered.items
 
 -- the first n parts of `size` words each, as `read` reads them
 unfoldable pub rows_of_words : (List ℕ → RowModel) → ℕ → ℕ → List ℕ → List RowModel

@@ -17,7 +17,7 @@ returns-clause-rows_return g c =
     let plan = c.generations.ensures.accepted in
     let some : 0 < c.args.plan.generations = omega (arith, c.if-generations-eq0.false, c.generations.ensures.value) in
     rows_return g.G.Gas.rules (record { chirality = c.args.chirality; first = c.args.first; lattice = c.args.lattice.now; plan = c.args.plan })
-    (record { lattice = is_lattice g.G.Gas.rules c.args.lattice.now c.in_ok-feeder.feeder from.channel from.rows from.whole; room = search rules })
+    (record { lattice = is_lattice g.G.Gas.rules c.args.lattice.now c.in_ok-feeder.feeder from.channel from.rows from.whole; workers = search rules; room = search rules })
     (search rules) some c.in_ok-run_line.field-0 c.in_ok-run_line.ensures
 
 pub returns-clause-belts_made : goal.returns-clause-belts_made
@@ -25,7 +25,7 @@ returns-clause-belts_made g c more =
     let ran = c.in_ok-run_line.ensures in
     ap (λ (l : List CarriedModel). length l) ran.belts
     ∙ belts_made_are g.G.Gas.rules (record { chirality = c.args.chirality; first = c.args.first; lattice = c.args.lattice.now; plan = c.args.plan }) more
-    ∙ ap (λ (n : ℕ). n + 1) (sym ran.stages)
+    ∙ ap (λ (n : ℕ). n + 1) (sym ran.threads)
 
 pub returns-clause-number : goal.returns-clause-number
 returns-clause-number g c n few =

@@ -3,8 +3,8 @@
 use Rattle.std.specs.Prelude.{◌≡◌, ℕ, zero, suc, ◌*◌, List, [], ◌++◌, length, take, drop}
 use Rattle.gas_geom.specs.Gas.{Rules}
 use Rattle.gas_rows.specs.Row.{RowModel}
-use Rattle.gas_stage.specs.Stage.{owed}
-use Rattle.gas_pipe_model.specs.Pass.{RunInputModel, computes_from}
+use Rattle.gas_stage.specs.Stages.{owed_by}
+use Rattle.gas_pipe_model.specs.Pass.{RunInputModel, generations_of}
 
 -- the n-th H rows of a list
 abbrev pub block : {A : Type 0} → ℕ → ℕ → List A → List A
@@ -37,4 +37,4 @@ pub record IsCircle {A : Type 0} (H N : ℕ) (owe : ℕ → ℕ → List A → L
 
 -- what worker k + 1 owes in pass n of the input's plan for the rows q
 abbrev pub owes_in : Rules → RunInputModel → ℕ → ℕ → List RowModel → List RowModel
-owes_in gas input k n q = owed gas input.lattice.channel input.chirality (computes_from input.first input.plan n (suc k)) q
+owes_in gas input k n q = owed_by gas input.lattice.channel input.chirality (generations_of input.first input.plan n (suc k)) q

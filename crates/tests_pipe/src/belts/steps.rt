@@ -1,9 +1,6 @@
 //! The outcomes of one step after another on a belt whose two ends one thread has.
 
-use super::Step::{
-    Gathered, GatheredBack, Given, Held, NoSpare, NothingShown, NothingTaken, OtherBack, Put,
-    PutBack, Shown, Spare, Taken,
-};
+use super::Step::{Given, Held, NoSpare, NothingTaken, OtherBack, Put, PutBack, Spare, Taken};
 use super::{Step, count_carried, ends, is_next, is_over, play, put};
 use gas_belt::rx::Rx;
 use gas_belt::tx::Tx;
@@ -22,7 +19,7 @@ struct Case {
     carried: u64,
 }
 
-const CASES: [Case; 8] = [
+const CASES: [Case; 4] = [
     // Two places for three rows.
     Case {
         places: 2,
@@ -95,81 +92,6 @@ const CASES: [Case; 8] = [
         left: &[],
         carried: 1,
     },
-    // On a belt with eight places four rows gather before they are shown.
-    Case {
-        places: 8,
-        width: 65,
-        steps: &[
-            NothingShown,
-            Gathered(1),
-            Gathered(2),
-            Gathered(3),
-            NothingTaken,
-            Gathered(4),
-            Taken(1),
-            Given(65),
-            Taken(2),
-            Given(65),
-            Taken(3),
-            Given(65),
-            Taken(4),
-            Given(65),
-            NothingTaken,
-            Gathered(5),
-            NothingTaken,
-            Shown,
-            NothingShown,
-            Taken(5),
-        ],
-        left: &[],
-        carried: 5,
-    },
-    // A row that is put is shown at once, with the rows that gathered before it.
-    Case {
-        places: 32,
-        width: 65,
-        steps: &[
-            Put(1),
-            Taken(1),
-            Gathered(2),
-            NothingTaken,
-            Put(3),
-            NothingShown,
-            Taken(2),
-            Given(65),
-        ],
-        left: &[3],
-        carried: 3,
-    },
-    // On a full belt a row that gathered can still be shown.
-    Case {
-        places: 9,
-        width: 7,
-        steps: &[
-            Gathered(1),
-            Gathered(2),
-            Gathered(3),
-            Gathered(4),
-            Gathered(5),
-            Gathered(6),
-            Gathered(7),
-            Gathered(8),
-            Gathered(9),
-            GatheredBack(99),
-            Shown,
-            NothingShown,
-        ],
-        left: &[1, 2, 3, 4, 5, 6, 7, 8, 9],
-        carried: 9,
-    },
-    // A belt that is closed has shown all rows.
-    Case {
-        places: 32,
-        width: 130,
-        steps: &[Gathered(1), Gathered(2), Gathered(3), NothingTaken],
-        left: &[1, 2, 3],
-        carried: 3,
-    },
 ];
 
 fn plays(rt: &impl Abort, alloc: Global, case: &Case) -> Result<(), Fail> {
@@ -210,9 +132,9 @@ impl Belt {
         })
     }
 
-    // Puts the next row, so that it may gather or not. Returns whether there was a place.
-    fn put_one(&mut self, alloc: Global, gathers: bool) -> Result<bool, AllocError> {
-        let back = put(alloc, &mut self.tx, gathers, self.width, self.put)?;
+    // Puts the next row. Returns whether there was a place.
+    fn put_one(&mut self, alloc: Global) -> Result<bool, AllocError> {
+        let back = put(alloc, &mut self.tx, self.width, self.put)?;
         self.put = self.put.wrapping_add(u32::from(back.is_none()));
         Ok(back.is_none())
     }
@@ -225,17 +147,11 @@ impl Belt {
     }
 
     // Puts this number of rows. There is no place for another.
-    fn fill(
-        &mut self,
-        rt: &impl Abort,
-        alloc: Global,
-        gathers: bool,
-        rows: u32,
-    ) -> Result<(), AllocError> {
+    fn fill(&mut self, rt: &impl Abort, alloc: Global, rows: u32) -> Result<(), AllocError> {
         for n in 0..rows {
-            assert!(rt; self.put_one(alloc, gathers)?, "row {n}");
+            assert!(rt; self.put_one(alloc)?, "row {n}");
         }
-        assert!(rt; !self.put_one(alloc, gathers)?);
+        assert!(rt; !self.put_one(alloc)?);
         Ok(())
     }
 
@@ -247,7 +163,6 @@ impl Belt {
 
     // Takes all rows that are under way.
     fn empty(&mut self, rt: &impl Abort) {
-        self.tx.show();
         self.drain(rt, self.put.wrapping_sub(self.taken));
         assert!(rt; is_over(&mut self.rx));
     }
@@ -257,34 +172,30 @@ impl Belt {
 fn refuses_if_full(
     rt: &impl Abort,
     alloc: Global,
-    gathers: bool,
     places: u32,
     width: u32,
 ) -> Result<(), AllocError> {
     let mut belt = Belt::new(alloc, places, width)?;
-    belt.fill(rt, alloc, gathers, places)?;
+    belt.fill(rt, alloc, places)?;
     for rows in [1, places / 2] {
         belt.drain(rt, rows);
-        belt.fill(rt, alloc, gathers, rows)?;
+        belt.fill(rt, alloc, rows)?;
     }
     belt.empty(rt);
-    belt.fill(rt, alloc, gathers, places)
+    belt.fill(rt, alloc, places)
 }
 
 #[test]
 fn a_belt_is_full_if_as_many_rows_are_under_way_as_it_has_places(
     rt: HostRuntime,
 ) -> Result<(), Fail> {
-    for gathers in [false, true] {
-        for (places, width) in [(1, 7), (8, 7), (8, 1000), (9, 65), (33, 256), (1024, 4)] {
-            refuses_if_full(&rt, rt.alloc(), gathers, places, width)?;
-        }
+    for (places, width) in [(1, 7), (8, 7), (8, 1000), (9, 65), (33, 256), (1024, 4)] {
+        refuses_if_full(&rt, rt.alloc(), places, width)?;
     }
     Ok(())
 }
 
-// Shows the rows that gathered, takes a row, or puts one, which may gather or not. A row is refused
-// exactly if as many are under way as the belt has places.
+// Takes a row or puts one. A row is refused exactly if as many are under way as the belt has places.
 fn make_any(
     rt: &impl Abort,
     alloc: Global,
@@ -292,13 +203,11 @@ fn make_any(
     places: u32,
     (choice, takes): (u32, u32),
 ) -> Result<(), AllocError> {
-    if choice == 0 {
-        belt.tx.show();
-    } else if choice < takes {
+    if choice < takes {
         belt.take_one();
     } else {
         let under_way = belt.put.wrapping_sub(belt.taken);
-        let has_place = belt.put_one(alloc, choice < 7)?;
+        let has_place = belt.put_one(alloc)?;
         assert!(rt; has_place == (under_way < places), "{under_way} under way");
     }
     Ok(())
@@ -312,7 +221,7 @@ fn refuses_in_any_order(
     width: u32,
 ) -> Result<(), AllocError> {
     let mut belt = Belt::new(alloc, places, width)?;
-    belt.fill(rt, alloc, true, places)?;
+    belt.fill(rt, alloc, places)?;
     let mut mixed = 1_u32;
     for i in 0..3000_u32 {
         mixed = mixed.wrapping_mul(1_664_525).wrapping_add(1_013_904_223);
@@ -323,7 +232,7 @@ fn refuses_in_any_order(
 }
 
 #[test]
-fn gathered_rows_have_their_places(rt: HostRuntime) -> Result<(), Fail> {
+fn rows_have_their_places_in_any_order(rt: HostRuntime) -> Result<(), Fail> {
     for (places, width) in [(8, 7), (9, 65), (33, 256), (1024, 4)] {
         refuses_in_any_order(&rt, rt.alloc(), places, width)?;
     }

@@ -2,7 +2,7 @@
 
 ghost use Rattle.std.specs.Prelude.{◌≡◌, IfOk};
 
-use super::{ends, number, numbered_row, offer};
+use super::{ends, number, numbered_row};
 use gas_belt::carried::meet;
 use gas_belt::rx::Rx;
 use gas_belt::tx::{Spent, Tx};
@@ -19,9 +19,9 @@ fn put_one(rt: &impl Wait, tx: &mut Tx<Fhp1>, mut row: Row<Fhp1>)
     ensures { tx.new.belt ≡ tx.old.belt }
 {
     for _ in rt.forever() {
-        match offer(tx, row, false) {
-            None => return,
-            Some(back) => row = back,
+        match tx.try_put(row) {
+            Ok(()) => return,
+            Err(back) => row = back,
         }
         thread::yield_now();
     }

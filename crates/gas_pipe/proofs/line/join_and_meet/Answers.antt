@@ -1,95 +1,128 @@
-use Rattle.std.proofs.Common.{rules, ◌≡◌, ◌+◌, ◌++◌, ◌∷◌, [], List, length, map, refl, ap, sym, ◌∙◌, subst, ℕ}
+use Rattle.std.proofs.Common.{rules, ◌≡◌, ◌++◌, ◌∷◌, [], length, ap, sym, ◌∙◌, subst, arith}
+use Rattle.std.proofs.lemmas.List.{length-map}
 use Rattle.std.specs.Int.{div_ceil}
-use Rattle.gas_rows.specs.Row.{RowModel}
-use Rattle.gas_belt.specs.Belt.{Belt, Sender, CarriedModel, carried_within}
+use Rattle.gas_belt.specs.Belt.{CarriedModel}
 use Rattle.gas_pipe_model.specs.Pass.{RunInputModel}
-use Rattle.gas_pipe_members.specs.Feeder.{FeederModel}
-use Rattle.gas_pipe.specs.Inner.Chain.{ChainModel, IsOver}
-use Rattle.gas_pipe.specs.Inner.Links.{IsLinked, Linked, HaveMetUpTo, job_of, workers_in}
-use Rattle.gas_pipe.proofs.Own.{fed, closed, all_long, own_evens, own_count, first_all, has_met}
-use Rattle.gas_pipe.proofs.Settled.{last_on, last_whole, all_belts, taken_long, belts_are, lattice_is}
+use Rattle.gas_pipe.specs.Inner.Worker.{job_of}
+use Rattle.gas_pipe.specs.Inner.Feeder.{LineFeederModel}
+use Rattle.gas_pipe.specs.Inner.Own.{OwnModel, OwnHasCome, IsOver}
+use Rattle.gas_pipe.specs.Inner.Links.{jobs_of, worker_of}
+use Rattle.gas_pipe.proofs.Meetings.{met_first, met_count, met_long, met_last}
+use Rattle.gas_pipe.proofs.Settled.{taken_long, belts_are, lattice_is}
 use Rattle.gas_pipe.proofs.line.join_and_meet.Goals as goal
+
+pub meet_own-first-requires-clause-met : goal.meet_own-first-requires-clause-met
+meet_own-first-requires-clause-met g c =
+    let gas = g.G.Gas.rules in
+    let input = c.args.input.now in
+    let others = jobs_of c.args.threads.items in
+    let own : OwnModel = record { feeder = c.own.inside.feeder; worker = c.own.inside.worker } in
+    let inside : LineFeederModel = record { feeder = c.feeder.inside.feeder; tx = c.feeder.inside.tx; rx = c.feeder.inside.rx } in
+    let f = own.feeder in
+    let first = met_first gas input c.args.own own inside others c.close.result c.args.belts.items c.own.view_is c.feeder.view_is c.requires.linked c.requires.come c.requires.over c.close.ensures.spent c.requires.none in
+    (input, f, others, first)
+
+pub join_threads-requires-clause-met : goal.join_threads-requires-clause-met
+join_threads-requires-clause-met g c =
+    let gas = g.G.Gas.rules in
+    let input = c.args.input.now in
+    let others = jobs_of c.args.threads.items in
+    let own : OwnModel = record { feeder = c.own.inside.feeder; worker = c.own.inside.worker } in
+    let inside : LineFeederModel = record { feeder = c.feeder.inside.feeder; tx = c.feeder.inside.tx; rx = c.feeder.inside.rx } in
+    let f = own.feeder in
+    let first = met_first gas input c.args.own own inside others c.close.result c.args.belts.items c.own.view_is c.feeder.view_is c.requires.linked c.requires.come c.requires.over c.close.ensures.spent c.requires.none in
+    let then = c.meet_own-first.ensures.met input f others first in
+    (input, f, then)
+
+pub join_threads-requires-clause-room : goal.join_threads-requires-clause-room
+join_threads-requires-clause-room g c =
+    let gas = g.G.Gas.rules in
+    let input = c.args.input.now in
+    let others = jobs_of c.args.threads.items in
+    let own : OwnModel = record { feeder = c.own.inside.feeder; worker = c.own.inside.worker } in
+    let inside : LineFeederModel = record { feeder = c.feeder.inside.feeder; tx = c.feeder.inside.tx; rx = c.feeder.inside.rx } in
+    let f = own.feeder in
+    let first = met_first gas input c.args.own own inside others c.close.result c.args.belts.items c.own.view_is c.feeder.view_is c.requires.linked c.requires.come c.requires.over c.close.ensures.spent c.requires.none in
+    let then = c.meet_own-first.ensures.met input f others first in
+    let count = met_count gas input f others c.meet_own-first.result c.meet_own-first.new.carried.items then in
+    let same : length others ≡ length c.args.threads.items = length-map c.args.threads.items (λ h. job_of (worker_of h)) in
+    omega (arith, count, same, c.meet_own-first.new.carried.ok, c.meet_own-first.ensures.capacity, c.requires.room)
+
+pub meet-requires : goal.meet-requires
+meet-requires g c =
+    let gas = g.G.Gas.rules in
+    let input = c.args.input.now in
+    let others = jobs_of c.args.threads.items in
+    let own : OwnModel = record { feeder = c.own.inside.feeder; worker = c.own.inside.worker } in
+    let inside : LineFeederModel = record { feeder = c.feeder.inside.feeder; tx = c.feeder.inside.tx; rx = c.feeder.inside.rx } in
+    let f = own.feeder in
+    let first = met_first gas input c.args.own own inside others c.close.result c.args.belts.items c.own.view_is c.feeder.view_is c.requires.linked c.requires.come c.requires.over c.close.ensures.spent c.requires.none in
+    let then = c.meet_own-first.ensures.met input f others first in
+    let met = c.in_ok-spent.ensures.met input f then in
+    record { one_belt = met.end_is ∙ ap (λ (l : LineFeederModel). l.rx.belt) (sym c.feeder.view_is) }
 
 pub unreachable-requires : goal.unreachable-requires
 unreachable-requires g c =
-    let head = c.requires.linked.feeder.head in
-    let own = ap (λ (x : ChainModel). x.head) c.own.view_is in
-    let is = c.in_default.is in
-    cc
-
-pub meet_all_within-requires : goal.meet_all_within-requires
-meet_all_within-requires g c =
-    let line = subst (λ (o : ChainModel). IsLinked g.G.Gas.rules c.args.input.now o (map job_of c.args.threads.items)) (sym c.own.view_is) c.requires.linked in
-    let over = subst (IsOver g.G.Gas.rules) (sym c.own.view_is) c.requires.over in
-    record { even = own_evens _ _ _ line.feeder over }
-
-pub join_threads-requires : goal.join_threads-requires
-join_threads-requires g c =
+    let gas = g.G.Gas.rules in
     let input = c.args.input.now in
-    let chains = map job_of c.args.threads.items in
-    let line = subst (λ (o : ChainModel). IsLinked g.G.Gas.rules input o chains) (sym c.own.view_is) c.requires.linked in
-    let over = subst (IsOver g.G.Gas.rules) (sym c.own.view_is) c.requires.over in
-    let met = c.if-not-meet_all_within.ensures in
-    let now = met.carried refl ∙ ap (λ (l : List CarriedModel). l ++ map carried_within c.own.inside.belts.items) c.requires.none in
-    let put = ap (λ (s : Sender). s.put) c.close.ensures.spent in
-    let count = own_count _ _ _ line.feeder over _ c.close.result now (met.equal refl) put in
-    let belt = ap (λ (s : Sender). s.belt) c.close.ensures.spent in
-    record {
-      input = (fed _ _ _ line.feeder over).is_input;
-      whole = ap (λ (l : List RowModel). length l) (first_all _ _ _ line.feeder over _ c.close.result now (met.equal refl) put) ∙ all_long _ _ _ line.feeder over;
-      linked =
-          subst (λ (k : ℕ). Linked g.G.Gas.rules input k c.close.result.belt chains) (sym count)
-          (subst (λ (b : Belt). Linked g.G.Gas.rules input (length c.own.inside.hands.items) b chains) (sym belt) line.leads);
-      reached = has_met _ _ _ line.feeder over _ c.close.result now (met.equal refl) put;
-    }
-
-pub unreachable-requires-in_default-meet : goal.unreachable-requires-in_default-meet
-unreachable-requires-in_default-meet g c =
-    let input = c.args.input.now in
-    let chains = map job_of c.args.threads.items in
-    let line = subst (λ (o : ChainModel). IsLinked g.G.Gas.rules input o chains) (sym c.own.view_is) c.requires.linked in
-    let over = subst (IsOver g.G.Gas.rules) (sym c.own.view_is) c.requires.over in
-    let met = c.if-not-meet_all_within.ensures in
-    let now = met.carried refl ∙ ap (λ (l : List CarriedModel). l ++ map carried_within c.own.inside.belts.items) c.requires.none in
-    let put = ap (λ (s : Sender). s.put) c.close.ensures.spent in
-    let first = first_all _ _ _ line.feeder over _ c.close.result now (met.equal refl) put in
-    let at = ap (λ (n : ℕ). n + workers_in chains) (own_count _ _ _ line.feeder over _ c.close.result now (met.equal refl) put) ∙ line.count in
-    let begun = fed _ _ _ line.feeder over in
-    let long =
-    last_whole g.G.Gas.rules input begun.is_input _ _ _ _ c.in_ok-spent.ensures.reached at (ap (λ (l : List RowModel). length l) first ∙ all_long _ _ _ line.feeder over)
-    ∙ sym (taken_long input _ _ _ begun.channel (closed _ _ _ line.feeder over) begun.fed) in
-    let h = c.in_default-meet.ensures.exactly.1 long in
+    let others = jobs_of c.args.threads.items in
+    let own : OwnModel = record { feeder = c.own.inside.feeder; worker = c.own.inside.worker } in
+    let inside : LineFeederModel = record { feeder = c.feeder.inside.feeder; tx = c.feeder.inside.tx; rx = c.feeder.inside.rx } in
+    let f = own.feeder in
+    let first = met_first gas input c.args.own own inside others c.close.result c.args.belts.items c.own.view_is c.feeder.view_is c.requires.linked c.requires.come c.requires.over c.close.ensures.spent c.requires.none in
+    let then = c.meet_own-first.ensures.met input f others first in
+    let met = c.in_ok-spent.ensures.met input f then in
+    let come = subst (λ (o : OwnModel). OwnHasCome gas input o) (sym c.own.view_is) c.requires.come in
+    let over = subst (λ (o : OwnModel). IsOver gas o) (sym c.own.view_is) c.requires.over in
+    let begun = come.feeder in
+    let same =
+    met_long gas input f [] c.in_ok-spent.spent c.join_threads.new.carried.items met
+    ∙ sym (taken_long input f.feeder f.tx.put f.rx.taken begun.channel over.feeder begun.fed)
+    ∙ ap (λ (l : LineFeederModel). length l.rx.taken) (sym c.feeder.view_is) in
+    let h = c.in_default.ensures.exactly.1 same in
     search rules
+
+pub push_reserved-requires : goal.push_reserved-requires
+push_reserved-requires g c =
+    let gas = g.G.Gas.rules in
+    let input = c.args.input.now in
+    let others = jobs_of c.args.threads.items in
+    let own : OwnModel = record { feeder = c.own.inside.feeder; worker = c.own.inside.worker } in
+    let inside : LineFeederModel = record { feeder = c.feeder.inside.feeder; tx = c.feeder.inside.tx; rx = c.feeder.inside.rx } in
+    let f = own.feeder in
+    let first = met_first gas input c.args.own own inside others c.close.result c.args.belts.items c.own.view_is c.feeder.view_is c.requires.linked c.requires.come c.requires.over c.close.ensures.spent c.requires.none in
+    let then = c.meet_own-first.ensures.met input f others first in
+    let met = c.in_ok-spent.ensures.met input f then in
+    let count = met_count gas input f [] c.in_ok-spent.spent c.join_threads.new.carried.items met in
+    omega (arith, count, c.join_threads.new.carried.ok, c.in_ok-spent.ensures.capacity, c.meet_own-first.ensures.capacity, c.requires.room)
 
 pub returns : goal.returns
 returns g c =
     let gas = g.G.Gas.rules in
     let input = c.args.input.now in
-    let chains = map job_of c.args.threads.items in
-    let line = subst (λ (o : ChainModel). IsLinked gas input o chains) (sym c.own.view_is) c.requires.linked in
-    let over = subst (IsOver gas) (sym c.own.view_is) c.requires.over in
-    let met = c.if-not-meet_all_within.ensures in
-    let now = met.carried refl ∙ ap (λ (l : List CarriedModel). l ++ map carried_within c.own.inside.belts.items) c.requires.none in
-    let put = ap (λ (s : Sender). s.put) c.close.ensures.spent in
-    let first = first_all _ _ _ line.feeder over _ c.close.result now (met.equal refl) put in
-    let at = ap (λ (n : ℕ). n + workers_in chains) (own_count _ _ _ line.feeder over _ c.close.result now (met.equal refl) put) ∙ line.count in
-    let reached = subst (λ (b : List RowModel). HaveMetUpTo gas input b (length c.meet_all_within.new.carried.items + workers_in chains) c.in_ok-spent.spent.put c.join_threads.new.carried.items) first c.in_ok-spent.ensures.reached in
-    let begun = fed _ _ _ line.feeder over in
-    let closed_is = closed _ _ _ line.feeder over in
+    let others = jobs_of c.args.threads.items in
+    let own : OwnModel = record { feeder = c.own.inside.feeder; worker = c.own.inside.worker } in
+    let inside : LineFeederModel = record { feeder = c.feeder.inside.feeder; tx = c.feeder.inside.tx; rx = c.feeder.inside.rx } in
+    let f = own.feeder in
+    let first = met_first gas input c.args.own own inside others c.close.result c.args.belts.items c.own.view_is c.feeder.view_is c.requires.linked c.requires.come c.requires.over c.close.ensures.spent c.requires.none in
+    let then = c.meet_own-first.ensures.met input f others first in
+    let met = c.in_ok-spent.ensures.met input f then in
+    let come = subst (λ (o : OwnModel). OwnHasCome gas input o) (sym c.own.view_is) c.requires.come in
+    let over = subst (λ (o : OwnModel). IsOver gas o) (sym c.own.view_is) c.requires.over in
+    let begun = come.feeder in
     let ends = c.in-Ok.ensures in
-    let back = ends.equal ∙ last_on gas input begun.is_input _ _ _ _ reached at in
-    let belt = ends.carried ∙ ap (λ (rows : List RowModel). record { put = c.in_ok-spent.spent.put; taken = rows }) ends.equal in
-    let grown = c.in-Ok-push.ensures.items ∙ ap (λ (x : CarriedModel). c.join_threads.new.carried.items ++ x ∷ []) belt in
-    let head = line.feeder.head in
-    let is = c.in-Feeder.is in
-    let feeder : c.in-Feeder.feeder ≡ line.feeder.f = cc in
+    let now = c.join_threads.new.carried.items in
+    let last = met_last gas input f c.in_ok-spent.spent now c.feeder.inside.rx.taken met ends.equal in
+    let back = ap (λ (l : LineFeederModel). l.rx.taken) (sym c.feeder.view_is) ∙ ends.equal ∙ last.0 in
+    let grown = c.push_reserved.ensures.items ∙ ap (λ (x : CarriedModel). now ++ x ∷ []) ends.carried in
+    let some = c.requires.linked.stages in
     record {
       lattice =
-          lattice_is gas g.met.G.Gas.laws input begun.is_input _ _ _ begun.channel closed_is line.stages begun.some begun.fed back
-          c.finish.result (c.finish.ensures.channel ∙ ap (λ (f : FeederModel). f.channel) feeder) (c.finish.ensures.rows ∙ ap (λ (f : FeederModel). f.rows) feeder);
+          lattice_is gas g.met.G.Gas.laws input begun.is_input f.feeder f.tx.put f.rx.taken begun.channel over.feeder some begun.some begun.fed back
+          c.finish.result (c.finish.ensures.channel ∙ ap (λ (l : LineFeederModel). l.feeder.channel) c.feeder.view_is)
+          (c.finish.ensures.rows ∙ ap (λ (l : LineFeederModel). l.feeder.rows) c.feeder.view_is);
       stages = ap (λ (q : RunInputModel). q.plan.stages) c.input.view_is;
+      threads = ap (λ (q : RunInputModel). q.plan.threads) c.input.view_is;
       passes = ap (λ (q : RunInputModel). div_ceil q.plan.generations q.plan.stages) c.input.view_is;
-      belts =
-          all_belts gas input begun.is_input _ _ _ _ reached at c.push.new.self.items grown
-          ∙ belts_are gas g.met.G.Gas.laws input begun.is_input _ _ _ begun.channel closed_is line.stages begun.some begun.fed back;
+      belts = grown ∙ last.1 ∙ belts_are gas g.met.G.Gas.laws input begun.is_input f.feeder f.tx.put f.rx.taken begun.channel over.feeder some begun.some begun.fed back;
     }

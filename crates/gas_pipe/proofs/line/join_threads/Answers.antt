@@ -1,50 +1,43 @@
-use Rattle.std.proofs.Common.{rules, ◌++◌, List, length, map, refl, ap, sym, subst, ◌∙◌}
+use Rattle.std.proofs.Common.{rules, ◌≡◌, [], List, Option, ap, subst, ◌∙◌, arith}
 use Rattle.std.specs.Vec.Iter.{into_iter_items}
-use Rattle.gas_belt.specs.Belt.{CarriedModel, carried_within}
-use Rattle.gas_pipe.specs.Inner.Chain.{EndedModel, EndsChain}
-use Rattle.gas_pipe.specs.Inner.Links.{first_put, job_of}
-use Rattle.gas_pipe.proofs.Meetings.{meets_all, meets_within, goes}
+use Rattle.std.proofs.lemmas.List.{nil_from_length}
+use Rattle.std.specs.declared.thread.PromisedHandle.{PromisedHandle}
+use Rattle.gas_pipe.specs.declared.job.JobPromise.{JobPromise}
+use Rattle.gas_pipe.specs.Inner.Worker.{Job, job_of, EndedModel, LineWorkerModel}
+use Rattle.gas_pipe.specs.Inner.Links.{jobs_of, worker_of, HaveMet}
 use Rattle.gas_pipe.proofs.line.join_threads.Goals as goal
 
-pub loop-thread-init : goal.loop-thread-init
-loop-thread-init g c = record {
-  k = length c.args.carried.now.items;
-  reached = c.requires.reached;
-  linked = rw c.into_iter-thread-iterator.ensures.into_iter_gives.0 c.requires.linked;
-  end_is = refl;
-  count = refl;
-}
+abbrev Handle : Type 0
+Handle = PromisedHandle (Option EndedModel) (JobPromise LineWorkerModel)
 
-pub unreachable-requires : goal.unreachable-requires
-unreachable-requires g c =
-    let at = c.ended.inside in
-    let e : EndedModel = record { rx = at.rx; belts = at.belts.items; spent = at.spent } in
-    let ran = subst (EndsChain g.G.Gas.rules (job_of c.in-Some.thread)) (sym c.ended.view_is) c.in_ok-ended.ensures in
-    let same =
-    meets_all g.G.Gas.rules c.args.input.now c.requires.input (first_put c.args.carried.now.items c.args.first.put) c.requires.whole _ _ c.in-Some.thread (into_iter_items c.next.new.self) _ _ c.loop-thread.spent e
-    c.in-Some.ensures.steps.0 c.loop-thread.invariant ran in
-    let h = c.in_default.ensures.exactly.1 same in
-    search rules
-
-pub meet_all_within-requires : goal.meet_all_within-requires
-meet_all_within-requires g c =
-    let at = c.ended.inside in
-    let e : EndedModel = record { rx = at.rx; belts = at.belts.items; spent = at.spent } in
-    let ran = subst (EndsChain g.G.Gas.rules (job_of c.in-Some.thread)) (sym c.ended.view_is) c.in_ok-ended.ensures in
-    record {
-      even =
-          meets_within g.G.Gas.rules c.args.input.now c.requires.input (first_put c.args.carried.now.items c.args.first.put) c.requires.whole _ _ c.in-Some.thread (into_iter_items c.next.new.self) _ _ c.loop-thread.spent e
-          c.in-Some.ensures.steps.0 c.loop-thread.invariant ran;
-    }
+pub meet_before-spent-requires-clause-met : goal.meet_before-spent-requires-clause-met
+meet_before-spent-requires-clause-met g c =
+    let gas = g.G.Gas.rules in
+    let input = c.requires.met.0 in
+    let f = c.requires.met.1 in
+    let all = c.loop-thread.invariant.met input f (rw c.into_iter-thread-iterator.ensures.into_iter_gives.0 c.requires.met.2) in
+    let j = job_of (worker_of c.in-Some.thread) in
+    let rest = jobs_of (into_iter_items c.next.new.self) in
+    (input, f, j, rest, subst (λ (l : List Job). HaveMet gas input f l c.loop-thread.spent c.loop-thread.carried.items) (ap jobs_of c.in-Some.ensures.steps.0) all, c.in_ok-ended.ensures)
 
 pub loop-thread-preserved : goal.loop-thread-preserved
 loop-thread-preserved g c =
-    let at = c.ended.inside in
-    let e : EndedModel = record { rx = at.rx; belts = at.belts.items; spent = at.spent } in
-    let ran = subst (EndsChain g.G.Gas.rules (job_of c.in-Some.thread)) (sym c.ended.view_is) c.in_ok-ended.ensures in
-    let met = c.in-Ok.ensures in
-    let within = c.if-not-meet_all_within.ensures in
-    goes g.G.Gas.rules c.args.input.now c.requires.input (first_put c.args.carried.now.items c.args.first.put) c.requires.whole _ _ c.in-Some.thread (into_iter_items c.next.new.self) _ _ c.loop-thread.spent e
-    c.in-Some.ensures.steps.0 c.loop-thread.invariant ran c.in-Ok.between c.meet_all_within.new.carried.items
-    met.equal met.carried (within.equal refl)
-    (within.carried refl ∙ ap (λ (l : List CarriedModel). l ++ map carried_within at.belts.items) c.in-Ok-push.ensures.items)
+    let gas = g.G.Gas.rules in
+    let was = c.loop-thread.invariant in
+    let did = c.meet_before-spent.ensures in
+    let j = job_of (worker_of c.in-Some.thread) in
+    let rest = jobs_of (into_iter_items c.next.new.self) in
+    record {
+      met = λ input f first.
+          did.met input f j rest (subst (λ (l : List Job). HaveMet gas input f l c.loop-thread.spent c.loop-thread.carried.items) (ap jobs_of c.in-Some.ensures.steps.0) (was.met input f first))
+          c.in_ok-ended.ensures;
+      room = search rules;
+      capacity = did.capacity ∙ was.capacity;
+    }
+
+pub returns-clause-met : goal.returns-clause-met
+returns-clause-met g c input f met =
+    let gas = g.G.Gas.rules in
+    let rest = c.loop-thread.thread-iterator.rest in
+    let none : rest.items ≡ [] = nil_from_length rest.items (omega (arith, rest.ok, c.in-None.ensures.steps.0)) in
+    subst (λ (l : List Handle). HaveMet gas input f (jobs_of l) c.loop-thread.spent c.loop-thread.carried.items) none (c.loop-thread.invariant.met input f (rw c.into_iter-thread-iterator.ensures.into_iter_gives.0 met))

@@ -1,92 +1,80 @@
-use Rattle.std.proofs.Common.{rules, ◌≡◌, ◌+◌, ◌<◌, ◌≤◌, ◌∙◌, arith, ap, sym, subst, refl, ℕ}
-use Rattle.gas_belt.specs.Belt.{Belt, Sender, Receiver}
-use Rattle.gas_pipe_model.specs.Plan.{PlanModel}
+use Rattle.std.proofs.Common.{◌≡◌, ◌+◌, ◌++◌, ◌∷◌, [], ◌∙◌, List, length, map, arith, ap, sym, subst, refl, ℕ}
+use Rattle.std.proofs.lemmas.List.{map-append, length-append}
+use Rattle.std.specs.Option.{option_to_list}
+use Rattle.gas_rows.specs.Row.{RowModel}
+use Rattle.gas_belt.specs.Belt.{Belt}
 use Rattle.gas_pipe_model.specs.Pass.{RunInputModel}
-use Rattle.gas_pipe.specs.Inner.Shares.{shares_before}
-use Rattle.gas_pipe.specs.Inner.Links.{IsChainOf, Linked, workers_in, last_belt}
-use Rattle.gas_pipe.proofs.Chains.{linked_snoc, last_belt_snoc, workers_snoc}
-use Rattle.gas_pipe.proofs.Shares.{shares_all, shares_none}
+use Rattle.gas_pipe.specs.Inner.Worker.{LineWorkerModel, Job, job_of, job_in}
+use Rattle.gas_pipe.specs.Inner.Feeder.{MayHaveFedInput}
+use Rattle.gas_pipe.specs.Inner.Links.{Linked, last_belt, AllHaveCome}
+use Rattle.gas_pipe.proofs.Meetings.{linked_snoc, last_belt_snoc, come_snoc, come_own}
 use Rattle.gas_pipe.proofs.line.make_line.Goals as goal
-use Rattle.gas_pipe.proofs.line.make_line.Goals.{then-first-eq0, else-first-eq0}
 
-pub loop-k-init : goal.loop-k-init
-loop-k-init g c =
-    let none = c.in_ok-chains.ensures.items in
-    let plan = c.args.input.now.plan in
-    let same = ap (λ (q : RunInputModel). q.plan) c.input.view_is in
-    let some : 0 < plan.threads = omega (arith, ap (λ (p : PlanModel). p.threads) same, c.threads.ensures.value, c.threads.ensures.some) in
-    let own : c.if-first-eq0.own ≡ shares_before plan c.first_share-first.result =
-    elim c.if-first-eq0.branch [
-      | then-first-eq0 w ↦ w.own-is ∙ sym (shares_none plan some) ∙ ap (shares_before plan) (sym w.if-first-eq0.true)
-      | else-first-eq0 w ↦
-          let one : c.first_share-first.result ≡ 1 = omega (arith, w.if-first-eq0.false, c.first_share-first.ensures.few) in
-          let next = subst (λ (p : PlanModel). shares_before p 0 + w.share-own.result ≡ shares_before p 1) same w.share-own.ensures.next in
-          let plus : w.share-own.result ≡ shares_before plan 0 + w.share-own.result = omega (arith, shares_none plan some) in
-          w.own-is ∙ plus ∙ next ∙ ap (shares_before plan) (sym one)
-    ] in
+pub loop-number-init : goal.loop-number-init
+loop-number-init g c =
+    let none = c.in_ok-workers.ensures.items in
     record {
       leads = rw none tt;
       end = rw none refl;
-      count = rw none (let e : c.if-first-eq0.own + 0 ≡ c.if-first-eq0.own = omega arith in e);
-      made = own;
-      two_spares = c.in_ok-first_tx.ensures.two_spares;
-      nothing_taken = c.in_ok-first_tx.ensures.nothing_taken;
-      belt = search rules;
+      count = rw none refl;
+      come = rw none tt;
+      wide = c.in_ok-tx.ensures.wide;
+      nothing_taken = c.in_ok-tx.ensures.nothing_taken;
+      two_spares = c.in_ok-tx.ensures.two_spares;
     }
 
-pub loop-k-preserved : goal.loop-k-preserved
-loop-k-preserved g c =
-    let was = c.loop-k.invariant in
-    let first = c.in_ok-first_tx.last.belt in
-    let chains = c.loop-k.chains.items in
-    let chain = c.in_ok-chain.chain in
-    let made = c.in_ok-chain.ensures in
+pub loop-number-preserved : goal.loop-number-preserved
+loop-number-preserved g c =
+    let was = c.loop-number.invariant in
+    let from = c.in_ok-tx.last.belt in
+    let before = map job_of c.loop-number.workers.items in
+    let worker = c.in_ok-worker.worker in
+    let made = c.in_ok-worker.ensures in
     let items = c.in_ok-push.ensures.items in
-    let input = c.args.input.now in
-    let workers = c.share-workers.result in
-    let same = ap (λ (q : RunInputModel). q.plan) c.input.view_is in
-    let next = subst (λ (p : PlanModel). shares_before p c.loop-k.k + workers ≡ shares_before p (c.loop-k.k + 1)) same c.share-workers.ensures.next in
-    let takes = subst (λ (from : Belt). IsChainOf g.G.Gas.rules input c.loop-k.made from chain) (sym was.end) made.chain in
+    let jobs : map job_of c.push.new.self.items ≡ before ++ job_of worker ∷ [] = ap (map job_of) items ∙ map-append job_of c.loop-number.workers.items (worker ∷ []) in
+    let to : (job_of worker).to ≡ c.in_ok-worker.next.belt = ap (λ (j : Job). j.to) made.job in
+    let next : job_of worker ≡ job_in c.args.input.now c.loop-number.number (last_belt from before) (job_of worker).to =
+    made.job ∙ rw (sym was.end, to) refl in
     record {
-      leads = rw items (linked_snoc g.G.Gas.rules input c.if-first-eq0.own c.loop-k.made first chains chain was.count was.leads takes);
-      end = rw (items, last_belt_snoc first chains) made.next;
-      count = omega (arith, ap workers_in items, workers_snoc chains chain, was.count, made.count);
-      made = ap (λ (n : ℕ). n + workers) was.made ∙ next;
-      two_spares = made.two_spares;
+      leads = rw jobs (linked_snoc c.args.input.now 0 c.loop-number.number from before (job_of worker) (let e : 0 + length before ≡ c.loop-number.number = omega (arith, was.count) in e) was.leads next);
+      end = rw (jobs, last_belt_snoc from before (job_of worker)) to;
+      count = ap (λ (l : List Job). length l) jobs ∙ length-append before (job_of worker ∷ []) ∙ ap (λ (n : ℕ). n + 1) was.count;
+      come = rw items (come_snoc g.G.Gas.rules c.loop-number.workers.items worker was.come made.come);
+      wide = made.wide;
       nothing_taken = made.nothing_taken;
-      belt = made.belt;
+      two_spares = made.two_spares;
     }
 
-pub make_chain-requires-clause-few : goal.make_chain-requires-clause-few
-make_chain-requires-clause-few g c =
-    let same = ap (λ (q : RunInputModel). q.plan) c.input.view_is in
-    let workers = c.share-workers.result in
-    let few = subst (λ (p : PlanModel). shares_before p c.loop-k.k + workers ≤ 64) same c.share-workers.ensures.few in
-    subst (λ (n : ℕ). n + workers ≤ 64) (sym c.loop-k.invariant.made) few
-
-pub make_own_chain-requires-clause-few : goal.make_own_chain-requires-clause-few
-make_own_chain-requires-clause-few g c =
-    elim c.if-first-eq0.branch [
-      | then-first-eq0 w ↦ omega (arith, w.own-is)
-      | else-first-eq0 w ↦ omega (arith, w.own-is, w.share-own.ensures.few)
-    ]
-
-pub returns : goal.returns
-returns g c =
-    let was = c.loop-k.invariant in
-    let own = c.in_ok-own_chain.ensures in
+pub returns-clause-linked : goal.returns-clause-linked
+returns-clause-linked g c =
+    let was = c.loop-number.invariant in
     let input = c.args.input.now in
-    let chains = c.loop-k.chains.items in
-    let same = ap (λ (q : RunInputModel). q.plan) c.input.view_is in
-    let all : c.loop-k.k ≡ input.plan.threads = omega (arith, ap (λ (p : PlanModel). p.threads) same) in
-    let tx = ap (λ (s : Sender). s.belt) own.tx ∙ c.in_ok-first_tx.ensures.one_belt in
+    let own = option_to_list c.take_own-own.result in
+    let rest = c.take_own-own.new.workers.items in
+    let jobs : map job_of own ++ map job_of rest ≡ map job_of c.loop-number.workers.items = sym (map-append job_of own rest) ∙ ap (map job_of) c.take_own-own.ensures.all in
+    let belt = c.in_ok-tx.ensures.one_belt in
+    let same : c.input.inside.span.plan.threads ≡ input.plan.threads = ap (λ (q : RunInputModel). q.plan.threads) c.input.view_is in
+    let all : c.loop-number.number ≡ input.plan.threads = omega (arith, same, c.threads-number-end.ensures.value) in
     record {
-      linked = record {
-        stages = omega (arith, ap (λ (p : PlanModel). p.stages) same);
-        feeder = own.owns;
-        leads = subst (λ (k : ℕ). Linked g.G.Gas.rules input k c.in_ok-own_chain.own_chain.tx.belt chains) (sym own.count)
-            (subst (λ (b : Belt). Linked g.G.Gas.rules input c.if-first-eq0.own b chains) (sym tx) was.leads);
-        count = ap (λ (n : ℕ). n + workers_in chains) own.count ∙ was.count ∙ was.made ∙ ap (shares_before input.plan) all ∙ shares_all input.plan;
-        end = ap (λ (b : Belt). last_belt b chains) tx ∙ was.end ∙ sym (ap (λ (r : Receiver). r.belt) own.rx);
-      };
+      stages = omega (arith, ap (λ (q : RunInputModel). q.plan.stages) c.input.view_is);
+      leads = subst (λ (d : Belt). Linked input 0 d (map job_of own ++ map job_of rest)) (sym belt) (subst (λ (l : List Job). Linked input 0 c.in_ok-tx.last.belt l) (sym jobs) was.leads);
+      count = ap (λ (l : List Job). length l) jobs ∙ was.count ∙ all;
+      end = ap (λ (d : Belt). last_belt d (map job_of own ++ map job_of rest)) belt ∙ ap (last_belt c.in_ok-tx.last.belt) jobs ∙ was.end;
     }
+
+pub returns-clause-own : goal.returns-clause-own
+returns-clause-own g c =
+    let gas = g.G.Gas.rules in
+    let all = subst (λ (l : List LineWorkerModel). AllHaveCome gas l) (sym c.take_own-own.ensures.all) c.loop-number.invariant.come in
+    record {
+      feeder =
+          subst (λ (l : List RowModel). MayHaveFedInput gas c.args.input.now c.args.feeder l c.loop-number.last.taken) (sym c.in_ok-tx.ensures.nothing_put)
+          (subst (λ (l : List RowModel). MayHaveFedInput gas c.args.input.now c.args.feeder [] l) (sym c.loop-number.invariant.nothing_taken) c.requires.begun);
+      worker = (come_own gas c.take_own-own.result c.take_own-own.new.workers.items all).0;
+    }
+
+pub returns-clause-come : goal.returns-clause-come
+returns-clause-come g c =
+    let gas = g.G.Gas.rules in
+    let all = subst (λ (l : List LineWorkerModel). AllHaveCome gas l) (sym c.take_own-own.ensures.all) c.loop-number.invariant.come in
+    (come_own gas c.take_own-own.result c.take_own-own.new.workers.items all).1

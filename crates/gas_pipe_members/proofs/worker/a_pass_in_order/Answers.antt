@@ -3,7 +3,7 @@ use Rattle.gas_pipe_members.proofs.worker.a_pass_in_order.Goals as goal
 
 pub returns : goal.returns
 returns c = record {
-  prefix = λ gas w e took gave done. done_prefix gas w e took gave done;
-  few = λ gas w e took gave done. done.few;
-  closed = λ gas w closed e took gave done. (done.took_all closed.stage, closed_all gas w closed e took gave done);
+  prefix = λ gas w es took gave done. done_prefix gas w es took gave done;
+  few = λ gas w es took gave done. done.few;
+  closed = λ gas w closed es took gave done. (done.took_all closed.stages, closed_all gas w es took gave done closed);
 }

@@ -9,5 +9,5 @@ pub returns : goal.returns
 returns c = record {
   done = λ gas input n turns is h.
       done_after (line_of gas input n) (pass_is_line gas input is n) turns
-      (subst (λ (m : ℕ). HasRounds input.plan.stages (2 * m * (input.plan.stages + 1)) turns) (sym (rows_high gas input is n 0)) h);
+      (subst (λ (m : ℕ). HasRounds input.plan.threads (2 * m * (input.plan.threads + 1)) turns) (sym (rows_high gas input is n 0)) h);
 }

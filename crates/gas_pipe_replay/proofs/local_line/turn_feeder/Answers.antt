@@ -16,15 +16,15 @@ returns-clause-shows g c input ws turns sh =
     let behind = c.split_at_mut-before.result.1.now in
     let parts = c.split_at_mut-before.ensures.value in
     let front = c.split_at_mut-before.ensures.front_len in
-    let at : length before ≡ input.plan.stages = omega (arith, front, sh.belts_are) in
-    let some = sh.some in
-    let high : input.plan.stages < length bs = omega (arith, sh.belts_are) in
-    let x = read_before bs before behind 0 input.plan.stages c.index-before-0.result none parts at some c.index-before-0.is in
-    let y = read_behind bs before behind input.plan.stages c.index-behind-0.result none parts at high c.index-behind-0.is in
+    let at : length before ≡ input.plan.threads = omega (arith, front, sh.belts_are) in
+    let some = sh.is_input.workers in
+    let high : input.plan.threads < length bs = omega (arith, sh.belts_are) in
+    let x = read_before bs before behind 0 input.plan.threads c.index-before-0.result none parts at some c.index-before-0.is in
+    let y = read_behind bs before behind input.plan.threads c.index-behind-0.result none parts at high c.index-behind-0.is in
     let to = get_or before 0 c.index-before-0.result in
     let from = get_or behind 0 c.index-behind-0.result in
     let step = feeder_step_at g.G.Gas.rules input c.args.feeder.now c.turn.new.self ws bs (after g.G.Gas.rules input 0 turns) c.turn.new.put c.turn.new.take
     g.met.G.Gas.laws (pass_fits g.G.Gas.rules input sh.is_input 0 turns) sh
     c.turn.result to from (sym c.index-before-0.is ∙ x) (sym c.index-behind-0.is ∙ y) c.turn.ensures.channel c.turn.ensures.turned in
-    rw (two_writes bs before behind 0 input.plan.stages c.turn.new.put c.turn.new.take parts at some)
+    rw (two_writes bs before behind 0 input.plan.threads c.turn.new.put c.turn.new.take parts at some)
     (rw (run_append (line_of g.G.Gas.rules input 0) turns (0 ∷ []) start) step)

@@ -1,4 +1,4 @@
-use Rattle.std.proofs.Common.{rules, refl, ◌++◌, ◌∷◌, [], subst, sym}
+use Rattle.std.proofs.Common.{rules, refl, ◌++◌, ◌∷◌, [], ◌≡◌, length, subst, sym}
 use Rattle.gas_pipe_members.specs.Worker.{WorkerModel, Does}
 use Rattle.gas_pipe_members.proofs.worker.Worker.turn.Goals as goal
 
@@ -29,3 +29,8 @@ returns-clause-turned g c = (
   (λ e took gave done. c.accept.ensures.took e took gave (c.next_row.ensures.none (search rules) e took gave done)),
   (c.next_row.ensures.more (search rules) (search rules)).2,
 )
+
+pub returns-then-not-is_open-clause-turned : goal.returns-then-not-is_open-clause-turned
+returns-then-not-is_open-clause-turned g c =
+    let all : c.next_row.new.self.stages.flushed ≡ length c.next_row.new.self.stages.stages = search rules in
+    (search rules, search rules, c.next_row.ensures.none (search rules), record { stages = all; waiting = c.next_row.ensures.none_waits }, c.next_row.ensures.done_all (search rules) all)

@@ -20,5 +20,5 @@ loop-k-preserved g c = (
 
 pub returns-clause-value : goal.returns-clause-value
 returns-clause-value g c input turns sh =
-    let e : c.loop-k.k ≡ input.plan.stages + 1 = omega (arith, c.loop-k-test.false, c.loop-k.auto.k-end, c.len-k-end.ensures, sh.belts_are) in
+    let e : c.loop-k.k ≡ input.plan.threads + 1 = omega (arith, c.loop-k-test.false, c.loop-k.auto.k-end, c.len-k-end.ensures, sh.belts_are) in
     subst (λ n. c.loop-k.counts.items ≡ map (counts_of (after g.G.Gas.rules input 0 turns)) (range_with_len 0 n)) e (c.loop-k.invariant.1 input turns sh)

@@ -13,7 +13,7 @@ returns-then-is_closed g c input turns sh =
     let end = finished g.G.Gas.rules input chain.feeder chain.workers.items chain.belts.items turns g.met.G.Gas.laws sh over in
     rw end.0
     (ap (λ (l : LatticeModel). Some l)
-    (same_lattice c.finish.result input.lattice.channel (rows_on g.G.Gas.rules input 0 input.plan.stages) (c.finish.ensures.channel ∙ sh.channel) (c.finish.ensures.rows ∙ end.1)))
+    (same_lattice c.finish.result input.lattice.channel (rows_on g.G.Gas.rules input 0 input.plan.threads) (c.finish.ensures.channel ∙ sh.channel) (c.finish.ensures.rows ∙ end.1)))
 
 pub returns-else-is_closed : goal.returns-else-is_closed
 returns-else-is_closed g c input turns sh =

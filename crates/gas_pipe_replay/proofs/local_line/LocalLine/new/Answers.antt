@@ -19,14 +19,15 @@ returns g c =
     record {
       lattice = subst (λ (r : List RowModel). IsLattice g.G.Gas.rules input.lattice.channel r) rows
           (subst (λ (x : ChannelModel). IsLattice g.G.Gas.rules x c.in_ok-feeder.feeder.rows) channel from.whole);
+      workers = c.begin_workers.ensures.some;
       room = subst (λ (q : RunInputModel). 0 < q.plan.capacity) c.input.view_is c.make_belts.ensures.some;
     } in
     record {
       input = is;
       begun =
           begun_shows g.G.Gas.rules input c.begin.new.self c.in_ok-begin_workers.field-0.items c.in_ok-make_belts.field-0.items is
-          c.begin_workers.ensures.some c.in_ok-begin_workers.ensures.begun
-          (subst (λ (q : RunInputModel). AreUnused q.plan.capacity c.in_ok-make_belts.field-0.items (q.plan.stages + 1)) c.input.view_is c.in_ok-make_belts.ensures.unused)
+          c.in_ok-begin_workers.ensures.begun
+          (subst (λ (q : RunInputModel). AreUnused q.plan.capacity c.in_ok-make_belts.field-0.items (q.plan.threads + 1)) c.input.view_is c.in_ok-make_belts.ensures.unused)
           (c.begin.ensures.channel ∙ channel)
-          (subst (λ (r : List RowModel). MayHaveFed c.begin.new.self 1 r [] []) (rows ∙ sym (begins_first g.G.Gas.rules input)) c.begin.ensures.nothing_done);
+          (subst (λ (r : List RowModel). MayHaveFed c.begin.new.self 1 r [] []) (rows ∙ sym (begins_first g.G.Gas.rules input c.begin_workers.ensures.some)) c.begin.ensures.nothing_done);
     }

@@ -26,6 +26,6 @@ returns-then-who-len g c input turns sh =
 
 pub returns-else-who-len : goal.returns-else-who-len
 returns-else-who-len g c input turns sh =
-    let out : input.plan.stages < c.args.who = omega (arith, sh.workers_are, c.if-who-len.false) in
+    let out : input.plan.threads < c.args.who = omega (arith, sh.workers_are, c.if-who-len.false) in
     subst (λ u. Shows g.G.Gas.rules input c.args.self.now.feeder c.args.self.now.workers.items c.args.self.now.belts.items u)
-    (sym (run_append (line_of g.G.Gas.rules input 0) turns (c.args.who ∷ []) start ∙ (turn_out (line_of g.G.Gas.rules input 0) (after g.G.Gas.rules input 0 turns) c.args.who (lt-ltb input.plan.stages c.args.who out)).1)) sh
+    (sym (run_append (line_of g.G.Gas.rules input 0) turns (c.args.who ∷ []) start ∙ (turn_out (line_of g.G.Gas.rules input 0) (after g.G.Gas.rules input 0 turns) c.args.who (lt-ltb input.plan.threads c.args.who out)).1)) sh

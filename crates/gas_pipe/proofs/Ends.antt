@@ -1,0 +1,47 @@
+-- What steps of the ends of belts do to their lists.
+use Rattle.std.proofs.Common.{◌≡◌, ◌+◌, ◌-◌, ◌≤◌, ◌++◌, ◌∷◌, [], length, min, Option, Some, None, ap, ◌∙◌}
+use Rattle.gas_rows.specs.Row.{RowModel}
+use Rattle.gas_belt.specs.Belt.{Sender, Receiver}
+use Rattle.gas_pipe_members.specs.Ends.{MayGet, Sends, Takes}
+use Rattle.gas_pipe.proofs.Workers.{one_more}
+
+abbrev pub takes : Receiver → RowModel → Receiver → Type 0
+takes old row new = (new ≡ record old { taken = old.taken ++ row ∷ []; held = old.held - 1 }) × (length row ≡ old.belt.width)
+
+abbrev pub gets : Receiver → RowModel → Receiver → Type 0
+gets old row new = (new ≡ record old { held = new.held }) × (length row ≡ old.belt.width → min 2 (old.held + 1) ≤ new.held)
+
+abbrev pub puts : Sender → RowModel → Sender → Type 0
+puts old row new = (new ≡ record old { put = old.put ++ row ∷ []; spare = Some row }) × (length row ≡ old.belt.width)
+
+abbrev pub lends : Sender → Option RowModel → Sender → Type 0
+lends old spare new = (spare ≡ old.spare) × (new ≡ record old { spare = None })
+
+-- the same of the end that a worker takes from
+abbrev pub stock_gets : Receiver → RowModel → Receiver → Type 0
+stock_gets old row new = new ≡ record old { held = new.held }
+
+pub stock_got : (a b : Receiver) (spare : Option RowModel) → MayGet stock_gets a spare b → (b.taken ≡ a.taken) × (b.belt ≡ a.belt)
+stock_got a b None is = (ap (λ (r : Receiver). r.taken) is, ap (λ (r : Receiver). r.belt) is)
+stock_got a b (Some row) is = (ap (λ (r : Receiver). r.taken) is, ap (λ (r : Receiver). r.belt) is)
+
+-- an end that may have been given a row
+pub got : (a b : Receiver) (spare : Option RowModel) → MayGet gets a spare b → (b.taken ≡ a.taken) × (b.belt ≡ a.belt)
+got a b None is = (ap (λ (r : Receiver). r.taken) is, ap (λ (r : Receiver). r.belt) is)
+got a b (Some row) is = (ap (λ (r : Receiver). r.taken) is.0, ap (λ (r : Receiver). r.belt) is.0)
+
+-- a row was taken
+pub took : (a b : Receiver) (row : RowModel) → Takes takes gets a row b → (b.taken ≡ one_more row a.taken) × (b.belt ≡ a.belt) × (length row ≡ a.belt.width)
+took a b row step =
+    let more = got step.between b step.spare step.got in (
+      more.0 ∙ ap (λ (r : Receiver). r.taken) step.took.0,
+      more.1 ∙ ap (λ (r : Receiver). r.belt) step.took.0,
+      step.took.1,
+    )
+
+-- a row was put
+pub sent : (a b : Sender) (row : RowModel) (spare : Option RowModel) → Sends puts lends a row spare b → (b.put ≡ one_more row a.put) × (b.belt ≡ a.belt)
+sent a b row spare step = (
+  ap (λ (t : Sender). t.put) step.lent.1 ∙ ap (λ (t : Sender). t.put) step.put.0,
+  ap (λ (t : Sender). t.belt) step.lent.1 ∙ ap (λ (t : Sender). t.belt) step.put.0,
+)

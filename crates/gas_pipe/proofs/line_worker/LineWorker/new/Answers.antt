@@ -1,0 +1,25 @@
+use Rattle.std.proofs.Common.{◌≡◌, ◌+◌, refl, ap, sym, subst, ◌∙◌, ℕ, length}
+use Rattle.gas_pipe_model.specs.Plan.{before}
+use Rattle.gas_pipe_model.specs.Pass.{RunInputModel}
+use Rattle.gas_pipe.specs.Inner.Worker.{LineWorkerModel}
+use Rattle.gas_pipe.proofs.Workers.{begins, opened}
+use Rattle.gas_pipe.proofs.line_worker.LineWorker.new.Goals as goal
+
+pub returns-clause-come : goal.returns-clause-come
+returns-clause-come g c =
+    let span = c.input.inside.span in
+    let number = c.args.share.number in
+    let w : LineWorkerModel = record {
+      number = number;
+      first = span.first;
+      plan = span.plan;
+      pass = 0;
+      worker = c.begin_stages.new.self;
+      rx = c.in_ok-new.field-0;
+      tx = c.args.tx;
+    } in
+    let share = subst (λ (i : RunInputModel). before i.plan number + c.args.share.stages ≡ before i.plan (number + 1)) (sym c.input.view_is) c.requires.stages in
+    let all : before span.plan number + length c.in_ok-worker.worker.stages.stages ≡ before span.plan (number + 1) = ap (λ (n : ℕ). before span.plan number + n) c.in_ok-worker.ensures.count ∙ share in
+    begins g.G.Gas.rules w refl
+    (opened g.G.Gas.rules c.begin_stages.new.self span.first span.plan 0 number _ _ _ all c.generations-first.ensures.passes c.begin_stages.ensures.nothing_done)
+    (c.in_ok-new.ensures.taken ∙ c.requires.nothing_taken) c.requires.nothing_put

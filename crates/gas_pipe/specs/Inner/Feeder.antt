@@ -1,0 +1,32 @@
+-- Inner words: what functions of this crate promise one another. No public contract cites them.
+-- The feeder of a run.
+use Rattle.std.specs.Prelude.{◌≡◌, ◌<◌, List}
+use Rattle.std.specs.Int.{div_ceil}
+use Rattle.gas_geom.specs.Gas.{Rules}
+use Rattle.gas_rows.specs.Row.{RowModel}
+use Rattle.gas_belt.specs.Belt.{Sender, Receiver}
+use Rattle.gas_pipe_model.specs.Pass.{RunInputModel, IsRunInput}
+use Rattle.gas_pipe_members.specs.Feeder.{FeederModel, MayHaveFed}
+
+-- in all passes over the input's lattice the feeder may have come to its state by putting and taking these rows, and there is a
+-- generation to compute
+pub record MayHaveFedInput (gas : Rules) (input : RunInputModel) (f : FeederModel) (put took : List RowModel) : Type 0 where
+  pub is_input : IsRunInput gas input
+  pub some : 0 < input.plan.generations
+  pub channel : f.channel ≡ input.lattice.channel
+  pub fed : MayHaveFed f (div_ceil input.plan.generations input.plan.stages) input.lattice.rows put took
+
+-- the feeder of a run, and its two ends
+pub record LineFeederModel : Type 0 where
+  pub feeder : FeederModel
+  pub tx : Sender
+  pub rx : Receiver
+
+-- in a run of this input it put and took the rows of its ends
+abbrev pub HasFed : Rules → RunInputModel → LineFeederModel → Type 0
+HasFed gas input f = MayHaveFedInput gas input f.feeder f.tx.put f.rx.taken
+
+-- they are between the same belts
+pub record SameFeeder (old new : LineFeederModel) : Type 0 where
+  pub tx : new.tx.belt ≡ old.tx.belt
+  pub rx : new.rx.belt ≡ old.rx.belt
