@@ -14,7 +14,7 @@ row-get d m rows k j xs long in_rows lt =
     let within : k * m + m ≤ length xs = omega (arith, row-within m rows k in_rows, long) in
     grind (arith, places)
 
-row-long : {A : Type 0} (m rows k : ℕ) (xs : List A) → length xs ≡ rows * m → k < rows → length (row_words m xs k) ≡ m
+pub row-long : {A : Type 0} (m rows k : ℕ) (xs : List A) → length xs ≡ rows * m → k < rows → length (row_words m xs k) ≡ m
 row-long m rows k xs long in_rows =
     let within : k * m + m ≤ length xs = omega (arith, row-within m rows k in_rows, long) in
     grind (arith, places)

@@ -14,9 +14,9 @@ abbrev pub AreFluidAbove : ℕ → List ℕ → ℕ → ℕ → Type 0
 AreFluidAbove width solid y n =
     (n ≤ y) × ((k x : ℕ) → k < y → y ≤ k + n → bit (row_words (words_in width) solid k) x ≡ false)
 
--- the bit of a generation's cell (x, y)
-abbrev pub bit_of : Source → ℕ → ℕ → ℕ → Bool
-bit_of source = part_bit source.chirality source.whole_width source.first_column source.first_row
+-- the bit of a generation's cell (x, y) in a part of that width
+abbrev pub bit_of : Source → ℕ → ℕ → ℕ → ℕ → Bool
+bit_of source width = part_bit source.chirality width source.first_row
 
 -- the words have a row's bits, but if they are drawn, which they are under the key of their seed
 pub record IsReady (chirality : Chirality) (key : List ℕ) (width : ℕ) (bits : List ℕ) : Type 0 where

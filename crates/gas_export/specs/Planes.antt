@@ -1,10 +1,10 @@
 -- Planes in memory: rows follow one another from the top, and a row has the words of plane 0, then those of plane 1, and so on.
 use Rattle.std.specs.Prelude.{ℕ, ◌*◌, ◌==◌, Bool, List, take, drop, if◌then◌else◌}
-use Rattle.gas_geom.specs.Gas.{Rules, holds}
+use Rattle.gas_geom.specs.Gas.{Rules}
 use Rattle.gas_geom.specs.Fhp1.{fhp1}
 use Rattle.gas_geom.specs.Hpp.{hpp}
 use Rattle.gas_geom.specs.FhpRest.{fhp_rest}
-use Rattle.gas_geom.specs.Lattice.{LatticeModel, set_of}
+use Rattle.gas_geom.specs.Lattice.{LatticeModel}
 use Rattle.gas_bits.specs.Words.{words_in, bit}
 use Rattle.gas_bits.specs.Planes.{state}
 use Rattle.gas_layout.specs.Layout.{lattice_of}
@@ -25,10 +25,6 @@ solid_at width solid x y = bit (row_words (words_in width) solid y) x
 -- the lattice in the words of its solid cells and of its states
 abbrev pub lattice_in : Rules → ℕ → ℕ → List ℕ → List ℕ → LatticeModel
 lattice_in gas width height solid states = lattice_of width height (solid_at width solid) (state_at gas.dirs width states)
-
--- the state with every particle turned to the opposite direction
-abbrev pub turned : Rules → ℕ → ℕ
-turned gas s = set_of gas.dirs (λ i. holds s (gas.opposite i))
 
 -- the gas and the chirality of a number
 abbrev pub gas_numbered : ℕ → Rules

@@ -1,5 +1,5 @@
 -- Which arguments are lawful. A call returns the status of the first that is not, or 0.
-use Rattle.std.specs.Prelude.{ℕ, ◌+◌, ◌*◌, ◌%◌, ◌==◌, ◌&&◌, Bool, nat_le, if◌then◌else◌}
+use Rattle.std.specs.Prelude.{ℕ, ◌+◌, ◌*◌, ◌&&◌, Bool, nat_le, if◌then◌else◌}
 use Rattle.std.specs.Int.{div_ceil}
 use Rattle.gas_bits.specs.Words.{words_in}
 use Rattle.gas_export.specs.Planes.{gas_numbered}
@@ -8,15 +8,12 @@ use Rattle.gas_export.specs.Planes.{gas_numbered}
 abbrev pub unless : Bool → ℕ → ℕ → ℕ
 unless lawful status rest = if lawful then rest else status
 
--- a lawful number of planes, a lawful size, and a lawful place of a part of that width in a whole
+-- a lawful number of planes, and a lawful size
 abbrev pub is_planes : ℕ → Bool
 is_planes planes = nat_le 1 planes && nat_le planes 8
 
 abbrev pub is_size : ℕ → ℕ → Bool
 is_size width height = (nat_le 1 width && nat_le width 65536) && (nat_le 1 height && nat_le height 65536)
-
-abbrev pub is_place : ℕ → ℕ → ℕ → ℕ → Bool
-is_place first_row first_column whole_width width = (first_row % 2 == 0 && first_column % 32 == 0) && nat_le (first_column + width) whole_width
 
 -- the number of words of so many planes, and of the memory to work in
 abbrev pub words_of : ℕ → ℕ → ℕ → ℕ

@@ -19,6 +19,8 @@ pub(crate) fn pack(size: Size, planes: usize, bytes: &[u8], words: &mut [u64])
     requires words { length words.old ≡ size.height * (planes * words_in size.width) }
     ensures packed { (x y : ℕ) → x < size.width → y < size.height →
         state_at planes size.width words.new x y ≡ slice_index bytes.now (y * size.width + x) }
+    ensures clear { (x y : ℕ) → size.width ≤ x → x < 64 * words_in size.width → y < size.height →
+        state_at planes size.width words.new x y ≡ 0 }
 {
     let width = size.width() as usize;
     let words_each = words_each(size);

@@ -1,19 +1,21 @@
 //! The calls, as `include/fhpgas.h` has them.
-ghost use Rattle.std.specs.Prelude.{◌≡◌, ◌≢◌, ◌+◌, ◌*◌, ◌^◌, ◌<◌, ◌≤◌, ◌==◌, ◌&&◌, ℕ, nat_le, nat_lt, if◌then◌else◌, length, slice_index};
+ghost use Rattle.std.specs.Prelude.{◌≡◌, ◌≢◌, ◌+◌, ◌*◌, ◌%◌, ◌^◌, ◌<◌, ◌≤◌, ◌==◌, ◌&&◌, ℕ, nat_le, nat_lt, if◌then◌else◌, length, slice_index};
 ghost use Rattle.std.specs.List.{list_all};
 ghost use Rattle.std.specs.Int.{div_ceil};
+ghost use Rattle.gas_geom.specs.Lattice.{LatticeModel, cell};
+ghost use Rattle.gas_geom.specs.Parts.{IsPartFrom, IsFarFromCuts};
+ghost use Rattle.gas_bits.specs.Words.{words_in};
 ghost use Rattle.gas_blocks.specs.Blocks.{block_at};
 ghost use Rattle.gas_stage.specs.Evolution.{lattice_after};
-ghost use Rattle.gas_export.specs.Planes.{lattice_in, gas_numbered, chirality_numbered, state_at, turned, row_words};
+ghost use Rattle.gas_export.specs.Planes.{lattice_in, gas_numbered, chirality_numbered, state_at, row_words};
 ghost use Rattle.gas_export.specs.Sums.{sums_of};
 ghost use Rattle.gas_export.specs.Part.{part_after};
-ghost use Rattle.gas_export.specs.Statuses.{unless, is_planes, is_size, is_place, words_of, work_of, blocks_in};
+ghost use Rattle.gas_export.specs.Statuses.{unless, is_planes, is_size, words_of, work_of, blocks_in};
 
 use crate::bytes::{pack, unpack};
 use crate::draw::Source;
 use crate::step::advance;
 use crate::sums::sum_blocks;
-use crate::turn::turn;
 use gas_bits::word::words_for;
 use gas_geom::fhp_rest::FhpRest;
 use gas_geom::fhp1::Fhp1;
@@ -97,9 +99,9 @@ fn work_of(gas: u32, width: u32) -> usize
 /// The number of this interface.
 #[unsafe(no_mangle)]
 pub extern "C" fn fhpgas_interface() -> u32
-    ensures number { result ≡ 2 }
+    ensures number { result ≡ 3 }
 {
-    2
+    3
 }
 
 /// The number of directions of a gas, 0 if there is no such gas.
@@ -154,6 +156,8 @@ pub extern "C" fn fhpgas_pack(
     ensures kept { result ≢ 0 → words.new ≡ words.old }
     ensures packed { result ≡ 0 → (x y : ℕ) → x < width → y < height →
         state_at planes width words.new x y ≡ slice_index bytes.now (y * width + x) }
+    ensures clear { result ≡ 0 → (x y : ℕ) → width ≤ x → x < 64 * words_in width → y < height →
+        state_at planes width words.new x y ≡ 0 }
 {
     lawful!(is_planes(planes), Gas);
     let Some(size) = Size::new(width, height) else {
@@ -189,25 +193,6 @@ pub extern "C" fn fhpgas_unpack(
     lawful!(words.len() == words_of(planes as usize, size), Length);
     lawful!(bytes.len() == height as usize * width as usize, Length);
     unpack(size, planes as usize, words, bytes);
-    Status::Done as u32
-}
-
-/// Turns every particle of a lattice to the opposite direction.
-#[unsafe(no_mangle)]
-pub extern "C" fn fhpgas_turn(gas: u32, width: u32, height: u32, states: &mut [u64]) -> u32
-    ensures status { result ≡ unless (nat_lt gas 3) 1 (unless (is_size width height) 3
-        (unless (length states.old == words_of (gas_numbered gas).dirs width height) 7 0)) }
-    ensures kept { result ≢ 0 → states.new ≡ states.old }
-    ensures turned { result ≡ 0 → (x y : ℕ) → x < width → y < height →
-        state_at (gas_numbered gas).dirs width states.new x y
-        ≡ turned (gas_numbered gas) (state_at (gas_numbered gas).dirs width states.old x y) }
-{
-    lawful!(gas < 3, Gas);
-    let Some(size) = Size::new(width, height) else {
-        return Status::Size as u32;
-    };
-    lawful!(states.len() == words_of(directions_of(gas), size), Length);
-    for_gas!(gas, turn(size, states));
     Status::Done as u32
 }
 
@@ -272,14 +257,12 @@ pub extern "C" fn fhpgas_advance(
     width: u32,
     height: u32,
     first_row: u32,
-    first_column: u32,
-    whole_width: u32,
     solid: &[u64],
     states: &mut [u64],
     work: &mut [u64],
 ) -> u32
     ensures status { result ≡ unless (nat_lt gas 3) 1 (unless (nat_lt chirality 3) 2
-        (unless (is_size width height) 3 (unless (is_place first_row first_column whole_width width) 4
+        (unless (is_size width height) 3 (unless (first_row % 2 == 0) 4
         (unless (nat_lt (first + generations) (2 ^ 64)) 5
         (unless (length solid.now == words_of 1 width height &&
         (length states.old == words_of (gas_numbered gas).dirs width height &&
@@ -287,23 +270,26 @@ pub extern "C" fn fhpgas_advance(
     ensures kept { result ≢ 0 → states.new ≡ states.old }
     ensures kept_work { result ≢ 0 → work.new ≡ work.old }
     ensures done { result ≡ 0 → lattice_in (gas_numbered gas) width height solid.now states.new
-        ≡ part_after (gas_numbered gas) (chirality_numbered chirality seed) whole_width first_column
-        first_row first (lattice_in (gas_numbered gas) width height solid.now states.old) generations }
-    ensures whole { result ≡ 0 → first_row ≡ 0 → first_column ≡ 0 → whole_width ≡ width →
+        ≡ part_after (gas_numbered gas) (chirality_numbered chirality seed) first_row first
+        (lattice_in (gas_numbered gas) width height solid.now states.old) generations }
+    ensures whole { result ≡ 0 → first_row ≡ 0 →
         lattice_in (gas_numbered gas) width height solid.now states.new
         ≡ lattice_after (gas_numbered gas) (chirality_numbered chirality seed) first
         (lattice_in (gas_numbered gas) width height solid.now states.old) generations }
+    ensures part { result ≡ 0 → (whole : LatticeModel) (x y : ℕ) →
+        let part = lattice_in (gas_numbered gas) width height solid.now states.old in
+        IsPartFrom first_row part whole →
+        IsFarFromCuts first_row generations part.channel whole.channel y →
+        cell (lattice_in (gas_numbered gas) width height solid.now states.new).rows x y
+        ≡ cell (lattice_after (gas_numbered gas) (chirality_numbered chirality seed) first whole
+        generations).rows x (first_row + y) }
 {
     lawful!(gas < 3, Gas);
     lawful!(chirality < 3, Chirality);
     let Some(size) = Size::new(width, height) else {
         return Status::Size as u32;
     };
-    lawful!(first_row % 2 == 0 && first_column % 32 == 0, Place);
-    lawful!(
-        u64::from(first_column) + u64::from(width) <= u64::from(whole_width),
-        Place
-    );
+    lawful!(first_row % 2 == 0, Place);
     lawful!(generations <= u64::MAX - first, Generations);
     lawful!(solid.len() == words_of(1, size), Length);
     lawful!(states.len() == words_of(directions_of(gas), size), Length);
@@ -311,8 +297,6 @@ pub extern "C" fn fhpgas_advance(
     let source = Source {
         chirality: chirality_of(chirality, seed),
         first_row,
-        first_column,
-        whole_width,
     };
     for_gas!(
         gas,

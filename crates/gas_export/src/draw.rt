@@ -1,5 +1,5 @@
 //! The random bits of a row of a part.
-ghost use Rattle.std.specs.Prelude.{◌≡◌, ◌+◌, ◌<◌, ◌≤◌, ◌%◌, ℕ, length};
+ghost use Rattle.std.specs.Prelude.{◌≡◌, ◌<◌, ℕ, length};
 ghost use Rattle.gas_bits.specs.Words.{words_in, bit};
 
 use gas_bits::plane::fill;
@@ -9,14 +9,12 @@ use gas_rows::chirality::Chirality;
 use gas_rows::key::{draw, generator_of, seek};
 use rand_chacha::ChaCha20Rng;
 
-/// Where the random bits of a part come from: the source of the whole, and where the part lies in it.
+/// Where the random bits of a part come from: the source of the whole, and the row at which the part
+/// begins in it.
 #[derive(Clone, Copy)]
 pub(crate) struct Source {
     pub(crate) chirality: Chirality,
     pub(crate) first_row: u32,
-    pub(crate) first_column: u32,
-    pub(crate) whole_width: u32,
-    ghost column: { first_column % 32 ≡ 0 },
 }
 
 impl Source {
@@ -50,7 +48,7 @@ impl Source {
         requires ready { IsReady self.chirality generator.old.key size.width bits.old }
         ensures ready { IsReady self.chirality generator.new.key size.width bits.new }
         ensures collisions { (s x : ℕ) → x < size.width →
-            G.rules.collide s (bit bits.new x) ≡ G.rules.collide s (bit_of self generation x y) }
+            G.rules.collide s (bit bits.new x) ≡ G.rules.collide s (bit_of self size.width generation x y) }
     {
         let Chirality::Seeded(_) = self.chirality else {
             return;
@@ -59,9 +57,8 @@ impl Source {
             return;
         }
         let row = u64::from(self.first_row) + u64::from(y);
-        let key_words = u64::from(self.whole_width.div_ceil(32));
-        let first = row * key_words + u64::from(self.first_column / 32);
-        seek(generator, generation, first);
+        let key_words = u64::from(size.width().div_ceil(32));
+        seek(generator, generation, row * key_words);
         draw(bits, size.width(), generator);
     }
 }

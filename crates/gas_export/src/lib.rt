@@ -8,4 +8,3 @@ mod draw;
 mod rows;
 mod step;
 mod sums;
-mod turn;

@@ -119,7 +119,7 @@ impl<'a, 'b> Channel<'a, 'b> {
         ensures next { rows_of self.now.size.width self.now.size.height
             (state_at G.rules.dirs self.now.size.width states.new) ≡ next G.rules
             (channel_of self.now.size.width self.now.size.height (solid_at self.now.size.width self.now.solid.now))
-            (bit_of source generation) (rows_of self.now.size.width self.now.size.height
+            (bit_of source self.now.size.width generation) (rows_of self.now.size.width self.now.size.height
             (state_at G.rules.dirs self.now.size.width states.old)) }
     {
         let n = row_length::<G>(self.size);
@@ -160,7 +160,7 @@ pub(crate) fn advance<G: Gas>(
     requires states { length states.old ≡ size.height * (G.rules.dirs * words_in size.width) }
     requires work { length work.old ≡ (3 * G.rules.dirs + 2) * words_in size.width }
     ensures done { lattice_in G.rules size.width size.height solid.now states.new ≡ part_after G.rules
-        source.chirality source.whole_width source.first_column source.first_row first
+        source.chirality source.first_row first
         (lattice_in G.rules size.width size.height solid.now states.old) generations }
 {
     let words_each = words_each(size);

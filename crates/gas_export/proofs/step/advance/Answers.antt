@@ -10,5 +10,5 @@ loop-done-preserved g c =
     let w : ℕ = c.args.size.width in
     record {
       ready = c.step.ensures.ready;
-      rows = rw add-one (c.step.ensures.next ∙ ap (next g.G.Gas.rules (channel_of w c.args.size.height (solid_at w c.args.solid.now)) (bit_of c.args.source (c.args.first + c.loop-done.done))) c.loop-done.invariant.rows);
+      rows = rw add-one (c.step.ensures.next ∙ ap (next g.G.Gas.rules (channel_of w c.args.size.height (solid_at w c.args.solid.now)) (bit_of c.args.source w (c.args.first + c.loop-done.done))) c.loop-done.invariant.rows);
     }

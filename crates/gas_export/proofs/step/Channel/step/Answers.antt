@@ -21,7 +21,7 @@ loop-y-preserved g c =
     let n : ℕ = c.row_length-n.result in
     let m : ℕ = gas.dirs * words_in w in
     let solid : List ℕ = c.args.self.now.solid.now in
-    let f : ℕ → ℕ → Bool = bit_of c.args.source c.args.generation in
+    let f : ℕ → ℕ → Bool = bit_of c.args.source w c.args.generation in
     let at : ℕ → ℕ → ℕ = collided_at gas w h solid f c.args.states.now in
     let copied : List ℕ = c.copy_from_slice.new.self in
     let row : List ℕ = c.collide.new.words in
@@ -60,7 +60,7 @@ returns-clause-next g c =
     let w : ℕ = c.args.self.now.size.width in
     let h : ℕ = c.args.self.now.size.height in
     let solid : List ℕ = c.args.self.now.solid.now in
-    let at : ℕ → ℕ → ℕ = collided_at gas w h solid (bit_of c.args.source c.args.generation) c.args.states.now in
+    let at : ℕ → ℕ → ℕ = collided_at gas w h solid (bit_of c.args.source w c.args.generation) c.args.states.now in
     let end : c.loop-y.y ≡ h = omega (arith, c.loop-y-test.false, c.loop-y.auto.y-end, c.height-y-end.ensures.value) in
     rows_of-same w h (state_at gas.dirs w c.stream_above-2.new.states) (streamed gas (channel_of w h (solid_at w solid)) at) 0 (λ x y in_row in_rows. elim (cases_eq (y + 1) h) [
       | inl e ↦ c.stream_above-2.ensures.here at

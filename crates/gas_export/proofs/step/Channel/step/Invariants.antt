@@ -16,8 +16,8 @@ invariant-loop-y g l = record {
   fresh : (k : ℕ) → l.y ≤ k + 1 → k < l.self.size.height
       → row_words (g.G.Gas.rules.dirs * words_in l.self.size.width) l.states k ≡ row_words (g.G.Gas.rules.dirs * words_in l.self.size.width) l.initial.states k;
   hit : (x k : ℕ) → x < l.self.size.width → k < l.y → l.y ≤ k + 2 → state_at g.G.Gas.rules.dirs l.self.size.width l.kept x (k % 3)
-      ≡ collided_at g.G.Gas.rules l.self.size.width l.self.size.height l.self.solid.now (bit_of l.fn.source l.generation) l.initial.states x k;
+      ≡ collided_at g.G.Gas.rules l.self.size.width l.self.size.height l.self.solid.now (bit_of l.fn.source l.self.size.width l.generation) l.initial.states x k;
   gone : (x k : ℕ) → x < l.self.size.width → k + 1 < l.y → state_at g.G.Gas.rules.dirs l.self.size.width l.states x k
       ≡ streamed g.G.Gas.rules (channel_of l.self.size.width l.self.size.height (solid_at l.self.size.width l.self.solid.now))
-      (collided_at g.G.Gas.rules l.self.size.width l.self.size.height l.self.solid.now (bit_of l.fn.source l.generation) l.initial.states) x k;
+      (collided_at g.G.Gas.rules l.self.size.width l.self.size.height l.self.solid.now (bit_of l.fn.source l.self.size.width l.generation) l.initial.states) x k;
 }
