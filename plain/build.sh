@@ -1,0 +1,17 @@
+#!/bin/bash
+# Builds by plain Rust, without the kit, in FOLDER: the program fhpgas and the library for C with its header. Nothing of it is proved, and
+# every index is checked. The crates are Debian's packages if they are here, else cargo downloads them.
+set -euo pipefail
+shopt -s extglob
+if [ -z "${1-}" ]; then echo 'usage: plain/build.sh FOLDER' >&2; exit 2; fi
+mkdir -p "$1"
+folder=$(realpath -- "$1")
+cd "$(dirname "$0")"
+./workspace.py "$folder/workspace"
+cd "$folder/workspace"
+offline=$([ ! -e .cargo/config.toml ] || echo --offline)
+cargo build --release --quiet ${offline:+"$offline"}
+cp target/release/fhpgas "$folder"
+for library in target/release/@(libfhpgas.so|libfhpgas.dylib|fhpgas.dll); do [ ! -e "$library" ] || cp "$library" "$folder"; done
+cp "$OLDPWD/../include/fhpgas.h" "$folder"
+echo "$folder: $("$folder/fhpgas" --version), libfhpgas and fhpgas.h"

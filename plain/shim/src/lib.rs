@@ -1,0 +1,97 @@
+//! What Rattle's library and crates have and Rust's have not, over Rust's: the names that the
+//! sources use, and no more. An allocator is a value, a call that takes memory can refuse, and who
+//! waits, prints or reads holds the runtime. With the feature `std` it also has what needs a system.
+#![no_std]
+
+extern crate alloc as heap;
+#[cfg(feature = "std")]
+extern crate std;
+
+pub mod alloc;
+pub mod c;
+pub mod collections;
+mod index;
+pub mod macros;
+pub mod mem;
+pub mod rand_core;
+pub mod simd;
+pub mod string;
+pub mod vec;
+
+#[cfg(feature = "std")]
+pub mod clap;
+#[cfg(feature = "std")]
+pub mod rt;
+#[cfg(feature = "std")]
+pub mod rtrb;
+#[cfg(feature = "std")]
+pub mod sync;
+#[cfg(feature = "std")]
+pub mod system;
+#[cfg(feature = "std")]
+pub mod thread;
+#[cfg(feature = "std")]
+pub mod toml;
+
+pub use index::{At, CHECKED, unreached};
+
+pub use core::hint;
+#[cfg(feature = "std")]
+pub use std::io;
+#[cfg(feature = "std")]
+pub use system::{env, fs, os, process, test, time};
+
+/// What this build is, for `fhpgas --version` and, with the zero that ends a text of C, the library.
+pub const BUILD: &str = if CHECKED {
+    "plain Rust, checked, not proved\0"
+} else {
+    concat!(env!("CARGO_PKG_DESCRIPTION"), "\0")
+};
+
+pub mod marker {
+    pub use core::marker::PhantomData;
+    /// A type that a contract names as another.
+    pub trait Model {}
+}
+
+pub mod snapshot {
+    use core::marker::PhantomData;
+    /// A value that only contracts see.
+    pub struct Snapshot<T>(PhantomData<fn() -> T>);
+    impl<T> Snapshot<T> {
+        #[inline(always)]
+        pub fn of(_: &T) -> Self { Snapshot(PhantomData) }
+    }
+}
+
+pub mod fmt {
+    pub use core::fmt::*;
+    /// A writer of texts, also line by line.
+    pub trait Write: core::fmt::Write {
+        fn writeln<D: Display>(&mut self, line: D) -> Result {
+            core::fmt::Write::write_fmt(self, format_args!("{line}\n"))
+        }
+    }
+    impl<T: core::fmt::Write + ?Sized> Write for T {}
+}
+
+/// What each source has without a `use`, and the crates that this one stands for.
+pub mod prelude {
+    pub use crate::index::At;
+    pub use crate::rand_core;
+    pub use crate::string::{InMemory as _, String};
+    pub use crate::vec::{CollectIn as _, SliceIn as _, Vec};
+    #[cfg(feature = "std")]
+    pub use crate::{
+        clap,
+        rt::{Eprint, HostRuntime, Print},
+        rtrb,
+        sync::Parking as _,
+        thread::ScopeExt as _,
+        toml,
+    };
+    pub use core::fmt::Write as _;
+    /// Leave to drop a value, which Rust gives to all.
+    pub trait Drop {}
+    impl<T: ?Sized> Drop for T {}
+}

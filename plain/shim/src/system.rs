@@ -1,0 +1,81 @@
+//! What a program asks a system for, and what a test returns.
+
+pub mod time {
+    use std::io;
+    pub use std::time::Duration;
+    #[derive(Clone, Copy, Debug)]
+    pub struct Instant(std::time::Instant);
+    impl Instant {
+        pub fn now<R>(_: &R) -> io::Result<Instant> { Ok(Instant(std::time::Instant::now())) }
+        pub fn elapsed<R>(&self, _: &R) -> io::Result<Duration> { Ok(self.0.elapsed()) }
+    }
+}
+
+pub mod env {
+    use crate::string::String;
+    use std::io;
+    use std::vec::{IntoIter, Vec};
+    pub type Args = IntoIter<String>;
+    /// The words of the command line. One that is not UTF-8 is an error of kind `InvalidData`.
+    pub fn args<R>(_: &R) -> io::Result<Args> {
+        let text = |word: std::ffi::OsString| word.into_string().map(String);
+        let words: Result<Vec<_>, _> = std::env::args_os().map(text).collect();
+        words.map(Vec::into_iter).map_err(|_| io::ErrorKind::InvalidData.into())
+    }
+}
+
+pub mod fs {
+    pub fn metadata<R>(_: &R, path: &str) -> std::io::Result<std::fs::Metadata> {
+        std::fs::metadata(path)
+    }
+}
+
+/// What Unix says of a file. Elsewhere no file is a device.
+pub mod os {
+    #[cfg(unix)]
+    pub use std::os::unix;
+    #[cfg(not(unix))]
+    pub mod unix {
+        pub mod fs {
+            pub trait MetadataExt {
+                fn rdev(&self) -> u64 { 0 }
+            }
+            pub trait FileTypeExt {
+                fn is_char_device(&self) -> bool { false }
+            }
+            impl MetadataExt for std::fs::Metadata {}
+            impl FileTypeExt for std::fs::FileType {}
+        }
+    }
+}
+
+pub mod process {
+    /// The status that a program ends with.
+    pub struct ExitCode(pub i32);
+    impl ExitCode {
+        pub const SUCCESS: ExitCode = ExitCode(0);
+    }
+    impl From<u8> for ExitCode {
+        fn from(status: u8) -> Self { ExitCode(status.into()) }
+    }
+    impl std::process::Termination for ExitCode {
+        fn report(self) -> std::process::ExitCode { std::process::ExitCode::from(self.0 as u8) }
+    }
+    /// Leave to end the process.
+    pub trait Abort {}
+    impl Abort for crate::rt::HostRuntime {}
+}
+
+pub mod test {
+    use std::boxed::Box;
+    use std::string::{String, ToString};
+    /// Why a test failed that used `?`.
+    #[derive(Debug)]
+    pub struct Fail(#[allow(dead_code)] String);
+    impl Fail {
+        pub fn new(why: &str) -> Fail { Fail(why.into()) }
+    }
+    impl<E: Into<Box<dyn std::error::Error>>> From<E> for Fail {
+        fn from(error: E) -> Fail { Fail(error.into().to_string()) }
+    }
+}

@@ -1,0 +1,195 @@
+"""Rust from Rattle's sources: blanks what only the prover reads, and keeps every line where it is.
+
+What goes: ghost items and fields, clauses (`requires`, `ensures`), `#[tactic]`, the derive of Drop.
+What is written otherwise: the paths of Rattle's library become the shim's, an index `a[i]` becomes
+`a[At(i)]`, calls that take an allocator get names of their own, `main` and tests make the runtime
+that Rattle gives them, and a call for C takes each slice as a pointer and a length.
+"""
+
+import re
+
+# A comment, a text, a character, a path's first name, a word, white space, or one character more.
+TOKEN = re.compile(
+    r"""
+    (?P<literal> //[^\n]*
+      | (?:b|c)?r(?P<hashes>\#*)".*?"(?P=hashes)
+      | [bc]?"(?:[^"\\]|\\.)*"
+      | b?'(?:[^'\\\n]|\\(?:x[0-9a-fA-F]{2}|u\{[^}]*\}|.))')
+    | (?P<library> (?<![\w:$.])(?:std|core)(?=::))
+    | (?P<word> \w+)
+    | (?P<space> \s+)
+    | (?P<other> .)
+    """,
+    re.X | re.S,
+)
+GHOST = re.compile(r"^[ \t]*ghost[ \t]", re.M)
+CLAUSE = re.compile(r"^[ \t]*(?:requires|ensures)[ \t]+(?:[^\s{}]+[ \t]+)?(?=\{)", re.M)
+TACTIC = re.compile(r"#!?(?=\[tactic\()")
+DERIVE = re.compile(r"#\[derive\(([^)]*)\)\]")
+# Words after which `[` begins a value or a type. Elsewhere it is an index if no space is before it.
+NOT_INDEXED = {"as", "dyn", "else", "if", "in", "match", "mut", "return"}
+BRACKETS = {"{": "}", "[": "]"}
+MACRO = re.compile(r"\b(assert|assert_eq|eprint|eprintln|format|print|unreachable|vec)!")
+
+
+class NotPlain(Exception):
+    """A source has a form that is not understood."""
+
+
+def blank(text: str) -> str:
+    """The line feeds of a text alone."""
+    return re.sub(r"[^\n]", " ", text)
+
+
+def end_of_group(text: str, start: int) -> int:
+    """The place after the bracket that closes the one at `start`. What is inside is a proof's, in
+    which a quote is part of a name, so no text or character is looked for."""
+    opening, depth = text[start], 0
+    closing = BRACKETS[opening]
+    for place in range(start, len(text)):
+        depth += (text[place] == opening) - (text[place] == closing)
+        if depth == 0:
+            return place + 1
+    line = text.count("\n", 0, start) + 1
+    raise NotPlain(f"line {line}: {opening} is not closed")
+
+
+def end_of_ghost(text: str, start: int) -> int:
+    """The place after a ghost item or field, with the comma or semicolon that ends it."""
+    brace, semicolon = text.find("{", start), text.find(";", start)
+    if 0 <= semicolon < brace or brace < 0:
+        return semicolon + 1
+    end = end_of_group(text, brace)
+    follows = re.compile(r"\s*[,;]").match(text, end)
+    return follows.end() if follows else end
+
+
+def without_documentation(text: str) -> str:
+    """A text whose last lines, if they document what comes next, are plain comments."""
+    lines = text.split("\n")
+    for number in range(len(lines) - 2, -1, -1):
+        if not lines[number].lstrip().startswith("///"):
+            break
+        lines[number] = lines[number].replace("///", "// ", 1)
+    return "\n".join(lines)
+
+
+def without_proofs(text: str) -> str:
+    """Blanks ghost items, clauses, and what tells the prover how to go on."""
+    while found := GHOST.search(text):
+        end = end_of_ghost(text, found.end())
+        kept = without_documentation(text[: found.start()])
+        text = kept + blank(text[found.start() : end]) + text[end:]
+    for pattern in CLAUSE, TACTIC:
+        while found := pattern.search(text):
+            end = end_of_group(text, found.end())
+            text = text[: found.start()] + blank(text[found.start() : end]) + text[end:]
+    return text
+
+
+def derived(found: re.Match[str]) -> str:
+    """A `derive` without Drop, which is Rattle's leave to drop a value."""
+    names = [name for name in re.findall(r"\w+", found[1]) if name != "Drop"]
+    return f"#[derive({', '.join(names)})]" if names else ""
+
+
+def is_indexed(before: str) -> bool:
+    """Whether a `[` after this token is an index."""
+    if re.fullmatch(r"[A-Za-z_]\w*", before):
+        return before not in NOT_INDEXED
+    return before in (")", "]", "?")
+
+
+def with_marked_indices(text: str) -> str:
+    """Writes an index as `a[At(i)]`, and the library's paths as the shim's."""
+    tokens, opened, before = [], [], ""
+    for found in TOKEN.finditer(text):
+        token = found[0]
+        if found.lastgroup == "library":
+            tokens.append("shim")
+        elif token == "[":
+            opened.append(is_indexed(before))
+            tokens.append("[At(" if opened[-1] else "[")
+        elif token == "]":
+            tokens.append(")]" if opened.pop() else "]")
+        else:
+            tokens.append(token)
+        before = token
+    if opened:
+        raise NotPlain("a bracket is not closed")
+    return "".join(tokens)
+
+
+def with_named_calls(text: str) -> str:
+    """Gives the calls that take an allocator, which Rust has without one, names of their own."""
+    text = re.sub(
+        r"\.(to_vec|collect|replace|repeat)((?:::<[^()]*>)?\((?:alloc\b|rt\.alloc\(\)))",
+        r".\1_by\2",
+        text,
+    )
+    return re.sub(r"\bScope<('\w+), &('\w+) \(\)>", r"Scope<\1, \2>", text)
+
+
+def with_runtime(text: str) -> str:
+    """`main` and tests make the runtime that they take."""
+    text = re.sub(
+        r"^fn main\((\w+: HostRuntime\)) -> ([^{]*?) \{",
+        r"shim::macros::main!(start -> \2); fn start(\1 -> \2 {",
+        text,
+        flags=re.M,
+    )
+    return re.sub(
+        r"(#\[test\]\s*fn \w+\()\s*(\w+): HostRuntime,?\s*(\)[^{]*\{)",
+        lambda found: found[1]
+        + found[3]
+        + f" let {found[2]} = shim::rt::host();"
+        + "\n" * (found[0].count("\n") - found[1].count("\n") - found[3].count("\n")),
+        text,
+    )
+
+
+def for_c(found: re.Match[str]) -> str:
+    """A call for C, by the Rust function of the same name: each slice as a pointer and a length."""
+    name, result = found[1], found[3] or ""
+    takes, gives = [], []
+    for parameter in re.sub(r"\s+", " ", found[2]).strip(" ,").split(","):
+        argument, _, kind = (part.strip() for part in parameter.partition(":"))
+        if not argument:
+            continue
+        if is_slice := re.fullmatch(r"&(mut )?\[(\w+)\]", kind):
+            pointer, way = ("*mut", "slice_mut") if is_slice[1] else ("*const", "slice")
+            takes.append(f"{argument}: {pointer} {is_slice[2]}, {argument}_length: usize")
+            gives.append(f"shim::c::{way}({argument}, {argument}_length)")
+        else:
+            takes.append(f"{argument}: {kind}")
+            gives.append(argument)
+    call = f'pub unsafe extern "C" fn {name}_c({", ".join(takes)}){result}'
+    body = f"{{ unsafe {{ {name}({', '.join(gives)}) }} }}"
+    attribute = f'#[unsafe(export_name = "{name}")]'
+    return f"\n{attribute} {call} {body} pub fn {name}({found[2]}){result}"
+
+
+def with_calls_for_c(text: str) -> str:
+    """Rattle passes a slice to C as two words. Rust has no such promise for a slice."""
+    pattern = r'#\[unsafe\(no_mangle\)\]\npub extern "C" fn (\w+)\(([^)]*)\)(\s*->\s*\w+)?'
+    return re.sub(pattern, for_c, text)
+
+
+def with_prelude(text: str, attribute: str) -> str:
+    """An attribute of the crate, and the shim's names, on the line of the first item."""
+    place = re.match(r"(?:\s+|//![^\n]*|// [^\n]*|//\n|#!\[[^\]]*\])*", text).end()
+    begins = text.rfind("\n", 0, place) + 1
+    macros = ", ".join(sorted({found[1] for found in MACRO.finditer(text)}))
+    names = f"#[allow(unused_imports)] use shim::{{prelude::*, macros::{{{macros}}}}}; "
+    return text[:begins] + attribute + names + text[begins:]
+
+
+def plain(text: str, attribute: str = "") -> str:
+    """The Rust of a Rattle source, line for line, with an attribute of its crate. Raises NotPlain if
+    a line would move."""
+    made = DERIVE.sub(derived, without_proofs(text))
+    made = with_runtime(with_named_calls(with_marked_indices(made)))
+    made = with_prelude(with_calls_for_c(made), attribute)
+    if made.count("\n") != text.count("\n"):
+        raise NotPlain(f"{text.count(chr(10))} lines became {made.count(chr(10))}")
+    return made

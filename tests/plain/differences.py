@@ -1,0 +1,115 @@
+#!/usr/bin/env python3
+"""Shows in what a plain build differs from the proved one, as plain/README.md lists it: what it says of itself, memory that is refused, the
+forms of TOML, and the words of help and usage. Where the proved program is, it must do what is said of it. Ends with the counts."""
+
+import ctypes
+import os
+import signal
+import subprocess
+import tempfile
+import unittest
+import sys
+
+sys.path.append(f"{sys.path[0]}/../lib")
+import needs
+
+PLAIN = needs.ROOT / "out/plain/fhpgas"
+LIBRARY = needs.ROOT / "out/plain/libfhpgas.so"
+PROVED = needs.ROOT / "crates/fhpgas/out/fhpgas"
+BUILD = b"plain Rust, checked, not proved"
+MOST_REQUESTS = 400
+SCENE = 'gas = "fhp1"\nchirality = "left"\ncells = ["........", "......01"]\n'
+MAP = 'gas = "fhp1"\ncells = ["01"]\n'
+READ = "gas fhp1 width 1 height 1 solid 0 particles 1\n"
+# Scenes: the last line, and what the plain and the proved program say of it.
+TOML = {
+    "an escape of version 1.1": ('chirality = "\\x6ceft"', "not TOML", READ),
+    "a table of version 1.1": ("none = {\n  a = 1,\n}", "not TOML", "unknown key"),
+    "a time of version 1.1": ("none = 07:32", "not TOML", "unknown key"),
+    "a leap second": ("none = 23:59:60", "not TOML", "unknown key"),
+    "a date that is none": ("none = 1979-02-30", "unknown key", "not TOML"),
+    "a sign before 0x": ("seed = +0x10", READ, "not TOML"),
+}
+# Words, and a line of the plain and of the proved program's text.
+TEXTS = {
+    "--help": ("  -h, --help     Print help information", "  -h, --help     Print help"),
+    "run": ("For more information try '--help'", "For more information, try '--help'."),
+    "run --generations x": (
+        "error: Invalid value 'x' for '--generations <G>': invalid digit found in string",
+        "error: invalid value 'x' for '--generations <G>': invalid digit found in string",
+    ),
+    "dance": (
+        "error: The subcommand 'dance' wasn't recognized",
+        "error: unrecognized subcommand 'dance'",
+    ),
+}
+
+
+def run(program, *words, text=SCENE, **environment):
+    return subprocess.run(
+        [program, *words],
+        input=text.encode(),
+        capture_output=True,
+        env=os.environ | environment,
+        timeout=60,
+    )
+
+
+def ended(program, *words, **more):
+    done = run(program, *words, **more)
+    return done.returncode, done.stdout.decode(), done.stderr.decode()
+
+
+class Differences(unittest.TestCase):
+    def test_the_program_says_what_it_is(self):
+        done = run(PLAIN, "--version")
+        self.assertRegex(done.stdout, rb"^fhpgas [0-9.]+ \(" + BUILD + rb"\)\n$")
+
+    def test_the_library_says_what_it_is(self):
+        call = ctypes.CDLL(str(LIBRARY)).fhpgas_not_proved
+        call.restype = ctypes.c_char_p
+        self.assertEqual(call(), BUILD)
+
+    def test_memory_that_is_refused(self):
+        """A request that Rust's crates make aborts the program, which has printed nothing."""
+        with tempfile.TemporaryDirectory() as room:
+            refuse = f"{room}/refuse.so"
+            needs.compiled("tests/program/refusal/refuse.c", refuse, "-shared", "-fPIC", "-ldl")
+            statuses = []
+            for number in range(1, MOST_REQUESTS):
+                done = run(PLAIN, "check", LD_PRELOAD=refuse, REFUSE_FROM=str(number))
+                statuses.append(done.returncode)
+                if done.returncode == 0:
+                    break
+                with self.subTest(number):
+                    self.assertEqual(done.stdout, b"")
+                    self.assertIn(done.returncode, (3, -signal.SIGABRT))
+        self.assertEqual(statuses[-1], 0)
+        self.assertIn(3, statuses)
+        self.assertIn(-signal.SIGABRT, statuses)
+
+    def test_toml(self):
+        for name, (line, *wanted) in TOML.items():
+            for program, reason in zip((PLAIN, PROVED), wanted):
+                if program.exists():
+                    with self.subTest(name, program=program):
+                        refused = 1, "", f"scene: {reason}\n"
+                        self.assertEqual(
+                            ended(program, "check", text=f"{MAP}{line}\n"),
+                            (0, READ, "") if reason == READ else refused,
+                        )
+
+    def test_texts_of_help_and_usage(self):
+        for words, wanted in TEXTS.items():
+            for program, line in zip((PLAIN, PROVED), wanted):
+                if program.exists():
+                    with self.subTest(words, program=program):
+                        status, printed, told = ended(program, *words.split())
+                        self.assertEqual(status, 0 if words == "--help" else 2)
+                        self.assertIn(line, (printed + told).split("\n"))
+
+
+for path in PLAIN, LIBRARY:
+    if not path.exists():
+        needs.stop(f"{path} is missing: run make plain first")
+needs.run_tests()

@@ -1,0 +1,117 @@
+#!/usr/bin/env python3
+"""Tries plain/strip.py on worked examples and on all sources, and compares the names of Rattle's library and crates in use with
+plain/names.txt, which lists what plain/shim has. --write lists them anew. Ends with the counts."""
+
+import re
+import sys
+import unittest
+
+sys.path.append(f"{sys.path[0]}/../lib")
+import needs
+
+sys.path.append(str(needs.ROOT / "plain"))
+import strip
+import workspace
+
+LIST = needs.ROOT / "plain/names.txt"
+SOURCES = sorted((needs.ROOT / "crates").glob("*/src/**/*.rt"))
+USED = {name for uses in workspace.crates().values() for name in uses}
+OTHERS = USED - workspace.crates().keys()  # crates that are not built here
+PATH = re.compile(rf"(?<![\w:.])(?:std|{'|'.join(sorted(OTHERS))})::(?:\w+::)*(?:\w+|\{{[^}}]*\}})")
+
+# A source, and its Rust by hand without the names that each file gets.
+EXAMPLES = {
+    "clauses": (
+        "fn one(x: u32) -> u32\n    requires { x ≡ 1 }\n    ensures few { f {x} ≤ x' }\n{\n    x\n}\n",
+        "fn one(x: u32) -> u32\n{\n    x\n}\n",
+    ),
+    "ghost items": (
+        "/// Of a proof.\nghost use A.{b, c};\nstruct S {\n    x: u8,\n    ghost fits: { x ≤ 3 },\n}\n",
+        "// Of a proof.\nstruct S {\n    x: u8,\n}\n",
+    ),
+    "attributes": (
+        "#[tactic(auto, using(a [b]))]\n#[derive(Debug, Drop)]\nstruct S;\n#[derive(Drop)]\nstruct T;\n",
+        "#[derive(Debug)]\nstruct S;\nstruct T;\n",
+    ),
+    "indices": (
+        "fn f(a: &[u8; 4], n: &mut [u8]) { n[1..a[0]][a.len()] = g()[2]; for x in [a[3]] {} }\n",
+        "fn f(a: &[u8; 4], n: &mut [u8]) { n[At(1..a[At(0)])][At(a.len())] = g()[At(2)];"
+        " for x in [a[At(3)]] {} }\n",
+    ),
+    "texts and comments": (
+        'fn f() { g("a[1] std::x", b\'[\', r#"b[1]"#) } // a[1]\n',
+        'fn f() { g("a[1] std::x", b\'[\', r#"b[1]"#) } // a[1]\n',
+    ),
+    "paths": (
+        "use std::io;\nuse core::mem::swap;\nfn f() { a.std::b }\n",
+        "use shim::io;\nuse shim::mem::swap;\nfn f() { a.std::b }\n",
+    ),
+    "calls that take memory": (
+        "fn f() { x.to_vec(alloc); x.collect::<Vec<u8>>(rt.alloc()); x.collect(); x.repeat(alloc, 2) }\n",
+        "fn f() { x.to_vec_by(alloc); x.collect_by::<Vec<u8>>(rt.alloc()); x.collect();"
+        " x.repeat_by(alloc, 2) }\n",
+    ),
+    "a test": (
+        "#[test]\nfn t(rt: HostRuntime) -> R { x }\n",
+        "#[test]\nfn t() -> R { let rt = shim::rt::host(); x }\n",
+    ),
+    "main": (
+        "fn main(rt: HostRuntime) -> R {\n}\n",
+        "shim::macros::main!(start -> R); fn start(rt: HostRuntime) -> R {\n}\n",
+    ),
+    "a call for C": (
+        '#[unsafe(no_mangle)]\npub extern "C" fn f(n: u32, a: &[u8], b: &mut [u64]) -> u32 { 0 }\n',
+        '#[unsafe(export_name = "f")] pub unsafe extern "C" fn f_c(n: u32, a: *const u8, a_length: usize,'
+        " b: *mut u64, b_length: usize) -> u32 { unsafe { f(n, shim::c::slice(a, a_length),"
+        " shim::c::slice_mut(b, b_length)) } } pub fn f(n: u32, a: &[u8], b: &mut [u64]) -> u32 { 0 }\n",
+    ),
+}
+
+
+def squeezed(text):
+    """A text without the names that each file gets, white space at ends of lines, and empty lines."""
+    text = re.sub(r"#\[allow\(unused_imports\)\] use shim::.*?\}; ", "", text)
+    return re.sub(r"\s*\n\s*\n*", "\n", re.sub(r" +", " ", text)).strip()
+
+
+def names_in(text):
+    """The paths of a source, each brace written out."""
+    for found in PATH.findall(re.sub(r"//[^\n]*", "", strip.without_proofs(text))):
+        before, _, last = found.partition("{")
+        for name in last.rstrip("}").split(",") if last else [""]:
+            if name.strip() or not last:
+                yield before + re.sub(r" as \w+", "", name.strip())
+
+
+def names():
+    return sorted({name for path in SOURCES for name in names_in(path.read_text())})
+
+
+class Strip(unittest.TestCase):
+    def test_examples(self):
+        for name, (source, wanted) in EXAMPLES.items():
+            with self.subTest(name):
+                self.assertEqual(squeezed(strip.plain(source)), squeezed(wanted))
+
+    def test_lines_stay(self):
+        for path in SOURCES:
+            with self.subTest(path.name):
+                text = path.read_text()
+                made = strip.plain(text)
+                self.assertEqual(made.count("\n"), text.count("\n"))
+                self.assertIsNone(re.search(r"^\s*(ghost|requires|ensures)\b", made, re.M))
+
+    def test_what_is_not_understood(self):
+        for source in "fn f()\n    requires { a {\n{ }\n", "#[tactic(a\n", "fn f() { a[1 }\n":
+            with self.subTest(source), self.assertRaises(strip.NotPlain):
+                strip.plain(source)
+
+    def test_names(self):
+        listed = LIST.read_text().split()
+        self.assertEqual(names(), listed, "give plain/shim what is new, then run this with --write")
+
+
+if sys.argv[1:] == ["--write"]:
+    LIST.write_text("".join(f"{name}\n" for name in names()))
+else:
+    needs.run_tests()
