@@ -58,9 +58,9 @@ class Options(fault.Parser):
         self.option("--chirality", str, *sides[:1] * 2, "seeded, left or right", choices=sides)
 
 
-def writable(path):
-    if pathlib.Path(path).suffix not in (".png", ".pdf", ".svg"):
-        raise argparse.ArgumentTypeError(f"{path} is written as .png, .pdf, .svg")
+def writable(path, kinds=(".png", ".pdf", ".svg")):
+    if pathlib.Path(path).suffix not in kinds:
+        raise argparse.ArgumentTypeError(f"{path} is written as {', '.join(kinds)}")
     if not pathlib.Path(path).absolute().parent.is_dir():
         raise argparse.ArgumentTypeError(f"{path}: there is no such folder")
     return path

@@ -19,18 +19,19 @@ START = {
 }
 
 
-def drawn(gas, size, seed):
-    """A gas whose directions are filled as START says."""
-    lots, states = np.random.PCG64(seed), np.zeros((size, size), np.uint8)
-    for i, chance in enumerate(START[gas]):
-        is_filled = lots.random_raw(size * size) < np.uint64(chance * 2**64)
-        states |= is_filled.reshape(size, size).astype(np.uint8) << i
-    return fhpgas.Lattice(states, gas=gas, seed=seed)
+def drawn(gas, chances, size, seed, chirality="seeded"):
+    """A lattice whose directions are filled with these chances, alike in all cells."""
+    lots, states = np.random.PCG64(seed), np.zeros(size[::-1], np.uint8)
+    for i, chance in enumerate(chances):
+        is_filled = lots.random_raw(states.size) < np.uint64(chance * 2**64)
+        states |= is_filled.reshape(states.shape).astype(np.uint8) << i
+    return fhpgas.Lattice(states, gas=gas, chirality=chirality, seed=seed)
 
 
 def filled(asked, seed):
     """The chances of the directions at GENERATIONS, in the rows that the walls have not reached."""
-    lattice, found, edge = drawn(asked.gas, asked.size, seed), [], GENERATIONS[-1]
+    size, found, edge = fhpgas.Size(asked.size, asked.size), [], GENERATIONS[-1]
+    lattice = drawn(asked.gas, START[asked.gas], size, seed)
     for generation in GENERATIONS:
         lattice = lattice.run(generation - lattice.generation)
         inner = lattice.states[edge:-edge]

@@ -3,9 +3,10 @@
 noise of its density.
 
 C(t) is the sum over places of <s(0, 0) s(r, t)>, s the flux xy of momentum, over the cells that
-particles reach in t. The viscosity is (C(0) / 2 + C(1) + C(2) + ..) / (3 d (1 - d)), cut after
-`--lags`. In Boltzmann's equation C falls as (1 - lambda)^t. The waves of the density between the
-walls swing in the noise too: speed and damping are fitted to their correlation over time."""
+particles reach in t. The viscosity up to `--lags` is (C(0) / 2 + C(1) + C(2) + ..) / (3 d (1 - d)).
+In Boltzmann's equation C falls as (1 - lambda)^t. "With pairs": the pair closure. The waves of the
+density between the walls swing in the noise too: speed and damping are fitted to their correlation
+over time."""
 import common
 import fhpgas
 import numpy as np
@@ -51,7 +52,7 @@ def sound(amplitudes, modes):
     return np.transpose(found) / (K, K**2)
 
 
-def draw(path, asked, runs, kept, matrix):
+def draw(path, asked, runs, kept, pairs, matrix):
     (mean, error), lags = fhpgas.mean_and_error([run[0] for run in runs]), np.arange(asked.lags + 1)
     frequencies, powers = welch([run[1][:, 0] for run in runs], nperseg=512, axis=1)
     w, power = 2 * np.pi * frequencies[1:], powers.mean(0)[1:]
@@ -60,6 +61,7 @@ def draw(path, asked, runs, kept, matrix):
     with common.axes(path, 1, 2, (5, 3.8)) as (left, right):
         left.errorbar(lags, mean / mean[0], error / mean[0], fmt="C0.", label="measured")
         left.plot(lags, kept**lags, "C1", lw=1, label="Boltzmann")
+        left.plot(lags[1:], 4 * np.diff(pairs), "C2", lw=1, label="with pairs")
         left.set(xlabel="generations", ylabel="C(t) / C(0)", yscale="log", ylim=(3e-4, 1.2))
         left.set_title(f"stress, {asked.gas}, d = {asked.filling}, {asked.seeds} seeds")
         right.semilogy(w, power / power.mean(), "C0.", label="measured")
@@ -84,12 +86,16 @@ def main():
         shares = [correlations[lag] / correlations[0] for correlations, _ in runs]
         common.compare(f"stress after {lag}", shares, kept**lag, 4)
     sums = np.array([np.sum(run[0]) - run[0][0] / 2 for run in runs])
-    common.compare("viscosity", sums / (3 * asked.filling * (1 - asked.filling)), nu)
+    boltzmanns = theory.running_viscosity(kept ** np.arange(asked.lags + 1))[-1]
+    pairs = theory.pair_viscosity(asked.gas, asked.filling, asked.lags, size=2 * asked.lags)
+    name = f"viscosity up to {asked.lags}"
+    common.compare(name, sums / (3 * asked.filling * (1 - asked.filling)), boltzmanns)
+    print(f"{'':34} with pairs {pairs[-1]:17.3f}")
     speeds, dampings = np.moveaxis([sound(run[1], modes) for run in runs], 1, 0).mean(-1)
     common.compare("speed of sound", speeds, np.mean(modes.imag / K), 4)
     common.compare("damping D", dampings, np.mean(modes.real / K**2))
     if asked.picture:
-        draw(asked.picture, asked, runs, kept, matrices[0])
+        draw(asked.picture, asked, runs, kept, pairs, matrices[0])
 
 
 if __name__ == "__main__":

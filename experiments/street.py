@@ -141,8 +141,8 @@ def main():
     text = "generations from one turning of particles to the next"
     reader.option("--part", common.whole(10, 10_000), 200, 50, text)
     reader.option("--seed", common.whole(0, 2**31), 1, 1, "of the gas")
-    scene = dict(type=common.writable, metavar="FILE", help="keep the last lattice as a scene")
-    reader.add_argument("--scene", **scene)
+    scene = dict(metavar="FILE", help="keep the last lattice as a scene: .toml")
+    reader.add_argument("--scene", type=lambda path: common.writable(path, (".toml",)), **scene)
     asked = reader.parse_args()
     street = Street(asked)
     columns, rows = street.size
