@@ -16,7 +16,8 @@ function bundled(name) {
 }
 
 if (spawnSync("esbuild", ["--version"], { encoding: "utf8" }).stdout?.trim() !== VERSION) console.error(`this is not esbuild ${VERSION}`);
-const script = `\n${bundled("page.js")}\n`, hash = createHash("sha256").update(script).digest("base64");
+const [, version] = readFileSync(new URL("../CITATION.cff", import.meta.url), "utf8").match(/^version: (.*)$/m) ?? [];
+const script = `\n${bundled("page.js").replace("@VERSION@", () => version)}\n`, hash = createHash("sha256").update(script).digest("base64");
 const parts = { STYLE: readFileSync(`${room}style.css`, "utf8").trimEnd(), WORKER: bundled("worker.js"), PAGE: script.trim(), HASH: hash };
 const html = readFileSync(`${room}index.html`, "utf8").replace(/@([A-Z]+)@/g, (_, name) => parts[name]);
 writeFileSync(target, html);

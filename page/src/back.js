@@ -1,5 +1,6 @@
 // The way back of a flow: all particles are turned, and what was done to the cells is undone.
 import { OTHER, SOLID } from "./gases.js";
+import { CELL, WAS_SOLID } from "./history.js";
 import { collideAll, turnAll } from "./kernel.js";
 import { count } from "./numbers.js";
 
@@ -20,11 +21,12 @@ export function reverse(flow) {
 /** On the way back: undoes what was done in this generation. */
 export function undo(flow) {
   for (let patch; (patch = flow.history.pop(flow.generation)); ) {
-    const { flips, turning } = patch;
+    const { flips, turning } = patch, walls = wallsBefore(flips), strokes = [...patch.strokes, ...flow.late];
     if (turning) turnOtherwise(flow, turning);
-    else if (flow.isDisturbed) undoWalls(flow, flips);
+    else if (flow.isDisturbed) undoWalls(flow, walls);
     else undoFlips(flow, flips);
-    if (flips.some((flip) => flip & SOLID)) flow.kernel.wallsChanged();
+    for (const stroke of strokes) for (const at of walls.keys()) stroke.flips.delete(at);
+    if (walls.size) flow.kernel.wallsChanged();
   }
 }
 
@@ -35,21 +37,27 @@ function turnOtherwise(flow, turning) {
   reverse(flow);
 }
 
+/** Which cells were solid before, of those that became solid or fluid. */
+function wallsBefore(flips) {
+  const built = flips.filter((flip) => flip & SOLID).reverse();
+  return new Map(built.map((flip) => [Math.floor(flip / CELL), (flip & WAS_SOLID) > 0]));
+}
+
 /** Cell by cell, since a collision and a turn need no neighbours. */
 function undoFlips({ turned, cells, chirality, sides }, flips) {
   const [side, other] = chirality === "right" ? [sides.right, sides.left] : [sides.left, sides.right];
   for (const flip of flips.reverse()) {
-    const place = Math.floor(flip / 256), state = cells.state(place), before = side[turned[state]] ^ flip & 255;
+    const place = Math.floor(flip / CELL), state = cells.state(place), before = side[turned[state]] ^ flip & 255;
     cells.flip(place, state ^ turned[other[before]]);
   }
 }
 
 /** Once cells have been disturbed, the particles that an edit moved are others, and only its obstacles are undone. */
-function undoWalls(flow, flips) {
-  const walls = flips.filter((flip) => flip & SOLID).map((flip) => Math.floor(flip / 256));
-  if (!walls.length) return;
+function undoWalls(flow, walls) {
+  const unlike = [...walls.keys()].filter((at) => flow.cells.isSolid(at) !== walls.get(at));
+  if (!unlike.length) return;
   reverse(flow);
-  flow.cells.rebuilt(walls)?.flips.forEach((bits, at) => flow.cells.flip(at, bits));
+  flow.cells.rebuilt(unlike)?.flips.forEach((bits, at) => flow.cells.flip(at, bits));
   reverse(flow);
 }
 

@@ -23,6 +23,10 @@ export class Cells {
     return state;
   }
 
+  isSolid(at) {
+    return this.state(at) === SOLID;
+  }
+
   /** Whether a particle is in a direction of a cell. */
   has(at, i) {
     const { cells, per, width, gas: { directions } } = this.kernel, y = Math.floor(at / width), x = at - y * width;

@@ -1,27 +1,27 @@
 // Controls: from one table come their elements, keys and names.
+import { HELP, KEY_NAMES } from "./help.js";
 import { $, element, setText } from "./state.js";
 
 /**
  * @typedef {{ id: string, key: string, label: string, kind: "button" | "list" | "range" | "number" | "check",
  *   style?: string, act?: () => void, isLate?: boolean, options?: string[][],
  *   attributes?: Record<string, string | number>, said?: (value: number) => string, isPressed?: () => boolean,
- *   isOff?: () => boolean, text?: () => string }} Control
+ *   isOff?: () => boolean, isHidden?: () => boolean, text?: () => string }} Control
  *   a slider that `isLate` acts when it is let go; `said` are the words for a value, `text` is a label that changes
  * @typedef {{ title: string, place: string, controls: Control[] }} Group
  */
 
-const KEY_NAMES = { " ": "space", ArrowLeft: "←", ArrowRight: "→", Enter: "↵", Backspace: "⌫" };
 let isByPointer = false; // what was used last
 
 /** @param {Control} control */
 function made({ id, key, label, kind, style = "", options = [], attributes = {} }) {
   const shortcut = element("kbd", { "aria-hidden": "true" }, KEY_NAMES[key] ?? key), name = element("span", {}, label);
-  const own = { id, "aria-label": label, "aria-keyshortcuts": key === " " ? "Space" : key };
+  const own = { id, title: HELP[id], "aria-label": label, "aria-keyshortcuts": key === " " ? "Space" : key };
   if (kind === "button") return element("button", { ...own, class: style, type: "button" }, name, shortcut);
   const list = options.map(([value, text]) => element("option", { value }, text));
   const type = kind === "check" ? "checkbox" : kind;
   const input = kind === "list" ? element("select", own, ...list) : element("input", { type, ...own, ...attributes });
-  return element("label", { for: id }, element("span", {}, name, shortcut), input, element("output", { for: id }));
+  return element("label", { for: id, title: HELP[id] }, element("span", {}, name, shortcut), input, element("output", { for: id }));
 }
 
 /** Makes the controls, and lets them act. */
@@ -49,10 +49,11 @@ export function makeControls(groups, changed) {
 const set = (control, name, value) => control.getAttribute(name) === value || control.setAttribute(name, value);
 
 export function showControls(controls) {
-  for (const { id, kind, said, isPressed, isOff, text } of controls) {
+  for (const { id, kind, said, isPressed, isOff, isHidden, text } of controls) {
     const control = $(id), words = text?.() ?? said?.(Number(control.value)) ?? "";
     if (isPressed) set(control, "aria-pressed", String(isPressed()));
     if (isOff) control.disabled = isOff();
+    if (isHidden) control.hidden = isHidden();
     if (text || said) {
       setText(kind === "button" ? control.firstChild : control.nextElementSibling, words);
       set(control, kind === "button" ? "aria-label" : "aria-valuetext", words);
@@ -87,10 +88,10 @@ function listen(keys) {
     if (key === "Escape" || (key === "Enter" && focused.type === "number")) return void focused.blur();
     const isUndo = key.toLowerCase() === "z" && hasControl;
     if (isOwn(focused, key) || event.altKey || (hasControl && !isUndo)) return;
-    const id = isUndo ? "undo" : keys.get(key) ?? keys.get(key.toLowerCase());
+    const id = isUndo ? "undo" : keys.get(key) ?? keys.get(key.toLowerCase()) ?? (/^[>:]$/.test(key) ? "pace" : "");
     if (!id) return;
     event.preventDefault();
-    if (!$(id).disabled) press($(id), shiftKey);
+    if (!$(id).disabled && !$(id).hidden) press($(id), shiftKey);
   });
   // a control that the mouse used must not take the keys
   const leave = (kinds) => ({ target }) => isByPointer && target.closest?.(kinds)?.blur();

@@ -144,6 +144,11 @@ export class TimeMean {
     this.middle = all / allCells / this.gas.directions;
   }
 
+  /** All particles were turned, and what was measured of them is turned too. */
+  turn() {
+    for (const part of [...this.parts.slice(2), this.u, this.v]) part.forEach((value, i) => (part[i] = -value));
+  }
+
   /** Some of the parts, smoothed over neighbours. */
   smoothed(which) {
     const { parts, smooth, columns, rows, times } = this;

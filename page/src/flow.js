@@ -11,6 +11,7 @@ export class Flow {
   direction = 1; // -1 on the way back
   changes = 0; // counts what happens to the cells
   isDisturbed = false; // something was changed on the way back
+  late = new Set(); // strokes on the way back
   /** @type {number | null} cells that differ from the first ones, once the gas is back */
   found = null;
   /** @type {string[]} what the page is to say */
@@ -43,6 +44,7 @@ export class Flow {
   begin() {
     this.history.begin(this.generation, this.cells);
     this.isDisturbed = false;
+    this.late.clear();
     this.cells.isBuilt = true;
     this.changes++;
     this.kernel.wallsChanged();
@@ -89,8 +91,8 @@ export class Flow {
     this.cells.flip(at, bits);
   }
 
-  /** Flips bits of cells, as an edit. */
-  edit(flips) {
+  /** Flips bits of cells, as an edit, perhaps as a piece of a stroke. */
+  edit(flips, stroke) {
     let isBuilt = false;
     this.changes++;
     this.summed.changes = -1; // undoing a stroke sets changes back
@@ -99,6 +101,7 @@ export class Flow {
       isBuilt ||= (bits & SOLID) > 0;
     }
     if (isBuilt) this.kernel.wallsChanged();
+    if (stroke) (this.direction < 0 ? this.late : this.history.last?.strokes)?.add(stroke);
   }
 
   /** Whether particles are as they move forwards, so that the rules can change. If not, it says so. */

@@ -7,6 +7,7 @@ import { blocks, keyStream } from "./keystream.js";
 import { runsOf } from "./runs.js";
 import { Stream } from "./stream.js";
 import { sumsOf } from "./sums.js";
+import { flipOne } from "./tools.js";
 
 /** A flow as it is looked at. */
 export class Watched {
@@ -15,6 +16,9 @@ export class Watched {
   /** @type {{ at: Place, places: number[] } | null} the disc of the probe */
   disc = null;
   runs = ""; // what was drawn
+  direction = 1; // of the means
+  /** @type {Place | null} where a particle was turned, to be compared */
+  cone = null;
 
   /** @param {Flow} flow */
   constructor(flow) {
@@ -29,6 +33,25 @@ export class Watched {
     if (this.twin || direction < 0) return;
     this.twin = new Flow(copied(kernel, make), { chirality, seed, generation, wind: drive.wind });
     this.twin.drive.random = drive.random;
+  }
+
+  flip(make, at) {
+    this.split(make);
+    if (this.twin) this.cone = at;
+    flipOne(this.flow, at);
+  }
+
+  /** After a change that ended the comparison: another particle is turned at the same place, once time runs forwards. */
+  renew(make) {
+    const { flow, twin, cone } = this;
+    if (twin || !cone) return;
+    if (flow.direction > 0) {
+      this.flip(make, cone);
+      flow.notes.push("The gas was changed, so another particle was turned, and the cone begins anew.");
+    } else if (flow.mark) {
+      flow.mark = null;
+      flow.notes.push("On the way back nothing is compared: the cone begins anew once time runs forwards.");
+    }
   }
 
   advance(generations) {
@@ -87,6 +110,8 @@ export class Watched {
   frame(view, generations) {
     const { flow, stream } = this, { gas, cells, kernel, drive, history, chirality, seed, generation } = flow;
     const { direction, found, canTurn, mark, notes, shape } = flow, walls = cells.isBuilt ? kernel.solid.slice() : null;
+    if (direction !== this.direction) [this.mean, stream.mean].forEach((mean) => mean.turn());
+    this.direction = direction;
     if (walls) {
       stream.look();
       this.runs = shape ? runsOf(walls, shape) : "";

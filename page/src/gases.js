@@ -108,14 +108,20 @@ export function collisions(gas, side) {
 
 /** The chances of Fermi and Dirac at a filling and a velocity: h and q are changed until number and momentum fit. */
 export function equilibrium(gas, filling, u = 0, v = 0) {
-  const speeds = velocities(gas), all = gas.directions * filling, q = [0, 0];
-  let chances = [], h = 0;
-  for (let step = 0; step < 2000; step++) {
-    chances = speeds.map(([x, y]) => 1 / (1 + Math.exp(h + q[0] * x + q[1] * y)));
-    h += chances.reduce((sum, chance) => sum + chance, -all) / gas.directions;
-    [u, v].forEach((speed, k) => {
-      q[k] += chances.reduce((sum, chance, i) => sum + chance * speeds[i][k], -all * speed) / gas.directions;
-    });
+  const { directions } = gas, speeds = velocities(gas), all = directions * filling, chances = Array(directions).fill(0);
+  let h = 0, qx = 0, qy = 0;
+  for (let step = 0, error = 1; step < 2000 && error > 1e-12; step++) {
+    let more = -all, px = -all * u, py = -all * v;
+    for (let i = 0; i < directions; i++) {
+      const [x, y] = speeds[i], chance = (chances[i] = 1 / (1 + Math.exp(h + qx * x + qy * y)));
+      more += chance;
+      px += chance * x;
+      py += chance * y;
+    }
+    h += 4 * more / directions; // the slopes are at most a quarter of the directions, and of the sum of x * x
+    qx += 8 * px / gas.moves.length;
+    qy += 8 * py / gas.moves.length;
+    error = Math.abs(more) + Math.abs(px) + Math.abs(py);
   }
   return chances;
 }

@@ -1,12 +1,14 @@
 // What was done to the cells and when, so that the way back can undo it: flipped bits, by cell and generation.
+import { SOLID } from "./gases.js";
 
 const MOST_SEGMENTS = 4;
 const PATCH = 100, FLIP = 8; // bytes that they take
+export const CELL = 512, WAS_SOLID = 256;
 
 /**
  * @typedef {import("./cells.js").Cells} Cells
- * @typedef {{ generation: number, flips: number[], turning?: Chirality }} Patch
- *   256 times a cell, with its bits; or how pairs turned before
+ * @typedef {{ generation: number, flips: number[], strokes: Set<import("./tools.js").Stroke>, turning?: Chirality }} Patch
+ *   CELL times a cell, with its bits, and WAS_SOLID; or how pairs turned before
  * @typedef {{ generation: number, kept: ReturnType<Cells["kept"]>, patches: Patch[], bytes: number }} Segment
  *   the cells of a generation, and what was done from then on
  */
@@ -47,13 +49,13 @@ export class History {
 
   open(generation, cells, turning) {
     if (this.top.bytes > this.most / MOST_SEGMENTS && this.top.generation < generation) this.grow(generation, cells);
-    this.top.patches.push({ generation, flips: [], turning });
+    this.top.patches.push({ generation, flips: [], strokes: new Set(), turning });
     this.top.bytes += PATCH;
   }
 
   flip(generation, cells, at, bits) {
     if (this.last?.generation !== generation || this.last.turning) this.open(generation, cells);
-    this.last.flips.push(256 * at + bits);
+    this.last.flips.push(CELL * at + bits + (bits & SOLID && cells.isSolid(at) ? WAS_SOLID : 0));
     this.top.bytes += FLIP;
   }
 

@@ -142,7 +142,7 @@ export function copied({ gas, width, height, cells, solid }, make) {
 }
 
 const CHIRALITIES = { seeded: 0, left: 1, right: 2 }; // of include/fhpgas.h
-const INTERFACE = 2;
+const INTERFACE = 3;
 
 /** The proved engine, a module with the calls of include/fhpgas.h. Only this class knows its memory's layout. */
 export class ProvedKernel extends Planes {
@@ -172,7 +172,7 @@ export class ProvedKernel extends Planes {
   /** Some generations. The call returns 0 if it refuses nothing. */
   advance(count, generation, chirality, seed) {
     const { gas, width, height, walls, states, work } = this, rooms = [...walls, ...states, ...work];
-    const when = [BigInt(seed), BigInt(generation), BigInt(count)], size = [width, height, 0, 0, width];
+    const when = [BigInt(seed), BigInt(generation), BigInt(count)], size = [width, height, 0];
     const status = this.calls.fhpgas_advance(gas.number, CHIRALITIES[chirality], ...when, ...size, ...rooms);
     if (status) throw new Error(`the engine refuses to advance with status ${status}`);
   }

@@ -12,7 +12,7 @@
  * @typedef {{ at: Place, radius: number }} Disc
  * @typedef {{ from: Place, to: Place, radius: number, solid: boolean, end?: boolean }} Piece a piece of a stroke
  * @typedef {{ gas: string, chirality: Chirality, width: number, height: number, filling: number, wind: number,
- *   keep: boolean, shape: string, radius: number, seed: string, runs?: string }} Start
+ *   keep: boolean, shape: string, radius: number, seed: string, runs?: string, isDeveloped?: boolean }} Start
  *   `runs` has the cells that are solid, or fluid, unlike in the shape
  * @typedef {[left: number, top: number, width: number, height: number]} Box
  * @typedef {{ field: string, block: number, smooth: number, span: number, window: Box | null }} View
@@ -28,6 +28,7 @@
  *   open: { text: string, state: string },
  *   run: { on: boolean, pace: number },
  *   step: {}, back: {}, turn: {}, undo: {}, clear: {}, save: {}, seen: {},
+ *   hash: { isWanted: boolean },
  *   view: View,
  *   chirality: { chirality: Chirality },
  *   gas: { gas: string, flows: Start[], state: string },
@@ -38,14 +39,15 @@
  */
 
 /**
- * What the worker says, by name. `serial` counts the starts, `strokes` the pieces that came since the last frame.
+ * What the worker says, by name. `serial` counts the starts, `strokes` the pieces that came since the last frame. A
+ * scene that is refused changes nothing.
  * @typedef {{
  *   engine: { fault: string },
  *   frames: { frames: Frame[], isRunning: boolean, serial: number, state: string, strokes: number, canUndo: boolean,
  *     hashes?: string[] },
  *   files: { files: { text: string, name: string }[] },
  *   hashes: { hashes: string[] },
- *   fault: { fault: string },
+ *   fault: { fault: string, isRefused: boolean },
  * }} Answers
  * @typedef {<K extends keyof Commands>(name: K, value: Commands[K]) => void} Tell
  */

@@ -1,9 +1,10 @@
 // The page: what it tells the worker, and what it does with its answers. Lattices are the worker's.
-import { applyState, isForeign, isShort, setControl, stateText, writeAddress } from "./address.js";
+import { OPENED, applyState, isForeign, isShort, setControl, stateText, writeAddress } from "./address.js";
 import { paintChart } from "./chart.js";
 import { makeControls, showControls } from "./controls.js";
 import { contextOf, readTheme, theme, within, write } from "./draw.js";
 import { record, save, takeScenes } from "./files.js";
+import { makeHelp } from "./help.js";
 import { GASES, MOST_CELLS } from "./gases.js";
 import { count, numbersOf } from "./numbers.js";
 import { paintNumbers, said, speeds } from "./panel.js";
@@ -11,7 +12,7 @@ import { paintLattice, paneOf, wallsOf } from "./picture.js";
 import { listenToPointers, setProbe, zoom } from "./pointer.js";
 import { PRESETS } from "./presets.js";
 import { $, GAP, NEAR, amount, chosen, element, head, look, marks, motion } from "./state.js";
-import { paneWidth, setText, shown, view } from "./state.js";
+import { paneWidth, setWords, shown, view } from "./state.js";
 import { paintStrip, stripHeight } from "./strip.js";
 import { BLOCKS, SPANS, tableOf } from "./table.js";
 
@@ -23,6 +24,7 @@ const live = {
   noteTimer: 0,
   toldAt: 0, // when the numbers were written, or 0 if they must be
   addressTimer: 0,
+  pace: "", // before single cells
   pending: /** @type {{ at: number[] | null, probe: number[] | null }} */ ({ at: null, probe: null }), // of the address
 };
 const SCRIPT = "The kernel in this page computes the cells";
@@ -55,10 +57,11 @@ const answers = {
     Object.assign(shown.queue[shown.queue.length - 1] ?? shown, { hashes }); // they are of the last frame
     paintNumbers();
   },
-  fault: ({ fault }) => {
+  fault: ({ fault, isRefused }) => {
+    note(fault, "bad");
+    if (isRefused) return;
     shown.queue.forEach((next) => (next.isRunning = false));
     setRunning(false);
-    note(fault, "bad");
   },
 };
 worker.onmessage = ({ data }) => answers[/** @type {keyof Answers} */ (data.name)](data.value);
@@ -94,15 +97,23 @@ function take({ frames, serial, canUndo, isRunning, strokes, state, hashes = [] 
     if (frame.notes.length) marks.touched = null;
     for (const text of frame.notes) note(text, "", 9);
   });
+  if (before && frames[0].direction > before.direction) turnedForwards(frames[0]);
   if (isMoved) sample(frames[0]);
   tellReturn(before);
   if (isMoved && shown.isRunning && isSlow()) move();
 }
 
-/** Keeps what the probe measured; of many samples every second one. */
-function sample({ probe, generation, incoming }) {
+/** Time runs forwards again, perhaps from cells that never were before. */
+function turnedForwards({ wind, chirality, gas, origin, generation }) {
+  if (origin === generation) marks.samples = [];
+  Object.entries({ keep: wind !== null, chirality, gas }).forEach(([id, value]) => setControl(id, value));
+}
+
+/** Keeps what the probe measured; of many samples every second one. On the way back they are taken away again. */
+function sample({ probe, generation, incoming, direction }) {
   if (!probe || String(probe.at) !== String(marks.probe?.at)) return;
-  marks.samples.push({ generation, u: probe.u, v: probe.v, incoming });
+  while (marks.samples.length && marks.samples[marks.samples.length - 1].generation >= generation) marks.samples.pop();
+  if (direction > 0) marks.samples.push({ generation, u: probe.u, v: probe.v, incoming });
   if (marks.samples.length > 8000) marks.samples = marks.samples.filter((_, k) => k % 2);
 }
 
@@ -115,15 +126,21 @@ function tellReturn(before) {
 }
 
 function beginAnew(state) {
-  if (state !== stateText() && state) {
+  shown.isOpened = state === OPENED;
+  if (shown.isOpened) {
+    hideNote();
+    introduce("A scene that was opened. Run starts it.", "");
+    setRunning(false);
+  } else if (state !== stateText()) {
     applyState(state);
     introduce();
   }
-  const { wind, chirality, gas } = head(), { at, probe } = live.pending;
+  const { at, probe } = live.pending;
   Object.assign(marks, { samples: [], pieces: [], probe: null, touched: null });
   shown.times = [];
   shown.frames.forEach((frame, k) => panes[k].tracers.spread(frame));
-  Object.entries({ keep: wind !== null, chirality, gas }).forEach(([id, value]) => setControl(id, value));
+  turnedForwards(head());
+  if (!shown.frames.every(({ fluid }) => fluid)) note("All cells are solid: choose more cells, or a smaller obstacle.", "bad", 12);
   fit();
   live.pending = { at: null, probe: null };
   if (probe) setProbe(tell, { at: [probe[0], probe[1]], radius: probe[2] });
@@ -133,7 +150,8 @@ function beginAnew(state) {
 /** @param {string} text @param {"" | "good" | "bad"} kind @param {number} [lasting] seconds */
 function note(text, kind, lasting) {
   live.notes.push(text);
-  Object.assign($("note"), { textContent: text, className: kind, hidden: false });
+  setWords($("note"), text);
+  Object.assign($("note"), { className: kind, hidden: false });
   clearTimeout(live.noteTimer);
   if (lasting) live.noteTimer = window.setTimeout(hideNote, 1000 * lasting);
 }
@@ -223,7 +241,16 @@ function lookAt(scale, x, y) {
 function near() {
   lookAt(36, head().width * 0.27, (head().height * head().apart) / 2);
   if (isSlow()) return;
+  live.pace = $("pace").value;
   setControl("pace", "1 s");
+  go(shown.isRunning);
+}
+
+/** Shows all, and goes on as fast as before single cells. */
+function whole() {
+  fit();
+  if (live.pace && $("pace").value === "1 s") setControl("pace", live.pace);
+  live.pace = "";
   go(shown.isRunning);
 }
 
@@ -266,19 +293,20 @@ function looked() {
 function startsOf(runs = "") {
   const { gases, shapes } = preset(), [width, height] = $("size").value.split(" x ").map(Number);
   return shapes.map((shape, k) => ({ width, height, shape, runs, gas: gases.length > 1 ? gases[k] : $("gas").value,
-    chirality: $("chirality").value, keep: $("keep").checked, seed: String(Math.round(amount("seed"))),
+    chirality: $("chirality").value, keep: $("keep").checked,
+    isDeveloped: $("developed").checked, seed: String(Math.round(amount("seed"))),
     filling: amount("fill"), wind: amount("wind"), radius: amount("radius") }));
 }
 
 /** Says what to look at, and what the length of Re is. */
 function introduce(words = preset().look, length = preset().length) {
-  setText($("sentence"), words);
+  setWords($("sentence"), words);
   said.length = length || "the channel's height";
 }
 
 /** @param {boolean} [hasLength] @param {string} [runs] what was drawn */
 function start(hasLength = false, runs = "") {
-  const { shapes, length, flips } = preset(), flows = startsOf(runs), [{ width, height, gas }] = flows;
+  const { rests, length, flips } = preset(), flows = startsOf(runs), [{ width, height, gas }] = flows;
   const { apart } = GASES[gas];
   introduce();
   if (!hasLength) setControl("length", Math.round(length ? 2 * amount("radius") : height * apart));
@@ -288,14 +316,14 @@ function start(hasLength = false, runs = "") {
   looked();
   tell("start", { flows, state: stateText() });
   if (flips) tell("flip", { at: [width / 2, (height * apart) / 2], radius: 1 });
-  go(!isStill && !["pair", "triple"].includes(shapes[0]));
+  go(!isStill && !rests);
   if (shown.frames.length) note("A new start. Undo (⌫) brings the old lattice back.", "", 4);
-  if (isStill) note("Your system asks for less motion: Run starts the flow.", "", 12);
+  if (isStill || rests) note(`${isStill ? "Your system asks for less motion" : "It rests"}: Run starts it.`, "", 12);
 }
 
 /** The worker runs on alone, or at a slow pace the page asks for every generation. */
 function go(on) {
-  tell("run", { on: on && !isSlow(), pace: isSlow() ? 1 : amount("pace") });
+  tell("run", { on: on && !isSlow(), pace: parseFloat($("pace").value) || Infinity });
   setRunning(on);
 }
 
@@ -350,10 +378,20 @@ function back(command) {
 }
 
 function link() {
+  if (shown.isOpened) return note("No link has the cells of a scene that was opened: save the scene, and pass that on.", "bad", 9);
   writeAddress();
   const less = isShort() ? "" : ", without what was drawn, which is too much: save the scene";
   const told = () => note(`The link to this start is copied${less}.`, "good", 4);
-  navigator.clipboard?.writeText(location.href).then(told, () => 0);
+  const shownOnly = () => note(`This browser does not let the page copy: the link is in the address bar${less}.`, "", 9);
+  if (navigator.clipboard) navigator.clipboard.writeText(location.href).then(told, shownOnly);
+  else shownOnly();
+}
+
+/** Shows the picture and nothing else, on the full screen if there is one. */
+function bare() {
+  const isBare = bodyClass.toggle("bare");
+  if (isBare) document.documentElement.requestFullscreen?.().catch(() => 0);
+  else if (document.fullscreenElement) document.exitFullscreen();
 }
 
 const bodyClass = document.body.classList, keptWind = () => ($("keep").checked ? amount("wind") : null);
@@ -376,14 +414,14 @@ const acts = {
   tool: (tool) => {
     chosen.tool = tool;
     view().style.cursor = tool === "move" ? "grab" : "crosshair";
-    bodyClass.remove("opened");
+    if (matchMedia("(max-width: 899px)").matches) bodyClass.remove("opened"); // there it lies over the picture
   },
   look: looked,
-  fit,
+  fit: whole,
   near,
   closer: () => closer(1.5),
   farther: () => closer(1 / 1.5),
-  bare: () => bodyClass.toggle("bare") && note("The key q shows the controls again.", "", 4),
+  bare,
   drawer: () => bodyClass.toggle("opened"),
   save: () => tell("save", {}),
   film: () => record(update),
@@ -391,7 +429,18 @@ const acts = {
   link,
   numbers: () => {
     $("all").hidden = !$("all").hidden;
+    $("help").hidden = true;
+    tell("hash", { isWanted: !$("all").hidden });
     paintNumbers();
+  },
+  help: () => {
+    $("help").hidden = !$("help").hidden;
+    $("all").hidden = true;
+    if (!$("help").hidden) $("help").focus();
+  },
+  length: () => {
+    live.toldAt = 0;
+    tellNumbers(0);
   },
   back: () => back("back"),
   play: () => go(!shown.isRunning),
@@ -401,6 +450,7 @@ const acts = {
   turn: () => back("turn"),
 };
 const controls = makeControls(tableOf(acts), update);
+makeHelp($("help"), controls);
 
 /** Shows what the controls say, and soon writes the address. */
 function update() {
@@ -413,17 +463,14 @@ function update() {
 
 /** Begins with what the address says, or with the first preset. */
 function begin() {
-  const { hasLength, runs, ...pending } = applyState(location.hash.slice(1));
+  const { hasLength, runs, refused, ...pending } = applyState(location.hash.slice(1));
   live.pending = pending;
   start(hasLength, runs);
+  if (refused.length) note(`The address asks for what there is not: ${refused.join(", ")}.`, "bad", 12);
+  if (location.hash === `#${OPENED}`) note("The scene of this address was opened from a file. No address has its cells: open it again.", "bad");
 }
 
-takeScenes((text) => {
-  hideNote();
-  introduce("A scene that was opened. Run starts it.", "");
-  go(false);
-  tell("open", { text, state: stateText() });
-});
+takeScenes((text) => tell("open", { text, state: OPENED }));
 listenToPointers({ tell, looked, repaint, hideNote });
 new ResizeObserver(() => shown.frames.length && (look.isWhole ? fit() : looked())).observe(view());
 matchMedia("(prefers-color-scheme: dark)").onchange = () => {
@@ -431,6 +478,10 @@ matchMedia("(prefers-color-scheme: dark)").onchange = () => {
   repaint();
 };
 readTheme();
+document.onfullscreenchange = () => {
+  if (!document.fullscreenElement) bodyClass.remove("bare");
+  update();
+};
 window.onhashchange = () => isForeign() && begin();
 document.onvisibilitychange = repaint; // a hidden tab paints nothing, so the worker rests
 if (matchMedia("(pointer: coarse)").matches) chosen.tool = "draw";

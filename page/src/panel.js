@@ -26,7 +26,7 @@ export function paintNumbers() {
   const isHigh = numbers.some(({ isCorrelated }) => isCorrelated);
   const rows = [
     [count(generation), isBack ? "generation, back" : "generation", isBack ? "back" : ""],
-    [of(({ reynolds }) => value(reynolds)), isHigh ? "Reynolds, at most" : `Reynolds, L = ${length}`, ""],
+    [of(({ reynolds }) => value(reynolds)), `Re${isHigh ? " at most" : ""}, L = ${length}`, ""],
     [of((one) => one.fastestMach.toFixed(2)), isFast ? "Mach: too fast" : "Mach, fastest", isFast ? "warns" : ""],
   ];
   rows.forEach(([text, name, kind], k) => {

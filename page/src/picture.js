@@ -1,5 +1,5 @@
 // The picture of a lattice: its field, its obstacles, single cells, and what is drawn on it.
-import { imageOf, line, theme } from "./draw.js";
+import { imageOf, line, theme, within } from "./draw.js";
 import { FIELDS } from "./fields.js";
 import { GASES, SOLID, eastOf, velocities } from "./gases.js";
 import { marks } from "./state.js";
@@ -59,7 +59,7 @@ export function paintLattice(c, frame, scale, { walls, tracers, field }, hasTrac
   paintMarks(c, frame, scale);
 }
 
-function paintMarks(c, { mark, generation, width }, scale) {
+function paintMarks(c, { mark, generation, width, height, apart }, scale) {
   const scaled = (at) => at.map((part) => part * scale);
   c.lineCap = "round";
   for (const { from, to: [x, y], radius, solid } of marks.pieces) {
@@ -67,9 +67,13 @@ function paintMarks(c, { mark, generation, width }, scale) {
   }
   // nothing is faster than a cell per generation: what a turned particle can have changed lies in this circle
   const reach = mark && { at: mark.at, radius: Math.abs(generation - mark.generation) + 1.5 };
-  for (const disc of [marks.probe, marks.touched, reach]) {
-    if (disc && disc.radius < width) paintDisc(c, scaled(disc.at), disc.radius * scale);
-  }
+  for (const disc of [marks.probe, marks.touched]) if (disc) paintDisc(c, scaled(disc.at), disc.radius * scale);
+  if (!reach || reach.radius >= width) return;
+  within(c, -scale, -scale, (width + 1) * scale, (height * apart + 1) * scale, () => {
+    for (const turn of [-1, 0, 1]) { // it goes on at the other end
+      paintDisc(c, scaled([reach.at[0] + turn * width, reach.at[1]]), reach.radius * scale);
+    }
+  });
 }
 
 /** A disc of the probe, or where a tool was used of which the worker has not said what came of it. */

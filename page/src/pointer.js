@@ -1,10 +1,13 @@
 // Mouse and fingers on the picture: one draws or moves, two zoom.
 import { GAP, $, amount, chosen, look, marks, paneWidth, shown, view } from "./state.js";
 
+const FINGER = 12; // pixels that the first of two fingers may move before the second comes
+
 const gesture = {
   /** @type {Map<number, { x: number, y: number }>} the pointers that are down, in CSS pixels of the canvas */
   fingers: new Map(),
   stroke: /** @type {Place | null} */ (null), // its end
+  begun: { x: 0, y: 0 },
   isDrawn: false, // something of the stroke
   isMoving: false,
 };
@@ -78,14 +81,17 @@ export function listenToPointers({ tell, looked, repaint, hideNote }) {
     gesture.isMoving = chosen.tool === "move" || event.button > 0;
     if (gesture.isMoving) return;
     if (chosen.tool !== "draw" && chosen.tool !== "erase") return use(at);
-    Object.assign(gesture, { stroke: at, isDrawn: false });
+    Object.assign(gesture, { stroke: at, isDrawn: false, begun: pointOf(event) });
     if (event.pointerType === "mouse") draw(at, false);
   };
   canvas.onpointermove = (event) => {
     const before = gesture.fingers.get(event.pointerId), now = pointOf(event);
     if (!before) return;
     gesture.fingers.set(event.pointerId, now);
-    if (gesture.fingers.size === 1 && gesture.stroke) return draw(placeOf(now), false);
+    if (gesture.fingers.size === 1 && gesture.stroke) {
+      const { x, y } = gesture.begun, isPinch = !gesture.isDrawn && Math.hypot(now.x - x, now.y - y) < FINGER;
+      return isPinch ? undefined : draw(placeOf(now), false);
+    }
     if (gesture.fingers.size > 1) pinch(event.pointerId, before, now);
     else if (gesture.isMoving) zoom(1, before, now);
     looked();

@@ -29,7 +29,7 @@ export function fillStates(gas, states, seed, rates) {
  * @param {string} text
  */
 function readKeys(text) {
-  const token = /("[^"\\\n]*")|'([^'\\\n]*)'|#.*|(0x[\da-f]+|\d+(?:_\d+)*)|(?<=^[ \t]*)([a-z]+)[ \t]*=/gim;
+  const token = /("[^"\\\n]*")|'([^'\\\n]*)'|#.*|(0x[\da-f]+|\d+(?:_\d+)*)|^[ \t]*([a-z]+)[ \t]*=/gim;
   const json = text.replace(token, (_, quoted, literal, number, key) => {
     if (key) return `,"${key}":`;
     return quoted ?? (literal !== undefined ? `"${literal}"` : number ? `"${BigInt(number.replaceAll("_", ""))}"` : "");

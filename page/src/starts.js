@@ -1,6 +1,7 @@
 // Starts: what a channel begins with.
+import { fillDeveloped, meansOf } from "./developed.js";
 import { Flow } from "./flow.js";
-import { GASES, SOLID, equilibrium } from "./gases.js";
+import { GASES, SOLID, eastOf, equilibrium } from "./gases.js";
 import { bitsOf } from "./runs.js";
 import { fillStates } from "./scenes.js";
 import { dense } from "./tools.js";
@@ -9,7 +10,6 @@ import { dense } from "./tools.js";
 const disc = (W, T, R) => (x, y) => Math.hypot(x - W / 5, y - T / 2) <= R;
 const SOLIDS = {
   disc,
-  street: disc,
   plate: (W, T, R) => (x, y) => Math.abs(x - W / 5) <= 2 && Math.abs(y - T / 2) <= R,
   discs: (W, T, R) => (x, y) => Math.hypot(x - W / 5, Math.abs(y - T / 2) - 1.7 * R) <= R,
 };
@@ -30,18 +30,15 @@ function putGrains({ drive, cells }, states, tall, radius) {
 }
 
 export function drawn(make, start) {
-  const { gas: name, chirality, width, height, filling, wind, keep, shape, radius, seed, runs = "" } = start;
+  const { gas: name, chirality, width, height, filling, wind, keep, shape, radius, seed, runs = "", isDeveloped } = start;
   const gas = GASES[name], tall = (height - 1) * gas.apart, states = new Uint8Array(width * height);
   const flow = new Flow(make(gas, width, height), { chirality, seed, generation: 0, wind: keep ? wind : null });
   const all = (isInside, change) => {
-    for (let at = 0; at < states.length; at++) if (isInside(...flow.cells.placeOf(at))) change(at);
+    for (let y = 0, at = 0; y < height; y++) {
+      for (let x = 0; x < width; x++, at++) if (isInside(x + eastOf(gas, y), y * gas.apart)) change(at);
+    }
   };
-  const rates = (part, ...speed) => equilibrium(gas, part, ...speed).map((chance) => Math.round(1000 * chance));
-  /** Fills a part of the cells otherwise. */
-  const refill = (isInside, seed, chances) => {
-    const inner = fillStates(gas, states.slice(), seed, chances);
-    all(isInside, (at) => (states[at] = inner[at]));
-  };
+  const rates = (part, u = 0) => equilibrium(gas, part, u).map((chance) => Math.round(1000 * chance));
   if (shape in SOLIDS) all(SOLIDS[shape](width, tall, radius), (at) => (states[at] = SOLID));
   if (shape === "porous") putGrains(flow, states, tall, radius);
   flow.cells.fill(states);
@@ -50,15 +47,17 @@ export function drawn(make, start) {
   for (const bit of bitsOf(runs, across * height)) {
     if (bit % across < width) states[Math.floor(bit / across) * width + (bit % across)] ^= SOLID;
   }
+  const developed = isDeveloped ? meansOf(start) : null;
   if (shape in PARTICLES) states[width + 1] = PARTICLES[shape];
+  else if (developed) fillDeveloped(flow, states, developed);
   else fillStates(gas, states, seed, rates(filling, wind));
-  if (shape === "letter") refill(isInL(width, tall), BigInt(seed) + 1n, rates(0.6));
-  // a gust to the north behind the disc, which starts the street
-  const isGust = (x, y) => Math.hypot(x - width / 5 - 4 * radius, y - tall / 2) < 2 * radius;
-  if (shape === "street") refill(isGust, seed, rates(filling, wind, wind / 2));
+  if (shape === "letter") {
+    const inner = fillStates(gas, states.slice(), BigInt(seed) + 1n, rates(0.6));
+    all(isInL(width, tall), (at) => (states[at] = inner[at]));
+  }
   flow.cells.fill(states);
   if (shape === "sound") dense(flow, { at: [width / 2, tall / 2], radius });
   flow.begin();
-  flow.notes = [];
+  flow.notes = isDeveloped && !developed ? ["No such flow is kept as it is once developed, so this one begins fresh."] : [];
   return flow;
 }

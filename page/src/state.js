@@ -9,6 +9,7 @@ export const shown = {
   frames: /** @type {Frame[]} */ ([]),
   serial: 0,
   isRunning: false,
+  isOpened: false, // a scene
   canUndo: false,
   hashes: /** @type {string[]} */ ([]),
   times: /** @type {[time: number, generation: number][]} */ ([]), // when frames were painted
@@ -48,6 +49,10 @@ export function element(tag, attributes, ...children) {
 export function setText(node, text) {
   if (node.textContent !== text) node.textContent = text;
 }
+
+/** Sets a text in which a letter in brackets is a key. */
+export const setWords = (node, text) =>
+  node.replaceChildren(...text.split(/ \((\S)\)/).map((part, k) => (k % 2 ? element("kbd", {}, part) : part)));
 
 /** Each value once, of all pictures. */
 export const each = (text) => [...new Set(shown.frames.map(text))].join(" | ");

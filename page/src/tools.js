@@ -2,6 +2,7 @@
 import { SOLID } from "./gases.js";
 import { count } from "./numbers.js";
 
+const NO_PLACE = "The particles in the way find no place";
 const NEAREST = "went to the nearest free places of their direction";
 
 /** Draws and erases: what a stroke flipped, so that it can be undone, and what it changed. */
@@ -11,16 +12,17 @@ export class Stroke {
   before = -1; // the flow's changes before the stroke, and after it
   after = -1;
   isMixed = false; // with other changes
+  isDrawn = false; // not erased
+  wasDisturbed = false; // the flow, before
   cells = 0;
   moved = 0;
 
   set(flow, near, isDrawn) {
-    const { cells } = flow, places = near.filter((at) => (cells.state(at) === SOLID) !== isDrawn);
-    const found = cells.rebuilt(places);
-    if (!found) return void flow.notes.push("The particles in the way find no place: nothing was drawn there.");
-    if (this.before < 0) this.before = flow.changes;
+    const { cells } = flow, places = near.filter((at) => cells.isSolid(at) !== isDrawn), found = cells.rebuilt(places);
+    if (!found) return void flow.notes.push(`${NO_PLACE}: nothing was drawn there.`);
+    if (this.before < 0) Object.assign(this, { before: flow.changes, isDrawn, wasDisturbed: flow.isDisturbed });
     else if (this.after !== flow.changes) this.isMixed = true;
-    flow.edit(found.flips);
+    flow.edit(found.flips, this);
     this.after = flow.changes;
     for (const [at, bits] of found.flips) this.flips.set(at, (this.flips.get(at) ?? 0) ^ bits);
     this.cells += places.length;
@@ -37,12 +39,19 @@ export class Stroke {
       : `${cells} solid cells are fluid now, and empty.`);
   }
 
-  /** If nothing happened since, all that the stroke moved goes back, else its obstacles do. */
+  /**
+   * If nothing happened since, all that the stroke moved goes back, else its obstacles do. Those that the way back has
+   * undone are not in `flips` any more.
+   */
   undo(flow) {
-    const isExact = !this.isMixed && this.after === flow.changes;
-    const walls = [...this.flips].filter(([, bits]) => bits & SOLID).map(([at]) => at);
-    flow.edit(isExact ? this.flips : flow.cells.rebuilt(walls)?.flips ?? []);
-    if (isExact) flow.changes = this.before;
+    const { cells } = flow, isExact = !this.isMixed && this.after === flow.changes;
+    const walls = [...this.flips.keys()].filter((at) => (this.flips.get(at) ?? 0) & SOLID);
+    const why = this.cells ? "The way back has undone the last stroke already." : "The last stroke changed nothing.";
+    if (!walls.length) return void flow.notes.push(why);
+    const found = isExact ? this : cells.rebuilt(walls.filter((at) => cells.isSolid(at) === this.isDrawn));
+    if (!found) return void flow.notes.push(`${NO_PLACE}: nothing is undone.`);
+    flow.edit(found.flips);
+    if (isExact) Object.assign(flow, { changes: this.before, isDisturbed: this.wasDisturbed });
     flow.notes.push(isExact ? "The last stroke is undone."
       : "The obstacles of the last stroke are undone. The particles have moved on since then.");
   }

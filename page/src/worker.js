@@ -1,12 +1,14 @@
 // The worker: takes the page's commands between generations, advances the gas and sends frames.
 import { Flows } from "./flows.js";
 import { printed, sceneOf } from "./scenes.js";
-import { dense, flipOne } from "./tools.js";
+import { dense } from "./tools.js";
 
 const AHEAD = 2; // frames that are sent before one was painted
+const FULL = 25, SHARE = 3; // milliseconds of generations in a frame at full speed, and at least so many times its own
 
 /** The SHA-256 of what `fhpgas run` prints for the cells of a flow. */
 async function hashOf(flow) {
+  if (!crypto.subtle) return "browsers reckon it from files and over https only";
   const digest = await crypto.subtle.digest("SHA-256", new TextEncoder().encode(printed(flow)));
   return Array.from(new Uint8Array(digest), (byte) => byte.toString(16).padStart(2, "0")).join("");
 }
@@ -19,10 +21,14 @@ const actsOf = (work, flows) => ({
     work.rest();
   },
   open: (command) => {
-    flows.open(command);
-    work.rest();
+    try {
+      flows.open(command);
+      work.rest();
+    } catch (fault) {
+      work.post("fault", { fault: /** @type {Error} */ (fault).message, isRefused: true });
+    }
   },
-  run: ({ on, pace }) => Object.assign(work, { isRunning: on, pace }),
+  run: ({ on, pace }) => Object.assign(work, { isRunning: on, pace, since: performance.now() }),
   step: () => (work.isStep = true),
   back: () => flows.turn((flow) => flow.back()),
   turn: () => flows.turn((flow) => flow.turn()),
@@ -30,6 +36,7 @@ const actsOf = (work, flows) => ({
   clear: () => flows.clear(),
   save: () => work.save(),
   seen: () => work.sent--,
+  hash: ({ isWanted }) => (work.isHashWanted = isWanted),
   view: (view) => (work.view = view),
   chirality: ({ chirality }) => flows.each((flow) => flow.setChirality(chirality)),
   gas: (command) => flows.changeGas(command),
@@ -39,10 +46,7 @@ const actsOf = (work, flows) => ({
     flows.each((flow) => flows.stroke(flow, piece));
   },
   dense: (disc) => flows.each((flow) => dense(flow, disc)),
-  flip: ({ at }) => flows.watched.forEach((watched) => {
-    watched.split(flows.make);
-    flipOne(watched.flow, at);
-  }),
+  flip: ({ at }) => flows.watched.forEach((watched) => watched.flip(flows.make, at)),
   probe: (disc) => flows.watched.forEach((watched) => watched.probe(disc)),
 });
 
@@ -59,7 +63,12 @@ class Work {
   sent = 0; // frames that were not painted
   generations = 0; // since the last frame
   pieces = 0; // of strokes, since then
-  pace = 10;
+  pace = Infinity; // generations per second
+  since = 0; // when those that are done were due
+  most = 1; // generations of a frame at full speed
+  drawn = 0; // milliseconds of the last frame
+  timer = 0;
+  isHashWanted = false;
   wanted = {}; // the last hash
   channel = new MessageChannel();
   acts = actsOf(this, this.flows);
@@ -71,7 +80,7 @@ class Work {
 
   /** Waits for the word to run. */
   rest() {
-    Object.assign(this, { isRunning: false, isStep: false, generations: 0 });
+    Object.assign(this, { isRunning: false, isStep: false, generations: 0, most: 1 });
   }
 
   /** @template {keyof Commands} K @param {K} name @param {Commands[K]} value */
@@ -87,20 +96,28 @@ class Work {
     this.isNew ||= name !== "seen";
   }
 
-  get isMoving() {
+  /** How many generations the pace asks for now, and a frame has time for. */
+  get due() {
+    const { isStep, isRunning, most, pace, since } = this;
+    if (isStep || !isRunning) return Number(isStep);
+    return pace < Infinity ? Math.min(most, Math.floor((performance.now() - since) * pace / 1000)) : most;
+  }
+
+  get canMove() {
     return this.flows.watched.length > 0 && (this.isRunning || this.isStep) && this.sent < AHEAD;
   }
 
   async work() {
     if (this.isBusy) return;
-    for (this.isBusy = true; this.queue.length || this.isNew || this.isMoving; ) {
+    clearTimeout(this.timer);
+    for (this.isBusy = true; this.queue.length || this.isNew || (this.canMove && this.due); ) {
       try {
         for (const { name, value } of this.queue.splice(0)) this.act(name, value);
-        if (this.isMoving) this.advance();
+        if (this.canMove && this.due) this.advance();
         if (this.isNew && this.flows.watched.length) this.frame();
       } catch (fault) {
         this.rest();
-        this.post("fault", { fault: /** @type {Error} */ (fault).message });
+        this.post("fault", { fault: /** @type {Error} */ (fault).message, isRefused: false });
       }
       this.isNew = false;
       await new Promise((go) => {
@@ -109,24 +126,30 @@ class Work {
       });
     }
     this.isBusy = false;
+    if (this.canMove) this.timer = setTimeout(() => this.work(), this.since + 1000 / this.pace - performance.now());
   }
 
   advance() {
-    const generations = this.isRunning ? this.pace : 1, { watched } = this.flows;
+    const { due: generations, most, isStep, pace, drawn, flows: { watched } } = this, begun = performance.now();
+    this.since = isStep || generations === most ? begun : this.since + 1000 * generations / pace;
     this.isStep = false;
     this.generations += generations;
     for (const one of watched) one.advance(generations);
+    const each = (performance.now() - begun) / generations || 0.01;
+    this.most = Math.max(1, Math.min(2 * most, Math.round(Math.max(FULL, SHARE * drawn) / each)));
     if (watched.every(({ flow }) => flow.found !== null)) this.isRunning = false;
     this.isNew = true;
   }
 
   frame() {
-    const { flows: { watched, serial, state, past }, isRunning, pieces: strokes } = this;
-    const frames = watched.map((one) => one.frame(this.view, this.generations));
+    const { flows: { watched, serial, state, past, make }, isRunning, pieces: strokes } = this;
+    if (this.view.field === "difference") watched.forEach((one) => one.renew(make));
+    const begun = performance.now(), frames = watched.map((one) => one.frame(this.view, this.generations));
+    this.drawn = performance.now() - begun;
     this.generations = this.pieces = 0;
     this.sent++;
     this.post("frames", { frames, isRunning, serial, state, strokes, canUndo: past.length > 0 });
-    if (!isRunning) this.hash();
+    if (!isRunning && this.isHashWanted) this.hash();
   }
 
   save() {

@@ -90,7 +90,16 @@ def begins(page):
     )
     page.key("q")
     check("a key shows the controls again", page.js("return view.clientHeight < innerHeight"))
-    check("three numbers are shown", page.js("return $('numbers').children.length") == 3)
+    reynolds = "const [, box] = $('numbers').children; return Number(box.firstChild.textContent)"
+    found = [page.js(reynolds), page.choose("change", length="44"), page.js(reynolds)]
+    check("a shorter length changes Reynolds at once", abs(found[2] / found[0] - 0.5) < 0.01, found)
+    untold = "return [...document.querySelectorAll('button, select, input')].filter((e) => !e.title && e.id !== 'file').map((e) => e.id)"
+    check("every control says what it does", not page.js(untold), page.js(untold))
+    page.key("?")
+    check(
+        "and a list too", "fhp-rest also particles at rest" in page.js("return $('help').innerText")
+    )
+    page.key("?")
     page.key("=")
     check(
         "a key opens all numbers", "force per fluid cell" in page.js("return $('all').textContent")
@@ -146,7 +155,7 @@ def edits(page):
 
 def continues(page, first, scene):
     """The program continues the scene to the page's cells, and then time turns."""
-    page.choose("change", pace="50"), page.click("play")
+    page.choose("change", pace="most"), page.click("play")
     page.wait(f"head.generation >= {max(1000, first + 100)}")
     last, found = page.pause()
     told = page.js("return $('numbers').textContent")
@@ -162,9 +171,9 @@ def continues(page, first, scene):
     page.click("turn")
     found = page.wait("head.found !== null && [head.found, head.generation]")
     check(f"{last} generations back, through all edits", found == [0, 0], found)
-    page.click("play"), page.wait("head.generation >= 500"), page.choose("change", pace="1")
+    page.click("play"), page.wait("head.generation >= 500"), page.choose("change", pace="60/s")
     page.click("turn"), page.click("play")
-    page.drag("flip", (60, 60)), page.choose("change", pace="50"), page.click("play")
+    page.drag("flip", (60, 60)), page.choose("change", pace="most"), page.click("play")
     check(
         "with one particle turned it does not return",
         page.wait("head.found !== null && head.found") > 100,
@@ -226,6 +235,12 @@ def cells(page):
     )
     page.click("half"), page.wait("motion.phase === 1 && !live.isScheduled")
     check("half a step shows the pair turned", page.pixel(1.5 + 0.15, 0.866 - 0.25) == meets)
+    page.click("link")
+    check(
+        "no link has a scene",
+        page.js("return location.hash") == "#opened" or page.wait("location.hash === '#opened'"),
+    )
+    check("and the page says so", page.js("return live.notes.at(-1)").startswith("No link has"))
     notes = page.js("return live.notes.length")
     page.open(KNOWN.replace("01", "41"))
     note = page.wait(f"live.notes.length > {notes} && live.notes.at(-1)")
@@ -295,6 +310,14 @@ def keyboard(page):
 
 def address(page):
     """The address keeps the state. Controls have names and keys of their own. A page that nobody sees rests."""
+    page.go("#field=x&seed=1e22&at=5&probe=1")
+    told = page.js("return live.notes.at(-1)")
+    check(
+        "wrong addresses end in the default with a word",
+        all(one in told for one in ("field=x", "seed=1e22", "at=5", "probe=1")),
+        told,
+    )
+    check("which runs", page.wait("head.generation > 20 && location.hash.includes('seed=1&')"))
     page.choose("change", scene="porous medium"), page.wait("head.wind === 0.04")
     page.choose("input", wind="0.06"), page.wait(
         "head.wind === 0.06 && location.hash.includes('wind=0.06')"
@@ -320,6 +343,17 @@ def address(page):
     first = page.js("return head.generation")
     time.sleep(0.5)
     check("a page that is not painted rests", page.js("return head.generation") == first)
+
+
+def small(page):
+    """The windows of small laptops, with the panel folded."""
+    page.go(""), page.click("drawer")
+    for width, height, least in (1366, 650, 1050), (1024, 700, 960):
+        metrics = {"width": width, "height": height, "deviceScaleFactor": 1, "mobile": False}
+        page.driver.execute_cdp_cmd("Emulation.setDeviceMetricsOverride", metrics)
+        page.wait(f"innerWidth === {width} && view.clientWidth === {width} && !live.isScheduled")
+        wide = page.js("return head.width * look.place.scale")
+        check(f"the lattice is large at {width} x {height}", least <= wide <= width, wide)
 
 
 def phone(room):
@@ -352,6 +386,16 @@ def phone(room):
     page.go("")
     wide = page.js("return head.width * look.place.scale / innerWidth")
     check("on its side too", 0.9 <= wide <= 1, wide)
+    page.click("drawer")
+    lost = "return [...document.querySelectorAll('button, select, input')].filter((e) => e.id !== 'file' && !e.hidden && !e.getClientRects().length).map((e) => e.id)"
+    check("every control can be reached", not page.js(lost), page.js(lost))
+    page.click("drawer"), page.click("bare")
+    check(
+        "alone the picture keeps one control",
+        len(page.js(lost)) > 40 and "bare" not in page.js(lost),
+    )
+    page.click("bare")
+    check("which shows the others again", "turn" not in page.js(lost))
     page.click("turn")
     check("the gas turns", page.wait("head.direction < 0 || head.found === 0"))
     end(page, "phone")
@@ -359,16 +403,20 @@ def phone(room):
 
 def large(room):
     page = Page(room, "#scene=an L that comes back", (1920, 1080))
-    page.wait("head.generation > 100")
+    check("it rests", page.js("return !shown.isRunning && head.generation === 0"))
+    page.click("play"), page.wait("head.generation > 100")
     wide = page.js("return $('play').clientWidth")
     page.pause()
     check("buttons keep their width", page.js("return $('play').clientWidth") == wide)
+    page.drag("draw", (200, 30), (230, 60))
     page.click("turn")
     check(
         "the L comes back",
         page.wait("head.found !== null && [head.found, head.generation]") == [0, 0],
     )
-    page.choose("change", scene="HPP's square beside FHP's ring")
+    page.click("undo"), page.wait("live.notes.at(-1).startsWith('The way back has undone')")
+    check("undo then draws nothing", page.js("return head.fluid === head.width * head.height"))
+    page.choose("change", scene="HPP's knotted ring beside FHP's")
     check(
         "two gases have both their numbers",
         page.wait(
@@ -451,7 +499,7 @@ def desk(room):
         page.go(link)
         found = page.js("return head.width * head.height - head.fluid")
         check("the address keeps what was drawn", found == solid, (found, solid))
-    for part in seeded, cells, probe, keyboard, address:
+    for part in seeded, cells, probe, keyboard, address, small:
         tried(part, page)
     end(page, "desk")
 

@@ -14,6 +14,7 @@
 import { spawnSync } from "node:child_process";
 import { mkdtempSync, readFileSync, rmSync } from "node:fs";
 import { Flow } from "../../page/src/flow.js";
+import { Flows } from "../../page/src/flows.js";
 import { Watched } from "../../page/src/frames.js";
 import { GASES, SOLID } from "../../page/src/gases.js";
 import { ScriptKernel } from "../../page/src/kernel.js";
@@ -64,6 +65,68 @@ function history(number) {
 }
 for (let number = 0; number < histories; number++) tried(`history ${number}`, () => history(number));
 
+// Undo, clear and strokes before, on and after the way back, in any order: the solid cells of a generation are those that it had forwards,
+// but for what was done on the way back and not undone.
+function undoing(number) {
+  const random = lots(9000 + number), gas = random.of(Object.values(GASES)), [width, height] = [30 + random.below(40), 16 + random.below(20)];
+  const flows = new Flows(), keep = random.chance() < 0.5;
+  flows.start({ flows: [{ gas: gas.name, chirality: "left", width, height, wind: 0.1, keep, filling: 0.2, shape: random.of(["none", "disc"]), radius: 4, seed: "1" }], state: "" });
+  const [{ flow }] = flows.watched, solid = () => Array.from({ length: width * height }, (_, at) => flow.cells.isSolid(at));
+  const place = () => [random.below(width), random.below(height) * gas.apart], same = (what, isSo) => check(`undoing ${number}: ${what}`, isSo);
+  const done = [], forwards = [solid()]; // what can be undone, and the solid cells by generation, before its changes
+  let changes = [], removed = [], origin = 0; // changes forwards, and what was undone on the way back before it came there
+  const act = (change) => {
+    const before = solid(), changed = new Map();
+    change();
+    solid().forEach((now, at) => now !== before[at] && changed.set(at, before[at]));
+    if (flow.direction > 0) changes.push({ was: changed, generation: flow.generation });
+    return changed;
+  };
+  const note = (was, isClear = false) => {
+    if (was.size || isClear) done.push({ was, generation: flow.generation, isLate: flow.direction < 0, isBack: false });
+  };
+  const begun = () => {
+    forwards[flow.generation] = solid();
+    done.forEach((one) => (one.generation = -1));
+    [changes, removed, origin] = [[], [], flow.generation];
+  };
+  const passes = (isCalm) => {
+    const { generation } = flow, passed = (one) => one.generation >= generation;
+    for (const { was } of changes.filter(passed)) for (const at of was.keys()) done.forEach((late) => late.isLate && late.generation >= 0 && late.was.delete(at));
+    done.forEach((one) => (one.isBack ||= !one.isLate && passed(one)));
+    [changes, removed] = [changes, removed].map((some) => some.filter((one) => !passed(one)));
+    const others = new Set([...removed, ...done.filter(({ isLate, generation: when }) => isLate && when >= 0)].flatMap(({ was }) => [...was.keys()]));
+    same("solid cells on the way back", solid().every((now, at) => others.has(at) || now === forwards[generation][at]));
+    if (flow.direction < 0) return;
+    same("back at the start", generation === origin && (!isCalm || flow.found === 0));
+    begun();
+  };
+  for (let n = 12 + random.below(20); n > 0; n--) {
+    const kind = random.below(8);
+    if (kind < 3) {
+      for (let k = random.below(12); k >= 0; k--) {
+        const isBack = flow.direction < 0, isCalm = !flow.isDisturbed;
+        flow.advance(1);
+        if (isBack) passes(isCalm);
+        else forwards[flow.generation] = solid();
+      }
+    } else if (kind < 5) note(act(() => flows.each((one) => flows.stroke(one, { from: place(), to: place(), radius: 1 + random.below(3), solid: random.chance() < 0.6, end: true }))));
+    else if (kind === 5 && random.chance() < 0.5) note(act(() => flows.clear()), true);
+    else if (kind === 6) {
+      const { direction, isDisturbed } = flow;
+      flows.turn((one) => one.turn());
+      if (direction > 0) passes();
+      else if (isDisturbed) begun();
+    } else if (done.length) {
+      const { was, isBack, isLate, generation } = done.pop(), before = solid();
+      act(() => flows.undo());
+      same("what was undone", solid().every((now, at) => now === (was.has(at) && !isBack ? was.get(at) : before[at])));
+      if (flow.direction < 0 && !isBack && (!isLate || generation < 0)) removed.push({ was, generation });
+    }
+  }
+}
+for (let number = 0; number < histories; number++) tried(`undoing ${number}`, () => undoing(number));
+
 // A small memory of patches is cut, and the gas comes back to where it still reaches.
 tried("a way back that was cut", () => {
   const flow = drawn(make, { gas: "fhp1", chirality: "left", width: 128, height: 64, filling: 0.2, wind: 0.1, keep: true, shape: "porous", radius: 4, seed: "3" });
@@ -84,6 +147,48 @@ tried("one particle turned on the way back", () => {
   flipOne(flow, [60, 30]);
   flow.advance(1000);
   check("one particle turned on the way back", flow.generation === 0 && flow.found > 100, flow.found);
+});
+
+// -- what is shown of a turn
+
+const view = { field: "vorticity", block: 8, smooth: 1, span: 300, window: null };
+tried("means over time turn with the particles", () => {
+  const flow = drawn(make, { gas: "fhp-rest", chirality: "left", width: 256, height: 128, filling: 0.18, wind: 0.2, keep: true, shape: "disc", radius: 11, seed: "1" });
+  const watched = new Watched(flow), [u, v] = ["u", "v"].map((part) => () => watched.stream.mean[part].map((value) => value || 0));
+  for (let k = 0; k < 20; k++) (watched.advance(5), watched.frame(view, 5));
+  const before = [u(), v(), watched.mean.parts[2].slice()];
+  flow.turn();
+  watched.frame(view, 0);
+  [u(), v(), watched.mean.parts[2]].forEach((after, k) => check("means over time turn with the particles", after.every((value, i) => value === -before[k][i])));
+});
+tried("a cone begins anew", () => {
+  const flow = drawn(make, { gas: "fhp1", chirality: "left", width: 128, height: 64, filling: 0.2, wind: 0, keep: false, shape: "none", radius: 4, seed: "3" });
+  const watched = new Watched(flow), unlike = () => watched.differences(8, 8)?.reduce((sum, number, k) => sum + (k % 4 === 1 ? number : 0), 0);
+  watched.flip(make, [60, 30]);
+  watched.advance(20);
+  check("a cone grows", unlike() > 20, unlike());
+  [watched.twin] = [null, flow.turn()];
+  watched.renew(make);
+  check("on the way back there is none, and it is said", watched.twin === null && flow.notes.at(-1)?.startsWith("On the way back"));
+  [watched.twin] = [null, flow.turn()];
+  watched.renew(make);
+  check("it begins anew with one cell", unlike() === 1 && flow.notes.at(-1)?.includes("begins anew"), unlike());
+});
+
+// -- developed starts
+
+tried("a street that stands at once", () => {
+  const start = { gas: "fhp-rest", shape: "disc", chirality: "left", width: 3200, height: 1016, filling: 0.18, wind: 0.3, radius: 80, keep: true, seed: "2" };
+  const behind = (isDeveloped) => {
+    const flow = drawn(make, { ...start, isDeveloped }), { columns, numbers } = flow.sums(32, 36), { units: [, north] } = flow.gas, middle = 14 * columns;
+    near("its filling", flow.totals()[1] / flow.totals()[0] / 7, 0.18, 0.001);
+    near("its wind", flow.totals()[2] / 2 / flow.totals()[1], 0.3, 0.005);
+    return Array.from({ length: 40 }, (_, k) => 4 * (middle + 24 + k)).map((at) => (numbers[at + 3] * north) / numbers[at + 1]);
+  };
+  const [vortices, even] = [behind(true), behind(false)].map((v) => [Math.min(...v), Math.max(...v)]);
+  check("gas flows across behind its disc, to both sides", vortices[0] < -0.1 && vortices[1] > 0.1, vortices);
+  check("and does not in a fresh start", even[0] > -0.07 && even[1] < 0.07, even);
+  check("a start without means says so", drawn(make, { ...start, width: 64, height: 64, radius: 4, isDeveloped: true }).notes.length === 1);
 });
 
 // -- the drive

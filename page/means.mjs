@@ -1,0 +1,27 @@
+// Runs flows until they are developed, and keeps their means for new starts in page/src/means.js:  node page/means.mjs
+import { writeFileSync } from "node:fs";
+import { BLOCK, meansText } from "./src/developed.js";
+import { Flows } from "./src/flows.js";
+import { PRESETS } from "./src/presets.js";
+
+const EVERY = 20; // generations from one measurement to the next
+// presets, sizes, and after how many generations, of which the last so many are measured
+const FLOWS = [["vortex street", "3200 x 1016", 36000, 300], ["flow past a disc", "1024 x 512", 16000, 4000],
+  ["flow past a disc", "512 x 768", 16000, 4000], ["flow past a disc", "1024 x 384", 16000, 4000]];
+
+function measured([name, size, generations, last]) {
+  const { gases: [gas], shapes: [shape], chirality, wind, radius, keep, fill: filling } = PRESETS[name], flows = new Flows();
+  const [width, height] = size.split(" x ").map(Number), start = { gas, shape, chirality, width, height, filling, wind, radius, keep };
+  flows.start({ flows: [{ ...start, seed: "1" }], state: "" });
+  const [{ flow }] = flows.watched;
+  flow.advance(generations - last);
+  const sums = flow.sums(...BLOCK), total = { numbers: new Float64Array(sums.numbers.length) };
+  for (let g = 0; g < last; g += EVERY) {
+    flow.advance(EVERY);
+    flow.sums(...BLOCK).numbers.forEach((number, k) => (total.numbers[k] += number));
+  }
+  return `  ${JSON.stringify({ ...start, text: meansText(total, flow.gas, filling) })},\n`;
+}
+
+const head = "// Means of developed flows, which `node page/means.mjs` measures.\n";
+writeFileSync(new URL("src/means.js", import.meta.url), `${head}export const MEANS = [\n${FLOWS.map(measured).join("")}];\n`);

@@ -1,0 +1,36 @@
+// Developed flows: means of blocks, a signed byte each, from which a start is drawn that needs no time to form.
+import { SOLID, equilibrium } from "./gases.js";
+import { MEANS } from "./means.js";
+
+export const BLOCK = [32, 36]; // columns and rows
+const STEPS = [0.001, 0.006, 0.006]; // of the filling above that of all, and of the velocity
+
+/** The text of the means of sums over blocks. */
+export function meansText({ numbers }, { directions, units }, filling) {
+  const bytes = [];
+  for (let at = 0; at < numbers.length; at += 4) {
+    const [cells, particles, px, py] = numbers.slice(at, at + 4), all = particles || 1;
+    const means = [cells && particles / cells / directions - filling, (px * units[0]) / all, (py * units[1]) / all];
+    means.forEach((mean, k) => bytes.push(Math.max(-127, Math.min(127, Math.round(mean / STEPS[k]))) & 255));
+  }
+  return btoa(String.fromCharCode(...bytes));
+}
+
+/** The means of the flow that begins as a start does, if they are kept. */
+export const meansOf = (start) => MEANS.find(({ text, ...flow }) => Object.keys(flow).every((key) => flow[key] === start[key]));
+
+/** Draws the fluid cells of a lattice from the equilibria of the blocks. */
+export function fillDeveloped({ gas, drive, cells: { width, height } }, states, { text, filling }) {
+  const [wide, tall] = BLOCK, columns = Math.ceil(width / wide), { directions } = gas, { draw } = drive;
+  const bytes = Int8Array.from(atob(text), (letter) => letter.charCodeAt(0)), chances = [];
+  for (let at = 0; at < bytes.length; at += 3) {
+    const [more, u, v] = STEPS.map((step, k) => step * bytes[at + k]);
+    chances.push(equilibrium(gas, filling + more, u, v));
+  }
+  for (let y = 0, at = 0; y < height; y++) {
+    for (let x = 0; x < width; x++, at++) {
+      const here = chances[Math.floor(y / tall) * columns + Math.floor(x / wide)];
+      if (states[at] !== SOLID) for (let i = 0; i < directions; i++) if (draw() < here[i]) states[at] |= 1 << i;
+    }
+  }
+}
