@@ -7,7 +7,7 @@ table of `fhpgas coarse`: - is standard input. A fault is one line on standard e
 from __future__ import annotations
 
 import argparse
-import importlib
+import importlib.util
 import inspect
 import math
 import os
@@ -23,7 +23,7 @@ import fhpgas
 
 from . import drawing
 from .fault import Fault, Parser, Usage, add_words, number, one_line_faults, whole, word
-from .files import read_bytes
+from .files import is_npz, of_file, read_bytes
 from .limits import DRIVES, FFMPEG, FIELDS, GAS_NAMES, LAST_OF_SCENE, MOST_GENERATIONS, MOST_SEED
 from .limits import PARTICLES, PILLOW
 from .refusals import NOT_REFUSED
@@ -45,9 +45,14 @@ def often(scene: pathlib.Path | None) -> pathlib.Path | str:
 
 
 def source(path: str, asked: argparse.Namespace) -> fhpgas.Lattice | fhpgas.Blocks:
-    """What a file has: a scene, or cells or a table, which do not name their gas and the sizes of
-    the lattice and of the blocks."""
+    """What a file has: a scene or what `save` wrote, or cells or a table, which do not name their
+    gas and the sizes of the lattice and of the blocks."""
     found = read_bytes(path)
+    if is_npz(found):
+        from . import forms
+
+        with naming(path):
+            return forms.from_npz(found)
     is_table = found.startswith(b"  col ")
     if not is_table and not found.startswith(b"generation "):
         with naming(path):
@@ -64,6 +69,11 @@ def source(path: str, asked: argparse.Namespace) -> fhpgas.Lattice | fhpgas.Bloc
         if is_table:
             return fhpgas.read_table(found, gas, asked.block, fhpgas.Size(columns, rows))
         return fhpgas.read_cells(found, gas, fhpgas.Size(columns, rows))
+
+
+def shows() -> bool:
+    """Whether a command shows its progress: on a terminal, if tqdm is there."""
+    return sys.stderr.isatty() and bool(importlib.util.find_spec("tqdm"))
 
 
 def steps(last: int, step: int) -> int:
@@ -128,7 +138,8 @@ def picture(asked: argparse.Namespace) -> None:
         figure = fhpgas.strip(sources, asked.what, **options)
     else:
         figure = sources[0].plot(asked.what, axes_of(sources[0]), **options).figure
-    figure.savefig(asked.file, dpi=asked.dpi)
+    with of_file(asked.file):
+        figure.savefig(asked.file, dpi=asked.dpi)
     if images := figure.axes[0].images:
         print("{} from {:.4g} to {:.4g}".format(asked.what, *images[0].get_clim()))
 
@@ -141,10 +152,11 @@ def film(asked: argparse.Namespace) -> None:
     if len(how) > 1:
         raise Usage("a flow is driven by a force or towards a mean flow: --force or --flow")
     start = fhpgas.Lattice.load(asked.scene)
-    frames = start.every(asked.every, count)
+    frames = start.every(asked.every, count, progress=shows())
     if how:
         how |= {"along": asked.along, "seed": asked.seed}
-        frames = (point.before for point in start.driven(asked.until, asked.every, **how))
+        driven = start.driven(asked.until, asked.every, **how, progress=shows())
+        frames = (point.before for point in driven)
     fhpgas.film(asked.file, frames, asked.what, fps=asked.fps, dpi=asked.dpi, **options)
     print(
         f"{asked.file}: {count + 1} frames, generations {start.generation} to"
@@ -191,7 +203,7 @@ def long_run(asked: argparse.Namespace) -> None:
     if all(map(os.path.exists, files)) and os.path.samefile(*files):
         raise Usage(f"{asked.kept} is the scene itself, which the run would overwrite")
     start, later = fhpgas.Lattice.load(asked.scene), None
-    for later in start.long_run(asked.generations, asked.step, asked.kept):
+    for later in start.long_run(asked.generations, asked.step, asked.kept, progress=shows()):
         print(f"generation {later.generation} particles {later.particles}", flush=True)
     if later is None:
         kept = fhpgas.Lattice.load(pathlib.Path(asked.kept))
@@ -203,7 +215,8 @@ def over_time(asked: argparse.Namespace) -> None:
     start = fhpgas.Lattice.load(asked.scene)
     if asked.last < start.generation:
         raise Usage(f"{asked.scene} has generation {start.generation}, which is past {asked.last}")
-    for later in start.every(asked.step, steps(asked.last - start.generation, asked.step)):
+    count = steps(asked.last - start.generation, asked.step)
+    for later in start.every(asked.step, count, progress=shows()):
         print(f"generation {later.generation} particles {later.particles}")
         print(later.blocks(*asked.block or (8, 9)).text(), end="", flush=True)
 
@@ -215,7 +228,8 @@ def drive(asked: argparse.Namespace) -> None:
     if (asked.flow is None) == (asked.force is None):
         raise Usage("a flow is driven either by a force or towards a mean flow: --force or --flow")
     how = {name: getattr(asked, name) for name in ("force", "flow", "along", "seed")}
-    points = fhpgas.Lattice.load(asked.scene).driven(asked.generations, asked.every, **how)
+    start = fhpgas.Lattice.load(asked.scene)
+    points = start.driven(asked.generations, asked.every, **how, progress=shows())
     for done, point in enumerate(points):
         print("generation    velocity       force\n" * (done == 0), end="")
         print(
@@ -237,7 +251,7 @@ def over_seeds(asked: argparse.Namespace) -> None:
         blocks = fhpgas.coarse(area, asked.generations, *asked.block or (8, 9))
         return [blocks.fluid, blocks.particles, *blocks.velocity]
 
-    found = fhpgas.side_by_side(columns, range(1, asked.seeds + 1))
+    found = fhpgas.side_by_side(columns, range(1, asked.seeds + 1), progress=shows())
     means, errors = (part.transpose(1, 2, 0).tolist() for part in fhpgas.mean_and_error(found))
     names = "".join(f"{name:>12}{name + '_error':>16}" for name in ("particles", "u", "v"))
     print("  col   row    fluid" + names)
@@ -272,6 +286,8 @@ def numbers(asked: argparse.Namespace) -> None:
         filling = particles / blocks.gas.directions / blocks.fluid.sum()
         flow = {"filling": filling, "speed": math.hypot(x, y)}
     told = fhpgas.numbers(gas, **flow, length=asked.length, chirality=asked.chirality)._asdict()
+    if told["mach"] > 1:
+        warnings.warn("the flow is faster than sound, for which no formula here is made")
     for name, value in (flow | told if asked.table else told).items():
         print(f"{name.replace('_', ' '):16}{value:12.4g}")
 
@@ -286,7 +302,7 @@ WORDS: dict[str, dict[str, Any]] = {
     "scene:optional": SCENE | {"nargs": "?"},
     "sources": word(metavar="SOURCE", nargs="+"),
     "cells": word(metavar="CELLS"),
-    "kept": word("the file, a scene", metavar="KEPT"),
+    "kept": word("the file, .npz or .toml", metavar="KEPT"),
     "file:picture": word(", ".join(FIGURES + FILMS), to_write(*FIGURES, *FILMS), metavar="FILE"),
     "file:film": word(", ".join(FILMS), to_write(*FILMS), metavar="FILE"),
     "what": word(**FIELDS_OF),
@@ -379,14 +395,13 @@ def main(words: list[str] | None = None) -> None:
             asked.function(asked)
         except ModuleNotFoundError as missing:
             name = str(missing.name).lower()
-            raise Fault(
-                f"{sys.executable} lacks the package {name}: pip install {name}, or Debian's"
-                f" python3-{name}"
-            ) from None
-        except BrokenPipeError:
-            raise
+            debian = f", or Debian's python3-{name}" * (sys.prefix == "/usr")
+            why = f"{sys.executable} lacks the package {name}: pip install {name}{debian}"
+            raise Fault(why) from None
         except OSError as fault:
-            raise Fault(f"{fault.filename or 'a file'}: {fault.strerror}") from None
+            if fault.filename is None:  # of standard output
+                raise
+            raise Fault(f"{fault.filename}: {fault.strerror}") from None
 
 
 if __name__ == "__main__":

@@ -2,70 +2,31 @@
 import dataclasses
 import functools
 import io
-import itertools
 import os
-from typing import Any
+import pathlib
+from typing import Any, ClassVar
 
 import numpy as np
 
 from .fault import Fault, real
-from .files import write_whole
+from .files import read_bytes, write_whole
 from .fields import Size, pair_checked, size_of
 from .gases import Array, Gas, array_of, gas_named, read_only
+from .scenes import naming
 
 HEADER = "  col   row    fluid particles         px         py"
 MOMENTA = "px", "py"
 SUMS = "fluid", "particles", *MOMENTA
-CACHED = 1 << 17  # cells that are summed at a time
-LANE = 21  # bits of a sum over a column of a block: at most 65536 rows of a weight of at most 31
-
-
-def block_sums(states: Array, weights: Array, width: int, height: int) -> Array:
-    """The sums [k, row, column] over blocks of `width` x `height` cells of the weights [k,
-    state], at most 31 apart, of their states. The rows of a block are added first, with three
-    weights at a time in the lanes of an integer of 64 bits."""
-    width, height = pair_checked((width, height), "a block")
-    tops, lefts = np.arange(0, len(states), height), np.arange(0, states.shape[1], width)
-    cells = np.outer(np.diff(tops, append=len(states)), np.diff(lefts, append=states.shape[1]))
-    found = np.empty((len(weights), *cells.shape), np.int64)
-    many = max(1, CACHED // (height * states.shape[1]))
-    for first, k in itertools.product(range(0, len(weights), 3), range(0, len(tops), many)):
-        three = weights[first : first + 3].astype(int)
-        part = states[k * height : (k + many) * height]
-        if not part.max():  # all cells have state 0, as where nothing is solid
-            found[first : first + 3, k : k + many] = three[:, :1, None] * cells[k : k + many]
-            continue
-        least = three.min(1, keepdims=True)
-        lanes = ((three - least) << LANE * np.arange(len(three))[:, None]).sum(0).astype(np.uint64)
-        packed = _columns(lanes, part, height)
-        for lane, shift in enumerate(least[:, 0]):
-            sums = (packed >> np.uint64(LANE * lane) & np.uint64((1 << LANE) - 1)).view(np.int64)
-            here = found[first + lane, k : k + many]
-            np.add.reduceat(sums, lefts, axis=1, out=here)
-            here += shift * cells[k : k + many]
-    return found
-
-
-def _columns(lanes: Array, states: Array, height: int) -> Array:
-    """The sums [row of blocks, column] of the lanes of states over `height` rows, few rows at a
-    time. The last ones may be fewer."""
-    rows, columns = states.shape
-    if rows <= height:
-        step = max(1, CACHED // columns)
-        parts = (lanes[states[top : top + step]].sum(0) for top in range(0, rows, step))
-        return sum(parts, np.zeros((1, columns), lanes.dtype))
-    whole = rows // height * height
-    found = lanes[states[:whole]].reshape(-1, height, columns).sum(1)
-    rest = lanes[states[whole:]].sum(0, keepdims=True)
-    return np.concatenate([found, rest][: 1 + (whole < rows)])
 
 
 class Value:
     """What is equal by value, shows itself as a picture, and is again what it was after
     pickling: the base of dataclasses with arrays."""
 
+    PARTS: ClassVar[tuple[str, ...]]  # that make the value
+
     def _values(self) -> tuple[Any, ...]:
-        return tuple(getattr(self, field.name) for field in dataclasses.fields(self))
+        return tuple(getattr(self, name) for name in self.PARTS)
 
     def __reduce__(self) -> tuple[Any, ...]:
         return type(self), self._values()
@@ -111,7 +72,7 @@ class Value:
         Raises
         ------
         Fault
-            If the file cannot be written.
+            If the file cannot be written, or has another suffix.
 
         Examples
         --------
@@ -120,16 +81,32 @@ class Value:
         >>> fhpgas.Blocks.load("rest.npz") == blocks
         True
         """
+        write_whole(path, self._saved(path))
+
+    def _saved(self: Any, path: str | os.PathLike[str], usual: str = ".npz") -> bytes:
+        """The bytes of a file, by its suffix or the usual one."""
         from . import forms
 
-        write_whole(path, forms.to_npz(self))
+        if (pathlib.Path(path).suffix or usual) != ".npz":
+            raise Fault(f"{path}: {type(self).__name__} are saved as .npz")
+        return forms.to_npz(self)
 
     @classmethod
     def load(cls, path: Any) -> Any:
         """The value that `save` wrote to an .npz file."""
+        with naming(path):
+            return cls._of(read_bytes(path))
+
+    @classmethod
+    def _of(cls, data: bytes) -> Any:
+        """The value that the bytes of an .npz file have."""
         from . import forms
 
-        return forms.from_npz(cls, path)
+        return forms.from_npz(data, cls)
+
+    def __sizeof__(self) -> int:  # by which Dask decides what it moves, and what to disk
+        arrays = (part for part in vars(self).values() if isinstance(part, np.ndarray))
+        return object.__sizeof__(self) + sum(array.nbytes for array in arrays)
 
     def to_xarray(self: Any) -> Any:
         """The same as a Dataset of xarray, with names, units and places, which netCDF and zarr
@@ -208,6 +185,7 @@ class Blocks(Value):
     ([[1.0, 0.5]], [[1.0, -1.0]])
     """
 
+    PARTS = *SUMS, "gas", "block", "size", "generation", "members"
     fluid: Array
     particles: Array
     px: Array

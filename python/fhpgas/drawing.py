@@ -107,7 +107,7 @@ def shape(asked: argparse.Namespace, size: Any, seed: int) -> Any:
     for numbers in polygons:
         if len(numbers) % 2:
             raise Usage(f"a polygon has corners of two numbers each, and these are {len(numbers)}")
-        many.append(fhpgas.polygon(size, zip(numbers[::2], numbers[1::2]), asked.gas))
+        many.append(fhpgas.polygon(size, [*zip(numbers[::2], numbers[1::2])], asked.gas))
     return sum(many[1:], many[0]) if many else None
 
 

@@ -11,11 +11,10 @@ from typing import TYPE_CHECKING, NamedTuple
 
 import numpy as np
 
-from .fault import Fault, integer, real
+from .fault import Fault, integer, real, seed_of
 from .fields import lots_of
-from .gases import Array, Checked, read_only
-from .limits import MOST_SEED
-from .plans import plan_of
+from .gases import Array
+from .planes import Cells
 from .runs import counted
 
 if TYPE_CHECKING:
@@ -53,8 +52,8 @@ def driven(
     flow: float | None = None,
     along: str = "rows",
     seed: int = 0,
-    stages: int | None = None,
-    capacity: int | None = None,
+    workers: int | None = None,
+    progress: bool = False,
 ) -> Iterator[Point]:
     """The points of a driven run: at its start, and after every `every` generations.
 
@@ -79,10 +78,12 @@ def driven(
         Which particles turn. "rows" turns W to E. "directions" is a force along every c_i, as of a
         pressure gradient or in a lattice Boltzmann code: two thirds of the momentum by W to E, and
         a sixth each by NW to NE and SW to SE. The slip at walls differs (`theory.slip`).
-    seed : int, optional
+    seed : int or numpy.random.SeedSequence, optional
         Of the particles that are turned. It is another stream than `draw_gas` has of the same seed.
-    stages, capacity : int, optional
-        The plan, as in `Lattice.run`.
+    workers : int, optional
+        As in `Lattice.run`.
+    progress : bool, optional
+        Whether a bar of tqdm counts the points.
 
     Yields
     ------
@@ -119,17 +120,17 @@ def driven(
         force = real("a force", force, -2, 2) * every * lattice.fluid
     else:
         flow = real("a flow, the mean velocity of the particles,", flow, -1, 1)
-    kicks = _Kicks(lattice, along, integer("a seed", seed, 0, MOST_SEED))
-    plan, kicked = plan_of(stages, capacity), range(0, generations + 1, every)
+    kicks = _Kicks(lattice, along, seed_of(seed))
+    kicked = range(0, generations + 1, every)
 
     def points() -> Iterator[Point]:
         after = lattice
-        for done in counted(kicked, len(kicked), "point"):
-            before = after.run(every, **plan) if done else after
+        for done in counted(kicked, len(kicked), "point", progress):
+            before = after.run(every, workers) if done else after
             momentum = float(before.momentum[0])
             wanted = (flow or 0) * before.particles - momentum if force is None else force
             states, turned, given = kicks.kicked(before.states, wanted, force is not None)
-            after = before.replace(states=Checked(read_only(states)))
+            after = before.replace(states=Cells(before.gas, states))
             acts, velocity = given / every / before.fluid, (momentum + given / 2) / before.particles
             yield Point(before, after, turned, acts, velocity)
 

@@ -12,6 +12,8 @@ import sys
 from collections.abc import Callable, Iterator
 from typing import Any, NoReturn, SupportsIndex
 
+from .limits import MOST_SEED
+
 
 class Fault(ValueError):
     """Why an input does not fit, in one line that names what was given and what is allowed."""
@@ -22,6 +24,14 @@ class Fault(ValueError):
 
 class Usage(Fault):
     """A Fault of the words of a command line, after which a program ends with 2."""
+
+
+def seed_of(value: Any) -> int:
+    """A seed as an int of 63 bits: an integer, or the first bits of a SeedSequence of numpy."""
+    if hasattr(value, "generate_state"):
+        high, low = value.generate_state(2)
+        return int(high) << 31 | int(low) >> 1
+    return integer("a seed", value, 0, MOST_SEED)
 
 
 def integer(what: str, value: SupportsIndex, least: int = 0, most: int | None = None) -> int:
@@ -74,6 +84,9 @@ def one_line_faults(name: str) -> Iterator[None]:
             raise Fault("standard output is closed")
         if isinstance(sys.stdout, io.TextIOWrapper):
             sys.stdout.reconfigure(errors="backslashreplace")
+            if isinstance(sys.stdout.buffer, io.RawIOBase):  # which drops what a write left
+                whole = {"encoding": sys.stdout.encoding, "errors": sys.stdout.errors}
+                sys.stdout = open(sys.stdout.fileno(), "w", 1, **whole, closefd=False)
         try:
             yield
         finally:
@@ -85,6 +98,9 @@ def one_line_faults(name: str) -> Iterator[None]:
         os.dup2(os.open(os.devnull, os.O_WRONLY), 1)
         if not isinstance(fault, BrokenPipeError):
             print(f"{name}: standard output: {fault.strerror}", file=sys.stderr)
+        sys.exit(1)
+    except MemoryError as fault:
+        print(f"{name}: memory refused: {fault}", file=sys.stderr)
         sys.exit(1)
     except KeyboardInterrupt:
         sys.exit(130)

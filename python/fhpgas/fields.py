@@ -11,7 +11,7 @@ from typing import Any, NamedTuple
 
 import numpy as np
 
-from .fault import Fault, integer
+from .fault import Fault, integer, seed_of
 from .gases import Array, Gas, array_of, gas_named
 
 Field = float | Array | Callable[[Array, Array], Any]
@@ -163,6 +163,16 @@ def numbers_of(name: str, field: Any) -> Array:
     return values.astype(float, copy=False)
 
 
+def check_spread(name: str, field: Array, shape: tuple[int, ...]) -> None:
+    """Raises a Fault if numpy does not spread a field over the rows and columns of a lattice."""
+    pairs = zip(field.shape[::-1], shape[::-1])
+    if field.ndim > 2 or any(have not in (1, want) for have, want in pairs):
+        raise Fault(
+            f"the field `{name}` has the shape {field.shape}, and the lattice {shape[0]} rows and"
+            f" {shape[1]} columns"
+        )
+
+
 def numbers_at(name: str, field: Any, places: tuple[Array, ...]) -> Array:
     """The numbers of a field, which may be a function of the places X, Y."""
     return numbers_of(name, field(*places) if callable(field) else field)
@@ -216,7 +226,7 @@ def lots_of(call: str, seed: int) -> np.random.PCG64:
     and the other calls draw from the same seed: numpy's PCG64 of SeedSequence(seed,
     spawn_key=(number of the call,))."""
     key = (STREAMS.index(call) + 1,)
-    return np.random.PCG64(np.random.SeedSequence(integer("a seed", seed), spawn_key=key))
+    return np.random.PCG64(np.random.SeedSequence(seed_of(seed), spawn_key=key))
 
 
 def drawn(

@@ -1,19 +1,37 @@
 """Files that are read whole, and written whole or not at all."""
+import contextlib
 import os
 import pathlib
 import shutil
 import sys
-import tempfile
+from collections.abc import Iterator
 
 from .fault import Fault
+
+try:
+    import fcntl
+except ImportError:  # on Windows
+    fcntl = None  # type: ignore[assignment]
+
+
+@contextlib.contextmanager
+def of_file(path: str | os.PathLike[str]) -> Iterator[None]:
+    """Lets an error of the system in the block be a Fault that begins with the path."""
+    try:
+        yield
+    except OSError as fault:
+        raise Fault(f"{path}: {fault.strerror or fault}") from None
 
 
 def read_bytes(path: str | os.PathLike[str]) -> bytes:
     """The bytes of a file, or of standard input for "-". An unreadable file raises a Fault."""
-    try:
+    with of_file(path):
         return sys.stdin.buffer.read() if str(path) == "-" else pathlib.Path(path).read_bytes()
-    except OSError as fault:
-        raise Fault(f"{path}: {fault.strerror}") from None
+
+
+def is_npz(data: bytes) -> bool:
+    """Whether these are the bytes of a .npz file, a zip archive."""
+    return data.startswith(b"PK")
 
 
 def plain_file(path: str | os.PathLike[str]) -> pathlib.Path:
@@ -26,14 +44,35 @@ def plain_file(path: str | os.PathLike[str]) -> pathlib.Path:
 
 
 def write_whole(path: str | os.PathLike[str], data: bytes) -> None:
-    """Writes a file, which is whole or as before, because a finished one takes its name."""
+    """Writes a file, which is whole or as before, also after a loss of power: what takes its name
+    is finished and on the disk. Until then it has one name beside the file, so that killed runs
+    leave one such file at most."""
     real = plain_file(path)
-    try:
-        with tempfile.TemporaryDirectory(prefix=".", dir=real.parent) as folder:
-            part = pathlib.Path(folder) / real.name
-            part.write_bytes(data)
+    part = real.with_name(f".{real.name}.new")
+    with of_file(path), _alone(real.parent):
+        try:
+            with part.open("wb") as file:
+                file.write(data)
+                file.flush()
+                os.fsync(file.fileno())
             if real.exists():
                 shutil.copymode(real, part)
             os.replace(part, real)
-    except OSError as fault:
-        raise Fault(f"{path}: {fault.strerror}") from None
+        except BaseException:
+            part.unlink(missing_ok=True)
+            raise
+
+
+@contextlib.contextmanager
+def _alone(folder: pathlib.Path) -> Iterator[None]:
+    """Lets no other thread or process write a file of this folder in such a block, where the system
+    of its disk has locks."""
+    number = os.open(folder, os.O_RDONLY) if fcntl else None
+    try:
+        if number is not None:
+            with contextlib.suppress(OSError):
+                fcntl.flock(number, fcntl.LOCK_EX)
+        yield
+    finally:
+        if number is not None:
+            os.close(number)

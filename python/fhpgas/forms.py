@@ -2,10 +2,9 @@
 and numpy's .npz. Both hold all parts of the value, so nothing is lost on the way back."""
 from __future__ import annotations
 
-import dataclasses
 import io
-import pathlib
 import zipfile
+import zlib
 from typing import TYPE_CHECKING, Any
 
 import numpy as np
@@ -18,6 +17,8 @@ from .lattice import Lattice
 if TYPE_CHECKING:
     from xarray import Dataset
 
+# What numpy raises for a .npz file that is cut or changed.
+BROKEN = (ValueError, KeyError, OSError, EOFError, RuntimeError, zipfile.BadZipFile, zlib.error)
 LENGTH, VELOCITY = "cell widths", "cell widths per generation"
 UNITS = {
     "fluid": "cells",
@@ -32,13 +33,12 @@ UNITS = {
 
 def parts_of(value: Lattice | Blocks) -> dict[str, Any]:
     """The parts that make a value, the gas by its name."""
-    parts = {field.name: getattr(value, field.name) for field in dataclasses.fields(value)}
-    return parts | {"gas": value.gas.name}
+    return {name: getattr(value, name) for name in value.PARTS} | {"gas": value.gas.name}
 
 
-def made(kind: type, parts: dict[str, Any]) -> Any:
+def made(kind: Any, parts: dict[str, Any]) -> Any:
     """The value of a kind that has these parts, as a file or a dataset has them."""
-    names = {field.name for field in dataclasses.fields(kind)}
+    names = {*kind.PARTS}
     if missing := names - parts.keys():
         raise Fault(f"this is no {kind.__name__}: it lacks {', '.join(sorted(missing))}")
     found = {name: np.asarray(parts[name]) for name in names}
@@ -55,39 +55,66 @@ def to_npz(value: Lattice | Blocks) -> bytes:
     return file.getvalue()
 
 
-def from_npz(kind: type, path: Any) -> Any:
-    """The value of a kind that a .npz file has."""
+def from_npz(data: bytes, kind: type | None = None) -> Any:
+    """The value that the bytes of a .npz file have, of a kind if it is passed."""
     try:
-        with np.load(pathlib.Path(path)) as found:
-            return made(kind, dict(found))
-    except OSError as fault:
-        raise Fault(f"{path}: {fault.strerror or fault}") from None
-    except (ValueError, TypeError, zipfile.BadZipFile, KeyError) as fault:
-        raise Fault(f"{path}: {fault}") from None
+        with np.load(io.BytesIO(data)) as found:
+            parts = dict(found)
+    except BROKEN as fault:
+        raise Fault(f"this is no whole .npz file: {fault}") from None
+    try:
+        return made(kind or (Lattice if "states" in parts else Blocks), parts)
+    except TypeError as fault:
+        raise Fault(fault) from None
 
 
 def to_xarray(value: Lattice | Blocks) -> Dataset:
-    """The dataset of a lattice, with the places of its cells, or of blocks, with their fields."""
+    """The dataset of a lattice, with the places of its cells, or of blocks, with their fields. The
+    seed is a text, and the generation a float, because netCDF of version 3 has no longer integers.
+    """
     import xarray
 
     is_lattice = isinstance(value, Lattice)
     parts = parts_of(value)
+    fields = ("states", "solid") if is_lattice else UNITS
+    data = {
+        name: (("y", "x"), getattr(value, name), {"units": UNITS.get(name, "1")}) for name in fields
+    }
+    kept = {name: part for name, part in parts.items() if name not in (*SUMS, *fields)}
+    time = ((), float(kept.pop("generation")), {"long_name": "generation"})
+    if is_lattice:
+        kept["seed"] = str(kept["seed"])
+    return xarray.Dataset(data, _places(value) | {"generation": time}, kept)
+
+
+def _places(value: Lattice | Blocks) -> dict[str, Any]:
+    """The coordinates of a dataset. Of the triangular lattice X has the places eastwards, because
+    every other row lies half a cell to the east."""
     x, y = positions(value.size, value.gas) if isinstance(value, Lattice) else value.positions
-    places = {
-        "x": (("y", "x") if x.ndim == 2 else "x", x, {"units": LENGTH, "long_name": "eastwards"}),
-        "y": ("y", np.ravel(y), {"units": LENGTH, "long_name": "northwards from the lower wall"}),
-    }
-    if x.ndim == 2:  # every other row lies half a cell to the east
-        places["X"] = places.pop("x")
-    names = ("states", "solid") if is_lattice else UNITS
-    fields = {
-        name: (("y", "x"), getattr(value, name), {"units": UNITS.get(name, "1")}) for name in names
-    }
-    kept = {name: part for name, part in parts.items() if name not in (*SUMS, "states", "solid")}
-    return xarray.Dataset(fields, places, kept)
+    east, north = ({"units": LENGTH, "long_name": f"{way}wards"} for way in ("east", "north"))
+    if x.ndim == 2:
+        return {"X": (("y", "x"), x.astype(np.float32), east), "y": ("y", np.ravel(y), north)}
+    return {"x": ("x", x, east), "y": ("y", y, north)}
 
 
 def from_xarray(kind: type, dataset: Dataset) -> Any:
-    """The value of a kind whose `to_xarray` is a dataset, also after netCDF or zarr kept it."""
+    """The value of a kind whose `to_xarray` is a dataset, also after netCDF or zarr kept it. One
+    with other dimensions, or rows or columns in another order, raises a Fault."""
     known = {str(name): value for name, value in dataset.attrs.items()}
-    return made(kind, known | {str(name): dataset[name].values for name in dataset})
+    if "generation" in dataset.coords:
+        known["generation"] = np.rint(dataset["generation"].values).astype(np.int64)
+    if "seed" in known:
+        known["seed"] = int(known["seed"])
+    try:
+        fields = {str(name): dataset[name].transpose("y", "x").values for name in dataset}
+    except ValueError:
+        why = f"{kind.__name__} are of y and x, and this dataset has "
+        why += ", ".join(map(str, dataset.sizes))
+        raise Fault(f"{why}: `isel` takes one of a time") from None
+    value = made(kind, known | fields)
+    for name, (dimensions, places, _) in _places(value).items():
+        if name in dataset.coords:
+            found = dataset[name].transpose(*np.atleast_1d(dimensions)).values
+            if found.shape != places.shape or not np.allclose(found, places):
+                raise Fault(f"`{name}` is not where these cells are: sort by y falling, x rising")
+    return value

@@ -3,7 +3,7 @@ lists them."""
 import functools
 import reprlib
 from collections.abc import Iterable, Sequence
-from typing import Any, NamedTuple
+from typing import Any
 
 import numpy as np
 
@@ -24,13 +24,6 @@ def read_only(array: Array) -> Array:
     """The same array, which can no longer be written."""
     array.flags.writeable = False
     return array
-
-
-class Checked(NamedTuple):
-    """An array that a lattice shares as it is: read-only, of its type, and with values that its gas
-    can have."""
-
-    array: Array
 
 
 def array_of(what: str, values: Any) -> Array:
@@ -123,6 +116,9 @@ class Gas:
 
     def __reduce__(self) -> tuple[Any, ...]:
         return gas_named, (self.name,)
+
+    def __dask_tokenize__(self) -> str:
+        return self.name
 
     @functools.cache
     def collisions(self, side: str) -> Array:

@@ -2,16 +2,19 @@
 import dataclasses
 import functools
 import os
+import pathlib
+import sys
 from typing import Any
 
 import numpy as np
 
 from . import drive, engine, fields, limits, long_runs
-from .blocks import Blocks, Value, block_sums, read_table
-from .cells import SOLID, cells_of, codes_of, lines_of, number_of, parts_of
-from .fault import Fault, integer
-from .files import write_whole
-from .gases import Array, Checked, Gas, array_of, chirality_named, gas_named, mask, read_only
+from .blocks import Blocks, Value, read_table
+from .cells import cells_of, codes_of, lines_of, parts_of
+from .fault import Fault, integer, seed_of
+from .files import is_npz, write_whole
+from .gases import Array, Gas, array_of, chirality_named, gas_named, mask, read_only
+from .planes import Cells, Walls, block_ones
 from .plans import planned
 from .program import call
 from .reader import KEYS
@@ -36,7 +39,7 @@ class Lattice(Value):
         "fhp1", "fhp-rest" or "hpp".
     chirality : {"seeded", "left", "right"}, optional
         The side to which head-on pairs turn.
-    seed : int, optional
+    seed : int or numpy.random.SeedSequence, optional
         Of the random bits of "seeded", 0 to 2^63 - 1.
     generation : int, optional
         0 to 10^12.
@@ -55,8 +58,9 @@ class Lattice(Value):
     (<Lattice fhp1 seeded 4 x 1, generation 2, 1 particles>, [[0, 0, 0, 1]])
     """
 
-    states: Array
-    solid: Array
+    PARTS = "states", "solid", "gas", "chirality", "seed", "generation"
+    cells: Cells
+    walls: Walls
     gas: Gas
     chirality: str
     seed: int
@@ -71,37 +75,51 @@ class Lattice(Value):
         seed: int = 0,
         generation: int = 0,
     ):
-        named, is_known = gas_named(gas), isinstance(states, Checked) and isinstance(solid, Checked)
-        cells = states.array if isinstance(states, Checked) else array_of("states", states)
-        if isinstance(solid, Checked):
-            walls = solid.array
-        else:
-            walls = read_only(np.zeros(cells.shape, bool) if solid is None else mask(solid))
+        named, walls = gas_named(gas), solid
+        given: Any = states if isinstance(states, Cells) else array_of("states", states)
+        if not isinstance(walls, Walls):
+            walls = Walls(np.zeros(given.shape, bool) if solid is None else mask(solid))
+        shape = given.shape
         if (
-            cells.ndim != 2
-            or walls.shape != cells.shape
-            or not all(1 <= side <= limits.MOST_SIDE for side in cells.shape)
+            len(shape) != 2
+            or walls.solid.shape != shape
+            or not all(1 <= side <= limits.MOST_SIDE for side in shape)
         ):
             raise Fault(
                 "states and solid cells are arrays [y, x] of one shape, 1 to"
-                f" {limits.MOST_SIDE} each way, not {cells.shape} and {walls.shape}"
+                f" {limits.MOST_SIDE} each way, not {shape} and {walls.solid.shape}"
             )
-        if not isinstance(states, Checked):
-            cells = _states_of(cells, named)
-        if not is_known and (both := walls & (cells > 0)).any():
+        cells = given if isinstance(given, Cells) else Cells(named, _states_of(given, named))
+        is_known = cells is states and walls is solid
+        if not is_known and (both := walls.solid & (cells.states > 0)).any():
             y, x = np.argwhere(both)[0]
             raise Fault(
                 f"row {y} column {x} is solid and contains a particle: numpy.where(solid, 0,"
                 " states) clears such cells"
             )
         self.__dict__.update(
-            states=cells,
-            solid=walls,
+            cells=cells,
+            walls=walls,
             gas=named,
             chirality=chirality_named(chirality),
-            seed=integer("a seed", seed, 0, limits.MOST_SEED),
+            seed=seed_of(seed),
             generation=integer("a generation", generation, 0, limits.MOST_GENERATION),
         )
+
+    @property
+    def states(self) -> Array:
+        """The states of the cells [y, x]."""
+        return self.cells.states
+
+    @property
+    def solid(self) -> Array:
+        """Whether the cells [y, x] are solid."""
+        return self.walls.solid
+
+    @property
+    def planes(self) -> Array:
+        """The states as bits [y, direction, word], as `include/fhpgas.h` describes them."""
+        return self.cells.planes
 
     @classmethod
     def load(cls, scene: Scene) -> "Lattice":
@@ -126,10 +144,9 @@ class Lattice(Value):
         >>> fhpgas.Lattice.load('gas = "hpp"\\ncells = ["01.."]').states.tolist()
         [[1, 0]]
         """
-        path = os.fspath(scene) if isinstance(scene, (str, os.PathLike)) else ""
-        if path.endswith(".npz") and "\n" not in path:
-            return super().load(path)
-        return run(scene, 0)
+        text = scene_bytes(scene)
+        with naming(scene):
+            return cls._of(text) if is_npz(text) else _run(text, 0)
 
     def replace(self, **changes: Any) -> "Lattice":
         """The same lattice with other values. A run of it continues with the random bits that come
@@ -150,37 +167,42 @@ class Lattice(Value):
         >>> fhpgas.Lattice([[1, 0]]).replace(states=[[0, 8]]).states.tolist()
         [[0, 8]]
         """
-        kept: dict[str, Any] = {"solid": Checked(self.solid)}
-        if "gas" not in changes:
-            kept["states"] = Checked(self.states)
-        return dataclasses.replace(self, **kept | changes)
+        cells = self.states if "gas" in changes else self.cells
+        kept: dict[str, Any] = {"solid": self.walls, "states": cells}
+        kept |= {name: getattr(self, name) for name in self.PARTS[2:]}
+        return Lattice(**kept | changes)
 
     def __array__(self, dtype: Any = None, copy: bool | None = None) -> Array:
-        return np.array(self.states, dtype) if copy else np.asarray(self.states, dtype)
+        found = np.array(self.states, dtype) if copy else np.asarray(self.states, dtype)
+        if copy is False and found is not self.states:
+            raise ValueError(f"states are uint8, and {found.dtype} of them is a copy")
+        return found
 
     @property
     def size(self) -> fields.Size:
         """The numbers of columns and rows, a `Size`."""
-        return fields.Size(*self.states.shape[::-1])
+        return fields.Size(*self.shape[::-1])
 
-    @functools.cached_property
-    def _cells_of(self) -> Array:
-        """How many cells have each of the states 0 to 127."""
-        return number_of(self.states)[:SOLID]
+    @property
+    def shape(self) -> tuple[int, ...]:
+        """The numbers of rows and columns, as of numpy's arrays [y, x]."""
+        return self.cells.shape
 
-    @functools.cached_property
+    @property
     def particles(self) -> int:
         """The number of particles."""
-        return int(self._cells_of @ self.gas.number)
+        return int(self.cells.numbers.sum())
 
-    @functools.cached_property
+    @property
     def fluid(self) -> int:
         """The number of cells that are not solid."""
-        return self.solid.size - int(np.count_nonzero(self.solid))
+        return self.walls.fluid
 
     @functools.cached_property
     def momentum(self) -> Array:
         """The momentum [east, north] of all particles, in units of a particle of speed 1."""
+        if engine.library():
+            return read_only(engine.sums(self, *self.size)[2:, 0, 0] * self.gas.units)
         return read_only(self.counts() @ self.gas.velocities)
 
     def counts(self, width: int | None = None, height: int | None = None) -> Array:
@@ -202,8 +224,9 @@ class Lattice(Value):
         [2, 0, 0, 1, 0, 0]
         """
         if width is None and height is None:
-            return self._cells_of @ self.gas.bits.astype(int)
-        return block_sums(self.states, self.gas.bits.T, *fields.block_of(self.size, width, height))
+            return self.cells.numbers
+        block = fields.block_of(self.size, width, height)
+        return block_ones(self.planes, self.size.columns, *block)
 
     def blocks(self, width: int | None = 8, height: int | None = 9) -> Blocks:
         """Sums over blocks of cells.
@@ -224,16 +247,15 @@ class Lattice(Value):
         [[3], [1]]
         """
         block = fields.block_of(self.size, width, height)
-        if engine.library():
-            return self._blocks(engine.sums(self, 0, *block), block, self.generation)
-        weights = np.stack([self.gas.number, self.gas.px, self.gas.py])
-        fluid = block_sums(self.solid.view(np.uint8), np.array([[1, 0]]), *block)
-        sums = np.concatenate([fluid, block_sums(self.states, weights, *block)])
-        return self._blocks(sums, block, self.generation)
-
-    def _blocks(self, sums: Array, block: tuple[int, int], generation: int) -> Blocks:
-        fluid, particles, px, py = sums
-        return Blocks(fluid, particles, px, py, self.gas, block, self.size, generation)
+        if engine.library() and block[0] % 8:
+            fluid, particles, px, py = engine.sums(self, *block)
+        else:
+            fluid, numbers = block_ones(self.walls.open, self.size.columns, *block)[0], self.counts(
+                *block
+            )
+            particles = numbers.sum(0)
+            px, py = np.tensordot(self.gas.momenta, numbers, (0, 0))
+        return Blocks(fluid, particles, px, py, self.gas, block, self.size, self.generation)
 
     def __repr__(self) -> str:
         columns, rows = self.size
@@ -247,6 +269,9 @@ class Lattice(Value):
         first = f"generation {self.generation} particles {self.particles}\n"
         return first + lines_of(codes_of(self.states, self.solid)).decode()
 
+    def __sizeof__(self) -> int:
+        return object.__sizeof__(self) + sys.getsizeof(self.cells) + self.solid.nbytes
+
     def scene(self) -> str:
         """The text of the scene that has this lattice, a map."""
         return self._scene().decode()
@@ -257,12 +282,13 @@ class Lattice(Value):
         Parameters
         ----------
         path : path
-            Of a scene, or if it ends with .npz of numpy's arrays, compressed.
+            Of a scene (.toml or without a suffix), or of numpy's arrays, compressed (.npz).
 
         Raises
         ------
         Fault
-            If the file cannot be written.
+            If the file cannot be written, has another suffix, or is a scene that could not be read
+            back: of more than 33 million cells, or a generation above 10^12.
 
         Examples
         --------
@@ -271,23 +297,28 @@ class Lattice(Value):
         >>> fhpgas.Lattice.load("start.toml") == start
         True
         """
-        if os.fspath(path).endswith(".npz"):
-            super().save(path)
-        else:
-            write_whole(path, self._scene())
+        write_whole(path, self._saved(path))
 
-    def __sizeof__(self) -> int:  # by which Dask decides what it moves, and what to disk
-        return object.__sizeof__(self) + self.states.nbytes + self.solid.nbytes
+    def _saved(self, path: str | os.PathLike[str], usual: str = ".toml") -> bytes:
+        suffix = pathlib.Path(path).suffix or usual
+        if suffix not in (".toml", ".npz"):
+            raise Fault(f"{path}: a lattice is saved as .toml or .npz")
+        return self._scene() if suffix == ".toml" else super()._saved(path, usual)
 
     def _scene(self) -> bytes:
         integer("the generation of a scene", self.generation, 0, limits.LAST_OF_SCENE)
+        if limits.map_bytes(*self.size) > limits.MOST_BYTES:
+            raise Fault(
+                f"a scene of {self.size} cells is longer than the {limits.MOST_BYTES} bytes that"
+                " the program reads: save them as .npz"
+            )
         keys = {"version": 2, "gas": self.gas.name, "chirality": self.chirality}
         keys |= {"seed": self.seed, "generation": self.generation}
         rows = lines_of(codes_of(self.states, self.solid), b'    "', b'",\n')
         return b"".join([text_of(keys).encode(), b"cells = [\n", rows, b"]\n"])
 
     def run(
-        self, generations: int, stages: int | None = None, capacity: int | None = None
+        self, generations: int, workers: int | None = None, progress: bool = False
     ) -> "Lattice":
         """The lattice after some generations.
 
@@ -295,13 +326,20 @@ class Lattice(Value):
         ----------
         generations : int
             0 to 1,000,000.
-        stages, capacity : int, optional
-            A plan asks for the program instead of the engine in this process: its workers, 1 to
-            64, and the rows per belt, 1 to 1024. It changes only the time.
+        workers : int, optional
+            Threads that compute strips of a large lattice, by default one per core that this
+            process may use. It changes only the time.
+        progress : bool, optional
+            Whether a bar of tqdm counts the parts of the run.
 
         Returns
         -------
         Lattice
+
+        Raises
+        ------
+        Fault
+            If the package has no engine for this system.
 
         Examples
         --------
@@ -311,26 +349,19 @@ class Lattice(Value):
         >>> np.argwhere(pair.run(1).states).tolist()
         [[0, 2], [2, 1]]
         """
-        generations = self._span(generations)
-        if stages is None and capacity is None and engine.serves(self, generations):
-            states = Checked(read_only(engine.run(self, generations)))
-            return self.replace(states=states, generation=self.generation + generations)
-        words = planned(len(self.states), generations, stages, capacity)
-        text = call(self._scene(), "run", *words, is_checked=True)
-        return _lattice_of(*cells_of(text), gas=self.gas, chirality=self.chirality, seed=self.seed)
-
-    def _span(self, generations: int) -> int:
-        """The number of generations of a run that begins here."""
         integer("the generation at which a run begins", self.generation, 0, limits.LAST_OF_SCENE)
-        return integer("the number of generations", generations, 0, limits.MOST_GENERATIONS)
+        most = limits.MOST_GENERATIONS
+        generations = integer("the number of generations", generations, 0, most)
+        planes = engine.advanced(self, generations, workers, progress)
+        cells = Cells(self.gas, planes=planes, shape=self.shape)
+        return self.replace(states=cells, generation=self.generation + generations)
 
     def coarse(
         self,
         generations: int,
         width: int | None = 8,
         height: int | None = 9,
-        stages: int | None = None,
-        capacity: int | None = None,
+        workers: int | None = None,
     ) -> Blocks:
         """The blocks of the lattice after some generations.
 
@@ -339,9 +370,9 @@ class Lattice(Value):
         generations : int
             0 to 1,000,000.
         width, height : int or None, optional
-            As in `blocks`, at most 4096.
-        stages, capacity : int, optional
-            The plan, as in `run`.
+            As in `blocks`.
+        workers : int, optional
+            As in `run`.
 
         Returns
         -------
@@ -353,13 +384,8 @@ class Lattice(Value):
         >>> start.coarse(10) == start.run(10).blocks()
         True
         """
-        block = fields.block_of(self.size, width, height, limits.MOST_BLOCK)
-        generations = self._span(generations)
-        words = planned(len(self.states), generations, stages, capacity)
-        last = self.generation + generations
-        if stages is None and capacity is None and engine.serves(self, generations):
-            return self._blocks(engine.sums(self, generations, *block), block, last)
-        return read_table(_coarse(self._scene(), words, block), self.gas, block, self.size, last)
+        block = fields.block_of(self.size, width, height)
+        return self.run(generations, workers).blocks(*block)
 
     def reverse(self) -> "Lattice":
         """The lattice with all particles turned back.
@@ -370,7 +396,8 @@ class Lattice(Value):
         Returns
         -------
         Lattice
-            `lattice.run(n).reverse().run(n).reverse()` has the states of `lattice`, bit for bit.
+            `lattice.run(n).reverse().run(n).reverse()` has the states of `lattice`, bit for bit: of
+            the definitions this is proved (docs/PROVED.md, `runs_lead_back`).
 
         Raises
         ------
@@ -398,20 +425,14 @@ class Lattice(Value):
 
 
 def _states_of(values: Array, gas: Gas) -> Array:
-    """Values as read-only states of a gas. Others raise a Fault."""
+    """Values as states of a gas, in a new array. Others raise a Fault."""
     allowed = f"a state of {gas} is an integer from 0 to {(1 << gas.directions) - 1}"
     if values.dtype.kind not in "iub":
         raise Fault(f"{allowed}, and these are of the type {values.dtype}")
     if values.min() < 0 or int(values.max()) >> gas.directions:
         y, x = np.argwhere((values < 0) | (values >= 1 << gas.directions))[0]
         raise Fault(f"{allowed}, and row {y} column {x} has {values[y, x]}")
-    return read_only(values.astype(np.uint8, order="C"))
-
-
-def _lattice_of(codes: Array, generation: int, **keys: Any) -> Lattice:
-    """The lattice of cells that the program printed for a scene of these keys."""
-    states, solid = (Checked(read_only(part)) for part in parts_of(codes))
-    return Lattice(states, solid, generation=generation, **keys)
+    return values.astype(np.uint8, order="C")
 
 
 def read_cells(
@@ -487,9 +508,15 @@ def run(
     """
     text = scene_bytes(scene)
     with naming(scene):
-        words = planned(height_of(text), generations, stages, capacity)
-        cells, keys = cells_of(call(text, "run", *words)), _kept(keys_of(text))
-    return _lattice_of(*cells, **keys)
+        return _run(text, generations, stages, capacity)
+
+
+def _run(
+    text: bytes, generations: int, stages: int | None = None, capacity: int | None = None
+) -> Lattice:
+    words = planned(height_of(text), generations, stages, capacity)
+    codes, generation = cells_of(call(text, "run", *words))
+    return Lattice(*parts_of(codes), generation=generation, **_kept(keys_of(text)))
 
 
 def coarse(

@@ -5,15 +5,14 @@ import itertools
 import os
 import pathlib
 from collections.abc import Iterator
-from typing import TYPE_CHECKING, Any
+from typing import TYPE_CHECKING
 
 import numpy as np
 
 from .cells import cells_of, parts_of
 from .fault import Fault, integer
-from .files import plain_file
-from .limits import MOST_GENERATIONS
-from .plans import plan_of
+from .files import plain_file, write_whole
+from .limits import LAST_OF_SCENE, MOST_GENERATIONS
 from .runs import counted
 from .scenes import naming
 
@@ -22,7 +21,7 @@ if TYPE_CHECKING:
 
 
 def every(
-    lattice: Lattice, step: int, count: int, stages: int | None = None, capacity: int | None = None
+    lattice: Lattice, step: int, count: int, workers: int | None = None, progress: bool = False
 ) -> Iterator[Lattice]:
     """This lattice, and then lattices `step` generations apart.
 
@@ -34,8 +33,10 @@ def every(
         Generations, 1 to 1,000,000.
     count : int
         How many steps.
-    stages, capacity : int, optional
-        The plan, as in `run`.
+    workers : int, optional
+        As in `run`.
+    progress : bool, optional
+        Whether a bar of tqdm counts the steps.
 
     Yields
     ------
@@ -50,19 +51,16 @@ def every(
     """
     step = integer("a step", step, 1, MOST_GENERATIONS)
     last = lattice.generation + step * integer("the number of steps", count)
-    return itertools.chain([lattice], _parts(lattice, last, step, plan_of(stages, capacity)))
+    return itertools.chain([lattice], _parts(lattice, last, step, workers, progress))
 
 
 def _parts(
-    lattice: Lattice, last: int, step: int, plan: dict[str, Any], kept: Any = None
+    lattice: Lattice, last: int, step: int, workers: int | None, progress: bool
 ) -> Iterator[Lattice]:
-    """The lattices after every step, and at the last generation. The file `kept` has the
-    scene of the last one."""
+    """The lattices after every step, and at the last generation."""
     starts = range(lattice.generation, last, step)
-    for start in counted(starts, len(starts), "part"):
-        lattice = lattice.run(min(step, last - start), **plan)
-        if kept is not None:
-            lattice.save(kept)
+    for start in counted(starts, len(starts), "part", progress):
+        lattice = lattice.run(min(step, last - start), workers)
         yield lattice
 
 
@@ -117,8 +115,8 @@ def long_run(
     generations: int,
     step: int,
     kept: str | os.PathLike[str],
-    stages: int | None = None,
-    capacity: int | None = None,
+    workers: int | None = None,
+    progress: bool = False,
 ) -> Iterator[Lattice]:
     """Runs in parts, each kept in a file, so the same call continues a run that was ended.
 
@@ -131,9 +129,12 @@ def long_run(
     step : int
         Of a part, 1 to 1,000,000.
     kept : path
-        The file of the scene that continues. It is tried first.
-    stages, capacity : int, optional
-        The plan, as in `run`.
+        The file of the lattice from which the run continues: .npz, also if it has no suffix, or
+        .toml. It is tried first.
+    workers : int, optional
+        As in `run`.
+    progress : bool, optional
+        Whether a bar of tqdm counts the parts.
 
     Yields
     ------
@@ -143,20 +144,25 @@ def long_run(
     Raises
     ------
     Fault
-        If the file is of another run, or cannot be written.
+        If the file is of another run, or cannot be written, or not be read back.
 
     Examples
     --------
     >>> start = fhpgas.Lattice([[0, 1, 0, 0]])
-    >>> [each.generation for each in start.long_run(5, 2, "kept.toml")]
+    >>> [each.generation for each in start.long_run(5, 2, "kept.npz")]
     [2, 4, 5]
     """
-    plan, path = plan_of(stages, capacity), pathlib.Path(kept)
+    path = pathlib.Path(kept)
     last = lattice.generation + integer("the number of generations", generations)
+    integer("the last generation", last, 0, LAST_OF_SCENE)
     step = integer("a step", step, 1, MOST_GENERATIONS)
     if plain_file(path).exists():
         found = type(lattice).load(path)
         with naming(path):
             lattice = _continued(lattice, found)
-    lattice.save(path)
-    return _parts(lattice, last, step, plan, path)
+
+    def keep(later: Lattice) -> Lattice:
+        write_whole(path, later._saved(path, ".npz"))
+        return later
+
+    return map(keep, _parts(keep(lattice), last, step, workers, progress))

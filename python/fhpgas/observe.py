@@ -79,28 +79,24 @@ def forces(lattice: Lattice, part: Any = None) -> dict[str, Array]:
     >>> [round(float(momentum), 3) for momentum in fhpgas.forces(bounced)["upper"]]
     [1.0, 1.732]
     """
-    gas, rows = lattice.gas, len(lattice.states)
+    gas = lattice.gas
     of_these = lattice.solid if part is None else mask(part)
     if not lattice.generation:
         raise Fault(
             "a lattice of generation 0 has had no collision with a wall: forces are those of the"
             " generation before it"
         )
-    if of_these.shape != lattice.states.shape:
+    if of_these.shape != lattice.shape:
         raise Fault(
             f"the part of the solid cells has the shape {of_these.shape}, and the lattice"
-            f" {lattice.states.shape}"
+            f" {lattice.shape}"
         )
-    kinds = np.pad(3 * (lattice.solid & of_these), ((1, 1), (0, 0)))
-    kinds[0], kinds[-1] = 1, 2
-    found = np.zeros((len(FORCED) + 1, 2))
-    for parity in range(min(2, rows)):
-        y = np.arange(parity, rows, 2)
-        for i in np.flatnonzero(gas.velocities.any(1)):
-            right, down = gas.steps[parity, gas.opposite[i]]
-            struck = np.roll(kinds[y + down + 1], -right, axis=1)[lattice.states[y] >> i & 1 > 0]
-            found -= 2 * np.bincount(struck, minlength=len(found))[:, None] * gas.velocities[i]
-    return dict(zip(FORCED, found[1:]))
+    links, b = lattice.walls.links(gas), gas.directions
+    is_there = lattice.planes.reshape(-1)[links.word] >> links.bit & np.uint64(1) > 0
+    is_there &= (links.kind < 3) | of_these.reshape(-1)[links.cell]
+    struck = (links.kind * b + links.direction)[is_there]
+    numbers = np.bincount(struck, minlength=4 * b).reshape(4, b)
+    return dict(zip(FORCED, -2 * numbers[1:] @ gas.velocities))
 
 
 def staggered(lattice: Lattice) -> tuple[int, ...]:

@@ -16,11 +16,13 @@ from typing import TYPE_CHECKING, Any, NamedTuple, TypeAlias
 
 import numpy as np
 
-from .blocks import Blocks, block_sums
+from .blocks import Blocks
 from .fault import Fault, integer, real
 from .fields import positions, pair_checked
+from .files import of_file
 from .lattice import Lattice
 from .limits import FFMPEG, FIELDS, PARTICLES, PILLOW, PLAIN, SIGNED
+from .planes import block_ones, packed
 
 if TYPE_CHECKING:
     from matplotlib.axes import Axes
@@ -116,7 +118,7 @@ def solid_of(source: Source) -> Any:
     if solid is None or not solid.any():
         return None
     side = -(-max(solid.shape) // FINEST)
-    (number,) = block_sums(solid.view(np.uint8), np.array([[0, 1]]), side, side)
+    (number,) = block_ones(packed(solid.view(np.uint8), 1), solid.shape[1], side, side)
     grey = np.full(number.shape, 255 * float(GREY), np.uint8)
     return np.ma.masked_array(grey, 2 * number < side**2)
 
@@ -358,14 +360,15 @@ def film(
     bar(draw(many[0], ax, options), label, ax)
     ax.figure.draw_without_rendering()
     ax.figure.set_layout_engine("none")  # so that nothing moves
-    if suffix in PILLOW:
-        return write_frames(path, redrawn(ax, many, options), fps, dpi)
-    from matplotlib.animation import FFMpegWriter
+    with of_file(path):
+        if suffix in PILLOW:
+            return write_frames(path, redrawn(ax, many, options), fps, dpi)
+        from matplotlib.animation import FFMpegWriter
 
-    writer = FFMpegWriter(fps=fps)
-    with writer.saving(ax.figure, os.fspath(path), dpi):
-        for _ in redrawn(ax, many, options):
-            writer.grab_frame()
+        writer = FFMpegWriter(fps=fps)
+        with writer.saving(ax.figure, os.fspath(path), dpi):
+            for _ in redrawn(ax, many, options):
+                writer.grab_frame()
 
 
 def film_suffix(path: str | os.PathLike[str]) -> str:

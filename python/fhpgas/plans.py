@@ -38,17 +38,11 @@ def planned(
 ) -> tuple[object, ...]:
     """The words of a plan. What is out of its range raises a Fault."""
     generations = integer("the number of generations", generations, 0, MOST_GENERATIONS)
-    chosen = plan_of(stages, capacity)
-    workers, places, threads = plan(rows, generations, stages=chosen["stages"])
-    places = chosen["capacity"] or places
-    words = {"generations": generations, "stages": workers, "capacity": places, "threads": threads}
-    return tuple(word for name, value in words.items() for word in (f"--{name}", value))
-
-
-def plan_of(stages: int | None, capacity: int | None) -> dict[str, int | None]:
-    """A plan by its names. What is out of its range raises a Fault."""
     if stages is not None:
-        stages = integer("the number of stages", stages, 1, MOST_STAGES)
+        integer("the number of stages", stages, 1, MOST_STAGES)
     if capacity is not None:
-        capacity = integer("the capacity", capacity, 1, MOST_CAPACITY)
-    return {"stages": stages, "capacity": capacity}
+        integer("the capacity", capacity, 1, MOST_CAPACITY)
+    workers, places, threads = plan(rows, generations, stages=stages)
+    words = {"generations": generations, "stages": workers, "capacity": capacity or places}
+    words["threads"] = threads
+    return tuple(word for name, value in words.items() for word in (f"--{name}", value))

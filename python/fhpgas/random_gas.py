@@ -5,10 +5,9 @@ from typing import Any
 import numpy as np
 
 from . import fields
-from .fault import Fault, integer
+from .fault import Fault, seed_of
 from .gases import Array, Gas, gas_named, mask
 from .lattice import Lattice
-from .limits import MOST_SEED
 from .theory import sound_speed
 
 
@@ -41,11 +40,11 @@ def draw_gas(
         The solid cells.
     gas, chirality : optional
         As in `Lattice`.
-    seed : int, optional
+    seed : int or numpy.random.SeedSequence, optional
         Of the draw, and of the lattice. Two gases of one seed are no independent samples, also if
         they differ in filling or velocity: the particles of the thinner one are particles of the
-        denser. So a sweep takes other seeds for every filling, as `seed=1000 * k + member` for the
-        filling number k. The same seed of `porous` or `driven` is another stream of random bits.
+        denser. So a sweep takes another seed for every member, as `SeedSequence(1).spawn(n)` does.
+        The same seed of `porous` or `driven` is another stream of random bits.
 
     Returns
     -------
@@ -72,14 +71,8 @@ def draw_gas(
     places = fields.positions(fields.Size(columns, rows), named) if is_placed else ()
     values = [fields.numbers_at(name, field, places) for name, field in known.items()]
     for name, value in zip((*known, "solid"), (*values, walls)):
-        if value.ndim > 2 or any(
-            have not in (1, want) for have, want in zip(value.shape[::-1], (columns, rows))
-        ):
-            raise Fault(
-                f"the field `{name}` has the shape {value.shape}, and the lattice {rows} rows and"
-                f" {columns} columns"
-            )
-    states = fields.drawn(named, values, (rows, columns), integer("a seed", seed, 0, MOST_SEED))
+        fields.check_spread(name, value, (rows, columns))
+    states = fields.drawn(named, values, (rows, columns), seed_of(seed))
     if (mach := float(np.hypot(values[1], values[2]).max()) / sound_speed(named)) > 1:
         warnings.warn(f"the gas is faster than sound, Mach {mach:.2f}", stacklevel=2)
     cells = np.where(walls, np.uint8(0), states)

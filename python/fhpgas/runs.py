@@ -1,18 +1,15 @@
-"""Runs side by side, what ends them together, and how a run shows its progress."""
+"""Runs side by side, what ends them together, and the bars that count their parts."""
 import concurrent.futures
 import contextlib
 import contextvars
 import functools
-import importlib.util
 import os
-import sys
 import threading
 from collections.abc import Callable, Iterable, Iterator
 from typing import Any
 
 from .fault import Fault
 
-BARS: list[str] = []  # the units of the bars that are shown
 # The cores of a run of `side_by_side`, 0 for any other.
 share = contextvars.ContextVar("share", default=0)
 
@@ -59,41 +56,20 @@ def cores_of_call() -> int:
     return share.get() or (len(affinity(0)) if affinity else os.cpu_count() or 1)
 
 
-def is_watched() -> bool:
-    """Whether a call may show its own progress: standard error is a terminal, no bar is shown, and
-    the call is no run of `side_by_side`."""
-    return sys.stderr.isatty() and not share.get() and not BARS
-
-
-def show_progress(text: str) -> None:
-    """Shows a line on the terminal instead of the one before, if the call is watched. An empty text
-    wipes it."""
-    if is_watched():
-        print(f"\r\033[K{text}", end="", file=sys.stderr, flush=True)
-
-
-def counted(values: Iterable[Any], total: int, unit: str) -> Iterator[Any]:
-    """The values, with a bar of tqdm in a terminal, or in Jupyter if it has ipywidgets, if tqdm is
-    there. A run of `side_by_side` shows none, and what runs below a bar shows no progress of its
-    own."""
-    in_jupyter = "ipykernel" in sys.modules  # where tqdm without widgets warns, and writes a text
-    is_seen = importlib.util.find_spec("ipywidgets") if in_jupyter else sys.stderr.isatty()
-    if not is_seen or share.get() or not importlib.util.find_spec("tqdm"):
-        yield from values
-        return
+def counted(values: Iterable[Any], total: int, unit: str, progress: bool) -> Iterable[Any]:
+    """The values, if progress is asked for with a bar of tqdm."""
+    if not progress:
+        return values
     from tqdm.auto import tqdm
 
-    BARS.append(unit)
-    try:
-        yield from tqdm(values, total=total, unit=unit, leave=False)
-    finally:
-        BARS.remove(unit)
+    return tqdm(values, total=total, unit=unit, leave=False)
 
 
 def side_by_side(
     function: Callable[[Any], Any],
     values: Iterable[Any],
     executor: concurrent.futures.Executor | None = None,
+    progress: bool = False,
 ) -> list[Any]:
     """The results of a function for some values, in their order, computed side by side.
 
@@ -107,6 +83,8 @@ def side_by_side(
     executor : concurrent.futures.Executor, optional
         Such as Dask's `Client.get_executor()` or mpi4py's `MPIPoolExecutor()`, whose workers need
         this package. `ProcessPoolExecutor()` suits functions that compute in Python themselves.
+    progress : bool, optional
+        Whether a bar of tqdm counts the calls.
 
     Returns
     -------
@@ -128,21 +106,22 @@ def side_by_side(
     """
     calls = [functools.partial(alone, function, value) for value in values]
     if executor is not None:
-        return _results([executor.submit(call) for call in calls])
+        return _results([executor.submit(call) for call in calls], progress)
     cores, own = cores_of_call(), Runs()
     workers = max(1, min(len(calls), cores))
     with runs.get().holding(lambda: own), concurrent.futures.ThreadPoolExecutor(workers) as threads:
         try:
-            return _results([threads.submit(call, cores // workers, own) for call in calls])
+            futures = [threads.submit(call, cores // workers, own) for call in calls]
+            return _results(futures, progress)
         except BaseException:
             own.kill()
             raise
 
 
-def _results(futures: list[concurrent.futures.Future[Any]]) -> list[Any]:
+def _results(futures: list[concurrent.futures.Future[Any]], progress: bool) -> list[Any]:
     """What futures return. If one fails, those that did not begin are cancelled."""
     try:
-        for future in counted(_ended(futures), len(futures), "run"):
+        for future in counted(_ended(futures), len(futures), "run", progress):
             future.result()
         return [future.result() for future in futures]
     finally:

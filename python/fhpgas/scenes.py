@@ -10,9 +10,8 @@ import tomllib
 from collections.abc import Iterator
 from typing import Any, NamedTuple
 
-from .fault import Fault, integer
+from .fault import Fault, seed_of
 from .files import read_bytes
-from .limits import MOST_SEED
 from .program import call
 
 HEIGHT = re.compile(rb"^[ \t]*height[ \t]*=[ \t]*(\d+)", re.M)
@@ -157,7 +156,7 @@ def with_seed(scene: Scene, seed: int) -> str:
         raise Fault(
             "another seed would change nothing: `rate` is 0, so nothing is filled at random"
         )
-    return text_of(keys | {"seed": integer("a seed", seed, 0, MOST_SEED)})
+    return text_of(keys | {"seed": seed_of(seed)})
 
 
 def height_of(scene: bytes) -> int:

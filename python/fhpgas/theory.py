@@ -13,8 +13,8 @@ from typing import Any, NamedTuple
 
 import numpy as np
 
-from .boltzmann import collision_matrix
-from .fault import Fault, real
+from .boltzmann import collision_matrix, pair_closure
+from .fault import Fault, integer, real
 from .fields import equilibrium
 from .gases import Array, Gas, array_of, chirality_named, gas_named
 
@@ -121,7 +121,8 @@ def viscosity(gas: str | Gas, filling: Any, chirality: str = "seeded") -> Any:
     Warns
     -----
     Correlated
-        If measured viscosities exceed it by more than a tenth (`is_correlated`).
+        If measured viscosities exceed it by more than a tenth (`is_correlated`), as
+        `pair_viscosity` explains.
 
     Examples
     --------
@@ -138,7 +139,6 @@ class Correlated(UserWarning):
 
 
 # the fillings from .. to .. at which they do so, in shear waves of 128 and 256 rows
-# (docs/EXPERIMENTS.md#viscosity)
 CORRELATED = {
     ("fhp1", "seeded"): (0.0, 0.19),
     ("fhp1", "left"): (0.0, 0.2),
@@ -175,10 +175,65 @@ def _warn(gas: str | Gas, filling: Any, chirality: str) -> None:
     if np.any(is_correlated(gas, filling, chirality)):
         warnings.warn(
             f"measured viscosities of {gas_named(gas)} ({chirality}) exceed Boltzmann's by more"
-            " than a tenth at this filling: docs/EXPERIMENTS.md, Viscosity",
+            " than a tenth at this filling: theory.pair_viscosity calculates by how much",
             Correlated,
             stacklevel=3,
         )
+
+
+def pair_viscosity(
+    gas: str | Gas,
+    filling: float,
+    generations: int,
+    chirality: str = "seeded",
+    triples: float = 1.0,
+    size: int = 128,
+) -> Array:
+    """The kinematic shear viscosity with the correlations of pairs, without a free number.
+
+    A uniform stress decays as `boltzmann.pair_closure` says, which explains `chirality`, `triples`
+    and `size`. It takes the time of `generations`, and `size` squared times that.
+
+    Returns
+    -------
+    array of shape (generations + 1,)
+        The viscosity from the stress up to each generation (`running_viscosity`). It grows as long
+        as pairs still meet.
+
+    Examples
+    --------
+    >>> found = fhpgas.theory.pair_viscosity("fhp1", 0.3, 40, size=64)[-1]
+    >>> round(float(found / fhpgas.theory.viscosity("fhp1", 0.3)), 3)
+    1.04
+    """
+    stress, last = isotropic(gas).velocities.prod(1), integer("generations", generations)
+    pairs = pair_closure(gas, filling, stress, chirality, triples, size)
+    return running_viscosity([next(pairs)[0] @ stress for _ in range(last + 1)])
+
+
+def running_viscosity(stress: Any) -> Array:
+    """The kinematic shear viscosity from a uniform stress xy that decays in a gas at rest, or from
+    the correlation of the stress in its noise, up to each generation: (1/2 + C(1) + .. + C(t)) / 4,
+    where C(t) is the share that is left (M. S. Green, R. Kubo; docs/DERIVATION.md).
+
+    Parameters
+    ----------
+    stress : array of shape (generations + 1, ..)
+        At the generations 0, 1, .., at first not 0.
+
+    Returns
+    -------
+    array of the same shape
+
+    Examples
+    --------
+    >>> fhpgas.theory.running_viscosity([1.0, 0.5, 0.25]).tolist()
+    [0.125, 0.25, 0.3125]
+    """
+    found = array_of("a stress", stress)
+    if found.dtype.kind not in "biuf" or not (found.ndim and found.size and np.all(found[0])):
+        raise Fault(f"a stress that decays is real and at first not 0, not {stress!r}")
+    return np.asarray((np.cumsum(found / found[0], 0) - 1 / 2) / 4)
 
 
 def odd_viscosity(gas: str | Gas, filling: Any, chirality: str) -> Any:

@@ -2,14 +2,17 @@
 whole::
 
     size = fhpgas.Size(100_000, 80_000)
-    tiles = fhpgas.tiles.draw_gas(client, 0.2, east=0.1, size=size, tile=(8192, 4096), seed=1)
+    tiles = fhpgas.tiles.draw_gas(
+        client, 0.2, east=0.1, size=size, tile=(8192, 4096), chirality="left", seed=1
+    )
     later = tiles.run(10_000, margin=256, kept="kept")
     later.blocks(64, 50).plot("speed")
     fhpgas.film("wake.gif", (each.blocks(64, 50) for each in later.every(500, 20)), "speed")
 
 A particle moves at most one row and one column per generation. So a tile with a margin of k cells
-around it is right after k generations, and the result is the whole lattice, bit for bit. A tile
-begins at an even row, because odd rows lie half a cell to the east.
+around it is right after k generations, and the result is the whole lattice, bit for bit. Of cuts
+between rows that is proved (docs/PROVED.md). A tile begins at an even row, because odd rows lie
+half a cell to the east.
 
 The random bits of "seeded" belong to places. A part of a lattice that has whole rows draws those of
 its place, so "seeded" takes tiles of whole rows. There is no `driven`, because its rule chooses
@@ -29,11 +32,11 @@ import numpy as np
 from . import engine, fields
 from .blocks import Blocks
 from .cells import SOLID, codes_of, parts_of
-from .fault import Fault, integer
-from .gases import Array, Gas, chirality_named, gas_named
+from .fault import Fault, integer, seed_of
+from .gases import Array, Gas, chirality_named, gas_named, mask
 from .lattice import Lattice
-from .limits import MOST_BYTES, MOST_SEED, MOST_SIDE, map_bytes
-from .runs import alone, counted
+from .limits import MOST_SIDE
+from .planes import unpacked
 
 MOST_TASKS, OF_A_TILE = 5000, 16  # that wait in the scheduler, and those of a tile and an exchange
 NO_CELLS = np.empty((0, 0), np.uint8)  # by which Dask knows the type without a call
@@ -52,12 +55,13 @@ class Rules(NamedTuple):
 
 
 def _rules(gas: str | Gas, chirality: str, seed: int) -> Rules:
-    return Rules(gas_named(gas), chirality_named(chirality), integer("a seed", seed, 0, MOST_SEED))
+    return Rules(gas_named(gas), chirality_named(chirality), seed_of(seed))
 
 
-@dataclasses.dataclass(frozen=True)
+@dataclasses.dataclass(frozen=True, eq=False)
 class Tiles:
-    """A lattice in tiles. It does not change: `run` returns another.
+    """A lattice in tiles. It does not change: `run` returns another. Tiles are equal if they are
+    the same array of Dask with the same rules and generation.
 
     Parameters
     ----------
@@ -76,6 +80,15 @@ class Tiles:
     cells: Any
     rules: Rules
     generation: int = 0
+
+    def _key(self) -> tuple[Any, ...]:
+        return self.cells.name, self.rules, self.generation
+
+    def __eq__(self, other: object) -> bool:
+        return isinstance(other, Tiles) and self._key() == other._key()
+
+    def __hash__(self) -> int:
+        return hash(self._key())
 
     @property
     def size(self) -> fields.Size:
@@ -131,7 +144,7 @@ class Tiles:
             if done:
                 tiles = tiles.wait() if kept is None else tiles.save(kept)
             tiles = tiles._part(min(span, generations - done), margin)
-        return tiles if kept is None or tiles is self else tiles.save(kept)
+        return tiles if kept is None else tiles.save(kept)
 
     def _part(self, generations: int, margin: int) -> "Tiles":
         tiles = self
@@ -148,11 +161,10 @@ class Tiles:
                 f" {min(sides)}"
             )
         rows, columns = (max(chunks) + 2 * even * (len(chunks) > 1) for chunks in self.cells.chunks)
-        text = 0 if engine.library() else map_bytes(columns, rows)
-        if max(columns, rows) > MOST_SIDE or text > MOST_BYTES:
+        if max(columns, rows) > MOST_SIDE:
             raise Fault(
                 f"a tile with its margins, {columns} x {rows}, is too large: a lattice has at most"
-                f" {MOST_SIDE} columns and rows, and a scene {MOST_BYTES} bytes"
+                f" {MOST_SIDE} columns and rows"
             )
 
     def _step(self, steps: int) -> "Tiles":
@@ -184,7 +196,7 @@ class Tiles:
         is raised."""
         cells = self.client.persist(self.cells)
         futures = distributed.futures_of(cells)
-        for each in counted(distributed.as_completed(futures), len(futures), "tile"):
+        for each in distributed.as_completed(futures):
             if each.status == "error":
                 each.result()
         return dataclasses.replace(self, cells=cells)
@@ -250,15 +262,21 @@ def draw_gas(
     tile: tuple[int, int],
     solid: Any = None,
     gas: str | Gas = "fhp1",
-    chirality: str = "left",
+    chirality: str = "seeded",
     seed: int = 0,
 ) -> Tiles:
     """The tiles of `fhpgas.draw_gas` of the same arguments, drawn by the workers when they are
-    needed. Fields are numbers or functions of the places X, Y, and `solid` is such a function. They
-    are sent to the workers. The lattice is divided evenly, into tiles of at most `tile` columns and
-    rows."""
+    needed. Fields, and `solid` too, are arrays or functions of the places X, Y, which are sent to
+    the workers. The lattice is divided evenly, into tiles of at most `tile` columns and rows, which
+    are whole rows if the chirality is "seeded"."""
     rules, size = _rules(gas, chirality, seed), fields.size_of(size)
-    draw = functools.partial(_drawn, rules, size, (filling, east, north), solid)
+    known = {"filling": filling, "east": east, "north": north}
+    known["solid"] = solid if callable(solid) else mask(False if solid is None else solid)
+    for name, value in known.items():
+        if not callable(value):
+            known[name] = value if name == "solid" else fields.numbers_of(name, value)
+            fields.check_spread(name, known[name], size.shape)
+    draw = functools.partial(_drawn, rules, size, known)
     draw({None: {"array-location": [(0, 1), (0, 1)]}})  # refuses here what workers would refuse
     chunks = _divided(size, tile, rules)
     cells = dask.array.map_blocks(draw, chunks=chunks, dtype=np.uint8, meta=NO_CELLS)
@@ -302,8 +320,8 @@ def _divided(size: fields.Size, tile: Any, rules: Rules) -> tuple[tuple[int, ...
         raise Fault("a tile has at least two rows, because it has an even number of them")
     if rules.gas.draws(rules.chirality) and columns < size.columns:
         raise Fault(
-            f'tiles of "seeded" have whole rows, {size.columns} columns, because their random bits'
-            " belong to places"
+            f'tiles of "seeded" have whole rows, because their random bits belong to places: take'
+            f" tile=({size.columns}, ..), at most {MOST_SIDE} columns, or another chirality"
         )
     sides = [
         -(-length // -(-length // most) // unit) * unit
@@ -315,17 +333,23 @@ def _divided(size: fields.Size, tile: Any, rules: Rules) -> tuple[tuple[int, ...
 # -- what workers compute
 
 
-def _drawn(
-    rules: Rules, size: fields.Size, values: tuple[Any, ...], solid: Any, block_info: Any
-) -> Array:
+def _drawn(rules: Rules, size: fields.Size, known: dict[str, Any], block_info: Any) -> Array:
     """The cells of a block of what `fhpgas.draw_gas` draws."""
     (top, below), (left, right) = block_info[None]["array-location"]
-    X, Y = fields.positions(size, rules.gas, slice(top, below), slice(left, right))
-    numbers = [fields.numbers_at("a field", value, (X, Y)) for value in values]
+    places = fields.positions(size, rules.gas, slice(top, below), slice(left, right))
+
+    def here(value: Any) -> Any:
+        if callable(value):
+            return value(*places)
+        spread = zip(value.shape, (slice(top, below), slice(left, right))[-value.ndim :])
+        return value[tuple(part if side > 1 else slice(None) for side, part in spread)]
+
+    *numbers, solid = (here(value) for value in known.values())
+    numbers = [fields.numbers_of(name, value) for name, value in zip(known, numbers)]
     states = fields.drawn(
         rules.gas, numbers, (below - top, right - left), rules.seed, (top, left), size.columns
     )
-    return np.where(False if solid is None else solid(X, Y), np.uint8(SOLID), states)
+    return np.where(mask(solid), np.uint8(SOLID), states)
 
 
 def _advanced(
@@ -337,14 +361,9 @@ def _advanced(
     block_id: tuple[int, int],
 ) -> Array:
     """The cells of a tile and its margins after some generations, of which the tile is right."""
-    part = rules.lattice(cells, generation)
-    if engine.library():
-        states = engine.run(part, steps, engine.Place(first_rows[block_id[0]]))
-    elif rules.gas.draws(rules.chirality):
-        raise Fault('tiles of "seeded" need the engine of the package in the workers')
-    else:
-        states = alone(lambda lattice: lattice.run(steps), part).states
-    return states | cells & SOLID
+    part, first_row = rules.lattice(cells, generation), first_rows[block_id[0]]
+    planes = engine.advanced(part, steps, 1, first_row=first_row)
+    return unpacked(planes, cells.shape[1]) | cells & SOLID
 
 
 def _sums(rules: Rules, block: tuple[int, int], cells: Array) -> Array:

@@ -227,7 +227,15 @@ class Blocks(Package):
             with self.subTest(value=value):
                 kind, path = type(value), self.room / "kept.nc"
                 dataset = value.to_xarray()
+                for name in (None, "scipy"):
+                    dataset.to_netcdf(self.room / f"{name}.nc", engine=name)
+                    with xarray.open_dataset(self.room / f"{name}.nc") as back:
+                        self.assertEqual(kind.from_xarray(back), value)
                 dataset.to_netcdf(path)
+                self.assertEqual(kind.from_xarray(dataset.transpose("x", "y")), value)
+                part = "y" if kind is fhpgas.Lattice else "x"
+                self.fault("not where these cells are", kind.from_xarray, dataset.sortby("y"))
+                self.fault("this dataset has", kind.from_xarray, dataset.rename({part: "z"}))
                 dataset.to_zarr(self.room / "kept.zarr", mode="w")
                 for back in (xarray.open_dataset(path), xarray.open_zarr(self.room / "kept.zarr")):
                     self.assertEqual(kind.from_xarray(back), value)
@@ -246,8 +254,25 @@ class Blocks(Package):
         self.fault("kept.npz", fhpgas.Lattice.load, self.room / "kept.npz")
         self.fault("is no Blocks: it lacks", fhpgas.Blocks.load, self.room / "lattice.npz")
         self.fault("no.npz", fhpgas.Lattice.load, self.room / "no.npz")
-        (self.room / "cut.npz").write_bytes((self.room / "lattice.npz").read_bytes()[:99])
-        self.fault("cut.npz", fhpgas.Lattice.load, self.room / "cut.npz")
+        whole, cut = (self.room / "lattice.npz").read_bytes(), self.room / "cut.npz"
+        for place in range(0, len(whole), 7):
+            for part in (
+                whole[:place],
+                whole[:place] + bytes([whole[place] ^ 64]) + whole[place + 1 :],
+            ):
+                cut.write_bytes(part)
+                try:
+                    self.assertEqual(fhpgas.Lattice.load(cut), start)  # a date may be any
+                except fhpgas.Fault as fault:
+                    self.assertIn("cut.npz: ", str(fault))
+        many = xarray.concat([each.blocks().to_xarray() for each in start.every(10, 3)], "t")
+        self.assertEqual((many.generation - 10**11).values.tolist(), [0, 10, 20, 30])
+        self.assertEqual(fhpgas.Blocks.from_xarray(many.isel(t=2)), start.run(20).blocks())
+        self.fault("`isel` takes one", fhpgas.Blocks.from_xarray, many)
+        self.assertEqual(
+            (dataset.generation.dtype.kind, sys.getsizeof(summed) > 4 * 8 * 100), ("f", True)
+        )
+        self.assertEqual(start.to_xarray().X.dtype, np.float32)
 
     def test_means_have_their_errors(self):
         """Of 1, 2, 3 and 6 the squared deviations from 3 are 14, so the error is sqrt(14 / 12)."""

@@ -129,7 +129,8 @@ picture particles a.png table --scene a.toml --block 11 9 | no picture of 'parti
 draw discs --disc 64 0 1 | 0 to 63
 draw blocks --block 60 0 5 1 | a block leaves
 draw nozzle --length 65 | 65
-draw polygons --polygon 1 2 3 4 | three corners
+draw polygons --polygon 1 2 3 4 | not [(1.0, 2.0), (3.0, 4.0)]
+picture speed a.png broken.npz | broken.npz: this is no whole .npz file
 draw bitmap no.png | no.png
 draw blocks --filling 0.8 --wind 0.25 | velocity
 draw blocks --width 65536 --height 512 --wind 0.1 | 67108864
@@ -171,6 +172,7 @@ class Commands(unittest.TestCase):
             "cut": table[:-3],
             "empty.toml": AREA.replace("300", "0"),
             "later.toml": cls.start.run(3).scene(),
+            "broken.npz": "PK",
         }.items():
             (cls.room / name).write_text(text)
         os.chdir(cls.room)
@@ -391,22 +393,30 @@ class Commands(unittest.TestCase):
                 )
 
     def test_an_output_that_takes_no_more_is_one_line(self):
-        """It is closed, full, or takes ASCII only."""
+        """It is closed, full at once or after a part, or takes ASCII only. So is memory, and the file of a film."""
+        wide = "draw blocks --width 2048 --wind 0.1"
         (self.room / "letters.toml").write_text('gas = "\u00e9\u2603"\ncells = [".."]\n')
         for words, said in (
             ("draw blocks >&-", "fhpgas-tools: standard output is closed\n"),
             ("--help > /dev/full", "fhpgas-tools: standard output: No space left on device\n"),
             ("explain letters.toml >&2", '`gas` is "\\xe9\\u2603"'),
+            (f"{wide} --height 100 > part", "fhpgas-tools: standard output: File too large\n"),
+            (f"{wide} --height 16000 > /dev/null", "fhpgas-tools: memory refused: Unable to alloc"),
         ):
             with self.subTest(words=words):
+                limits = "ulimit -f 100 -v 400000; export OPENBLAS_NUM_THREADS=1"
                 done = subprocess.run(
-                    ["bash", "-c", f"{sys.executable} -m fhpgas {words}"],
-                    env=os.environ | {"PYTHONIOENCODING": "ascii"},
+                    ["bash", "-c", f"{limits}; {sys.executable} -m fhpgas {words}"],
+                    env=os.environ | {"PYTHONIOENCODING": "ascii", "PYTHONUNBUFFERED": "1"},
                     capture_output=True,
                     text=True,
                 )
                 found = done.returncode, said in done.stderr, "Traceback" in done.stderr
                 self.assertEqual(found, (1, True, False), done)
+        full = unittest.mock.patch("PIL.Image.Image.save", side_effect=OSError(28, "No space left"))
+        with full:
+            found = self.command("film a.toml a.gif --every 5 --until 5")
+        self.assertEqual(found, (1, "", "fhpgas-tools: a.gif: No space left\n"))
 
     def test_drawn_scenes_are_as_asked(self):
         """The second reader counts the same cells as the program, and the scenes have what was
@@ -529,6 +539,10 @@ class Commands(unittest.TestCase):
             process.send_signal(signal.SIGTERM)
             self.assertEqual((process.communicate()[0], process.returncode), (b"", 143))
 
+    def test_a_flow_faster_than_sound_is_told(self):
+        told = self.command("numbers --filling 0.2 --speed 1 --length 9")
+        self.assertIn("faster than sound", told[2])
+
     def test_numbers_of_a_table_are_those_of_its_filling_and_speed(self):
         told = self.printed("numbers --filling 0.2 --speed 0.3 --length 40")
         self.assertRegex(
@@ -550,9 +564,13 @@ class Commands(unittest.TestCase):
                 )
 
     def test_pictures_of_a_scene_of_its_cells_and_of_its_table_are_one(self):
-        high = self.start.run(3).blocks(11, 9).density.max()
+        late = self.start.run(3)
+        high = late.blocks(11, 9).density.max()
+        late.save("late.npz"), late.blocks(11, 9).save("few.npz")
         for words in (
             "later.toml --block 11 9",
+            "late.npz --block 11 9",
+            "few.npz",
             "three --gas fhp1 --size 66 9 --block 11 9",
             "table --scene a.toml --block 11 9",
         ):

@@ -12,7 +12,7 @@ import needs
 needs.libraries()
 
 import numpy as np  # noqa: E402
-from fhpgas import boltzmann, equilibrium, gas_named, theory  # noqa: E402
+from fhpgas import Fault, boltzmann, equilibrium, gas_named, theory  # noqa: E402
 from fhpgas.gases import DRIVES  # noqa: E402
 
 warnings.simplefilter("ignore", theory.Correlated)
@@ -94,6 +94,7 @@ def noise(d):
     is_close(correlations[:3], 3 / 4 * d * (1 - d) * (1 - share(d)) ** np.arange(3))
     chi = d * (1 - d) * (X**2).sum()
     is_close((sum(correlations) - correlations[0] / 2) / chi, viscosity(d), 1e-6)
+    is_close(theory.running_viscosity(correlations)[-1], viscosity(d), 1e-6)
 
 
 def factor(d):
@@ -168,16 +169,141 @@ def slip(gas, d, side, along):
     is_close(theory.slip(gas, d, side, along), K)
 
 
+def short_waves(gas, d, side):
+    """8. What a shear wave loses of its viscosity because the particles along it wait for triples,
+    against a gas in which these undo the staggered sum at once. The modes along a ray."""
+    velocities, nu = gas_named(gas).velocities, theory.viscosity(gas, d, side)
+    number, k = len(velocities), np.pi / 512 / GAS.row_distance
+    staggered = np.where(np.arange(number) < 6, (-1.0) ** np.arange(number), 0)
+    collide = np.eye(number) + boltzmann.collision_matrix(gas, d, side)
+    m, found = 1 - (collide @ staggered)[0], []
+    for left in 0, m - 1:
+        mixed = collide + left * np.outer(staggered, staggered) / 6
+        factors = np.linalg.eigvals(np.exp(-1j * k * velocities[:, 1])[:, None] * mixed)
+        slow = factors[np.argsort(abs(factors - 1))[:3]]
+        found.append(-np.log(max(slow[abs(slow.imag) < 1e-9].real)) / k**2)
+    is_close((found[0] - found[1]) / (-2 * nu**2 * k**2 * (1 / m - 1)), 1, 0.01)
+
+
+def rays():
+    """8. The rates of the modes of a short wave along a ray, in a gas that seldom collides."""
+    d, waves = 0.002, (0, 2 * np.pi / 3 / Y[1])
+    rates = -np.log(abs(np.linalg.eigvals(boltzmann.generation_matrix("fhp1", d, waves))))
+    lam, m = share(d), staggered_share(d)
+    wanted = m / 3, lam / 6, lam / 6, lam / 2 + m / 3, lam / 2 + m / 3, 2 * lam / 3
+    is_close(np.sort(rates) / wanted, 1, 0.02)
+    is_close(share(0.2) / 6, staggered_share(0.2) / 3)
+
+
+def seen_after(changes, d):
+    """9. What the correlations of the pairs in a cell, [6, 6], add to a chance of E: the states in
+    which a head-on pair collides, each with its factor."""
+    weights = np.zeros(3)
+    for axis in range(3):
+        is_on = np.arange(6) % 3 == axis
+        both, one, none = (
+            changes[first][:, second].sum() / (1 + is_same)
+            for first, second, is_same in (
+                (is_on, is_on, True),
+                (is_on, ~is_on, False),
+                (~is_on, ~is_on, True),
+            )
+        )
+        weights[axis] = (1 - d) ** 4 * both - d * (1 - d) ** 3 * one + d**2 * (1 - d) ** 2 * none
+    return -weights[0] + (weights[1] + weights[2]) / 2
+
+
+def pairs(d):
+    """9. The correlations that the first collision makes, Boltzmann's two generations, and the
+    third, in which pairs meet again. What is conserved makes no pairs."""
+    shear, angle = np.array([1, -1 / 2, -1 / 2] * 2), np.pi / 3 * np.arange(6)
+    closure, (i, j) = boltzmann.pair_closure("fhp1", d, shear), np.indices((6, 6))
+    found = [next(closure) for _ in range(4)]
+    is_opposite = (i - j) % 6 == 3
+    made = np.where(is_opposite, -(1 - 2 * d) * shear[i], d * (shear[i] + shear[j])) * share(d)
+    np.fill_diagonal(made, 0)
+    steps = np.array([(0, 1), (1, 0), (1, -1), (0, -1), (-1, 0), (-1, 1)])
+    apart = steps[j] - steps[i]
+    is_close(found[1][1][i, j, apart[..., 0], apart[..., 1]], made)
+    is_close(abs(found[1][1]).sum(), abs(made).sum())
+    is_close(found[1][0], (1 - share(d)) * shear)
+    is_close(found[2][0], (1 - share(d)) ** 2 * shear)
+    turn = angle[:, None] - angle
+    left = np.eye(6) - share(d) / 3 * np.cos(2 * turn) - staggered_share(d) / 6 * np.cos(3 * turn)
+    again = np.zeros((6, 6))
+    for a, b, k, l in np.ndindex(6, 6, 6, 6):
+        if k != l and not (steps[a] + steps[k] - steps[b] - steps[l]).any():
+            again[k, l] += left[k, a] * left[l, b] * made[a, b]
+    is_close(found[3][0][0], (1 - share(d)) ** 3 + seen_after(again, d))
+    for conserved in np.ones(6), X, Y:
+        closure = boltzmann.pair_closure("fhp1", d, conserved, "left", 0.5, 8)
+        *_, (chances, correlated) = (next(closure) for _ in range(9))
+        is_close(chances, conserved)
+        is_close(correlated, 0)
+
+
+def refuses(call, *words):
+    """9. What is no filling, start, side, chance, size, number of generations or stress."""
+    try:
+        call(*words)
+    except Fault:
+        return
+    raise AssertionError("not refused")
+
+
+def spread(gas, d, side):
+    """How a staggered momentum of the rows spreads along them and across: rate / k^2 near its wave
+    vector."""
+    k, edge = 2e-4, np.array([0, np.pi / GAS.row_distance])
+    waves = edge + k * np.eye(2)
+    factors = np.linalg.eigvals(boltzmann.generation_matrix(gas, d, waves, side))
+    slowest = factors[[0, 1], abs(factors + 1).argmin(-1)]
+    return -np.log(-slowest).real / k**2
+
+
+def grown(gas, d, side):
+    """By how much the viscosity grows with the logarithm of time, by momenta and by staggered
+    momenta."""
+    nu, more = theory.viscosity(gas, d, side), theory.bulk_viscosity(gas, d)
+    both = np.array([1 / nu + 1 / (nu + more), 3 / np.sqrt(spread(gas, d, side).prod())])
+    return 3**0.5 * (1 - 2 * d) ** 2 / (3072 * np.pi * d * (1 - d)) * both
+
+
+def tail(gas, d, side):
+    """10. The spread of staggered momenta, exact in FHP-I, and the growth of the viscosity, which
+    the pair closure, that knows no modes, has too."""
+    if gas == "fhp1":
+        is_close(spread(gas, d, side) / theory.viscosity(gas, d, side), [1, 9], 1e-4)
+        return
+    found = theory.pair_viscosity(gas, d, 64, side, size=112)
+    growth, (momenta, staggered) = (found[64] - found[40]) / np.log(64 / 40), grown(gas, d, side)
+    assert abs(growth - momenta - staggered) < 0.1 * growth < growth - momenta, growth
+
+
 GASES = (
     ("fhp1", 0.3, "seeded"),
     ("fhp1", 0.1, "seeded"),
     ("fhp1", 0.3, "left"),
     ("fhp-rest", 0.2, "seeded"),
 )
+NO_PAIRS = (
+    ("fhp1", 1, X),
+    ("fhp1", 0.1, X[:5]),
+    ("fhp1", 0.1, [1j] * 6),
+    ("fhp1", 0.1, X, "up"),
+    ("fhp1", 0.1, X, "left", 2),
+    ("fhp1", 0.1, X, "left", 1, 1),
+)
 CASES = [
-    *((check, d) for check in (sums, shares, sound, shear, noise, factor) for d in FILLINGS),
+    *((check, d) for check in (sums, shares, sound, shear, noise, factor, pairs) for d in FILLINGS),
     *((at_a_wave_number, d) for d in FILLINGS[:4]),
     *((at_the_edge, gas) for gas in ("fhp1", "fhp-rest")),
+    *((short_waves, gas, d, side) for gas, d, side in (*GASES, ("fhp-rest", 0.5, "seeded"))),
+    (rays,),
+    *((refuses, boltzmann.pair_closure, *words) for words in NO_PAIRS),
+    *((refuses, theory.pair_viscosity, *words) for words in (("hpp", 0.1, 9), ("fhp1", 0.1, -1))),
+    *((refuses, theory.running_viscosity, stress) for stress in ([], [0, 1], ["a"], 1)),
+    *((tail, *flow) for flow in (*GASES[:3], ("fhp-rest", 0.15, "seeded"))),
     *((slip, *flow, along) for flow in GASES for along in DRIVES),
 ]
 

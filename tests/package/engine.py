@@ -4,6 +4,8 @@ the whole, and include/fhpgas.h with what the library refuses, with the binding 
 
 import concurrent.futures
 import ctypes
+import functools
+import itertools
 import os
 import pathlib
 import re
@@ -22,9 +24,9 @@ needs.libraries()
 PROGRAM = needs.built_program()
 import fhpgas  # noqa: E402 - finds the program by the lines above
 import numpy as np  # noqa: E402
-from fhpgas import engine, program  # noqa: E402
-
-program.program_path()  # as FHPGAS is now: tests take it away
+from fhpgas import engine, planes  # noqa: E402
+from fhpgas.planes import packed, unpacked  # noqa: E402
+from unittest.mock import DEFAULT  # noqa: E402
 
 if engine.library() is None:
     needs.leave_out("python/fhpgas has no library for this processor: make")
@@ -206,29 +208,17 @@ class Refusals(unittest.TestCase):
             gas, directions = self.gas()
             chirality, sides = self.number("CHIRALITY", range(3), 3, 2**32 - 1), self.size()
             row = self.number("PLACE", [0, 2, 2**32 - 2], 1, 2**32 - 1)
-            column = self.number("PLACE", [0, 32, 2**20], 1, 16, 2**20 + 31)
-            end = column + sides[0]
-            whole = min(2**32 - 1, max(0, end + self.number("PLACE", [0, 1, 2**20], -1)))
-            self.wrong["PLACE"] = bool(row % 2 or column % 32 or end > whole)
             first = 2**64 - 1 - (left := self.number("GENERATIONS", range(3), 0, 1))
             self.wrong["GENERATIONS"], count = (is_late := self.wrong["GENERATIONS"]), left + 1
             generations = count if is_late else left
             seed = int(self.rng.integers(2**64, dtype=np.uint64))
             solid, states = self.planes(1), self.planes(directions)
             known = engine.library().fhpgas_work_words(min(gas, 2), self.width)
-            place = row, column, whole
             work = self.array(np.uint64, known)
             source = gas, chirality, seed, first, generations
-            return *source, *sides, *place, solid, states, work
+            return *source, *sides, row, solid, states, work
 
         self.try_all("advance", draw)
-
-    def test_turn(self):
-        def draw():
-            gas, directions = self.gas()
-            return gas, *self.size(), self.planes(directions)
-
-        self.try_all("turn", draw)
 
     def test_sums(self):
         def draw():
@@ -261,37 +251,49 @@ class Engine(unittest.TestCase):
     def test_cells_are_those_of_the_program(self):
         def is_so(case):
             lattice, generations = case
-            states = lattice.run(generations, stages=2).states
-            return np.array_equal(engine.run(lattice, generations), states)
+            return lattice.run(generations, 1) == fhpgas.run(lattice.scene(), generations, 2)
 
         self.assertEqual(side_by_side(is_so, cases()), [True] * LATTICES)
 
+    def test_strips_are_the_whole(self):
+        """Of two rows or more, with margins of two rows or more, in parts of one generation or more, and cut or not by the length of
+        a call."""
+        rng = np.random.default_rng(8)
+        pools = unittest.mock.Mock(side_effect=concurrent.futures.ThreadPoolExecutor)
+        for lattice, generations in itertools.islice(cases(), 300):
+            alone, workers = lattice.run(generations, 1), int(rng.integers(2, 9))
+            numbers = {"CUT": (1, 9999, 1 << 25), "MARGIN": (2, 4, 16, 32), "SHRINK": (2, 4, 8)}
+            known = {name: int(rng.choice(some)) for name, some in numbers.items()}
+            with unittest.mock.patch.multiple(engine, LEAST=1, **known), unittest.mock.patch(
+                "concurrent.futures.ThreadPoolExecutor", pools
+            ):
+                self.assertEqual(lattice.run(generations, workers), alone)
+        self.assertEqual({call.args[0] for call in pools.call_args_list}, {*range(1, 9)})
+        self.assertRaisesRegex(fhpgas.Fault, "workers is an integer from 1", lattice.run, 1, 0)
+
     def test_a_part_draws_the_bits_of_its_place(self):
-        """Rows and columns that are farther than n from a cut are those of the whole after n generations, and some others are not."""
+        """Rows that are farther than n from a cut are those of the whole after n generations, and some others are not."""
         rng, cells, others = np.random.default_rng(3), 0, 0
         for number in range(CUTS):
-            size = tuple(rng.integers((33, 4), (230, 60)).tolist())
+            size = tuple(rng.integers((1, 4), (230, 60)).tolist())
             whole, n = drawn(rng, size, [*GASES][number % 3], "seeded"), int(rng.integers(1, 9))
-            top, left = 2 * int(rng.integers(size[1] // 2)), 32 * int(rng.integers(size[0] // 32))
-            bottom, right = (
-                int(rng.integers(top, size[1])) + 1,
-                int(rng.integers(left, size[0])) + 1,
-            )
-            part, uncut = (slice(top, bottom), slice(left, right)), (right - left) == size[0]
-            place = engine.Place(top, left, size[0])
+            top = 2 * int(rng.integers(size[1] // 2))
+            bottom = int(rng.integers(top, size[1])) + 1
+            part, uncut = slice(top, bottom), whole.run(n, 1).states
             cut = whole.replace(states=whole.states[part], solid=whole.solid[part])
-            found, wanted = engine.run(cut, n, place), engine.run(whole, n)[part]
+            planes = engine.advanced(cut, n, 1, first_row=top)
+            found, wanted = unpacked(planes, size[0]), uncut[part]
             rows = slice(n * (top > 0), max(0, bottom - top - n * (bottom < size[1])))
-            columns = slice(None) if uncut else slice(n, max(0, right - left - n))
-            np.testing.assert_array_equal(found[rows, columns], wanted[rows, columns], str(cut))
-            cells, others = cells + found[rows, columns].size, others + (found != wanted).sum()
+            np.testing.assert_array_equal(found[rows], wanted[rows], str(cut))
+            cells, others = cells + found[rows].size, others + (found != wanted).sum()
         self.assertGreater(min(cells, others), 10_000)
-        self.assertRaisesRegex(fhpgas.Fault, "even", engine.run, whole, 1, engine.Place(1))
+        with self.assertRaisesRegex(fhpgas.Fault, "even"):
+            engine.advanced(whole, 1, first_row=1)
 
     def test_sums_by_hand(self):
         """East and north-east, west, two that cancel out, none in a solid cell, and one at rest."""
         lattice = fhpgas.Lattice([[3, 8, 9], [0, 0, 64]], [[0, 0, 0], [1, 0, 0]], "fhp-rest")
-        found = engine.sums(lattice, 0, 2, 1).tolist()
+        found = engine.sums(lattice, 2, 1).tolist()
         fluid, particles, px, py = (
             [[2, 1], [1, 1]],
             [[3, 2], [0, 1]],
@@ -304,61 +306,54 @@ class Engine(unittest.TestCase):
         rng = np.random.default_rng(6)
 
         def is_so(case):
-            (lattice, generations), block = case
-            table = lattice.coarse(generations, *block, stages=2)
+            (lattice, _), block = case
+            table = fhpgas.coarse(lattice.scene(), 0, *block)
             wanted = [table.fluid, table.particles, table.px, table.py]
-            return np.array_equal(engine.sums(lattice, generations, *block), wanted)
+            return lattice.blocks(*block) == table and np.array_equal(
+                engine.sums(lattice, *block), wanted
+            )
 
         blocks = rng.choice([1, 2, 3, 8, 9, 63, 64, 65, 400, 4096], (LATTICES, 2)).tolist()
         found = side_by_side(is_so, list(zip(cases(), blocks))[::4])
         self.assertEqual(found, [True] * (LATTICES // 4))
 
-    def test_every_particle_is_turned(self):
-        """To the direction half a turn away. A particle at rest stays."""
-        turn = ctypes.CDLL(engine.library()._name).fhpgas_turn
-        rng = np.random.default_rng(7)
-        for number in range(100):
-            gas, half = [*GASES.items()][number % 3]
-            directions, turned = half, half // 2
-            lattice = drawn(rng, tuple(rng.integers(1, 200, 2).tolist()), gas)
-            words = engine._packed(directions, lattice.states)
-            given = (engine.GASES[gas], *lattice.size, ctypes.c_void_p(words.ctypes.data))
-            self.assertEqual(turn(*given, ctypes.c_size_t(words.size)), 0)
-            states, moving = lattice.states.astype(int), 2 * turned
-            wanted = states & (1 << moving) - 1
-            wanted = (wanted >> turned | wanted << turned) & (
-                1 << moving
-            ) - 1 | states >> moving << moving
-            found = engine._unpacked(directions, words, lattice.states.shape)
-            np.testing.assert_array_equal(found, wanted, str(lattice))
-
     def test_calls_are_cut(self):
         """In parts of one generation and one row at least, which together make the same."""
         lattice = drawn(np.random.default_rng(4), (100, 37), "fhp-rest", "seeded")
-        states, sums, calls = engine.run(lattice, 9), engine.sums(lattice, 9, 7, 5), []
+        late, sums, calls = lattice.run(9), engine.sums(lattice, 7, 5), []
         call = engine._call
         watched = lambda name, *given: (calls.append(name), call(name, *given))[1]
-        for cut, runs, packs in ((1, 9, 37), (100 * 37 * 2, 5, 1), (100 * 10, 9, 4)):
+        for cut, runs in ((1, 9), (100 * 37 * 2, 5), (100 * 10, 9)):
             with self.subTest(cut=cut):
                 calls.clear()
-                with unittest.mock.patch.multiple(engine, CUT=cut, CACHED=cut, _call=watched):
-                    np.testing.assert_array_equal(engine.run(lattice, 9), states)
-                    counts = [calls.count(name) for name in ("advance", "pack")]
-                    self.assertEqual(counts, [runs, packs])
-                    np.testing.assert_array_equal(engine.sums(lattice, 9, 7, 5), sums)
+                with unittest.mock.patch.multiple(engine, CUT=cut, _call=watched):
+                    self.assertEqual(lattice.run(9), late)
+                    self.assertEqual(calls.count("advance"), runs)
+                    np.testing.assert_array_equal(engine.sums(lattice, 7, 5), sums)
 
-    def test_four_threads_have_equal_cells(self):
+    def test_measures_need_the_words_alone(self):
+        """Between the generations of a run no cell is packed or unpacked, and where particles leave walls is found once."""
+        lattice = drawn(np.random.default_rng(4), (100, 37), "fhp-rest", "seeded")
+        with unittest.mock.patch.multiple(planes, packed=DEFAULT, unpacked=DEFAULT) as forms:
+            for name, mock in forms.items():
+                mock.side_effect = {"packed": packed, "unpacked": unpacked}[name]
+            with unittest.mock.patch.object(planes, "_links", side_effect=planes._links) as links:
+                for later in lattice.every(1, 20):
+                    told = later.momentum, later.particles, later.blocks(), later.counts(8, 9)
+                    later.blocks(None, 1), fhpgas.forces(later) if later.generation else told
+        self.assertEqual((forms["unpacked"].call_count, links.call_count), (0, 12))
+        self.assertEqual(forms["packed"].call_count, 3)  # states, solid cells, and the others
+
+    def test_four_calls_in_threads_have_equal_cells(self):
         lattices = [drawn(np.random.default_rng(k), (1000, 300), "fhp-rest") for k in range(4)]
-        alone = [engine.run(lattice, 100) for lattice in lattices]
-        np.testing.assert_array_equal(
-            side_by_side(lambda each: engine.run(each, 100), lattices), alone
-        )
+        alone = [lattice.run(100, 1) for lattice in lattices]
+        self.assertEqual(side_by_side(lambda each: each.run(100, 1), lattices), alone)
 
     def test_an_interrupt_comes_between_calls(self):
         script = (
             "import fhpgas, signal\nsignal.signal(signal.SIGINT,"
             " signal.default_int_handler)\nlattice = fhpgas.draw_gas(0.2, size=fhpgas.Size(4096,"
-            " 1024))\nprint('begun', flush=True)\nfhpgas.engine.run(lattice, 10**6)"
+            " 1024))\nprint('begun', flush=True)\nlattice.run(10**6)"
         )
         words = [sys.executable, "-c", script]
         pipes = dict(stdout=subprocess.PIPE, stderr=subprocess.PIPE, text=True)
@@ -375,23 +370,33 @@ class Examples(unittest.TestCase):
     PAGE = (needs.ROOT / "docs/LIBRARY.md").read_text().split("## From other languages")[1]
 
     def test_in_c(self):
-        """By the commands of its comment, beside the program."""
+        """In a folder as an archive has it, by a user with a prefix of his own."""
         needs.command("cc")
-        source = (needs.ROOT / "examples/profile.c").read_text()
+        needs.command("pkg-config")
+        lines = self.block("bash").replace("cc ", "cc -std=c99 -Wall -Wextra -Wpedantic -Werror ")
         with tempfile.TemporaryDirectory() as room:
-            for name in ("include", "examples", "python"):
+            for name in ("Makefile", "include", "examples", "python", "tools"):
                 os.symlink(needs.ROOT / name, f"{room}/{name}")
-            lines = "\n".join(re.findall(r"^ \* {5}(\S.*?)(?: {3}.*)?$", source, re.M))
-            words = [
-                "bash",
-                "-ec",
-                lines.replace("cc ", "cc -std=c99 -Wall -Wextra -Wpedantic -Werror "),
-            ]
-            printed = subprocess.check_output(words, cwd=room, text=True)
+            os.symlink(PROGRAM, f"{room}/fhpgas")
+            run = functools.partial(
+                subprocess.check_output,
+                cwd=room,
+                text=True,
+                env=os.environ | {"HOME": f"{room}/home", "MAKEFLAGS": "--no-print-directory"},
+            )
+            printed = run(["bash", "-ec", f"{lines}./profile 1000"])
+            own = pathlib.Path(room, "home/fhpgas")
+            needed = run(["ldd", "profile"])
+            self.assertIn(f"libfhpgas.so.{engine.INTERFACE} => {own}/lib", needed)
+            version = run([own / "bin/fhpgas", "--version"]).split()[1]
+            known = run(["pkg-config", "--modversion", own / "lib/pkgconfig/fhpgas.pc"])
+            self.assertEqual(known, f"{version}\n")
+            run(["make", "-s", "uninstall", f"PREFIX={own}"])
+            self.assertEqual([path for path in own.rglob("*") if not path.is_dir()], [])
         y, x = np.mgrid[:40, :200]
         walls = (x // 10 == 5) & (y // 10 == 1)
         start = fhpgas.Lattice(~walls & ((y * 200 + x) * 7 % 5 < 2), walls, seed=1)
-        table = start.coarse(1000, 200, 1, stages=2)
+        table = fhpgas.coarse(start.scene(), 1000, 200, 1)
         wanted = np.hstack([table.fluid, table.particles, table.px])
         self.assertEqual(
             [[*map(int, line.split())] for line in printed.splitlines()], wanted.tolist()
@@ -413,70 +418,11 @@ class Examples(unittest.TestCase):
 
 
 class Choice(unittest.TestCase):
-    """What serves a run, and which library is loaded."""
+    """Which library is loaded."""
 
     def setUp(self):
         self.lattice = drawn(np.random.default_rng(5), (70, 20), "fhp1", "left")
         self.addCleanup(engine.library.cache_clear)
-
-    def by_engine(self, function, **environment):
-        """What a function returns, and whether the library made it."""
-        used = unittest.mock.Mock(side_effect=engine._call)
-        with unittest.mock.patch.object(engine, "_call", used), unittest.mock.patch.dict(
-            os.environ, environment
-        ):
-            if "FHPGAS" not in environment:
-                os.environ.pop("FHPGAS", None)
-            return function(), any(call.args[0] == "advance" for call in used.call_args_list)
-
-    def test_a_plan_or_fhpgas_asks_for_the_program(self):
-        lattice, program = self.lattice, str(PROGRAM)
-        run, is_ours = self.by_engine(lambda: lattice.run(5))
-        self.assertTrue(is_ours)
-        for plan, environment in (
-            ({"stages": 1}, {}),
-            ({"capacity": 8}, {}),
-            ({}, {"FHPGAS": program}),
-        ):
-            with self.subTest(plan=plan, environment=environment):
-                found = self.by_engine(lambda: lattice.run(5, **plan), **environment)
-                self.assertEqual(found, (run, False))
-        coarse, is_ours = self.by_engine(lambda: lattice.coarse(5))
-        self.assertTrue(is_ours)
-        for plan, environment in (({"stages": 1}, {}), ({}, {"FHPGAS": program})):
-            with self.subTest(plan=plan, environment=environment):
-                found = self.by_engine(lambda: lattice.coarse(5, **plan), **environment)
-                self.assertEqual(found, (coarse, False))
-        self.assertEqual(self.by_engine(lambda: [*lattice.every(5, 1)][1]), (run, True))
-
-    def test_a_large_lattice_runs_long_by_the_program(self):
-        """If there is one, it may use four cores, and the lattice fits into a scene."""
-        blank = lambda rows, columns, chirality, gas="fhp1": fhpgas.Lattice(
-            np.zeros((rows, columns), np.uint8), gas=gas, chirality=chirality
-        )
-        large = blank(256, 1024, "seeded")
-        cases = [
-            (large, 400, (16, 4), False),
-            (large, 399, (16, 4), True),
-            (large, 400, (15, 4), True),
-            (large, 400, (16, 3), True),
-            (blank(255, 1024, "seeded"), 10**6, (64, 64), True),
-            (blank(256, 1024, "seeded", "hpp"), 999, (16, 4), True),
-            (blank(256, 1024, "left"), 999, (16, 4), True),
-            (blank(256, 1024, "left"), 1000, (16, 4), False),
-            (blank(8200, 4096, "left"), 1000, (16, 4), True),
-        ]
-        for lattice, generations, (stages, threads), is_ours in cases:
-            plan = stages, 128, threads
-            with self.subTest(lattice=lattice, generations=generations, plan=plan):
-                with unittest.mock.patch.object(engine, "plan", lambda *words: plan):
-                    found = self.by_engine(lambda: engine.serves(lattice, generations))[0]
-                self.assertEqual(found, is_ours, (lattice, generations, plan))
-        missing = unittest.mock.Mock(side_effect=fhpgas.Fault("none"))
-        with unittest.mock.patch.multiple(
-            engine, program_path=missing, plan=lambda *_: (16, 128, 4)
-        ):
-            self.assertTrue(self.by_engine(lambda: engine.serves(large, 10**6))[0])
 
     def test_a_library_is_loaded_where_it_can_run_alone(self):
         loaded = {}
@@ -494,12 +440,12 @@ class Choice(unittest.TestCase):
         self.assertEqual(loaded, names)
         engine.library.cache_clear()
         with unittest.mock.patch.object(engine, "INTERFACE", 0), self.assertWarnsRegex(
-            UserWarning, "left out: it has interface 2, and this package needs 0"
+            UserWarning, "left out: it has interface 3, and this package needs 0"
         ):
             self.assertIsNone(engine.library())
 
     def test_every_level_that_runs_here_has_equal_cells(self):
-        states, flags = engine.run(self.lattice, 50), engine.flags_of_processors()
+        late, flags = self.lattice.run(50), engine.flags_of_processors()
         for level, needed in engine.LEVELS.items():
             with self.subTest(level=level):
                 if needed <= flags:
@@ -507,31 +453,23 @@ class Choice(unittest.TestCase):
                     with unittest.mock.patch.object(
                         engine, "library", lambda: engine._opened(path)
                     ):
-                        np.testing.assert_array_equal(engine.run(self.lattice, 50), states)
+                        self.assertEqual(self.lattice.run(50), late)
 
-    def test_without_library_and_program_one_fault_says_so(self):
-        script = (
-            "import fhpgas\nstart = fhpgas.draw_gas(0.2, size=fhpgas.Size(20,"
-            " 20))\nprint(start.blocks(5, 5).particles.sum())\nfor call in (start.run,"
-            " start.coarse, lambda n: fhpgas.run(start.scene(), n)):\n    try:\n       "
-            " print(call(1))\n    except fhpgas.Fault as fault:\n        print(fault)"
-        )
-        with tempfile.TemporaryDirectory() as room:
-            shutil.copytree(
-                needs.ROOT / "python/fhpgas",
-                f"{room}/fhpgas",
-                ignore=shutil.ignore_patterns("__pycache__", "*.so"),
-            )
-            environment = {"PYTHONPATH": room, "PATH": "/nowhere"}
-            words = [sys.executable, "-c", script]
-            told = subprocess.run(words, env=environment, capture_output=True, text=True, cwd="/")
-        self.assertEqual(told.stderr, "")
-        particles, *faults = told.stdout.splitlines()
-        self.assertEqual(int(particles), fhpgas.draw_gas(0.2, size=fhpgas.Size(20, 20)).particles)
-        self.assertEqual(len({*faults}), 1)
-        self.assertRegex(
-            faults[0], "the program fhpgas is not found.* where the package has no engine"
-        )
+    def test_without_a_library_one_fault_says_so(self):
+        """And what a lattice has is the same."""
+        lattice = drawn(np.random.default_rng(5), (70, 20), "fhp-rest")
+        read = lambda: [lattice.momentum.round(9).tolist()] + [
+            call(*block) for call in (lattice.blocks, lattice.counts) for block in ((7, 5), (8, 9))
+        ]
+        known = read()
+        with unittest.mock.patch.object(engine, "library", lambda: None):
+            for found, wanted in zip(read(), known, strict=True):
+                np.testing.assert_array_equal(found, wanted)
+            for call in lattice.run, lattice.coarse:
+                with self.assertRaisesRegex(
+                    fhpgas.Fault, "no engine for Linux on x86_64, so it runs no lattice"
+                ):
+                    call(1)
 
 
 if __name__ == "__main__":

@@ -21,7 +21,7 @@ needs.built_program()
 sys.path.insert(0, str(needs.ROOT / "experiments"))
 
 import street as street_script
-from fhpgas import Fault, boltzmann, theory
+from fhpgas import Fault, Lattice, boltzmann, theory
 
 LINE = re.compile(r"^(.*?) +measured +(\S+) \+- (\S+)  theory +(\S+)$", re.M)
 ERRORS = 4  # standard errors between measurement and theory, which come from few seeds
@@ -42,6 +42,7 @@ REFUSED = [
     "galilean.py --wave 100",
     "invariants.py --size 33",
     "street.py --radius 0",
+    "street.py --small --scene street.png",
     "sound.py --filling 0.2 0.3",
     "sound.py --filling nan",
     "porous.py --small --share 0.71",
@@ -50,6 +51,7 @@ REFUSED = [
     "collisions.py --gas fhp3",
     "porous.py --settled 1",
     "poiseuille.py --spans 0",
+    "response.py --triples 2",
 ]
 
 
@@ -149,6 +151,15 @@ def remembers(gas):
     stress."""
     names = ["stress after 1", "viscosity", "speed of sound", "damping D"]
     are_as_in_theory(f"green_kubo.py --small --gas {gas}", names, 0.2)
+
+
+def responds(words):
+    """A stress decays as the pair closure says, up to a fifth of its excess over Boltzmann's
+    viscosity, and not as Boltzmann says."""
+    row = printed(f"response.py --small {words}").splitlines()[-1].replace("+-", "").split()
+    *_, above, error, pairs = map(float, row)
+    assert abs(above - pairs) <= ERRORS * error + 0.2 * pairs, row
+    assert above > ERRORS * error, row
 
 
 def swings(gas):
@@ -298,7 +309,10 @@ def solves_no(*words):
 
 
 def street():
-    output = printed("street.py --small")
+    """Tells that no street is expected, and keeps the last lattice."""
+    with tempfile.TemporaryDirectory() as folder:
+        output = printed(f"street.py --small --scene {folder}/street.toml")
+        assert Lattice.load(pathlib.Path(folder, "street.toml")).generation == 1500
     assert (
         "no vortex street is expected below Reynolds 47" in output and "Strouhal" not in output
     ), output
@@ -344,6 +358,8 @@ CASES = [
     (takes_arrays,),
     (warns,),
     *((remembers, gas) for gas in ("fhp1", "fhp-rest")),
+    (responds, "--filling 0.1 --triples 0.5 --until 60"),
+    (responds, "--filling 0.4 --gas fhp-rest --chirality left"),
     *((swings, gas) for gas in ("fhp1", "fhp-rest")),
     *((forgets, gas) for gas in ("fhp1", "fhp-rest")),
     *((is_viscous, *key) for key in FORMULAS),

@@ -20,7 +20,7 @@ from package_case import AREA, GASES, PROGRAM, TABLE, Package, wind
 
 import fhpgas
 import numpy as np
-from fhpgas import Size, program
+from fhpgas import Size, engine, program
 from matplotlib.figure import Figure
 
 CELLS = "generation 1 particles 2\n....02..\n........\n##10....\n"
@@ -53,23 +53,25 @@ start.run(np.arange(2))                             not array([0, 1])
 start.run(-1)
     the number of generations is an integer from 0 to 1000000, not -1
 run(AREA, 1e3)                                      not 1000.0
-start.run(1, stages=65)
+start.run(1, workers=0)                             the number of workers is an integer from 1, not 0
+run(AREA, 1, stages=65)
     the number of stages is an integer from 1 to 64, not 65
-start.every(1, 2, stages=65)
-    the number of stages is an integer from 1 to 64, not 65
-start.driven(20, force=0, capacity=0)               the capacity is an integer from 1 to 1024, not 0
-start.long_run(4, 2, "kept.toml", stages=0)
-    the number of stages is an integer from 1 to 64, not 0
 run(AREA, 1, capacity=1025)
     the capacity is an integer from 1 to 1024, not 1025
-start.coarse(1, 4097)
+coarse(AREA, 1, 4097)
     the number of columns of a block is an integer from 1 to 4096, not 4097
 start.blocks(0)
     the number of columns of a block is an integer from 1, not 0
 start.every(-1, 2)                                  a step is an integer from 1 to 1000000, not -1
 start.save("/no/such/a.toml")                       No such file
-Lattice(np.zeros((8200, 4096), int)).run(1, 1)
-    the scene has 67240082 bytes, and the program reads 67108864
+vast.save("vast.toml")                              save them as .npz
+next(vast.long_run(6, 2, "vast.toml"))              save them as .npz
+next(start.long_run(10**12 + 1, 10**6, "a.npz"))    the last generation is an integer from 0 to 10000
+start.save("a.nc")                                  a.nc: a lattice is saved as .toml or .npz
+start.long_run(4, 2, "a.txt")                       a.txt: a lattice is saved as .toml or .npz
+start.blocks().save("b.csv")                        b.csv: Blocks are saved as .npz
+run(AREA + "#" * 2**26, 1)
+    the scene has 67108943 bytes, and the program reads 67108864
 run("no/such.toml", 1)                              no/such.toml: No such file
 check(AREA.encode())                                not as bytes
 Lattice.load(AREA + "colour = 1")                   scene: unknown key (`explain` says where)
@@ -168,6 +170,7 @@ class Lattices(Package):
             | {"gas": fhpgas.draw_gas, "mean": fhpgas.mean_and_error}
         )
         names |= {"start": fhpgas.Lattice.load(AREA), "solid": wind((64, 47)).solid}
+        names["vast"] = fhpgas.Lattice(np.zeros((8200, 4096), np.uint8))
         for call, part in re.findall(r"^(\S.*?)\s{2,}(.+)$", FAULTS, re.M):
             with self.subTest(call=call):
                 self.fault(part, lambda: eval(call, names))
@@ -180,6 +183,15 @@ class Lattices(Package):
             (lattice.states.tolist(), lattice.size, lattice.particles, lattice.fluid),
             (kept, (4, 3), 2, 12),
         )
+        self.assertEqual((lattice.shape, np.shape(lattice)), ((3, 4),) * 2)
+        self.assertEqual(
+            lattice.planes[:, :, 0].T.tolist(),
+            [[0] * 3, [4, 0, 0], *[[0] * 3] * 2, [0, 0, 2], [0] * 3],
+        )
+        if np.lib.NumpyVersion(np.__version__) >= "2.0.0":
+            self.assertRaises(ValueError, np.array, lattice, float, copy=False)
+        self.assertRaises(ValueError, lattice.__array__, float, copy=False)
+        self.assertIs(lattice.__array__(copy=False), lattice.states)
         self.assertEqual(repr(lattice), "<Lattice fhp1 seeded 4 x 3, generation 7, 2 particles>")
         self.assertIs(np.asarray(lattice), lattice.states)
         self.assertEqual(np.add(lattice, 1).tolist(), (np.array(kept) + 1).tolist())
@@ -188,7 +200,11 @@ class Lattices(Package):
             (blocks := lattice.blocks(2, 2), [lattice.blocks(2, 2)]),
         ):
             for other in (*others, pickle.loads(pickle.dumps(one)), copy.deepcopy(one)):
-                arrays = [value for value in vars(other).values() if isinstance(value, np.ndarray)]
+                arrays = [
+                    getattr(other, name)
+                    for name in ("states", "solid", "px", "planes")
+                    if hasattr(other, name)
+                ]
                 self.assertTrue(arrays and not any(array.flags.writeable for array in arrays))
                 self.assertEqual((other, hash(other)), (one, hash(one)))
                 self.assertRaises(dataclasses.FrozenInstanceError, setattr, other, "generation", 8)
@@ -211,8 +227,9 @@ class Lattices(Package):
         for gas, chirality, size in itertools.product(GASES, CHIRALITIES, SIZES):
             with self.subTest(gas=gas, chirality=chirality, size=size):
                 start = wind(size, gas, chirality)
-                late = start.run(7, stages=3, capacity=2)
+                late = start.run(7)
                 self.assertEqual(late.text(), printed(start, "run", "--generations", 7))
+                self.assertEqual(fhpgas.run(start.scene(), 7, stages=3, capacity=2), late)
                 self.assertEqual(fhpgas.read_cells(late.text(), gas, size, chirality, 3), late)
                 self.assertEqual(
                     [*start.run(3).every(2, 2)], [start.run(3), start.run(3).run(2), late]
@@ -330,7 +347,7 @@ class Lattices(Package):
         self.assertEqual([each.args[1] for each in run.call_args_list], [5] * 40)
 
     def test_a_run_is_resumed_from_what_is_kept(self):
-        start, kept = fhpgas.Lattice.load(AREA), self.room / "kept.toml"
+        start, kept = fhpgas.Lattice.load(AREA), self.room / "kept"
         later = start.run(3)
         self.assertEqual(start.resume(later.text()).run(4), start.run(7))
         self.fault(
@@ -343,6 +360,11 @@ class Lattices(Package):
         self.assertEqual(
             ([*start.long_run(10, 4, kept)], fhpgas.Lattice.load(kept)), ([], start.run(10))
         )
+        with np.load(kept) as found:
+            self.assertEqual(found["generation"], 10)
+        kept = self.room / "kept.toml"
+        self.assertEqual(next(start.long_run(10, 4, kept)), start.run(4))
+        self.assertEqual(fhpgas.check(kept).particles, start.particles)
         later.save(kept)
         for old, new, part in (
             ("66", "64", "size is 66 x 9, and not 64 x 9"),
@@ -367,8 +389,8 @@ class Lattices(Package):
             empty.run(1).text(),
         )
         with unittest.mock.patch.object(
-            fhpgas.lattice,
-            "call",
+            engine,
+            "advanced",
             side_effect=AssertionError("it computes before it tries its file"),
         ):
             self.fault("No such file", start.long_run, 10, 4, "/no/such/kept.toml")
@@ -410,8 +432,8 @@ class Lattices(Package):
         start.run(1).save(link)
         self.assertTrue(link.is_symlink() and target.stat().st_mode & 0o777 == 0o640)
         self.assertEqual(fhpgas.Lattice.load(target), start.run(1))
-        os.mkfifo(room / "fifo.toml")
-        for name in ("fifo.toml", "there", "/dev/null"):
+        os.mkfifo(room / "fifo")
+        for name in ("fifo", "there", "/dev/null"):
             with self.subTest(name=name):
                 for call in (
                     start.save,
@@ -424,7 +446,18 @@ class Lattices(Package):
         fhpgas.side_by_side(lambda lattice: [lattice.save(shared) for _ in range(20)], lattices)
         self.assertIn(fhpgas.Lattice.load(shared), lattices)
         names = {path.name for path in room.rglob("*")}
-        self.assertEqual(names, {"there", "a.toml", "link.toml", "fifo.toml", "shared.toml"})
+        wanted = {"there", "a.toml", "link.toml", "fifo", "shared.toml"}
+        self.assertEqual(names, wanted)
+        with self.assertRaises(KeyboardInterrupt), unittest.mock.patch.object(
+            os, "replace", side_effect=KeyboardInterrupt
+        ):
+            start.save(shared)
+        (room / ".shared.toml.new").write_text("what a killed run left")
+        with unittest.mock.patch.object(os, "fsync", side_effect=os.fsync) as synced:
+            start.save(shared)
+        self.assertTrue(synced.called)
+        self.assertEqual({path.name for path in room.rglob("*")}, wanted)
+        self.assertEqual(fhpgas.Lattice.load(shared), start)
 
     def test_a_refusal_names_its_file(self):
         (self.room / "wrong.toml").write_text("x\n")

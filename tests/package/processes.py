@@ -25,7 +25,7 @@ from package_case import PROGRAM, Package, wind
 import distributed
 import fhpgas
 import numpy as np
-from fhpgas import Size, runs
+from fhpgas import Size
 from matplotlib.figure import Figure
 
 ROUNDS = 6  # of runs that fail, are killed and are interrupted
@@ -37,8 +37,10 @@ def particles_of(seed):
 
 
 def long_run(number):
+    """By the engine, or by the program if the number is odd."""
     start = fhpgas.draw_gas(0.2, size=Size(4096, 64), seed=number)
-    return start.run(10**6, stages=2).particles
+    late = fhpgas.run(start.scene(), 10**6, stages=2) if number % 2 else start.run(10**6)
+    return late.particles
 
 
 def end(number, processes):
@@ -100,6 +102,7 @@ class Processes(Package):
         self.assertEqual(ran(), "generation 1 particles 1\n..01\n")
         for other, part in (
             ("/no/such", "is missing"),
+            ("/tmp", "is no file"),
             ("/bin/false", "does not start"),
             ("/bin/ls", "or is another program"),
         ):
@@ -132,21 +135,27 @@ class Processes(Package):
         with unittest.mock.patch.object(os, "sched_getaffinity", lambda process: {5, 6}):
             self.assertEqual(fhpgas.plan(1024, 1000), (16, 128, 2))
 
-    def test_bars_count_the_parts_of_a_run_in_a_terminal(self):
+    def test_bars_count_the_parts_that_are_asked_for(self):
+        """And nothing else is written, also on a terminal."""
+
         class Terminal(io.StringIO):
             def isatty(self):
                 return True
 
         start = wind((64, 47))
-        for cores, shown in ((0, True), (1, False)):
-            token = runs.share.set(cores)
+        for progress in ({}, {"progress": True}):
             with unittest.mock.patch.object(sys, "stderr", Terminal()) as terminal:
-                self.assertEqual(len([*start.every(1, 3)]), 4)
-                self.assertEqual(len([*start.driven(6, 2, force=0.001)]), 4)
-            runs.share.reset(token)
-            found = [f"0/{n} [00:00<?, ?{unit}/s]" for n, unit in ((3, "part"), (4, "point"))]
-            self.assertEqual([each in terminal.getvalue() for each in found], [shown] * 2)
-        self.assertEqual(runs.BARS, [])
+                self.assertEqual(len([*start.every(1, 3, **progress)]), 4)
+                self.assertEqual(len([*start.driven(6, 2, force=0.001, **progress)]), 4)
+                self.assertEqual(
+                    len([*start.long_run(5, 1, self.room / str(progress), **progress)]), 5
+                )
+                fhpgas.side_by_side(start.run, range(6), **progress)
+                start.run(10, **progress), fhpgas.run(start.scene(), 10)
+            counts = ((3, "part"), (4, "point"), (5, "part"), (6, "run"), (1, "part"))
+            found = [f"0/{n} [00:00<?, ?{unit}/s]" in terminal.getvalue() for n, unit in counts]
+            self.assertEqual(found, [bool(progress)] * 5)
+            self.assertEqual(bool(terminal.getvalue()), bool(progress))
 
     def test_runs_go_side_by_side_in_order(self):
         """In threads without a fork, by executors, and on a Dask cluster."""
@@ -165,8 +174,7 @@ class Processes(Package):
             self.assertEqual(fhpgas.side_by_side(particles_of, range(5), executor), alone)
 
     def test_a_member_that_fails_or_is_killed_and_an_interrupt_end_all_runs(self):
-        """What was raised arrives as itself, and no program goes on. Of some members programs run,
-        of others the library, if it is here."""
+        """What was raised arrives as itself, and no program goes on."""
 
         class Own(Exception):
             """It cannot be pickled."""
@@ -196,13 +204,10 @@ class Processes(Package):
                 (killed, fhpgas.Fault),
                 (interrupted, KeyboardInterrupt),
             ):
-                with unittest.mock.patch.dict(os.environ):
-                    if function is killed or number % 2:
-                        os.environ["FHPGAS"] = str(PROGRAM)
-                    with self.assertRaises(raised) as found, unittest.mock.patch.object(
-                        os, "sched_getaffinity", lambda process: {*range(4)}
-                    ):
-                        fhpgas.side_by_side(function, range(6))
+                with self.assertRaises(raised) as found, unittest.mock.patch.object(
+                    os, "sched_getaffinity", lambda process: {*range(4)}
+                ):
+                    fhpgas.side_by_side(function, range(6))
                 self.assertTrue(raised is not Own or found.exception is own)
                 self.assertEqual(programs_of("ppid", os.getpid()), set())
 
@@ -213,8 +218,8 @@ class Processes(Package):
             "import fhpgas, signal\nsignal.signal(signal.SIGINT, signal.default_int_handler)  # in"
             " the background it is ignored\nsignal.signal(signal.SIGHUP, signal.SIG_DFL)  # and this"
             " by nohup\n"
-            "long = lambda seed: fhpgas.draw_gas(0.2, size=fhpgas.Size(4096, 64),"
-            " seed=seed).run(10**6, 16)\n"
+            "long = lambda seed: fhpgas.run(fhpgas.draw_gas(0.2, size=fhpgas.Size(4096, 64),"
+            " seed=seed).scene(), 10**6, 16)\n"
         )
         cases = itertools.product(
             (signal.SIGINT, signal.SIGTERM, signal.SIGHUP, signal.SIGKILL),
@@ -229,7 +234,6 @@ class Processes(Package):
                     stderr=subprocess.PIPE,
                     text=True,
                     start_new_session=True,
-                    env=os.environ | {"FHPGAS": str(PROGRAM)},
                 ) as process:
                     while not (runs := programs_of("sid", process.pid)):
                         self.assertIsNone(process.poll())

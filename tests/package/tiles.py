@@ -43,7 +43,7 @@ def random_tilings(client, folder):
     """Tilings of small lattices with obstacles: split and run, drawn by the workers, and kept."""
     for number in range(30):
         rng = random.Random(number)
-        gas, chirality = rng.choice(GASES), rng.choice(chiralities())
+        gas, chirality = rng.choice(GASES), rng.choice(("left", "right", "seeded"))
         size = fhpgas.Size(rng.choice([5, 17, 64, 70]), rng.choice([20, 34, 64]))
         tile = rng.choice([16, 35, 100]), rng.choice([10, 16, 21])
         if chirality == "seeded" and gas != "hpp":
@@ -59,6 +59,10 @@ def random_tilings(client, folder):
         generations = rng.randint(1, 12) if min(sides, default=2) > 1 else 0
         later = tiles.run(generations, min(margin, rng.randint(1, 12)), folder, rng.randint(1, 3))
         told(f"tiling {number} is one run", later.gather() == whole.run(generations))
+        told(f"tiling {number} is itself alone", tiles == tiles != later or not generations)
+        told(
+            f"tiling {number} is kept", fhpgas.tiles.load(client, folder).gather() == later.gather()
+        )
         block = rng.randint(1, 20), rng.randint(1, 20)
         told(f"tiling {number} has its blocks", tiles.blocks(*block) == whole.blocks(*block))
         known = dict(size=size, gas=gas, chirality=chirality, seed=number)
@@ -68,11 +72,14 @@ def random_tilings(client, folder):
             fhpgas.tiles.draw_gas(client, 0.3, wave, tile=tile, solid=round_body, **known).gather()
             == fhpgas.draw_gas(0.3, wave(X, Y), solid=round_body(X, Y), **known),
         )
-
-
-def chiralities():
-    """The chiralities that can be tiled here: random bits need the engine."""
-    return ["left", "right", "seeded"] if fhpgas.engine.library() else ["left", "right"]
+        fillings = 0.3 + 0 * Y, 0.1 + 0.001 * X, numpy.full(size.columns, 0.2)
+        told(
+            f"tiling {number} takes arrays",
+            fhpgas.tiles.draw_gas(
+                client, fillings[number % 3], tile=tile, solid=solid, **known
+            ).gather()
+            == fhpgas.draw_gas(fillings[number % 3], solid=solid, **known),
+        )
 
 
 def is_even(tiles, tile):
@@ -107,8 +114,13 @@ def refusals(client, folder):
         return 0.2 + 0 * X
 
     size, tile = fhpgas.Size(64, 48), (32, 16)
-    draw = functools.partial(fhpgas.tiles.draw_gas, client, size=size, tile=tile)
+    draw = functools.partial(fhpgas.tiles.draw_gas, client, size=size, tile=tile, chirality="left")
     tiles = draw(filling)
+    told("equal tiles have one hash", draw(0.2) == draw(0.2) and hash(draw(0.2)) == hash(draw(0.2)))
+    refused("distances as solid cells", lambda: draw(0.2, solid=lambda X, Y: X - 9))
+    refused("a filling of another shape", lambda: draw(numpy.ones((3, 4))))
+    told("no run is kept", draw(0.2).run(0, kept=folder / "none").gather() == draw(0.2).gather())
+    told("and read", fhpgas.tiles.load(client, folder / "none").gather() == draw(0.2).gather())
     refused("a margin larger than a tile", lambda: tiles.run(100, margin=17))
     refused("no interval", lambda: tiles.run(100, 2, folder, 0))
     refused("tiles of one row", lambda: draw(0.2, tile=(64, 1)))
@@ -116,6 +128,9 @@ def refusals(client, folder):
     refused("a velocity that no gas has", lambda: draw(filling, lambda X, Y: 2 + 0 * X))
     for gas in "fhp1", "fhp-rest":
         refused(f"{gas} with random bits", lambda: draw(0.2, gas=gas, chirality="seeded"))
+    usual = functools.partial(fhpgas.tiles.draw_gas, client, 0.2, size=size)
+    refused("random bits unless told", lambda: usual(tile=tile))
+    told("they are drawn", usual(tile=(64, 16)).gather() == fhpgas.draw_gas(0.2, size=size))
     vast = draw(filling, size=fhpgas.Size(140_000, 4), tile=(70_000, 4))
     refused("a tile that no lattice can be", lambda: vast.run(100, 4))
     (folder / "empty").mkdir()
@@ -143,10 +158,12 @@ def printed_examples(client, folder):
 
         size, tile = (numbers(before, 2) for before in (r"Size\(", r"tile=\("))
         (margin,) = numbers("margin=", 1)
-        known = {"size": fhpgas.Size(*size), "tile": tile}
+        known = {"size": fhpgas.Size(*size), "tile": tile, "chirality": "left"}
         fhpgas.tiles.draw_gas(client, 0.2, **known)._check_margin(margin)
         size, tile = fhpgas.Size(*(side // 50 for side in size)), (tile[0] // 50, tile[1] // 50)
-        drawn = fhpgas.tiles.draw_gas(client, 0.2, east=0.1, size=size, tile=tile)
+        told(f"the example of {path} says its chirality", 'chirality="left"' in text)
+        known |= {"size": size, "tile": tile}
+        drawn = fhpgas.tiles.draw_gas(client, 0.2, east=0.1, **known)
         told(
             f"the example of {path} runs",
             drawn.run(12, margin // 50).gather() == drawn.gather().run(12),
@@ -171,8 +188,7 @@ def parts_of(client):
 
 
 def eight_tiles(client, filling):
-    size, side = fhpgas.Size(512, 512), chiralities()[-1]
-    drawn = functools.partial(fhpgas.tiles.draw_gas, client, size=size, chirality=side, seed=3)
+    drawn = functools.partial(fhpgas.tiles.draw_gas, client, size=fhpgas.Size(512, 512), seed=3)
     return drawn(filling, 0.1, tile=(512, 64))
 
 
@@ -218,7 +234,7 @@ def added_workers(client, folder):
 def saved_half(client, folder):
     """Half of a run, saved twice, of which a later client makes the rest."""
     tiles = fhpgas.tiles.draw_gas(
-        client, 0.2, 0.1, size=fhpgas.Size(300, 200), tile=(100, 64), seed=4
+        client, 0.2, 0.1, size=fhpgas.Size(300, 200), tile=(100, 64), chirality="left", seed=4
     )
     half = tiles.run(20, margin=6).save(folder).run(30, margin=8).save(folder)
     told("saved tiles are those that were computed", half.gather() == tiles.gather().run(50))
@@ -236,7 +252,8 @@ def rest_of_a_run(client, folder):
 def little_memory(client, folder):
     """A lattice of 537 million bytes, of which no worker may have more than 450 million."""
     size, tile = fhpgas.Size(32768, 16384), (4096, 1024)
-    tiles = fhpgas.tiles.draw_gas(client, 0.2, size=size, tile=tile, seed=5).wait()
+    known = {"size": size, "tile": tile, "chirality": "left", "seed": 5}
+    tiles = fhpgas.tiles.draw_gas(client, 0.2, **known).wait()
     before = tiles.particles
     tiles = tiles.run(4)
     told(
@@ -272,7 +289,12 @@ def large_area(client, folder):
         return (column >= 1000) & (column < 1400) & (row >= 3000) & (row < 4200)
 
     tiles = fhpgas.tiles.draw_gas(
-        client, full_cells, size=fhpgas.Size(side, side), tile=(4096, 2048), solid=obstacle
+        client,
+        full_cells,
+        size=fhpgas.Size(side, side),
+        tile=(4096, 2048),
+        solid=obstacle,
+        chirality="left",
     ).run(generations)
     told(
         "8192 x 8192 cells have the program's table",
@@ -299,7 +321,6 @@ def main():
         with_workers([large_area])
         with_workers([little_memory], memory=450_000_000)
     left_out = ["the largest lattices for want of memory"] * (not has_memory)
-    left_out += ["random bits for want of the engine"] * (len(chiralities()) < 3)
     return needs.told(COUNTS[True], COUNTS[False], *left_out)
 
 

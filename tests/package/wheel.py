@@ -1,14 +1,16 @@
 #!/usr/bin/env python3
-"""Builds the package's wheel, if the engine is built also without it, or takes the one that is
-named, installs it into an empty folder outside the repository, and runs a command of each kind from
-there: with the program, without one, and on a system that is not Linux. Ends with the counts."""
+"""Builds the package's wheels, or takes the one that is named, and the source distribution, installs each into an empty folder outside the
+repository, and runs all commands, and the examples of the docstrings, from there: the wheel for Linux alone, the one without program and
+engine as on other systems. Ends with the counts."""
 
 import ast
 import os
 import pathlib
+import re
 import subprocess
 import sys
 import tempfile
+import zipfile
 
 sys.path.append(f"{sys.path[0]}/../lib")
 import needs
@@ -22,9 +24,7 @@ TABLE = """\
   col   row    fluid particles         px         py
     0     0       12         8          3          1
 """
-LATE = "import fhpgas; print(fhpgas.draw_gas(0.2, size=fhpgas.Size(64, 36)).run(1).generation)"
-# A command of each kind that the wheel offers, and what it prints or how the file begins that it
-# writes.
+# Commands, and what they print or how the files begin that they write. The first work everywhere, the second want program or engine.
 ALONE = [
     ("fhpgas-tools --version", "fhpgas-tools "),
     ("fhpgas-tools draw discs --width 64 --height 36 --disc 20 16 5 --filling 0.2", "width = 64"),
@@ -38,15 +38,25 @@ ALONE = [
     ("fhpgas-tools page --no-browser", "site/fhpgas/page/fhpgas.html\n"),
     ("python3 -m fhpgas --help", "usage: "),
 ]
-WITH_PROGRAM = [
+BUILT = [
     ("fhpgas-tools picture density c.png scene.toml", {"c.png": b"\x89PNG"}),
     ("fhpgas-tools film scene.toml d.gif --every 2 --until 4", {"d.gif": b"GIF8"}),
     ("fhpgas-tools drive scene.toml 20 10 --flow 0.1", "velocity"),
     ("fhpgas-tools over-time scene.toml 4 2", "generation 4 "),
     ("fhpgas-tools over-seeds scene.toml --seeds 2 --generations 1", "u_error"),
     ("fhpgas-tools long-run scene.toml 4 2 kept.toml", {"kept.toml": b"version"}),
+    ("fhpgas-tools how-long scene.toml 9 --seconds 1", "MLUPS"),
+    ("fhpgas-tools resume cells.toml cells.txt", "generation = 1"),
 ]
+EXAMPLES = """
+import doctest, fhpgas, importlib, numpy, pathlib
+names = {path.stem for path in pathlib.Path(fhpgas.__file__).parent.glob("*.py")} - {"__main__", "tiles"}
+given = {"fhpgas": fhpgas, "np": numpy}
+tried = [doctest.testmod(importlib.import_module(f"fhpgas.{name}"), extraglobs=given) for name in names]
+print(sum(each.attempted for each in tried) > 90, sum(each.failed for each in tried))
+"""
 OLD = "import sys; sys.version_info = (3, 10, 12); sys.argv[0] = {!r}; import fhpgas"
+NOTICES = "LICENSE-MIT", "LICENSE-APACHE", "NOTICES.md"
 counts = {True: 0, False: 0}
 
 
@@ -55,27 +65,22 @@ def check(what, is_so, more=""):
     print("" if is_so else f"FAILED: {what}\n{more}", end="")
 
 
-class Room:
-    """A folder that has the wheel and a few inputs, and nothing of this repository."""
+def pip(*words):
+    subprocess.run([sys.executable, "-m", "pip", *words, "--no-index", "--quiet"], check=True)
 
-    def __init__(self, folder, wheel):
+
+class Room:
+    """A folder that has what pip made of a file, and a few inputs, and nothing of this repository."""
+
+    def __init__(self, folder, file):
         self.folder, self.site = folder, folder / "site"
-        words = [
-            "install",
-            "--root-user-action=ignore",
-            "--no-deps",
-            "--no-index",
-            "--quiet",
-            "--target",
-            self.site,
-            wheel,
-        ]
-        subprocess.run([sys.executable, "-m", "pip", *words], check=True)
-        self.has_engine = any(self.site.glob("fhpgas/libfhpgas-*.so"))
+        words = "install --root-user-action=ignore --no-deps --no-build-isolation --target".split()
+        pip(*words, self.site, file)
         for name, text in {
             "scene.toml": SCENE,
             "wrong.toml": SCENE + "colour = 1\n",
             "cells.txt": CELLS,
+            "cells.toml": 'gas = "fhp1"\ncells = ["..01....", "........", "##20...."]\n',
             "table": TABLE,
         }.items():
             (folder / name).write_text(text)
@@ -84,21 +89,21 @@ class Room:
             "import os\ndel os.memfd_create, os.sched_getaffinity\n"
         )
 
-    def ran(self, words, folders=(), **more):
-        """A command's status, its output and its error output."""
+    def ran(self, words, folders=()):
+        """A command's status, its output and its error output, where nothing but Debian is on the PATH."""
         path = f"{self.site}/bin:{os.path.dirname(sys.executable)}:/usr/bin:/bin"
         places = ":".join(map(str, (*folders, self.site)))
         done = subprocess.run(
             words,
-            env={"PATH": path, "PYTHONPATH": places, "HOME": str(self.folder)} | more,
+            env={"PATH": path, "PYTHONPATH": places, "HOME": str(self.folder)},
             cwd=self.folder,
             capture_output=True,
             text=True,
         )
         return done.returncode, done.stdout, done.stderr
 
-    def works(self, command, wanted, *folders, **more):
-        status, out, err = self.ran(command.split(), folders, **more)
+    def works(self, command, wanted, *folders):
+        status, out, err = self.ran(command.split(), folders)
         files = wanted if isinstance(wanted, dict) else {}
         is_right = status == ("explain" in command) and (bool(files) or wanted in out)
         for name, begins in files.items():
@@ -115,44 +120,76 @@ class Room:
         check(words, status and not out and is_one and why in err.split("\n")[-2], out + err)
 
 
-def tried(room):
-    for command, wanted in ALONE + WITH_PROGRAM:
-        room.works(command, wanted, FHPGAS=str(PROGRAM))
-    elsewhere = room.folder / "elsewhere"
-    for why, *folders in (
-        ["the program fhpgas is not found"],
-        ["which needs Linux", elsewhere],
-    ):
-        for command, wanted in ALONE:
+def tried(room, is_built):
+    """What an installed package does, with and without what only Linux has."""
+    for folders in (), (room.folder / "elsewhere",):
+        for command, wanted in ALONE + BUILT * is_built:
             room.works(command, wanted, *folders)
-        for command, _ in WITH_PROGRAM:
-            room.refuses(command.split(), why, *folders)
-        late = [sys.executable, "-c", LATE]
-        if room.has_engine:
-            check("the engine of the wheel runs a gas", room.ran(late, folders)[:2] == (0, "1\n"))
-        else:
-            room.refuses(late, why, *folders, is_traced=True)
-    plan = [sys.executable, "-c", "import fhpgas; print(fhpgas.plan(640, 9)[1])"]
-    check("a plan needs no program", room.ran(plan, [elsewhere])[:2] == (0, "128\n"))
+        for command, _ in [] if is_built else BUILT:
+            room.refuses(command.split(), "this package has none for Linux on x86_64", *folders)
+    named = {command.split()[1] for command, _ in ALONE + BUILT if "-tools" in command}
+    commands = re.findall(
+        r"^    ([a-z]+(?:-[a-z]+)*) +\S", room.ran(["fhpgas-tools", "--help"])[1], re.M
+    )
+    check("all commands are tried", commands and {*commands} <= named, commands)
+    if is_built:
+        found = room.ran([sys.executable, "-c", EXAMPLES])
+        check("the examples run", found[:2] == (0, "True 0\n"), found)
     for first, is_traced in (("-m", False), ("script.py", True)):
         room.refuses(
             [sys.executable, "-c", OLD.format(first)], "needs Python 3.11", is_traced=is_traced
         )
     ast.parse((room.site / "fhpgas/__init__.py").read_text(), feature_version=(3, 7))
-    check("types are marked", (room.site / "fhpgas/py.typed").exists())
 
 
-def built(folder, *kind):
-    subprocess.run([needs.ROOT / "tools/wheel.sh", folder, *kind], check=True)
-    return next(folder.glob("*.whl"))
+def declared(wheel, is_built):
+    """What a wheel says of itself, and the notices that it has."""
+    with zipfile.ZipFile(wheel) as found:
+        names = found.namelist()
+        info = names[-1].split("/")[0]
+        told = found.read(f"{info}/WHEEL").decode()
+        about = found.read(f"{info}/METADATA").decode()
+        newest = max(
+            [2_017]
+            + [
+                int(major) * 1000 + int(minor)
+                for name in names
+                for major, minor in re.findall(rb"GLIBC_(\d)\.(\d+)", found.read(name))
+            ]
+        )
+    tag = f"manylinux_{newest // 1000}_{newest % 1000}_x86_64" if is_built else "any"
+    check("the name has the system", wheel.name.endswith(f"-py3-none-{tag}.whl"), wheel.name)
+    is_pure = "Root-Is-Purelib: true" in told
+    check("so has the wheel", f"Tag: py3-none-{tag}\n" in told and is_pure != is_built, told)
+    check("it has licences", {f"{info}/{name}" for name in NOTICES} <= {*names}, names)
+    check("and what the page shows", "\nClassifier: " in about and "\n# Luqembisho" in about, about)
+    parts = [name for name in names if name.startswith("fhpgas/licences/")]
+    check("and the notices of the parts", bool(parts) == is_built, names)
+    check("types are marked", "fhpgas/py.typed" in names)
 
 
 def main():
-    has_engine = any((needs.ROOT / "python/fhpgas").glob("libfhpgas-*.so"))
-    for kind in [[], ["any"]] if has_engine and not sys.argv[1:] else [["any"]]:
-        with tempfile.TemporaryDirectory() as name:
-            folder = pathlib.Path(name)
-            tried(Room(folder, sys.argv[1] if sys.argv[1:] else built(folder, *kind)))
+    is_named, script = bool(sys.argv[1:]), needs.ROOT / "tools/wheel.sh"
+    has_engine = is_named or any((needs.ROOT / "python/fhpgas").glob("libfhpgas-*.so"))
+    with tempfile.TemporaryDirectory() as name:
+        top = pathlib.Path(name)
+        for kind in ("built", "any", "source"):
+            (top / kind).mkdir()
+        subprocess.run([script, top / "any", "any"], check=True)
+        (source,), (wheel,) = (top / "any").glob("*.tar.gz"), (top / "any").glob("*.whl")
+        declared(wheel, False)
+        pip("wheel", "--no-deps", "--no-build-isolation", "-w", top / "source", source)
+        with zipfile.ZipFile(wheel) as one, zipfile.ZipFile(top / "source" / wheel.name) as other:
+            check("the source has all", {*one.namelist()} == {*other.namelist()}, other.namelist())
+        tried(Room(top / "source", source), False)
+        if has_engine:
+            wheel = pathlib.Path(sys.argv[-1])
+            if not is_named:
+                subprocess.run([needs.ROOT / "tools/built.sh", top / "made", PROGRAM], check=True)
+                subprocess.run([script, top / "built", top / "made"], check=True)
+                (wheel,) = (top / "built").glob("*.whl")
+            declared(wheel, True)
+            tried(Room(top / "built", wheel), True)
     return needs.told(counts[True], counts[False])
 
 
