@@ -6,34 +6,42 @@
 #   make quick            runs the tests for the time between edits, which prove nothing
 #   make package          runs the tests of the package, the notebook and the page, on the program that FHPGAS names
 #   make test             sets up what is missing (SETUP=no: nothing), proves all from scratch, and runs every test
+#   make install          puts what is built into PREFIX (/usr/local): the program, and the header and the library for C
+#   make uninstall        takes it out again
 #   make page             bundles page/src into page/fhpgas.html, by esbuild
-#   make wheel            packs the Python package into out/, with the engine for Linux, and without it for other systems
+#   make plain            builds fhpgas and the library for C by plain Rust, without the kit and not proved, into out/plain
+#   make wheel            packs the Python package into out/, with program and engine for Linux, and without them for other systems
 #   make archive FILE=F   packs fhpgas, built apart for x86-64-v2, into F, a .tar.gz for machines without the kit
 #   make release          makes out/release with all that is handed out: archive, wheels, page, record, a sheet for a lesson, and their sums
+#                         (DRAFT=yes: without record or reference too)
 #   make clean            removes all that was built
 #
 # A crate is proved again only if the content of what its proof reads changed: kit, line of crates.txt, files, libraries below it.
 SHELL := /bin/bash
 .SHELLFLAGS := -O extglob -euo pipefail -c
-.DEFAULT_GOAL := all
+.DEFAULT_GOAL := $(if $(wildcard crates.txt),all,help)
 .ONESHELL:
 processors := $(shell nproc)
 
 # A proof takes up to 3 GB. There are two more than processors at a time, because the end of a proof is one processor's.
 MAKEFLAGS += --no-print-directory -j$(shell awk -v most=$$(($(processors) + 2)) \
     '/^MemAvailable/ { n = int($$2 / 3e6); print (n < 1 ? 1 : (n > most ? most : n)) }' /proc/meminfo)
-unexport MAKEFLAGS
+unexport MAKEFLAGS MFLAGS
 
-.PHONY: quick package test page archive clean help
+.PHONY: quick package test page plain archive install uninstall clean help
 quick package test: ; @tests/all.sh $@
 page: ; @node page/build.mjs
+plain: ; @plain/build.sh out/plain
+PREFIX ?= /usr/local
+install: ; @tools/install.sh "$(PREFIX)"
+uninstall: ; @tools/install.sh "$(PREFIX)" remove
 clean: ; rm -rf crates/*/out out $(if $(wildcard crates.txt),python/fhpgas/libfhpgas-*.so page/engine.js)
 help: ; @sed -n 's/^#   //p' Makefile
 
 # All below proves and builds. An unpacked archive, in which the rest works too, has no crates.
-ifneq ($(filter-out quick package test page clean help,$(or $(MAKECMDGOALS),all)),)
-CPU := $(if $(filter archive release,$(MAKECMDGOALS)),x86-64-v2,$(shell tools/level))
-out := $(if $(filter archive release,$(MAKECMDGOALS)),out/v2,out)
+ifneq ($(filter-out quick package test page plain install uninstall clean help,$(or $(MAKECMDGOALS),$(.DEFAULT_GOAL))),)
+CPU := $(if $(filter archive release wheel,$(MAKECMDGOALS)),x86-64-v2,$(shell tools/level))
+out := $(if $(filter archive release wheel,$(MAKECMDGOALS)),out/v2,out)
 kit := $(patsubst %/START-HERE.md,%,$(shell rt doc 2>&1 || :))
 
 # The crates in the order in which they begin, with the seconds that one processor takes to prove each: first the ones for which the longest
@@ -121,7 +129,7 @@ $(names):
 	    $(tally) <(printf '%s\n' $(filter $(wanted:%=%:%),$(costs))))
 	echo "$@ proved in $$SECONDS s ($$(wc -l < $(tally)) of $(words $(wanted)), about $$left min left)"
 
-wheel: engine ; @tools/wheel.sh out && tools/wheel.sh out any
+wheel: all ; @tools/built.sh out/built crates/fhpgas/$(out)/fhpgas && tools/wheel.sh out out/built && tools/wheel.sh out any
 archive: $(if $(FILE),all) ; @tools/archive.sh "$(FILE)" crates/fhpgas/$(out)/fhpgas
 release: all ; @tools/release.sh out/release crates/fhpgas/$(out)/fhpgas
 endif

@@ -1,7 +1,7 @@
 /* The flow past a block in a channel: the fluid cells of each row, its particles, and their momentum eastwards.
  *
- *     cc -I include -o profile examples/profile.c python/fhpgas/libfhpgas-x86-64-v2.so -Wl,-rpath,$PWD/python/fhpgas
- *     ./profile 1000                                     after 1000 generations
+ *     cc -o profile examples/profile.c $(pkg-config --cflags --libs fhpgas)     where make install put the library
+ *     ./profile 1000                                                            after 1000 generations
  */
 #include "fhpgas.h"
 #include <stdio.h>
@@ -25,7 +25,7 @@ int main(int count, char **words) {
     if (!solid) return 1;
     done(fhpgas_pack(1, WIDTH, HEIGHT, walls, CELLS, solid, one));
     done(fhpgas_pack(DIRECTIONS, WIDTH, HEIGHT, cells, CELLS, states, all));
-    done(fhpgas_advance(GAS, FHPGAS_SEEDED, SEED, 0, generations, WIDTH, HEIGHT, 0, 0, WIDTH, solid, one, states, all, work, more));
+    done(fhpgas_advance(GAS, FHPGAS_SEEDED, SEED, 0, generations, WIDTH, HEIGHT, 0, solid, one, states, all, work, more));
     int64_t sums[HEIGHT][4]; /* of blocks that are a row each */
     done(fhpgas_sums(GAS, WIDTH, HEIGHT, WIDTH, 1, solid, one, states, all, sums[0], 4 * HEIGHT));
     for (int y = 0; y < HEIGHT; y++) printf("%d %d %d\n", (int)sums[y][0], (int)sums[y][1], (int)sums[y][2]);

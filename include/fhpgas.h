@@ -26,7 +26,7 @@ extern "C" {
 #endif
 
 /* The number of this interface. Another number means that calls, numbers or arrays have another meaning. */
-#define FHPGAS_INTERFACE 2
+#define FHPGAS_INTERFACE 3
 
 /* The gases: FHP-I (6 directions), HPP (4), and FHP with a particle at rest (7). */
 enum { FHPGAS_FHP1 = 0, FHPGAS_HPP = 1, FHPGAS_FHP_REST = 2 };
@@ -40,7 +40,7 @@ enum {
     FHPGAS_GAS = 1,         /* no such gas, or a number of planes that is not 1 to 8 */
     FHPGAS_CHIRALITY = 2,   /* no such source of random bits */
     FHPGAS_SIZE = 3,        /* width or height is not 1 to 65536 */
-    FHPGAS_PLACE = 4,       /* first_row is odd, first_column no multiple of 32, or first_column + width above whole_width */
+    FHPGAS_PLACE = 4,       /* first_row is odd */
     FHPGAS_GENERATIONS = 5, /* first + generations is not below 2^64 */
     FHPGAS_BLOCK = 6,       /* block_width or block_height is 0 */
     FHPGAS_LENGTH = 7,      /* an array has not the length that is asked for */
@@ -73,22 +73,19 @@ uint32_t fhpgas_unpack(uint32_t planes, uint32_t width, uint32_t height, const u
 /* Replaces the states of a lattice of generation `first` by those so many generations later.
  * solid has fhpgas_words(1, width, height) words, states fhpgas_words(fhpgas_directions(gas), width, height), and work, whose content
  * before and after the call means nothing, fhpgas_work_words(gas, width).
- * The lattice may be a part of a whole: its cell (x, y) draws the random bits of the cell (first_column + x, first_row + y) of a lattice of
- * whole_width columns. A lattice that is no part has 0, 0 and its width. The part itself stays periodic with walls, so its cells that are
- * farther than `generations` rows or columns from every cut are those of the whole (tested, not proved).
+ * The lattice may be a part of a whole: whole rows of it, from row first_row on, whose random bits it draws. For a lattice that is no part
+ * first_row is 0. The part itself has walls as any lattice. Its cells with at least `generations` rows of the part between them and each
+ * cut, an end of the part at which the whole goes on, are those of the whole.
  * Refuses with GAS, CHIRALITY, SIZE, PLACE, GENERATIONS, LENGTH. */
 uint32_t fhpgas_advance(uint32_t gas, uint32_t chirality, uint64_t seed, uint64_t first, uint64_t generations, uint32_t width,
-                        uint32_t height, uint32_t first_row, uint32_t first_column, uint32_t whole_width, const uint64_t *solid,
-                        size_t solid_length, uint64_t *states, size_t states_length, uint64_t *work, size_t work_length);
-
-/* Turns every particle of a lattice to the opposite direction. A particle at rest stays. states has the length of fhpgas_advance.
- * Refuses with GAS, SIZE, LENGTH. */
-uint32_t fhpgas_turn(uint32_t gas, uint32_t width, uint32_t height, uint64_t *states, size_t states_length);
+                        uint32_t height, uint32_t first_row, const uint64_t *solid, size_t solid_length, uint64_t *states,
+                        size_t states_length, uint64_t *work, size_t work_length);
 
 /* Sums the cells of a lattice over blocks of block_width columns and block_height rows, from the top left. Blocks at the right and at the
  * bottom are smaller if the lattice ends there. sums gets four numbers per block: its fluid cells, its particles, and the particles' momenta
  * eastwards and northwards in the units of `fhpgas coarse`, by rows of blocks from the top, each from the left. It has
  * 4 * (width / block_width rounded up) * (height / block_height rounded up) numbers, solid and states have the lengths of fhpgas_advance.
+ * Bits of solid cells in states, which fhpgas_advance leaves 0, count as particles.
  * Refuses with GAS, SIZE, BLOCK, LENGTH. */
 uint32_t fhpgas_sums(uint32_t gas, uint32_t width, uint32_t height, uint32_t block_width, uint32_t block_height, const uint64_t *solid,
                      size_t solid_length, const uint64_t *states, size_t states_length, int64_t *sums, size_t sums_length);

@@ -32,12 +32,22 @@ quick() {
     fi
 }
 
-# package: the package, the notebook, the page and the experiments, on the program that FHPGAS names, or on the engine and what make built
+# package: the package, the notebook, the page and the experiments, on the program that FHPGAS names, or on the engine and what make built.
+# Without the kit and a program it is what plain Rust builds.
 package() {
     parts package/engine.py "${package[@]}" package/commands.py package/explanations.py package/wheel.py \
         documents/printed_commands.py package/notebook.py page/browser.py
     ! has node "the page's kernels" || { part node tests/page/kernel.mjs; part node tests/page/model.mjs; }
     parts package/tiles.py package/experiments.py
+}
+
+# plain: builds the sources by plain Rust, without the kit, with every check on, and tries them: the crates' own tests, the program, the
+# library beside the proved one, and what differs
+plain() {
+    has cargo 'plain Rust' || return 0
+    parts plain/stripping.py plain/crates.sh
+    part make -s plain
+    FHPGAS=$PWD/out/plain/fhpgas parts plain/calls.py plain/differences.py program/command_line.py
 }
 
 # gate: proves every crate from scratch, tries the wrong bodies of must-fail/ one by one, and runs the tests and the stored runs of the
@@ -53,7 +63,14 @@ gate() {
 
 case $1 in
     quick) quick ;;
-    package) tests/set_up/install.sh && package ;;
+    package)
+        tests/set_up/install.sh || exit 1
+        if [ -z "${FHPGAS-}" ] && [ -e crates.txt ] && ! command -v rt > /dev/null && ! tools/is_built; then
+            plain
+            export FHPGAS=$PWD/out/plain/fhpgas # the only program that this machine can build
+        fi
+        package
+        ;;
     test)
         unset FHPGAS # what is built here is tried
         tests/set_up/install.sh || exit 1
@@ -67,8 +84,8 @@ case $1 in
         parts program/command_line.py program/help.py documents/version.py program/cells_beside_c.py program/cells_beside_golly.py \
             program/reference_scenes.py program/terminal.py documents/library.py set_up/release.sh program/large_scenes.py \
             program/largest_sizes.py documents/first_change.sh program/refused_memory.py
+        plain
         package
-        FHPGAS=$PWD/crates/fhpgas/out/fhpgas parts "${package[@]}"
         part tests/program/mutated_scenes.py 5000
         mkdir -p out
         tests/set_up/record.py "$room/gate" "$room/parts" "$SECONDS" > out/record

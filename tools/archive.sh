@@ -9,18 +9,19 @@ if [ -z "${1-}" ]; then echo 'usage: make archive FILE=NAME.tar.gz' >&2; exit 2;
 file=$(realpath -- "$1")
 cd "$(dirname "$0")/.."
 program=${2:-crates/fhpgas/out/fhpgas}
-kit=$(dirname "$(rt doc)")
 level=$(cat "${program%/*}/level" 2> /dev/null || echo x86-64-v2) # rt builds for v2, without writing the level down
 version=$($program --version)
 room=$(mktemp -d)
 trap 'rm -rf "$room" "$file.new"' EXIT
 name=${version% (*}
 folder=$room/${name/ /-}-$level
-mkdir -p "$folder/licences/core"
-cp "$program" LICENSE-MIT LICENSE-APACHE README.md CHANGELOG.md CITATION.cff CONTRIBUTING.md Makefile "$folder"
+mkdir "$folder"
+tools/built.sh "$room/built" "$program"
+cp -r "$room"/built/{fhpgas,licences} LICENSE-MIT LICENSE-APACHE README.md CHANGELOG.md CITATION.cff CONTRIBUTING.md Makefile "$folder"
+cp MANIFEST.in pyproject.toml setup.py "$folder"
 cp -r @(docs|examples|experiments|include|notebooks|page|python|scenes|tests) "$folder"
-mapfile -t linked < <(grep -rohP '(\]\(|^\[[^]]+\]: )(\.\./)*\K(bench|crates)/[^)#]+' --include='*.md' "$folder" | sort -u)
-cp -r --parents tools/wheel.sh "${linked[@]}" "$folder"
+mapfile -t linked < <(grep -rohP '(\]\(|^\[[^]]+\]: )(\.\./)*\K(bench|crates|plain)/[^)#]+' --include='*.md' "$folder" | sort -u)
+cp -r --parents tools/{built,install,wheel}.sh "${linked[@]}" "$folder"
 find "$folder" \( -name __pycache__ -o -name out -o -name .mypy_cache -o -name build -o -name '*.egg-info' \) -prune -exec rm -r {} +
 
 # what the tests of these sources printed, and the sum of this build of the program
@@ -31,24 +32,9 @@ else
     echo 'the archive has no record: make test leaves one' >&2
 fi
 
-tools/wheel.sh "$folder" || echo 'the archive has no wheel: apt-get install python3-pip python3-wheel' >&2
+tools/wheel.sh "$folder" "$room/built" || echo 'the archive has no wheel: apt-get install python3-pip python3-wheel' >&2
 
 tools/reference.sh "$folder/docs/reference" || echo 'the archive has no reference: apt-get install python3-sphinx python3-numpydoc' >&2
-
-# the notices of the kit's libraries in the program and in the engine, and of Unicode's data, of which core has tables
-mapfile -t engine < <(sed -n 's/ staticlib:.*//p' crates.txt)
-parts=(fhpgas std "${engine[@]}")
-for ((i = 0; i < ${#parts[@]}; i++)); do
-    part=${parts[i]}
-    for below in $(sed -n "s/^$part\( staticlib\)\?://p" crates.txt) $(sed -n 's/^dep //p' "$kit/rlibs/$part.rlib/format" 2> /dev/null); do
-        case " ${parts[*]} " in *" $below "*) ;; *) parts+=("$below") ;; esac
-    done
-    for notice in "$kit/rattle/$part"/@(LICENSE|LICENCE|COPYING|NOTICE)*; do
-        mkdir -p "$folder/licences/$part"
-        cp "$notice" "$folder/licences/$part"
-    done
-done
-cp "$kit/rattle/unicode/LICENSE-UNICODE" "$folder/licences/core"
 
 cat > "$folder/README" << END
 $version, built for $level
@@ -58,7 +44,7 @@ $version, built for $level
     PYTHONPATH=python python3 -m fhpgas --help
     jupyter notebook notebooks/first_class.ipynb
     page/fhpgas.html, opened in a browser on any system, shows a gas that moves
-    include/fhpgas.h has the calls of the engine in python/fhpgas/libfhpgas-*.so, for programs in C
+    make install PREFIX=\$HOME/fhpgas installs the program, and the header and the library for programs in C
 
 The program needs Linux on x86-64, a processor of that level, and the C library glibc, version
 $(grep -aoP 'GLIBC_\K2[.0-9]+' "$program" | sort -V | tail -n 1) or later. The Python package needs Python 3.11 and numpy, its pictures matplotlib, smoothing and fits

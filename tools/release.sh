@@ -1,16 +1,24 @@
 #!/bin/bash
 # Makes FOLDER anew with all that is handed out: the archive of the built fhpgas, or of another build of it, the Python wheels, the page with
-# its engine, the record of the last `make test`, a sheet for a lesson, the licences, and the sums of all.
+# its engine, the record of the last `make test`, a sheet for a lesson, the licences, and the sums of all. Without the record, or without the
+# reference of the package, there is no release, unless DRAFT=yes.
 set -euo pipefail
 if [ -z "${1-}" ]; then echo 'usage: make release' >&2; exit 2; fi
-rm -rf "$1"
-mkdir -p "$1"
-folder=$(realpath -- "$1")
+folder=$(realpath -m -- "$1")
 cd "$(dirname "$0")/.."
+python=$(tests/lib/needs.py | sed -n 1p)
+
+has() { "${@:2}" 2> /dev/null || [ "${DRAFT-}" = yes ] || { echo "a release has $1, or is made with DRAFT=yes" >&2; exit 1; }; }
+
+has 'the record that make test leaves' test -e out/record
+has 'the reference of the package (apt-get install python3-sphinx python3-numpydoc)' "${python:-python3}" -c 'import sphinx, numpydoc'
+rm -rf "$folder"
+mkdir -p "$folder"
 program=${2:-crates/fhpgas/out/fhpgas}
 version=$("$program" --version | cut -d ' ' -f 2)
-tools/archive.sh "$folder/fhpgas-$version.tar.gz" "$program"
-tools/wheel.sh "$folder"
+archive=$folder/fhpgas-$version-linux-x86-64.tar.gz # fhpgas-VERSION.tar.gz is the name of the package's source
+tools/archive.sh "$archive" "$program"
+tar -xzf "$archive" -C "$folder" --strip-components=1 --wildcards '*/fhpgas-*.whl'
 tools/wheel.sh "$folder" any
 cp page/fhpgas.html docs/NOTICES.md LICENSE-MIT LICENSE-APACHE "$folder"
 sed -E 's/\[([^]]*)\]\([^)]*\)/\1/g' docs/LESSON.md > "$folder/LESSON.md" # without links, because the other documents are in the archive

@@ -16,10 +16,6 @@ LONG = [*MADE, "docs/ANSWERS.md", "docs/PROVED.md", "bench/LOG.md"]  # promises 
 MOST_OF = {"docs/TROUBLE.md": 500, "docs/LESSON.md": 400, "README.md": 950}
 GONE = {  # by docs/GLOSSARY.md each term has one meaning, and stands beside the field's word, in italics
     r"(?<!\*)\bpipelines?\b": "line",
-    r"\blists? of turns\b(?!, the order)": "schedule",
-    r"\bblocks? of (?:64|256|8 KiB|16 KiB)\b": "word, part or chunk",
-    r"\b(?:whole|printed|program's) answers?\b": "output or result",
-    r"\b(?:draws?|drawn) (?:a|the|another) gas\b|\bgas is drawn\b": "lattice",
     r"\bin place of\b": "instead of",
     r"\bhas to\b": "must",
 }

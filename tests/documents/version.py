@@ -13,7 +13,7 @@ import needs
 HOME = needs.ROOT / "crates/gas_tool_cli/src/help.rt"
 PLACES = {  # the file, and what is around the number
     "CITATION.cff": ("version: ", "\n"),
-    "python/pyproject.toml": ('version = "', '"\n'),
+    "pyproject.toml": ('version = "', '"\n'),
     "python/fhpgas/__init__.py": ('__version__ = "', '"\n'),
     "CHANGELOG.md": ("## ", "\n"),
 }

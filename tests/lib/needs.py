@@ -72,8 +72,7 @@ def run_tests():
 
 def built_program(name="fhpgas"):
     """The path of a program: of fhpgas the one that FHPGAS names or an unpacked archive has, of all
-    others the one that make leaves. The programs that a script starts use it too. The package uses
-    its own engine, unless FHPGAS names a program or make would build another."""
+    others the one that make leaves. The programs that a script starts use it too."""
     path = ROOT / f"crates/{name}/out/{name}"
     if name == "fhpgas":
         is_archive = not (ROOT / "crates.txt").exists()

@@ -42,7 +42,11 @@ class Page:
         metrics = {"width": size[0], "height": size[1], "pixelRatio": 2 if has_fingers else 1}
         metrics |= {"touch": has_fingers, "mobile": has_fingers}
         options.add_experimental_option("mobileEmulation", {"deviceMetrics": metrics})
-        self.driver, self.room = webdriver.Chrome(options=options), room
+        self.driver, self.room, self.has_fingers = (
+            webdriver.Chrome(options=options),
+            room,
+            has_fingers,
+        )
         self.driver.set_script_timeout(PATIENCE)
         self.go(after)
 
@@ -50,7 +54,9 @@ class Page:
         self.driver.get("about:blank")
         self.driver.get(f"file://{FILE}{after.replace(' ', '%20')}")
         self.view = self.driver.find_element(By.ID, "view")
-        self.wait("shown.painted > 2")
+        self.wait("shown.painted")
+        if not self.has_fingers:
+            self.click("drawer")
 
     def js(self, text, *values):
         return self.driver.execute_script(NAMES + text, *values)
@@ -81,11 +87,15 @@ class Page:
         ActionChains(self.driver).send_keys(*keys).perform()
 
     def pause(self):
+        """Pauses, and opens the list of all numbers for the hash."""
         if self.js("return shown.isRunning"):
             self.click("play")
-        return self.wait(
+        self.click("numbersAll")
+        found = self.wait(
             "shown.hashes.length && !shown.isRunning && [head.generation, shown.hashes[0]]"
         )
+        self.click("numbersAll")
+        return found
 
     def at(self, x, y):
         """Where a place of the lattice is in the picture."""

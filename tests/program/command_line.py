@@ -18,6 +18,7 @@ import needs
 import second_reader
 
 PROGRAM = needs.built_program()
+PLAIN = needs.ROOT / "out/plain/fhpgas"
 SOMETHING = re.compile(r"(?s).+")
 MOST_CELLS = 400_000  # that the second reader takes
 
@@ -466,7 +467,8 @@ def stored():
 
 
 def version():
-    """The version is cited and has the newest entry of the changes, and the kit is what README names and what proves it, if it is here."""
+    """The version is cited and has the newest entry of the changes, and the kit is what README names and what proves it, if it is here. What
+    plain Rust builds says so instead of the kit."""
     cited = re.search(r"^version: (.*)$", (needs.ROOT / "CITATION.cff").read_text(), re.M).group(1)
     kit = re.search(r"`(rattle-kit-[^`]*)`", (needs.ROOT / "README.md").read_text()).group(1)
     here = (
@@ -478,9 +480,10 @@ def version():
         re.search(rf"^## {re.escape(cited)}\b", (needs.ROOT / "CHANGELOG.md").read_text(), re.M)
         and re.sub(r"^(rattle-kit-\d+)[a-z]* ", r"\1 ", here) == kit
     )
+    build = "plain Rust, checked, not proved" if PROGRAM == PLAIN else kit
     yield [
         "--version"
-    ], "", 0, f"fhpgas {cited} ({kit})\n" if told else "what CHANGELOG and README tell", ""
+    ], "", 0, f"fhpgas {cited} ({build})\n" if told else "what CHANGELOG and README tell", ""
 
 
 def programs():

@@ -1,6 +1,6 @@
 #!/bin/bash
 # Has the model checker spin look for a wake-up that can be lost in a model of how the threads of a line wait (lost_wake_ups.pml), in four
-# short lines, two of which have fewer threads than workers, and tries that it finds the ones of three wrong models. A model is not the
+# short lines, two of which have fewer threads than stages, and tries that it finds the ones of two wrong models. A model is not the
 # program: it is kept like the code of the waiting by hand. Ends with the counts.
 . "$(dirname "$0")/../lib/try.sh"
 has spin 'all' || { tell; exit; }
@@ -19,12 +19,11 @@ loses() {
         spin -run -O2 -m100000 wrong.pml 2>&1 | grep -q 'invalid end state (at depth'
 }
 
-try 'two workers, rows gather, two places' searches "$model"
-try 'two workers, no row gathers, one place' searches "$model" -DPLACES=1 -DENOUGH=1
-try 'three workers on two threads, rows gather, two places' searches "$model" -DWORKERS=3 -DTHREADS=2
-try 'five workers on three threads, no row gathers, one place' searches "$model" -DWORKERS=5 -DTHREADS=3 -DPLACES=1 -DENOUGH=1
+try 'two workers of a stage, two places' searches "$model"
+try 'two workers of a stage, one place' searches "$model" -DPLACES=1
+try 'two workers of two stages, the feeder beside the first, one place' searches "$model" -DSTAGES=2 -DALONE=false -DPLACES=1
+try 'three workers of three stages, the feeder beside the first, two places' searches "$model" -DWORKERS=3 -DSTAGES=3 -DALONE=false
 try 'a thread that does not look again before it parks' loses ':: !announced -> parking[t] = true; announced = true' \
     ':: !announced -> parking[t] = true; asleep[t] = true; !asleep[t]'
-try 'rows that gathered and are not shown before a wait' loses ':: gathered[t] > 0 -> show_rows()' ':: false -> skip'
 try 'a wake that looks whether the thread sleeps already' loses ':: parking[who] ->' ':: asleep[who] ->'
 tell

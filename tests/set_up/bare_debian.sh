@@ -15,7 +15,7 @@ if [ "$1" = umount ]; then
     exit
 fi
 if [ ! -d "$room/home/student" ]; then
-    debootstrap --variant=minbase --include="$(grep -oP 'apt-get install \K[a-z0-9 ]+' README.md | tr ' ' ,)" bookworm "$room" > /dev/null
+    debootstrap --variant=minbase --include="$(grep -oPm 1 'apt-get install \K[a-z0-9 ]+' README.md | tr ' ' ,)" bookworm "$room" > /dev/null
     cp /etc/resolv.conf /etc/hosts "$room/etc" # debootstrap makes neither, and a browser wants localhost
     chroot "$room" useradd -m student
 fi

@@ -3,8 +3,9 @@
 # virtual environment, as requirements.txt pins them, if pip reaches an index. SETUP=no changes nothing. Says what it installs, which Python
 # the tests use, and what is still missing.
 cd "$(dirname "$0")/../.." || exit 1
-tools='python3 shellcheck pyflakes3 black mypy spin bgolly:golly cc:gcc cc:libc6-dev ffmpeg chromium chromedriver:chromium-driver
-    firefox:firefox-esr node:nodejs tsc:node-typescript esbuild wasm-opt:binaryen'
+tools='python3 shellcheck pyflakes3 black mypy spin bgolly:golly cc:gcc cc:libc6-dev pkg-config ffmpeg chromium chromedriver:chromium-driver
+    firefox:firefox-esr node:nodejs tsc:node-typescript esbuild wasm-opt:binaryen rustc:rustc-web cargo:cargo-web'
+crates='arrayvec clap crossbeam-utils rand-chacha rand-pcg thiserror toml' # of which plain Rust takes the sources
 sudo=$([ "$(id -u)" = 0 ] || echo sudo -n)
 log=$(mktemp)
 trap 'rm "$log"' EXIT
@@ -14,6 +15,9 @@ look() {
     { read -r python && read -r has && read -r venv && read -r -a lacks; } < <(tests/lib/needs.py)
     mapfile -t missing < <(
         for tool in $tools; do command -v "${tool%:*}" > /dev/null || echo "${tool#*:}"; done
+        for crate in $crates; do
+            compgen -G "/usr/share/cargo/registry/${crate/rand-/rand_}-[0-9]*" > /dev/null || echo "librust-$crate-dev"
+        done
         [ ${#lacks[@]} = 0 ] || { /usr/bin/python3 tests/lib/needs.py own 2> /dev/null || echo "${lacks[@]}"; } | tr ' ' '\n' |
             sed -n 's/^pillow=/pil=/; s/^\(.*\)==.*/python3-\L\1/p'
     )

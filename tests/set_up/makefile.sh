@@ -6,7 +6,7 @@
 
 top=$room/top kit=$room/kit
 mkdir -p "$kit"/{bin,rlibs,toolchain/bin} "$top"/crates/{low,high,inside,fhpgas}/src "$top"/{python/fhpgas,page}
-cp -r Makefile fhpgas tools "$top"
+cp -r Makefile fhpgas tools include "$top"
 tee "$top"/tools/{archive,release}.sh > /dev/null << 'END'
 #!/bin/sh
 mkdir -p "${1%/*}" && cp "$2" "$1"
@@ -31,8 +31,9 @@ END
 cat > "$kit/toolchain/bin/ld.lld" << 'END'
 #!/bin/bash
 for word; do case $word in -Map=*) echo map > "${word#-Map=}" ;; esac; done
+words=$*
 while [ "$1" != -o ]; do shift; done
-echo "$*" > "$2"
+echo "$words" > "$2"
 END
 cat > "$kit/bin/wasm-opt" << END
 #!/bin/bash
@@ -79,6 +80,8 @@ fails() {
 try 'a missing program is built' proves 'low high inside fhpgas' launch
 try 'each crate is told as it is done' grep -qE '^high proved in [0-9]+ s \(2 of 4, about [0-9]+ min left\)$' "$room/told"
 for level in x86-64-v2 x86-64-v3; do try "the package has the engine for $level" grep -q $level python/fhpgas/libfhpgas-$level.so; done
+try 'the name of the library has the number of the interface' \
+    grep -q "libfhpgas.so.$(sed -n 's/^#define FHPGAS_INTERFACE //p' include/fhpgas.h) " python/fhpgas/libfhpgas-x86-64-v2.so
 try 'it says what the page lacks' grep -q 'page/engine.js is left out: apt-get install binaryen' "$room/told"
 try 'and leaves it out' [ ! -e page/engine.js ]
 echo 1 > "$room/lowers"

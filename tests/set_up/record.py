@@ -1,6 +1,7 @@
 #!/usr/bin/env python3
 """Prints the record of a run of `make test`, of the log of its gate, the lines of its parts and its seconds: what was proved by which kit,
-where each wrong body was refused, what the tests counted, and the checksum of the program. `make archive` packs it."""
+where each wrong body was refused, what the tests counted, the checksums of program and engine, and the verdicts on the engine, which `make`
+builds once for each of its targets. `make archive` packs it."""
 
 import datetime
 import hashlib
@@ -20,7 +21,9 @@ def said_by(*words):
 
 def proofs(log):
     """A line for each crate: its proved functions, and whether this run proved it."""
-    for crate in re.findall(r"^(\w+):", (needs.ROOT / "crates.txt").read_text(), re.M):
+    for crate in re.findall(
+        r"^(\w+)(?: staticlib)?:", (needs.ROOT / "crates.txt").read_text(), re.M
+    ):
         section = re.search(rf"^== {crate}\n(.*?)(?=^== |\Z)", log, re.M | re.S)
         counts = re.search(
             r"^logic=proved functions=\d+(?: axioms=\d+)?", section[1] if section else "", re.M
@@ -33,21 +36,38 @@ def proofs(log):
         yield f"{crate:20} {counts[0] if counts else earlier}"
 
 
+def checksums():
+    """A line for each file that is built."""
+    built = [needs.ROOT / "crates/fhpgas/out/fhpgas"]
+    built += sorted((needs.ROOT / "python/fhpgas").glob("libfhpgas-*.so"))
+    built += (needs.ROOT / "page").glob("engine.js")
+    for path in built:
+        yield f"{path.name:24} SHA-256 {hashlib.sha256(path.read_bytes()).hexdigest()}"
+
+
+def verdicts():
+    """What the builds of the engine said: for each target the axioms that it reaches, and the verdict."""
+    log = (needs.ROOT / "crates/gas_export/out/build.log").read_text()
+    return re.findall(r"^(?:axioms|logic=).*", log, re.M)
+
+
 def main():
     log, parts = (pathlib.Path(word).read_text(errors="replace") for word in sys.argv[1:3])
-    program = needs.ROOT / "crates/fhpgas/out/fhpgas"
     print(f"kit       {said_by('rt', 'version')}")
     changed = " and changes" if said_by("git", "status", "--porcelain") else ""
     print(f"commit    {said_by('git', 'rev-parse', 'HEAD')}{changed}")
     print(
         f"ended     {datetime.datetime.now(datetime.timezone.utc):%Y-%m-%d %H:%M} UTC, after {sys.argv[3]} seconds on {os.cpu_count()} processors"
     )
-    print(f"program   SHA-256 {hashlib.sha256(program.read_bytes()).hexdigest()}")
-    print(f"gate      {log.strip().splitlines()[-1]}\n\nProofs\n")
-    print("\n".join(proofs(log)))
-    print("\nWrong bodies\n")
-    print("\n".join(re.findall(r"must-fail (\w+/.*)", log)))
-    print(f"\nTests\n\n{parts}", end="")
+    print(f"gate      {log.strip().splitlines()[-1]}")
+    for title, lines in {
+        "Checksums": checksums(),
+        "Proofs": proofs(log),
+        "The engine": verdicts(),
+        "Wrong bodies": re.findall(r"must-fail (\w+/.*)", log),
+        "Tests": parts.splitlines(),
+    }.items():
+        print(f"\n{title}\n", *lines, sep="\n")
 
 
 main()
