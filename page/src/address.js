@@ -48,7 +48,7 @@ export function applyState(text) {
   if (state.has("seed")) setControl("developed", false); // an older link
   CONTROLS.forEach(take);
   const field = state.get("field") ?? preset.field;
-  chosen.field = field in FIELDS ? field : preset.field;
+  chosen.field = Object.hasOwn(FIELDS, field) ? field : preset.field;
   if (chosen.field !== field) refused.push(`field=${field}`);
   /** Three numbers, of which the last is a size. */
   const numbers = (key) => {

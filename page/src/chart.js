@@ -42,7 +42,7 @@ export function paintChart(numbers) {
   if (!marks.probe || !samples.length) return;
   setText($("found"), linesOf(numbers).join("\n"));
   const { width, height, context: c } = contextOf($("chart"), true);
-  const box = { left: 58, right: width - 14, top: 10, bottom: height - 24 };
+  const box = { left: 58, right: width - 28, top: 10, bottom: height - 24 };
   const values = samples.flatMap(({ u, v }) => [u, v]);
   const least = Math.min(0, ...values), largest = Math.max(0.01, ...values);
   const step = nice((largest - least) / 2.5), low = Math.floor(least / step), high = Math.ceil(largest / step);

@@ -75,6 +75,7 @@ function press(control, isBack) {
 function isOwn({ tagName, type }, key) {
   if (tagName === "BUTTON" || type === "checkbox") return key === " " || key === "Enter";
   if (tagName === "SELECT") return key !== "Escape";
+  if (tagName === "CANVAS") return /^( |Enter|Arrow)/.test(key);
   return type === "number" || (type === "range" && /^(Arrow|Page|Home|End)/.test(key));
 }
 
@@ -88,6 +89,7 @@ function listen(keys) {
     if (key === "Escape" || (key === "Enter" && focused.type === "number")) return void focused.blur();
     const isUndo = key.toLowerCase() === "z" && hasControl;
     if (isOwn(focused, key) || event.altKey || (hasControl && !isUndo)) return;
+    if (/^[^ ]$/.test(key) && !isUndo && !$("letters").checked) return;
     const id = isUndo ? "undo" : keys.get(key) ?? keys.get(key.toLowerCase()) ?? (/^[>:]$/.test(key) ? "pace" : "");
     if (!id) return;
     event.preventDefault();
@@ -95,6 +97,6 @@ function listen(keys) {
   });
   // a control that the mouse used must not take the keys
   const leave = (kinds) => ({ target }) => isByPointer && target.closest?.(kinds)?.blur();
-  document.addEventListener("click", leave("button"));
+  document.addEventListener("click", leave("button, canvas"));
   document.addEventListener("change", leave("select, input"));
 }

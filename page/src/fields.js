@@ -20,9 +20,10 @@ const ACROSS = 4; // of TimeMean.smooth
 const fromZero = (most) => [0, most / 2, most];
 
 /**
- * The fields, by name: all that there is of each. `fill` writes the value of each block, NaN if it has none.
+ * The fields, by name: all that there is of each. `fill` writes the value of each block, NaN if it has none. `all` is
+ * the largest value, if there is one.
  * @type {Record<string, { key: string, label: string, legend: string, palette: Int32Array[], isSigned: boolean,
- *   ends: (most: number, middle: number) => number[], fill: (means: TimeMean, values: Float64Array) => void }>}
+ *   ends: (most: number, middle: number) => number[], fill: (means: TimeMean, values: Float64Array) => void, all?: number }>}
  */
 export const FIELDS = {
   speed: { key: "1", label: "speed", legend: "speed |u|, cells per generation", palette: SEQUENTIAL, isSigned: false,
@@ -30,7 +31,7 @@ export const FIELDS = {
   vorticity: { key: "2", label: "vorticity", legend: "vorticity, 1/generation: red anticlockwise", palette: RED_BLUE,
     isSigned: true, ends: (most) => [-most, 0, most], fill: vorticity },
   difference: { key: "6", label: "difference", legend: "cells that differ from the gas without the turn",
-    palette: SEQUENTIAL, isSigned: false, ends: fromZero, fill: difference },
+    palette: SEQUENTIAL, isSigned: false, ends: fromZero, fill: difference, all: 1 },
   density: { key: "3", label: "density", legend: "filling d, from its mean", palette: ORANGE_PURPLE, isSigned: true,
     ends: (most, middle) => [-most, middle, most], fill: density },
 };
@@ -174,9 +175,9 @@ export class TimeMean {
 
   /** What is shown of a field: a byte per block, 0 if it is solid, and the largest value of the colours. */
   shown(name) {
-    const { fill, isSigned } = FIELDS[name], { pixels, values } = this;
+    const { fill, isSigned, all } = FIELDS[name], { pixels, values } = this;
     fill(this, values);
-    const most = (this.ranges[name] = rangeOf(values, this.ranges[name]));
+    const most = (this.ranges[name] = all ?? rangeOf(values, this.ranges[name]));
     const zero = isSigned ? 128 : 1, scale = (isSigned ? 127 : 254) / most;
     for (let i = 0; i < values.length; i++) {
       const colour = zero + scale * values[i];

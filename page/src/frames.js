@@ -27,17 +27,14 @@ export class Watched {
     this.stream = new Stream(flow);
   }
 
-  /** The gas goes on beside itself, to be compared. */
-  split(make) {
-    const { kernel, chirality, seed, generation, drive, direction } = this.flow;
-    if (this.twin || direction < 0) return;
-    this.twin = new Flow(copied(kernel, make), { chirality, seed, generation, wind: drive.wind });
-    this.twin.drive.random = drive.random;
-  }
-
+  /** Turns a particle. The gas without this turn goes on beside, to be compared. */
   flip(make, at) {
-    this.split(make);
-    if (this.twin) this.cone = at;
+    const { kernel, chirality, seed, generation, drive, direction } = this.flow;
+    if (direction > 0) {
+      this.twin = new Flow(copied(kernel, make), { chirality, seed, generation, wind: drive.wind });
+      this.twin.drive.random = drive.random;
+      this.cone = at;
+    }
     flipOne(this.flow, at);
   }
 

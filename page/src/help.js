@@ -38,11 +38,12 @@ export const HELP = {
   half: "Shows single cells, and half of a generation: particles collide, then they hop.",
   pace: "How many generations there are in a second, at most.",
   turn: "Turns all particles, so time goes back to the start.",
-  drawer: "Shows or hides the other controls.",
+  drawer: "Shows or hides the other controls.", letters: "Whether single letters, digits and signs are keys.",
 };
 
-/** The numbers, by the beginnings of their names. */
+/** The numbers, by the beginnings of their names, and the picture. */
 const NUMBERS = {
+  "the picture": "Without a mouse: Tab leads to it, arrows move it or a mark, and space uses the tool there.",
   "generation": "How often all particles have collided and hopped.",
   "Re, Reynolds": "g u L / ν: how much stronger a flow of this speed and size is than its friction.",
   "Mach": "A speed as a part of the speed of sound. Above 0.4 the gas is no incompressible fluid.",

@@ -140,7 +140,6 @@ function beginAnew(state) {
   shown.times = [];
   shown.frames.forEach((frame, k) => panes[k].tracers.spread(frame));
   turnedForwards(head());
-  if (!shown.frames.every(({ fluid }) => fluid)) note("All cells are solid: choose more cells, or a smaller obstacle.", "bad", 12);
   fit();
   live.pending = { at: null, probe: null };
   if (probe) setProbe(tell, { at: [probe[0], probe[1]], radius: probe[2] });
@@ -231,15 +230,9 @@ function lookFrom(place) {
   looked();
 }
 
-/** Shows cells of so many pixels, with a place in the middle of the picture. */
-function lookAt(scale, x, y) {
-  const { clientWidth, clientHeight } = view(), high = clientHeight - stripHeight(clientWidth);
-  lookFrom({ scale, x: x - paneWidth(clientWidth) / scale / 2, y: y - high / scale / 2 });
-}
-
 /** Shows single cells, slowly. */
 function near() {
-  lookAt(36, head().width * 0.27, (head().height * head().apart) / 2);
+  closer(Math.max(1, 36 / look.place.scale));
   if (isSlow()) return;
   live.pace = $("pace").value;
   setControl("pace", "1 s");
@@ -257,14 +250,18 @@ function whole() {
 /** Shows the whole lattice, from the top of the picture. */
 function fit() {
   const { clientWidth, clientHeight } = view(), { width, height, apart } = head();
-  const high = clientHeight - stripHeight(clientWidth), wide = paneWidth(clientWidth) - 4;
-  const scale = Math.min(wide / (width + 0.5), (high - 8) / (height * apart), 150);
-  lookAt(scale, (width - 0.5) / 2, Math.max(((height - 1) * apart) / 2, (high / 2 - 4) / scale - apart / 2));
+  const high = clientHeight - stripHeight(clientWidth), wide = paneWidth(clientWidth);
+  const scale = Math.min((wide - 4) / (width + 0.5), (high - 8) / (height * apart), 150);
+  const y = Math.max(((height - 1) * apart - high / scale) / 2, -4 / scale - apart / 2);
+  lookFrom({ scale, x: (width - 0.5 - wide / scale) / 2, y });
   look.isWhole = true;
 }
 
+/** Zooms about the middle of what is seen of the lattice. */
 function closer(factor) {
-  zoom(factor, { x: view().clientWidth / 2, y: view().clientHeight / 3 });
+  const { clientWidth, clientHeight } = view(), { height, apart } = head(), { y, scale } = look.place;
+  const high = Math.min(clientHeight - stripHeight(clientWidth), (height * apart - y) * scale);
+  zoom(factor, { x: paneWidth(clientWidth) / 2, y: high / 2 });
   looked();
 }
 
@@ -443,7 +440,10 @@ const acts = {
     tellNumbers(0);
   },
   back: () => back("back"),
-  play: () => go(!shown.isRunning),
+  play: () => {
+    hideNote();
+    go(!shown.isRunning);
+  },
   step,
   half: halfStep,
   pace: () => go(shown.isRunning),

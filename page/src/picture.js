@@ -67,7 +67,7 @@ function paintMarks(c, { mark, generation, width, height, apart }, scale) {
   }
   // nothing is faster than a cell per generation: what a turned particle can have changed lies in this circle
   const reach = mark && { at: mark.at, radius: Math.abs(generation - mark.generation) + 1.5 };
-  for (const disc of [marks.probe, marks.touched]) if (disc) paintDisc(c, scaled(disc.at), disc.radius * scale);
+  for (const disc of [marks.probe, marks.touched, marks.cursor]) if (disc) paintDisc(c, scaled(disc.at), disc.radius * scale);
   if (!reach || reach.radius >= width) return;
   within(c, -scale, -scale, (width + 1) * scale, (height * apart + 1) * scale, () => {
     for (const turn of [-1, 0, 1]) { // it goes on at the other end

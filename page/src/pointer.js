@@ -1,6 +1,7 @@
-// Mouse and fingers on the picture: one draws or moves, two zoom.
+// Mouse and fingers on the picture: one draws or moves, two zoom. Keys do the same.
 import { GAP, $, amount, chosen, look, marks, paneWidth, shown, view } from "./state.js";
 
+const ARROWS = { ArrowLeft: [-1, 0], ArrowRight: [1, 0], ArrowUp: [0, -1], ArrowDown: [0, 1] };
 const FINGER = 12; // pixels that the first of two fingers may move before the second comes
 
 const gesture = {
@@ -106,4 +107,23 @@ export function listenToPointers({ tell, looked, repaint, hideNote }) {
     zoom(Math.exp(-event.deltaY / 400), pointOf(event));
     looked();
   }, { passive: false });
+  // arrows move the picture, or a mark at which Space or Enter use the tool
+  canvas.onkeydown = ({ key, shiftKey }) => {
+    const [x, y] = ARROWS[key] ?? [0, 0], far = shiftKey ? 4 : 24, { scale } = look.place;
+    const middle = { x: paneWidth(canvas.clientWidth) / 2, y: canvas.clientHeight / 3 };
+    if (!shown.frames.length || (!(x || y) && key !== " " && key !== "Enter")) return;
+    const [east, south] = marks.cursor?.at ?? placeOf(middle), isStroke = chosen.tool === "draw" || chosen.tool === "erase";
+    if (chosen.tool === "move") {
+      zoom(1, { x: far * x, y: far * y }, { x: 0, y: 0 });
+      return looked();
+    }
+    marks.cursor = { at: [east + (x * far) / scale, south + (y * far) / scale], radius: amount("brush") };
+    if (x || y) repaint();
+    else if (isStroke) draw(marks.cursor.at, true);
+    else use(marks.cursor.at);
+  };
+  canvas.onblur = () => {
+    marks.cursor = null;
+    repaint();
+  };
 }

@@ -58,6 +58,7 @@ export function drawn(make, start) {
   flow.cells.fill(states);
   if (shape === "sound") dense(flow, { at: [width / 2, tall / 2], radius });
   flow.begin();
-  flow.notes = isDeveloped && !developed ? ["No such flow is kept as it is once developed, so this one begins fresh."] : [];
+  flow.notes = states.every((state) => state === SOLID) ? ["All cells are solid: choose more cells, or a smaller obstacle."]
+    : isDeveloped && !developed ? ["No such flow is kept as it is once developed, so this one begins fresh."] : [];
   return flow;
 }

@@ -27,6 +27,7 @@ export const motion = { phase: 0, isOn: false, begun: 0, span: 0 };
 export const marks = {
   pieces: /** @type {Piece[]} */ ([]), // of a stroke that the worker does not have yet
   touched: /** @type {Disc | null} */ (null), // where a tool was used
+  cursor: /** @type {Disc | null} */ (null), // of the keys
   probe: /** @type {Disc | null} */ (null),
   samples: /** @type {import("./probe.js").Sample[]} */ ([]),
 };

@@ -20,19 +20,19 @@ export function paintStrip(c, { width, top, stage }) {
   line(c, [[14, top + 16], [end, top + 16]], theme.ink, 3);
   for (const x of [14, end]) line(c, [[x, top + 10], [x, top + 22]], theme.ink, 3);
   write(c, `${count(cells)} cell${cells > 1 ? "s" : ""}`, end + 8, top + 22, { font: "600 15px" });
-  within(c, 0, top, isNarrow ? width : left - 12, 62, () => paintWords(c, end + 100, top, stage, isNarrow));
+  within(c, 0, top, isNarrow ? width : left - 12, 62, () => paintWords(c, end + 100, top, stage, width));
   paintLegend(c, head(), left, isNarrow ? top + 50 : top, bar);
 }
 
-function paintWords(c, x, top, stage, isNarrow) {
-  const { u, wind, direction, cells, width, height, generation } = head();
+function paintWords(c, x, top, stage, wide) {
+  const isNarrow = wide < 560, { u, wind, direction, cells, width, height, generation } = head();
   const sides = ({ gas, chirality }) => (gas === "hpp" || isNarrow ? "" : `, pairs turn ${SIDES[chirality]}`);
   const arrow = Math.abs(u) < 0.005 && !wind ? "" : u < 0 ? "← wind" : "wind →";
   const way = [arrow, direction > 0 ? "" : isNarrow ? "back" : "on the way back"];
-  if (cells) write(c, `${stage}: orange particles collide`, x, top + 22, { font: "14px" });
+  if (cells) write(c, isNarrow ? stage : `${stage}: orange particles collide`, x, top + 22, { font: "14px" });
   else write(c, way.filter(Boolean).join(", "), x, top + 22, { font: "600 15px" });
-  const gas = each((one) => one.gas + sides(one)), filling = each(({ middle }) => middle.toFixed(3));
-  const when = isNarrow ? "" : `, generation ${count(generation)}`;
+  const gas = each((one) => one.gas + sides(one)), filling = each(({ middle, fluid }) => (fluid ? middle.toFixed(3) : "–"));
+  const when = wide < 900 ? "" : `, generation ${count(generation)}`;
   write(c, `${gas}, d = ${filling}, ${width} × ${height} cells${when}`, 14, top + 48, { font: "14px" });
 }
 

@@ -73,6 +73,7 @@ export const tableOf = (acts) => /** @type {any} */ ([
     half("v", "film", "film", acts.film, { isPressed: isFilming, text: () => (isFilming() ? "stop" : "film") }),
     half("8", "picture", "picture", acts.picture),
     half("9", "link", "link", acts.link),
+    check("F4", "letters", "letters", undefined, { attributes: { checked: "" } }),
     button("=", "numbersAll", "all numbers", acts.numbers, { style: "full", isPressed: () => !$("all").hidden })] },
   { title: "", place: "transport", controls: [
     button("ArrowLeft", "back", "1 back", acts.back),

@@ -46,7 +46,7 @@ export class Tracers {
     for (const place of this.places.slice(0, (width * height * apart * scale * scale) / ROOM)) {
       const [u, v] = velocityAt(frame, place), [x, y] = [place[0] * scale, place[1] * scale];
       if (!(Math.hypot(u, v) > STILL)) continue;
-      c.moveTo(Math.max(0, x - u * long), y - v * long);
+      c.moveTo(Math.max(0, Math.min(width * scale, x - u * long)), y - v * long);
       c.lineTo(x, y);
     }
     Object.assign(c, { strokeStyle: theme.ink, lineWidth: 1.6, lineCap: "butt", globalAlpha: 0.75 });

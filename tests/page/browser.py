@@ -305,17 +305,29 @@ def keyboard(page):
         page.js("return $('scene').value === 'vortex street' && $('film').textContent === 'filmv'"),
     )
     page.wait(f"shown.serial > {serial}")
-    page.js("document.activeElement.blur()")
+    page.go(QUICK), page.js("view.focus()")
+    solid = page.wait("head.generation > 5 && head.width * head.height - head.fluid")
+    page.key("d", Keys.ARROW_UP, Keys.SPACE)
+    page.wait(f"head.width * head.height - head.fluid > {solid} + 300")
+    check("keys draw on the focused picture", page.js("return shown.isRunning && marks.cursor"))
+    page.key(Keys.F4, "e")
+    check("letters are no keys if one wants", page.js("return chosen.tool") == "draw")
+    page.js("document.activeElement.blur()"), page.key(Keys.F4)
 
 
 def address(page):
     """The address keeps the state. Controls have names and keys of their own. A page that nobody sees rests."""
-    page.go("#field=x&seed=1e22&at=5&probe=1")
+    page.go("#field=__proto__&seed=1e22&at=5&probe=1")
     told = page.js("return live.notes.at(-1)")
     check(
         "wrong addresses end in the default with a word",
-        all(one in told for one in ("field=x", "seed=1e22", "at=5", "probe=1")),
+        all(one in told for one in ("field=__proto__", "seed=1e22", "at=5", "probe=1")),
         told,
+    )
+    edges = "return ['note', 'scene', 'numbers'].map((id) => $(id).getBoundingClientRect()).flatMap(({ left, right }) => [left, right])"
+    left, right, _, first, last, _ = page.js(edges)
+    check(
+        "which covers the sentence only", first <= left < right <= last, (first, left, right, last)
     )
     check("which runs", page.wait("head.generation > 20 && location.hash.includes('seed=1&')"))
     page.choose("change", scene="porous medium"), page.wait("head.wind === 0.04")

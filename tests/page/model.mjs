@@ -167,6 +167,8 @@ tried("a cone begins anew", () => {
   watched.flip(make, [60, 30]);
   watched.advance(20);
   check("a cone grows", unlike() > 20, unlike());
+  watched.flip(make, [100, 30]);
+  check("a second particle has a cone of its own", unlike() === 1, unlike());
   [watched.twin] = [null, flow.turn()];
   watched.renew(make);
   check("on the way back there is none, and it is said", watched.twin === null && flow.notes.at(-1)?.startsWith("On the way back"));
