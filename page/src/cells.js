@@ -48,9 +48,16 @@ export class Cells {
   }
 
   fill(states) {
-    this.kernel.cells.fill(0);
-    this.kernel.solid.fill(0);
-    states.forEach((state, at) => state && this.flip(at, state));
+    const { kernel: { cells, solid, per }, width, height, gas: { directions } } = this;
+    cells.fill(0);
+    solid.fill(0);
+    for (let y = 0, at = 0; y < height; y++) {
+      for (let x = 0; x < width; x++, at++) {
+        const state = states[at], word = x >> 5, mask = 1 << (x & 31);
+        if (state & SOLID) solid[y * per + word] |= mask;
+        else for (let i = 0; state >> i; i++) if (state >> i & 1) cells[(y * directions + i) * per + word] |= mask;
+      }
+    }
   }
 
   kept() {

@@ -21,16 +21,14 @@ export const meansOf = (start) => MEANS.find(({ text, ...flow }) => Object.keys(
 
 /** Draws the fluid cells of a lattice from the equilibria of the blocks. */
 export function fillDeveloped({ gas, drive, cells: { width, height } }, states, { text, filling }) {
-  const [wide, tall] = BLOCK, columns = Math.ceil(width / wide), { directions } = gas, { draw } = drive;
+  const [wide, tall] = BLOCK, columns = Math.ceil(width / wide), { directions } = gas;
   const bytes = Int8Array.from(atob(text), (letter) => letter.charCodeAt(0)), chances = [];
   for (let at = 0; at < bytes.length; at += 3) {
     const [more, u, v] = STEPS.map((step, k) => step * bytes[at + k]);
     chances.push(equilibrium(gas, filling + more, u, v));
   }
-  for (let y = 0, at = 0; y < height; y++) {
-    for (let x = 0; x < width; x++, at++) {
-      const here = chances[Math.floor(y / tall) * columns + Math.floor(x / wide)];
-      if (states[at] !== SOLID) for (let i = 0; i < directions; i++) if (draw() < here[i]) states[at] |= 1 << i;
-    }
+  for (let at = 0; at < states.length; at++) {
+    const y = Math.floor(at / width), here = chances[Math.floor(y / tall) * columns + (at - y * width >> 5)];
+    if (states[at] !== SOLID) for (let i = 0; i < directions; i++) if (drive.draw() < here[i]) states[at] |= 1 << i;
   }
 }

@@ -36,10 +36,12 @@ export class Drive {
 
   /** A random number below 1, by xorshift. */
   draw = () => {
-    this.random ^= this.random << 13;
-    this.random ^= this.random >>> 17;
-    this.random ^= this.random << 5;
-    return (this.random >>> 0) / 2 ** 32;
+    let random = this.random;
+    random ^= random << 13;
+    random ^= random >>> 17;
+    random ^= random << 5;
+    this.random = random;
+    return (random >>> 0) / 2 ** 32;
   };
 
   /** Some generations of a flow, whose momentum then only walls and the drive change. */

@@ -52,7 +52,10 @@ const answers = {
     shown.queue.push(frames);
     repaint();
   },
-  files: ({ files }) => files.forEach(({ text, name }) => save(new Blob([text]), `${name}.toml`)),
+  files: ({ files }) => {
+    files.forEach(({ text, name }) => save(new Blob([text]), `${name}.toml`));
+    if (!isSecureContext) note("Over http a browser may ask before it keeps a scene.", "", 9);
+  },
   hashes: ({ hashes }) => {
     Object.assign(shown.queue[shown.queue.length - 1] ?? shown, { hashes }); // they are of the last frame
     paintNumbers();
@@ -155,9 +158,7 @@ function note(text, kind, lasting) {
   if (lasting) live.noteTimer = window.setTimeout(hideNote, 1000 * lasting);
 }
 
-function hideNote() {
-  $("note").hidden = true;
-}
+const hideNote = () => void ($("note").hidden = true);
 
 // -- painting
 
@@ -315,7 +316,7 @@ function start(hasLength = false, runs = "") {
   if (flips) tell("flip", { at: [width / 2, (height * apart) / 2], radius: 1 });
   go(!isStill && !rests);
   if (shown.frames.length) note("A new start. Undo (⌫) brings the old lattice back.", "", 4);
-  if (isStill || rests) note(`${isStill ? "Your system asks for less motion" : "It rests"}: Run starts it.`, "", 12);
+  if (isStill || rests) note(`${isStill ? "Your system asks for less motion" : "It rests"}: Run starts it.`, "", 5);
 }
 
 /** The worker runs on alone, or at a slow pace the page asks for every generation. */

@@ -7,11 +7,10 @@ import { fillStates } from "./scenes.js";
 import { dense } from "./tools.js";
 
 // whether a place is solid in a channel W wide and T tall, with obstacles of radius R
-const disc = (W, T, R) => (x, y) => Math.hypot(x - W / 5, y - T / 2) <= R;
 const SOLIDS = {
-  disc,
+  disc: (W, T, R) => (x, y) => (x - W / 5) ** 2 + (y - T / 2) ** 2 <= R * R, // Math.hypot is slow
   plate: (W, T, R) => (x, y) => Math.abs(x - W / 5) <= 2 && Math.abs(y - T / 2) <= R,
-  discs: (W, T, R) => (x, y) => Math.hypot(x - W / 5, Math.abs(y - T / 2) - 1.7 * R) <= R,
+  discs: (W, T, R) => (x, y) => (x - W / 5) ** 2 + (Math.abs(y - T / 2) - 1.7 * R) ** 2 <= R * R,
 };
 const PARTICLES = { pair: 0x09, triple: 0x15 };
 const isInL = (W, T, wide = 0.06 * Math.max(W, T)) => (x, y) =>

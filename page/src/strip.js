@@ -7,7 +7,6 @@ import { each, head, look } from "./state.js";
 
 /** Pixels of its height: in a narrow picture the legend has lines of its own. */
 export const stripHeight = (width) => (width < 560 ? 108 : 62);
-const SIDES = { seeded: "at random", left: "left", right: "right" };
 const legend = document.createElement("canvas");
 
 /** @param {CanvasRenderingContext2D} c @param {{ width: number, top: number, stage: string }} where */
@@ -26,7 +25,7 @@ export function paintStrip(c, { width, top, stage }) {
 
 function paintWords(c, x, top, stage, wide) {
   const isNarrow = wide < 560, { u, wind, direction, cells, width, height, generation } = head();
-  const sides = ({ gas, chirality }) => (gas === "hpp" || isNarrow ? "" : `, pairs turn ${SIDES[chirality]}`);
+  const sides = ({ gas, chirality }) => (gas === "hpp" || isNarrow ? "" : `, pairs turn ${chirality === "seeded" ? "at random" : chirality}`);
   const arrow = Math.abs(u) < 0.005 && !wind ? "" : u < 0 ? "← wind" : "wind →";
   const way = [arrow, direction > 0 ? "" : isNarrow ? "back" : "on the way back"];
   if (cells) write(c, isNarrow ? stage : `${stage}: orange particles collide`, x, top + 22, { font: "14px" });

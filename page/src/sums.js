@@ -1,5 +1,4 @@
 // Sums over blocks of cells, by counting the bits of planes.
-import { SOLID } from "./gases.js";
 
 export const FINE = 2; // columns of blocks that are more work to add up than to count anew
 const MOST_ROWS = 31; // of 8 columns, whose count a byte takes
@@ -18,50 +17,8 @@ export const bits = (word) => Math.imul(bytes(word), 0x01010101) >>> 24;
  * @param {{ cells: Int32Array, solid: Int32Array, width: number, height: number, per: number, gas: any }} planes
  */
 export function sumsOf(planes, wide, tall) {
-  const columns = Math.ceil(planes.width / wide), rows = Math.ceil(planes.height / tall);
-  const sums = { columns, rows, width: wide, height: tall, numbers: new Int32Array(4 * columns * rows) };
-  if (wide > FINE) addBytes(sums, planes);
-  else addCells(sums, planes);
-  return sums;
-}
-
-/** The states of the cells x, x + 8, x + 16 and x + 24 of a row, as the bytes of a word. */
-function fourStates({ cells, solid, per, gas: { directions } }, x, y) {
-  const word = y * per + (x >> 5), first = word + y * (directions - 1) * per, bit = x & 7;
-  let states = (solid[word] >>> bit & 0x01010101) << 7;
-  for (let i = 0; i < directions; i++) states |= (cells[first + i * per] >>> bit & 0x01010101) << i;
-  return states;
-}
-
-/** The numbers of a cell by its state: all are 0 if it is solid. */
-function tableOf({ momenta }) {
-  const table = new Int32Array(4 * 256);
-  const add = (state, ...parts) => parts.forEach((part, k) => (table[4 * state + k] += part));
-  for (let state = 0; state < SOLID; state++) {
-    add(state, 1);
-    momenta.forEach((momentum, i) => state >> i & 1 && add(state, 0, 1, ...momentum));
-  }
-  return table;
-}
-
-/** Adds each cell to its block. */
-function addCells({ columns, width: wide, height: tall, numbers }, planes) {
-  const { width, height, gas } = planes, table = tableOf(gas), shift = Math.log2(wide);
-  for (let y = 0; y < height; y++) {
-    const row = columns * Math.floor(y / tall);
-    for (let x = 0; x < width; x += (x & 7) < 7 ? 1 : 25) {
-      const states = fourStates(planes, x, y);
-      for (let byte = 0; byte < 32 && x + byte < width; byte += 8) {
-        const to = 4 * (row + (x + byte >> shift)), from = 4 * (states >>> byte & 255);
-        for (let k = 0; k < 4; k++) numbers[to + k] += table[from + k];
-      }
-    }
-  }
-}
-
-/** Adds the bytes of each word to their blocks, of several rows at once. */
-function addBytes({ columns, width: wide, height: tall, numbers }, planes) {
-  const { width, height, gas } = planes, counts = new Int32Array(gas.directions);
+  const { width, height, gas } = planes, columns = Math.ceil(width / wide), rows = Math.ceil(height / tall);
+  const numbers = new Int32Array(4 * columns * rows), counts = new Int32Array(gas.directions);
   for (let y = 0, end = 0; y < height; y = end) {
     const row = Math.floor(y / tall), block = { numbers, first: row * columns, wide, counts };
     end = Math.min(height, (row + 1) * tall, y + MOST_ROWS);
@@ -69,6 +26,7 @@ function addBytes({ columns, width: wide, height: tall, numbers }, planes) {
       for (let from = 0; from < 8; from += wide) addWord(block, planes, x + from, y, end);
     }
   }
+  return { columns, rows, width: wide, height: tall, numbers };
 }
 
 /** Adds at most 8 columns from x on, and those 8, 16 and 24 beside them, from row y on. */
