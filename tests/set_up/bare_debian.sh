@@ -4,11 +4,12 @@
 #   tests/set_up/bare_debian.sh ROOM make test    makes the folder ROOM by debootstrap, if it is not there, and runs the command as root
 #   tests/set_up/bare_debian.sh ROOM umount       takes this machine's devices and kit out of ROOM, which must be done before it is removed
 #
-# AS=student runs the command as that user, who has no root. KEPT=1 takes what the kit has proved here. By hand, as root: it mounts.
+# AS=student runs the command as that user, who has no root. KEPT=1 takes what the kit has proved here, KIT=no leaves the kit out. By hand, as
+# root: it mounts.
 set -euo pipefail
 if [ $# -lt 2 ]; then sed -n 's/^# \?//p' "$0" >&2; exit 2; fi
 cd "$(dirname "$0")/../.."
-room=$(realpath -m "$1") user=${AS:-root} kit=$(dirname "$(rt doc)")
+room=$(realpath -m "$1") user=${AS:-root} kit=$([ "${KIT-}" = no ] || dirname "$(rt doc)")
 shift
 if [ "$1" = umount ]; then
     findmnt -rno TARGET | grep "^$room/" | sort -r | xargs -r umount -l
@@ -19,11 +20,11 @@ if [ ! -d "$room/home/student" ]; then
     cp /etc/resolv.conf /etc/hosts "$room/etc" # debootstrap makes neither, and a browser wants localhost
     chroot "$room" useradd -m student
 fi
-for folder in /proc /sys /dev "$kit" ${KEPT:+"$kit-kept"}; do
+for folder in /proc /sys /dev $kit ${KEPT:+"$kit-kept"}; do
     mkdir -p "$room$folder"
     mountpoint -q "$room$folder" || { mount --rbind "$folder" "$room$folder" && mount --make-rslave "$room$folder"; }
 done
-ln -sf "$kit/bin/rt" "$room/usr/local/bin/rt"
+[ -z "$kit" ] || ln -sf "$kit/bin/rt" "$room/usr/local/bin/rt"
 home=$(chroot "$room" getent passwd "$user" | cut -d: -f6)
 [ -d "$room$home/fhpgas" ] || { git clone -q . "$room$home/fhpgas" && chroot "$room" chown -R "$user:" "$home/fhpgas"; }
 chroot "$room" su - "$user" -c "cd fhpgas && $(printf '%q ' "$@")"
