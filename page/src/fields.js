@@ -19,12 +19,8 @@ const ORANGE_PURPLE = [palette("2d004b 542788 8073ac b2abd2 d8daeb f7f7f7 fee0b6
 const ACROSS = 4; // of TimeMean.smooth
 const fromZero = (most) => [0, most / 2, most];
 
-/**
- * The fields, by name: all that there is of each. `fill` writes the value of each block, NaN if it has none. `all` is
- * the largest value, if there is one.
- * @type {Record<string, { key: string, label: string, legend: string, palette: Int32Array[], isSigned: boolean,
- *   ends: (most: number, middle: number) => number[], fill: (means: TimeMean, values: Float64Array) => void, all?: number }>}
- */
+// The fields, by name: all that there is of each. `fill` writes the value of each block, NaN if it has none. `all` is the
+// largest value, if there is one.
 export const FIELDS = {
   speed: { key: "1", label: "speed", legend: "speed |u|, cells per generation", palette: SEQUENTIAL, isSigned: false,
     ends: fromZero, fill: speed },

@@ -146,7 +146,7 @@ function beginAnew(state) {
   fit();
   live.pending = { at: null, probe: null };
   if (probe) setProbe(tell, { at: [probe[0], probe[1]], radius: probe[2] });
-  if (at) lookFrom({ x: at[0], y: at[1], scale: at[2] });
+  if (at) lookAsAsked(at);
 }
 
 /** @param {string} text @param {"" | "good" | "bad"} kind @param {number} [lasting] seconds */
@@ -229,6 +229,14 @@ function tellNumbers(now) {
 function lookFrom(place) {
   Object.assign(look, { place, isWhole: false });
   looked();
+}
+
+/** Looks where an address asks to, if the lattice is seen from there. */
+function lookAsAsked(at) {
+  const [x, y, scale] = at, { width, height, apart } = head(), { clientWidth, clientHeight } = view();
+  const isIn = x < width && y < height * apart && x > -clientWidth / scale && y > -clientHeight / scale;
+  if (isIn && scale >= 0.1 && scale <= 200) lookFrom({ x, y, scale });
+  else note("The address looks past the lattice, so all of it is shown.", "bad", 9);
 }
 
 /** Shows single cells, slowly. */

@@ -330,6 +330,9 @@ def address(page):
         "which covers the sentence only", first <= left < right <= last, (first, left, right, last)
     )
     check("which runs", page.wait("head.generation > 20 && location.hash.includes('seed=1&')"))
+    page.go("#at=1e9 1 1"), page.wait(
+        "live.notes.at(-1)?.includes('past the lattice') && look.isWhole"
+    )
     page.choose("change", scene="porous medium"), page.wait("head.wind === 0.04")
     page.choose("input", wind="0.06"), page.wait(
         "head.wind === 0.06 && location.hash.includes('wind=0.06')"
