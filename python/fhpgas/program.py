@@ -7,9 +7,8 @@ import pathlib
 import platform
 import shutil
 import subprocess
-import tempfile
 import threading
-from typing import IO
+from typing import Any
 
 from .fault import Fault
 from .limits import MOST_BYTES
@@ -37,10 +36,9 @@ def _program_path() -> pathlib.Path:
     near = next((str(path) for path in (OWN, launcher) if path.is_file()), None)
     found = os.environ.get("FHPGAS") or near or shutil.which("fhpgas")
     if not found:
-        raise Fault(
-            "the program fhpgas is not found, which reads scenes: this package has none for"
-            f" {SYSTEM} (its wheel for Linux on x86-64 has one), nor do FHPGAS or the PATH name one"
-        )
+        why = f"this package has none for {SYSTEM} (its wheel for Linux on x86-64 has one)"
+        why += ", nor do FHPGAS or the PATH name one"
+        raise Fault(f"the program fhpgas is not found, which reads scenes: {why}")
     path = pathlib.Path(found).absolute()
     if not path.is_file():
         raise Fault(f"{path} is {'no file' if path.exists() else 'missing'}")
@@ -64,40 +62,23 @@ def _tied() -> tuple[str, ...]:
     return ()
 
 
-def _memory() -> IO[bytes]:
-    """A file in memory, or where the system has none on the disk, for a scene or an answer."""
-    if hasattr(os, "memfd_create"):
-        return os.fdopen(os.memfd_create("fhpgas"), "w+b")
-    return tempfile.TemporaryFile()
-
-
 def call(scene: bytes, *words: object) -> bytes:
     """What the program prints for the bytes of a scene. The line of a refusal is raised as a
-    Fault. Input and output are files in memory, because pipes take longer than the program."""
+    Fault."""
     if len(scene) > MOST_BYTES:
-        raise Fault(
-            f"the scene has {len(scene)} bytes, and the program reads {MOST_BYTES}: an area"
-            " describes a large lattice in few lines"
-        )
+        way = "an area describes a large lattice in few lines"
+        raise Fault(f"the scene has {len(scene)} bytes, and the program reads {MOST_BYTES}: {way}")
     command = [*_tied(), str(program_path()), *map(str, words)]
-    with _memory() as given, _memory() as answer:
-        given.write(scene)
-        given.seek(0)
-
-        def begin() -> subprocess.Popen[bytes]:
-            return subprocess.Popen(command, stdin=given, stdout=answer, stderr=subprocess.PIPE)
-
-        with runs.get().holding(begin) as process, process:
-            try:
-                said = process.communicate()[1]
-            except BaseException:
-                process.kill()
-                raise
-        answer.seek(0)
-        found = answer.read()
+    pipes: dict[str, Any] = dict.fromkeys(("stdin", "stdout", "stderr"), subprocess.PIPE)
+    with runs.get().holding(lambda: subprocess.Popen(command, **pipes)) as process, process:
+        try:
+            answer, said = process.communicate(scene)
+        except BaseException:
+            process.kill()
+            raise
     if process.returncode:
         runs.get().go_on()
         line = said.decode(errors="replace").split("\n")[0]
         line = line or f"fhpgas ended with status {process.returncode}"
         raise Fault(line + " (`explain` says where)" * line.startswith("scene: "))
-    return found
+    return bytes(answer)
