@@ -7,6 +7,7 @@ table of `fhpgas coarse`: - is standard input. A fault is one line on standard e
 from __future__ import annotations
 
 import argparse
+import functools
 import importlib.util
 import inspect
 import math
@@ -58,10 +59,8 @@ def source(path: str, asked: argparse.Namespace) -> fhpgas.Lattice | fhpgas.Bloc
         with naming(path):
             return fhpgas.Lattice.load(text(found))
     if asked.scene is None and None in (asked.gas, asked.size):
-        raise Usage(
-            f"{path} does not name its gas and its size: --scene SCENE, or --gas GAS and --size"
-            " COLUMNS ROWS"
-        )
+        ways = "--scene SCENE, or --gas GAS and --size COLUMNS ROWS"
+        raise Usage(f"{path} does not name its gas and its size: {ways}")
     if is_table and asked.block is None:
         raise Usage(f"{path} does not name the size of its blocks: --block COLUMNS ROWS")
     gas, columns, rows = fhpgas.check(asked.scene)[:3] if asked.scene else (asked.gas, *asked.size)
@@ -90,9 +89,7 @@ def to_write(*suffixes: str) -> Callable[[str], str]:
         if pathlib.Path(word).suffix not in suffixes:
             raise argparse.ArgumentTypeError(f"{word} is written as {', '.join(suffixes)}")
         if not os.access(pathlib.Path(word).absolute().parent, os.W_OK):
-            raise argparse.ArgumentTypeError(
-                f"the folder of {word} is missing or cannot be written to"
-            )
+            raise argparse.ArgumentTypeError(f"the folder of {word} is missing or read-only")
         return word
 
     return file
@@ -158,10 +155,8 @@ def film(asked: argparse.Namespace) -> None:
         driven = start.driven(asked.until, asked.every, **how, progress=shows())
         frames = (point.before for point in driven)
     fhpgas.film(asked.file, frames, asked.what, fps=asked.fps, dpi=asked.dpi, **options)
-    print(
-        f"{asked.file}: {count + 1} frames, generations {start.generation} to"
-        f" {start.generation + asked.until}"
-    )
+    first, last = start.generation, start.generation + asked.until
+    print(f"{asked.file}: {count + 1} frames, generations {first} to {last}")
 
 
 def how_long(asked: argparse.Namespace) -> None:
@@ -183,13 +178,12 @@ def how_long(asked: argparse.Namespace) -> None:
     of_one = max(seconds, 1e-6) / many
     cells, whole_run = size.width * size.height, around + asked.generations * of_one
     unit, length = next((pair for pair in UNITS if whole_run >= 2 * pair[1]), UNITS[-1])
-    print(
-        f"{cells / of_one / 1e6:,.0f} MLUPS with {stages} worker{'s' * (stages > 1)} on {threads}"
-        f" thread{'s' * (threads > 1)} and {capacity} rows per belt"
-    )
-    print(
-        f"{asked.generations} generations of {cells} cells: about {whole_run / length:.2g} {unit}"
-    )
+    speed = cells / of_one / 1e6
+    mlups = f"{speed:,.0f}" if speed > 10 else f"{speed:.2g}"
+    workers = f"{stages} worker{'s' * (stages > 1)} on {threads} thread{'s' * (threads > 1)}"
+    print(f"{mlups} MLUPS with {workers} and {capacity} rows per belt")
+    about = f"about {whole_run / length:.2g} {unit}"
+    print(f"{asked.generations} generations of {cells} cells: {about}")
 
 
 def resume(asked: argparse.Namespace) -> None:
@@ -232,9 +226,8 @@ def drive(asked: argparse.Namespace) -> None:
     points = start.driven(asked.generations, asked.every, **how, progress=shows())
     for done, point in enumerate(points):
         print("generation    velocity       force\n" * (done == 0), end="")
-        print(
-            f"{point.before.generation:10} {point.velocity:11.5f} {point.force:11.3g}", flush=True
-        )
+        told = f"{point.before.generation:10} {point.velocity:11.5f} {point.force:11.3g}"
+        print(told, flush=True)
 
 
 def over_seeds(asked: argparse.Namespace) -> None:
@@ -310,18 +303,12 @@ WORDS: dict[str, dict[str, Any]] = {
     "last": word("the last generation", MANY, metavar="LAST"),
     "step": word(kind=STEP, metavar="STEP"),
     "every": word(kind=STEP, metavar="EVERY"),
-    "--along": word(
-        "the particles that turn: W to E (rows), or NW to NE and SW to SE too (directions)",
-        default="rows",
-        choices=DRIVES,
-    ),
+    "--along": word("turns W to E, or NW to NE and SW to SE too", str, "rows", choices=DRIVES),
     "--block": word("of a block; default 8 9, but a table needs its own", whole(1, 4096), **SIDES),
     "--capacity": word("rows per belt", whole(1, 1024)),
     "--chirality": drawing.WORDS["--chirality"],
     "--dpi": word("dots per inch", whole(10, 1000), 100),
-    "--drawn": word(
-        "words of `draw` to the end of the line, for every seed", nargs="...", metavar="WORD"
-    ),
+    "--drawn": word("words of `draw` to the end of the line", nargs="...", metavar="WORD"),
     "--every": word("generations from frame to frame", STEP, required=True, metavar="STEP"),
     "--filling": word("the chance per direction", number(1e-4, 0.9999)),
     "--flow": word("mean velocity", number(-1, 1)),
@@ -338,28 +325,24 @@ WORDS: dict[str, dict[str, Any]] = {
     "--seed": word("of the particles that are turned", whole(0, MOST_SEED), 0),
     "--seeds": word(kind=whole(2, 10**6), default=8),
     "--size": word("of the lattice", whole(1, 65536), **SIDES),
-    "--smooth": word(
-        "width of a Gaussian that smooths, in blocks", number(0, 100), 0, metavar="BLOCKS"
-    ),
+    "--smooth": word("width of a Gaussian in blocks", number(0, 100), 0, metavar="BLOCKS"),
     "--speed": word("in cells' widths per generation", number(0, 1)),
     "--stages": word("workers", whole(1, 64)),
     "--table": word("for its filling and mean speed", metavar="SOURCE"),
     "--until": word("generations in all", COUNT, required=True, metavar="GENERATIONS"),
     "--what": word("default speed, or particles if the lattice is small", **FIELDS_OF),
 }
+LOOKS, DRIVE = "--block --low --high --smooth --dpi", "--force --flow --along --seed"
 COMMANDS: dict[Callable[[argparse.Namespace], None], str] = {
     draw: "",
     explain: "scene",
-    picture: "what file:picture sources --scene --gas --size --block --low --high --smooth --dpi",
-    film: (
-        "scene file:film --every --until --what --block --low --high --smooth --dpi --fps --force"
-        " --flow --along --seed"
-    ),
+    picture: f"what file:picture sources --scene --gas --size {LOOKS}",
+    film: f"scene file:film --every --until --what {LOOKS} --fps {DRIVE}",
     page: "--no-browser",
     how_long: "scene generations --stages --capacity --seconds",
     resume: "scene cells",
     long_run: "scene generations step kept",
-    drive: "scene generations every --force --flow --along --seed",
+    drive: f"scene generations every {DRIVE}",
     over_time: "scene last step --block",
     over_seeds: "scene:optional --seeds --generations --block --drawn",
     numbers: "--filling --speed --length --chirality --gas --table --scene --size --block",
@@ -385,9 +368,8 @@ def reader(name: str) -> Parser:
 def main(words: list[str] | None = None) -> None:
     name = pathlib.Path(sys.argv[0]).name
     with one_line_faults("fhpgas-tools"), warnings.catch_warnings():
-        warnings.showwarning = lambda message, *_: print(
-            f"fhpgas-tools: {message}", file=sys.stderr
-        )
+        told = functools.partial(print, "fhpgas-tools:", file=sys.stderr)
+        warnings.showwarning = lambda message, *_: told(message)
         asked = reader("python3 -m fhpgas" if name == "__main__.py" else name).parse_args(words)
         try:
             if asked.function is not explain:

@@ -34,22 +34,8 @@ from PIL import Image, ImageSequence  # noqa: E402
 
 matplotlib.use("agg")
 AREA = 'gas = "fhp1"\nseed = 7\nwidth = 66\nheight = 9\nrate = 300\nsolid = [[20, 2, 3, 4]]\n'
-COMMANDS = (
-    "",
-    "draw",
-    "draw discs",
-    "explain",
-    "picture",
-    "film",
-    "page",
-    "how-long",
-    "resume",
-    "long-run",
-    "drive",
-    "over-time",
-    "over-seeds",
-    "numbers",
-)
+NAMES = "draw explain picture film page how-long resume long-run drive over-time over-seeds numbers"
+COMMANDS = ["", "draw discs", *NAMES.split()]
 REFUSED = {
     2: """
 numbers --length 9 --filling 1e-300 --speed 0.1 | 1e-300
@@ -172,6 +158,7 @@ class Commands(unittest.TestCase):
             "cut": table[:-3],
             "empty.toml": AREA.replace("300", "0"),
             "later.toml": cls.start.run(3).scene(),
+            "cell.toml": 'gas = "hpp"\ncells = [".."]\n',
             "broken.npz": "PK",
         }.items():
             (cls.room / name).write_text(text)
@@ -179,11 +166,7 @@ class Commands(unittest.TestCase):
 
     def command(self, *words, text=""):
         """The status and the two outputs of a command, in this process."""
-        words, out, err = (
-            [word for part in words for word in str(part).split()],
-            io.StringIO(),
-            io.StringIO(),
-        )
+        words, out, err = " ".join(map(str, words)).split(), io.StringIO(), io.StringIO()
         given = io.TextIOWrapper(io.BytesIO(text.encode()))
         with contextlib.redirect_stdout(out), contextlib.redirect_stderr(err), unittest.mock.patch(
             "sys.stdin", given
@@ -205,41 +188,30 @@ class Commands(unittest.TestCase):
         """Less than half fluid is hidden."""
         blocks, ax = uneven(), Figure().add_subplot()
         image = blocks.plot("density", ax)
-        self.assertEqual(
-            image.get_array().mask.tolist(), [[False, False, True, False], [False] * 4, [False] * 4]
-        )
+        hidden = [[False, False, True, False], [False] * 4, [False] * 4]
+        self.assertEqual(image.get_array().mask.tolist(), hidden)
         self.assertEqual(image.get_array()[:, :2].tolist(), [[1, 2], [1, 1], [4.5, 4.5]])
         self.assertEqual((image.get_clim(), image.get_cmap().name), ((1, 6), "viridis"))
         self.assertEqual(image.colorbar.ax.get_ylabel(), "density\n(particles per cell)")
         left, right, bottom, top = image.get_extent()
-        self.assertTrue(
-            np.allclose(
-                (right - left, top - bottom, top), (32, 27 * np.sqrt(3) / 2, 20 * np.sqrt(3) / 2)
-            )
-        )
-        self.assertTrue(
-            np.allclose((*np.subtract(ax.get_xlim(), left), *ax.get_ylim()), (0, 30, 0, top))
-        )
-        self.assertEqual(
-            (ax.get_aspect(), ax.get_xlabel(), image.get_cmap()(np.ma.masked)[:3]),
-            (1, "x (cells)", (0.55, 0.55, 0.55)),
-        )
+        sides = 32, 27 * np.sqrt(3) / 2, 20 * np.sqrt(3) / 2
+        self.assertTrue(np.allclose((right - left, top - bottom, top), sides))
+        shown = *np.subtract(ax.get_xlim(), left), *ax.get_ylim()
+        self.assertTrue(np.allclose(shown, (0, 30, 0, top)))
+        found = ax.get_aspect(), ax.get_xlabel(), image.get_cmap()(np.ma.masked)[:3]
+        self.assertEqual(found, (1, "x (cells)", (0.55, 0.55, 0.55)))
 
     def test_a_picture_has_the_range_and_the_field_that_are_asked_for(self):
         blocks = uneven()
         image = blocks.plot("north", Figure().add_subplot(), colorbar=False)
-        self.assertTrue(
-            np.allclose(image.get_clim(), np.multiply((-1, 1), np.sqrt(3) / 16))
-        )  # signed: py / particles = 1/8 of sqrt(3)/2
+        most = np.sqrt(3) / 16  # signed: py / particles = 1/8 of sqrt(3)/2
+        self.assertTrue(np.allclose(image.get_clim(), (-most, most)))
         image, smooth = blocks.plot("north", Figure().add_subplot(), smooth=1), blocks.smooth(1)
         shown = image.get_array()
         self.assertEqual(shown.compressed().tolist(), smooth.north[~shown.mask].tolist())
-        self.assertEqual(
-            blocks.plot(
-                np.arange(12).reshape(3, 4), Figure().add_subplot(), vmin=3, cmap="magma"
-            ).get_clim(),
-            (3, 11),
-        )
+        given, looks = np.arange(12).reshape(3, 4), {"vmin": 3, "cmap": "magma"}
+        image = blocks.plot(given, Figure().add_subplot(), **looks)
+        self.assertEqual(image.get_clim(), (3, 11))
         for what, part in (
             ("heat", "no picture of 'heat'"),
             ("particles", "no picture"),
@@ -256,68 +228,46 @@ class Commands(unittest.TestCase):
         states, solid = np.zeros((2, 3), int), np.zeros((2, 3), bool)
         states[0, 1], states[1, 0], solid[1, 2] = 0b1001, 0b1000010, True
         ax = fhpgas.Lattice(states, solid, "fhp-rest").plot(ax=Figure().add_subplot())
-        cells, *arrows, rest = [
-            c for c in ax.collections if not isinstance(c, matplotlib.collections.LineCollection)
-        ]
+        lines = matplotlib.collections.LineCollection
+        cells, *arrows, rest = [each for each in ax.collections if not isinstance(each, lines)]
         found = {
             tuple(np.round((*place, u, v), 3).tolist())
             for each in arrows
             for place, u, v in zip(each.get_offsets(), each.U, each.V)
         }
         upper, lower = round(1.5 * np.sqrt(3) / 2, 3), round(0.5 * np.sqrt(3) / 2, 3)
-        self.assertEqual(
-            found,
-            {
-                (1, upper, 0.46, 0),
-                (1, upper, -0.46, 0),
-                (0.5, lower, 0.23, round(0.23 * np.sqrt(3), 3)),
-            },
-        )
+        pair, slanted = {(1, upper, 0.46, 0), (1, upper, -0.46, 0)}, round(0.23 * np.sqrt(3), 3)
+        self.assertEqual(found, pair | {(0.5, lower, 0.23, slanted)})
         self.assertTrue(np.allclose(rest.get_offsets(), [[0.5, lower]], atol=1e-3))
-        self.assertEqual(
-            [colour[0] == 0.55 for colour in cells.get_facecolors()], [False] * 5 + [True]
-        )
-        self.assertTrue(
-            np.allclose(
-                cells.get_paths()[0].vertices[:, 1].max(), upper + 1 / np.sqrt(3), atol=1e-3
-            )
-        )
+        is_grey = [colour[0] == 0.55 for colour in cells.get_facecolors()]
+        self.assertEqual(is_grey, [False] * 5 + [True])
+        highest = cells.get_paths()[0].vertices[:, 1].max()
+        self.assertAlmostEqual(highest, upper + 1 / np.sqrt(3), delta=1e-3)
 
     def test_strips_and_films_have_one_range(self):
         disc = fhpgas.disc(fhpgas.Size(256, 96), 60, 48, 12)
         start = fhpgas.draw_gas(0.2, 0.3, solid=disc, chirality="left", seed=1)
-        many = [*start.every(20, 3)]
-        fields = [
-            lattice.blocks().vorticity[fhpgas.draw_gas(0, solid=disc).blocks().fluid >= 36]
-            for lattice in many
-        ]
-        most = max(np.abs(field).max() for field in fields)
+        many, is_shown = [*start.every(20, 3)], start.blocks().fluid >= 36
+        most = max(np.abs(lattice.blocks().vorticity[is_shown]).max() for lattice in many)
         figure = fhpgas.strip(many, "vorticity")
-        self.assertEqual(
-            [ax.get_title() for ax in figure.axes[:4]], [f"generation {20 * k}" for k in range(4)]
-        )
+        titles = [ax.get_title() for ax in figure.axes[:4]]
+        self.assertEqual(titles, [f"generation {20 * k}" for k in range(4)])
         for ax in figure.axes[:4]:
             self.assertTrue(np.allclose(ax.images[0].get_clim(), (-most, most)))
             self.assertTrue((np.ma.getmaskarray(ax.images[1].get_array()) != disc).all())
-        self.assertEqual(
-            [ax.axison for ax in fhpgas.strip(start.every(1, 2), columns=2).axes],
-            [True] * 3 + [False, True],
-        )  # and the bar
+        is_on = [ax.axison for ax in fhpgas.strip(start.every(1, 2), columns=2).axes]
+        self.assertEqual(is_on, [True] * 3 + [False, True])  # and the bar
         for suffix in ("gif", "webp", "apng"):
             with self.subTest(suffix=suffix):
                 path = self.room / f"film.{suffix}"
                 fhpgas.film(path, (lattice for lattice in many), "vorticity", smooth=1, dpi=50)
                 with Image.open(path) as film:
-                    frames = [
-                        np.asarray(frame.convert("RGB")) for frame in ImageSequence.Iterator(film)
-                    ]
-                self.assertEqual((len(frames), frames[0].shape[1]), (4, 350))
-                self.assertTrue(
-                    all((a != b).any() for a, b in itertools.combinations(frames, 2)), suffix
-                )
-                self.assertTrue(
-                    all((frame[:, 310:] == frames[0][:, 310:]).all() for frame in frames), suffix
-                )  # the bar of colours
+                    images = ImageSequence.Iterator(film)
+                    frames = np.stack([np.asarray(frame.convert("RGB")) for frame in images])
+                self.assertEqual((len(frames), frames.shape[2]), (4, 350))
+                pairs = itertools.combinations(frames, 2)
+                self.assertTrue(all((one != other).any() for one, other in pairs), suffix)
+                self.assertTrue((frames[:, :, 310:] == frames[0, :, 310:]).all())  # the bar
         fhpgas.film(self.room / "few.gif", self.start.replace(states=self.start.states).every(1, 2))
         for call, part in (
             (lambda: fhpgas.film("a.gif", []), "a state or more"),
@@ -338,11 +288,8 @@ class Commands(unittest.TestCase):
         self.assertEqual((self.room / "film.mp4").read_bytes()[4:8], b"ftyp")
 
     def test_a_notebook_shows_pictures(self):
-        for shown in (
-            self.start,
-            self.start.blocks(11, 3),
-            fhpgas.draw_gas(0.2, size=fhpgas.Size(100, 50)),
-        ):
+        large = fhpgas.draw_gas(0.2, size=fhpgas.Size(100, 50))
+        for shown in (self.start, self.start.blocks(11, 3), large):
             self.assertEqual(shown._repr_png_()[:8], b"\x89PNG\r\n\x1a\n")
             self.assertLess(len(repr(shown)), 100)
 
@@ -355,11 +302,8 @@ class Commands(unittest.TestCase):
         self.assertEqual(self.printed("--version"), f"fhpgas-tools {fhpgas.__version__}\n")
         (self.room / "a.gif").unlink(missing_ok=True)
         refused = [(2, f"{words} --colour", "fhpgas-tools: ") for words in COMMANDS]
-        refused += [
-            (status, *line.split(" | "))
-            for status, lines in REFUSED.items()
-            for line in lines.split("\n")[1:-1]
-        ]
+        for status, lines in REFUSED.items():
+            refused += [(status, *line.split(" | ")) for line in lines.split("\n")[1:-1]]
         for status, words, part in refused:
             with self.subTest(words=words):
                 ended, out, err = self.command(words)
@@ -369,10 +313,8 @@ class Commands(unittest.TestCase):
 
     def test_the_parser_knows_the_names_of_the_package(self):
         self.assertIn(f"\n## {fhpgas.__version__}\n", (needs.ROOT / "CHANGELOG.md").read_text())
-        self.assertEqual(
-            (set(drawing.GAS_NAMES), tuple(__main__.FIELDS)),
-            (set(fhpgas.GASES), tuple(pictures.FIELDS)),
-        )
+        self.assertEqual({*drawing.GAS_NAMES}, {*fhpgas.GASES})
+        self.assertEqual([*__main__.FIELDS], [*pictures.FIELDS])
         self.assertEqual(__main__.FILMS, pictures.PILLOW + pictures.FFMPEG)
 
     def test_refused_scenes_are_explained_without_numpy(self):
@@ -385,12 +327,10 @@ class Commands(unittest.TestCase):
         ):
             with self.subTest(words=words):
                 words = [sys.executable, "-S", "-m", "fhpgas", *words.split()]
-                done = subprocess.run(
-                    words, input="x = " + "9" * 10_000, capture_output=True, text=True
-                )
-                self.assertEqual(
-                    (done.returncode, part in done.stdout + done.stderr), (status, True), done
-                )
+                given = {"input": "x = " + "9" * 10_000, "text": True}
+                done = subprocess.run(words, capture_output=True, **given)
+                found = done.returncode, part in done.stdout + done.stderr
+                self.assertEqual(found, (status, True), done)
 
     def test_an_output_that_takes_no_more_is_one_line(self):
         """It is closed, full at once or after a part, or takes ASCII only. So is memory, and the file of a film."""
@@ -433,34 +373,21 @@ class Commands(unittest.TestCase):
         ):
             with self.subTest(words=words):
                 text = self.printed("draw", words)
-                summary = fhpgas.check(text)
-                self.assertEqual(
-                    (summary.solid, summary.particles),
-                    (solid, second_reader.read(text.encode(), 10_000).particles()),
-                    words,
-                )
-        self.assertEqual(
-            self.printed("draw blocks --gas hpp --filling 0.03 --seed 9 --width 4999"),
-            'version = 2\ngas = "hpp"\nchirality = "seeded"\nseed = 9\nwidth = 4999\nheight ='
-            " 24\nrate = 30\n",
-        )
-        self.assertEqual(
-            self.printed("draw blocks --width 65536 --height 65536 --filling 0").count("\n"), 7
-        )
-        patch = fhpgas.Lattice.load(
-            self.printed(
-                "draw blocks --width 12 --height 8 --filling 0 --patch 2 3 4 2 0.6 --block 3 4 1 1"
-            )
-        )
-        self.assertTrue(
-            14 < patch.particles < 40 and not patch.states[:3].any() and patch.solid.sum() == 1
-        )
+                particles = second_reader.read(text.encode(), 10_000).particles()
+                self.assertEqual(fhpgas.check(text)[3:], (solid, particles), words)
+        drawn = self.printed("draw blocks --gas hpp --filling 0.03 --seed 9 --width 4999")
+        wanted = 'version = 2\ngas = "hpp"\nchirality = "seeded"\nseed = 9\nwidth = 4999\n'
+        self.assertEqual(drawn, wanted + "height = 24\nrate = 30\n")
+        drawn = self.printed("draw blocks --width 65536 --height 65536 --filling 0")
+        self.assertEqual(drawn.count("\n"), 7)
+        words = "--width 12 --height 8 --filling 0 --patch 2 3 4 2 0.6 --block 3 4 1 1"
+        patch = fhpgas.Lattice.load(self.printed("draw blocks", words))
+        self.assertTrue(14 < patch.particles < 40 and not patch.states[:3].any())
+        self.assertEqual(patch.solid.sum(), 1)
 
     def test_a_wind_draws_the_gas_of_the_package(self):
-        self.assertIn(
-            "faster than sound, Mach 1.13\n",
-            self.command("draw blocks --filling 0.02 --wind 0.8")[2],
-        )
+        told = self.command("draw blocks --filling 0.02 --wind 0.8")[2]
+        self.assertIn("faster than sound, Mach 1.13\n", told)
         words = "--disc 20 20 8 --filling 0.3 --wind 0.2 0.1 --seed 5 --gas hpp"
         drawn = fhpgas.Lattice.load(self.printed("draw discs --width 64 --height 47", words))
         solid = fhpgas.disc(fhpgas.Size(64, 47), 20, 20, 8, "hpp")
@@ -474,54 +401,38 @@ class Commands(unittest.TestCase):
         )
         self.assertEqual(self.printed("over-time a.toml 20 10 --block 11 9"), "".join(wanted))
         points = [*self.start.driven(20, 10, flow=0.1)]
-        self.assertEqual(
-            [float(word) for word in self.printed("drive a.toml 20 10 --flow 0.1").split()[3:]],
-            [
-                float(word)
-                for p in points
-                for word in (p.before.generation, f"{p.velocity:.5f}", f"{p.force:.3g}")
-            ],
-        )
+        found = map(float, self.printed("drive a.toml 20 10 --flow 0.1").split()[3:])
+        wanted = [[p.before.generation, f"{p.velocity:.5f}", f"{p.force:.3g}"] for p in points]
+        self.assertEqual([*found], np.array(wanted, float).ravel().tolist())
         wanted = (
-            r"^[\d,]+ MLUPS with 1 worker on 1 thread and 128 rows per belt\n"
-            r"1000 generations of 594 cells: about [\d.e-]+ seconds\n$"
+            r"^([\d,.e-]+) MLUPS with 1 worker on 1 thread and 128 rows per belt\n"
+            r"1000 generations of (?:1|594) cells: about [\d.e+-]+ (?:seconds|minutes|hours|days)\n$"
         )
-        self.assertRegex(self.printed("how-long a.toml 1000 --seconds 1"), wanted)
-        line = (
-            self.printed("over-seeds --seeds 3 --generations 5 --block 66 9 a.toml")
-            .split("\n")[1]
-            .split()
+        for name in "a.toml", "cell.toml":
+            told = re.match(wanted, self.printed(f"how-long {name} 1000 --seconds 1"))
+            self.assertGreater(float(told[1].replace(",", "")), 0, name)
+        words = "--block 66 9 a.toml", "--block 64 24 --drawn discs --disc 9 9 3 --wind 0.2"
+        lines = [self.printed("over-seeds --seeds 3 --generations 5", each) for each in words]
+        disc = fhpgas.disc(fhpgas.Size(64, 24), 9, 9, 3)
+        starts = (
+            lambda seed: fhpgas.Lattice.load(fhpgas.with_seed(AREA, seed)),
+            lambda seed: fhpgas.draw_gas(0.2, 0.2, solid=disc, seed=seed),
         )
-        mean, error = fhpgas.mean_and_error(
-            fhpgas.coarse(fhpgas.with_seed(AREA, seed), 5, 66, 9).east[0, 0] for seed in (1, 2, 3)
-        )
-        self.assertTrue(
-            np.allclose([float(word) for word in line[5:7]], (mean, error), rtol=0.1),
-            (line, mean, error),
-        )
-        words = "--block 64 24 --drawn discs --disc 9 9 3 --wind 0.2"
-        drawn = self.printed("over-seeds --seeds 2 --generations 5", words).split("\n")[1].split()
-        speeds = [
-            fhpgas.draw_gas(0.2, 0.2, solid=fhpgas.disc(fhpgas.Size(64, 24), 9, 9, 3), seed=seed)
-            .coarse(5, 64, 24)
-            .east[0, 0]
-            for seed in (1, 2)
-        ]
-        self.assertAlmostEqual(float(drawn[5]), np.mean(speeds), places=5)
+        for line, start in zip(lines, starts):
+            speeds = [start(seed).coarse(5, None, None).east[0, 0] for seed in (1, 2, 3)]
+            mean, error = map(float, line.split("\n")[1].split()[5:7])
+            self.assertAlmostEqual(mean, np.mean(speeds), places=5)
+            self.assertAlmostEqual(error / fhpgas.mean_and_error(speeds)[1], 1, delta=0.1)
 
     def test_a_long_run_goes_on_where_it_was_ended(self):
         self.assertEqual(self.printed("long-run a.toml 4 4 kept").count("\n"), 1)
-        wanted = "".join(
-            f"generation {generation} particles {self.start.particles}\n" for generation in (8, 10)
-        )
+        wanted = f" particles {self.start.particles}\n".join(("generation 8", "generation 10", ""))
         self.assertEqual(self.printed("long-run a.toml 10 4 kept"), wanted)
         self.assertEqual(fhpgas.Lattice.load(self.room / "kept"), self.start.run(10))
         for generations in 10, 4:
             with self.subTest(generations=generations):
-                self.assertEqual(
-                    self.printed(f"long-run a.toml {generations} 4 kept"),
-                    "kept has generation 10, so there was nothing to run\n",
-                )
+                told = self.printed(f"long-run a.toml {generations} 4 kept")
+                self.assertEqual(told, "kept has generation 10, so there was nothing to run\n")
 
     def test_the_last_table_over_time_is_of_the_last_generation(self):
         heads = re.findall(r"generation \d+", self.printed("over-time later.toml 7 2"))
@@ -540,28 +451,25 @@ class Commands(unittest.TestCase):
             self.assertEqual((process.communicate()[0], process.returncode), (b"", 143))
 
     def test_a_flow_faster_than_sound_is_told(self):
-        told = self.command("numbers --filling 0.2 --speed 1 --length 9")
-        self.assertIn("faster than sound", told[2])
+        for speed, is_told in ((1, True), (0.708, True), (0.707, False)):
+            status, out, err = self.command(f"numbers --filling 0.2 --speed {speed} --length 9")
+            found = status, "mach" in out, "the flow is faster than sound" in err
+            self.assertEqual(found, (0, True, is_told), err)
 
     def test_numbers_of_a_table_are_those_of_its_filling_and_speed(self):
         told = self.printed("numbers --filling 0.2 --speed 0.3 --length 40")
-        self.assertRegex(
-            told, r"mach +0\.4243\nreynolds +6\.533\n"
-        )  # 0.3 sqrt(2), and (3/8) 0.3 40 / (1 / (12 0.2 0.8^3) - 1/8)
+        # 0.3 sqrt(2), and (3/8) 0.3 40 / (1 / (12 0.2 0.8^3) - 1/8)
+        self.assertRegex(told, r"mach +0\.4243\nreynolds +6\.533\n")
         head = "  col   row    fluid particles         px         py\n"
         table = head + " 0 0 50 100 80 0\n 1 0 50 20 -8 0\n"
-        found = self.printed(
-            "numbers --table - --length 40 --gas fhp1 --size 20 5 --block 10 5", text=table
-        )
-        self.assertEqual(
-            found, f"{'filling':16}{0.2:12}\n{'speed':16}{0.3:12}\n{told}"
-        )  # 120 particles in 100 cells, 72 halves eastwards
+        words = "numbers --table - --length 40 --gas fhp1 --size 20 5 --block 10 5"
+        # 120 particles in 100 cells, 72 halves eastwards
+        wanted = f"{'filling':16}{0.2:12}\n{'speed':16}{0.3:12}\n{told}"
+        self.assertEqual(self.printed(words, text=table), wanted)
+        wanted = f"filling{self.start.particles / 6 / self.start.fluid:21.4g}"
         for words in ("three --scene a.toml", "table --scene a.toml --block 11 9", "later.toml"):
             with self.subTest(words=words):
-                self.assertIn(
-                    f"filling{self.start.particles / 6 / self.start.fluid:21.4g}",
-                    self.printed("numbers --length 9 --table", words),
-                )
+                self.assertIn(wanted, self.printed("numbers --length 9 --table", words))
 
     def test_pictures_of_a_scene_of_its_cells_and_of_its_table_are_one(self):
         late = self.start.run(3)
@@ -575,19 +483,13 @@ class Commands(unittest.TestCase):
             "table --scene a.toml --block 11 9",
         ):
             with self.subTest(words=words):
-                self.assertRegex(
-                    self.printed("picture density a.png", words),
-                    f"^density from [.0-9]+ to {high:.4g}\n$",
-                )
-        for name, begins in (
-            ("a.svg", b"<?xml"),
-            ("a.pdf", b"%PDF"),
-            ("a.webp", b"RIFF"),
-            ("a.png", b"\x89PNG"),
-        ):
-            with self.subTest(name=name):
-                self.printed("picture speed", name, "later.toml a.toml")
-                self.assertEqual((self.room / name).read_bytes()[: len(begins)], begins)
+                told = self.printed("picture density a.png", words)
+                self.assertRegex(told, f"^density from [.0-9]+ to {high:.4g}\n$")
+        kinds = {"svg": b"<?xml", "pdf": b"%PDF", "webp": b"RIFF", "png": b"\x89PNG"}
+        for kind, begins in kinds.items():
+            with self.subTest(kind=kind):
+                self.printed(f"picture speed a.{kind} later.toml a.toml")
+                self.assertTrue((self.room / f"a.{kind}").read_bytes().startswith(begins))
         self.assertEqual(self.printed("picture particles a.svg three --scene a.toml"), "")
 
     def test_a_film_computes_each_generation_once(self):
@@ -595,10 +497,8 @@ class Commands(unittest.TestCase):
             with self.subTest(more=more):
                 run = fhpgas.Lattice.run
                 with unittest.mock.patch.object(fhpgas.Lattice, "run", autospec=True) as call:
-                    call.side_effect = run
-                    told = self.printed(
-                        "film a.toml a.gif --every 5 --until 40 --what density --block 11 9", more
-                    )
+                    call.side_effect, looks = run, "--what density --block 11 9"
+                    told = self.printed("film a.toml a.gif --every 5 --until 40", looks, more)
                 self.assertEqual(told, "a.gif: 9 frames, generations 0 to 40\n")
                 self.assertEqual(sum(each.args[1] for each in call.call_args_list), 40)
 
