@@ -11,7 +11,7 @@ import sys
 
 sys.path.append(f"{sys.path[0]}/../lib")
 import needs
-from package_case import GASES, ROOT3, Package
+from package_case import AREA, GASES, ROOT3, Package
 
 import fhpgas
 import numpy as np
@@ -77,28 +77,16 @@ class Drawing(Package):
     def test_an_equilibrium_is_that_of_fermi_and_dirac(self):
         """It has the wanted moments, and collisions keep it: the odds of the particles before
         and after are the same."""
-        d, u, v = np.array(
-            [
-                [0.2, 0.3, 0.0],
-                [0.5, 0.1, -0.2],
-                [0.9, 0.02, 0.03],
-                [0.1, 0.0, 0.4],
-                [0, 0, 0],
-                [1, 0, 0],
-            ]
-        ).T
+        flows = (0.2, 0.3, 0.0), (0.5, 0.1, -0.2), (0.9, 0.02, 0.03), (0.1, 0.0, 0.4)
+        d, u, v = np.array([*flows, (0, 0, 0), (1, 0, 0)]).T
         for gas in map(fhpgas.gas_named, GASES):
             with self.subTest(gas=gas.name):
                 chances = fhpgas.equilibrium(gas, d, u, v)
-                self.same(
-                    (chances.sum(0), *(gas.velocities.T @ chances)),
-                    gas.directions * d * np.array([np.ones(6), u, v]),
-                )
+                moments = chances.sum(0), *(gas.velocities.T @ chances)
+                self.same(moments, gas.directions * d * np.array([np.ones(6), u, v]))
                 odds = np.log(chances[:, :4] / (1 - chances[:, :4]))
-                states = slice(1 << gas.directions)
-                self.same(
-                    gas.bits[states] @ odds, gas.bits[gas.collisions("left")[states]] @ odds, 10
-                )
+                after = gas.collisions("left")[: 1 << gas.directions]
+                self.same(gas.bits[: len(after)] @ odds, gas.bits[after] @ odds, 10)
         self.same(fhpgas.equilibrium("hpp", 0.2), [0.2] * 4)
 
     def test_a_gas_is_drawn_from_the_raw_bits_of_pcg64(self):
@@ -107,31 +95,19 @@ class Drawing(Package):
         for name in GASES:
             with self.subTest(gas=name):
                 gas = fhpgas.gas_named(name)
-                found = fhpgas.draw_gas(
-                    0.2, shear[1][:11], size=Size(37, 11), gas=name, seed=seed
-                ).states
-                self.assertEqual(
-                    found.tolist(),
-                    plainly_drawn(
-                        fhpgas.equilibrium(gas, 0.2, shear[1][:11])[..., 0], 37, 11, seed
-                    ).tolist(),
-                )
+                known = 0.2, shear[1][:11]
+                found = fhpgas.draw_gas(*known, size=Size(37, 11), gas=name, seed=seed).states
+                plain = plainly_drawn(fhpgas.equilibrium(gas, *known)[..., 0], 37, 11, seed)
+                self.assertEqual(found.tolist(), plain.tolist())
                 self.assertEqual(hashlib.sha256(found.tobytes()).hexdigest(), DRAWN[name])
                 values = [np.array(field) for field in shear]
                 whole = fhpgas.fields.drawn(gas, values, (500, 130), 9)
-                for first, last, left, right in (
-                    (0, 1, 0, 130),
-                    (1, 300, 0, 129),
-                    (300, 500, 3, 8),
-                    (2, 9, 4, 130),
-                    (499, 500, 129, 130),
-                ):
+                places = (0, 1, 0, 130), (1, 300, 0, 129), (300, 500, 3, 8), (2, 9, 4, 130)
+                for first, last, left, right in (*places, (499, 500, 129, 130)):
                     part = [value[first:last] if value.ndim else value for value in values]
                     shape = last - first, right - left
-                    self.assertEqual(
-                        fhpgas.fields.drawn(gas, part, shape, 9, (first, left), 130).tolist(),
-                        whole[first:last, left:right].tolist(),
-                    )
+                    found = fhpgas.fields.drawn(gas, part, shape, 9, (first, left), 130)
+                    self.assertEqual(found.tolist(), whole[first:last, left:right].tolist())
         script = (
             "import fhpgas, hashlib, numpy as np; east = 0.3 * np.cos(np.arange(11) / 9)[:,"
             " None]\nfor gas in fhpgas.GASES:\n"
@@ -157,19 +133,13 @@ class Drawing(Package):
             [lambda X, Y: 0.3 + 0 * Y, X / 200, 0 * Y[0]],
         ):
             self.assertEqual(fhpgas.draw_gas(*fields, size=Size(64, 47), solid=disc, seed=2), one)
-        self.assertEqual(
-            one,
-            fhpgas.Lattice(
-                np.where(disc, 0, fhpgas.draw_gas(0.3, X / 200, seed=2).states), disc, seed=2
-            ),
-        )
+        states = np.where(disc, 0, fhpgas.draw_gas(0.3, X / 200, seed=2).states)
+        self.assertEqual(one, fhpgas.Lattice(states, disc, seed=2))
         self.assertNotEqual(fhpgas.draw_gas(0.3, X / 200, solid=disc, seed=3), one)
         self.assertGreater(*one.blocks(32, 47).east[0, ::-1])
         along, size = np.arange(64) / 200, Size(64, 47)  # a profile along the rows
-        self.assertEqual(
-            fhpgas.draw_gas(0.3, along, size=size, gas="hpp"),
-            fhpgas.draw_gas(0.3, lambda X, Y: X / 200 + 0 * Y, size=size, gas="hpp"),
-        )
+        other = fhpgas.draw_gas(0.3, lambda X, Y: X / 200 + 0 * Y, size=size, gas="hpp")
+        self.assertEqual(fhpgas.draw_gas(0.3, along, size=size, gas="hpp"), other)
         self.assertEqual(fhpgas.draw_gas(1, size=Size(5, 4)).particles, 120)
         sparse = [
             fhpgas.draw_gas(part / 65536, size=Size(1024, 512)).particles for part in (0.4, 0.6)
@@ -183,61 +153,39 @@ class Drawing(Package):
             (8, 9), ((0, 1, 1), (1, 7, 5), (2, 19, 13))
         ):
             with self.subTest(row=row, radius=radius):
-                self.assertEqual(
-                    [
-                        fhpgas.disc(Size(40, 24), 39, row, radius, gas).sum()
-                        for gas in ("fhp1", "hpp")
-                    ],
-                    [hexagon, square],
-                )
+                known = Size(40, 24), 39, row, radius
+                found = [fhpgas.disc(*known, gas).sum() for gas in ("fhp1", "hpp")]
+                self.assertEqual(found, [hexagon, square])
         for gas, (row, radius) in itertools.product(
             ("fhp1", "hpp"), ((0, 5.5), (7, 11), (22, 7 * ROOT3), (23, 60), (12, math.sqrt(43)))
         ):
             with self.subTest(gas=gas, row=row, radius=radius):
                 X, Y = fhpgas.positions(Size(40, 24), gas)
-                apart = [
-                    np.hypot(X - X[row, 33] + turn, Y - Y[row]) for turn in (-80, -40, 0, 40, 80)
-                ]
-                self.same(
-                    fhpgas.disc(Size(40, 24), 33, row, radius, gas),
-                    np.min(apart, 0) <= radius + 1e-9,
-                )
+                turned = (X - X[row, 33] + turn for turn in (-80, -40, 0, 40, 80))
+                apart = np.min([np.hypot(x, Y - Y[row]) for x in turned], 0)
+                self.same(fhpgas.disc(Size(40, 24), 33, row, radius, gas), apart <= radius + 1e-9)
 
     def test_shapes_have_their_cells(self):
         corners = [(5, 5), (60, 12), (30, 55)]
-        area = (
-            abs(sum(a * d - b * c for (a, b), (c, d) in zip(corners, corners[1:] + corners[:1])))
-            / 2
-        )
-        self.assertAlmostEqual(
-            fhpgas.polygon(Size(80, 64), corners).sum(), area, delta=60
-        )  # half of the cells at its rim
+        edges = zip(corners, corners[1:] + corners[:1])
+        area = abs(sum(a * d - b * c for (a, b), (c, d) in edges)) / 2
+        found = fhpgas.polygon(Size(80, 64), corners).sum()
+        self.assertAlmostEqual(found, area, delta=60)  # half of the cells at its rim
         box = np.zeros((9, 12), bool)
         box[2:5, 3:7] = True
-        self.assertEqual(
-            fhpgas.polygon(Size(12, 9), [(3, 2), (7, 2), (7, 5), (3, 5)], "hpp").tolist(),
-            box.tolist(),
-        )
-        self.assertEqual(
-            fhpgas.polygon(Size(12, 9), [(11, 2), (15, 2), (15, 5), (11, 5)], "hpp").tolist(),
-            np.roll(box, 8, 1).tolist(),
-        )
-        crossed = fhpgas.polygon(
-            Size(20, 20),
-            [(0, 0), (10, 0), (10, 10), (0, 10), (0, 0), (5, 0), (5, 5), (0, 5)],
-            "hpp",
-        )
+        for x in (3, 11):
+            found = fhpgas.polygon(Size(12, 9), [(x, 2), (x + 4, 2), (x + 4, 5), (x, 5)], "hpp")
+            self.assertEqual(found.tolist(), np.roll(box, x - 3, 1).tolist())
+        twice = [(0, 0), (10, 0), (10, 10), (0, 10), (0, 0), (5, 0), (5, 5), (0, 5)]
+        crossed = fhpgas.polygon(Size(20, 20), twice, "hpp")
         self.assertEqual((crossed.sum(), crossed[2, 2], crossed[2, 7]), (75, False, True))
         porous, nozzle = fhpgas.porous(Size(60, 40), 0.25, 2, 5), fhpgas.nozzle(Size(64, 31), 7, 40)
         self.assertTrue(600 <= porous.sum() < 619)
-        self.assertEqual(
-            (porous.tolist(), fhpgas.porous(Size(6, 5), 1, 0).all()),
-            (fhpgas.porous(Size(60, 40), 0.25, 2, 5).tolist(), True),
-        )
+        self.assertEqual(porous.tolist(), fhpgas.porous(Size(60, 40), 0.25, 2, 5).tolist())
+        self.assertTrue(fhpgas.porous(Size(6, 5), 1, 0).all())
         openings = (31 - nozzle.sum(0)).tolist()
-        self.assertTrue(
-            min(openings) == openings[32] == 7 and {31} == {*openings[:12], *openings[52:]}
-        )
+        self.assertEqual((min(openings), openings[32]), (7, 7))
+        self.assertEqual({*openings[:12], *openings[52:]}, {31})
         self.assertEqual(openings[:33], sorted(openings[:33])[::-1])
         for solid in (porous, nozzle | fhpgas.disc(Size(64, 31), 0, 15, 3), box, ~box):
             with self.subTest(solid=solid.shape):
@@ -245,66 +193,59 @@ class Drawing(Package):
                 for x, y, w, h in fhpgas.shapes.rectangles(solid):
                     again[y : y + h, x : x + w] += 1
                 self.assertEqual(again.tolist(), solid.astype(int).tolist())
-        self.assertEqual(
-            fhpgas.shapes.rectangles(~box),
-            [[0, 0, 12, 2], [0, 2, 3, 3], [7, 2, 5, 3], [0, 5, 12, 4]],
-        )
+        parts = [[0, 0, 12, 2], [0, 2, 3, 3], [7, 2, 5, 3], [0, 5, 12, 4]]
+        self.assertEqual(fhpgas.shapes.rectangles(~box), parts)
 
     def test_a_picture_is_a_mask(self):
         """The same letter as PBM, in both kinds, as PNG in grey, of 16 bits, in colours, of a
         palette and transparent, and as an array."""
-        dark = np.array(
-            [[pixel == "#" for pixel in row] for row in ("###.", "#..#", "###.", "#.#.", "#..#")]
-        )
+        rows = "###.", "#..#", "###.", "#.#.", "#..#"
+        dark = np.array([[pixel == "#" for pixel in row] for row in rows])
         grey = Image.fromarray(np.where(dark, 90, 200).astype(np.uint8))
-        clear = Image.merge(
-            "RGBA",
-            [Image.new("L", (4, 5), 30)] * 3 + [Image.fromarray(dark.astype(np.uint8) * 255)],
-        )
+        solid = Image.fromarray(dark.astype(np.uint8) * 255)
+        clear = Image.merge("RGBA", [Image.new("L", (4, 5), 30)] * 3 + [solid])
         deep = Image.fromarray(np.where(dark, 0x3000, 0xC000).astype(np.int32)).convert("I;16")
-        (self.room / "plain.pbm").write_text(
-            "P1 # letter\n4 5\n"
-            + "\n".join(" ".join("01"[d] for d in row) for row in dark.tolist())
-        )
+        bits = "\n".join(" ".join("01"[d] for d in row) for row in dark.tolist())
+        (self.room / "plain.pbm").write_text("P1 # letter\n4 5\n" + bits)
         grey.convert("1", dither=Image.Dither.NONE).save(self.room / "bits.pbm")
         for k, image in enumerate((grey, grey.convert("P"), grey.convert("RGB"), clear, deep)):
             image.save(self.room / f"{k}.png")
         for picture in (*self.room.iterdir(), dark, dark.tolist()):
             with self.subTest(picture=str(picture)):
                 found = fhpgas.bitmap(Size(12, 9), picture, 1, 2, 3, "hpp")
-                self.assertEqual(
-                    (found[3:8, 2:6].tolist(), found.sum()), (dark.tolist(), dark.sum()), picture
-                )
+                self.assertEqual(found[3:8, 2:6].tolist(), dark.tolist())
+                self.assertEqual(found.sum(), dark.sum())
         drawn = fhpgas.bitmap(Size(64, 40), dark, 6, 10, 4)
-        self.assertEqual(
-            [drawn[y][x] for y, x in ((5, 12), (30, 12), (25, 24), (5, 30), (3, 12), (15, 20))],
-            [1, 1, 1, 0, 0, 0],
-        )
+        places = (5, 12), (30, 12), (25, 24), (5, 30), (3, 12), (15, 20)
+        self.assertEqual([drawn[place] for place in places], [1, 1, 1, 0, 0, 0])
         self.assertAlmostEqual(drawn.sum(), dark.sum() * 36 / (ROOT3 / 2), delta=40)
         for column, row in ((41, 4), (10, 6), (-1, 4), (10, -1)):
             with self.subTest(column=column, row=row):
-                self.fault(
-                    "the picture leaves the channel of 64 x 40 cells",
-                    fhpgas.bitmap,
-                    Size(64, 40),
-                    dark,
-                    6,
-                    column,
-                    row,
-                )
+                why = "the picture leaves the channel of 64 x 40 cells"
+                self.fault(why, fhpgas.bitmap, Size(64, 40), dark, 6, column, row)
         for data in (b"GIF", (self.room / "0.png").read_bytes()[:50], b"P1\n4"):
             with self.subTest(data=data):
-                (self.room / "letter").write_bytes(data)
-                self.fault(
-                    f"{self.room / 'letter'}: ", fhpgas.bitmap, Size(64, 40), self.room / "letter"
-                )
+                (path := self.room / "letter").write_bytes(data)
+                self.fault(f"{path}: ", fhpgas.bitmap, Size(64, 40), path)
+
+    def test_a_seed_sequence_is_a_seed_and_so_is_each_that_it_spawns(self):
+        """The seed is the first 63 bits of its state."""
+        size, starts = Size(64, 47), set()
+        for sequence in (np.random.SeedSequence(5), *np.random.SeedSequence(5).spawn(2)):
+            bits, found = "".join(f"{word:032b}" for word in sequence.generate_state(2)), []
+            for seed in sequence, int(bits[:63], 2):
+                start = fhpgas.draw_gas(0.2, size=size, seed=seed)
+                later = start.replace(seed=seed).run(3), fhpgas.with_seed(AREA, seed)
+                points = [*start.driven(4, 2, force=0.01, seed=seed)]
+                found.append([later, points, fhpgas.porous(size, 0.2, 2, seed).tolist()])
+                starts.add(start)
+            self.assertEqual(found[0], found[1])
+        self.assertEqual(len(starts), 3)
 
     def test_equal_seeds_of_different_calls_are_separate_streams(self):
         """Their raw bits differ in half of all places, and `gas` has the ones of PCG64(seed)."""
-        words = [
-            np.random.PCG64(5).random_raw(1000),
-            *(fhpgas.fields.lots_of(call, 5).random_raw(1000) for call in ("porous", "driven")),
-        ]
+        streams = [fhpgas.fields.lots_of(call, 5) for call in ("porous", "driven")]
+        words = [stream.random_raw(1000) for stream in (np.random.PCG64(5), *streams)]
         for one, other in itertools.combinations(words, 2):
             differ = np.unpackbits((one ^ other).view(np.uint8)).mean()
             self.assertAlmostEqual(differ, 1 / 2, delta=5 * 0.5 / math.sqrt(64_000))
