@@ -54,6 +54,5 @@ if importlib.util.find_spec("numpy"):
 else:
 
     def __getattr__(name: str) -> object:
-        raise AttributeError(
-            f"fhpgas.{name} needs numpy, and this Python has none (Debian: python3-numpy)"
-        )
+        why = "needs numpy, and this Python has none (Debian: python3-numpy)"
+        raise AttributeError(f"fhpgas.{name} {why}")

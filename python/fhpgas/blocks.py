@@ -2,15 +2,14 @@
 import dataclasses
 import functools
 import io
-import os
 import pathlib
 from typing import Any, ClassVar
 
 import numpy as np
 
 from .fault import Fault, real
-from .files import read_bytes, write_whole
-from .fields import Size, pair_checked, size_of
+from .files import Path, read_bytes, write_whole
+from .fields import Size, number_of, pair_checked, size_of
 from .gases import Array, Gas, array_of, gas_named, read_only
 from .scenes import naming
 
@@ -61,7 +60,7 @@ class Value:
 
         return pictures.plot(self, what, ax, **options)
 
-    def save(self: Any, path: str | os.PathLike[str]) -> None:
+    def save(self: Any, path: Path) -> None:
         """Writes all parts to an .npz file of numpy, which is whole or as before.
 
         Parameters
@@ -83,7 +82,7 @@ class Value:
         """
         write_whole(path, self._saved(path))
 
-    def _saved(self: Any, path: str | os.PathLike[str], usual: str = ".npz") -> bytes:
+    def _saved(self: Any, path: Path, usual: str = ".npz") -> bytes:
         """The bytes of a file, by its suffix or the usual one."""
         from . import forms
 
@@ -197,26 +196,19 @@ class Blocks(Value):
     members: int = 1
 
     def __post_init__(self) -> None:
-        (columns, rows), block = size_of(self.size), pair_checked(self.block, "a block")
-        width, height = block
+        size, block = size_of(self.size), pair_checked(self.block, "a block")
         sums = {name: read_only(array_of(name, getattr(self, name)).copy()) for name in SUMS}
-        shape = -(-rows // height), -(-columns // width)
-        if any(array.shape != shape or array.dtype.kind not in "iuf" for array in sums.values()):
-            raise Fault(
-                f"{columns} x {rows} cells have {shape[1]} x {shape[0]} blocks of {width} x"
-                f" {height}, and the sums are arrays [row, column] of"
-                f" {', '.join(str(array.shape) for array in sums.values())}"
-            )
-        self.__dict__.update(sums, gas=gas_named(self.gas), block=block, size=Size(columns, rows))
+        number, shapes = number_of(size, block), [array.shape for array in sums.values()]
+        kinds = {array.dtype.kind for array in sums.values()}
+        if {*shapes} != {number.shape} or not kinds <= {*"iuf"}:
+            has = f"{size} cells have {number} blocks of {block}"
+            raise Fault(f"{has}, and the sums are arrays [row, column] of {shapes}")
+        self.__dict__.update(sums, gas=gas_named(self.gas), block=block, size=size)
 
     def __repr__(self) -> str:
-        rows, columns = self.fluid.shape
+        cells = f"{number_of(self.size, self.block)} of {self.block} cells of {self.gas}"
         of = f", {self.members} members" if self.members > 1 else ""
-        width, height = self.block
-        return (
-            f"<Blocks {columns} x {rows} of {width} x {height} cells of {self.gas},"
-            f" generation {self.generation}{of}>"
-        )
+        return f"<Blocks {cells}, generation {self.generation}{of}>"
 
     def __add__(self, other: "Blocks") -> "Blocks":
         """The sums of two lattices of the same blocks, with the generation of the second.
@@ -224,15 +216,10 @@ class Blocks(Value):
         if not isinstance(other, Blocks):
             return NotImplemented
         if (self.gas, self.block, self.size) != (other.gas, other.block, other.size):
-            raise Fault(
-                "only blocks of one gas, one size and one lattice's size can be added, and these"
-                f" are {self} and {other}"
-            )
-        return dataclasses.replace(
-            other,
-            members=self.members + other.members,
-            **{name: getattr(self, name) + getattr(other, name) for name in SUMS},
-        )
+            why = "only blocks of one gas, one size and one lattice's size can be added"
+            raise Fault(f"{why}, not {self} and {other}")
+        added = {name: getattr(self, name) + getattr(other, name) for name in (*SUMS, "members")}
+        return dataclasses.replace(other, **added)
 
     def __radd__(self, other: Any) -> "Blocks":
         if not isinstance(other, int) or other:
@@ -456,32 +443,25 @@ def read_table(
     >>> fhpgas.read_table(text, "fhp1", (8, 9), start) == start.blocks(8, 9)
     True
     """
-    (columns, rows), (width, height) = size_of(size), pair_checked(block, "a block")
-    shape = -(-rows // height), -(-columns // width)
+    columns, rows = number = number_of(size_of(size), pair_checked(block, "a block"))
     first, _, body = (text.encode() if isinstance(text, str) else text).partition(b"\n")
     try:
-        if (
-            first != HEADER.encode()
-            or body.count(b"\n") != shape[0] * shape[1]
-            or body.translate(None, b"-0123456789 \n")
-        ):
+        is_whole = first == HEADER.encode() and body.count(b"\n") == rows * columns
+        if not is_whole or body.translate(None, b"-0123456789 \n"):
             raise ValueError
-        table = np.loadtxt(io.BytesIO(body), np.int64).reshape(*shape, 6)
-        if (table[..., 1::-1] != np.moveaxis(np.indices(shape), 0, -1)).any():
+        table = np.loadtxt(io.BytesIO(body), np.int64).reshape(rows, columns, 6)
+        if (table[..., 1::-1] != np.moveaxis(np.indices(number.shape), 0, -1)).any():
             raise ValueError
     except (ValueError, OverflowError):
-        raise Fault(
-            f"this is no whole table of `coarse` with {shape[1]} columns and {shape[0]} rows of"
-            " blocks"
-        ) from None
+        what = f"no whole table of `coarse` with {columns} columns and {rows} rows of blocks"
+        raise Fault(f"this is {what}") from None
     fluid, particles, px, py = np.moveaxis(table[..., 2:], -1, 0)
     blocks = Blocks(fluid, particles, px, py, gas_named(gas), block, size, generation)
     for name, most in blocks.most().items():
         if (wrong := np.abs(getattr(blocks, name)) > most).any():
             row, column = np.argwhere(wrong)[0]
-            raise Fault(
-                f"column {column} row {row} has {name} {getattr(blocks, name)[row, column]}, and a"
-                f" block of {blocks.gas} with its cells and particles at most {most[row, column]}:"
-                " the table is of another gas, size or block"
-            )
+            has = f"{name} {getattr(blocks, name)[row, column]}, and a block of {blocks.gas} with"
+            has += f" its cells and particles at most {most[row, column]}"
+            why = "the table is of another gas, size or block"
+            raise Fault(f"column {column} row {row} has {has}: {why}")
     return blocks

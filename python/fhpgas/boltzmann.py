@@ -17,7 +17,7 @@ import numpy as np
 
 from .fault import Fault, integer, real
 from .fields import equilibrium
-from .gases import SIDES, STATES, Array, Gas, array_of, chirality_named, gas_named
+from .gases import SIDES, STATES, TOO_FEW, Array, Gas, array_of, chirality_named, gas_named
 
 TRIPLES = 0x15, 0x2A  # the states of the moving particles
 
@@ -235,10 +235,7 @@ class Flow:
             after[west] -= force * turns * ~self.solid
         if after.min() < 0 or after.max() > 1:
             y, x = np.argwhere(((after < 0) | (after > 1)).any(0))[0]
-            raise Fault(
-                f"row {y} column {x} has too few particles to turn: the flow is too fast, the force"
-                " too large, or the gas too thin"
-            )
+            raise Fault(f"row {y} column {x} has {TOO_FEW}")
         return after
 
     def density(self, chances: Array) -> Array:

@@ -14,8 +14,7 @@ PAIRS = np.array(TEXTS, "S2").view("<u2")  # the characters of a byte
 CODES = np.full(1 << 16, NO_CELL, np.uint8)  # the byte of two characters
 CODES[PAIRS[: SOLID + 1]] = range(SOLID + 1)
 CODES[ord("0") * 257] = 0
-NUMBER = np.array([state.bit_count() for state in range(SOLID)])  # of the particles of a state
-CACHED = 1 << 17  # cells that are counted at a time
+NUMBER = np.array([(code & SOLID - 1).bit_count() for code in range(256)], np.uint8)  # of particles
 
 
 def codes_of(states: Array, solid: Array) -> Array:
@@ -26,13 +25,6 @@ def codes_of(states: Array, solid: Array) -> Array:
 def parts_of(codes: Array) -> tuple[Array, Array]:
     """The states and the solid cells of bytes."""
     return codes & SOLID - 1, (codes >> 7).view(bool)
-
-
-def number_of(codes: Array) -> Array:
-    """How many cells have each of the 256 values of a byte, counted a few rows at a time."""
-    rows = max(1, CACHED // codes.shape[1])
-    parts = (codes[top : top + rows].ravel() for top in range(0, len(codes), rows))
-    return sum((np.bincount(part, minlength=256) for part in parts), np.zeros(256, int))
 
 
 def lines_of(codes: Array, before: bytes = b"", after: bytes = b"\n") -> bytes:
@@ -52,21 +44,17 @@ def cells_of(printed: str | bytes, size: tuple[int, int] | None = None) -> tuple
     head = re.match(rb"generation (\d+) particles (\d+)\n([^\n]+\n)", text)
     width = len(head[3]) if head else 0
     if not head or width % 2 == 0 or (len(text) - head.start(3)) % width:
-        raise Fault(
-            "these are no printed cells, or not all: they begin with `generation g particles c`,"
-            " and then have rows of one length"
-        )
+        why = "they begin with `generation g particles c`, and then have rows of one length"
+        raise Fault(f"these are no printed cells, or not all: {why}")
     lines = np.frombuffer(text, np.uint8, offset=head.start(3)).reshape(-1, width)
     codes = CODES[lines[:, :-1].view("<u2")]
     if (wrong := (codes == NO_CELL) | (lines[:, -1:] != ord("\n"))).any():
         raise Fault(
-            f"these are no printed cells: row {np.argwhere(wrong)[0][0]} contains something else"
+            f"these are no printed cells: row {np.argwhere(wrong)[0][0]} has something else"
         )
     if size is not None and codes.shape != size[::-1]:
         found = f"{codes.shape[1]} x {codes.shape[0]} (columns x rows)"
         raise Fault(f"the cells are {found}, and not {size[0]} x {size[1]}")
-    if (particles := int(number_of(codes)[:SOLID] @ NUMBER)) != int(head[2]):
-        raise Fault(
-            f"the cells contain {particles} particles, and their first line says {int(head[2])}"
-        )
+    if (particles := int(NUMBER[codes].sum())) != int(head[2]):
+        raise Fault(f"the cells contain {particles} particles, and not {int(head[2])} as they say")
     return codes, int(head[1])

@@ -22,6 +22,7 @@ from .scenes import text_of
 
 PLACE, SIDE = whole(0, MOST_SIDE), whole(1, MOST_SIDE)
 CORNER = number(-2 * MOST_SIDE, 2 * MOST_SIDE)
+ABOUT_WIND = "the mean velocity of the particles, eastwards, and northwards as a second number"
 WORDS = {
     "--gas": word(default="fhp1", choices=GAS_NAMES),
     "--chirality": word(default="seeded", choices=CHIRALITIES),
@@ -30,20 +31,11 @@ WORDS = {
     "--height": word("1 to 65536", SIDE, 24, metavar="ROWS"),
     "--filling": word("the chance per direction, 0 to 1", number(0, 1), 0.2),
     "--patch": repeated("fill a rectangle otherwise", number(0, MOST_SIDE), *"XYWH", "FILLING"),
-    "--wind": word(
-        "the mean velocity of the particles, eastwards, and northwards as a second number",
-        number(-1, 1),
-        (0.0,),
-        nargs="+",
-        metavar="SPEED",
-    ),
+    "--wind": word(ABOUT_WIND, number(-1, 1), (0.0,), nargs="+", metavar="SPEED"),
     "--closed": {"action": "store_true", "help": "a solid first column: nothing passes the ends"},
     "--block": repeated("a solid rectangle", PLACE, *"XYWH"),
 }
-ABOUT_DISCS = (
-    "middle (column and row) and radius in cells' widths: a disc of radius 16 takes 33 columns and"
-    " 37 rows of the triangular lattice; goes on past the last column, is cut at the walls"
-)
+ABOUT_DISCS = "middle (column, row) and radius in cells' widths; is periodic, and cut at the walls"
 CORNERS = word("the corners; may be repeated", CORNER, nargs="+", action="append", metavar="X Y")
 WORDS_OF_SHAPES: dict[str, dict[str, Any]] = {
     "--disc": repeated(ABOUT_DISCS, PLACE, "X", "Y", "RADIUS"),
@@ -120,10 +112,8 @@ def windy(
     if len(asked.wind) > 2:
         raise Usage("a wind has a speed eastwards and one northwards")
     if map_bytes(*size) > MOST_BYTES:
-        raise Fault(
-            f"a wind makes a map, and this one would be longer than the {MOST_BYTES} bytes that the"
-            " program reads"
-        )
+        why = f"longer than the {MOST_BYTES} bytes that the program reads"
+        raise Fault(f"a wind makes a map, and this one would be {why}")
     filling = np.full(size.shape, asked.filling)
     walls = np.zeros(size.shape, bool) if solid is None else solid
     for x, y, w, h in blocks:
@@ -132,10 +122,8 @@ def windy(
         x, y, w, h = map(int, patch)
         fhpgas.shapes.check_inside("a patch", (x, y, w, h), size)
         if [x, y, w, h] != patch or chance > 1:
-            raise Usage(
-                "a patch is whole columns and rows and a filling of 0 to 1, not"
-                f" {' '.join(f'{n:g}' for n in (*patch, chance))}"
-            )
+            given = " ".join(f"{n:g}" for n in (*patch, chance))
+            raise Usage(f"a patch is whole columns and rows and a filling of 0 to 1, not {given}")
         filling[y : y + h, x : x + w] = chance
     drawn, known = filling if asked.patch else asked.filling, {"size": size, "solid": walls}
     known |= {"gas": asked.gas, "chirality": asked.chirality, "seed": seed}

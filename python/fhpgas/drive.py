@@ -13,7 +13,7 @@ import numpy as np
 
 from .fault import Fault, integer, real, seed_of
 from .fields import lots_of
-from .gases import Array
+from .gases import TOO_FEW, Array
 from .planes import Cells
 from .runs import counted
 
@@ -104,16 +104,11 @@ def driven(
     True
     """
     if (force is None) == (flow is None):
-        raise Fault(
-            "a flow is driven either by a force or towards a mean flow: force=.. or flow=.."
-            " (--force, --flow)"
-        )
+        ways = "force=.. or flow=.. (--force, --flow)"
+        raise Fault(f"a flow is driven either by a force or towards a mean flow: {ways}")
     every = integer("the number of generations between points", every, 1)
     if integer("the number of generations", generations) % every:
-        raise Fault(
-            f"{generations} generations are not a multiple of {every}, those from one point to the"
-            " next"
-        )
+        raise Fault(f"{generations} generations are not a multiple of {every}, those of a step")
     if not lattice.particles:
         raise Fault("the lattice has no particle that could be turned")
     if force is not None:
@@ -168,11 +163,9 @@ class _Kicks:
         debt = float(np.maximum(np.abs(self.owed) - 0.5, 0).sum())
         asked = abs(wanted) * sum(turns for *_, turns in self.pairs)
         if debt > self.debt and debt > self.owed.size + asked / 2:
-            raise Fault(
-                f"the rows owe {debt:.0f} turns of {asked:.0f} per kick, and have no more particles"
-                " to turn: the flow is too fast, the force too large, or the gas too thin. A flow"
-                " from rest needs them all at once: begin with a gas that moves (east=..)"
-            )
+            way = "A flow from rest needs them all at once: begin with a gas that moves (east=..)"
+            owed = f"the rows owe {debt:.0f} turns of {asked:.0f} per kick"
+            raise Fault(f"{owed}, and have {TOO_FEW}. {way}")
         self.debt = debt
         if not keeps_rest:
             np.clip(self.owed, -0.5, 0.5, out=self.owed)

@@ -26,6 +26,7 @@ import numpy as np
 from numpy.ctypeslib import ndpointer
 
 from .fault import Fault, integer
+from .fields import Size, number_of
 from .gases import Array
 from .program import SYSTEM
 from .runs import cores_of_call, counted, runs
@@ -38,10 +39,7 @@ if TYPE_CHECKING:
 INTERFACE = 3
 GASES = {"fhp1": 0, "hpp": 1, "fhp-rest": 2}
 CHIRALITIES = {"seeded": 0, "left": 1, "right": 2}
-REFUSALS = {
-    4: "a part begins at an even row",
-    5: "the last generation is not below 2^64",
-}
+REFUSALS = {4: "a part begins at an even row", 5: "the last generation is not below 2^64"}
 U32, U64, SIZE = ctypes.c_uint32, ctypes.c_uint64, ctypes.c_size_t
 WORDS = ndpointer(np.uint64, flags="C"), SIZE
 NEW_WORDS, NEW_SUMS = ((ndpointer(kind, flags=("C", "W")), SIZE) for kind in (np.uint64, np.int64))
@@ -147,7 +145,7 @@ def sums(lattice: Lattice, width: int, height: int) -> Array:
     particles, and momenta eastwards and northwards."""
     (columns, rows), gas = lattice.size, GASES[lattice.gas.name]
     width, height = min(width, columns), min(height, rows)
-    found = np.empty((-(-rows // height), -(-columns // width), 4), np.int64)
+    found = np.empty((*number_of(lattice.size, Size(width, height)).shape, 4), np.int64)
     many = max(1, CUT // (columns * height))
     for row in range(0, len(found), many):
         part = slice(row * height, min((row + many) * height, rows))
@@ -159,14 +157,10 @@ def sums(lattice: Lattice, width: int, height: int) -> Array:
 def _call(name: str, *given: Any) -> int:
     """What a call of the library returns. An array is passed with its length."""
     if (found := library()) is None:
-        raise Fault(
-            f"this package has no engine for {SYSTEM}, so it runs no lattice (its wheel for Linux"
-            " on x86-64 has one)"
-        )
-    words: list[Any] = []
-    for word in given:
-        words += [word, word.size] if isinstance(word, np.ndarray) else [word]
-    return int(getattr(found, f"fhpgas_{name}")(*words))
+        has = "its wheel for Linux on x86-64 has one"
+        raise Fault(f"this package has no engine for {SYSTEM}, so it runs no lattice ({has})")
+    pairs = ((word, word.size) if isinstance(word, np.ndarray) else (word,) for word in given)
+    return int(getattr(found, f"fhpgas_{name}")(*itertools.chain.from_iterable(pairs)))
 
 
 def _done(name: str, *given: Any) -> None:

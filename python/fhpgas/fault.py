@@ -40,10 +40,8 @@ def integer(what: str, value: SupportsIndex, least: int = 0, most: int | None = 
     with contextlib.suppress(TypeError):
         if least <= (number := operator.index(value)) and (most is None or number <= most):
             return number
-    raise Fault(
-        f"{what} is an integer from {least}{f' to {most}' if most is not None else ''}, not"
-        f" {reprlib.repr(value)}"
-    )
+    limits = f"from {least}" if most is None else f"from {least} to {most}"
+    raise Fault(f"{what} is an integer {limits}, not {reprlib.repr(value)}")
 
 
 def real(what: str, value: Any, least: float = -math.inf, most: float = math.inf) -> float:
@@ -113,9 +111,8 @@ def within(kind: Callable[[str], float], least: float, most: float) -> Callable[
         with contextlib.suppress(ValueError, OverflowError):
             if least <= kind(word) <= most:
                 return kind(word)
-        raise argparse.ArgumentTypeError(
-            f"{word} is no {'integer' if kind is int else 'number'} from {least} to {most}"
-        )
+        kinds = "integer" if kind is int else "number"
+        raise argparse.ArgumentTypeError(f"{word} is no {kinds} from {least} to {most}")
 
     return number
 

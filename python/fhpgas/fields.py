@@ -50,27 +50,30 @@ def size_of(size: Any) -> Size:
     if isinstance(size, np.ndarray) and size.ndim == 2:
         found = Size(*size.shape[::-1])
     if not isinstance(found, Size):
-        raise Fault(
-            "a size is fhpgas.Size(columns, rows), or a lattice or an array [y, x] of this size,"
-            f" not {reprlib.repr(size)}"
-        )
-    return Size(*pair_checked(found, "a size"))
+        why = "a size is fhpgas.Size(columns, rows), or a lattice or an array [y, x] of this size"
+        raise Fault(f"{why}, not {reprlib.repr(size)}")
+    return pair_checked(found, "a size")
 
 
-def pair_checked(pair: Any, what: str, most: int | None = None) -> tuple[int, int]:
+def pair_checked(pair: Any, what: str, most: int | None = None) -> Size:
     """The columns and rows of a lattice, a block or a tile as two ints from 1 to `most`."""
     try:
         columns, rows = pair
     except (TypeError, ValueError):
         raise Fault(f"{what} is two integers, columns and rows, not {reprlib.repr(pair)}") from None
     width = integer(f"the number of columns of {what}", columns, 1, most)
-    return width, integer(f"the number of rows of {what}", rows, 1, most)
+    return Size(width, integer(f"the number of rows of {what}", rows, 1, most))
 
 
-def block_of(size: Size, width: Any, height: Any, most: int | None = None) -> tuple[int, int]:
+def block_of(size: Size, width: Any, height: Any, most: int | None = None) -> Size:
     """The columns and rows of a block as two ints from 1 to `most`. None is all of the lattice."""
     pair = tuple(side if own is None else own for side, own in zip(size, (width, height)))
     return pair_checked(pair, "a block", most)
+
+
+def number_of(size: Size, block: tuple[int, int]) -> Size:
+    """The columns and rows of blocks of a lattice, of which the last ones may be smaller."""
+    return Size(*(-(-side // step) for side, step in zip(size, block)))
 
 
 def positions(
@@ -134,14 +137,11 @@ def equilibrium(gas: str | Gas, filling: Any, east: Any = 0.0, north: Any = 0.0)
     (True, True)
     """
     named = gas_named(gas)
-    d, u, v = np.broadcast_arrays(
-        *map(numbers_of, ("filling", "east", "north"), (filling, east, north))
-    )
+    known = map(numbers_of, ("filling", "east", "north"), (filling, east, north))
+    d, u, v = np.broadcast_arrays(*known)
     if (wrong := ~((d >= 0) & (d <= 1))).any():
-        raise Fault(
-            f"a filling is the chance per direction, 0 to 1, not {d[wrong][0]:g} (particles per"
-            " cell are a density)"
-        )
+        why = f"{d[wrong][0]:g} (particles per cell are a density)"
+        raise Fault(f"a filling is the chance per direction, 0 to 1, not {why}")
     if (wrong := (d == 1) & ((u != 0) | (v != 0))).any():
         raise _impossible(named, d[wrong], u[wrong], v[wrong])
     chances, some = np.empty((named.directions, *d.shape)), (d > 0) & (d < 1)
@@ -155,9 +155,8 @@ def numbers_of(name: str, field: Any) -> Array:
     """A field as an array of finite floats. Anything else raises a Fault with its name."""
     values = array_of(f"the field `{name}`", field)
     if values.dtype.kind not in "biuf":
-        raise Fault(
-            f"the field `{name}` is numbers or a function of the place, not {reprlib.repr(field)}"
-        )
+        given = reprlib.repr(field)
+        raise Fault(f"the field `{name}` is numbers or a function of the place, not {given}")
     if not np.isfinite(values).all():
         raise Fault(f"the field `{name}` has a value that is not finite")
     return values.astype(float, copy=False)
@@ -167,15 +166,8 @@ def check_spread(name: str, field: Array, shape: tuple[int, ...]) -> None:
     """Raises a Fault if numpy does not spread a field over the rows and columns of a lattice."""
     pairs = zip(field.shape[::-1], shape[::-1])
     if field.ndim > 2 or any(have not in (1, want) for have, want in pairs):
-        raise Fault(
-            f"the field `{name}` has the shape {field.shape}, and the lattice {shape[0]} rows and"
-            f" {shape[1]} columns"
-        )
-
-
-def numbers_at(name: str, field: Any, places: tuple[Array, ...]) -> Array:
-    """The numbers of a field, which may be a function of the places X, Y."""
-    return numbers_of(name, field(*places) if callable(field) else field)
+        cells = f"{shape[0]} rows and {shape[1]} columns"
+        raise Fault(f"the field `{name}` has the shape {field.shape}, and the lattice {cells}")
 
 
 def _impossible(gas: Gas, d: Array, u: Array, v: Array) -> Fault:
@@ -191,9 +183,8 @@ def _solved(gas: Gas, d: Array, u: Array, v: Array) -> Array:
     square, is_done = float((gas.velocities[:, 0] ** 2).mean()), False
     h, qx, qy = np.log(1 / d - 1), -u / square / (1 - d), -v / square / (1 - d)
     for _ in range(200):
-        chances = np.stack(
-            [1 / (1 + np.exp(np.minimum(500.0, h + qx * x + qy * y))) for x, y in gas.velocities]
-        )
+        powers = (np.minimum(500.0, h + qx * x + qy * y) for x, y in gas.velocities)
+        chances = np.stack([1 / (1 + np.exp(power)) for power in powers])
         s, sx, sy = (-part for part in wanted)
         matrix = np.zeros((6, *d.shape))
         for n, (x, y) in zip(chances, gas.velocities):

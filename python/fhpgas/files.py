@@ -5,6 +5,7 @@ import pathlib
 import shutil
 import sys
 from collections.abc import Iterator
+from typing import TypeAlias
 
 from .fault import Fault
 
@@ -14,8 +15,11 @@ except ImportError:  # on Windows
     fcntl = None  # type: ignore[assignment]
 
 
+Path: TypeAlias = str | os.PathLike[str]
+
+
 @contextlib.contextmanager
-def of_file(path: str | os.PathLike[str]) -> Iterator[None]:
+def of_file(path: Path) -> Iterator[None]:
     """Lets an error of the system in the block be a Fault that begins with the path."""
     try:
         yield
@@ -23,7 +27,7 @@ def of_file(path: str | os.PathLike[str]) -> Iterator[None]:
         raise Fault(f"{path}: {fault.strerror or fault}") from None
 
 
-def read_bytes(path: str | os.PathLike[str]) -> bytes:
+def read_bytes(path: Path) -> bytes:
     """The bytes of a file, or of standard input for "-". An unreadable file raises a Fault."""
     with of_file(path):
         return sys.stdin.buffer.read() if str(path) == "-" else pathlib.Path(path).read_bytes()
@@ -34,7 +38,7 @@ def is_npz(data: bytes) -> bool:
     return data.startswith(b"PK")
 
 
-def plain_file(path: str | os.PathLike[str]) -> pathlib.Path:
+def plain_file(path: Path) -> pathlib.Path:
     """Where a file is written, behind symbolic links. What is there and no plain file raises a
     Fault."""
     real = pathlib.Path(os.path.realpath(path))
@@ -43,7 +47,7 @@ def plain_file(path: str | os.PathLike[str]) -> pathlib.Path:
     return real
 
 
-def write_whole(path: str | os.PathLike[str], data: bytes) -> None:
+def write_whole(path: Path, data: bytes) -> None:
     """Writes a file, which is whole or as before, also after a loss of power: what takes its name
     is finished and on the disk. Until then it has one name beside the file, so that killed runs
     leave one such file at most."""
@@ -67,12 +71,10 @@ def write_whole(path: str | os.PathLike[str], data: bytes) -> None:
 def _alone(folder: pathlib.Path) -> Iterator[None]:
     """Lets no other thread or process write a file of this folder in such a block, where the system
     of its disk has locks."""
-    number = os.open(folder, os.O_RDONLY) if fcntl else None
-    try:
-        if number is not None:
+    with contextlib.ExitStack() as ends:
+        if fcntl:
+            number = os.open(folder, os.O_RDONLY)
+            ends.callback(os.close, number)
             with contextlib.suppress(OSError):
                 fcntl.flock(number, fcntl.LOCK_EX)
         yield
-    finally:
-        if number is not None:
-            os.close(number)

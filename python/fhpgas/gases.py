@@ -16,6 +16,7 @@ ROOT3 = 3**0.5
 # The sides to which pairs turn, by chirality.
 SIDES = {"seeded": ("left", "right"), "left": ("left",), "right": ("right",)}
 STATES = np.arange(128, dtype=np.uint8)
+TOO_FEW = "too few particles to turn: the flow is too fast, the force too large, the gas too thin"
 # One moving and one at rest: two moving.
 EXCHANGES = {0x41: 0x22, 0x42: 0x05, 0x44: 0x0A, 0x48: 0x14, 0x50: 0x28, 0x60: 0x11}
 
@@ -49,13 +50,9 @@ def mask(values: Any) -> Array:
     """Truth values, or numbers that are 0 or 1, as a new array of truth values. Anything else, such
     as an image's greys, raises a Fault."""
     array = array_of("solid cells", values)
-    if array.dtype.kind not in "iub" or (
-        array.dtype.kind != "b" and ((array != 0) & (array != 1)).any()
-    ):
-        raise Fault(
-            f"solid cells are an array of truth values, or of 0 and 1, not {reprlib.repr(values)}"
-            f" of {array.dtype}: compare an image with a number, as in `image > 127`"
-        )
+    if array.dtype.kind not in "iub" or ((array != 0) & (array != 1)).any():
+        why = f"not {array.dtype}: compare an image with a number, as in `image > 127`"
+        raise Fault(f"solid cells are an array of truth values, or of 0 and 1, {why}")
     return array.astype(bool)
 
 
@@ -89,26 +86,17 @@ class Gas:
         The states with all particles turned back.
     """
 
-    def __init__(
-        self,
-        name: str,
-        momenta: Pairs,
-        units: tuple[float, float],
-        even: Pairs,
-        odd: Pairs,
-        row_distance: float,
-    ):
-        self.name, self.directions, self.row_distance = name, len(momenta), row_distance
-        self.is_square, self.shift = even == odd, 0.0 if even == odd else 0.5
-        self.momenta, self.units, self.steps = map(
-            read_only, (np.array(momenta), np.array(units), np.array([even, odd]))
-        )
+    def __init__(self, name: str, momenta: Pairs, units: Sequence[float], *steps: Pairs):
+        self.name, self.directions, self.row_distance = name, len(momenta), float(units[1])
+        self.is_square = len(steps) == 1  # even and odd rows have the same steps
+        self.shift, steps = 0.0 if self.is_square else 0.5, (steps * 2)[:2]
+        arrays = map(np.array, (momenta, units, steps))
+        self.momenta, self.units, self.steps = map(read_only, arrays)
         self.velocities = read_only(self.momenta * self.units)
         self.opposite = read_only(np.array([momenta.index((-x, -y)) for x, y in momenta]))
         self.bits = read_only((STATES[:, None] >> np.arange(self.directions) & 1).astype(np.uint8))
-        self.number, self.px, self.py = map(
-            read_only, (self.bits.sum(1, dtype=int), *(self.bits @ self.momenta).T)
-        )
+        sums = self.bits.sum(1, dtype=int), *(self.bits @ self.momenta).T
+        self.number, self.px, self.py = map(read_only, sums)
         self.turned = read_only((self.bits @ (1 << self.opposite)).astype(np.uint8))
 
     def __repr__(self) -> str:
@@ -147,11 +135,8 @@ class Gas:
         if along not in DRIVES:
             raise Fault(f"a force acts along one of {', '.join(DRIVES)}, not {reprlib.repr(along)}")
         momenta = self.momenta.tolist()
-        pairs = [
-            (momenta.index([x, y]), momenta.index([-x, y]))
-            for x, y in momenta
-            if x > 0 and (y == 0 or along == "directions")
-        ]
+        turned = [[x, y] for x, y in momenta if x > 0 and (y == 0 or along == "directions")]
+        pairs = [(momenta.index([x, y]), momenta.index([-x, y])) for x, y in turned]
         east = self.velocities[[pair[0] for pair in pairs], 0]
         return tuple((*pair, c / 2 / (east @ east)) for pair, c in zip(pairs, east.tolist()))
 
@@ -170,14 +155,12 @@ _EVEN = (1, 0), (0, -1), (-1, -1), (-1, 0), (-1, 1), (0, 1)
 _ODD = (1, 0), (1, -1), (0, -1), (-1, 0), (0, 1), (1, 1)
 _SQUARE = (1, 0), (0, -1), (-1, 0), (0, 1)
 _REST, _UNITS = (0, 0), (1 / 2, ROOT3 / 2)
-GASES = {
-    gas.name: gas
-    for gas in (
-        Gas("fhp1", _HEXAGON, _UNITS, _EVEN, _ODD, ROOT3 / 2),
-        Gas("hpp", ((1, 0), (0, 1), (-1, 0), (0, -1)), (1, 1), _SQUARE, _SQUARE, 1.0),
-        Gas("fhp-rest", (*_HEXAGON, _REST), _UNITS, (*_EVEN, _REST), (*_ODD, _REST), ROOT3 / 2),
-    )
-}
+_GASES = (
+    Gas("fhp1", _HEXAGON, _UNITS, _EVEN, _ODD),
+    Gas("hpp", ((1, 0), (0, 1), (-1, 0), (0, -1)), (1, 1), _SQUARE),
+    Gas("fhp-rest", (*_HEXAGON, _REST), _UNITS, (*_EVEN, _REST), (*_ODD, _REST)),
+)
+GASES = {gas.name: gas for gas in _GASES}
 
 
 def gas_named(name: str | Gas) -> Gas:

@@ -1,10 +1,9 @@
 """The lattice of a gas: its cells as numpy arrays, its runs, its pictures and its files."""
 import dataclasses
 import functools
-import os
 import pathlib
 import sys
-from typing import Any
+from typing import Any, TypeAlias
 
 import numpy as np
 
@@ -12,7 +11,7 @@ from . import drive, engine, fields, limits, long_runs
 from .blocks import Blocks, Value, read_table
 from .cells import cells_of, codes_of, lines_of, parts_of
 from .fault import Fault, integer, seed_of
-from .files import is_npz, write_whole
+from .files import Path, is_npz, write_whole
 from .gases import Array, Gas, array_of, chirality_named, gas_named, mask, read_only
 from .planes import Cells, Walls, block_ones
 from .plans import planned
@@ -20,6 +19,7 @@ from .program import call
 from .reader import KEYS
 from .scenes import Scene, height_of, keys_of, naming, scene_bytes, summary, text_of
 
+Side: TypeAlias = int | None  # of a block; None is all
 OTHER = {"left": "right", "right": "left", "seeded": "seeded"}
 
 
@@ -80,31 +80,18 @@ class Lattice(Value):
         if not isinstance(walls, Walls):
             walls = Walls(np.zeros(given.shape, bool) if solid is None else mask(solid))
         shape = given.shape
-        if (
-            len(shape) != 2
-            or walls.solid.shape != shape
-            or not all(1 <= side <= limits.MOST_SIDE for side in shape)
-        ):
-            raise Fault(
-                "states and solid cells are arrays [y, x] of one shape, 1 to"
-                f" {limits.MOST_SIDE} each way, not {shape} and {walls.solid.shape}"
-            )
+        is_of_cells = all(1 <= side <= limits.MOST_SIDE for side in shape) and len(shape) == 2
+        if not is_of_cells or walls.solid.shape != shape:
+            what = f"arrays [y, x] of one shape, 1 to {limits.MOST_SIDE} each way"
+            raise Fault(f"states and solid cells are {what}, not {shape} and {walls.solid.shape}")
         cells = given if isinstance(given, Cells) else Cells(named, _states_of(given, named))
         is_known = cells is states and walls is solid
         if not is_known and (both := walls.solid & (cells.states > 0)).any():
-            y, x = np.argwhere(both)[0]
-            raise Fault(
-                f"row {y} column {x} is solid and contains a particle: numpy.where(solid, 0,"
-                " states) clears such cells"
-            )
-        self.__dict__.update(
-            cells=cells,
-            walls=walls,
-            gas=named,
-            chirality=chirality_named(chirality),
-            seed=seed_of(seed),
-            generation=integer("a generation", generation, 0, limits.MOST_GENERATION),
-        )
+            (y, x), way = np.argwhere(both)[0], "numpy.where(solid, 0, states) clears such cells"
+            raise Fault(f"row {y} column {x} is solid and contains a particle: {way}")
+        generation = integer("a generation", generation, 0, limits.MOST_GENERATION)
+        values = cells, walls, named, chirality_named(chirality), seed_of(seed), generation
+        vars(self).update(zip(("cells", "walls", *self.PARTS[2:]), values))
 
     @property
     def states(self) -> Array:
@@ -205,7 +192,7 @@ class Lattice(Value):
             return read_only(engine.sums(self, *self.size)[2:, 0, 0] * self.gas.units)
         return read_only(self.counts() @ self.gas.velocities)
 
-    def counts(self, width: int | None = None, height: int | None = None) -> Array:
+    def counts(self, width: Side = None, height: Side = None) -> Array:
         """The numbers of particles by direction.
 
         Parameters
@@ -228,7 +215,7 @@ class Lattice(Value):
         block = fields.block_of(self.size, width, height)
         return block_ones(self.planes, self.size.columns, *block)
 
-    def blocks(self, width: int | None = 8, height: int | None = 9) -> Blocks:
+    def blocks(self, width: Side = 8, height: Side = 9) -> Blocks:
         """Sums over blocks of cells.
 
         Parameters
@@ -250,19 +237,14 @@ class Lattice(Value):
         if engine.library() and block[0] % 8:
             fluid, particles, px, py = engine.sums(self, *block)
         else:
-            fluid, numbers = block_ones(self.walls.open, self.size.columns, *block)[0], self.counts(
-                *block
-            )
-            particles = numbers.sum(0)
+            (fluid,) = block_ones(self.walls.open, self.size.columns, *block)
+            particles = (numbers := self.counts(*block)).sum(0)
             px, py = np.tensordot(self.gas.momenta, numbers, (0, 0))
         return Blocks(fluid, particles, px, py, self.gas, block, self.size, self.generation)
 
     def __repr__(self) -> str:
-        columns, rows = self.size
-        return (
-            f"<Lattice {self.gas} {self.chirality} {columns} x {rows},"
-            f" generation {self.generation}, {self.particles} particles>"
-        )
+        has = f"generation {self.generation}, {self.particles} particles"
+        return f"<Lattice {self.gas} {self.chirality} {self.size}, {has}>"
 
     def text(self) -> str:
         """The cells as `fhpgas run` prints them."""
@@ -276,7 +258,7 @@ class Lattice(Value):
         """The text of the scene that has this lattice, a map."""
         return self._scene().decode()
 
-    def save(self, path: str | os.PathLike[str]) -> None:
+    def save(self, path: Path) -> None:
         """Writes the lattice to a file, which is whole or as before.
 
         Parameters
@@ -299,7 +281,7 @@ class Lattice(Value):
         """
         write_whole(path, self._saved(path))
 
-    def _saved(self, path: str | os.PathLike[str], usual: str = ".toml") -> bytes:
+    def _saved(self, path: Path, usual: str = ".toml") -> bytes:
         suffix = pathlib.Path(path).suffix or usual
         if suffix not in (".toml", ".npz"):
             raise Fault(f"{path}: a lattice is saved as .toml or .npz")
@@ -308,10 +290,8 @@ class Lattice(Value):
     def _scene(self) -> bytes:
         integer("the generation of a scene", self.generation, 0, limits.LAST_OF_SCENE)
         if limits.map_bytes(*self.size) > limits.MOST_BYTES:
-            raise Fault(
-                f"a scene of {self.size} cells is longer than the {limits.MOST_BYTES} bytes that"
-                " the program reads: save them as .npz"
-            )
+            why = f"longer than the {limits.MOST_BYTES} bytes that the program reads"
+            raise Fault(f"a scene of {self.size} cells is {why}: save them as .npz")
         keys = {"version": 2, "gas": self.gas.name, "chirality": self.chirality}
         keys |= {"seed": self.seed, "generation": self.generation}
         rows = lines_of(codes_of(self.states, self.solid), b'    "', b'",\n')
@@ -357,11 +337,7 @@ class Lattice(Value):
         return self.replace(states=cells, generation=self.generation + generations)
 
     def coarse(
-        self,
-        generations: int,
-        width: int | None = 8,
-        height: int | None = 9,
-        workers: int | None = None,
+        self, generations: int, width: Side = 8, height: Side = 9, workers: int | None = None
     ) -> Blocks:
         """The blocks of the lattice after some generations.
 
@@ -413,10 +389,8 @@ class Lattice(Value):
         True
         """
         if self.gas.draws(self.chirality):
-            raise Fault(
-                'a run with chirality "seeded" cannot be reversed, since its random bits only run'
-                ' forwards: take "left" or "right"'
-            )
+            why = 'its random bits only run forwards: take "left" or "right"'
+            raise Fault(f'a run with chirality "seeded" cannot be reversed, because {why}')
         after = self.gas.collisions("right" if self.chirality == "right" else "left")[self.states]
         return self.replace(states=self.gas.turned[after], chirality=OTHER[self.chirality])
 
@@ -470,11 +444,6 @@ def read_cells(
     return Lattice(*parts_of(codes), gas, chirality, seed, generation)
 
 
-def _coarse(scene: bytes, plan: tuple[object, ...], block: tuple[int, int]) -> bytes:
-    """The table that the program prints, by the words of a plan."""
-    return call(scene, "coarse", *plan, "--block-width", block[0], "--block-height", block[1])
-
-
 def _kept(keys: dict[str, Any]) -> dict[str, Any]:
     """The keys of a scene that its lattice has too. One that a later program reads and this package
     does not know would be lost without a word, so it is refused."""
@@ -522,8 +491,8 @@ def _run(
 def coarse(
     scene: Scene,
     generations: int,
-    width: int | None = 8,
-    height: int | None = 9,
+    width: Side = 8,
+    height: Side = 9,
     stages: int | None = None,
     capacity: int | None = None,
 ) -> Blocks:
@@ -554,5 +523,6 @@ def coarse(
         of, first = summary(text), keys_of(text).get("generation", 0)
         size = fields.Size(of.width, of.height)
         block = fields.block_of(size, width, height, limits.MOST_BLOCK)
-        table = _coarse(text, planned(of.height, generations, stages, capacity), block)
+        words = *planned(of.height, generations, stages, capacity), "--block-width", block.columns
+        table = call(text, "coarse", *words, "--block-height", block.rows)
         return read_table(table, of.gas, block, size, first + generations)

@@ -2,7 +2,6 @@
 from __future__ import annotations
 
 import itertools
-import os
 import pathlib
 from collections.abc import Iterator
 from typing import TYPE_CHECKING
@@ -11,7 +10,7 @@ import numpy as np
 
 from .cells import cells_of, parts_of
 from .fault import Fault, integer
-from .files import plain_file, write_whole
+from .files import Path, plain_file, write_whole
 from .limits import LAST_OF_SCENE, MOST_GENERATIONS
 from .runs import counted
 from .scenes import naming
@@ -114,7 +113,7 @@ def long_run(
     lattice: Lattice,
     generations: int,
     step: int,
-    kept: str | os.PathLike[str],
+    kept: Path,
     workers: int | None = None,
     progress: bool = False,
 ) -> Iterator[Lattice]:

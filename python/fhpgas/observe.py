@@ -82,15 +82,11 @@ def forces(lattice: Lattice, part: Any = None) -> dict[str, Array]:
     gas = lattice.gas
     of_these = lattice.solid if part is None else mask(part)
     if not lattice.generation:
-        raise Fault(
-            "a lattice of generation 0 has had no collision with a wall: forces are those of the"
-            " generation before it"
-        )
+        why = "forces are those of the generation before it"
+        raise Fault(f"a lattice of generation 0 has had no collision with a wall: {why}")
     if of_these.shape != lattice.shape:
-        raise Fault(
-            f"the part of the solid cells has the shape {of_these.shape}, and the lattice"
-            f" {lattice.shape}"
-        )
+        shapes = f"{of_these.shape}, and the lattice {lattice.shape}"
+        raise Fault(f"the part of the solid cells has the shape {shapes}")
     links, b = lattice.walls.links(gas), gas.directions
     is_there = lattice.planes.reshape(-1)[links.word] >> links.bit & np.uint64(1) > 0
     is_there &= (links.kind < 3) | of_these.reshape(-1)[links.cell]
@@ -135,9 +131,7 @@ def staggered(lattice: Lattice) -> tuple[int, ...]:
     y, x = np.ogrid[:rows, :columns]
     for axis in range(1 if columns % 2 else 3):
         is_odd = (y, y - y // 2 + x, x - y // 2)[axis] % 2
-        across = gas.bits.astype(int) @ [
-            (0, 1, 1, 0, -1, -1, 0)[(i - axis) % 6] if i < 6 else 0 for i in range(gas.directions)
-        ]
+        across = gas.bits[:, :6].astype(int) @ np.roll([0, 1, 1, 0, -1, -1], axis)
         of_lines = int(((1 - 2 * is_odd) * across[lattice.states]).sum())
         found.append((-1) ** lattice.generation * of_lines)
     return tuple(found)

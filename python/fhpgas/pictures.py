@@ -19,7 +19,7 @@ import numpy as np
 from .blocks import Blocks
 from .fault import Fault, integer, real
 from .fields import positions, pair_checked
-from .files import of_file
+from .files import Path, of_file
 from .lattice import Lattice
 from .limits import FFMPEG, FIELDS, PARTICLES, PILLOW, PLAIN, SIGNED
 from .planes import block_ones, packed
@@ -65,29 +65,22 @@ def chosen(source: Source, what: Any, block: tuple[int, int], smooth: float) -> 
     smoothed = blocks.smooth(smooth) if smooth else blocks
     values = getattr(smoothed, what) if isinstance(what, str) else np.ma.asarray(what)
     if values.shape != blocks.fluid.shape or values.dtype.kind not in "biuf":
-        raise Fault(
-            f"what is shown are numbers [row, column] of {blocks.fluid.shape} blocks, not"
-            f" {values.dtype} of shape {values.shape}"
-        )
+        found = f"{values.dtype} of shape {values.shape}"
+        wanted = f"numbers [row, column] of {blocks.fluid.shape} blocks"
+        raise Fault(f"what is shown are {wanted}, not {found}")
     values = np.ma.masked_where(2 * blocks.fluid < blocks.cells, np.ma.masked_invalid(values))
     return what, Shown(blocks, values, solid_of(source))
 
 
 def prepared(
-    sources: Iterable[Source],
-    what: Any,
-    block: tuple[int, int],
-    smooth: float,
-    options: dict[str, Any],
+    sources: Iterable[Source], what: Any, block: Any, smooth: float, options: dict[str, Any]
 ) -> tuple[str | None, list[Shown], dict[str, Any]]:
     """The label of the colours (particles have None), what is shown, and the options of the images:
     all have one range of values, which is symmetric about 0 if the field has a sign."""
     many = list[Shown]()
     if not isinstance(sources, Iterable):
-        raise Fault(
-            "a film or a strip has several states, [lattice, ..] or lattice.every(..), not"
-            f" {reprlib.repr(sources)}"
-        )
+        found = f"[lattice, ..] or lattice.every(..), not {reprlib.repr(sources)}"
+        raise Fault(f"a film or a strip has several states, {found}")
     for source in sources:
         what, shown = chosen(source, what, block, smooth)
         if many and np.array_equal(shown.solid, many[-1].solid):
@@ -317,7 +310,7 @@ def png(source: Source) -> bytes:
 
 
 def film(
-    path: str | os.PathLike[str],
+    path: Path,
     sources: Iterable[Source],
     what: Any = None,
     *,
@@ -371,7 +364,7 @@ def film(
                 writer.grab_frame()
 
 
-def film_suffix(path: str | os.PathLike[str]) -> str:
+def film_suffix(path: Path) -> str:
     """The suffix of a film that can be written."""
     suffix = pathlib.Path(path).suffix
     if suffix not in PILLOW + FFMPEG:

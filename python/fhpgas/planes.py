@@ -3,7 +3,7 @@ include/fhpgas.h describes them, and what is found of its solid cells once."""
 import functools
 import itertools
 from collections.abc import Iterator
-from typing import NamedTuple
+from typing import Any, NamedTuple
 
 import numpy as np
 
@@ -43,10 +43,6 @@ def unpacked(words: Array, columns: int) -> Array:
     return states
 
 
-def _bytes(words: Array) -> Array:
-    return np.ascontiguousarray(words).view(np.uint8)
-
-
 def block_ones(words: Array, columns: int, width: int, height: int) -> Array:
     """The ones [plane, row, column] of planes of so many columns in blocks of `width` x `height`
     cells. If blocks begin with bytes, the ones of each byte are counted in the byte, up to 31 rows
@@ -54,11 +50,10 @@ def block_ones(words: Array, columns: int, width: int, height: int) -> Array:
     width, row = min(width, columns), np.arange(len(words)) % height
     tops, lefts = np.flatnonzero(row == 0), np.arange(0, columns, width)
     if width % 8 and width < columns:
-        bits = (
-            np.unpackbits(_bytes(plane), 1, columns, "little") for plane in np.moveaxis(words, 1, 0)
-        )
-        columns_ = (np.add.reduceat(each, tops, 0, np.int64) for each in bits)
-        return np.stack([np.add.reduceat(each, lefts, 1) for each in columns_])
+        planes = np.ascontiguousarray(np.moveaxis(words, 1, 0)).view(np.uint8)
+        bits = (np.unpackbits(plane, 1, columns, "little") for plane in planes)
+        added = (np.add.reduceat(each, tops, 0, np.int64) for each in bits)
+        return np.stack([np.add.reduceat(each, lefts, 1) for each in added])
     ones = words - (words >> BITS[0] & PAIRS)
     ones = (ones & FOURS) + (ones >> BITS[1] & FOURS)
     ones += ones >> BITS[2]
@@ -80,11 +75,7 @@ class Cells:
     that is not there is made when it is asked for."""
 
     def __init__(
-        self,
-        gas: Gas,
-        states: Array | None = None,
-        planes: Array | None = None,
-        shape: tuple[int, ...] = (),
+        self, gas: Gas, states: Array | None = None, planes: Array | None = None, shape: Any = ()
     ):
         self.directions, self.shape = gas.directions, shape if states is None else states.shape
         known = {"states": states, "planes": planes}.items()

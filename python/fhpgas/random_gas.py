@@ -69,7 +69,8 @@ def draw_gas(
     rows, columns = _shape_of(size, walls, shapes)
     is_placed = any(map(callable, known.values()))
     places = fields.positions(fields.Size(columns, rows), named) if is_placed else ()
-    values = [fields.numbers_at(name, field, places) for name, field in known.items()]
+    found = [field(*places) if callable(field) else field for field in known.values()]
+    values = [fields.numbers_of(name, field) for name, field in zip(known, found)]
     for name, value in zip((*known, "solid"), (*values, walls)):
         fields.check_spread(name, value, (rows, columns))
     states = fields.drawn(named, values, (rows, columns), seed_of(seed))
@@ -86,9 +87,8 @@ def _shape_of(size: Any, solid: Array, shapes: list[tuple[int, ...]]) -> tuple[i
     try:
         shape = solid.shape or np.broadcast_shapes(*shapes)
     except ValueError:
-        raise Fault(
-            f"the fields have the shapes {', '.join(map(str, shapes))}, which do not fit together"
-        ) from None
+        names = ", ".join(map(str, shapes))
+        raise Fault(f"the fields have the shapes {names}, which do not fit together") from None
     if len(shape) != 2 or not solid.ndim and 1 in shape:
         raise Fault("the size is not known: draw_gas(.., size=Size(columns, rows))")
     return shape

@@ -11,13 +11,13 @@ from collections.abc import Iterator
 from typing import Any, NamedTuple
 
 from .fault import Fault, seed_of
-from .files import read_bytes
+from .files import Path, read_bytes
 from .program import call
 
 HEIGHT = re.compile(rb"^[ \t]*height[ \t]*=[ \t]*(\d+)", re.M)
 # The key of a map, without comments.
 ROWS = re.compile(r"^[ \t]*cells[ \t]*=[ \t]*\[[^\]#]*(?:##[^\]#]*)*\]", re.M)
-Scene = str | os.PathLike[str]  # the text of a scene, or a path
+Scene = Path  # the text of a scene, or a path
 
 
 def _is_text(scene: Scene) -> bool:
@@ -30,10 +30,8 @@ def scene_bytes(scene: Scene) -> bytes:
     if isinstance(scene, str) and _is_text(scene):
         return scene.encode()
     if not isinstance(scene, (str, os.PathLike)):
-        raise Fault(
-            "a scene is passed as its text or as the path of its file, not as"
-            f" {type(scene).__name__}"
-        )
+        kind = type(scene).__name__
+        raise Fault(f"a scene is passed as its text or as the path of its file, not as {kind}")
     return read_bytes(scene)
 
 
@@ -148,14 +146,11 @@ def with_seed(scene: Scene, seed: int) -> str:
         call(read, "check")
         keys = keys_of(read)
     if kept := "cells" if "width" not in keys else "particles" if keys.get("particles") else "":
-        raise Fault(
-            f"another seed would leave `{kept}` as they are: draw the scene again, by"
-            " `fhpgas.draw_gas(.., seed=..)` or `over-seeds --drawn`"
-        )
+        way = "draw the scene again, by `fhpgas.draw_gas(.., seed=..)` or `over-seeds --drawn`"
+        raise Fault(f"another seed would leave `{kept}` as they are: {way}")
     if not keys.get("rate"):
-        raise Fault(
-            "another seed would change nothing: `rate` is 0, so nothing is filled at random"
-        )
+        why = "`rate` is 0, so nothing is filled at random"
+        raise Fault(f"another seed would change nothing: {why}")
     return text_of(keys | {"seed": seed_of(seed)})
 
 

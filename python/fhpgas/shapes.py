@@ -107,12 +107,10 @@ def polygon(size: Any, corners: Iterable[Sequence[float]], gas: str | Gas = "fhp
     (first, end), row = x[order].reshape(-1, 2).T, y[order][::2]
     start = first % columns
     stop = start + np.minimum(end - first, columns)
-    steps, is_past = np.zeros((rows, columns + 1), np.int32), stop > columns
+    steps = np.zeros((rows, 2 * columns), np.int32)
     np.add.at(steps, (row, start), 1)
-    np.add.at(steps, (row, np.minimum(stop, columns)), -1)
-    np.add.at(steps, (row[is_past], 0), 1)
-    np.add.at(steps, (row[is_past], stop[is_past] - columns), -1)
-    return np.cumsum(steps, axis=1, out=steps)[:, :-1] > 0
+    np.add.at(steps, (row, stop), -1)
+    return np.cumsum(steps, axis=1, out=steps).reshape(rows, 2, columns).any(1)
 
 
 def nozzle(size: Any, throat: int, length: int) -> Array:
@@ -249,9 +247,8 @@ def _dark(picture: Any) -> Array:
     if not isinstance(picture, (str, os.PathLike)):
         dark = array_of("a picture", picture)
         if dark.ndim != 2 or not dark.size:
-            raise Fault(
-                f"a picture is the path of a file or an array [y, x], not of the shape {dark.shape}"
-            )
+            what = "the path of a file or an array [y, x]"
+            raise Fault(f"a picture is {what}, not of the shape {dark.shape}")
         return dark.astype(bool)
     from PIL import Image
 
@@ -268,11 +265,10 @@ def _dark(picture: Any) -> Array:
 def check_inside(what: str, block: Sequence[int], size: tuple[int, int]) -> None:
     """Raises a Fault if a rectangle of cells, its column, row, columns and rows, is empty or leaves
     a lattice."""
-    x, y, w, h = block
-    if not (0 <= x and 0 <= y and 1 <= w and 1 <= h and x + w <= size[0] and y + h <= size[1]):
-        raise Fault(
-            f"{what} leaves the channel of {size[0]} x {size[1]} cells or is empty: {x} {y} {w} {h}"
-        )
+    (x, y, w, h), (columns, rows) = block, size
+    if not (0 <= x and 0 <= y and 1 <= w and 1 <= h and x + w <= columns and y + h <= rows):
+        channel = f"the channel of {columns} x {rows} cells"
+        raise Fault(f"{what} leaves {channel} or is empty: {x} {y} {w} {h}")
 
 
 def rectangles(solid: Array) -> list[list[int]]:

@@ -66,10 +66,8 @@ def isotropic(gas: str | Gas) -> Gas:
     """A gas whose flows follow the equations of a fluid. `hpp` raises a Fault."""
     named = gas_named(gas)
     if named.is_square:
-        raise Fault(
-            "hpp has no viscosity and no Galilean factor: its stress depends on the direction of"
-            " the flow"
-        )
+        why = "its stress depends on the direction of the flow"
+        raise Fault(f"hpp has no viscosity and no Galilean factor: {why}")
     return named
 
 
@@ -173,12 +171,9 @@ def is_correlated(gas: str | Gas, filling: Any, chirality: str = "seeded") -> An
 
 def _warn(gas: str | Gas, filling: Any, chirality: str) -> None:
     if np.any(is_correlated(gas, filling, chirality)):
-        warnings.warn(
-            f"measured viscosities of {gas_named(gas)} ({chirality}) exceed Boltzmann's by more"
-            " than a tenth at this filling: theory.pair_viscosity calculates by how much",
-            Correlated,
-            stacklevel=3,
-        )
+        what = f"measured viscosities of {gas_named(gas)} ({chirality}) exceed Boltzmann's by more"
+        how = "than a tenth at this filling: theory.pair_viscosity calculates by how much"
+        warnings.warn(f"{what} {how}", Correlated, stacklevel=3)
 
 
 def pair_viscosity(

@@ -20,7 +20,6 @@ particles of the whole. docs/PERFORMANCE.md says which tiles and margins to take
 import dataclasses
 import functools
 import itertools
-import os
 import pathlib
 from collections.abc import Iterator
 from typing import Any, NamedTuple
@@ -33,6 +32,7 @@ from . import engine, fields
 from .blocks import Blocks
 from .cells import SOLID, codes_of, parts_of
 from .fault import Fault, integer, seed_of
+from .files import Path
 from .gases import Array, Gas, chirality_named, gas_named, mask
 from .lattice import Lattice
 from .limits import MOST_SIDE
@@ -102,11 +102,7 @@ class Tiles:
         return columns, rows
 
     def run(
-        self,
-        generations: int,
-        margin: int = 256,
-        kept: str | os.PathLike[str] | None = None,
-        interval: int = 4,
+        self, generations: int, margin: int = 256, kept: Path | None = None, interval: int = 4
     ) -> "Tiles":
         """The tiles after some generations.
 
@@ -156,16 +152,12 @@ class Tiles:
         even = margin + margin % 2
         sides = [min(chunks) for chunks in self.cells.chunks if len(chunks) > 1]
         if sides and even > min(sides):
-            raise Fault(
-                f"a margin of {margin}, made even, does not fit: the shortest side of a tile is"
-                f" {min(sides)}"
-            )
+            why = f"the shortest side of a tile is {min(sides)}"
+            raise Fault(f"a margin of {margin}, made even, does not fit: {why}")
         rows, columns = (max(chunks) + 2 * even * (len(chunks) > 1) for chunks in self.cells.chunks)
         if max(columns, rows) > MOST_SIDE:
-            raise Fault(
-                f"a tile with its margins, {columns} x {rows}, is too large: a lattice has at most"
-                f" {MOST_SIDE} columns and rows"
-            )
+            why = f"a lattice has at most {MOST_SIDE} columns and rows"
+            raise Fault(f"a tile with its margins, {columns} x {rows}, is too large: {why}")
 
     def _step(self, steps: int) -> "Tiles":
         """The tiles after at most as many generations as the margin that they exchange."""
@@ -173,14 +165,11 @@ class Tiles:
         even, around = steps + steps % 2 if len(heights) > 1 else 0, len(widths) > 1
         starts = itertools.accumulate(heights, initial=0)
         first_rows = [max(0, start - even) for start in starts]
-        cells = dask.array.map_overlap(
-            functools.partial(_advanced, self.rules, self.generation, steps, first_rows),
-            self.cells,
-            depth={0: even, 1: steps if around else 0},
-            boundary={0: "none", 1: "periodic" if around else "none"},
-            meta=NO_CELLS,
-            allow_rechunk=False,
-        )
+        call = functools.partial(_advanced, self.rules, self.generation, steps, first_rows)
+        boundary = {0: "none", 1: "periodic" if around else "none"}
+        margins = {"depth": {0: even, 1: steps * around}, "boundary": boundary}
+        known = {"meta": NO_CELLS, "allow_rechunk": False}
+        cells = dask.array.map_overlap(call, self.cells, **margins, **known)
         return dataclasses.replace(self, cells=cells, generation=self.generation + steps)
 
     def every(self, step: int, count: int, margin: int = 256) -> Iterator["Tiles"]:
@@ -233,7 +222,7 @@ class Tiles:
         """The whole lattice, if it fits into this process and the sides of a Lattice."""
         return self.rules.lattice(self._computed(self.cells), self.generation)
 
-    def save(self, folder: str | os.PathLike[str]) -> "Tiles":
+    def save(self, folder: Path) -> "Tiles":
         """Lets the workers write the tiles to a folder of zarr that they and this process see.
         Returns the tiles as read from there, so one that a worker loses is read again, until other
         tiles are saved there. `load` continues from the folder, also after the scheduler ended.
@@ -289,16 +278,13 @@ def split(client: Any, lattice: Lattice, tile: tuple[int, int]) -> Tiles:
     rules = _rules(lattice.gas, lattice.chirality, lattice.seed)
     chunks, codes = _divided(lattice.size, tile, rules), codes_of(lattice.states, lattice.solid)
     parts = [codes[place] for place in dask.array.core.slices_from_chunks(chunks)]
-    blocks = [
-        dask.array.from_delayed(sent, part.shape, meta=NO_CELLS)
-        for sent, part in zip(client.scatter(parts), parts)
-    ]
-    columns = len(chunks[1])
-    rows = [blocks[first : first + columns] for first in range(0, len(blocks), columns)]
+    tile_of, sent = functools.partial(dask.array.from_delayed, meta=NO_CELLS), client.scatter(parts)
+    tiles, columns = [tile_of(*pair) for pair in zip(sent, map(np.shape, parts))], len(chunks[1])
+    rows = [tiles[first : first + columns] for first in range(0, len(tiles), columns)]
     return Tiles(client, dask.array.block(rows), rules, lattice.generation)
 
 
-def load(client: Any, folder: str | os.PathLike[str]) -> Tiles:
+def load(client: Any, folder: Path) -> Tiles:
     """The tiles that `Tiles.save` wrote to a folder."""
     import zarr
 
@@ -319,14 +305,10 @@ def _divided(size: fields.Size, tile: Any, rules: Rules) -> tuple[tuple[int, ...
     if rows < min(2, size.rows):
         raise Fault("a tile has at least two rows, because it has an even number of them")
     if rules.gas.draws(rules.chirality) and columns < size.columns:
-        raise Fault(
-            f'tiles of "seeded" have whole rows, because their random bits belong to places: take'
-            f" tile=({size.columns}, ..), at most {MOST_SIDE} columns, or another chirality"
-        )
-    sides = [
-        -(-length // -(-length // most) // unit) * unit
-        for length, most, unit in ((size.rows, rows - rows % 2 or 1, 2), (size.columns, columns, 1))
-    ]
+        way = f"tile=({size.columns}, ..), at most {MOST_SIDE} columns, or another chirality"
+        raise Fault(f'tiles of "seeded" have whole rows, as their random bits: take {way}')
+    ways = (size.rows, rows - rows % 2 or 1, 2), (size.columns, columns, 1)
+    sides = [-(-side // -(-side // most) // unit) * unit for side, most, unit in ways]
     return dask.array.core.normalize_chunks(sides, size.shape)
 
 
@@ -346,19 +328,13 @@ def _drawn(rules: Rules, size: fields.Size, known: dict[str, Any], block_info: A
 
     *numbers, solid = (here(value) for value in known.values())
     numbers = [fields.numbers_of(name, value) for name, value in zip(known, numbers)]
-    states = fields.drawn(
-        rules.gas, numbers, (below - top, right - left), rules.seed, (top, left), size.columns
-    )
+    place = (below - top, right - left), rules.seed, (top, left), size.columns
+    states = fields.drawn(rules.gas, numbers, *place)
     return np.where(mask(solid), np.uint8(SOLID), states)
 
 
 def _advanced(
-    rules: Rules,
-    generation: int,
-    steps: int,
-    first_rows: list[int],
-    cells: Array,
-    block_id: tuple[int, int],
+    rules: Rules, generation: int, steps: int, first_rows: list[int], cells: Array, block_id: Any
 ) -> Array:
     """The cells of a tile and its margins after some generations, of which the tile is right."""
     part, first_row = rules.lattice(cells, generation), first_rows[block_id[0]]
