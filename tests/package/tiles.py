@@ -130,7 +130,9 @@ def refusals(client, folder):
         refused(f"{gas} with random bits", lambda: draw(0.2, gas=gas, chirality="seeded"))
     usual = functools.partial(fhpgas.tiles.draw_gas, client, 0.2, size=size)
     refused("random bits unless told", lambda: usual(tile=tile))
-    told("they are drawn", usual(tile=(64, 16)).gather() == fhpgas.draw_gas(0.2, size=size))
+    for seed in (0, *numpy.random.SeedSequence(3).spawn(2)):
+        drawn = usual(tile=(64, 16), seed=seed).gather()
+        told("they are drawn", drawn == fhpgas.draw_gas(0.2, size=size, seed=seed))
     vast = draw(filling, size=fhpgas.Size(140_000, 4), tile=(70_000, 4))
     refused("a tile that no lattice can be", lambda: vast.run(100, 4))
     (folder / "empty").mkdir()
