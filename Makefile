@@ -8,7 +8,7 @@
 #   make test             sets up what is missing (SETUP=no: nothing), proves all from scratch, and runs every test
 #   make install          puts what is built into PREFIX (/usr/local): the program, and the header and the library for C
 #   make uninstall        takes it out again
-#   make page             bundles page/src into page/fhpgas.html, by esbuild
+#   make page             bundles page/src, and the kernel by plain Rust, into page/fhpgas.html, by esbuild
 #   make plain            builds fhpgas and the library for C by plain Rust, without the kit and not proved, into out/plain
 #   make wheel            packs the Python package into out/, with program and engine for Linux, and without them for other systems
 #   make archive FILE=F   packs fhpgas, built apart for x86-64-v2, into F, a .tar.gz for machines without the kit

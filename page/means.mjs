@@ -1,5 +1,6 @@
 // Runs flows until they are developed, and keeps their means for new starts in page/src/means.js:  node page/means.mjs
 import { writeFileSync } from "node:fs";
+import { maker } from "./built.mjs";
 import { BLOCK, meansText } from "./src/developed.js";
 import { Flows } from "./src/flows.js";
 import { PRESETS } from "./src/presets.js";
@@ -9,8 +10,10 @@ const EVERY = 20; // generations from one measurement to the next
 const FLOWS = [["vortex street", "3200 x 1016", 36000, 300], ["flow past a disc", "1024 x 512", 16000, 4000],
   ["flow past a disc", "512 x 768", 16000, 4000], ["flow past a disc", "1024 x 384", 16000, 4000]];
 
+const make = await maker();
+
 function measured([name, size, generations, last]) {
-  const { gases: [gas], shapes: [shape], chirality, wind, radius, keep, fill: filling } = PRESETS[name], flows = new Flows();
+  const { gases: [gas], shapes: [shape], chirality, wind, radius, keep, fill: filling } = PRESETS[name], flows = Object.assign(new Flows(), { make });
   const [width, height] = size.split(" x ").map(Number), start = { gas, shape, chirality, width, height, filling, wind, radius, keep };
   flows.start({ flows: [{ ...start, seed: "1" }], state: "" });
   const [{ flow }] = flows.watched;

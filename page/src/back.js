@@ -1,7 +1,6 @@
 // The way back of a flow: all particles are turned, and what was done to the cells is undone.
 import { OTHER, SOLID } from "./gases.js";
 import { CELL, WAS_SOLID } from "./history.js";
-import { collideAll, turnAll } from "./kernel.js";
 import { count } from "./numbers.js";
 
 /**
@@ -10,11 +9,10 @@ import { count } from "./numbers.js";
  * @param {Flow} flow
  */
 export function reverse(flow) {
+  const { turned, sides, chirality } = flow, side = chirality === "left" ? sides.left : sides.right;
   flow.changes++;
-  if (flow.direction > 0) collideAll(flow.kernel, flow.chirality);
-  turnAll(flow.kernel);
-  if (flow.direction < 0) collideAll(flow.kernel, flow.chirality);
-  flow.chirality = OTHER[flow.chirality];
+  flow.kernel.change(flow.direction > 0 ? side.map((state) => turned[state]) : turned.map((state) => side[state]));
+  flow.chirality = OTHER[chirality];
   flow.direction *= -1;
 }
 

@@ -2,9 +2,9 @@
 import { recede, reverse, undo } from "./back.js";
 import { Cells } from "./cells.js";
 import { Drive } from "./drive.js";
-import { SOLID, collisions, turns } from "./gases.js";
+import { SOLID, turns } from "./gases.js";
 import { History } from "./history.js";
-import { copied } from "./kernel.js";
+import { copied, sidesOf } from "./kernel.js";
 import { FINE, sumsOf, totalsOf } from "./sums.js";
 
 export class Flow {
@@ -35,7 +35,7 @@ export class Flow {
     this.seed = seed;
     this.generation = this.turnedAt = generation;
     this.turned = turns(this.gas);
-    this.sides = { left: collisions(this.gas, "left"), right: collisions(this.gas, "right") };
+    this.sides = sidesOf(kernel);
     this.drive = new Drive(wind, seed);
     this.begin();
   }

@@ -1,7 +1,7 @@
 // The flows that the page shows, how they begin, and what can be undone.
 import { Watched } from "./frames.js";
 import { GASES, MOST_CELLS, SOLID } from "./gases.js";
-import { ProvedKernel, ScriptKernel } from "./kernel.js";
+import { Kernel, moduleOf } from "./kernel.js";
 import { count } from "./numbers.js";
 import { flowOf, readScene } from "./scenes.js";
 import { drawn } from "./starts.js";
@@ -9,16 +9,11 @@ import { Stroke, cleared } from "./tools.js";
 
 const MOST_UNDO = 50;
 
-/** The kernels of the engine, whose module's text is in base64. */
-function provedOf(text) {
-  const module = new WebAssembly.Module(Uint8Array.from(atob(text), (letter) => letter.charCodeAt(0)));
-  new ProvedKernel(module, GASES.hpp, 1, 1); // of another version it throws
-  return (gas, width, height) => new ProvedKernel(module, gas, width, height);
-}
-
 export class Flows {
   /** @type {MakeKernel} */
-  make = (gas, width, height) => new ScriptKernel(gas, width, height);
+  make = () => {
+    throw new Error("there is no kernel");
+  };
   /** @type {Watched[]} */
   watched = [];
   state = ""; // of the controls, with these flows
@@ -28,10 +23,12 @@ export class Flows {
   /** @type {Map<Flow, Stroke>} what is being drawn */
   strokes = new Map();
 
-  /** Takes the engine: all flows go on in it. */
-  take(text) {
+  /** Takes the module of a text: all flows go on in it. */
+  async take(text) {
     try {
-      this.make = provedOf(text);
+      const module = await moduleOf(text);
+      new Kernel(module, GASES.hpp, 1, 1); // of another version it throws
+      this.make = (gas, width, height) => new Kernel(module, gas, width, height);
     } catch (refused) {
       return { fault: String(refused) };
     }

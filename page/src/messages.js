@@ -4,7 +4,7 @@
 /**
  * @typedef {import("./gases.js").Gas} Gas
  * @typedef {import("./flow.js").Flow} Flow
- * @typedef {import("./kernel.js").ScriptKernel | import("./kernel.js").ProvedKernel} Kernel
+ * @typedef {import("./kernel.js").Kernel} Kernel
  * @typedef {(gas: Gas, width: number, height: number) => Kernel} MakeKernel
  * @typedef {ReturnType<import("./frames.js").Watched["frame"]>} Frame
  * @typedef {"seeded" | "left" | "right"} Chirality
@@ -20,10 +20,10 @@
  */
 
 /**
- * What the page says, by name. `engine` has the module's text in base64; `state` is the state of the controls, for the
+ * What the page says, by name. `engine` has a kernel's module in base64; `state` is the state of the controls, for the
  * address; `seen` says that a frame was painted.
  * @typedef {{
- *   engine: { text: string },
+ *   engine: { text: string, isProved: boolean },
  *   start: { flows: Start[], state: string },
  *   open: { text: string, state: string },
  *   run: { on: boolean, pace: number },
@@ -42,7 +42,7 @@
  * What the worker says, by name. `serial` counts the starts, `strokes` the pieces that came since the last frame. A
  * scene that is refused changes nothing.
  * @typedef {{
- *   engine: { fault: string },
+ *   engine: { fault: string, isProved: boolean },
  *   frames: { frames: Frame[], isRunning: boolean, serial: number, state: string, strokes: number, canUndo: boolean,
  *     hashes?: string[] },
  *   files: { files: { text: string, name: string }[] },

@@ -18,7 +18,7 @@ import { BLOCKS, SPANS, tableOf } from "./table.js";
 
 const live = {
   notes: /** @type {string[]} */ ([]),
-  engine: "", // "proved" or "script", once it is known whether there is an engine
+  engine: "", // "plain" or "proved", once it is known whether engine.js is there
   hasMoved: false,
   isScheduled: false,
   noteTimer: 0,
@@ -27,8 +27,7 @@ const live = {
   pace: "", // before single cells
   pending: /** @type {{ at: number[] | null, probe: number[] | null }} */ ({ at: null, probe: null }), // of the address
 };
-const SCRIPT = "The kernel in this page computes the cells";
-const COPY = "a copy in JavaScript, free to pass on, compared with fhpgas bit for bit";
+const PLAIN = "The kernel in this page computes the cells: fhpgas by plain Rust, not proved, free to pass on";
 const MOST = `At most ${count(MOST_CELLS)} cells.`;
 const panes = [paneOf(), paneOf()];
 const TOLD_EVERY = 100; // milliseconds: faster than anybody reads
@@ -43,10 +42,10 @@ const worker = new Worker(URL.createObjectURL(new Blob([$("worker").textContent]
 const tell = (name, value) => worker.postMessage({ name, value });
 /** @type {{ [K in keyof Answers]: (value: Answers[K]) => void }} */
 const answers = {
-  engine: ({ fault }) => {
-    live.engine = fault ? "script" : "proved";
-    if (fault) note(`engine.js does not serve: ${fault}. ${SCRIPT}.`, "bad", 9);
-    else said.engine = `The proved engine computes the cells (engine.js). ${MOST}`;
+  engine: ({ fault, isProved }) => {
+    if (isProved) live.engine = fault ? "plain" : "proved";
+    if (fault) note(`${isProved ? "engine.js" : "The kernel"} does not serve: ${fault}`, "bad", 9);
+    else said.engine = `${isProved ? "The proved engine computes the cells (engine.js)" : PLAIN}. ${MOST}`;
   },
   frames: (frames) => {
     shown.queue.push(frames);
@@ -74,12 +73,12 @@ worker.onerror = ({ message }) => note(`A mistake in this page: ${message}`, "ba
 function seekEngine() {
   const object = /** @type {HTMLObjectElement} */ (element("object", { data: "engine.js" }));
   object.onerror = () => {
-    live.engine = "script";
+    live.engine = "plain";
     object.remove();
   };
   object.onload = () => {
     const script = /** @type {HTMLScriptElement} */ (element("script", { src: "engine.js" }));
-    script.onload = () => tell("engine", { text: /** @type {any} */ (globalThis).FHPGAS_ENGINE });
+    script.onload = () => tell("engine", { text: /** @type {any} */ (globalThis).FHPGAS_ENGINE, isProved: true });
     object.replaceWith(script);
   };
   document.body.append(object);
@@ -494,7 +493,7 @@ document.onfullscreenchange = () => {
 window.onhashchange = () => isForeign() && begin();
 document.onvisibilitychange = repaint; // a hidden tab paints nothing, so the worker rests
 if (matchMedia("(pointer: coarse)").matches) chosen.tool = "draw";
-said.engine = `${SCRIPT}: ${COPY}. ${MOST}`;
+tell("engine", { text: $("kernel").textContent, isProved: false });
 begin();
 seekEngine();
 const forTests = { $, chosen, head, live, look, marks, motion, said, shown, speeds, tell, worker };

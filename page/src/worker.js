@@ -13,9 +13,9 @@ async function hashOf(flow) {
   return Array.from(new Uint8Array(digest), (byte) => byte.toString(16).padStart(2, "0")).join("");
 }
 
-/** @type {(work: Work, flows: Flows) => { [K in keyof Commands]: (value: Commands[K]) => void }} what commands do */
+/** @type {(work: Work, flows: Flows) => { [K in keyof Commands]: (value: Commands[K]) => any }} what commands do */
 const actsOf = (work, flows) => ({
-  engine: ({ text }) => work.post("engine", flows.take(text)),
+  engine: async ({ text, isProved }) => work.post("engine", { isProved, ...(await flows.take(text)) }),
   start: (command) => {
     flows.start(command);
     work.rest();
@@ -91,8 +91,8 @@ class Work {
   }
 
   /** @param {keyof Commands} name */
-  act(name, value) {
-    this.acts[name](value);
+  async act(name, value) {
+    await this.acts[name](value);
     this.isNew ||= name !== "seen";
   }
 
@@ -112,7 +112,7 @@ class Work {
     clearTimeout(this.timer);
     for (this.isBusy = true; this.queue.length || this.isNew || (this.canMove && this.due); ) {
       try {
-        for (const { name, value } of this.queue.splice(0)) this.act(name, value);
+        for (const { name, value } of this.queue.splice(0)) await this.act(name, value);
         if (this.canMove && this.due) this.advance();
         if (this.isNew && this.flows.watched.length) this.frame();
       } catch (fault) {

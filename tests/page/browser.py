@@ -59,7 +59,7 @@ def begins(page):
     moved = page.js("return performance.getEntriesByName('moved')[0]")
     check("one of the first two pictures has moved", moved["detail"] <= 2, moved["detail"])
     print(f"first motion after {moved['startTime']:.0f} ms")
-    wanted = "proved" if (FILE.parent / "engine.js").exists() else "script"
+    wanted = "proved" if (FILE.parent / "engine.js").exists() else "plain"
     check(
         "the kernel is the one that is there, and the page says which",
         page.wait("live.engine") == wanted,
@@ -67,7 +67,7 @@ def begins(page):
     check(
         "it says so",
         page.js("return said.engine").startswith(
-            {"proved": "The proved", "script": "The kernel"}[wanted]
+            {"proved": "The proved", "plain": "The kernel"}[wanted]
         ),
     )
     look = "return [...view.getContext('2d').getImageData(0, 0, view.width, 300).data].reduce((a, b, i) => (a * 31 + b * (i % 7)) | 0, 0)"
@@ -467,7 +467,7 @@ def firefox(room):
     if not program:
         return ["firefox-esr is missing"]
     engine = FILE.parent / "engine.js"
-    script = SELF_TEST.replace("@ENGINE@", "proved" if engine.exists() else "script")
+    script = SELF_TEST.replace("@ENGINE@", "proved" if engine.exists() else "plain")
     code = base64.b64encode(hashlib.sha256(script.encode()).digest()).decode()
     text = re.sub("(script-src )", rf"\1'sha256-{code}' ", FILE.read_text("utf-8"), count=1)
     (room / "page.html").write_text(

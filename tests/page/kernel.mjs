@@ -1,11 +1,11 @@
-// Compares the page's kernels with the program, bit for bit, and its key stream with RFC 8439: the one in JavaScript, and, where `make`
+// Compares the page's kernel with the program, bit for bit, and its key stream with RFC 8439: the one in page/fhpgas.html, and, where `make`
 // left page/engine.js, the proved engine.
 //   node tests/page/kernel.mjs        the program is FHPGAS, or ./fhpgas
 import { spawnSync } from "node:child_process";
 import { existsSync, readFileSync, readdirSync } from "node:fs";
+import { maker } from "../../page/built.mjs";
 import { Flow } from "../../page/src/flow.js";
 import { GASES, SOLID } from "../../page/src/gases.js";
-import { ProvedKernel, ScriptKernel } from "../../page/src/kernel.js";
 import { block } from "../../page/src/keystream.js";
 import { fillStates, printed, readScene, sceneOf } from "../../page/src/scenes.js";
 import { gathered, sumsOf } from "../../page/src/sums.js";
@@ -13,11 +13,10 @@ import { check, end, tried } from "../lib/checks.mjs";
 import { lots } from "../lib/random_numbers.mjs";
 
 const root = new URL("../..", import.meta.url).pathname, program = process.env.FHPGAS ?? `${root}fhpgas`;
-const kernels = { script: (...size) => new ScriptKernel(...size) };
+const kernels = { plain: await maker() };
 if (existsSync(`${root}page/engine.js`)) {
   new Function(readFileSync(`${root}page/engine.js`, "utf8"))();
-  const module = new WebAssembly.Module(Buffer.from(globalThis.FHPGAS_ENGINE, "base64"));
-  kernels.proved = (...size) => new ProvedKernel(module, ...size);
+  kernels.proved = await maker(globalThis.FHPGAS_ENGINE);
 } else console.log("the engine is left out, because page/engine.js is missing: run make");
 const MAPS = 200, AREAS = 18;
 

@@ -1,4 +1,4 @@
-// Tries what the page computes beside its kernels: the way back through random histories, the drive, the probe, and each number
+// Tries what the page computes beside its kernel: the way back through random histories, the drive, the probe, and each number
 // that is shown. Then builds the page again, if esbuild has the version of page/build.mjs, and checks its types.
 //   node tests/page/model.mjs [HISTORIES] [RUNS OF NOISE]
 //
@@ -13,11 +13,11 @@
 // updates, frames per second    | tests/page/browser.py, by the clock of the browser
 import { spawnSync } from "node:child_process";
 import { mkdtempSync, readFileSync, rmSync } from "node:fs";
+import { maker } from "../../page/built.mjs";
 import { Flow } from "../../page/src/flow.js";
 import { Flows } from "../../page/src/flows.js";
 import { Watched } from "../../page/src/frames.js";
 import { GASES, SOLID } from "../../page/src/gases.js";
-import { ScriptKernel } from "../../page/src/kernel.js";
 import { CORRELATED, numbersOf, strouhal, viscosity } from "../../page/src/numbers.js";
 import { periodOf } from "../../page/src/probe.js";
 import { readScene, sceneOf } from "../../page/src/scenes.js";
@@ -27,7 +27,7 @@ import { check, end, near, tried } from "../lib/checks.mjs";
 import { lots } from "../lib/random_numbers.mjs";
 
 const root = new URL("../..", import.meta.url).pathname, [histories = 60, noises = 12] = process.argv.slice(2).map(Number);
-const make = (...size) => new ScriptKernel(...size);
+const make = await maker();
 
 // -- the way back, through whatever was done
 
@@ -69,7 +69,7 @@ for (let number = 0; number < histories; number++) tried(`history ${number}`, ()
 // but for what was done on the way back and not undone.
 function undoing(number) {
   const random = lots(9000 + number), gas = random.of(Object.values(GASES)), [width, height] = [30 + random.below(40), 16 + random.below(20)];
-  const flows = new Flows(), keep = random.chance() < 0.5;
+  const flows = Object.assign(new Flows(), { make }), keep = random.chance() < 0.5;
   flows.start({ flows: [{ gas: gas.name, chirality: "left", width, height, wind: 0.1, keep, filling: 0.2, shape: random.of(["none", "disc"]), radius: 4, seed: "1" }], state: "" });
   const [{ flow }] = flows.watched, solid = () => Array.from({ length: width * height }, (_, at) => flow.cells.isSolid(at));
   const place = () => [random.below(width), random.below(height) * gas.apart], same = (what, isSo) => check(`undoing ${number}: ${what}`, isSo);
@@ -290,16 +290,13 @@ check("noise shows no period", shows <= Math.max(0.01 * noises, 0), `${shows} of
 
 // -- the built page
 
-const version = spawnSync("esbuild", ["--version"], { encoding: "utf8" }).stdout?.trim();
-const recorded = readFileSync(`${root}page/build.mjs`, "utf8").match(/VERSION = "(.*)"/)[1];
-if (version === recorded) {
-  const folder = mkdtempSync("/tmp/page-"), built = `${folder}/page.html`;
-  const done = spawnSync("node", [`${root}page/build.mjs`, built], { encoding: "utf8" });
-  const [old, made] = [`${root}page/fhpgas.html`, built].map((file) => (done.status === 0 || file !== built ? readFileSync(file, "utf8") : ""));
-  check("page/fhpgas.html is what its sources make: run make page", old === made, done.stderr);
-  check("page/fhpgas.html has at most 200 KB", Buffer.byteLength(old) <= 200 * 1024);
-  rmSync(folder, { recursive: true });
-} else console.log(`page/fhpgas.html was not built again: esbuild ${recorded} is wanted, and here is ${version ?? "none"}`);
+const folder = mkdtempSync("/tmp/page-"), built = `${folder}/page.html`;
+const done = spawnSync("node", [`${root}page/build.mjs`, built], { encoding: "utf8" }), old = readFileSync(`${root}page/fhpgas.html`, "utf8");
+if (done.stderr.includes("this is not ")) console.log(`page/fhpgas.html is not compared with what its sources make: ${done.stderr}`);
+else check("page/fhpgas.html is what its sources make: run make page", done.status === 0 && old === readFileSync(built, "utf8"), done.stderr);
+check("page/fhpgas.html has at most 200 KB", Buffer.byteLength(old) <= 200 * 1024);
+if (done.stderr.includes("stays as it was")) console.log(`its kernel was not built again: ${done.stderr}`);
+rmSync(folder, { recursive: true });
 const types = spawnSync("tsc", ["-p", `${root}page`], { encoding: "utf8" });
 if (types.error) console.log("the types of the page are left out, because tsc is missing: apt-get install node-typescript");
 else check("the types of the page", types.status === 0, types.stdout);

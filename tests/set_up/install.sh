@@ -4,7 +4,8 @@
 # the tests use, and what is still missing.
 cd "$(dirname "$0")/../.." || exit 1
 tools='python3 shellcheck pyflakes3 black mypy spin bgolly:golly cc:gcc cc:libc6-dev pkg-config ffmpeg chromium chromedriver:chromium-driver
-    firefox:firefox-esr node:nodejs tsc:node-typescript esbuild wasm-opt:binaryen rustc:rustc-web cargo:cargo-web'
+    firefox:firefox-esr node:nodejs tsc:node-typescript esbuild wasm-opt:binaryen rustc:rustc-web cargo:cargo-web
+    wasm-ld:lld'
 crates='arrayvec clap crossbeam-utils rand-chacha rand-pcg thiserror toml' # of which plain Rust takes the sources
 sudo=$([ "$(id -u)" = 0 ] || echo sudo -n)
 log=$(mktemp)
@@ -15,6 +16,7 @@ look() {
     { read -r python && read -r has && read -r venv && read -r -a lacks; } < <(tests/lib/needs.py)
     mapfile -t missing < <(
         for tool in $tools; do command -v "${tool%:*}" > /dev/null || echo "${tool#*:}"; done
+        [ -d /usr/lib/rustlib/src/rust/library ] || printf '%s\n' rustc-web rust-web-src # for the page's kernel
         for crate in $crates; do
             compgen -G "/usr/share/cargo/registry/${crate/rand-/rand_}-[0-9]*" > /dev/null || echo "librust-$crate-dev"
         done
