@@ -239,18 +239,48 @@ fn stream_from_east<'a>(incoming: &Incoming<'a>, out: &mut [u64])
     }
 }
 
-// Streams into all words from the same column.
+// Word `j` after streaming from the same column.
 #[inline(always)]
+fn word_from_here<'a>(incoming: &Incoming<'a>, j: usize) -> u64
+    requires within { j < words_in incoming.now.width }
+    ensures { IsStreamedWord incoming.now Stay j result }
+{
+    stream_word(incoming, j, incoming.plane[j], incoming.solid_there[j])
+}
+
+// Streams from the same column into words `at` to `at + 3`, after those before.
+#[inline(always)]
+#[tactic(auto, using(crate::proofs::Words::word_writes))]
+fn four_from_here<'a>(incoming: &Incoming<'a>, at: usize, out: &mut [u64])
+    requires out { length out.old ≡ words_in incoming.now.width }
+    requires within { at + 4 ≤ length out.old }
+    ensures { AreStreamed incoming.now Stay 0 at out.old →
+        AreStreamed incoming.now Stay 0 (at + 4) out.new }
+{
+    let first = word_from_here(incoming, at);
+    let second = word_from_here(incoming, at + 1);
+    let third = word_from_here(incoming, at + 2);
+    let fourth = word_from_here(incoming, at + 3);
+    out[at] = first;
+    out[at + 1] = second;
+    out[at + 2] = third;
+    out[at + 3] = fourth;
+}
+
+// Streams into all words from the same column: four at a time, because a call that copies a short row
+// costs more than the row.
+#[inline(always)]
+#[tactic(auto, using(crate::proofs::Words::word_writes))]
 fn stream_from_here<'a>(incoming: &Incoming<'a>, out: &mut [u64])
     requires out { length out.old ≡ words_in incoming.now.width }
     ensures { AreStreamed incoming.now Stay 0 (length out.new) out.new }
 {
-    if incoming.all_fluid {
-        out.copy_from_slice(incoming.plane);
-        return;
+    let fours = out.len() / 4;
+    for k in 0..fours {
+        four_from_here(incoming, 4 * k, out);
     }
-    for j in 0..out.len() {
-        out[j] = stream_word(incoming, j, incoming.plane[j], incoming.solid_there[j]);
+    for j in 4 * fours..out.len() {
+        out[j] = word_from_here(incoming, j);
     }
 }
 
