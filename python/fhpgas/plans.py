@@ -16,7 +16,7 @@ def plan(
     cores : int, optional
         By default those that this process may use, in a run of `side_by_side` its share of them.
     stages : int, optional
-        By default eight per core, at most one per 16 rows or per generation.
+        By default sixteen per core, at most one per 16 rows or per generation.
 
     Returns
     -------
@@ -26,10 +26,10 @@ def plan(
     Examples
     --------
     >>> fhpgas.plan(1024, 1000, cores=4)
-    (32, 128, 4)
+    (64, 128, 4)
     """
     cores = cores or cores_of_call()
-    stages = stages or max(1, min(8 * cores, rows // 16, generations, MOST_STAGES))
+    stages = stages or max(1, min(16 * cores, rows // 16, generations, MOST_STAGES))
     return stages, CAPACITY, min(cores, stages)
 
 

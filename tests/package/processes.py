@@ -122,7 +122,7 @@ class Processes(Package):
     def test_a_plan_is_chosen_from_the_cores_of_the_process(self):
         self.assertEqual(
             [fhpgas.plan(1024, 1000, cores) for cores in (1, 4, 8, 64)],
-            [(8, 128, 1), (32, 128, 4), (64, 128, 8), (64, 128, 64)],
+            [(16, 128, 1), (64, 128, 4), (64, 128, 8), (64, 128, 64)],
         )
         self.assertEqual(
             [
@@ -133,7 +133,7 @@ class Processes(Package):
         )
         self.assertEqual(fhpgas.plan(24, 100, 4, stages=6), (6, 128, 4))
         with unittest.mock.patch.object(os, "sched_getaffinity", lambda process: {5, 6}):
-            self.assertEqual(fhpgas.plan(1024, 1000), (16, 128, 2))
+            self.assertEqual(fhpgas.plan(1024, 1000), (32, 128, 2))
 
     def test_bars_count_the_parts_that_are_asked_for(self):
         """And nothing else is written, also on a terminal."""

@@ -30,7 +30,7 @@ PAIRS = [  # words of the help and of FORMATS, whose numbers are equal
     (r"units of 1 in HPP", r"in `hpp` the momentum of a particle that moves"),
     (r"(0) is the feeder", r"Turn (0) is the \*\*feeder\*\*"),
     ("G generations need at least G workers", "so G is at most N"),
-    (r"the default N is (8) T, at most (64), and the default C (128)", r"with `--threads T` (8) T, at most (64) \|\n.* with `--threads T` (128) \|"),
+    (r"the default N is (16) T, at most (64), and the default C (128)", r"with `--threads T` (16) T, at most (64) \|\n.* with `--threads T` (128) \|"),
 ]  # fmt: skip
 
 

@@ -33,10 +33,10 @@ IsGivenAt rows option (Some n) = IsNumberAt 32 rows option n
 abbrev pub IsNumberOr : ℕ → List Row → Text → ℕ → Type 0
 IsNumberOr default rows option n = (given : Option ℕ) × IsGivenAt rows option given × (n ≡ unwrap_or given default)
 
--- the number of stages if none is given: 4, or 8 per thread, from 8 to 64
+-- the number of stages if none is given: 4, or 16 per thread, from 16 to 64
 abbrev pub default_stages : Option ℕ → ℕ
 default_stages None = 4
-default_stages (Some threads) = 8 * max 1 (min threads 8)
+default_stages (Some threads) = 16 * max 1 (min threads 4)
 
 -- the capacity if none is given
 abbrev pub default_capacity : Option ℕ → ℕ

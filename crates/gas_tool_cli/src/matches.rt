@@ -40,7 +40,7 @@ fn default_stages(threads: Option<u32>) -> u32
     ensures { result ≡ default_stages threads }
 {
     match threads {
-        Some(threads) => 8 * threads.clamp(1, 8),
+        Some(threads) => 16 * threads.clamp(1, 4),
         None => 4,
     }
 }

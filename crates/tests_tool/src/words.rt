@@ -17,7 +17,7 @@ fn requests(rt: HostRuntime) -> Result<(), Fail> {
         ),
         (
             "run --generations 1 --threads 3",
-            "Run { stages: 24, capacity: 128, generations: 1, threads: Some(3) }",
+            "Run { stages: 48, capacity: 128, generations: 1, threads: Some(3) }",
         ),
         (
             "run --threads 8 --generations 1 --capacity 2",
@@ -29,7 +29,7 @@ fn requests(rt: HostRuntime) -> Result<(), Fail> {
         ),
         (
             "run --threads 0 --generations 1",
-            "Run { stages: 8, capacity: 128, generations: 1, threads: Some(0) }",
+            "Run { stages: 16, capacity: 128, generations: 1, threads: Some(0) }",
         ),
         (
             "run --threads 4294967295 --generations 1",
@@ -42,7 +42,7 @@ fn requests(rt: HostRuntime) -> Result<(), Fail> {
         ),
         (
             "coarse --generations 7 --block-width 2 --block-height 3 --threads 1",
-            "Coarse { stages: 8, capacity: 128, generations: 7, threads: Some(1), \
+            "Coarse { stages: 16, capacity: 128, generations: 7, threads: Some(1), \
              block_width: 2, block_height: 3 }",
         ),
         (
