@@ -438,12 +438,13 @@ def many_turns():
 
 
 def on_threads(words):
-    """The words, and of a run also with its workers on one thread, on two, and each on its own."""
+    """The words, and of a run also with its stages on one thread, on two, on three, and each on its own."""
     yield words
     if words[0] in ("run", "coarse"):
         given = dict(zip(words[1::2], words[2::2]))
         stages = given.get("--stages", "4")
-        yield from ([*words, "--threads", threads] for threads in ("1", "2"))
+        fewer = (threads for threads in "123" if int(threads) < int(stages))
+        yield from ([*words, "--threads", threads] for threads in fewer)
         yield [*words, *([] if "--stages" in given else ["--stages", stages]), "--threads", stages]
 
 
