@@ -1,6 +1,6 @@
-//! The stage beside the reference, which goes cell by cell.
+//! Stages beside the reference, which goes cell by cell.
 
-ghost use Rattle.std.specs.Prelude.{◌≡◌, ◌<◌, ◌^◌};
+ghost use Rattle.std.specs.Prelude.{◌≡◌, ◌<◌, ◌≤◌, ◌^◌};
 
 use super::reference::lattice_after;
 use gas_geom::fhp_rest::FhpRest;
@@ -8,10 +8,10 @@ use gas_geom::fhp1::Fhp1;
 use gas_geom::gas::Gas;
 use gas_geom::hpp::Hpp;
 use gas_geom::size::Size;
+use gas_pipe::{Plan, Replay, replay};
 use gas_rows::channel::Channel;
 use gas_rows::chirality::Chirality;
 use gas_rows::lattice::Lattice;
-use gas_stage::evolution;
 use rand_core::Rng;
 use rand_core::utils::NextWord;
 use rand_pcg::Pcg32;
@@ -77,18 +77,69 @@ fn block_seam<G: Gas>(lattice: &mut Lattice<G>) {
     }
 }
 
-// Three steps of a lattice of some generation, by a stage and cell by cell.
+/// A replay of turns on a lattice of generation `first`. It promises nothing, so that no test
+/// carries the promises of `replay`.
+pub fn replay_of<G: Gas>(
+    alloc: Global,
+    lattice: &Lattice<G>,
+    chirality: Chirality,
+    first: u64,
+    plan: Plan,
+    turns: &[u32],
+) -> Result<Replay<G>, Fail>
+    requires { first < 2 ^ 63 }
+{
+    Ok(replay(alloc, lattice, chirality, first, plan, turns)?)
+}
+
+// As many rounds, in which each member makes a turn, as a line ever needs.
+fn rounds(alloc: Global, height: u32, workers: u32) -> Result<Vec<u32>, AllocError>
+    requires { workers ≤ 5 }
+{
+    let mut turns = Vec::new(alloc);
+    for _ in 0..height {
+        for _ in 0..2 * (workers + 1) {
+            for member in 0..=workers {
+                turns.push(member)?;
+            }
+        }
+    }
+    Ok(turns)
+}
+
+// Asserts that stages, one for each generation, come to the lattice that is computed cell by cell,
+// and that no particle is made or lost.
+fn compare<G: Gas>(
+    rt: &impl Abort,
+    alloc: Global,
+    lattice: &Lattice<G>,
+    chirality: Chirality,
+    first: u64,
+    stages: u32,
+) -> Result<(), Fail>
+    requires before { first < 2 ^ 63 }
+    requires few { stages ≤ 5 }
+{
+    let plan = Plan::new(stages, 1, u64::from(stages))?;
+    let turns = rounds(alloc, lattice.channel().size().height(), stages)?;
+    let replay = replay_of(alloc, lattice, chirality, first, plan, &turns)?;
+    let by_stages = replay.lattice().ok_or("a lattice")?;
+    let by_cells = lattice_after(alloc, lattice, chirality, first, u64::from(stages))?;
+    assert_same(rt, by_stages, &by_cells);
+    assert_eq!(rt; by_stages.count(), lattice.count());
+    Ok(())
+}
+
+// Three steps of a lattice of some generation.
 fn compare_steps<G: Gas>(
     rt: &impl Abort,
     alloc: Global,
     lattice: &Lattice<G>,
     seed: u64,
-) -> Result<(), AllocError> {
+) -> Result<(), Fail> {
     let first = seed % 1_000_000_000_000;
     for chirality in [Chirality::Left, Chirality::Right, Chirality::Seeded(seed)] {
-        let by_stage = evolution::lattice_after(alloc, lattice, chirality, first, 3)?;
-        let by_cells = lattice_after(alloc, lattice, chirality, first, 3)?;
-        assert_same(rt, &by_stage, &by_cells);
+        compare(rt, alloc, lattice, chirality, first, 3)?;
     }
     Ok(())
 }
@@ -99,7 +150,7 @@ fn compare_random<G: Gas>(
     alloc: Global,
     size: Size,
     random: &mut Pcg32,
-) -> Result<(), AllocError> {
+) -> Result<(), Fail> {
     let mut lattice = random_lattice::<G>(alloc, size, random)?;
     let seed = random.next_u64();
     compare_steps(rt, alloc, &lattice, seed)?;
@@ -122,7 +173,7 @@ fn compare_gases(
 }
 
 #[test]
-fn a_stage_gives_the_next_lattices(rt: HostRuntime) -> Result<(), Fail> {
+fn stages_give_the_next_lattices(rt: HostRuntime) -> Result<(), Fail> {
     let mut random = Pcg32::new(42, 54);
     for width in [1, 2, 3, 62, 63, 64, 65, 66, 127, 128, 129, 191, 192, 193] {
         for height in [1, 2, 3, 4] {
@@ -133,19 +184,14 @@ fn a_stage_gives_the_next_lattices(rt: HostRuntime) -> Result<(), Fail> {
 }
 
 #[test]
-fn a_stage_gives_the_next_wide_lattices(rt: HostRuntime) -> Result<(), Fail> {
+fn stages_give_the_next_wide_lattices(rt: HostRuntime) -> Result<(), Fail> {
     compare_gases(&rt, rt.alloc(), (4095, 3), &mut Pcg32::new(42, 55))
 }
 
 #[test]
 fn the_fifth_generation(rt: HostRuntime) -> Result<(), Fail> {
     let alloc = rt.alloc();
-    let chirality = Chirality::Seeded(7);
     let size = Size::new(40, 5).ok_or("a size")?;
     let start = random_lattice::<Fhp1>(alloc, size, &mut Pcg32::new(42, 54))?;
-    let by_stage = evolution::lattice_after(alloc, &start, chirality, 0, 5)?;
-    let by_cells = lattice_after(alloc, &start, chirality, 0, 5)?;
-    assert_same(&rt, &by_stage, &by_cells);
-    assert_eq!(rt; by_stage.count(), start.count());
-    Ok(())
+    compare(&rt, alloc, &start, Chirality::Seeded(7), 0, 5)
 }

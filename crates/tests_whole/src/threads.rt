@@ -1,6 +1,9 @@
-//! Runs by threads beside the stage on one thread, with one place in each belt, two, and more than
-//! a low lattice has rows.
+//! Runs by threads beside the reference, which goes cell by cell, with one place in each belt, two,
+//! and more than a low lattice has rows.
 
+ghost use Rattle.std.specs.Prelude.{◌<◌, ◌^◌};
+
+use super::reference::lattice_after;
 use crate::tests::{assert_same, random_lattice};
 use gas_geom::fhp_rest::FhpRest;
 use gas_geom::fhp1::Fhp1;
@@ -10,7 +13,6 @@ use gas_geom::size::Size;
 use gas_pipe::{NoGate, Plan, Run, run};
 use gas_rows::chirality::Chirality;
 use gas_rows::lattice::Lattice;
-use gas_stage::evolution::lattice_after;
 use rand_core::Rng;
 use rand_core::utils::NextWord;
 use rand_pcg::Pcg32;
@@ -20,8 +22,7 @@ use std::sync::Wait;
 use std::test::Fail;
 use std::thread::Threads;
 
-// A run whose lattice is of a generation below 2^63. It promises nothing, so that no test carries
-// the promises of `run`.
+// It promises nothing, so that no test carries the promises of `run`.
 fn run_from<G: Gas + Send, R: Threads + Wait + Sync>(
     rt: &R,
     alloc: Global,
@@ -29,26 +30,14 @@ fn run_from<G: Gas + Send, R: Threads + Wait + Sync>(
     chirality: Chirality,
     first: u64,
     plan: Plan,
-) -> Result<Run<G>, Fail> {
-    let first = first % (1 << 63);
+) -> Result<Run<G>, Fail>
+    requires { first < 2 ^ 63 }
+{
     Ok(run(rt, alloc, lattice, chirality, first, plan, &NoGate)?)
 }
 
-// The lattice that one stage comes to, in the same way.
-fn one_stage_after<G: Gas>(
-    alloc: Global,
-    lattice: &Lattice<G>,
-    chirality: Chirality,
-    first: u64,
-    plan: Plan,
-) -> Result<Lattice<G>, Fail> {
-    let first = first % (1 << 63);
-    let generations = plan.generations();
-    Ok(lattice_after(alloc, lattice, chirality, first, generations)?)
-}
-
-// Asserts that a run comes to the lattice that one stage comes to, that no particle is made or
-// lost, and that each belt carried all rows of all passes.
+// Asserts that a run comes to the lattice that is computed cell by cell, that no particle is made
+// or lost, and that each belt carried all rows of all passes.
 fn compare<G: Gas + Send, R: Abort + Threads + Wait + Sync>(
     rt: &R,
     alloc: Global,
@@ -56,8 +45,10 @@ fn compare<G: Gas + Send, R: Abort + Threads + Wait + Sync>(
     chirality: Chirality,
     first: u64,
     plan: Plan,
-) -> Result<(), Fail> {
-    let wanted = one_stage_after(alloc, lattice, chirality, first, plan)?;
+) -> Result<(), Fail>
+    requires { first < 2 ^ 63 }
+{
+    let wanted = lattice_after(alloc, lattice, chirality, first, plan.generations())?;
     let run = run_from(rt, alloc, lattice, chirality, first, plan)?;
     assert_same(rt, run.lattice(), &wanted);
     assert_eq!(rt; run.lattice().count(), lattice.count());
