@@ -1,6 +1,6 @@
 #!/usr/bin/env python3
 """Site updates per second (cells times generations by seconds) of `fhpgas run` and of other programs that compute the same lattice of
-FHP-I, filled at rate 300: one stage on one thread (probes), C on bit planes in place, on one thread and in bands on all
+FHP-I, filled at rate 300: one stage on one thread, C on bit planes in place, on one thread and in bands on all
 (tests/program/oracles/bands.c), and what one would write in an afternoon, in C (tests/program/oracles/bytes.c) and in numpy (bytes.py, if
 numpy is installed, and only with chirality "left"). Under a seed it also makes only the random bits of the same number of updates.
 
@@ -26,7 +26,7 @@ ROOT = pathlib.Path(__file__).resolve().parent.parent
 PROGRAM = ROOT / "crates/fhpgas/out/fhpgas"
 LEVEL = ROOT / "crates/fhpgas/out/level"
 PROBES = ROOT / "crates/probes/out/probes"
-SINGLE = [PROBES, "single_stage"]
+SINGLE = [PROGRAM, "run", "--threads", "1", "--stages", "1", "--generations"]
 KEY_STREAM = [PROBES, "key_stream"]
 CELLS_OF_KEY_ROW = 4096 * 32
 LATTICES = [

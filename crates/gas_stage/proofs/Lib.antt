@@ -2,7 +2,6 @@ pub mod Ignoring
 pub mod Local
 pub mod Feeding
 pub mod Owed
-pub mod Passes
 pub mod Additions
 pub mod Composed
 pub mod OwedBy

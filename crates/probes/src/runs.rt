@@ -6,7 +6,6 @@ use gas_geom::fhp1::Fhp1;
 use gas_pipe::{Gate, Plan, RunError, replay, run};
 use gas_rows::chirality::Chirality;
 use gas_rows::lattice::Lattice;
-use gas_stage::evolution::lattice_after;
 use gas_tool::{Request, ToolError, coarse, perform};
 use std::alloc::{AllocError, Global};
 use std::sync::Wait;
@@ -32,11 +31,6 @@ impl Gate for Inside {
     fn leave(&self, who: u32) {
         self.0.fetch_and(!(1 << (who % 64)), Ordering::SeqCst);
     }
-}
-
-fn advance_alone(alloc: Global, lattice: &Lattice<Fhp1>) -> Made {
-    let after = lattice_after(alloc, lattice, Chirality::Left, 0, 5)?;
-    Ok(has_drifted_to(&after, 5))
 }
 
 fn table(alloc: Global, lattice: &Lattice<Fhp1>) -> Made {
@@ -111,7 +105,6 @@ fn refusal(fault: &ToolError, written: usize) -> Made {
 }
 
 pub fn make<R: Threads + Wait + Sync>(probe: &mut Probe, threads: &R) {
-    probe.lend("lattice_after", advance_alone);
     probe.lend("coarse", table);
     probe.lend("replay", replay_turns);
     probe.call("run_1", |alloc| run_drift(threads, alloc, (1, 1), 1, 5));
