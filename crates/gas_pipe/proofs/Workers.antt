@@ -7,11 +7,11 @@ use Rattle.gas_geom.specs.Channel.{ChannelModel}
 use Rattle.gas_rows.specs.Row.{RowModel}
 use Rattle.gas_belt.specs.Belt.{Sender, Receiver}
 use Rattle.gas_stage.specs.Stages.{owed_by, passes_from}
+use Rattle.gas_stage.proofs.OwedBy.{owed_by-all}
 use Rattle.gas_pipe_members.specs.Worker.{WorkerModel, SameWorker, IsClosed, MayHaveDone, Does}
 use Rattle.gas_pipe_members.proofs.Workers.{closed_all}
 use Rattle.gas_pipe_model.specs.Plan.{PlanModel, before}
 use Rattle.gas_pipe_model.specs.Pass.{generations_of}
-use Rattle.gas_pipe_model.proofs.Owes.{owed_by-all}
 use Rattle.gas_pipe_model.proofs.Circle.{owed_pass, owed_none, owed_high}
 use Rattle.gas_pipe.specs.Inner.Worker.{LineWorkerModel, Job, job_of, does_in, owes_until, HasCome, HasFinished}
 

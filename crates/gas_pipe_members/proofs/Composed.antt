@@ -13,7 +13,7 @@ use Rattle.gas_stage.specs.Stage.{StageModel, owed, given}
 use Rattle.gas_stage.specs.Stages.{owed_by, given_by, passes_from, MayEachHaveBeenFed}
 use Rattle.gas_stage.proofs.Local.{length-next}
 use Rattle.gas_stage.proofs.Owed.{owed-no_more}
-use Rattle.gas_pipe_model.proofs.Owes.{owed_by-no_more, owed_by-grows}
+use Rattle.gas_stage.proofs.OwedBy.{owed_by-no_more, owed_by-grows}
 use Rattle.gas_pipe_model.proofs.Prefixes.{prefix_length}
 use mathlib.Core.List.{IsPrefix}
 

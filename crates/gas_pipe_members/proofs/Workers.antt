@@ -4,10 +4,10 @@ use Rattle.std.specs.Option.{option_to_list}
 use Rattle.gas_geom.specs.Gas.{Rules}
 use Rattle.gas_geom.specs.Channel.{ChannelModel}
 use Rattle.gas_stage.specs.Stages.{MayAllHaveBeenFed, given_by}
+use Rattle.gas_stage.proofs.OwedBy.{owed_by-no_more}
 use Rattle.gas_pipe_model.proofs.Prefixes.{prefix_length}
 use Rattle.gas_rows.specs.Row.{RowModel}
 use mathlib.Core.List.{IsPrefix}
-use Rattle.gas_pipe_model.proofs.Owes.{owed_by-no_more}
 use Rattle.gas_pipe_members.proofs.Composed.{given_by_prefix, given_by_long, given_by_none, fed_short, fed_unflushed, fed_all}
 use Rattle.gas_pipe_members.specs.Worker.{WorkerModel, IsClosed, MayHaveDone, owes}
 

@@ -10,12 +10,12 @@ use Rattle.gas_rows.specs.Chirality.{chirality_bit}
 use Rattle.gas_stage.specs.Stage.{owed}
 use Rattle.gas_stage.specs.Stages.{owed_by}
 use Rattle.gas_stage.proofs.Local.{length-next}
+use Rattle.gas_stage.proofs.OwedBy.{owed_by-all, owed_by-grows, owed_by-no_more}
 use Rattle.gas_rows.specs.Row.{RowModel}
 use Rattle.gas_pipe_model.specs.Line.{is_done}
 use Rattle.gas_pipe_model.specs.Plan.{before}
 use Rattle.gas_pipe_model.specs.Pass.{RunInputModel, IsRunInput, computes_from, generations_of, line_of, after, rows_on}
 use Rattle.gas_pipe_model.specs.Inner.Line.{IsLine, rows_in_the_end}
-use Rattle.gas_pipe_model.proofs.Owes.{owed_by-all, owed_by-grows, owed_by-no_more}
 use Rattle.gas_pipe_model.proofs.Shares.{before-none, before-all, before-grows}
 use Rattle.gas_pipe_model.proofs.Turns.{Fits}
 use Rattle.gas_pipe_model.proofs.Kept.{fits}

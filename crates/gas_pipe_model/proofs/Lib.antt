@@ -8,7 +8,6 @@ pub mod Opens
 pub mod Generations
 pub mod Wide
 pub mod Boundaries
-pub mod Owes
 pub mod Shares
 pub mod Circle
 pub mod PlanCircle

@@ -5,7 +5,7 @@ use Rattle.std.specs.List.{range_with_len}
 use Rattle.std.proofs.lemmas.List.Concat.{flat_map-append}
 use Rattle.gas_geom.specs.Gas.{Rules}
 use Rattle.gas_rows.specs.Row.{RowModel}
-use Rattle.gas_pipe_model.proofs.Owes.{owed_by-all}
+use Rattle.gas_stage.proofs.OwedBy.{owed_by-all}
 use Rattle.gas_pipe_model.specs.Pass.{RunInputModel, IsRunInput, generations_of, rows_on, carried_on}
 use Rattle.gas_pipe_model.specs.Inner.Circle.{joined, IsCircle, owes_in}
 use Rattle.gas_pipe_model.proofs.Generations.{rows_high, owes_next, begins_next}
