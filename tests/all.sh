@@ -42,12 +42,13 @@ package() {
 }
 
 # plain: builds the sources by plain Rust, without the kit, with every check on, and tries them: the crates' own tests, the program, the
-# library beside the proved one, and what differs
+# library beside the proved one, what differs, and the line under sanitizers
 plain() {
     has cargo 'plain Rust' || return 0
     parts plain/stripping.py plain/crates.sh
     part make -s plain
     FHPGAS=$PWD/out/plain/fhpgas parts plain/calls.py plain/differences.py program/command_line.py
+    parts plain/sanitizers.py
 }
 
 # gate: proves every crate from scratch, tries the wrong bodies of must-fail/ one by one, and runs the tests and the stored runs of the
@@ -81,10 +82,10 @@ case $1 in
         gate
         part tests/program/wrong_bodies.py "$room/gate"
         part make -s AS_IS=1 engine
+        plain
         parts program/command_line.py program/help.py documents/version.py program/cells_beside_c.py program/cells_beside_golly.py \
             program/reference_scenes.py program/terminal.py documents/library.py set_up/release.sh program/large_scenes.py \
             program/largest_sizes.py documents/first_change.sh program/refused_memory.py
-        plain
         package
         part tests/program/mutated_scenes.py 5000
         mkdir -p out

@@ -1,0 +1,178 @@
+#!/usr/bin/env python3
+"""Runs plain builds under sanitizers: the line's tests, the ring's and 60 random plans under ThreadSanitizer, and the same plans of the
+trusting build under AddressSanitizer. A ring with one order relaxed must be reported. If the compiler here has no sanitizers, they were not
+tried. Ends with the counts."""
+
+from __future__ import annotations
+
+import os
+import pathlib
+import random
+import re
+import shutil
+import subprocess
+import sys
+import tempfile
+import unittest
+from dataclasses import dataclass
+
+sys.path.append(f"{sys.path[0]}/../lib")
+import needs
+
+sys.path.append(str(needs.ROOT / "plain"))
+import workspace
+
+PLANS = 60
+OUT = needs.ROOT / "out/plain"
+PLAIN = OUT / "fhpgas"
+TARGET = "x86_64-unknown-linux-gnu"  # named, so that what cargo runs as it builds has no sanitizer
+LIBRARIES = {"thread": "tsan", "address": "asan"}
+# Rust's library is not instrumented: who frees what a scope shares has only a fence before, and results come over a channel of it.
+SUPPRESSED = "race:ScopeData*drop_slow\nrace:std*sync*mpmc\n"
+# What newer compilers call and GCC's library has not yet.
+CALLS = """\
+#include <string.h>
+void *__tsan_memcpy(void *to, const void *from, size_t n) { return memcpy(to, from, n); }
+void *__tsan_memmove(void *to, const void *from, size_t n) { return memmove(to, from, n); }
+void *__tsan_memset(void *to, int byte, size_t n) { return memset(to, byte, n); }
+"""
+# Functions of these crates, by Rust's names or by a linker's. The harness of Rust's tests shares each test with its thread, and reports of
+# that have in one of the two stacks none.
+OURS = re.compile(r"(?<![(/])(?:fhpgas|gas_[a-z]|\bring::|\dring\d|shim|tests_[a-z])")
+ORDERS = (
+    "pushed.0.store(self.pushed, Ordering::Release)",
+    "pushed.0.load(Ordering::Acquire)",
+    "popped.0.store(self.popped, Ordering::Release)",
+    "popped.0.load(Ordering::Acquire)",
+)
+
+
+def run(*words: str | pathlib.Path, **more) -> subprocess.CompletedProcess[str]:
+    return subprocess.run(words, capture_output=True, text=True, **more)
+
+
+@dataclass
+class Build:
+    """A folder in which cargo builds with a sanitizer."""
+
+    folder: pathlib.Path
+    made: pathlib.Path
+    environment: dict[str, str]
+
+    def cargo(self, *words: str) -> subprocess.CompletedProcess[str]:
+        offline = ["--offline"] if (self.folder / ".cargo").exists() else []
+        more = ["--quiet", f"--target={TARGET}", *offline]
+        return run("cargo", *words, *more, cwd=self.folder, env=self.environment)
+
+    def program(self, *profile: str) -> pathlib.Path:
+        built = self.cargo("build", "--package=fhpgas", *profile)
+        if built.returncode != 0:
+            needs.stop(built.stderr)
+        return self.made / ("release" if profile else "debug") / "fhpgas"
+
+
+def found_flags(sanitizer: str, folder: pathlib.Path, environment: dict[str, str]) -> str:
+    """What rustc wants for a sanitizer, with its own library or else with GCC's."""
+    (folder / "empty.rs").write_text("fn main() {}")
+    (folder / "calls.c").write_text(CALLS)
+    if shutil.which("cc"):
+        run("cc", "-fno-builtin", "-fPIC", "-c", "calls.c", cwd=folder, check=True)
+    mixed = "-Cunsafe-allow-abi-mismatch=sanitizer"
+    before = f"-Zpre-link-arg=-Wl,--no-as-needed -Zpre-link-arg=-l{LIBRARIES[sanitizer]}"
+    others = f"-Zexternal-clangrt {before} -Clink-arg={folder / 'calls.o'}"
+    for more in "", mixed, others, f"{mixed} {others}":
+        flags = f"-Zsanitizer={sanitizer} {more}"
+        made = run("rustc", *flags.split(), "empty.rs", cwd=folder, env=environment)
+        if made.returncode == 0 and run(folder / "empty").returncode == 0:
+            return flags
+    raise unittest.SkipTest(f"the {sanitizer} sanitizer, not tried because rustc has none here")
+
+
+def sanitized(sanitizer: str, folder: pathlib.Path, proved: str | None = None) -> Build:
+    """A workspace for a sanitizer. Sanitizers are not stable, so rustc must be told to take them."""
+    workspace.make(folder, proved)
+    made = OUT / sanitizer
+    made.mkdir(exist_ok=True)
+    (made / "suppressed").write_text(SUPPRESSED)
+    environment = os.environ | {
+        "ASAN_OPTIONS": "detect_leaks=0",  # texts for clap live for ever
+        "CARGO_PROFILE_RELEASE_LTO": "off",
+        "CARGO_PROFILE_RELEASE_CODEGEN_UNITS": "16",
+        "CARGO_PROFILE_RELEASE_OPT_LEVEL": "1",
+        "CARGO_TARGET_DIR": str(made),
+        "RUSTC_BOOTSTRAP": "1",
+        "TSAN_OPTIONS": f"suppressions={made / 'suppressed'}",
+    }
+    environment["RUSTFLAGS"] = found_flags(sanitizer, made, environment)
+    return Build(folder, made / TARGET, environment)
+
+
+def races(told: str) -> list[str]:
+    """The reports of two accesses by these crates."""
+    reports = re.findall(r"^WARNING: ThreadSanitizer.*?(?=^={9}|\Z)", told, re.M | re.S)
+    return [it for it in reports if all(map(OURS.search, it.split("\n\n")[:2]))]
+
+
+def plans() -> list[tuple[list[str], str]]:
+    """Words of plans and scenes."""
+    rng, drawn = random.Random(5), []
+    for _ in range(PLANS):
+        stages = rng.randint(1, 24)
+        words = ["run", f"--generations={rng.randint(1, 150)}", f"--stages={stages}"]
+        words.append(f"--capacity={rng.choice([1, rng.randint(1, 40)])}")
+        if rng.random() < 0.7:
+            words.append(f"--threads={rng.randint(1, min(stages, 6))}")
+        gas = rng.choice(["fhp1", "fhp-rest", "hpp"])
+        size = f"width = {rng.randint(1, 400)}\nheight = {rng.randint(1, 60)}"
+        scene = f'version = 2\ngas = "{gas}"\n{size}\nrate = 300\nseed = {rng.randrange(2**32)}\n'
+        drawn.append((words, scene))
+    return drawn
+
+
+class Sanitized(unittest.TestCase):
+    def run_plans(self, build: Build, *profile: str) -> None:
+        program = build.program(*profile)
+        for words, scene in plans():
+            with self.subTest(words, scene=scene):
+                done = run(program, *words, input=scene, env=build.environment)
+                wanted = run(PLAIN, *words[:2], "--stages=1", input=scene)
+                self.assertNotRegex(done.stderr, r"(WARNING|ERROR): \w+Sanitizer")
+                self.assertEqual((done.returncode, done.stdout), (0, wanted.stdout))
+
+    def test_addresses(self) -> None:
+        self.run_plans(sanitized("address", OUT / "trusting", "these tests"), "--release")
+
+    def test_threads(self) -> None:
+        build = sanitized("thread", OUT / "workspace")
+        self.run_plans(build)
+        with self.subTest("the line's tests"):
+            done = build.cargo("test", "--package=tests_pipe", "--lib")
+            self.assertIn("test result: ok.", done.stdout, done.stderr)
+            self.assertEqual(races(done.stderr), [])
+        self.assertEqual(self.ring(build), [])
+        for order in ORDERS:
+            with self.subTest(order):
+                self.assertTrue(self.ring(build, order))
+
+    def ring(self, build: Build, order: str | None = None) -> list[str]:
+        """The races in the tests of the ring, in which perhaps one order is relaxed."""
+        room = pathlib.Path(self.enterContext(tempfile.TemporaryDirectory()))
+        for source in "tests/plain/ring.rs", "plain/shim/src/alloc.rs", "plain/shim/src/rtrb.rs":
+            text = (needs.ROOT / source).read_text()
+            if order and source.endswith("rtrb.rs"):
+                self.assertEqual(text.count(order), 1)
+                text = text.replace(order, re.sub(r"\w+\)$", "Relaxed)", order))
+            (room / source).parent.mkdir(parents=True, exist_ok=True)
+            (room / source).write_text(text)
+        words = f"rustc --edition=2024 --test tests/plain/ring.rs {build.environment['RUSTFLAGS']}"
+        made = run(*words.split(), cwd=room, env=build.environment)
+        self.assertEqual(made.returncode, 0, made.stderr)
+        done = run(room / "ring", env=build.environment)
+        if order is None:
+            self.assertIn("test result: ok.", done.stdout)
+        return races(done.stderr)
+
+
+if not PLAIN.exists():
+    needs.stop(f"{PLAIN} is missing: run make plain first")
+needs.run_tests()
