@@ -12,7 +12,7 @@
 #   make plain            builds fhpgas and the library for C by plain Rust, without the kit and not proved, into out/plain
 #   make wheel            packs the Python package into out/, with program and engine for Linux, and without them for other systems
 #   make archive FILE=F   packs fhpgas, built apart for x86-64-v2, into F, a .tar.gz for machines without the kit
-#   make release          makes out/release with all that is handed out: archive, wheels, page, record, a sheet for a lesson, and their sums
+#   make release          makes out/release with all that is handed out: archive, wheels, plain Rust, page, record, a lesson, and their sums
 #                         (DRAFT=yes: without record or reference too)
 #   make clean            removes all that was built
 #

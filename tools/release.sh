@@ -1,7 +1,7 @@
 #!/bin/bash
 # Makes FOLDER anew with all that is handed out: the archive of the built fhpgas, or of another build of it, the Python wheels, the page with
-# its engine, the record of the last `make test`, a sheet for a lesson, the licences, and the sums of all. Without the record, or without the
-# reference of the package, there is no release, unless DRAFT=yes.
+# its engine, the record of the last `make test`, a sheet for a lesson, the licences, in plain/ what may be passed on as it is, and the sums of
+# all. Without the record, or without the reference of the package, there is no release, unless DRAFT=yes.
 set -euo pipefail
 if [ -z "${1-}" ]; then echo 'usage: make release' >&2; exit 2; fi
 folder=$(realpath -m -- "$1")
@@ -10,7 +10,10 @@ python=$(tests/lib/needs.py | sed -n 1p)
 
 has() { "${@:2}" 2> /dev/null || [ "${DRAFT-}" = yes ] || { echo "a release has $1, or is made with DRAFT=yes" >&2; exit 1; }; }
 
+commit=$(git rev-parse HEAD)$([ -z "$(git status --porcelain)" ] || echo ', changed')
 has 'the record that make test leaves' test -e out/record
+has 'the sources that its record names' grep -qx "commit *$commit" out/record
+has 'the build of plain Rust that make test tries' test -e out/plain/workspace/Cargo.lock
 has 'the reference of the package (apt-get install python3-sphinx python3-numpydoc)' "${python:-python3}" -c 'import sphinx, numpydoc'
 rm -rf "$folder"
 mkdir -p "$folder"
@@ -24,6 +27,8 @@ cp page/fhpgas.html docs/NOTICES.md LICENSE-MIT LICENSE-APACHE "$folder"
 sed -E 's/\[([^]]*)\]\([^)]*\)/\1/g' docs/LESSON.md > "$folder/LESSON.md" # without links, because the other documents are in the archive
 [ ! -e page/engine.js ] || cp page/engine.js "$folder"
 if [ -e out/record ]; then cp out/record "$folder/RECORD"; fi
+plain/archive.sh "$folder/plain" "$([ "${DRAFT-}" != yes ] || echo 'a draft of ')commit $commit"
 cd "$folder"
-sha256sum -- * > SHA256SUMS
+sums=$(find -- * -type f | LC_ALL=C sort | xargs sha256sum)
+echo "$sums" > SHA256SUMS
 echo "$folder: $(grep -c '' SHA256SUMS) files, and their sums"

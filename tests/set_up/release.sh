@@ -44,7 +44,7 @@ archive=fhpgas-$version-linux-x86-64.tar.gz
 try 'it has archive, page and lesson' has_files "$archive" fhpgas.html LESSON.md NOTICES.md LICENSE-MIT LICENSE-APACHE
 try 'it has a wheel for Linux and one for all systems' [ "$(number "$room/release"/*.whl)" = 2 ]
 try 'and their source' has_files "fhpgas-$version.tar.gz"
-try 'the sums are of all that is in it' [ "$(number "$room/release"/*)" = "$(($(grep -c '' "$room/release/SHA256SUMS") + 1))" ]
+try 'the sums are of all that is in it' [ "$(find "$room/release" -type f | wc -l)" = "$(($(grep -c '' "$room/release/SHA256SUMS") + 1))" ]
 try 'and are right' env -C "$room/release" sha256sum --check --quiet SHA256SUMS
 try 'the archive unpacks' tar -xzf "$room/release/$archive" -C "$room/other place"
 folder=$(echo "$room/other place"/*)
@@ -66,6 +66,19 @@ try 'it has an engine of its own' runs_inside
 if command -v wasm-opt > /dev/null; then try 'the page has the engine' cmp "$folder/page/engine.js" "$room/release/engine.js"; else leave_out "the page's engine"; fi
 try 'C has the header and an example' [ -s "$folder/include/fhpgas.h" -a -s "$folder/examples/profile.c" ]
 FHPGAS=$folder/fhpgas part tests/package/wheel.py "$folder"/fhpgas-*.whl
+
+# What may be passed on: sources that cargo took without Python, and a program and a wheel of them, which trust the proofs.
+plain=$room/release/plain
+tested() { awk -F '"' '/^name/ { name = $2 } /^version/ { version = $2 } /^source/ { print name "-" version }' out/plain/workspace/Cargo.lock; }
+packed() { tar -tzf "$plain/fhpgas-$version-rust.tar.gz" | sed -n 's|^[^/]*/vendor/\([^/]*\)/.*|\1|p'; }
+try 'plain Rust has the crates that were tested, and no others' diff <(tested | sort) <(packed | sort -u)
+try 'its program says what it trusts' grep -q '(plain Rust, trusts the proofs of a draft of commit .*, not proved)' <("$plain/fhpgas" --version)
+FHPGAS=$plain/fhpgas part tests/program/command_line.py
+try 'its wheel unpacks' "$python" -m zipfile -e "$plain"/fhpgas-*.whl "$room/plain"
+for level in v2 v3; do
+    part tests/plain/calls.py {"$room/plain",python}/fhpgas/libfhpgas-x86-64-$level.so 20 500
+done
+try 'and has the notices' [ -s "$room/plain/fhpgas/licences/strsim/LICENSE" -a -s "$room/plain/fhpgas/licences/rust" ]
 
 if "$python" -c 'import sphinx, numpydoc' 2> /dev/null; then try 'it has the reference of the package' grep -q fhpgas.random_gas.draw_gas "$folder/docs/reference/index.html"; fi
 try 'README names the level' grep -qE 'built for x86-64-v[23]$' "$folder/README"
