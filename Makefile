@@ -75,7 +75,7 @@ link = $(kit)/bin/rattle-link --target x86_64-unknown-linux-gnu --toolchain $(ki
     $(kit)/c/libos_c.a $(kit)/c/liblibc_c.a >> out/build.log 2>&1 && mv out/new/$@ $(out)/$@ && rm -r out/new && echo $(CPU) > $(out)/level
 libraries := $(addprefix ../../python/fhpgas/libfhpgas-x86-64-,v2.so v3.so)
 lowering := $(shell wasm-opt --version 2> /dev/null)
-install = mv out/new/*.map out && mv out/new/*.so ../../python/fhpgas && rm -f ../../page/engine.js && \
+install = mv out/new/*.map out && rm -f ../../python/fhpgas/libfhpgas-* ../../page/engine.js && mv out/new/*.so ../../python/fhpgas && \
     $(if $(lowering),mv out/new/engine.js ../../page,echo 'page/engine.js is left out: apt-get install binaryen') && rm -r out/new
 
 # The files that represent a crate once it is made, and the sums of what it was made from. rt removes both with a library for crates. A crate

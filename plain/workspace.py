@@ -49,6 +49,14 @@ gas_export = { path = "../gas_export" }
 [target.'cfg(not(target_arch = "wasm32"))'.dependencies]
 rand_chacha = "0.3"
 """
+# No program loads a library of another interface.
+BUILD = """\
+fn main() {{
+    if std::env::var("CARGO_CFG_TARGET_OS").as_deref() == Ok("linux") {{
+        println!("cargo:rustc-cdylib-link-arg=-Wl,-soname,libfhpgas.so.{interface}");
+    }}
+}}
+"""
 WORKSPACE = """\
 [workspace]
 resolver = "2"
@@ -100,9 +108,13 @@ def below(name: str, uses: dict[str, list[str]]) -> set[str]:
     return {name}.union(*(below(it, uses) for it in uses.get(name, ())))
 
 
+def written(file: str, pattern: str) -> str:
+    """A number that a file of the sources has."""
+    return re.search(pattern, (ROOT / file).read_text())[1]
+
+
 def version() -> str:
-    text = (ROOT / "crates/gas_tool_cli/src/help.rt").read_text()
-    return re.search(r'VERSION: &str = "([0-9.]+)', text)[1]
+    return written("crates/gas_tool_cli/src/help.rt", r'VERSION: &str = "([0-9.]+)')
 
 
 def write(path: pathlib.Path, text: str) -> None:
@@ -152,6 +164,8 @@ def write_shim(folder: pathlib.Path, proved: str | None) -> None:
     text = SHIM.format(clap=CLAP, default='"trusting"' if proved else "")
     write_manifest(folder / "shim", text, about=about)
     write_manifest(folder / "engine", ENGINE, '[lib]\nname = "fhpgas"\ncrate-type = ["cdylib"]\n\n')
+    interface = written("include/fhpgas.h", r"FHPGAS_INTERFACE (\d+)")
+    write(folder / "engine/build.rs", BUILD.format(interface=interface))
     for name in "shim", "engine":
         shutil.copytree(ROOT / "plain" / name / "src", folder / name / "src", dirs_exist_ok=True)
 

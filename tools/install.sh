@@ -14,6 +14,8 @@ if [ "${2-}" = remove ]; then
 fi
 program=crates/fhpgas/out/fhpgas built=python/fhpgas/libfhpgas-x86-64-v2.so
 [ -e crates.txt ] || program=./fhpgas # in an archive
+[ -e "$program" ] || program=out/plain/fhpgas # where nothing is proved
+[ -e "$built" ] || built=python/fhpgas/libfhpgas-$(uname -m).so
 for file in "$program" "$built"; do [ -e "$file" ] || { echo "$file is missing: make comes before make install" >&2; exit 1; }; done
 install -D -t "$into/bin" "$program"
 install -D -m 644 -t "$into/include" include/fhpgas.h

@@ -49,10 +49,11 @@ CALLS: dict[str, tuple[Any, ...]] = {
     "advance": (U32, U32, U32, *[U64] * 3, *[U32] * 3, *WORDS, *NEW_WORDS, *NEW_WORDS),
     "sums": (U32, U32, U32, U32, U32, U32, *WORDS, *WORDS, *NEW_SUMS),
 }
-# The flags of Linux for what a level of x86-64 needs, the best level first.
+# How the names of libraries end, the best first, with the flags of Linux for what a level of x86-64
+# needs. One for the processor alone is built by plain Rust.
 V2 = {"cx16", "lahf_lm", "pni", "popcnt", "sse4_1", "sse4_2", "ssse3"}
 V3 = V2 | {"abm", "avx", "avx2", "bmi1", "bmi2", "f16c", "fma", "movbe", "xsave"}
-LEVELS = {"x86-64-v3": V3, "x86-64-v2": V2}
+LEVELS = {"x86-64-v3": V3, "x86-64-v2": V2, platform.machine(): set[str]()}
 CUT = 1 << 25  # cells, or updates of cells, of one call
 MARGIN = 32  # rows, and generations from one exchange to the next
 SHRINK = 8  # generations after which margins shrink, an even number
@@ -76,7 +77,7 @@ def library() -> ctypes.CDLL | None:
     none beside this file. One that cannot be loaded, or has another interface, is left out with a
     warning."""
     flags = flags_of_processors() if sys.platform == "linux" else set()
-    for name, needed in [*LEVELS.items(), (platform.machine(), set[str]())]:
+    for name, needed in LEVELS.items():
         path = pathlib.Path(__file__).with_name(f"libfhpgas-{name}.so")
         if needed <= flags and path.is_file():
             try:

@@ -8,6 +8,7 @@ import functools
 import itertools
 import os
 import pathlib
+import platform
 import re
 import shutil
 import signal
@@ -406,7 +407,10 @@ class Examples(unittest.TestCase):
         return re.search(rf"^```{language}\n(.*?)^```", self.PAGE, re.M | re.S)[1]
 
     def test_in_python(self):
-        words = [sys.executable, "-c", self.block("python")]
+        text = self.block("python")
+        self.assertIn("python/fhpgas/libfhpgas-x86-64-v2.so", text)
+        text = re.sub("python/.*so", engine.library()._name, text)  # the one that is here
+        words = [sys.executable, "-c", text]
         self.assertEqual(subprocess.check_output(words, cwd=needs.ROOT), b"0 8\n")
 
     def test_in_javascript(self):
@@ -434,9 +438,14 @@ class Choice(unittest.TestCase):
             engine.library.cache_clear()
             with unittest.mock.patch.object(
                 engine, "flags_of_processors", lambda: flags
-            ), unittest.mock.patch.object(engine, "_opened", lambda path: path.name):
+            ), unittest.mock.patch.object(
+                engine, "_opened", lambda path: path.name
+            ), unittest.mock.patch.object(
+                pathlib.Path, "is_file", lambda path: True
+            ):
                 loaded[name] = engine.library()
-        names = {"v3": "libfhpgas-x86-64-v3.so", "v2": "libfhpgas-x86-64-v2.so", "": None}
+        own = f"libfhpgas-{platform.machine()}.so"
+        names = {"v3": "libfhpgas-x86-64-v3.so", "v2": "libfhpgas-x86-64-v2.so", "": own}
         self.assertEqual(loaded, names)
         engine.library.cache_clear()
         with unittest.mock.patch.object(engine, "INTERFACE", 0), self.assertWarnsRegex(
@@ -446,14 +455,16 @@ class Choice(unittest.TestCase):
 
     def test_every_level_that_runs_here_has_equal_cells(self):
         late, flags = self.lattice.run(50), engine.flags_of_processors()
-        for level, needed in engine.LEVELS.items():
-            with self.subTest(level=level):
-                if needed <= flags:
-                    path = pathlib.Path(engine.__file__).with_name(f"libfhpgas-{level}.so")
-                    with unittest.mock.patch.object(
-                        engine, "library", lambda: engine._opened(path)
-                    ):
-                        self.assertEqual(self.lattice.run(50), late)
+        paths = {
+            pathlib.Path(engine.__file__).with_name(f"libfhpgas-{level}.so")
+            for level, needed in engine.LEVELS.items()
+            if needed <= flags
+        }
+        for path in filter(pathlib.Path.exists, paths):
+            with self.subTest(path=path), unittest.mock.patch.object(
+                engine, "library", lambda: engine._opened(path)
+            ):
+                self.assertEqual(self.lattice.run(50), late)
 
     def test_without_a_library_one_fault_says_so(self):
         """And what a lattice has is the same."""
