@@ -85,7 +85,7 @@ uint32_t fhpgas_advance(uint32_t gas, uint32_t chirality, uint64_t seed, uint64_
  * bottom are smaller if the lattice ends there. sums gets four numbers per block: its fluid cells, its particles, and the particles' momenta
  * eastwards and northwards in the units of `fhpgas coarse`, by rows of blocks from the top, each from the left. It has
  * 4 * (width / block_width rounded up) * (height / block_height rounded up) numbers, solid and states have the lengths of fhpgas_advance.
- * Bits of solid cells in states, which fhpgas_advance leaves 0, count as particles.
+ * Bits of solid cells in states, which a generation of fhpgas_advance leaves 0, count as particles.
  * Refuses with GAS, SIZE, BLOCK, LENGTH. */
 uint32_t fhpgas_sums(uint32_t gas, uint32_t width, uint32_t height, uint32_t block_width, uint32_t block_height, const uint64_t *solid,
                      size_t solid_length, const uint64_t *states, size_t states_length, int64_t *sums, size_t sums_length);

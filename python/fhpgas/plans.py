@@ -1,4 +1,4 @@
-"""Plans: the workers of a run of the program, the rows per belt, and the threads."""
+"""Plans: the stages of a run of the program, the rows per belt, and the threads."""
 from .fault import integer
 from .limits import CAPACITY, MOST_CAPACITY, MOST_GENERATIONS, MOST_STAGES
 from .runs import cores_of_call
@@ -42,7 +42,7 @@ def planned(
         integer("the number of stages", stages, 1, MOST_STAGES)
     if capacity is not None:
         integer("the capacity", capacity, 1, MOST_CAPACITY)
-    workers, places, threads = plan(rows, generations, stages=stages)
-    words = {"generations": generations, "stages": workers, "capacity": capacity or places}
+    number, places, threads = plan(rows, generations, stages=stages)
+    words = {"generations": generations, "stages": number, "capacity": capacity or places}
     words["threads"] = threads
     return tuple(word for name, value in words.items() for word in (f"--{name}", value))
