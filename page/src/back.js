@@ -5,7 +5,7 @@ import { count } from "./numbers.js";
 
 /**
  * All particles are turned. A generation collides and then moves, backwards it moves and then collides: so particles
- * collide before they are turned, and at the end collide back, to the other side.
+ * collide before they are turned, and at the end collide back, to the other side. docs/PROVED.md has the proof.
  * @param {Flow} flow
  */
 export function reverse(flow) {

@@ -50,8 +50,9 @@ def forces(lattice: Lattice, part: Any = None) -> dict[str, Array]:
     """The momentum that walls and obstacles received in the generation that ended with a lattice.
 
     A particle that moves away from a neighbouring wall or solid cell was just reflected by it, so
-    the wall received twice the momentum with which it came. One generation has much noise, so take
-    means over many. Of a driven run take `Point.before`, whose particles are as the run left them.
+    the wall received twice the momentum with which it came. Nothing else changes the momentum of a
+    lattice, which is proved (docs/PROVED.md). One generation has much noise, so take means over
+    many. Of a driven run take `Point.before`, whose particles are as the run left them.
 
     Parameters
     ----------
