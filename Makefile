@@ -9,6 +9,7 @@
 #   make install          puts what is built into PREFIX (/usr/local): the program, and the header and the library for C
 #   make uninstall        takes it out again
 #   make page             bundles page/src, and the kernel by plain Rust, into page/fhpgas.html, by esbuild
+#   make definitions      writes the definitions that all promises rest on to out/DEFINITIONS.md
 #   make plain            builds fhpgas and the library for C by plain Rust, without the kit and not proved, into out/plain
 #   make wheel            packs the Python package into out/, with program and engine for Linux, and without them for other systems
 #   make archive FILE=F   packs fhpgas, built apart for x86-64-v2, into F, a .tar.gz for machines without the kit
@@ -28,9 +29,10 @@ MAKEFLAGS += --no-print-directory -j$(shell awk -v most=$$(($(processors) + 2)) 
     '/^MemAvailable/ { n = int($$2 / 3e6); print (n < 1 ? 1 : (n > most ? most : n)) }' /proc/meminfo)
 unexport MAKEFLAGS MFLAGS
 
-.PHONY: quick package test page plain archive install uninstall clean help
+.PHONY: quick package test page definitions plain archive install uninstall clean help
 quick package test: ; @tests/all.sh $@
 page: ; @node page/build.mjs
+definitions: ; @mkdir -p out && tests/documents/definitions.py out/DEFINITIONS.md
 plain: ; @plain/build.sh out/plain
 PREFIX ?= /usr/local
 install: ; @tools/install.sh "$(PREFIX)"
@@ -39,7 +41,7 @@ clean: ; rm -rf crates/*/out out $(if $(wildcard crates.txt),python/fhpgas/libfh
 help: ; @sed -n 's/^#   //p' Makefile
 
 # All below proves and builds. An unpacked archive, in which the rest works too, has no crates.
-ifneq ($(filter-out quick package test page plain install uninstall clean help,$(or $(MAKECMDGOALS),$(.DEFAULT_GOAL))),)
+ifneq ($(filter-out quick package test page definitions plain install uninstall clean help,$(or $(MAKECMDGOALS),$(.DEFAULT_GOAL))),)
 CPU := $(if $(filter archive release wheel,$(MAKECMDGOALS)),x86-64-v2,$(shell tools/level))
 out := $(if $(filter archive release wheel,$(MAKECMDGOALS)),out/v2,out)
 kit := $(patsubst %/START-HERE.md,%,$(shell rt doc 2>&1 || :))

@@ -20,6 +20,7 @@ tools/built.sh "$room/built" "$program"
 cp -r "$room"/built/{fhpgas,licences} LICENSE-MIT LICENSE-APACHE README.md CHANGELOG.md CITATION.cff CONTRIBUTING.md Makefile "$folder"
 cp MANIFEST.in pyproject.toml setup.py "$folder"
 cp -r @(docs|examples|experiments|include|notebooks|page|python|scenes|tests) "$folder"
+tests/documents/definitions.py "$folder/docs/DEFINITIONS.md"
 mapfile -t linked < <(grep -rohP '(\]\(|^\[[^]]+\]: )(\.\./)*\K(bench|crates|plain)/[^)#]+' --include='*.md' "$folder" | sort -u)
 cp -r --parents tools/{built,install,wheel}.sh "${linked[@]}" "$folder"
 find "$folder" \( -name __pycache__ -o -name out -o -name .mypy_cache -o -name build -o -name '*.egg-info' \) -prune -exec rm -r {} +

@@ -1,15 +1,16 @@
 #!/usr/bin/env python3
-"""Says which definitions a reader of the public contracts must believe, and makes docs/DEFINITIONS.md of them.
+"""Says which definitions a reader of the public contracts must believe. With the name of a file it writes them there, as the page
+DEFINITIONS.md, by `make definitions`.
 
 A definition is an item of a crate's specs/. It must be believed if the contract of a public call names it, or another that must be believed
 does. A reader also meets the code's types that these definitions name, and the ghost members of public traits that public contracts name.
 The definitions of the kit's crates that all these reach are counted and named, but not shown: a kit of another letter may have others.
 
-Fails if that page is not the one that specs/ makes, or if PROVED and README have other counts of lines (--write writes all this), if the
-page does not name one of these types and members, if a definition to be believed names a type that is not public, if one, or what a public
-call promises, cites a constant of the code instead of the number, and if a file of specs/ has a definition that need not be believed
-without saying in its first line that its words are inner ones. Prints the counts. With --list it prints the definitions instead. """
+Fails if PROVED and README have other counts of lines, of the kit's if it has PROVED's letter, if a definition to be believed names a type
+that is not public, if one, or what a public call promises, cites a constant of the code instead of the number, and if a file of specs/ has
+a definition that need not be believed without saying in its first line that its words are inner ones. Prints the counts."""
 import collections
+import pathlib
 import re
 import sys
 import textwrap
@@ -19,20 +20,16 @@ import kit_definitions
 import needs
 
 CRATES = needs.ROOT / "crates"
-DOCUMENT = "docs/DEFINITIONS.md"
 INNER = "-- Inner words"
-MADE = "<!-- From here on `tests/documents/definitions.py --write` makes this page of specs/, and of the kit's. -->\n"
-OF_KIT = "\n## The kit's definitions\n"
 FIRST = (
     "gas_geom",
     "Fhp1",
 )  # the file that a reader sees first, because it says what a collision is
 ANSWER = [("gas_tool", "Program", name) for name in ("Ends", "exit_status")]
-COUNTS = [  # what documents say of all lines, of those for answer, and of the kit's
-    ("docs/PROVED.md", "{1} lines of ours and {2:,} of the kit's"),
-    ("docs/PROVED.md", "{0} lines for all promises"),
-    ("README.md", "{1} lines of [definitions](docs/DEFINITIONS.md), and {2:,} of the kit's"),
-]
+SAID = {  # of the lines for answer
+    "docs/PROVED.md": "{} lines of ours",
+    "README.md": "{} lines of [definitions]",
+}
 # They relate a state of the code and the rows that may have led to it. The first call establishes them for empty lists, and every step
 # preserves them.
 REPRESENTATION = {"MayHaveBeenFed", "HoldsLast", "MayHaveDone", "MayHaveFed"}
@@ -44,7 +41,35 @@ USE_OF_TYPE = re.compile(
     re.M,
 )
 
+MEMBER = re.compile(r"^((?:    ///[^\n]*\n)*    ghost (\w+): [^\n]*;)$", re.M)
 CONSTANT = re.compile(r"^\s*(?:pub(?:\(\w+\))? )?const (\w+):", re.M)
+
+HEAD_OF_PAGE = """\
+# Definitions
+
+This page is for readers who want to judge what must be believed: the definitions with which all promises are stated, file by file. It is
+the text of `specs/`. It begins with FHP-I, where `collide` says what a collision does, and then takes the files so that most come after the
+ones that they use. Numbers are whole numbers without bound. [LIBRARY](../docs/LIBRARY.md#how-to-read-a-contract) explains the notation,
+[PHYSICS](../docs/PHYSICS.md#sources) lists the sources of the gases, and [FORMATS](../docs/FORMATS.md) shows the formats by example.
+
+Two kinds of files in `specs/` need not be read: proofs under `specs/Laws`, and internal definitions, in files whose first line begins
+`-- Inner words`. Four relations (`MayHaveBeenFed` with `HoldsLast`, `MayHaveDone` and `MayHaveFed`) say which rows may have led to a state
+of the code. The first call establishes them for empty lists, every step preserves them, and every promise is true for all lists that
+satisfy them.
+
+## What the code adds
+
+Types with plain names, and what a type states of itself: a gas the number of its directions (`DIRS`) and whether its collisions use the
+random bit, rows the lattice that their words contain, an end of a belt its steps. On a belt on one thread a put is ready if it has room,
+and a take if it has a row. A belt between threads is never stated to be ready.
+"""
+KIT_ADDS = """
+## The kit's definitions
+
+They say what `clap`'s arguments ask for, what a TOML document is, and the block function of the key stream, which a test compares with
+published vectors. The kit's `CRATE/specs` has them. In `{}` the definitions above reach {:,} lines, comments and Rattle's own words left
+out:
+"""
 
 # A definition is known by its crate, its file and its name. It has lines, and uses other definitions and the code's types. Its words are kept.
 Definition = collections.namedtuple("Definition", "lines uses types words")
@@ -150,9 +175,9 @@ def braced(text, at):
 
 
 def traits(text):
-    return [
-        braced(text, trait.end() - 1)[0] for trait in re.finditer(r"^pub trait [^{]*\{", text, re.M)
-    ]
+    """The public traits, by their names and their bodies."""
+    for trait in re.finditer(r"^pub trait (\w+)[^{]*\{", text, re.M):
+        yield trait[1], braced(text, trait.end() - 1)[0]
 
 
 def contracts(text, kinds="requires|ensures"):
@@ -161,7 +186,7 @@ def contracts(text, kinds="requires|ensures"):
         r";\s*\w+\]", "]", re.sub(r"//[^\n]*", "", text)
     )  # an array's length does not end a signature
     private = set(re.findall(r"^(?:pub\(crate\) )?(?:struct|enum) (\w+)", text, re.M))
-    for body in traits(text):
+    for _, body in traits(text):
         yield from clauses(body, r"^    fn \w+", kinds)
         yield from re.findall(r"ghost \w+: (\{[^\n]*\});", body)
     for model in re.finditer(r"^impl(?:<[^{]*?>)? Model for (\w+)[^{]*\{", text, re.M):
@@ -235,10 +260,12 @@ def reading_order(believed, known):
     return order
 
 
-def catalogue(believed, known):
-    """The made part of docs/DEFINITIONS.md."""
-    order = reading_order(believed, known)
-    return "\n".join(line for file in order for line in shown(*file, believed)) + "\n"
+def of_the_code(types, members):
+    """What the code adds: the types that definitions name, and what public traits state of themselves."""
+    for crate in sorted({crate for crate, _ in types}):
+        yield f"- `{crate}`: {', '.join(sorted(f'`{name}`' for of, name in types if of == crate))}"
+    for (crate, trait), items in members.items():
+        yield f"\n`{trait}` of `{crate}`:\n\n```rust\n" + "\n".join(items) + "\n```"
 
 
 def reached_in_kit(believed, kit):
@@ -260,10 +287,8 @@ def lines_of(files):
     return sum(block.count("\n") + 1 for names in files for block in set(names.values()))
 
 
-def kit_part(reached, letter):
-    """The last section of docs/DEFINITIONS.md."""
-    total = lines_of(reached.values())
-    yield f"\nIn `{letter}` the definitions above reach {total:,} lines of the kit's crates, comments and Rattle's own words left out:\n"
+def of_the_kit(reached, letter):
+    yield KIT_ADDS.format(letter, lines_of(reached.values()))
     for crate in sorted({crate for crate, _ in reached}):
         files = {file: names for (of, file), names in sorted(reached.items()) if of == crate}
         parts = [f"`{file}`: {', '.join(sorted(names))}" for file, names in files.items()]
@@ -273,28 +298,29 @@ def kit_part(reached, letter):
         )
 
 
-def complaints(believed, known, inner, members, public, document):
-    """What the files and DEFINITIONS.md do not agree on."""
+def types_of(believed, known):
+    return {kind for key in believed for kind in known[key].types}
+
+
+def complaints(believed, known, inner, public):
+    """What files and public contracts do not agree on."""
     for key in sorted(known):
         where = f"{key[0]}/specs/{key[1].replace('.', '/')}.antt: {key[2]}"
         if key not in believed and key[:2] not in inner:
             yield f"{where} is cited by no public contract, and its file does not say that it holds inner words"
         if key in believed and key[:2] in inner:
             yield f"{where} is cited by a public contract, and its file says that it holds inner words"
-    types = {kind for key in believed for kind in known[key].types}
-    for crate, kind in sorted(types):
+    for crate, kind in sorted(types_of(believed, known)):
         if not any(
             re.search(rf"^pub (?:struct|enum) {kind}\b", text, re.M) for text in public[crate]
         ):
             yield f"{kind} of {crate} is named by a definition to be believed, and callers can't name it"
-    for name in sorted(members | {kind for _, kind in types}):
-        if f"`{name}`" not in document:
-            yield f"{name} gives public contracts their meaning, and docs/DEFINITIONS.md leaves it out"
 
 
 def contracts_of(public, limits):
-    """What the public contracts cite, the ghost members that they name, and which of their promises cite a constant of the code."""
-    cited, asked, words, wrong = set(), set(), set(), []
+    """What the public contracts cite, the ghost members that they name, by the traits, and which of their promises cite a constant of the
+    code."""
+    cited, asked, words, wrong = set(), [], set(), []
     for crate, texts in public.items():
         for text in texts:
             brought, clauses_here = imports(text), list(contracts(text))
@@ -308,42 +334,22 @@ def contracts_of(public, limits):
                 for name in sorted(promised & limits)
             ]
             words |= {part for clause in clauses_here for part in re.findall(r"\w+", clause)}
-            asked |= {
-                name
-                for body in traits(text)
-                for name in re.findall(r"^    ghost (\w+):", body, re.M)
-            }
-    return cited, asked & words, wrong
+            asked += [((crate, name), MEMBER.findall(body)) for name, body in traits(text)]
+    named = {trait: [item for item, name in found if name in words] for trait, found in asked}
+    return cited, {trait: items for trait, items in named.items() if items}, wrong
 
 
-def made_part(believed, known, document):
-    """The page below its first lines. What it says of the kit stays as it is if this kit has another letter, until it is written again."""
-    recorded = document.partition(OF_KIT)[2]
-    letter, folder = kit_definitions.kit() or (None, None)
-    if letter and (sys.argv[1:] == ["--write"] or f"`{letter}`" in recorded):
-        recorded = "\n".join(kit_part(reached_in_kit(believed, folder), letter)) + "\n"
-    return catalogue(believed, known) + OF_KIT + recorded
+def unsaid(own, of_kit, letter):
+    """What documents do not say of the lines for answer, and of the kit's if the kit has PROVED's letter."""
+    has_letter = f"in {letter}," in (needs.ROOT / "docs/PROVED.md").read_text()
+    for name, words in SAID.items():
+        text = " ".join((needs.ROOT / name).read_text().split())
+        for said in [words.format(own)] + [f"{of_kit:,} of the kit's"] * has_letter:
+            if f" {said}" not in text:
+                yield f"{name} does not say '{said}'"
 
 
-def with_counts(pages, counts):
-    """The documents with these counts in the place of theirs, by their paths."""
-    for page, words in COUNTS:
-        parts = re.split(r"\{\d(?::,)?\}", words)
-        pattern = r"[\d,]+".join(re.escape(part).replace(r"\ ", r"\s+") for part in parts)
-        said = words.format(*counts)
-        if not re.search(pattern, pages[page]):
-            sys.exit(f"tests/documents/definitions.py: {page} lacks the words: {words}")
-        pages[page] = re.sub(pattern, lambda found: refilled(found[0], said), pages[page], count=1)
-    return pages
-
-
-def refilled(old, new):
-    """New words with the line breaks of old ones."""
-    spaces = iter(re.findall(r"\s+", old))
-    return re.sub(" ", lambda _: next(spaces), new)
-
-
-def print_counts(believed, known, counts):
+def print_counts(believed, known, own, of_kit):
     lines = collections.Counter()
     for key in believed:
         lines[
@@ -351,8 +357,8 @@ def print_counts(believed, known, counts):
         ] += known[key].lines
     for name in sorted(lines):
         print(f"{lines[name]:5} lines of {name}")
-    print(f"{counts[0]:5} lines of {len(believed)} definitions to believe, comments left out")
-    print(f"{counts[1]:5} lines of these for answer, and {counts[2]} lines of the kit's crates")
+    print(f"{lines.total():5} lines of {len(believed)} definitions, comments left out")
+    print(f"{own:5} lines of these for answer, and {of_kit} lines of the kit's crates")
 
 
 def main():
@@ -363,33 +369,23 @@ def main():
         known, inner = known | found, inner | files
     cited, members, wrong = contracts_of(public, limits)
     believed = closure(cited, known)
-    if sys.argv[1:] == ["--list"]:
-        for crate, file, name in sorted(key for key in believed if known[key].lines):
-            print(f"{crate}/specs/{file.replace('.', '/')}.antt: {name}")
+    letter, folder = kit_definitions.kit() or (None, None)
+    reached = reached_in_kit(believed, folder) if letter else {}
+    if sys.argv[1:]:
+        page = [HEAD_OF_PAGE, *of_the_code(types_of(believed, known), members)]
+        page += (it for file in reading_order(believed, known) for it in shown(*file, believed))
+        page += of_the_kit(reached, letter) if letter else ()
+        pathlib.Path(sys.argv[1]).write_text("\n".join(page) + "\n")
         return
-    names = {name for name, _ in COUNTS} | {DOCUMENT}
-    before = {name: (needs.ROOT / name).read_text() for name in names}
-    document = before[DOCUMENT]
-    made = made_part(believed, known, document)
-    lines = [sum(known[key].lines for key in keys) for keys in (believed, closure(ANSWER, known))]
-    counts = *lines, int(re.search(r"reach ([\d,]+) lines", made)[1].replace(",", ""))
-    after = with_counts(before | {DOCUMENT: document.partition(MADE)[0] + MADE + made}, counts)
-    if sys.argv[1:] == ["--write"]:
-        for name in names:
-            (needs.ROOT / name).write_text(after[name])
-        return
-    wrong += [
-        f"{name} is not what tests/documents/definitions.py --write makes of it"
-        for name in names
-        if after[name] != before[name]
-    ]
-    wrong += complaints(believed, known, inner, members, public, document)
+    own = sum(known[key].lines for key in closure(ANSWER, known))
+    of_kit = lines_of(reached.values())
+    wrong += [*unsaid(own, of_kit, letter), *complaints(believed, known, inner, public)]
     wrong += [
         f"{key[2]} of {key[0]} must be believed, and cites {name}, a constant of the code"
         for key in sorted(believed)
         for name in sorted(known[key].words & limits)
     ]
-    print_counts(believed, known, counts)
+    print_counts(believed, known, own, of_kit)
     for line in wrong:
         print(f"FAILED: {line}")
     print(f"{len(known) - len(wrong)} passed, {len(wrong)} failed")

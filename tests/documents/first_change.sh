@@ -1,7 +1,7 @@
 #!/bin/bash
 # Makes the first change of CONTRIBUTING in a copy. docs/first_change.diff must fit and have the contract that the page quotes. Its crate
-# must be proved, and its wrong body refused, like the body that the page begins with. The page of definitions must want the new one. Ends
-# with the counts.
+# must be proved, and its wrong body refused, like the body that the page begins with. The page of definitions must have the new one, and
+# no count of a document change. Ends with the counts.
 . "$(dirname "$0")/../lib/try.sh"
 
 tar -c --exclude=out crates crates.txt CONTRIBUTING.md README.md docs tests | tar -xC "$room"
@@ -23,12 +23,6 @@ prove() {
 # refuses EDIT GOAL: whether this wrong body was refused at this goal
 refuses() { grep -q "must-fail gas_geom/$1.edit: refused, as it must be: .*(\`$2\`)" log; }
 
-# wants: whether the page of definitions lacks the new one, and takes it
-wants() {
-    ! tests/documents/definitions.py > told && tests/documents/definitions.py --write && tests/documents/definitions.py > told &&
-        grep -q "^abbrev pub cells : " docs/DEFINITIONS.md
-}
-
 try 'the page quotes the contract' quotes
 try 'the change fits' git apply docs/first_change.diff
 printf '%s\n' 'file: src/size.rt' 'old: u64::from(self.width) * u64::from(self.height)' "new: ${quoted[4]}" \
@@ -36,6 +30,8 @@ printf '%s\n' 'file: src/size.rt' 'old: u64::from(self.width) * u64::from(self.h
 try 'it is proved' prove
 try 'its wrong body is refused' refuses every_channel_is_square returns
 try 'so is the first body' refuses too_large overflow_mul-self-inside
-try 'the page of definitions wants its definition' wants
+tests/documents/definitions.py page
+try 'the page of definitions has its definition' grep -q '^abbrev pub cells : ' page
+try 'no count of a document changes' tests/documents/definitions.py > told
 [ ${#failed[@]} = 0 ] || cat log
 tell

@@ -2,7 +2,7 @@
 """Reads the documents as text. Prints how many words each has, and how many sentences of more than forty words, with --list these too. A
 word has a letter or a digit, so bars of tables are none. Code, tables and headings have no sentences. Paragraphs and items of lists begin
 sentences. Fails if a document has a long sentence and is not in LONG, or a word that is GONE, or more words than MOST_OF it, or if all of
-them, without MADE, which a script makes, and OWN, have more than MOST. Ends with the counts."""
+them, without OWN, have more than MOST. Ends with the counts."""
 
 import re
 import sys
@@ -11,8 +11,8 @@ import links
 
 MOST_WORDS = 40
 MOST = 24_000
-MADE, OWN = ["docs/DEFINITIONS.md"], ["docs/ANSWERS.md", "docs/DERIVATION.md"]
-LONG = [*MADE, "docs/ANSWERS.md", "docs/PROVED.md", "bench/LOG.md"]  # promises and figures in a row
+OWN = ["docs/ANSWERS.md", "docs/DERIVATION.md"]
+LONG = ["docs/ANSWERS.md", "docs/PROVED.md", "bench/LOG.md"]  # promises and figures in a row
 MOST_OF = {"docs/TROUBLE.md": 500, "docs/LESSON.md": 400, "README.md": 950}
 GONE = {  # by docs/GLOSSARY.md each term has one meaning, and stands beside the field's word, in italics
     r"(?<!\*)\bpipelines?\b": "line",
@@ -55,8 +55,7 @@ def complaints(name, text):
     yield from (f"a long sentence: {it}" for it in found if name not in LONG)
     if number > MOST_OF.get(name, number):
         yield f"more than {MOST_OF[name]} words"
-    if name not in MADE:
-        yield from (f"'{word}' is gone: {instead}" for word, instead in gone(text))
+    yield from (f"'{word}' is gone: {instead}" for word, instead in gone(text))
 
 
 def main():
@@ -66,7 +65,7 @@ def main():
         wrong = list(complaints(name, text))
         failed += bool(wrong)
         print("".join(f"FAILED: {name}: {it}\n" for it in wrong), end="")
-    number = sum(number_of_words(it) for name, it in texts.items() if name not in MADE + OWN)
+    number = sum(number_of_words(it) for name, it in texts.items() if name not in OWN)
     if number > MOST:
         print(f"FAILED: {number} words in all, more than {MOST}")
     print(f"{number} words in all")

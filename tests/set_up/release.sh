@@ -59,6 +59,7 @@ try 'so it does for the scene that comes with it' prints "$room/wanted" "$folder
 try 'a scene of no text is refused' refuses
 try 'it needs the C library alone' needs_libc
 
+try 'it has the definitions' grep -q '^## .gas_geom/specs/Fhp1.antt' "$folder/docs/DEFINITIONS.md"
 try 'the links of its documents lead to what is in it' "$folder/tests/documents/links.py"
 path=${python%/*}
 try 'the Python package finds the program' alone python3 -m fhpgas over-time scenes/wind.toml 2 1 > "$room/told"
