@@ -1,4 +1,5 @@
-"""What pyproject.toml cannot say: a package with the program or the engine is for one system."""
+"""What pyproject.toml cannot say: version and address stand in CITATION.cff, and a package with the
+program or the engine is for one system."""
 import pathlib
 import re
 
@@ -9,7 +10,9 @@ try:
 except ImportError:  # before setuptools 70.1
     from wheel.bdist_wheel import bdist_wheel
 
-PACKAGE = pathlib.Path(__file__).resolve().parent / "python/fhpgas"
+TOP = pathlib.Path(__file__).resolve().parent
+SAID = dict(re.findall(r"^([\w-]+): (.+)$", (TOP / "CITATION.cff").read_text(), re.M))
+PACKAGE = TOP / "python/fhpgas"
 BUILT = [*PACKAGE.glob("fhpgas"), *PACKAGE.glob("libfhpgas-*.so")]
 MACHINES = {62: "x86_64", 183: "aarch64"}  # by the number in byte 18 of an ELF file
 
@@ -34,4 +37,9 @@ class Wheel(bdist_wheel):
         return "py3", "none", platform()
 
 
-setup(distclass=Package, cmdclass={"bdist_wheel": Wheel})
+setup(
+    version=SAID["version"],
+    project_urls={"Repository": SAID["repository-code"]} if "repository-code" in SAID else {},
+    distclass=Package,
+    cmdclass={"bdist_wheel": Wheel},
+)

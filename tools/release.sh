@@ -1,24 +1,27 @@
 #!/bin/bash
 # Makes FOLDER anew with all that is handed out: the archive of the built fhpgas, or of another build of it, the Python wheels, the page with
 # its engine, the record of the last `make test`, a sheet for a lesson, the licences, in plain/ what may be passed on as it is, and the sums of
-# all. Without the record, or without the reference of the package, there is no release, unless DRAFT=yes.
+# all. There is no release that lacks one of the things below, unless DRAFT=yes.
 set -euo pipefail
 if [ -z "${1-}" ]; then echo 'usage: make release' >&2; exit 2; fi
 folder=$(realpath -m -- "$1")
 cd "$(dirname "$0")/.."
 python=$(tests/lib/needs.py | sed -n 1p)
 
-has() { "${@:2}" 2> /dev/null || [ "${DRAFT-}" = yes ] || { echo "a release has $1, or is made with DRAFT=yes" >&2; exit 1; }; }
+has() { "${@:2}" 2> /dev/null || [ "${DRAFT-}" = yes ] || lacks+=("$1"); }
 
+lacks=()
+program=${2:-crates/fhpgas/out/fhpgas}
+version=$("$program" --version | cut -d ' ' -f 2)
 commit=$(git rev-parse HEAD)$([ -z "$(git status --porcelain)" ] || echo ', changed')
+has 'the address of the project (repository-code in CITATION.cff)' grep -q '^repository-code: .' CITATION.cff
 has 'the record that make test leaves' test -e out/record
 has 'the sources that its record names' grep -qx "commit *$commit" out/record
 has 'the build of plain Rust that make test tries' test -e out/plain/workspace/Cargo.lock
 has 'the reference of the package (apt-get install python3-sphinx python3-numpydoc)' "${python:-python3}" -c 'import sphinx, numpydoc'
+[ ${#lacks[@]} = 0 ] || { printf 'a release has %s, or is made with DRAFT=yes\n' "${lacks[@]}" >&2; exit 1; }
 rm -rf "$folder"
 mkdir -p "$folder"
-program=${2:-crates/fhpgas/out/fhpgas}
-version=$("$program" --version | cut -d ' ' -f 2)
 archive=$folder/fhpgas-$version-linux-x86-64.tar.gz # fhpgas-VERSION.tar.gz is the name of the package's source
 tools/archive.sh "$archive" "$program"
 tar -xzf "$archive" -C "$folder" --strip-components=1 --wildcards '*/fhpgas-*.whl'

@@ -11,7 +11,7 @@ cd "$(dirname "$0")/.."
 python=$(tests/lib/needs.py | sed -n 1p)
 room=$(mktemp -d)
 trap 'rm -rf "$room"' EXIT
-cp -r --parents python page docs/NOTICES.md LICENSE-MIT LICENSE-APACHE README.md MANIFEST.in pyproject.toml setup.py "$room"
+cp -r --parents python page docs/NOTICES.md LICENSE-MIT LICENSE-APACHE README.md CITATION.cff MANIFEST.in pyproject.toml setup.py "$room"
 cd "$room"
 rm -rf python/*.egg-info python/fhpgas/{fhpgas,licences} python/fhpgas/libfhpgas-* page/engine.js
 if [ "$2" = any ]; then

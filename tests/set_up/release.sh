@@ -37,6 +37,7 @@ if [ ! -e out/record ]; then
     mkdir "$room/release" && touch "$room/release/before"
     try 'no release without the record' unfinished 2> "$room/told"
     try 'its name is told' grep -q 'record that make test leaves, or is made with DRAFT=yes' "$room/told"
+    grep -q '^repository-code: .' CITATION.cff || try 'so is the address' grep -q 'address of the project' "$room/told"
 fi
 try 'the release is made' env DRAFT=yes tools/release.sh "$room/release"
 version=$(crates/fhpgas/out/fhpgas --version | cut -d ' ' -f 2)
