@@ -15,6 +15,7 @@ program=${2:-crates/fhpgas/out/fhpgas}
 version=$("$program" --version | cut -d ' ' -f 2)
 commit=$(git rev-parse HEAD)$([ -z "$(git status --porcelain)" ] || echo ', changed')
 has 'the address of the project (repository-code in CITATION.cff)' grep -q '^repository-code: .' CITATION.cff
+has "the tag v$version" grep -qx "v$version" <(git tag --points-at HEAD)
 has 'the record that make test leaves' test -e out/record
 has 'the sources that its record names' grep -qx "commit *$commit" out/record
 has 'the build of plain Rust that make test tries' test -e out/plain/workspace/Cargo.lock

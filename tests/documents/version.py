@@ -1,6 +1,6 @@
 #!/usr/bin/env python3
-"""Compares version and address everywhere with their home, CITATION.cff, and the program with it. With --write it writes them to the other
-places. Ends with the counts."""
+"""Compares version, date and address everywhere with their home, CITATION.cff, and the program with it. With --write it writes them to the
+other places. A version without a date is `unreleased`, and CHANGELOG dates only what has a tag. Ends with the counts."""
 
 import re
 import subprocess
@@ -10,13 +10,19 @@ sys.path.append(f"{sys.path[0]}/../lib")
 import needs
 
 HOME = dict(re.findall(r"^([\w-]+): (.+)$", (needs.ROOT / "CITATION.cff").read_text(), re.M))
-NUMBER = HOME["version"]
+NUMBER, DATE = HOME["version"], HOME.get("date-released", "unreleased")
 PLACES = {  # what is before and after the place, what --write may replace, and by what
     "crates/gas_tool_cli/src/help.rt": ('VERSION: &str = "', " (", r"[\d.]+", NUMBER),
     "python/fhpgas/__init__.py": ('__version__ = "', '"\n', r"[\d.]+", NUMBER),
-    "CHANGELOG.md": ("\n## ", "\n", r"[\d.]+", NUMBER),
+    "CHANGELOG.md": ("\n## ", "\n", r"[\d.]+, unreleased", f"{NUMBER}, {DATE}"),
     "CONTRIBUTING.md": ("git clone ", " ", r"\S+", HOME.get("repository-code", "REPOSITORY")),
 }
+
+
+def said_by(*words):
+    return subprocess.run(
+        words, capture_output=True, text=True, check=True, cwd=needs.ROOT
+    ).stdout.split()
 
 
 def places(is_written):
@@ -28,8 +34,10 @@ def places(is_written):
             text = re.sub(re.escape(before) + old + re.escape(after), lambda _: wanted, text, 1)
             path.write_text(text)
         yield f"{name} has {new}", wanted in text
-    told = subprocess.check_output([needs.built_program(), "--version"], text=True)
-    yield f"fhpgas --version has {NUMBER}", told.split()[1] == NUMBER
+    yield f"fhpgas --version has {NUMBER}", said_by(needs.built_program(), "--version")[1] == NUMBER
+    dated = re.findall(r"^## ([\d.]+), \d", (needs.ROOT / "CHANGELOG.md").read_text(), re.M)
+    tags = {f"v{NUMBER}", *said_by("git", "tag")}  # the version of today is dated before its tag
+    yield "what CHANGELOG dates has a tag", {f"v{number}" for number in dated} <= tags
 
 
 def main():

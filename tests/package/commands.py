@@ -312,7 +312,7 @@ class Commands(unittest.TestCase):
         self.assertFalse((self.room / "a.gif").exists())
 
     def test_the_parser_knows_the_names_of_the_package(self):
-        self.assertIn(f"\n## {fhpgas.__version__}\n", (needs.ROOT / "CHANGELOG.md").read_text())
+        self.assertIn(f"\n## {fhpgas.__version__},", (needs.ROOT / "CHANGELOG.md").read_text())
         self.assertEqual({*drawing.GAS_NAMES}, {*fhpgas.GASES})
         self.assertEqual([*__main__.FIELDS], [*pictures.FIELDS])
         self.assertEqual(__main__.FILMS, pictures.PILLOW + pictures.FFMPEG)
