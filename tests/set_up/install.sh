@@ -13,7 +13,7 @@ trap 'rm "$log"' EXIT
 
 # look: finds the Python of the tests, what libraries it has and lacks, and the packages of all that is missing
 look() {
-    { read -r python && read -r has && read -r venv && read -r -a lacks; } < <(tests/lib/needs.py)
+    { read -r python && read -r has && read -r venv && read -r -a lacks; } < <(! command -v python3 > /dev/null || tests/lib/needs.py)
     mapfile -t missing < <(
         for tool in $tools; do command -v "${tool%:*}" > /dev/null || echo "${tool#*:}"; done
         [ -d /usr/lib/rustlib/src/rust/library ] || printf '%s\n' rustc-web rust-web-src # for the page's kernel
