@@ -11,17 +11,18 @@ const OF_PRESET = ["chirality", "developed", "fill", "wind", "radius", "pace", "
 const CONTROLS = [...OF_PRESET, "gas", "size", "seed", "length", "tracers"];
 let written = ""; // by the page
 
-const valueOf = (id) => String($(id)[$(id).type === "checkbox" ? "checked" : "value"]);
+const partOf = ({ type }) => (type === "checkbox" ? "checked" : "value");
+const valueOf = (id) => String($(id)[partOf($(id))]);
 
 /** Sets a control, if it can have this value. Returns whether it can. */
 export function setControl(id, value) {
-  const control = $(id), before = control.value;
+  const control = $(id), part = partOf(control), before = control[part];
   if (id === "scene") value = RENAMED[value] ?? value;
   if (id === "pace" && value > 0) value = value < 3 ? "60/s" : value < 10 ? "300/s" : "most"; // once generations a frame
-  if (control.type === "checkbox") control.checked = String(value) === "true";
-  else control.value = String(value);
-  const isSet = control.value !== "" && control.validity.valid;
-  if (!isSet) control.value = before;
+  control[part] = part === "checked" ? String(value) === "true" : value;
+  const found = valueOf(id), isSame = found === String(value) || Number(found) === Number(value); // a slider takes the nearest
+  const isSet = found !== "" && isSame && control.validity.valid;
+  if (!isSet) control[part] = before;
   return isSet;
 }
 

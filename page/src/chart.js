@@ -39,9 +39,11 @@ function linesOf(numbers) {
 export function paintChart(numbers) {
   const { samples } = marks;
   $("probed").hidden = !marks.probe;
-  if (!marks.probe || !samples.length) return;
-  setText($("found"), linesOf(numbers).join("\n"));
+  if (!marks.probe) return;
   const { width, height, context: c } = contextOf($("chart"), true);
+  c.clearRect(0, 0, width, height);
+  setText($("found"), linesOf(numbers).join("\n"));
+  if (!samples.length) return;
   const box = { left: 58, right: width - 28, top: 10, bottom: height - 24 };
   const values = samples.flatMap(({ u, v }) => [u, v]);
   const least = Math.min(0, ...values), largest = Math.max(0.01, ...values);
@@ -49,7 +51,6 @@ export function paintChart(numbers) {
   const first = samples[0].generation, last = Math.max(first + 1, samples[samples.length - 1].generation);
   const X = (at) => box.left + ((at - first) / (last - first)) * (box.right - box.left);
   const Y = (value) => box.bottom - ((value / step - low) / (high - low)) * (box.bottom - box.top);
-  c.clearRect(0, 0, width, height);
   for (let k = low; k <= high; k++) {
     line(c, [[box.left, Y(k * step)], [box.right, Y(k * step)]], theme.faint, 1);
     write(c, round(k * step), box.left - 6, Y(k * step) + 5, { font: "13px", align: "right" });

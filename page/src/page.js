@@ -25,7 +25,8 @@ const live = {
   toldAt: 0, // when the numbers were written, or 0 if they must be
   addressTimer: 0,
   pace: "", // before single cells
-  pending: /** @type {{ at: number[] | null, probe: number[] | null }} */ ({ at: null, probe: null }), // of the address
+  /** @type {Pick<ReturnType<typeof applyState>, "at" | "probe" | "refused">} */
+  pending: { at: null, probe: null, refused: [] }, // of the address
 };
 const PLAIN = "The kernel in this page computes the cells: fhpgas by plain Rust, not proved, free to pass on";
 const MOST = `At most ${count(MOST_CELLS)} cells.`;
@@ -137,15 +138,16 @@ function beginAnew(state) {
     applyState(state);
     introduce();
   }
-  const { at, probe } = live.pending;
+  const { at, probe, refused } = live.pending;
   Object.assign(marks, { samples: [], pieces: [], probe: null, touched: null });
   shown.times = [];
   shown.frames.forEach((frame, k) => panes[k].tracers.spread(frame));
   turnedForwards(head());
   fit();
-  live.pending = { at: null, probe: null };
+  live.pending = { at: null, probe: null, refused: [] };
   if (probe) setProbe(tell, { at: [probe[0], probe[1]], radius: probe[2] });
   if (at) lookAsAsked(at);
+  if (refused.length) head().notes.push(`The address asks for what there is not: ${refused.join(", ")}.`);
 }
 
 /** @param {string} text @param {"" | "good" | "bad"} kind @param {number} [lasting] seconds */
@@ -399,6 +401,9 @@ function bare() {
   else if (document.fullscreenElement) document.exitFullscreen();
 }
 
+/** Folds the panel where it lies over the picture. */
+const fold = () => matchMedia("(max-width: 899px)").matches && bodyClass.remove("opened");
+
 const bodyClass = document.body.classList, keptWind = () => ($("keep").checked ? amount("wind") : null);
 const acts = {
   preset: () => {
@@ -419,7 +424,7 @@ const acts = {
   tool: (tool) => {
     chosen.tool = tool;
     view().style.cursor = tool === "move" ? "grab" : "crosshair";
-    if (matchMedia("(max-width: 899px)").matches) bodyClass.remove("opened"); // there it lies over the picture
+    fold();
   },
   look: looked,
   fit: whole,
@@ -435,12 +440,14 @@ const acts = {
   numbers: () => {
     $("all").hidden = !$("all").hidden;
     $("help").hidden = true;
+    fold();
     tell("hash", { isWanted: !$("all").hidden });
     paintNumbers();
   },
   help: () => {
     $("help").hidden = !$("help").hidden;
     $("all").hidden = true;
+    fold();
     if (!$("help").hidden) $("help").focus();
   },
   length: () => {
@@ -471,10 +478,9 @@ function update() {
 
 /** Begins with what the address says, or with the first preset. */
 function begin() {
-  const { hasLength, runs, refused, ...pending } = applyState(location.hash.slice(1));
+  const { hasLength, runs, ...pending } = applyState(location.hash.slice(1));
   live.pending = pending;
   start(hasLength, runs);
-  if (refused.length) note(`The address asks for what there is not: ${refused.join(", ")}.`, "bad", 12);
   if (location.hash === `#${OPENED}`) note("The scene of this address was opened from a file. No address has its cells: open it again.", "bad");
 }
 

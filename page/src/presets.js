@@ -12,7 +12,7 @@ const AT_REST = { ...SMALL, wind: 0, keep: false, radius: 22, field: "density", 
 const OTHERS = {
   "flow past a disc": { developed: true },
   "vortex street": { developed: true, size: "3200 x 1016", tall: "3200 x 1016", wind: 0.3, radius: 80,
-    smooth: 5, look: "Vortices leave the disc in turn, a pair in about 4,100 generations (St = 0.29). Not developed, " +
+    smooth: 5, look: "Vortices leave the disc in turn, a pair in about 4,000 generations (St = 0.29). Not developed, " +
       "the street needs 12,000 generations to form." },
   "flow past a plate": { shapes: ["plate"], length: "the plate's height",
     look: "Behind the plate the gas flows backwards." },
