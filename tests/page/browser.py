@@ -317,11 +317,11 @@ def keyboard(page):
 
 def address(page):
     """The address keeps the state. Controls have names and keys of their own. A page that nobody sees rests."""
-    page.go("#field=__proto__&seed=1e22&at=5&probe=1")
+    page.go("#field=__proto__&seed=1e22&at=5&probe=1&wind=9")
     told = page.js("return live.notes.at(-1)")
     check(
         "wrong addresses end in the default with a word",
-        all(one in told for one in ("field=__proto__", "seed=1e22", "at=5", "probe=1")),
+        all(one in told for one in ("field=__proto__", "seed=1e22", "at=5", "probe=1", "wind=9")),
         told,
     )
     edges = "return ['note', 'scene', 'numbers'].map((id) => $(id).getBoundingClientRect()).flatMap(({ left, right }) => [left, right])"
@@ -372,7 +372,7 @@ def small(page):
 
 
 def phone(room):
-    """A phone, held upright and on its side."""
+    """A phone, held upright."""
     page = Page(room, size=(390, 844), has_fingers=True)
     check(
         "the picture has 90 % of a phone's width",
@@ -394,13 +394,14 @@ def phone(room):
     check("a drawer opens", page.driver.find_element(By.ID, "gas").is_displayed())
     page.click("drawer")
     check("and closes", not page.driver.find_element(By.ID, "gas").is_displayed())
-    page.driver.execute_cdp_cmd(
-        "Emulation.setDeviceMetricsOverride",
-        {"width": 844, "height": 390, "deviceScaleFactor": 2, "mobile": True},
-    )
-    page.go("")
-    wide = page.js("return head.width * look.place.scale / innerWidth")
-    check("on its side too", 0.9 <= wide <= 1, wide)
+    end(page, "phone")
+
+
+def side(room):
+    """A phone on its side."""
+    page = Page(room, size=(844, 390), has_fingers=True)
+    wide = page.js("return [innerWidth, head.width * look.place.scale / innerWidth]")
+    check("on its side too", wide[0] == 844 and 0.9 <= wide[1] <= 1, wide)
     page.click("drawer")
     lost = "return [...document.querySelectorAll('button, select, input')].filter((e) => e.id !== 'file' && !e.hidden && !e.getClientRects().length).map((e) => e.id)"
     check("every control can be reached", not page.js(lost), page.js(lost))
@@ -413,7 +414,7 @@ def phone(room):
     check("which shows the others again", "turn" not in page.js(lost))
     page.click("turn")
     check("the gas turns", page.wait("head.direction < 0 || head.found === 0"))
-    end(page, "phone")
+    end(page, "phone on its side")
 
 
 def large(room):
@@ -521,7 +522,7 @@ def desk(room):
 
 def main():
     with tempfile.TemporaryDirectory() as folder:
-        for part in desk, phone, large:
+        for part in desk, phone, side, large:
             tried(part, pathlib.Path(folder))
     with tempfile.TemporaryDirectory() as folder, contextlib.suppress(OSError):
         left_out = firefox(pathlib.Path(folder))
