@@ -25,7 +25,8 @@ import fhpgas
 from . import drawing
 from .fault import Fault, Parser, Usage, add_words, number, one_line_faults, whole, word
 from .files import is_npz, of_file, read_bytes
-from .limits import DRIVES, FFMPEG, FIELDS, GAS_NAMES, LAST_OF_SCENE, MOST_GENERATIONS, MOST_SEED
+from .gas_table import GASES
+from .limits import DRIVES, FFMPEG, FIELDS, LAST_OF_SCENE, MOST_GENERATIONS, MOST_SEED
 from .limits import PARTICLES, PILLOW
 from .refusals import NOT_REFUSED
 from .scenes import naming
@@ -314,7 +315,7 @@ WORDS: dict[str, dict[str, Any]] = {
     "--flow": word("mean velocity", number(-1, 1)),
     "--force": word("momentum per fluid cell and generation", number(-2, 2)),
     "--fps": word("frames per second", number(0.1, 100), 10),
-    "--gas": word(choices=GAS_NAMES),
+    "--gas": word(choices=GASES),
     "--generations": word(kind=COUNT, required=True, metavar="GENERATIONS"),
     "--high": word("the value of the last colour", FINITE),
     "--length": word("in cells' widths", number(1e-3, 1e9), required=True),

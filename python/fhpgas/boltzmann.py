@@ -17,9 +17,8 @@ import numpy as np
 
 from .fault import Fault, integer, real
 from .fields import equilibrium
-from .gases import SIDES, STATES, TOO_FEW, Array, Gas, array_of, chirality_named, gas_named
-
-TRIPLES = 0x15, 0x2A  # the states of the moving particles
+from .gas_table import CHIRALITIES, TRIPLES
+from .gases import STATES, TOO_FEW, Array, Gas, array_of, chirality_named, gas_named
 
 
 def collision_matrix(gas: str | Gas, filling: Any, chirality: str = "seeded") -> Array:
@@ -107,7 +106,7 @@ def _pair_collision(gas: Gas, d: float, chirality: str, triples: float) -> Array
     deviations = gas.bits[states] - d
     i, j = np.triu_indices(gas.directions, 1)
     moments = np.hstack((deviations, deviations[:, i] * deviations[:, j]))
-    tables = [gas.collisions(side)[states] for side in SIDES[chirality_named(chirality)]]
+    tables = [gas.collisions(side)[states] for side in CHIRALITIES[chirality_named(chirality)]]
     turned = np.mean([moments[table] for table in tables], 0)
     collide = np.where(np.isin(states & 63, TRIPLES), triples, 1.0)[:, None]
     after = collide * turned + (1 - collide) * moments

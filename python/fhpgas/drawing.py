@@ -17,14 +17,15 @@ from typing import Any
 import fhpgas
 
 from .fault import Fault, Usage, add_words, number, repeated, whole, word
-from .limits import CHIRALITIES, GAS_NAMES, MOST_BYTES, MOST_SEED, MOST_SIDE, map_bytes
+from .gas_table import CHIRALITIES, GASES
+from .limits import MOST_BYTES, MOST_SEED, MOST_SIDE, map_bytes
 from .scenes import text_of
 
 PLACE, SIDE = whole(0, MOST_SIDE), whole(1, MOST_SIDE)
 CORNER = number(-2 * MOST_SIDE, 2 * MOST_SIDE)
 ABOUT_WIND = "the mean velocity of the particles, eastwards, and northwards as a second number"
 WORDS = {
-    "--gas": word(default="fhp1", choices=GAS_NAMES),
+    "--gas": word(default="fhp1", choices=GASES),
     "--chirality": word(default="seeded", choices=CHIRALITIES),
     "--seed": word("of the scene and of all that is drawn; default 0", whole(0, MOST_SEED)),
     "--width": word("1 to 65536", SIDE, 64, metavar="COLUMNS"),

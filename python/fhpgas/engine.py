@@ -25,6 +25,7 @@ from typing import TYPE_CHECKING, Any
 import numpy as np
 from numpy.ctypeslib import ndpointer
 
+from . import gas_table
 from .fault import Fault, integer
 from .fields import Size, number_of
 from .gases import Array
@@ -37,8 +38,8 @@ if TYPE_CHECKING:
 # Of include/fhpgas.h: the number of the interface, the numbers of gases and chiralities, what a
 # status says, and what the calls return and take. An array is followed by its length.
 INTERFACE = 3
-GASES = {"fhp1": 0, "hpp": 1, "fhp-rest": 2}
-CHIRALITIES = {"seeded": 0, "left": 1, "right": 2}
+GASES = {name: number for number, name in enumerate(gas_table.GASES)}
+CHIRALITIES = {name: number for number, name in enumerate(gas_table.CHIRALITIES)}
 REFUSALS = {4: "a part begins at an even row", 5: "the last generation is not below 2^64"}
 U32, U64, SIZE = ctypes.c_uint32, ctypes.c_uint64, ctypes.c_size_t
 WORDS = ndpointer(np.uint64, flags="C"), SIZE

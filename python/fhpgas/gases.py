@@ -1,24 +1,20 @@
-"""The three gases: their directions, their neighbours and their collisions, as docs/FORMATS.md
-lists them."""
+"""The gases with what follows from their table: neighbours, mirrors, sums of states and collisions,
+as docs/FORMATS.md lists them."""
 import functools
 import reprlib
-from collections.abc import Iterable, Sequence
+from collections.abc import Iterable
 from typing import Any
 
 import numpy as np
 
+from . import gas_table
 from .fault import Fault
+from .gas_table import CHIRALITIES
 from .limits import DRIVES
 
 Array = np.ndarray[Any, np.dtype[Any]]
-Pairs = Sequence[tuple[int, int]]
-ROOT3 = 3**0.5
-# The sides to which pairs turn, by chirality.
-SIDES = {"seeded": ("left", "right"), "left": ("left",), "right": ("right",)}
 STATES = np.arange(128, dtype=np.uint8)
 TOO_FEW = "too few particles to turn: the flow is too fast, the force too large, the gas too thin"
-# One moving and one at rest: two moving.
-EXCHANGES = {0x41: 0x22, 0x42: 0x05, 0x44: 0x0A, 0x48: 0x14, 0x50: 0x28, 0x60: 0x11}
 
 
 def read_only(array: Array) -> Array:
@@ -86,13 +82,17 @@ class Gas:
         The states with all particles turned back.
     """
 
-    def __init__(self, name: str, momenta: Pairs, units: Sequence[float], *steps: Pairs):
-        self.name, self.directions, self.row_distance = name, len(momenta), float(units[1])
-        self.is_square = len(steps) == 1  # even and odd rows have the same steps
-        self.shift, steps = 0.0 if self.is_square else 0.5, (steps * 2)[:2]
-        arrays = map(np.array, (momenta, units, steps))
-        self.momenta, self.units, self.steps = map(read_only, arrays)
+    def __init__(self, name: str):
+        self.name, (momenta, units, self._cycles) = name, gas_table.GASES[name]
+        self.directions, self.row_distance = len(momenta), float(units[1])
+        self.is_square = units[0] == units[1]
+        self.shift = 0.0 if self.is_square else 0.5
+        self.momenta, self.units = map(read_only, map(np.array, (momenta, units)))
         self.velocities = read_only(self.momenta * self.units)
+        (x, y), odd = self.momenta.T, np.arange(2)[:, None]
+        right = x * units[0] + self.shift * (odd - (odd + y) % 2)
+        steps = np.stack(np.broadcast_arrays(right, -y), -1)
+        self.steps = read_only(steps.astype(int))
         self.opposite = read_only(np.array([momenta.index((-x, -y)) for x, y in momenta]))
         self.bits = read_only((STATES[:, None] >> np.arange(self.directions) & 1).astype(np.uint8))
         sums = self.bits.sum(1, dtype=int), *(self.bits @ self.momenta).T
@@ -114,15 +114,9 @@ class Gas:
         "right"."""
         if side not in ("left", "right"):
             raise Fault(f"head-on pairs turn left or right, not {side!r}")
-        pairs = (0x05, 0x0A) if self.is_square else (0x09, 0x12, 0x24)
-        pairs = pairs if side == "left" else pairs[::-1]
-        changes = dict(zip(pairs, (*pairs[1:], pairs[0])))
-        changes |= {} if self.is_square else {0x15: 0x2A, 0x2A: 0x15}
-        if self.name == "fhp-rest":
-            changes |= {before | 0x40: after | 0x40 for before, after in changes.items()}
-            changes |= EXCHANGES | {two: one for one, two in EXCHANGES.items()}
         table = STATES.copy()
-        table[[*changes]] = [*changes.values()]
+        for cycle in self._cycles:
+            table[[*cycle]] = np.roll(cycle, -1 if side == "left" else 1)
         return read_only(table)
 
     @functools.cache
@@ -146,21 +140,11 @@ class Gas:
 
     def changes(self, chirality: str) -> Array:
         """What a collision adds to the particles [128, b] of a state, on average over the sides."""
-        sides = SIDES[chirality_named(chirality)]
+        sides = CHIRALITIES[chirality_named(chirality)]
         return np.mean([self.bits[self.collisions(side)] for side in sides], 0) - self.bits
 
 
-_HEXAGON = (2, 0), (1, 1), (-1, 1), (-2, 0), (-1, -1), (1, -1)
-_EVEN = (1, 0), (0, -1), (-1, -1), (-1, 0), (-1, 1), (0, 1)
-_ODD = (1, 0), (1, -1), (0, -1), (-1, 0), (0, 1), (1, 1)
-_SQUARE = (1, 0), (0, -1), (-1, 0), (0, 1)
-_REST, _UNITS = (0, 0), (1 / 2, ROOT3 / 2)
-_GASES = (
-    Gas("fhp1", _HEXAGON, _UNITS, _EVEN, _ODD),
-    Gas("hpp", ((1, 0), (0, 1), (-1, 0), (0, -1)), (1, 1), _SQUARE),
-    Gas("fhp-rest", (*_HEXAGON, _REST), _UNITS, (*_EVEN, _REST), (*_ODD, _REST)),
-)
-GASES = {gas.name: gas for gas in _GASES}
+GASES = {name: Gas(name) for name in gas_table.GASES}
 
 
 def gas_named(name: str | Gas) -> Gas:
@@ -193,6 +177,6 @@ def gas_named(name: str | Gas) -> Gas:
 
 def chirality_named(name: str) -> str:
     """A chirality, "seeded", "left" or "right". Any other value raises a Fault."""
-    if not isinstance(name, str) or name not in SIDES:
-        raise Fault(f"a chirality is one of {', '.join(SIDES)}, not {reprlib.repr(name)}")
+    if not isinstance(name, str) or name not in CHIRALITIES:
+        raise Fault(f"a chirality is one of {', '.join(CHIRALITIES)}, not {reprlib.repr(name)}")
     return name

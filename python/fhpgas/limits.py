@@ -1,7 +1,6 @@
 """The names and limits of scenes and plans (docs/FORMATS.md), and of what is shown. It needs the
 standard library only."""
 
-GAS_NAMES, CHIRALITIES = ("fhp1", "fhp-rest", "hpp"), ("seeded", "left", "right")
 DRIVES = "rows", "directions"  # along which a force turns particles
 PLAIN, SIGNED, VELOCITY = "viridis", "RdBu_r", "cells per generation"
 FIELDS = {  # of blocks, with the unit and the colours

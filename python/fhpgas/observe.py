@@ -132,7 +132,7 @@ def staggered(lattice: Lattice) -> tuple[int, ...]:
     y, x = np.ogrid[:rows, :columns]
     for axis in range(1 if columns % 2 else 3):
         is_odd = (y, y - y // 2 + x, x - y // 2)[axis] % 2
-        across = gas.bits[:, :6].astype(int) @ np.roll([0, 1, 1, 0, -1, -1], axis)
+        across = gas.bits[:, :6].astype(int) @ np.roll(gas.momenta[:6, 1], axis)
         of_lines = int(((1 - 2 * is_odd) * across[lattice.states]).sum())
         found.append((-1) ** lattice.generation * of_lines)
     return tuple(found)

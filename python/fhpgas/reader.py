@@ -10,8 +10,10 @@ import tomllib
 from collections.abc import Iterable, Iterator
 from typing import Any
 
-STATES = {"fhp1": 64, "hpp": 16, "fhp-rest": 128}
-CHIRALITIES = ("seeded", "left", "right")
+from .gas_table import CHIRALITIES, GASES
+from .limits import MOST_BYTES
+
+STATES = {name: 1 << len(momenta) for name, (momenta, *_) in GASES.items()}
 WORDS: dict[str, Iterable[str]] = {"gas": STATES, "chirality": CHIRALITIES}  # keys with texts
 # What gases are called in print, in small letters and without hyphens; None if the program lacks
 # the gas.
@@ -24,7 +26,7 @@ AREA = ("width", "height", "solid", "rate", "particles")
 KEYS = (*INTEGERS, "gas", "chirality", "cells", *LISTS)
 TYPES = {bool: "a truth value", int: "an integer", float: "a float", str: "a text"}
 TYPES |= {list: "a list", dict: "a table"}  # any other is a date or a time
-MOST_BYTES, DEEPEST, MOST_ROWS = 67_108_864, 80, 8
+DEEPEST, MOST_ROWS = 80, 8
 TOO_DEEP = f"lists, tables or keys are nested more than {DEEPEST} deep"
 SYNTAX = "scene: not TOML"
 Reasons = Iterator[tuple[tuple, str]]

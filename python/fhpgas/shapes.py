@@ -56,11 +56,11 @@ def disc(size: Any, column: int, row: int, radius: float, gas: str | Gas = "fhp1
 def _stencil(size: tuple[int, int], parity: int, radius: float, gas: str | Gas) -> Array:
     """The rows and columns [2, cells] from the middle of a disc to its cells, in even or odd rows.
     Four times the square of a distance is an integer on both lattices, so nothing is rounded."""
-    (columns, rows), is_square = size, gas_named(gas).is_square
+    (columns, rows), named = size, gas_named(gas)
     reach, across = min(rows, int(1.2 * radius) + 1), min(columns, int(radius) + 1)
     x, y = np.arange(-across, across + 1), np.arange(-reach, reach + 1)
-    halves = 2 * x if is_square else 2 * x + ((parity + y) % 2 - parity)[:, None]
-    squares = halves**2 + ((4 if is_square else 3) * y**2)[:, None]
+    halves = 2 * x + (2 * named.shift * ((parity + y) % 2 - parity))[:, None]
+    squares = halves**2 + (round(4 * named.row_distance**2) * y**2)[:, None]
     down, right = np.nonzero(squares <= 4 * radius * radius * (1 + 1e-12))
     return np.stack([y[down], x[right]])
 

@@ -28,7 +28,7 @@ os.environ["PYTHONPATH"] = str(needs.ROOT / "python")
 import fhpgas  # noqa: E402 - finds the program by the lines above
 import matplotlib  # noqa: E402
 import numpy as np  # noqa: E402
-from fhpgas import __main__, drawing, pictures  # noqa: E402
+from fhpgas import __main__, pictures  # noqa: E402
 from matplotlib.figure import Figure  # noqa: E402
 from PIL import Image, ImageSequence  # noqa: E402
 
@@ -313,7 +313,6 @@ class Commands(unittest.TestCase):
 
     def test_the_parser_knows_the_names_of_the_package(self):
         self.assertIn(f"\n## {fhpgas.__version__},", (needs.ROOT / "CHANGELOG.md").read_text())
-        self.assertEqual({*drawing.GAS_NAMES}, {*fhpgas.GASES})
         self.assertEqual([*__main__.FIELDS], [*pictures.FIELDS])
         self.assertEqual(__main__.FILMS, pictures.PILLOW + pictures.FFMPEG)
 
