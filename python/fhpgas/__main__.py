@@ -51,10 +51,10 @@ def source(path: str, asked: argparse.Namespace) -> fhpgas.Lattice | fhpgas.Bloc
     gas and the sizes of the lattice and of the blocks."""
     found = read_bytes(path)
     if is_npz(found):
-        from . import forms
+        from .forms import from_npz
 
         with naming(path):
-            return forms.from_npz(found)
+            return from_npz(fhpgas.Lattice if b"states.npy" in found else fhpgas.Blocks, found)
     is_table = found.startswith(b"  col ")
     if not is_table and not found.startswith(b"generation "):
         with naming(path):

@@ -7,6 +7,7 @@ from typing import Any, ClassVar
 
 import numpy as np
 
+from . import forms
 from .fault import Fault, real
 from .files import Path, read_bytes, write_whole
 from .fields import Size, number_of, pair_checked, size_of
@@ -84,8 +85,6 @@ class Value:
 
     def _saved(self: Any, path: Path, usual: str = ".npz") -> bytes:
         """The bytes of a file, by its suffix or the usual one."""
-        from . import forms
-
         if (pathlib.Path(path).suffix or usual) != ".npz":
             raise Fault(f"{path}: {type(self).__name__} are saved as .npz")
         return forms.to_npz(self)
@@ -94,53 +93,13 @@ class Value:
     def load(cls, path: Any) -> Any:
         """The value that `save` wrote to an .npz file."""
         with naming(path):
-            return cls._of(read_bytes(path))
+            return forms.from_npz(cls, read_bytes(path))
 
-    @classmethod
-    def _of(cls, data: bytes) -> Any:
-        """The value that the bytes of an .npz file have."""
-        from . import forms
-
-        return forms.from_npz(data, cls)
+    to_xarray, from_xarray = forms.to_xarray, classmethod(forms.from_xarray)
 
     def __sizeof__(self) -> int:  # by which Dask decides what it moves, and what to disk
         arrays = (part for part in vars(self).values() if isinstance(part, np.ndarray))
         return object.__sizeof__(self) + sum(array.nbytes for array in arrays)
-
-    def to_xarray(self: Any) -> Any:
-        """The same as a Dataset of xarray, with names, units and places, which netCDF and zarr
-        keep.
-
-        Returns
-        -------
-        xarray.Dataset
-            Arrays with the dimensions y and x; the other parts are its attributes.
-        """
-        from . import forms
-
-        return forms.to_xarray(self)
-
-    @classmethod
-    def from_xarray(cls, dataset: Any) -> Any:
-        """The value whose `to_xarray` a dataset is, also after a file kept it.
-
-        Parameters
-        ----------
-        dataset : xarray.Dataset
-
-        Returns
-        -------
-        Lattice or Blocks
-
-        Examples
-        --------
-        >>> start = fhpgas.draw_gas(0.2, size=fhpgas.Size(64, 36), seed=1)
-        >>> fhpgas.Lattice.from_xarray(start.to_xarray()) == start
-        True
-        """
-        from . import forms
-
-        return forms.from_xarray(cls, dataset)
 
     def _repr_png_(self: Any) -> bytes:
         from . import pictures

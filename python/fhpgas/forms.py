@@ -9,10 +9,8 @@ from typing import TYPE_CHECKING, Any
 
 import numpy as np
 
-from .blocks import SUMS, Blocks
 from .fault import Fault
 from .fields import Size, positions
-from .lattice import Lattice
 
 if TYPE_CHECKING:
     from xarray import Dataset
@@ -31,7 +29,7 @@ UNITS = {
 }
 
 
-def parts_of(value: Lattice | Blocks) -> dict[str, Any]:
+def parts_of(value: Any) -> dict[str, Any]:
     """The parts that make a value, the gas by its name."""
     return {name: getattr(value, name) for name in value.PARTS} | {"gas": value.gas.name}
 
@@ -43,63 +41,88 @@ def made(kind: Any, parts: dict[str, Any]) -> Any:
         raise Fault(f"this is no {kind.__name__}: it lacks {', '.join(sorted(missing))}")
     found = {name: np.asarray(parts[name]) for name in names}
     plain = {name: array if array.ndim > 1 else array.tolist() for name, array in found.items()}
-    if kind is Blocks:
-        plain |= {"size": Size(*plain["size"]), "block": tuple(plain["block"])}
+    if "size" in plain:
+        plain["size"] = Size(*plain["size"])
     return kind(**plain)
 
 
-def to_npz(value: Lattice | Blocks) -> bytes:
+def to_npz(value: Any) -> bytes:
     """The bytes of a .npz file, compressed."""
     file = io.BytesIO()
     np.savez_compressed(file, **parts_of(value))
     return file.getvalue()
 
 
-def from_npz(data: bytes, kind: type | None = None) -> Any:
-    """The value that the bytes of a .npz file have, of a kind if it is passed."""
+def from_npz(kind: Any, data: bytes) -> Any:
+    """The value of a kind that the bytes of a .npz file have."""
     try:
         with np.load(io.BytesIO(data)) as found:
             parts = dict(found)
     except BROKEN as fault:
         raise Fault(f"this is no whole .npz file: {fault}") from None
     try:
-        return made(kind or (Lattice if "states" in parts else Blocks), parts)
+        return made(kind, parts)
     except TypeError as fault:
         raise Fault(fault) from None
 
 
-def to_xarray(value: Lattice | Blocks) -> Dataset:
-    """The dataset of a lattice, with the places of its cells, or of blocks, with their fields. The
-    seed is a text, and the generation a float, because netCDF of version 3 has no longer integers.
+def to_xarray(value: Any) -> Dataset:
+    """The same as a Dataset of xarray, with names, units and places, which netCDF and zarr keep.
+
+    The seed is a text, and the generation a float, because netCDF of version 3 has no longer
+    integers.
+
+    Returns
+    -------
+    xarray.Dataset
+        Arrays with the dimensions y and x; the other parts are its attributes.
     """
     import xarray
 
-    is_lattice = isinstance(value, Lattice)
     parts = parts_of(value)
-    fields = ("states", "solid") if is_lattice else UNITS
+    fields = UNITS if "fluid" in parts else ("states", "solid")
     data = {
         name: (("y", "x"), getattr(value, name), {"units": UNITS.get(name, "1")}) for name in fields
     }
-    kept = {name: part for name, part in parts.items() if name not in (*SUMS, *fields)}
+    kept = {name: part for name, part in parts.items() if name not in fields}
     time = ((), float(kept.pop("generation")), {"long_name": "generation"})
-    if is_lattice:
+    if "seed" in kept:
         kept["seed"] = str(kept["seed"])
     return xarray.Dataset(data, _places(value) | {"generation": time}, kept)
 
 
-def _places(value: Lattice | Blocks) -> dict[str, Any]:
+def _places(value: Any) -> dict[str, Any]:
     """The coordinates of a dataset. Of the triangular lattice X has the places eastwards, because
     every other row lies half a cell to the east."""
-    x, y = positions(value.size, value.gas) if isinstance(value, Lattice) else value.positions
+    x, y = value.positions if "block" in value.PARTS else positions(value.size, value.gas)
     east, north = ({"units": LENGTH, "long_name": f"{way}wards"} for way in ("east", "north"))
     if x.ndim == 2:
         return {"X": (("y", "x"), x.astype(np.float32), east), "y": ("y", np.ravel(y), north)}
     return {"x": ("x", x, east), "y": ("y", y, north)}
 
 
-def from_xarray(kind: type, dataset: Dataset) -> Any:
-    """The value of a kind whose `to_xarray` is a dataset, also after netCDF or zarr kept it. One
-    with other dimensions, or rows or columns in another order, raises a Fault."""
+def from_xarray(kind: Any, dataset: Dataset) -> Any:
+    """The value whose `to_xarray` a dataset is, also after a file kept it.
+
+    Parameters
+    ----------
+    dataset : xarray.Dataset
+
+    Returns
+    -------
+    Lattice or Blocks
+
+    Raises
+    ------
+    Fault
+        If it has other dimensions, or rows or columns in another order.
+
+    Examples
+    --------
+    >>> start = fhpgas.draw_gas(0.2, size=fhpgas.Size(64, 36), seed=1)
+    >>> fhpgas.Lattice.from_xarray(start.to_xarray()) == start
+    True
+    """
     known = {str(name): value for name, value in dataset.attrs.items()}
     if "generation" in dataset.coords:
         known["generation"] = np.rint(dataset["generation"].values).astype(np.int64)

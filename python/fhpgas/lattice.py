@@ -7,7 +7,7 @@ from typing import Any, TypeAlias
 
 import numpy as np
 
-from . import drive, engine, fields, limits, long_runs
+from . import drive, engine, fields, forms, limits, long_runs
 from .blocks import Blocks, Value, read_table
 from .cells import cells_of, codes_of, lines_of, parts_of
 from .fault import Fault, integer, seed_of
@@ -133,7 +133,7 @@ class Lattice(Value):
         """
         text = scene_bytes(scene)
         with naming(scene):
-            return cls._of(text) if is_npz(text) else _run(text, 0)
+            return forms.from_npz(cls, text) if is_npz(text) else _run(text, 0)
 
     def replace(self, **changes: Any) -> "Lattice":
         """The same lattice with other values. A run of it continues with the random bits that come

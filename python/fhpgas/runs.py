@@ -144,10 +144,7 @@ def alone(
 ) -> Any:
     """A call of a function beside others, with so many cores, by default in the worker of an
     executor."""
-
-    def called() -> Any:
-        share.set(cores)
-        runs.set(own or Runs())
-        return function(value)
-
-    return contextvars.copy_context().run(called)
+    context = contextvars.copy_context()
+    context.run(share.set, cores)
+    context.run(runs.set, own or Runs())
+    return context.run(function, value)
