@@ -12,6 +12,7 @@ from .fault import Fault, real
 from .files import Path, read_bytes, write_whole
 from .fields import Size, number_of, pair_checked, size_of
 from .gases import Array, Gas, array_of, gas_named, read_only
+from .planes import Sized
 from .scenes import naming
 
 HEADER = "  col   row    fluid particles         px         py"
@@ -19,7 +20,7 @@ MOMENTA = "px", "py"
 SUMS = "fluid", "particles", *MOMENTA
 
 
-class Value:
+class Value(Sized):
     """What is equal by value, shows itself as a picture, and is again what it was after
     pickling: the base of dataclasses with arrays."""
 
@@ -62,23 +63,28 @@ class Value:
         return pictures.plot(self, what, ax, **options)
 
     def save(self: Any, path: Path) -> None:
-        """Writes all parts to an .npz file of numpy, which is whole or as before.
+        """Writes all parts to a file, which is whole or as before.
 
         Parameters
         ----------
         path : path
-            The file.
+            Of numpy's arrays, compressed (.npz), or of a lattice also a scene (.toml or without a
+            suffix).
 
         Raises
         ------
         Fault
-            If the file cannot be written, or has another suffix.
+            If the file cannot be written, has another suffix, or is a scene that could not be read
+            back: of more than 33 million cells, or a generation above 10^12.
 
         Examples
         --------
-        >>> blocks = fhpgas.draw_gas(0.2, size=fhpgas.Size(64, 36), seed=1).blocks()
-        >>> blocks.save("rest.npz")
-        >>> fhpgas.Blocks.load("rest.npz") == blocks
+        >>> start = fhpgas.draw_gas(0.2, size=fhpgas.Size(64, 36), seed=1)
+        >>> start.save("start.toml")
+        >>> fhpgas.Lattice.load("start.toml") == start
+        True
+        >>> start.blocks().save("rest.npz")
+        >>> fhpgas.Blocks.load("rest.npz") == start.blocks()
         True
         """
         write_whole(path, self._saved(path))
@@ -96,10 +102,6 @@ class Value:
             return forms.from_npz(cls, read_bytes(path))
 
     to_xarray, from_xarray = forms.to_xarray, classmethod(forms.from_xarray)
-
-    def __sizeof__(self) -> int:  # by which Dask decides what it moves, and what to disk
-        arrays = (part for part in vars(self).values() if isinstance(part, np.ndarray))
-        return object.__sizeof__(self) + sum(array.nbytes for array in arrays)
 
     def _repr_png_(self: Any) -> bytes:
         from . import pictures

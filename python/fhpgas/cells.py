@@ -1,6 +1,7 @@
 """The cells of a lattice as bytes, and as the lines that `fhpgas run` prints, with two characters
 per cell."""
 import re
+from typing import Any
 
 import numpy as np
 
@@ -37,9 +38,9 @@ def lines_of(codes: Array, before: bytes = b"", after: bytes = b"\n") -> bytes:
     return lines.tobytes()
 
 
-def cells_of(printed: str | bytes, size: tuple[int, int] | None = None) -> tuple[Array, int]:
-    """The cells, a byte each, and the generation of a text that `fhpgas run` printed, of columns
-    and rows if they are known. A text that is not whole raises a Fault."""
+def cells_of(printed: str | bytes, size: tuple[int, int] | None = None) -> dict[str, Any]:
+    """The states, the solid cells and the generation of a text that `fhpgas run` printed, of
+    columns and rows if they are known. A text that is not whole raises a Fault."""
     text = printed.encode() if isinstance(printed, str) else printed
     head = re.match(rb"generation (\d+) particles (\d+)\n([^\n]+\n)", text)
     width = len(head[3]) if head else 0
@@ -57,4 +58,5 @@ def cells_of(printed: str | bytes, size: tuple[int, int] | None = None) -> tuple
         raise Fault(f"the cells are {found}, and not {size[0]} x {size[1]}")
     if (particles := int(NUMBER[codes].sum())) != int(head[2]):
         raise Fault(f"the cells contain {particles} particles, and not {int(head[2])} as they say")
-    return codes, int(head[1])
+    states, solid = parts_of(codes)
+    return {"states": states, "solid": solid, "generation": int(head[1])}

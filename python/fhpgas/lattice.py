@@ -9,9 +9,9 @@ import numpy as np
 
 from . import drive, engine, fields, forms, limits, long_runs
 from .blocks import Blocks, Value, read_table
-from .cells import cells_of, codes_of, lines_of, parts_of
+from .cells import cells_of, codes_of, lines_of
 from .fault import Fault, integer, seed_of
-from .files import Path, is_npz, write_whole
+from .files import Path, is_npz
 from .gases import Array, Gas, array_of, chirality_named, gas_named, mask, read_only
 from .planes import Cells, Walls, block_ones
 from .plans import planned
@@ -258,29 +258,6 @@ class Lattice(Value):
         """The text of the scene that has this lattice, a map."""
         return self._scene().decode()
 
-    def save(self, path: Path) -> None:
-        """Writes the lattice to a file, which is whole or as before.
-
-        Parameters
-        ----------
-        path : path
-            Of a scene (.toml or without a suffix), or of numpy's arrays, compressed (.npz).
-
-        Raises
-        ------
-        Fault
-            If the file cannot be written, has another suffix, or is a scene that could not be read
-            back: of more than 33 million cells, or a generation above 10^12.
-
-        Examples
-        --------
-        >>> start = fhpgas.draw_gas(0.2, size=fhpgas.Size(64, 36), seed=1)
-        >>> start.save("start.toml")
-        >>> fhpgas.Lattice.load("start.toml") == start
-        True
-        """
-        write_whole(path, self._saved(path))
-
     def _saved(self, path: Path, usual: str = ".toml") -> bytes:
         suffix = pathlib.Path(path).suffix or usual
         if suffix not in (".toml", ".npz"):
@@ -440,8 +417,8 @@ def read_cells(
     >>> fhpgas.read_cells(text, "fhp1", fhpgas.Size(2, 1)).states.tolist()
     [[0, 1]]
     """
-    codes, generation = cells_of(text, fields.size_of(size))
-    return Lattice(*parts_of(codes), gas, chirality, seed, generation)
+    cells = cells_of(text, fields.size_of(size))
+    return Lattice(**cells, gas=gas, chirality=chirality, seed=seed)
 
 
 def _kept(keys: dict[str, Any]) -> dict[str, Any]:
@@ -484,8 +461,7 @@ def _run(
     text: bytes, generations: int, stages: int | None = None, capacity: int | None = None
 ) -> Lattice:
     words = planned(height_of(text), generations, stages, capacity)
-    codes, generation = cells_of(call(text, "run", *words))
-    return Lattice(*parts_of(codes), generation=generation, **_kept(keys_of(text)))
+    return Lattice(**cells_of(call(text, "run", *words)), **_kept(keys_of(text)))
 
 
 def coarse(

@@ -8,7 +8,7 @@ from typing import TYPE_CHECKING
 
 import numpy as np
 
-from .cells import cells_of, parts_of
+from .cells import cells_of
 from .fault import Fault, integer
 from .files import Path, plain_file, write_whole
 from .limits import LAST_OF_SCENE, MOST_GENERATIONS
@@ -90,9 +90,7 @@ def resume(lattice: Lattice, text: str | bytes) -> Lattice:
     >>> start.resume(start.run(2).text()).run(1) == start.run(3)
     True
     """
-    codes, generation = cells_of(text, lattice.size)
-    states, solid = parts_of(codes)
-    return _continued(lattice, lattice.replace(states=states, solid=solid, generation=generation))
+    return _continued(lattice, lattice.replace(**cells_of(text, lattice.size)))
 
 
 def _continued(lattice: Lattice, later: Lattice) -> Lattice:

@@ -70,7 +70,15 @@ def _added(values: Array, starts: Array, axis: int) -> Array:
     return values if is_same else np.add.reduceat(values, starts, axis)
 
 
-class Cells:
+class Sized:
+    """What has arrays, and says how many bytes: so Dask decides what it moves, and what to disk."""
+
+    def __sizeof__(self) -> int:
+        arrays = (part for part in vars(self).values() if isinstance(part, np.ndarray))
+        return object.__sizeof__(self) + sum(array.nbytes for array in arrays)
+
+
+class Cells(Sized):
     """The states of cells, which fit their gas, as bytes [y, x], as planes, or as both. The form
     that is not there is made when it is asked for."""
 
@@ -80,10 +88,6 @@ class Cells:
         self.directions, self.shape = gas.directions, shape if states is None else states.shape
         known = {"states": states, "planes": planes}.items()
         vars(self).update({name: read_only(form) for name, form in known if form is not None})
-
-    def __sizeof__(self) -> int:
-        arrays = (form for form in vars(self).values() if isinstance(form, np.ndarray))
-        return object.__sizeof__(self) + sum(form.nbytes for form in arrays)
 
     @functools.cached_property
     def states(self) -> Array:

@@ -43,6 +43,5 @@ def planned(
     if capacity is not None:
         integer("the capacity", capacity, 1, MOST_CAPACITY)
     number, places, threads = plan(rows, generations, stages=stages)
-    words = {"generations": generations, "stages": number, "capacity": capacity or places}
-    words["threads"] = threads
-    return tuple(word for name, value in words.items() for word in (f"--{name}", value))
+    how = "--stages", number, "--capacity", capacity or places, "--threads", threads
+    return "--generations", generations, *how

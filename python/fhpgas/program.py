@@ -21,17 +21,12 @@ TIED = "setpriv", "--pdeathsig", "KILL"  # of util-linux
 _starting = threading.Lock()  # for the first call of a program, which may build it
 
 
+@functools.cache
 def program_path() -> pathlib.Path:
     """The path of the program: the one that the environment variable FHPGAS names, the package's
     own, the one in the repository or archive which contains this package, or the first on the PATH.
     The launcher of a repository builds the program. It is started once, and afterwards what it
     built."""
-    with _starting:
-        return _program_path()
-
-
-@functools.cache
-def _program_path() -> pathlib.Path:
     launcher = ABOVE / "fhpgas"
     near = next((str(path) for path in (OWN, launcher) if path.is_file()), None)
     found = os.environ.get("FHPGAS") or near or shutil.which("fhpgas")
@@ -68,7 +63,8 @@ def call(scene: bytes, *words: object) -> bytes:
     if len(scene) > MOST_BYTES:
         way = "an area describes a large lattice in few lines"
         raise Fault(f"the scene has {len(scene)} bytes, and the program reads {MOST_BYTES}: {way}")
-    command = [*_tied(), str(program_path()), *map(str, words)]
+    with _starting:
+        command = [*_tied(), str(program_path()), *map(str, words)]
     pipes: dict[str, Any] = dict.fromkeys(("stdin", "stdout", "stderr"), subprocess.PIPE)
     with runs.get().holding(lambda: subprocess.Popen(command, **pipes)) as process, process:
         try:
