@@ -48,7 +48,7 @@ plain() {
     parts plain/stripping.py plain/crates.sh
     part make -s plain
     FHPGAS=$PWD/out/plain/fhpgas parts plain/calls.py plain/differences.py program/command_line.py
-    parts plain/sanitizers.py
+    part tests/plain/sanitizers.py Sanitized.test_threads # the other sanitizer is for a release
 }
 
 # gate: proves every crate from scratch, tries the wrong bodies of must-fail/ one by one, and runs the tests and the stored runs of the
