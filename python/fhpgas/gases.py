@@ -46,7 +46,7 @@ def mask(values: Any) -> Array:
     """Truth values, or numbers that are 0 or 1, as a new array of truth values. Anything else, such
     as an image's greys, raises a Fault."""
     array = array_of("solid cells", values)
-    if array.dtype.kind not in "iub" or ((array != 0) & (array != 1)).any():
+    if array.dtype.kind not in "iub" or array.size and not 0 <= array.min() <= array.max() <= 1:
         why = f"not {array.dtype}: compare an image with a number, as in `image > 127`"
         raise Fault(f"solid cells are an array of truth values, or of 0 and 1, {why}")
     return array.astype(bool)

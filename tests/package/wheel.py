@@ -170,7 +170,8 @@ def declared(wheel, is_built):
 
 def main():
     is_named, script = bool(sys.argv[1:]), needs.ROOT / "tools/wheel.sh"
-    has_engine = is_named or any((needs.ROOT / "python/fhpgas").glob("libfhpgas-*.so"))
+    # a wheel of plain Rust is made and tried with its archive
+    has_engine = is_named or any((needs.ROOT / "python/fhpgas").glob("libfhpgas-x86-64-*.so"))
     with tempfile.TemporaryDirectory() as name:
         top = pathlib.Path(name)
         for kind in ("built", "any", "source"):

@@ -28,7 +28,7 @@ PLAIN = OUT / "fhpgas"
 TARGET = "x86_64-unknown-linux-gnu"  # named, so that what cargo runs as it builds has no sanitizer
 LIBRARIES = {"thread": "tsan", "address": "asan"}
 # Rust's library is not instrumented: who frees what a scope shares has only a fence before, and results come over a channel of it.
-SUPPRESSED = "race:ScopeData*drop_slow\nrace:std*sync*mpmc\n"
+SUPPRESSED = "race:Arc<std::thread::scoped::ScopeData\nrace:std*sync*mpmc\n"
 # What newer compilers call and GCC's library has not yet.
 CALLS = """\
 #include <string.h>
