@@ -125,6 +125,7 @@ export class Flow {
   turn() {
     reverse(this);
     this.found = null;
+    this.drive.keep(this.drive.wind); // its means are of another time
     if (this.direction < 0) {
       this.turnedAt = this.generation;
       undo(this);

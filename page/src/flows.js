@@ -18,6 +18,7 @@ export class Flows {
   watched = [];
   state = ""; // of the controls, with these flows
   serial = 0;
+  asked = 0; // the start of the page's that was made last
   /** @type {(() => void)[]} what undoes what was done */
   past = [];
   /** @type {Map<Flow, Stroke>} what is being drawn */
@@ -58,7 +59,8 @@ export class Flows {
     watched.forEach(({ flow }) => (flow.cells.isBuilt = true));
   }
 
-  start({ flows, state }) {
+  start({ flows, state, asked = this.asked }) {
+    this.asked = asked;
     this.begun(flows.map((start) => drawn(this.make, start)), state);
   }
 

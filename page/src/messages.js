@@ -24,7 +24,7 @@
  * address; `seen` says that a frame was painted.
  * @typedef {{
  *   engine: { text: string, isProved: boolean },
- *   start: { flows: Start[], state: string },
+ *   start: { flows: Start[], state: string, asked?: number },
  *   open: { text: string, state: string },
  *   run: { on: boolean, pace: number },
  *   step: {}, back: {}, turn: {}, undo: {}, clear: {}, save: {}, seen: {},
@@ -39,12 +39,12 @@
  */
 
 /**
- * What the worker says, by name. `serial` counts the starts, `strokes` the pieces that came since the last frame. A
- * scene that is refused changes nothing.
+ * What the worker says, by name. `serial` counts the starts, `asked` is the number of the last one that the page asked
+ * for, `strokes` the pieces that came since the last frame. A scene that is refused changes nothing.
  * @typedef {{
  *   engine: { fault: string, isProved: boolean },
- *   frames: { frames: Frame[], isRunning: boolean, serial: number, state: string, strokes: number, canUndo: boolean,
- *     hashes?: string[] },
+ *   frames: { frames: Frame[], isRunning: boolean, serial: number, asked: number, state: string, strokes: number,
+ *     canUndo: boolean, hashes?: string[] },
  *   files: { files: { text: string, name: string }[] },
  *   hashes: { hashes: string[] },
  *   fault: { fault: string, isRefused: boolean },

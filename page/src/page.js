@@ -24,6 +24,7 @@ const live = {
   noteTimer: 0,
   toldAt: 0, // when the numbers were written, or 0 if they must be
   addressTimer: 0,
+  asked: 0, // starts, of which the worker may not have made the last
   pace: "", // before single cells
   /** @type {Pick<ReturnType<typeof applyState>, "at" | "probe" | "refused">} */
   pending: { at: null, probe: null, refused: [] }, // of the address
@@ -86,13 +87,13 @@ function seekEngine() {
 }
 
 /** Takes the frame that is to be shown next. */
-function take({ frames, serial, canUndo, isRunning, strokes, state, hashes = [] }) {
+function take({ frames, serial, asked, canUndo, isRunning, strokes, state, hashes = [] }) {
   const isNew = serial !== shown.serial, before = isNew ? null : head();
   if (isNew || canUndo !== shown.canUndo) live.toldAt = 0;
   const isMoved = frames[0].generation !== before?.generation;
   Object.assign(shown, { frames, serial, canUndo, hashes, isRunning: isSlow() ? shown.isRunning : isRunning });
   marks.pieces.splice(0, strokes);
-  if (isNew) beginAnew(state);
+  if (isNew) beginAnew(state, asked < live.asked);
   if (isMoved) Object.assign(motion, { phase: 0, isOn: false });
   frames.forEach((frame, k) => {
     if (frame.walls) panes[k].walls = wallsOf(frame, frame.walls);
@@ -128,13 +129,14 @@ function tellReturn(before) {
   note(`Back at generation ${count(generation)}: ${whose}`, found ? "bad" : "good");
 }
 
-function beginAnew(state) {
+/** The flows of a state are there, perhaps late, because the controls have asked for others meanwhile. */
+function beginAnew(state, isLate) {
   shown.isOpened = state === OPENED;
   if (shown.isOpened) {
     hideNote();
     introduce("A scene that was opened. Run starts it.", "");
     setRunning(false);
-  } else if (state !== stateText()) {
+  } else if (!isLate && state !== stateText()) {
     applyState(state);
     introduce();
   }
@@ -321,7 +323,7 @@ function start(hasLength = false, runs = "") {
   marks.probe = null;
   look.isWhole = true;
   looked();
-  tell("start", { flows, state: stateText() });
+  tell("start", { flows, state: stateText(), asked: ++live.asked });
   if (flips) tell("flip", { at: [width / 2, (height * apart) / 2], radius: 1 });
   go(!isStill && !rests);
   if (shown.frames.length) note("A new start. Undo (⌫) brings the old lattice back.", "", 4);

@@ -142,13 +142,13 @@ class Work {
   }
 
   frame() {
-    const { flows: { watched, serial, state, past, make }, isRunning, pieces: strokes } = this;
+    const { flows: { watched, serial, asked, state, past, make }, isRunning, pieces: strokes } = this;
     if (this.view.field === "difference") watched.forEach((one) => one.renew(make));
     const begun = performance.now(), frames = watched.map((one) => one.frame(this.view, this.generations));
     this.drawn = performance.now() - begun;
     this.generations = this.pieces = 0;
     this.sent++;
-    this.post("frames", { frames, isRunning, serial, state, strokes, canUndo: past.length > 0 });
+    this.post("frames", { frames, isRunning, serial, asked, state, strokes, canUndo: past.length > 0 });
     if (!isRunning && this.isHashWanted) this.hash();
   }
 

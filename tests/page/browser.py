@@ -313,6 +313,11 @@ def keyboard(page):
     page.key(Keys.F4, "e")
     check("letters are no keys if one wants", page.js("return chosen.tool") == "draw")
     page.js("document.activeElement.blur()"), page.key(Keys.F4)
+    page.go(QUICK)
+    serial = page.js("return shown.serial")
+    page.key(*"uuuuuu")
+    page.wait(f"shown.serial >= {serial} + 6")
+    check("each of some quick presses counts", page.js("return $('radius').value") == "26")
 
 
 def address(page):

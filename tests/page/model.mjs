@@ -209,6 +209,12 @@ tried("porous flow", () => {
 // -- numbers
 
 const frameOf = (flow, generations = 1) => new Watched(flow).frame({ field: "speed", block: 8, smooth: 0, span: 1, window: null }, generations);
+tried("the wind after the way back", () => {
+  const flow = drawn(make, porous), { u } = frameOf(flow, 0);
+  flow.drive.keep(0.2);
+  [0, 1].forEach((turn) => (turn && flow.turn(), flow.advance(300)));
+  check("back at the start u is that of its cells", flow.generation === 0 && flow.direction === 1 && frameOf(flow, 0).u === u, u);
+});
 near("ν of fhp1, seeded", viscosity("fhp1", 0.3, "seeded"), 1 / (12 * 0.3 * 0.7 ** 3) - 1 / 8, 1e-12);
 near("ν of fhp1, left", viscosity("fhp1", 0.3, "left"), 1 / (16 * 0.3 * 0.7 ** 3) - 1 / 8, 1e-12);
 near("ν of fhp-rest", viscosity("fhp-rest", 0.2, "seeded"), 1 / (28 * 0.2 * 0.8 ** 3 * (1 - 0.8 / 7)) - 1 / 8, 1e-12);
