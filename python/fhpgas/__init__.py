@@ -1,4 +1,4 @@
-"""Lattice gases from Python: lattices as numpy's arrays, runs of the proved engine, fields of the
+"""Lattice gases from Python: lattices as numpy's arrays, runs of the engine, fields of the
 fluid and pictures::
 
     import fhpgas, numpy as np

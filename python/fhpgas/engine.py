@@ -1,5 +1,5 @@
-"""The proved engine in this process: a library built from the crates of the program, which ctypes
-calls.
+"""The engine in this process: a library built from the crates of the program, proved if the kit
+built it, which ctypes calls.
 
 A run goes in strips of whole rows, one per thread. A particle moves at most one row per
 generation, so a strip with a margin of k rows is right after k generations. Then the strips
