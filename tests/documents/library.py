@@ -1,7 +1,7 @@
 #!/usr/bin/env python3
-"""Compares docs/LIBRARY.md with the crates: its program and its invariant are those of crates/example_columns, and the calls that it quotes
-have these signatures, and these clauses among theirs. The stored output of the example, which reads scenes/wind.toml, has the particles
-that the built fhpgas counts in blocks of one column. rt ci checks that the example prints that output. Ends with the counts."""
+"""Compares docs/LIBRARY.md with crates/example_columns: its program and its invariant are those of the crate. The stored output of the
+example, which reads scenes/wind.toml, has the particles that the built fhpgas counts in blocks of one column. rt ci checks that the example
+prints that output. Ends with the counts."""
 
 import re
 import subprocess
@@ -16,26 +16,9 @@ COLUMNS = "coarse --generations 12 --block-width 1 --block-height 16"  # blocks 
 PAGE = (needs.ROOT / "docs/LIBRARY.md").read_text()
 
 
-def plain(text):
-    return " ".join(text.split())
-
-
-def functions(crate):
-    """The public functions of a crate, and of the crates whose names begin like its own, without line breaks."""
-    texts = [path.read_text() for path in (needs.ROOT / "crates").glob(f"{crate}*/src/**/*.rt")]
-    return [function for text in texts for function in plain(text).split("pub fn ")[1:]]
-
-
-def quoted(calls):
-    """Per call that a block quotes its crate, its signature and its clauses. A comment names the crate of the calls below it."""
-    for crate, below in re.findall(r"^// (\w+)(.*?)(?=^// |\Z)", calls, re.M | re.S):
-        for call in below.split("pub fn ")[1:]:
-            yield crate, *map(plain, re.split(r"^    (?=requires|ensures)", call, flags=re.M))
-
-
 def comparisons():
     """What must be, and whether it is."""
-    program, calls = re.findall(r"^```rust\n(.*?)^```$", PAGE, re.M | re.S)
+    (program,) = re.findall(r"^```rust\n(.*?)^```$", PAGE, re.M | re.S)
     yield "the program is that of the example", (EXAMPLE / "src/main.rt").read_text().endswith(
         f"\n{program}"
     )
@@ -43,11 +26,6 @@ def comparisons():
     yield "so is the invariant", invariant in (
         EXAMPLE / "proofs/in_column/Invariants.antt"
     ).read_text().splitlines()
-    for crate, signature, *clauses in quoted(calls):
-        alike = [function for function in functions(crate) if function.startswith(f"{signature} ")]
-        yield f"{crate} has the call {signature}", any(
-            all(clause in function for clause in clauses) for function in alike
-        )
     scene = (EXAMPLE / "stdin").read_text()
     yield "the example reads scenes/wind.toml", scene == (
         needs.ROOT / "scenes/wind.toml"
