@@ -1,4 +1,4 @@
--- Plans: the stages of a line, the capacity of a belt, the generations to compute, the threads that share the workers.
+-- Plans: the stages of a line, the capacity of a belt, the generations to compute, and the threads, one for each worker.
 use Rattle.std.specs.Prelude.{ℕ, ◌+◌, ◌-◌, ◌*◌, ◌/◌, ◌%◌}
 
 pub record PlanModel : Type 0 where
