@@ -1,6 +1,5 @@
-pub mod Shares
-pub mod Workers
 pub mod Ends
+pub mod Workers
 pub mod Feeders
 pub mod Settled
 pub mod Meetings

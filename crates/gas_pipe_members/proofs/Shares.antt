@@ -1,19 +1,10 @@
 -- How the stages of a plan are shared out to its workers, and what they compute in a pass.
-use Rattle.std.proofs.Common.{◌≡◌, ℕ, zero, suc, ◌+◌, ◌-◌, ◌*◌, ◌/◌, ◌<◌, ◌≤◌, min, Bool, if◌then◌else◌, nat_lt, Option, Some, None, List, ◌∷◌, map, ap, ◌∙◌, sym, refl, arith, ⊎_elim}
+use Rattle.std.proofs.Common.{◌≡◌, ℕ, zero, suc, ◌+◌, ◌-◌, ◌*◌, ◌<◌, ◌≤◌, min, Bool, if◌then◌else◌, nat_lt, Option, Some, None, List, ◌∷◌, map, ap, ◌∙◌, sym, refl, arith, ⊎_elim}
 use Rattle.std.proofs.lemmas.Bool.{cases_lt, lt-ltb, le-ltb}
-use Rattle.std.proofs.Math.Nat.{div-add-mod, mod-lt, mul-le-mul_right}
 use Rattle.std.specs.List.{range_with_len}
 use Rattle.gas_stage.specs.Stages.{passes_from}
 use Rattle.gas_pipe_model.specs.Pass.{computes_from, generations_of}
 use Rattle.gas_pipe_model.specs.Plan.{PlanModel, before}
-
--- the first k workers have no more stages than all
-pub shared_few : (stages threads k : ℕ) → k ≤ threads → k * (stages / threads) ≤ threads * (stages / threads)
-shared_few stages threads k few = mul-le-mul_right (stages / threads) few
-
-pub before_few : (plan : PlanModel) (k : ℕ) → k ≤ plan.threads → 0 < plan.threads → before plan k ≤ plan.stages
-before_few plan k few some =
-    omega (arith, shared_few plan.stages plan.threads k few, div-add-mod plan.stages plan.threads, mod-lt plan.stages some)
 
 -- the step that is the n-th to be computed, counted from 0, if there are so many generations
 abbrev step : ℕ → ℕ → ℕ → Option ℕ

@@ -141,9 +141,6 @@ module _ (gas : Rules) (c : ChannelModel) (h : Chirality) where
     here : drop k stages ≡ s ∷ drop (k + 1) stages
     here = from_here stages k d low
 
-    pub closed_here : AreClosed c h (drop k stages) → s.pass ≡ None
-    closed_here closed = (subst (AreClosed c h) here closed).2
-
     -- what is known of a stage among those that are fed
     pub can_feed : (n : ℕ) → IsUnderWay gas c h 0 n (drop k stages) → (s.channel ≡ c) × IsSome s.pass × (s.fed ≡ n)
     can_feed n way = by way.es way.q way.fed_is (subst (λ (l : List StageModel). Each 0 l way.es way.q) here way.fits)
