@@ -12,7 +12,7 @@ use Rattle.gas_rows.specs.declared.chirality.Chirality.{Chirality}
 use Rattle.gas_stage.specs.Stage.{StageModel, owed, given}
 use Rattle.gas_stage.specs.Stages.{owed_by, given_by, passes_from, MayEachHaveBeenFed}
 use Rattle.gas_stage.proofs.Local.{length-next}
-use Rattle.gas_stage.proofs.Owed.{owed-no_more}
+use Rattle.gas_stage.proofs.Owed.{owed-all, owed-no_more}
 use Rattle.gas_stage.proofs.OwedBy.{owed_by-no_more, owed_by-grows}
 use Rattle.gas_pipe_model.proofs.Prefixes.{prefix_length}
 use mathlib.Core.List.{IsPrefix}
@@ -70,18 +70,18 @@ module _ (gas : Rules) (c : ChannelModel) (h : Chirality) where
   given_by_short (e ∷ es) q low =
       ap (given_by gas c h zero es) (given_short e q low) ∙ given_by_short es (owed gas c h e q) (omega (arith, owed-no_more gas c h e q))
 
-  pub given_by_long : (flushed : ℕ) (es : List (Option ℕ)) (q : List RowModel) → length q ≤ c.height →
-      length q ≤ length (given_by gas c h flushed es q) + length es
-  given_by_long flushed [] q few = omega arith
-  given_by_long zero (e ∷ es) q few =
-      omega (arith, given_long e q few, given_by_long zero es (given gas c h e q) (omega (arith, given_few e q)))
-  given_by_long (suc n) (e ∷ es) q few =
-      omega (
-        arith,
-        given_long e q few,
-        prefix_length (given gas c h e q) (owed gas c h e q) (given_prefix e q),
-        given_by_long n es (owed gas c h e q) (omega (arith, owed-no_more gas c h e q)),
-      )
+  -- at most one row fewer for each stage than came
+  pub fed_long : (flushed : ℕ) (stages : List StageModel) (es : List (Option ℕ)) (q : List RowModel) → MayEachHaveBeenFed gas c h flushed stages es q → length q ≤ c.height →
+      length q ≤ length (given_by gas c h flushed es q) + length stages
+  fed_long n [] [] q fits few = omega arith
+  fed_long n [] (e ∷ es) q fits few = absurd fits
+  fed_long zero (s ∷ stages) [] q fits few = absurd fits
+  fed_long (suc n) (s ∷ stages) [] q fits few = absurd fits
+  fed_long zero (s ∷ stages) (e ∷ es) q fits few =
+      omega (arith, given_long e q few, fed_long zero stages es (given gas c h e q) fits.3 (omega (arith, given_few e q)))
+  fed_long (suc n) (s ∷ stages) (e ∷ es) q fits few =
+      let all : length (owed gas c h e q) ≡ c.height = owed-all gas c h e q fits.3 in
+      omega (arith, all, fits.3, fed_long n stages es (owed gas c h e q) fits.4 (omega (arith, all)))
 
   -- of no rows none are returned
   pub given_by_none : (flushed : ℕ) (es : List (Option ℕ)) → given_by gas c h flushed es [] ≡ []

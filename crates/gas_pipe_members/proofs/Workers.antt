@@ -8,7 +8,7 @@ use Rattle.gas_stage.proofs.OwedBy.{owed_by-no_more}
 use Rattle.gas_pipe_model.proofs.Prefixes.{prefix_length}
 use Rattle.gas_rows.specs.Row.{RowModel}
 use mathlib.Core.List.{IsPrefix}
-use Rattle.gas_pipe_members.proofs.Composed.{given_by_prefix, given_by_long, given_by_none, fed_short, fed_unflushed, fed_all}
+use Rattle.gas_pipe_members.proofs.Composed.{given_by_prefix, fed_long, given_by_none, fed_short, fed_unflushed, fed_all}
 use Rattle.gas_pipe_members.specs.Worker.{WorkerModel, IsClosed, MayHaveDone, owes}
 
 module _ (gas : Rules) (w : WorkerModel) (es : List (Option ℕ)) (took gave : List RowModel) (done : MayHaveDone gas w es took gave) where
@@ -23,18 +23,19 @@ module _ (gas : Rules) (w : WorkerModel) (es : List (Option ℕ)) (took gave : L
   pub gave_few : length gave ≤ length took
   gave_few = omega (arith, prefix_length gave (owes gas w es took) done_prefix, owed_by-no_more gas w.stages.channel w.stages.chirality es took)
 
+  -- and at most one fewer for each stage and for the row that waits
+  pub gave_most : length took ≤ length gave + length (option_to_list w.waiting) + length w.stages.stages
+  gave_most =
+      omega (
+        arith,
+        ap (λ (l : List RowModel). length l) done.put_returned,
+        length-append gave (option_to_list w.waiting),
+        fed_long gas w.stages.channel w.stages.chirality w.stages.flushed w.stages.stages es took done.fed.each done.few,
+      )
+
   module _ (none : w.waiting ≡ None) where
     pub put_all : gave ≡ given_by gas w.stages.channel w.stages.chirality w.stages.flushed es took
     put_all = sym (append-nil gave) ∙ ap (λ (o : Option RowModel). gave ++ option_to_list o) (sym none) ∙ done.put_returned
-
-    -- and if none waits, at most one for each stage fewer
-    pub gave_most : length took ≤ length gave + length es
-    gave_most =
-        omega (
-          arith,
-          ap (λ (l : List RowModel). length l) put_all,
-          given_by_long gas w.stages.channel w.stages.chirality w.stages.flushed es took done.few,
-        )
 
     -- if rows are still to come, all that is owed was put
     pub more_all : w.stages.fed < w.stages.channel.height → (length took < w.stages.channel.height) × (gave ≡ owes gas w es took)

@@ -1,5 +1,6 @@
 //! A worker of the line, over any two ends.
 ghost use Rattle.std.specs.Prelude.{◌≡◌, ◌<◌, ◌≤◌, ◌+◌, ◌-◌, ◌^◌, ◌++◌, ◌∷◌, ℕ, [], List, Option, None, Some, replicate, IfOk, IfSome, IsNone, IsSome, IsTrue, IsFalse, true, false, length};
+ghost use Rattle.std.specs.Option.{option_to_list};
 ghost use Rattle.gas_geom.specs.Gas.{Rules};
 ghost use Rattle.gas_rows.specs.Row.{RowModel};
 ghost use mathlib.Core.List.{IsPrefix};
@@ -236,12 +237,16 @@ impl<'a, G: Gas> Worker<'a, G> {
 }
 
 /// What a worker put in its pass is the beginning of what it owes for the rows that it took. It
-/// takes at most as many rows as the lattice has. A pass is closed only if all rows were taken, and
-/// all rows that are owed for them were put.
+/// takes at most as many rows as the lattice has. It puts as many rows as it took, less at most one
+/// for each stage and one that waits. A pass is closed only if all rows were taken, and all rows
+/// that are owed for them were put.
 pub fn a_pass_in_order()
     ensures prefix { (gas : Rules) (w : WorkerModel) (es : List (Option ℕ)) (took gave : List RowModel) →
         MayHaveDone gas w es took gave → IsPrefix gave (owes gas w es took) }
     ensures few { (gas : Rules) (w : WorkerModel) (es : List (Option ℕ)) (took gave : List RowModel) →
         MayHaveDone gas w es took gave → length took ≤ w.stages.channel.height }
+    ensures kept { (gas : Rules) (w : WorkerModel) (es : List (Option ℕ)) (took gave : List RowModel) →
+        MayHaveDone gas w es took gave →
+        length took ≤ length gave + length (option_to_list w.waiting) + length w.stages.stages }
     ensures closed { (gas : Rules) (w : WorkerModel) → IsClosed w → HasDoneAll gas w }
 {}
