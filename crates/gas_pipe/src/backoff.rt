@@ -1,9 +1,6 @@
 //! When a thread of the line that waits spins, yields and parks. Public for tests only.
-ghost use Rattle.std.specs.Prelude.{◌≡◌, ◌↔◌, Some, None, IfSome, IsSome, IsTrue, IsFalse, true, false};
-ghost use Rattle.gas_pipe.specs.declared.backoff.Phase.TheVariants.{Announce, Park};
 
 use crossbeam_utils::CachePadded;
-use std::marker::Model;
 use std::sync::atomic::{AtomicU64, Ordering};
 
 // The numbers of the policy. Their reasons are in docs/DECISIONS.md ("How a thread waits").
@@ -51,7 +48,6 @@ pub enum Phase {
 }
 
 /// The policy by which one thread waits: a value that is stepped after each try that failed.
-/// Contracts see whether its last step announced a park.
 #[derive(Drop)]
 pub struct Backoff {
     // The failed tries of this wait, and whether the last step announced a park.
@@ -60,19 +56,9 @@ pub struct Backoff {
     trials: Trials,
 }
 
-impl Model for Backoff {
-    ghost use Rattle.std.specs.Prelude.{Bool};
-
-    ghost Value = { Bool };
-
-    ghost view = { λ b. b.is_announced };
-}
-
 impl Backoff {
     /// The policy before the first wait.
-    pub fn new() -> Self
-        ensures { result ≡ false }
-    {
+    pub fn new() -> Self {
         Backoff {
             tries: 0,
             is_announced: false,
@@ -81,9 +67,7 @@ impl Backoff {
     }
 
     // The phase after the failed tries of this wait.
-    fn phase(&self) -> Phase
-        ensures park { result ≡ Park → self.now ≡ true }
-    {
+    fn phase(&self) -> Phase {
         let yields = self.trials.mode == Mode::Yielding;
         let spins = if yields { SPINS } else { SPINS_WITHOUT_YIELDS };
         if self.tries < spins {
@@ -98,12 +82,7 @@ impl Backoff {
     }
 
     /// The next phase, after a try that failed. None if the stop flag is raised.
-    pub fn next(&mut self, is_stopped: bool, ban: &YieldBan) -> Option<Phase>
-        ensures stopped { IsTrue is_stopped → result ≡ None }
-        ensures goes_on { IsFalse is_stopped → IsSome result }
-        ensures announced { IfSome result (λ phase. self.new ≡ true ↔ phase ≡ Announce) }
-        ensures park { result ≡ Some Park → self.old ≡ true }
-    {
+    pub fn next(&mut self, is_stopped: bool, ban: &YieldBan) -> Option<Phase> {
         if is_stopped {
             return None;
         }
@@ -117,17 +96,12 @@ impl Backoff {
     }
 
     /// A park ended, by a neighbour or by its time.
-    pub fn note_park(&mut self, was_woken: bool)
-        ensures { self.new ≡ self.old }
-    {
+    pub fn note_park(&mut self, was_woken: bool) {
         self.trials.note_park(was_woken);
     }
 
     /// A try succeeded, so the wait is over. Returns whether an announcement must be withdrawn.
-    pub fn end_wait(&mut self) -> bool
-        ensures announced { result ≡ self.old }
-        ensures over { self.new ≡ false }
-    {
+    pub fn end_wait(&mut self) -> bool {
         self.tries = 0;
         let was_announced = self.is_announced;
         self.is_announced = false;
