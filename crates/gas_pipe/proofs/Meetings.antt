@@ -51,60 +51,60 @@ on_more gas input b k =
     ap (belts_before gas input b) (let e : suc k ≡ k + 1 = omega arith in e)
     ∙ map-range_with_len_more (λ i. carrying (rows_on_belt gas input b i)) 0 k k (let e : 0 + k ≡ k = omega arith in e)
 
-module _ (gas : Rules) (input : RunInputModel) (f : LineFeederModel) where
+-- and one belt more after those that have met
+grown : (gas : Rules) (input : RunInputModel) (b : List RowModel) (now : List CarriedModel) (k : ℕ) (put taken : List RowModel) → now ≡ belts_before gas input b k →
+    put ≡ rows_on_belt gas input b k → taken ≡ put → now ++ record { put = put; taken = taken } ∷ [] ≡ belts_before gas input b (suc k)
+grown gas input b now k put taken was put_is same =
+    ap (λ (l : List CarriedModel). l ++ record { put = put; taken = taken } ∷ []) was
+    ∙ ap (λ (l : List RowModel). belts_before gas input b k ++ record { put = l; taken = taken } ∷ []) put_is
+    ∙ ap (λ (l : List RowModel). belts_before gas input b k ++ record { put = rows_on_belt gas input b k; taken = l } ∷ []) (same ∙ put_is)
+    ∙ sym (on_more gas input b k)
+
+module _ {gas : Rules} {input : RunInputModel} {f : LineFeederModel} where
   -- as many rows were put on the belt that is reached as on the first
-  pub met_long : (jobs : List Job) (s : Sender) (now : List CarriedModel) → HaveMet gas input f jobs s now →
+  pub met_long : {jobs : List Job} {s : Sender} {now : List CarriedModel} → HaveMet gas input f jobs s now →
       length s.put ≡ div_ceil input.plan.generations input.plan.stages * input.lattice.channel.height
-  met_long jobs s now met =
+  met_long met =
       ap length met.put_is
       ∙ on_high input.lattice.channel.height input.plan.threads (owes_in gas input) (λ q. q) (rows_on gas input) (is_circle gas input met.is_input (λ q. q) (λ m q. refl) (λ n. refl))
       (div_ceil input.plan.generations input.plan.stages) f.tx.put met.long met.k
 
   -- the belts that have met number as many as the workers before it
-  pub met_count : (jobs : List Job) (s : Sender) (now : List CarriedModel) → HaveMet gas input f jobs s now → length now + length jobs ≡ input.plan.threads
-  met_count jobs s now met =
+  pub met_count : {jobs : List Job} {s : Sender} {now : List CarriedModel} → HaveMet gas input f jobs s now → length now + length jobs ≡ input.plan.threads
+  met_count {now = now} met =
       let made : length now ≡ met.k = ap length met.belts ∙ length-map-range_with_len (λ i. carrying (rows_on_belt gas input f.tx.put i)) 0 met.k in
       omega (arith, made, met.count)
 
-  -- and one belt more
-  grown : (now : List CarriedModel) (k : ℕ) (put taken : List RowModel) → now ≡ belts_before gas input f.tx.put k → put ≡ rows_on_belt gas input f.tx.put k → taken ≡ put →
-      now ++ record { put = put; taken = taken } ∷ [] ≡ belts_before gas input f.tx.put (suc k)
-  grown now k put taken was put_is same =
-      ap (λ (l : List CarriedModel). l ++ record { put = put; taken = taken } ∷ []) was
-      ∙ ap (λ (l : List RowModel). belts_before gas input f.tx.put k ++ record { put = l; taken = taken } ∷ []) put_is
-      ∙ ap (λ (l : List RowModel). belts_before gas input f.tx.put k ++ record { put = rows_on_belt gas input f.tx.put k; taken = l } ∷ []) (same ∙ put_is)
-      ∙ sym (on_more gas input f.tx.put k)
-
   -- at the last belt
-  pub met_last : (s : Sender) (now : List CarriedModel) (taken : List RowModel) → HaveMet gas input f [] s now → taken ≡ s.put →
+  pub met_last : {s : Sender} {now : List CarriedModel} {taken : List RowModel} → HaveMet gas input f [] s now → taken ≡ s.put →
       (s.put ≡ rows_on_belt gas input f.tx.put input.plan.threads) × (now ++ record { put = s.put; taken = taken } ∷ [] ≡ belts_before gas input f.tx.put (input.plan.threads + 1))
-  met_last s now taken met same =
+  met_last {s = s} {now = now} {taken = taken} met same =
       let last : met.k ≡ input.plan.threads = omega (arith, met.count) in
       let after : suc met.k ≡ input.plan.threads + 1 = omega (arith, last) in (
         met.put_is ∙ ap (rows_on_belt gas input f.tx.put) last,
-        grown now met.k s.put taken met.belts met.put_is same ∙ ap (belts_before gas input f.tx.put) after,
+        grown gas input f.tx.put now met.k s.put taken met.belts met.put_is same ∙ ap (belts_before gas input f.tx.put) after,
       )
 
   -- the belt before the worker of the next job has met, and the worker has ended
-  module _ (j : Job) (js : List Job) (s : Sender) (now : List CarriedModel) (met : HaveMet gas input f (j ∷ js) s now) (e : EndedModel) (ran : HasEnded gas j e) where
+  module _ {j : Job} {js : List Job} {s : Sender} {now : List CarriedModel} {e : EndedModel} (met : HaveMet gas input f (j ∷ js) s now) (ran : HasEnded gas j e) where
     job : HasFinished gas (job_in input met.k s.belt j.to) e.rx.taken e.spent.put
     job = subst (λ (i : Job). HasFinished gas i e.rx.taken e.spent.put) met.leads.0 ran.finished
 
     pub meets : length s.put ≡ length e.rx.taken
-    meets = met_long (j ∷ js) s now met ∙ sym job.whole
+    meets = met_long met ∙ sym job.whole
 
     pub one_belt : s.belt ≡ e.rx.belt
     one_belt = sym (ran.from ∙ ap (λ (i : Job). i.from) met.leads.0)
 
-    pub goes : (now2 : List CarriedModel) → e.rx.taken ≡ s.put → now2 ≡ now ++ record { put = s.put; taken = e.rx.taken } ∷ [] → HaveMet gas input f js e.spent now2
-    goes now2 same is = record {
+    pub goes : {now2 : List CarriedModel} → e.rx.taken ≡ s.put → now2 ≡ now ++ record { put = s.put; taken = e.rx.taken } ∷ [] → HaveMet gas input f js e.spent now2
+    goes same is = record {
       is_input = met.is_input;
       long = met.long;
       k = suc met.k;
       put_is =
           job.owes_is ∙ rw (same ∙ met.put_is) refl
           ∙ sym (on_next input.lattice.channel.height (owes_in gas input) (div_ceil input.plan.generations input.plan.stages) f.tx.put met.k);
-      belts = is ∙ grown now met.k s.put e.rx.taken met.belts met.put_is same;
+      belts = is ∙ grown gas input f.tx.put now met.k s.put e.rx.taken met.belts met.put_is same;
       leads = subst (λ (c : Belt). Linked input (suc met.k) c js) (sym ran.to) met.leads.1;
       count = omega (arith, met.count);
       end_is = ap (λ (c : Belt). last_belt c js) ran.to ∙ met.end_is;
@@ -124,9 +124,9 @@ linked_still input own own2 others line same = record {
 }
 
 -- the feeder and the own worker are over, and s is the closed end of belt 0
-pub met_first : (gas : Rules) (input : RunInputModel) (all own : OwnModel) (f : LineFeederModel) (others : List Job) (s : Sender) (now : List CarriedModel) → own ≡ all → f ≡ own.feeder → IsLinked input all others →
+pub met_first : {gas : Rules} {input : RunInputModel} {all own : OwnModel} {f : LineFeederModel} {others : List Job} {s : Sender} {now : List CarriedModel} → own ≡ all → f ≡ own.feeder → IsLinked input all others →
     OwnHasCome gas input all → IsOver gas all → s ≡ record f.tx { spare = None } → now ≡ [] → HaveMet gas input own.feeder (own_jobs own ++ others) s now
-met_first gas input all own f others s now own_is f_is linked has_come is_over closed none = record {
+met_first {gas = gas} {input = input} {own = own} {f = f} {others = others} {s = s} own_is f_is linked has_come is_over closed none = record {
   is_input = come.feeder.is_input;
   long = long input own.feeder.feeder own.feeder.tx.put own.feeder.rx.taken come.feeder.channel over.feeder come.feeder.fed;
   k = 0;

@@ -108,7 +108,7 @@ module _ (input : RunInputModel) (f : FeederModel) (b took : List RowModel) (cha
   taken_long = fed_taken f _ input.lattice.rows b took fed over ∙ as_high
 
 -- the workers in a circle, in which the feeder empties the solid cells
-module _ (gas : Rules) (laws : IsGas gas) (input : RunInputModel) (is : IsRunInput gas input) where
+module _ {gas : Rules} {input : RunInputModel} (laws : IsGas gas) (is : IsRunInput gas input) where
   abbrev high : ℕ
   high = input.lattice.channel.height
 
@@ -126,7 +126,7 @@ module _ (gas : Rules) (laws : IsGas gas) (input : RunInputModel) (is : IsRunInp
       (joined_high high input.plan.threads (owes_in gas input) (λ q. q) (rows_on gas input) plain input.plan.threads n))
 
   -- the feeder put b on belt 0, and took what is then on the last belt
-  module _ (f : FeederModel) (b took : List RowModel) (channel : f.channel ≡ input.lattice.channel) (over : f.to_take ≡ 0) (some : 0 < input.plan.stages) (more : 0 < input.plan.generations)
+  module _ {f : FeederModel} {b took : List RowModel} (channel : f.channel ≡ input.lattice.channel) (over : f.to_take ≡ 0) (some : 0 < input.plan.stages) (more : 0 < input.plan.generations)
       (fed : MayHaveFed f passes input.lattice.rows b took) (back : took ≡ rows_on_belt gas input b input.plan.threads) where
     height : f.channel.height ≡ high
     height = ap (λ (c : ChannelModel). c.height) channel

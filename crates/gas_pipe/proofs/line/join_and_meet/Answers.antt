@@ -13,116 +13,66 @@ use Rattle.gas_pipe.proofs.line.join_and_meet.Goals as goal
 
 pub meet_own-first-requires-clause-met : goal.meet_own-first-requires-clause-met
 meet_own-first-requires-clause-met g c =
-    let gas = g.G.Gas.rules in
-    let input = c.args.input.now in
-    let others = jobs_of c.args.threads.items in
-    let own : OwnModel = record { feeder = c.own.inside.feeder; worker = c.own.inside.worker } in
-    let inside : LineFeederModel = record { feeder = c.feeder.inside.feeder; tx = c.feeder.inside.tx; rx = c.feeder.inside.rx } in
-    let f = own.feeder in
-    let first = met_first gas input c.args.own own inside others c.close.result c.args.belts.items c.own.view_is c.feeder.view_is c.requires.linked c.requires.come c.requires.over c.close.ensures.spent c.requires.none in
-    (input, f, others, first)
+    let first = met_first c.own.view_is c.feeder.view_is c.requires.linked c.requires.come c.requires.over c.close.ensures.spent c.requires.none in
+    (c.args.input.now, c.own.inside.feeder, jobs_of c.args.threads.items, first)
 
 pub join_threads-requires-clause-met : goal.join_threads-requires-clause-met
 join_threads-requires-clause-met g c =
-    let gas = g.G.Gas.rules in
-    let input = c.args.input.now in
-    let others = jobs_of c.args.threads.items in
-    let own : OwnModel = record { feeder = c.own.inside.feeder; worker = c.own.inside.worker } in
-    let inside : LineFeederModel = record { feeder = c.feeder.inside.feeder; tx = c.feeder.inside.tx; rx = c.feeder.inside.rx } in
-    let f = own.feeder in
-    let first = met_first gas input c.args.own own inside others c.close.result c.args.belts.items c.own.view_is c.feeder.view_is c.requires.linked c.requires.come c.requires.over c.close.ensures.spent c.requires.none in
-    let then = c.meet_own-first.ensures.met input f others first in
-    (input, f, then)
+    let first = met_first c.own.view_is c.feeder.view_is c.requires.linked c.requires.come c.requires.over c.close.ensures.spent c.requires.none in
+    (c.args.input.now, c.own.inside.feeder, c.meet_own-first.ensures.met _ _ _ first)
 
 pub join_threads-requires-clause-room : goal.join_threads-requires-clause-room
 join_threads-requires-clause-room g c =
-    let gas = g.G.Gas.rules in
-    let input = c.args.input.now in
-    let others = jobs_of c.args.threads.items in
-    let own : OwnModel = record { feeder = c.own.inside.feeder; worker = c.own.inside.worker } in
-    let inside : LineFeederModel = record { feeder = c.feeder.inside.feeder; tx = c.feeder.inside.tx; rx = c.feeder.inside.rx } in
-    let f = own.feeder in
-    let first = met_first gas input c.args.own own inside others c.close.result c.args.belts.items c.own.view_is c.feeder.view_is c.requires.linked c.requires.come c.requires.over c.close.ensures.spent c.requires.none in
-    let then = c.meet_own-first.ensures.met input f others first in
-    let count = met_count gas input f others c.meet_own-first.result c.meet_own-first.new.carried.items then in
-    let same : length others ≡ length c.args.threads.items = length-map c.args.threads.items (λ h. job_of (worker_of h)) in
+    let first = met_first c.own.view_is c.feeder.view_is c.requires.linked c.requires.come c.requires.over c.close.ensures.spent c.requires.none in
+    let count = met_count (c.meet_own-first.ensures.met _ _ _ first) in
+    let same : length (jobs_of c.args.threads.items) ≡ length c.args.threads.items = length-map c.args.threads.items (λ h. job_of (worker_of h)) in
     omega (arith, count, same, c.meet_own-first.new.carried.ok, c.meet_own-first.ensures.capacity, c.requires.room)
 
 pub meet-requires : goal.meet-requires
 meet-requires g c =
-    let gas = g.G.Gas.rules in
-    let input = c.args.input.now in
-    let others = jobs_of c.args.threads.items in
-    let own : OwnModel = record { feeder = c.own.inside.feeder; worker = c.own.inside.worker } in
-    let inside : LineFeederModel = record { feeder = c.feeder.inside.feeder; tx = c.feeder.inside.tx; rx = c.feeder.inside.rx } in
-    let f = own.feeder in
-    let first = met_first gas input c.args.own own inside others c.close.result c.args.belts.items c.own.view_is c.feeder.view_is c.requires.linked c.requires.come c.requires.over c.close.ensures.spent c.requires.none in
-    let then = c.meet_own-first.ensures.met input f others first in
-    let met = c.in_ok-spent.ensures.met input f then in
+    let first = met_first c.own.view_is c.feeder.view_is c.requires.linked c.requires.come c.requires.over c.close.ensures.spent c.requires.none in
+    let met = c.in_ok-spent.ensures.met _ _ (c.meet_own-first.ensures.met _ _ _ first) in
     record { one_belt = met.end_is ∙ ap (λ (l : LineFeederModel). l.rx.belt) (sym c.feeder.view_is) }
 
 pub unreachable-requires : goal.unreachable-requires
 unreachable-requires g c =
-    let gas = g.G.Gas.rules in
-    let input = c.args.input.now in
-    let others = jobs_of c.args.threads.items in
-    let own : OwnModel = record { feeder = c.own.inside.feeder; worker = c.own.inside.worker } in
-    let inside : LineFeederModel = record { feeder = c.feeder.inside.feeder; tx = c.feeder.inside.tx; rx = c.feeder.inside.rx } in
-    let f = own.feeder in
-    let first = met_first gas input c.args.own own inside others c.close.result c.args.belts.items c.own.view_is c.feeder.view_is c.requires.linked c.requires.come c.requires.over c.close.ensures.spent c.requires.none in
-    let then = c.meet_own-first.ensures.met input f others first in
-    let met = c.in_ok-spent.ensures.met input f then in
-    let come = subst (λ (o : OwnModel). OwnHasCome gas input o) (sym c.own.view_is) c.requires.come in
-    let over = subst (λ (o : OwnModel). IsOver gas o) (sym c.own.view_is) c.requires.over in
-    let begun = come.feeder in
+    let first = met_first c.own.view_is c.feeder.view_is c.requires.linked c.requires.come c.requires.over c.close.ensures.spent c.requires.none in
+    let met = c.in_ok-spent.ensures.met _ _ (c.meet_own-first.ensures.met _ _ _ first) in
+    let begun = (subst (λ (o : OwnModel). OwnHasCome g.G.Gas.rules c.args.input.now o) (sym c.own.view_is) c.requires.come).feeder in
+    let over = subst (λ (o : OwnModel). IsOver g.G.Gas.rules o) (sym c.own.view_is) c.requires.over in
+    let f = c.own.inside.feeder in
     let same =
-    met_long gas input f [] c.in_ok-spent.spent c.join_threads.new.carried.items met
-    ∙ sym (taken_long input f.feeder f.tx.put f.rx.taken begun.channel over.feeder begun.fed)
+    met_long met ∙ sym (taken_long c.args.input.now f.feeder f.tx.put f.rx.taken begun.channel over.feeder begun.fed)
     ∙ ap (λ (l : LineFeederModel). length l.rx.taken) (sym c.feeder.view_is) in
     let h = c.in_default.ensures.exactly.1 same in
     search rules
 
 pub push_reserved-requires : goal.push_reserved-requires
 push_reserved-requires g c =
-    let gas = g.G.Gas.rules in
-    let input = c.args.input.now in
-    let others = jobs_of c.args.threads.items in
-    let own : OwnModel = record { feeder = c.own.inside.feeder; worker = c.own.inside.worker } in
-    let inside : LineFeederModel = record { feeder = c.feeder.inside.feeder; tx = c.feeder.inside.tx; rx = c.feeder.inside.rx } in
-    let f = own.feeder in
-    let first = met_first gas input c.args.own own inside others c.close.result c.args.belts.items c.own.view_is c.feeder.view_is c.requires.linked c.requires.come c.requires.over c.close.ensures.spent c.requires.none in
-    let then = c.meet_own-first.ensures.met input f others first in
-    let met = c.in_ok-spent.ensures.met input f then in
-    let count = met_count gas input f [] c.in_ok-spent.spent c.join_threads.new.carried.items met in
+    let first = met_first c.own.view_is c.feeder.view_is c.requires.linked c.requires.come c.requires.over c.close.ensures.spent c.requires.none in
+    let count = met_count (c.in_ok-spent.ensures.met _ _ (c.meet_own-first.ensures.met _ _ _ first)) in
     omega (arith, count, c.join_threads.new.carried.ok, c.in_ok-spent.ensures.capacity, c.meet_own-first.ensures.capacity, c.requires.room)
 
 pub returns : goal.returns
 returns g c =
-    let gas = g.G.Gas.rules in
     let input = c.args.input.now in
-    let others = jobs_of c.args.threads.items in
-    let own : OwnModel = record { feeder = c.own.inside.feeder; worker = c.own.inside.worker } in
-    let inside : LineFeederModel = record { feeder = c.feeder.inside.feeder; tx = c.feeder.inside.tx; rx = c.feeder.inside.rx } in
-    let f = own.feeder in
-    let first = met_first gas input c.args.own own inside others c.close.result c.args.belts.items c.own.view_is c.feeder.view_is c.requires.linked c.requires.come c.requires.over c.close.ensures.spent c.requires.none in
-    let then = c.meet_own-first.ensures.met input f others first in
-    let met = c.in_ok-spent.ensures.met input f then in
-    let come = subst (λ (o : OwnModel). OwnHasCome gas input o) (sym c.own.view_is) c.requires.come in
-    let over = subst (λ (o : OwnModel). IsOver gas o) (sym c.own.view_is) c.requires.over in
-    let begun = come.feeder in
+    let first = met_first c.own.view_is c.feeder.view_is c.requires.linked c.requires.come c.requires.over c.close.ensures.spent c.requires.none in
+    let met = c.in_ok-spent.ensures.met _ _ (c.meet_own-first.ensures.met _ _ _ first) in
+    let begun = (subst (λ (o : OwnModel). OwnHasCome g.G.Gas.rules input o) (sym c.own.view_is) c.requires.come).feeder in
+    let over = subst (λ (o : OwnModel). IsOver g.G.Gas.rules o) (sym c.own.view_is) c.requires.over in
     let ends = c.in-Ok.ensures in
-    let now = c.join_threads.new.carried.items in
-    let last = met_last gas input f c.in_ok-spent.spent now c.feeder.inside.rx.taken met ends.equal in
+    let last = met_last met ends.equal in
     let back = ap (λ (l : LineFeederModel). l.rx.taken) (sym c.feeder.view_is) ∙ ends.equal ∙ last.0 in
-    let grown = c.push_reserved.ensures.items ∙ ap (λ (x : CarriedModel). now ++ x ∷ []) ends.carried in
     let some = c.requires.linked.stages in
     record {
       lattice =
-          lattice_is gas g.met.G.Gas.laws input begun.is_input f.feeder f.tx.put f.rx.taken begun.channel over.feeder some begun.some begun.fed back
+          lattice_is g.met.G.Gas.laws begun.is_input begun.channel over.feeder some begun.some begun.fed back
           c.finish.result (c.finish.ensures.channel ∙ ap (λ (l : LineFeederModel). l.feeder.channel) c.feeder.view_is)
           (c.finish.ensures.rows ∙ ap (λ (l : LineFeederModel). l.feeder.rows) c.feeder.view_is);
       stages = ap (λ (q : RunInputModel). q.plan.stages) c.input.view_is;
       threads = ap (λ (q : RunInputModel). q.plan.threads) c.input.view_is;
       passes = ap (λ (q : RunInputModel). div_ceil q.plan.generations q.plan.stages) c.input.view_is;
-      belts = grown ∙ last.1 ∙ belts_are gas g.met.G.Gas.laws input begun.is_input f.feeder f.tx.put f.rx.taken begun.channel over.feeder some begun.some begun.fed back;
+      belts =
+          c.push_reserved.ensures.items ∙ ap (λ (x : CarriedModel). c.join_threads.new.carried.items ++ x ∷ []) ends.carried ∙ last.1
+          ∙ belts_are g.met.G.Gas.laws begun.is_input begun.channel over.feeder some begun.some begun.fed back;
     }
