@@ -1,9 +1,12 @@
 -- What steps of the ends of belts do to their lists.
-use Rattle.std.proofs.Common.{◌≡◌, ◌+◌, ◌-◌, ◌≤◌, ◌++◌, ◌∷◌, [], length, min, Option, Some, None, ap, ◌∙◌}
+use Rattle.std.proofs.Common.{◌≡◌, ◌+◌, ◌-◌, ◌<◌, ◌≤◌, ◌++◌, ◌∷◌, [], length, min, List, Option, Some, None, ap, subst, ◌∙◌}
 use Rattle.gas_rows.specs.Row.{RowModel}
 use Rattle.gas_belt.specs.Belt.{Sender, Receiver}
 use Rattle.gas_pipe_members.specs.Ends.{MayGet, Sends, Takes}
-use Rattle.gas_pipe.proofs.Workers.{one_more}
+use Rattle.gas_pipe.specs.Inner.Worker.{StockModel}
+
+abbrev pub one_more : RowModel → List RowModel → List RowModel
+one_more row l = l ++ row ∷ []
 
 abbrev pub takes : Receiver → RowModel → Receiver → Type 0
 takes old row new = (new ≡ record old { taken = old.taken ++ row ∷ []; held = old.held - 1 }) × (length row ≡ old.belt.width)
@@ -18,12 +21,16 @@ abbrev pub lends : Sender → Option RowModel → Sender → Type 0
 lends old spare new = (spare ≡ old.spare) × (new ≡ record old { spare = None })
 
 -- the same of the end that a worker takes from
-abbrev pub stock_gets : Receiver → RowModel → Receiver → Type 0
-stock_gets old row new = new ≡ record old { held = new.held }
+abbrev pub stock_takes : StockModel → RowModel → StockModel → Type 0
+stock_takes old row new = (new ≡ record old { taken = old.taken ++ row ∷ []; held = old.held - 1 }) × (length row ≡ old.belt.width)
 
-pub stock_got : (a b : Receiver) (spare : Option RowModel) → MayGet stock_gets a spare b → (b.taken ≡ a.taken) × (b.belt ≡ a.belt)
-stock_got a b None is = (ap (λ (r : Receiver). r.taken) is, ap (λ (r : Receiver). r.belt) is)
-stock_got a b (Some row) is = (ap (λ (r : Receiver). r.taken) is, ap (λ (r : Receiver). r.belt) is)
+abbrev pub stock_gets : StockModel → RowModel → StockModel → Type 0
+stock_gets old row new = (new ≡ record old { held = new.held }) × (length row ≡ old.belt.width → old.held < old.most → new.held ≡ old.held + 1)
+
+-- it was given the spare row of a put
+pub stock_got : (a b : StockModel) (x y : Sender) (row : RowModel) (spare : Option RowModel) → Sends puts lends x row spare y → MayGet stock_gets a spare b → stock_gets a row b
+stock_got a b x y row spare step got =
+    subst (λ (o : Option RowModel). MayGet stock_gets a o b) (step.lent.0 ∙ ap (λ (t : Sender). t.spare) step.put.0) got
 
 -- an end that may have been given a row
 pub got : (a b : Receiver) (spare : Option RowModel) → MayGet gets a spare b → (b.taken ≡ a.taken) × (b.belt ≡ a.belt)

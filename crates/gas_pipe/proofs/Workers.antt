@@ -1,61 +1,134 @@
 -- The steps of a worker of a run, and what it has put in the end.
-use Rattle.std.proofs.Common.{◌≡◌, ℕ, suc, ◌+◌, ◌-◌, ◌*◌, Option, List, [], ◌∷◌, ◌++◌, ap, sym, subst, refl, ◌∙◌, length, length-append, append_assoc, append-nil, arith}
+use Rattle.std.proofs.Common.{◌≡◌, ℕ, suc, ◌+◌, ◌-◌, ◌*◌, ◌<◌, ◌≤◌, Option, None, Some, List, [], ◌∷◌, ◌++◌, ap, sym, subst, refl, ◌∙◌, length, length-append, append_assoc, append-nil, arith}
 use Rattle.std.specs.Int.{div_ceil}
+use Rattle.std.specs.Option.{option_to_list}
 use Rattle.std.proofs.Math.Nat.{suc-mul, zero-mul}
 use Rattle.gas_geom.specs.Gas.{Rules}
 use Rattle.gas_geom.specs.Channel.{ChannelModel}
 use Rattle.gas_rows.specs.Row.{RowModel}
-use Rattle.gas_belt.specs.Belt.{Sender, Receiver}
+use Rattle.gas_belt.specs.Belt.{Sender}
 use Rattle.gas_stage.specs.Stages.{owed_by, passes_from}
 use Rattle.gas_stage.proofs.OwedBy.{owed_by-all}
+use Rattle.gas_pipe_members.specs.Ends.{MayGet, Sends}
 use Rattle.gas_pipe_members.specs.Worker.{WorkerModel, SameWorker, IsClosed, MayHaveDone, Does}
-use Rattle.gas_pipe_members.proofs.Workers.{closed_all}
+use Rattle.gas_pipe_members.proofs.Workers.{closed_all, gave_few, gave_most}
 use Rattle.gas_pipe_model.specs.Plan.{PlanModel, before}
 use Rattle.gas_pipe_model.specs.Pass.{generations_of}
 use Rattle.gas_pipe_model.proofs.Circle.{owed_pass, owed_none, owed_high}
-use Rattle.gas_pipe.specs.Inner.Worker.{LineWorkerModel, Job, job_of, does_in, owes_until, HasCome, HasFinished}
+use Rattle.gas_pipe.specs.Inner.Worker.{StockModel, LineWorkerModel, Job, job_of, does_in, owes_until, HasSpares, HasCome, HasFinished}
+use Rattle.gas_pipe.proofs.Ends.{one_more, puts, lends, stock_takes, stock_gets, stock_got, sent}
 
 -- the worker v between the ends r and t, in the place of that of w
-abbrev pub with_worker : LineWorkerModel → WorkerModel → Receiver → Sender → LineWorkerModel
+abbrev pub with_worker : LineWorkerModel → WorkerModel → StockModel → Sender → LineWorkerModel
 with_worker w v r t = record w { worker = v; rx = r; tx = t }
 
-abbrev pub one_more : RowModel → List RowModel → List RowModel
-one_more row l = l ++ row ∷ []
+-- how many rows it took and put
+module _ (gas : Rules) (w : LineWorkerModel) (took_before took gave : List RowModel) (whole : length took_before ≡ w.pass * w.worker.stages.channel.height)
+    (done : MayHaveDone gas w.worker (does_in (job_of w) w.pass) took gave) (came : w.rx.taken ≡ took_before ++ took)
+    (went : w.tx.put ≡ owes_until gas (job_of w) w.pass took_before ++ gave) where
+  taken_long : length w.rx.taken ≡ w.pass * w.worker.stages.channel.height + length took
+  taken_long = ap (λ (l : List RowModel). length l) came ∙ length-append took_before took ∙ omega (arith, whole)
+
+  put_long : length w.tx.put ≡ w.pass * w.worker.stages.channel.height + length gave
+  put_long =
+      let c = w.worker.stages.channel in
+      let owe : ℕ → List RowModel → List RowModel = λ i q. owed_by gas c w.worker.stages.chirality (does_in (job_of w) i) q in
+      let until : length (owes_until gas (job_of w) w.pass took_before) ≡ w.pass * c.height =
+      owed_high c.height owe (λ i q. owed_by-all gas c w.worker.stages.chirality (does_in (job_of w) i) q) w.pass took_before (omega (arith, whole)) in
+      ap (λ (l : List RowModel). length l) went ∙ length-append (owes_until gas (job_of w) w.pass took_before) gave ∙ omega (arith, until)
+
+  put_few : length w.tx.put ≤ length w.rx.taken
+  put_few = omega (arith, taken_long, put_long, gave_few gas w.worker (does_in (job_of w) w.pass) took gave done)
+
+  put_most : length w.rx.taken ≤ length w.tx.put + length (option_to_list w.worker.waiting) + length w.worker.stages.stages
+  put_most = omega (arith, taken_long, put_long, gave_most gas w.worker (does_in (job_of w) w.pass) took gave done)
+
+-- unless a row waits to be put, it has a spare row
+pub never_without : (gas : Rules) (w : LineWorkerModel) → HasCome gas w → w.worker.waiting ≡ None → 0 < w.rx.held
+never_without gas w was none =
+    let most = put_most gas w was.took_before was.took was.gave was.whole was.done was.came was.went in
+    omega (arith, was.spares.count, most, ap (λ (o : Option RowModel). length (option_to_list o)) none)
+
+one_waits : (o : Option RowModel) → length (option_to_list o) ≤ 1
+one_waits None = omega arith
+one_waits (Some row) = omega arith
 
 -- a step of its worker between its ends
-module _ (gas : Rules) (w : LineWorkerModel) (v : WorkerModel) (r : Receiver) (t : Sender) (same : SameWorker w.worker v) (from : r.belt ≡ w.rx.belt) (to : t.belt ≡ w.tx.belt) where
-  pub same_job : job_of (with_worker w v r t) ≡ job_of w
-  same_job = rw (same.channel, same.chirality, from, to) refl
+module _ {gas : Rules} {w : LineWorkerModel} (was : HasCome gas w) (v : WorkerModel) (r : StockModel) (t : Sender) (same : SameWorker w.worker v) where
+  same_job : r.belt ≡ w.rx.belt → t.belt ≡ w.tx.belt → job_of (with_worker w v r t) ≡ job_of w
+  same_job from to = rw (same.channel, same.chirality, from, to) refl
 
   -- by which the lists of its ends become f and k of what they were
   steps : (f k : List RowModel → List RowModel) → ((a l : List RowModel) → f (a ++ l) ≡ a ++ f l) → ((a l : List RowModel) → k (a ++ l) ≡ a ++ k l) →
-      HasCome gas w → Does gas w.worker f k v → r.taken ≡ f w.rx.taken → t.put ≡ k w.tx.put → HasCome gas (with_worker w v r t)
-  steps f k f_after k_after was does came went = record {
-    took_before = was.took_before;
-    took = f was.took;
-    gave = k was.gave;
-    whole = was.whole ∙ ap (λ (c : ChannelModel). w.pass * c.height) (sym same.channel);
-    done = does _ was.took was.gave was.done;
-    came = came ∙ ap f was.came ∙ f_after was.took_before was.took;
-    went =
-        went ∙ ap k was.went
-        ∙ k_after (owes_until gas (job_of w) w.pass was.took_before) was.gave
-        ∙ ap (λ (j : Job). owes_until gas j w.pass was.took_before ++ k was.gave) (sym same_job);
-  }
+      r.belt ≡ w.rx.belt → t.belt ≡ w.tx.belt → Does gas w.worker f k v → r.taken ≡ f w.rx.taken → t.put ≡ k w.tx.put →
+      (length t.put ≤ length r.taken → length r.taken ≤ length t.put + length (option_to_list v.waiting) + length v.stages.stages → HasSpares (with_worker w v r t)) →
+      HasCome gas (with_worker w v r t)
+  steps f k f_after k_after from to does taken put spares =
+      let whole : length was.took_before ≡ w.pass * v.stages.channel.height = was.whole ∙ ap (λ (c : ChannelModel). w.pass * c.height) (sym same.channel) in
+      let done = does (does_in (job_of w) w.pass) was.took was.gave was.done in
+      let came : r.taken ≡ was.took_before ++ f was.took = taken ∙ ap f was.came ∙ f_after was.took_before was.took in
+      let went : t.put ≡ owes_until gas (job_of (with_worker w v r t)) w.pass was.took_before ++ k was.gave =
+      put ∙ ap k was.went
+      ∙ k_after (owes_until gas (job_of w) w.pass was.took_before) was.gave
+      ∙ ap (λ (j : Job). owes_until gas j w.pass was.took_before ++ k was.gave) (sym (same_job from to)) in
+      record {
+        took_before = was.took_before;
+        took = f was.took;
+        gave = k was.gave;
+        whole = whole;
+        done = done;
+        came = came;
+        went = went;
+        spares =
+            spares (put_few gas (with_worker w v r t) was.took_before (f was.took) (k was.gave) whole done came went)
+            (put_most gas (with_worker w v r t) was.took_before (f was.took) (k was.gave) whole done came went);
+      }
 
   -- it took a row, put a row, or did neither
-  module _ (was : HasCome gas w) where
-    pub came_took : (row : RowModel) → Does gas w.worker (one_more row) (λ l. l) v → r.taken ≡ one_more row w.rx.taken → t.put ≡ w.tx.put → HasCome gas (with_worker w v r t)
-    came_took row does came went = steps (one_more row) (λ l. l) (λ a l. append_assoc a l (row ∷ [])) (λ a l. refl) was does came went
+  pub came_took : (row : RowModel) → stock_takes w.rx row r → t ≡ w.tx → Does gas w.worker (one_more row) (λ l. l) v → HasCome gas (with_worker w v r t)
+  came_took row took rests does =
+      steps (one_more row) (λ l. l) (λ a l. append_assoc a l (row ∷ [])) (λ a l. refl) (ap (λ (s : StockModel). s.belt) took.0) (ap (λ (s : Sender). s.belt) rests) does
+      (ap (λ (s : StockModel). s.taken) took.0) (ap (λ (s : Sender). s.put) rests)
+      (λ few most. record {
+        count =
+            omega (
+              arith,
+              most,
+              one_waits v.waiting,
+              was.spares.count,
+              same.count,
+              ap (λ (s : StockModel). s.held) took.0,
+              ap (λ (s : StockModel). length s.taken) took.0,
+              length-append w.rx.taken (row ∷ []),
+              ap (λ (s : Sender). length s.put) rests,
+            );
+        room = ap (λ (s : StockModel). s.most) took.0 ∙ omega (arith, was.spares.room, same.count);
+      })
 
-    pub came_put : (row : RowModel) → Does gas w.worker (λ l. l) (one_more row) v → r.taken ≡ w.rx.taken → t.put ≡ one_more row w.tx.put → HasCome gas (with_worker w v r t)
-    came_put row does came went = steps (λ l. l) (one_more row) (λ a l. refl) (λ a l. append_assoc a l (row ∷ [])) was does came went
+  pub came_put : (row : RowModel) (spare : Option RowModel) → Sends puts lends w.tx row spare t → MayGet stock_gets w.rx spare r → length row ≡ w.rx.belt.width →
+      Does gas w.worker (λ l. l) (one_more row) v → HasCome gas (with_worker w v r t)
+  came_put row spare sends gets wide does =
+      let put = sent w.tx t row spare sends in
+      let got = stock_got w.rx r w.tx t row spare sends gets in
+      steps (λ l. l) (one_more row) (λ a l. refl) (λ a l. append_assoc a l (row ∷ [])) (ap (λ (s : StockModel). s.belt) got.0) put.1 does
+      (ap (λ (s : StockModel). s.taken) got.0) put.0
+      (λ few most.
+      let longer : length t.put ≡ length w.tx.put + 1 = ap (λ (l : List RowModel). length l) put.0 ∙ length-append w.tx.put (row ∷ []) in
+      let taken : length r.taken ≡ length w.rx.taken = ap (λ (s : StockModel). length s.taken) got.0 in
+      let held : r.held ≡ w.rx.held + 1 = got.1 wide (omega (arith, few, longer, taken, was.spares.count, was.spares.room)) in
+      record {
+        count = omega (arith, held, taken, longer, was.spares.count, same.count);
+        room = ap (λ (s : StockModel). s.most) got.0 ∙ omega (arith, was.spares.room, same.count);
+      })
 
-    pub came_rests : Does gas w.worker (λ l. l) (λ l. l) v → r.taken ≡ w.rx.taken → t.put ≡ w.tx.put → HasCome gas (with_worker w v r t)
-    came_rests does came went = steps (λ l. l) (λ l. l) (λ a l. refl) (λ a l. refl) was does came went
+  pub came_rests : r ≡ w.rx → t ≡ w.tx → Does gas w.worker (λ l. l) (λ l. l) v → HasCome gas (with_worker w v r t)
+  came_rests still rests does =
+      steps (λ l. l) (λ l. l) (λ a l. refl) (λ a l. refl) (ap (λ (s : StockModel). s.belt) still) (ap (λ (s : Sender). s.belt) rests) does
+      (ap (λ (s : StockModel). s.taken) still) (ap (λ (s : Sender). s.put) rests)
+      (λ few most. record { count = rw (still, rests, same.count) was.spares.count; room = rw (still, same.count) was.spares.room })
 
 -- its open pass is closed
-module _ (gas : Rules) (w : LineWorkerModel) (was : HasCome gas w) (closed : IsClosed w.worker) where
+module _ {gas : Rules} {w : LineWorkerModel} (was : HasCome gas w) (closed : IsClosed w.worker) where
   high : length was.took ≡ w.worker.stages.channel.height
   high = was.done.took_all closed.stages
 
@@ -86,8 +159,9 @@ module _ (gas : Rules) (w : LineWorkerModel) (was : HasCome gas w) (closed : IsC
     done = begun;
     came = sym (append-nil w.rx.taken);
     went =
-        owes_pass ∙ ap (λ (j : Job). owes_until gas j (w.pass + 1) w.rx.taken) (sym (same_job gas w v w.rx w.tx same refl refl))
+        owes_pass ∙ ap (λ (j : Job). owes_until gas j (w.pass + 1) w.rx.taken) (sym (same_job was v w.rx w.tx same refl refl))
         ∙ sym (append-nil (owes_until gas (job_of (with_worker w v w.rx w.tx)) (w.pass + 1) w.rx.taken));
+    spares = record { count = rw same.count was.spares.count; room = rw same.count was.spares.room };
   }
 
   -- it was the last
@@ -109,8 +183,9 @@ opened gas v first plan pass k count a n share does begun =
     (subst (λ (es : List (Option ℕ)). MayHaveDone gas v es [] []) does (subst (λ (i : ℕ). MayHaveDone gas v (passes_from a n i) [] []) counted begun))
 
 -- at the start
-pub begins : (gas : Rules) (w : LineWorkerModel) → w.pass ≡ 0 → MayHaveDone gas w.worker (does_in (job_of w) w.pass) [] [] → w.rx.taken ≡ [] → w.tx.put ≡ [] → HasCome gas w
-begins gas w first begun nothing_taken nothing_put = record {
+pub begins : (gas : Rules) (w : LineWorkerModel) → w.pass ≡ 0 → MayHaveDone gas w.worker (does_in (job_of w) w.pass) [] [] → w.rx.taken ≡ [] → w.tx.put ≡ [] → HasSpares w →
+    HasCome gas w
+begins gas w first begun nothing_taken nothing_put spares = record {
   took_before = [];
   took = [];
   gave = [];
@@ -122,11 +197,5 @@ begins gas w first begun nothing_taken nothing_put = record {
       ∙ sym (append-nil (owes_until gas (job_of w) w.pass [])
       ∙ ap (λ (n : ℕ). owes_until gas (job_of w) n []) first
       ∙ owed_none w.worker.stages.channel.height (λ i. owed_by gas w.worker.stages.channel w.worker.stages.chirality (does_in (job_of w) i)) []);
+  spares = spares;
 }
-
--- a worker that has finished put as many rows as it took
-pub put_long : (gas : Rules) (j : Job) (taken put : List RowModel) → HasFinished gas j taken put → length put ≡ div_ceil j.plan.generations j.plan.stages * j.channel.height
-put_long gas j taken put ran =
-    let n = div_ceil j.plan.generations j.plan.stages in
-    ap length ran.owes_is
-    ∙ owed_high j.channel.height (λ i. owed_by gas j.channel j.chirality (does_in j i)) (λ i l. owed_by-all gas j.channel j.chirality (does_in j i) l) n taken (omega (arith, ran.whole))

@@ -112,11 +112,13 @@ impl<'a, G: Gas> LineWorker<'a, G> {
         true
     }
 
-    /// Makes a turn, or opens the next pass.
+    /// Makes a turn, or opens the next pass. Unless a row waits to be put, the end that it takes from
+    /// has a spare row then.
     pub(crate) fn turn<H: Gate>(&mut self, gate: &H, waiter: &mut Waiter<'_>) -> Turn
         requires come { HasCome G.rules self.old }
         ensures job { job_of self.new ≡ job_of self.old }
         ensures come { HasCome G.rules self.new }
+        ensures never_without { self.new.worker.waiting ≡ None → 0 < self.new.rx.held }
         ensures over { result ≡ Over →
             HasFinished G.rules (job_of self.new) self.new.rx.taken self.new.tx.put }
     {

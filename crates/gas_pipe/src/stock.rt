@@ -1,5 +1,5 @@
 //! The end of a belt that a worker of a run takes rows from.
-ghost use Rattle.std.specs.Prelude.{◌≡◌, ◌+◌, ◌-◌, ◌≤◌, ◌++◌, ◌∷◌, [], length, vec_len, All, IfOk};
+ghost use Rattle.std.specs.Prelude.{◌≡◌, ◌+◌, ◌-◌, ◌<◌, ◌≤◌, ◌++◌, ◌∷◌, [], length, vec_len, vec_capacity, All, IfOk};
 
 use gas_belt::rx::Rx;
 use gas_geom::gas::Gas;
@@ -18,12 +18,17 @@ pub struct Stock<G: Gas> {
 }
 
 impl<G: Gas> Model for Stock<G> {
-    ghost use Rattle.std.specs.Prelude.{◌≡◌, ◌+◌, ◌<◌, length, All, vec_len};
-    ghost use Rattle.gas_belt.specs.Belt.{Receiver};
+    ghost use Rattle.std.specs.Prelude.{◌≡◌, ◌+◌, ◌<◌, length, All, vec_len, vec_capacity};
+    ghost use Rattle.gas_pipe.specs.Inner.Worker.{StockModel};
 
-    ghost Value = { Receiver };
+    ghost Value = { StockModel };
 
-    ghost view = { λ s. record s.rx { held = s.rx.held + vec_len s.spares } };
+    ghost view = { λ s. record {
+      belt = s.rx.belt;
+      taken = s.rx.taken;
+      held = s.rx.held + vec_len s.spares;
+      most = 2 + vec_capacity s.spares;
+    } };
 
     ghost invariant = { λ s. record {
       belt_wide : s.rx.belt.width ≡ s.width;
@@ -38,10 +43,11 @@ fn make_spares<G: Gas>(alloc: Global, width: u32, count: u32) -> Result<Vec<Row<
     requires few_cells { width ≤ 65536 }
     ensures wide { IfOk result (λ spares. All (λ row. length row ≡ width) spares.items) }
     ensures count { IfOk result (λ spares. vec_len spares ≡ count) }
+    ensures places { IfOk result (λ spares. vec_capacity spares ≡ count) }
 {
     let mut spares = Vec::with_capacity(alloc, count as usize)?;
     for k in 0..count {
-        spares.push(Row::blank(alloc, width)?)?;
+        spares.push_reserved(Row::blank(alloc, width)?);
     }
     Ok(spares)
 }
@@ -54,9 +60,12 @@ impl<G: Gas> Stock<G> {
         requires some_stages { 1 ≤ stages }
         requires wide { rx.belt.width ≡ width }
         requires two_spares { rx.held ≡ 2 }
-        ensures belt { IfOk result (λ s. s.belt ≡ rx.belt) }
-        ensures taken { IfOk result (λ s. s.taken ≡ rx.taken) }
-        ensures spares { IfOk result (λ s. s.held ≡ stages + 1) }
+        ensures fresh { IfOk result (λ s. s ≡ record {
+          belt = rx.belt;
+          taken = rx.taken;
+          held = stages + 1;
+          most = stages + 1;
+        }) }
     {
         Ok(Stock {
             rx,
@@ -81,7 +90,8 @@ impl<G: Gas> TakeEnd<Row<G>> for Stock<G> {
 
     ghost ready = { λ _. ⊥ };
 
-    ghost gets = { λ old row new. new ≡ record old { held = new.held } };
+    ghost gets = { λ old row new. (new ≡ record old { held = new.held })
+        × (length row ≡ old.belt.width → old.held < old.most → new.held ≡ old.held + 1) };
 
     #[inline(always)]
     fn try_take(&mut self) -> Option<Row<G>> {

@@ -1,6 +1,6 @@
 -- Inner words: what functions of this crate promise one another. No public contract cites them.
 -- A worker of a run with its passes, and what it promises of the lists of its two ends.
-use Rattle.std.specs.Prelude.{◌≡◌, ℕ, suc, ◌*◌, ◌++◌, List, [], length, Option}
+use Rattle.std.specs.Prelude.{◌≡◌, ℕ, suc, ◌+◌, ◌*◌, ◌++◌, List, [], length, Option}
 use Rattle.std.specs.Int.{div_ceil}
 use Rattle.gas_geom.specs.Gas.{Rules}
 use Rattle.gas_geom.specs.Channel.{ChannelModel}
@@ -23,6 +23,13 @@ pub record Job : Type 0 where
   pub from : Belt
   pub to : Belt
 
+-- the end that a worker takes from: its belt, all rows taken from it, in order, the number of its spare rows, and how many it has room for
+pub record StockModel : Type 0 where
+  pub belt : Belt
+  pub taken : List RowModel
+  pub held : ℕ
+  pub most : ℕ
+
 -- a worker's number, the first generation, the plan, the open pass, the worker itself, and its ends; numbers and passes are counted from 0
 pub record LineWorkerModel : Type 0 where
   pub number : ℕ
@@ -30,7 +37,7 @@ pub record LineWorkerModel : Type 0 where
   pub plan : PlanModel
   pub pass : ℕ
   pub worker : WorkerModel
-  pub rx : Receiver
+  pub rx : StockModel
   pub tx : Sender
 
 -- the ends of a worker that is over
@@ -71,8 +78,13 @@ owes_until gas j n took =
     owed_in j.channel.height
     (owes_in gas (record { chirality = j.chirality; first = j.first; lattice = record { channel = j.channel; rows = [] }; plan = j.plan }) j.number) n took
 
+-- The end that it takes from has a spare row for each stage and one more, less the rows that it took and has not put, and has room for all.
+pub record HasSpares (w : LineWorkerModel) : Type 0 where
+  pub count : w.rx.held + length w.rx.taken ≡ length w.worker.stages.stages + 1 + length w.tx.put
+  pub room : w.rx.most ≡ length w.worker.stages.stages + 1
+
 -- In the passes before the open one it took all rows and put all that it owes for them, and in the open one it may have taken and put
--- the rest.
+-- the rest. Its spare rows are counted.
 pub record HasCome (gas : Rules) (w : LineWorkerModel) : Type 0 where
   pub took_before : List RowModel
   pub took : List RowModel
@@ -81,6 +93,7 @@ pub record HasCome (gas : Rules) (w : LineWorkerModel) : Type 0 where
   pub done : MayHaveDone gas w.worker (does_in (job_of w) w.pass) took gave
   pub came : w.rx.taken ≡ took_before ++ took
   pub went : w.tx.put ≡ owes_until gas (job_of w) w.pass took_before ++ gave
+  pub spares : HasSpares w
 
 -- it took all rows of all passes, and put all that it owes for them
 pub record HasFinished (gas : Rules) (j : Job) (taken put : List RowModel) : Type 0 where

@@ -7,6 +7,7 @@ pub loop-k-preserved : goal.loop-k-preserved
 loop-k-preserved g c =
     let wide : List ℕ → Type 0 = λ row. length row ≡ c.args.width in
     record {
-      wide = subst (All wide) (sym c.in_ok-push.ensures.items) (All-push wide c.loop-k.spares.items _ c.loop-k.invariant.wide (ap (λ (l : List ℕ). length l) c.in_ok-blank.ensures.value ∙ length-replicate c.args.width 0));
-      count = c.in_ok-push.ensures.len ∙ ap (λ (n : ℕ). n + 1) c.loop-k.invariant.count;
+      wide = subst (All wide) (sym c.push_reserved.ensures.items) (All-push wide c.loop-k.spares.items _ c.loop-k.invariant.wide (ap (λ (l : List ℕ). length l) c.in_ok-blank.ensures.value ∙ length-replicate c.args.width 0));
+      count = c.push_reserved.ensures.len ∙ ap (λ (n : ℕ). n + 1) c.loop-k.invariant.count;
+      places = c.push_reserved.ensures.capacity ∙ c.loop-k.invariant.places;
     }

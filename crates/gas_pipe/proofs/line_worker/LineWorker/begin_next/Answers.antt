@@ -9,23 +9,14 @@ use Rattle.gas_pipe.proofs.line_worker.LineWorker.begin_next.Goals as goal
 pub returns-then-self-passes-clause-over : goal.returns-then-self-passes-clause-over
 returns-then-self-passes-clause-over g c _ =
     let last = subst (λ (w : LineWorkerModel). w.pass + 1 ≡ div_ceil w.plan.generations w.plan.stages) c.self.view_is (c.if-self-passes.true ∙ c.passes.ensures.value) in
-    finishes g.G.Gas.rules c.args.self.now c.requires.come c.requires.closed last
+    finishes c.requires.come c.requires.closed last
 
 pub returns-clause-come : goal.returns-clause-come
 returns-clause-come g c =
     let old = c.self.inside in
-    let w : LineWorkerModel = record {
-      number = old.share.number;
-      first = old.span.first;
-      plan = old.span.plan;
-      pass = old.pass;
-      worker = old.worker;
-      rx = old.rx;
-      tx = old.tx;
-    } in
     let came = subst (λ (i : LineWorkerModel). HasCome g.G.Gas.rules i) (sym c.self.view_is) c.requires.come in
     let closed = subst (λ (i : LineWorkerModel). IsClosed i.worker) (sym c.self.view_is) c.requires.closed in
-    opens g.G.Gas.rules w came closed c.begin_stages.new.self c.begin_stages.ensures.same
+    opens came closed c.begin_stages.new.self c.begin_stages.ensures.same
     (opened g.G.Gas.rules c.begin_stages.new.self old.span.first old.span.plan (old.pass + 1) old.share.number _ _ _ c.self.invariant.stages c.generations-first.ensures.passes c.begin_stages.ensures.nothing_done)
 
 pub generations-first-requires-clause-pass : goal.generations-first-requires-clause-pass

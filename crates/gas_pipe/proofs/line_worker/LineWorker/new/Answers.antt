@@ -1,12 +1,14 @@
-use Rattle.std.proofs.Common.{◌≡◌, ◌+◌, refl, ap, sym, subst, ◌∙◌, ℕ, length}
+use Rattle.std.proofs.Common.{◌≡◌, ◌+◌, refl, ap, sym, subst, ◌∙◌, ℕ, List, length, arith}
+use Rattle.gas_rows.specs.Row.{RowModel}
 use Rattle.gas_pipe_model.specs.Plan.{before}
 use Rattle.gas_pipe_model.specs.Pass.{RunInputModel}
-use Rattle.gas_pipe.specs.Inner.Worker.{LineWorkerModel}
+use Rattle.gas_pipe.specs.Inner.Worker.{StockModel, LineWorkerModel}
 use Rattle.gas_pipe.proofs.Workers.{begins, opened}
 use Rattle.gas_pipe.proofs.line_worker.LineWorker.new.Goals as goal
 
 pub returns-clause-come : goal.returns-clause-come
 returns-clause-come g c =
+    let fresh = c.in_ok-new.ensures.fresh in
     let span = c.input.inside.span in
     let number = c.args.share.number in
     let w : LineWorkerModel = record {
@@ -22,4 +24,17 @@ returns-clause-come g c =
     let all : before span.plan number + length c.in_ok-worker.worker.stages.stages ≡ before span.plan (number + 1) = ap (λ (n : ℕ). before span.plan number + n) c.in_ok-worker.ensures.count ∙ share in
     begins g.G.Gas.rules w refl
     (opened g.G.Gas.rules c.begin_stages.new.self span.first span.plan 0 number _ _ _ all c.generations-first.ensures.passes c.begin_stages.ensures.nothing_done)
-    (c.in_ok-new.ensures.taken ∙ c.requires.nothing_taken) c.requires.nothing_put
+    (ap (λ (s : StockModel). s.taken) fresh ∙ c.requires.nothing_taken) c.requires.nothing_put
+    (record {
+      count =
+          omega (
+            arith,
+            ap (λ (s : StockModel). s.held) fresh,
+            ap (λ (s : StockModel). length s.taken) fresh,
+            ap (λ (l : List RowModel). length l) c.requires.nothing_taken,
+            ap (λ (l : List RowModel). length l) c.requires.nothing_put,
+            c.begin_stages.ensures.same.count,
+            c.in_ok-worker.ensures.count,
+          );
+      room = ap (λ (s : StockModel). s.most) fresh ∙ omega (arith, c.begin_stages.ensures.same.count, c.in_ok-worker.ensures.count);
+    })

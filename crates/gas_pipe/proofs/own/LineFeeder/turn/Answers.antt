@@ -1,8 +1,7 @@
 use Rattle.std.proofs.Common.{ap, sym, subst}
 use Rattle.gas_belt.specs.Belt.{Sender, Receiver}
 use Rattle.gas_pipe.specs.Inner.Feeder.{LineFeederModel, HasFed}
-use Rattle.gas_pipe.proofs.Workers.{one_more}
-use Rattle.gas_pipe.proofs.Ends.{took, sent}
+use Rattle.gas_pipe.proofs.Ends.{one_more, took, sent}
 use Rattle.gas_pipe.proofs.Feeders.{fed_on}
 use Rattle.gas_pipe.proofs.own.LineFeeder.turn.Goals as goal
 use Rattle.gas_pipe.proofs.own.LineFeeder.turn.Goals.{in-Took, in-Put, in-Done, in-Idle}
