@@ -43,8 +43,10 @@ SEED = "1"
 
 def build(room):
     """Builds all that is measured, the C programs into a folder. Returns the level that all are built for."""
-    subprocess.run(["make", "-C", ROOT, "fhpgas", "probes"], stdout=sys.stderr, check=True)
+    subprocess.run(["make", "-C", ROOT], stdout=sys.stderr, check=True)
     level = LEVEL.read_text().strip()
+    words = ["--cpu", level, "--", *map(str, KEY_STREAM[1:]), "0"]
+    subprocess.run(["rt", "run", *words], cwd=PROBES.parents[1], stdout=sys.stderr, check=True)
     for name in C_PROGRAMS:
         words = [
             "-O3",

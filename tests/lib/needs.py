@@ -72,17 +72,18 @@ def run_tests():
 
 def built_program(name="fhpgas"):
     """The path of a program: of fhpgas the one that FHPGAS names or an unpacked archive has, of all
-    others the one that make leaves. The programs that a script starts use it too."""
-    path = ROOT / f"crates/{name}/out/{name}"
+    others the one that rt leaves. The programs that a script starts use it too."""
+    target = f"crates/{name}/out/{name}"
+    path = ROOT / target
     if name == "fhpgas":
         is_archive = not (ROOT / "crates.txt").exists()
         own = ROOT / "fhpgas" if is_archive else path
         path = pathlib.Path(os.environ.get("FHPGAS") or own).absolute()
-        is_new = is_archive or subprocess.run([ROOT / "tools/is_built"]).returncode == 0
+        is_new = is_archive or not subprocess.call(["make", "-sqC", ROOT, target])
         if path != own or not is_new:
             os.environ["FHPGAS"] = str(path)
     if not path.exists():
-        stop(f"{path} is missing: run make {name} first, or let FHPGAS name a program")
+        stop(f"{path} is missing: run make, or rt run in its crate, or let FHPGAS name one")
     return path
 
 

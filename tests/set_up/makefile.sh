@@ -1,66 +1,48 @@
 #!/bin/bash
-# Tries ./fhpgas and the Makefile on four small crates, with stubs for the kit and for wasm-opt: the prover only notes which crate it was
-# called for, and "proves" a crate unless it contains a file `refused`, whose text it prints. A library states the first line of its source.
-# At last the kit itself refuses a wrong body. Ends with the counts.
+# Tries ./fhpgas and the Makefile on four small crates, with stubs for the kit and for wasm-opt: rt notes the crate that it is called in, and
+# "builds" it unless that contains a file `refused`, whose text it prints. At last the kit itself refuses a wrong body. Ends with the counts.
 . "$(dirname "$0")/../lib/try.sh"
 
-top=$room/top kit=$room/kit
-mkdir -p "$kit"/{bin,rlibs,toolchain/bin} "$top"/crates/{low,high,inside,fhpgas}/src "$top"/{python/fhpgas,page}
+export top=$room/top kit=$room/kit room
+mkdir -p "$kit"/{bin,toolchain/bin} "$top"/crates/{low,tests,gas_export,fhpgas}/{src,must-fail} "$top"/{python/fhpgas,page}
 cp -r Makefile fhpgas tools include "$top"
 tee "$top"/tools/{archive,release}.sh > /dev/null << 'END'
 #!/bin/sh
-mkdir -p "${1%/*}" && cp "$2" "$1"
+mkdir -p "${1%/*}" && cp "$2" "$1" && cp "${2%/*}/level" "$1.level"
 END
-printf '# the crates\nlow: core\nhigh: low clap\ninside staticlib: high\n\nfhpgas: high\n' > "$top/crates.txt"
-tee "$top"/crates/{low,high,inside}/src/lib.rt > "$top/crates/fhpgas/src/main.rt" <<< $'stated\nproved'
-echo 1 | tee "$kit/KIT-ID" > "$kit/WHAT"
-cat > "$kit/bin/rt" << END
-#!/bin/sh
+printf '# the crates\nlow: core\ngas_export staticlib: low\n\nfhpgas: low clap\ntests: low\n' > "$top/crates.txt"
+touch "$top"/crates/{low,tests,gas_export}/src/lib.rt "$top/crates/fhpgas/src/main.rt"
+cat > "$kit/bin/rt" << 'END'
+#!/bin/bash
 [ ! -e "$room/no_kit" ] || { cat "$room/no_kit" >&2; exit 127; }
-echo "$kit/START-HERE.md"
-END
-cat > "$kit/bin/rattle" << END
-#!/bin/bash
-[ -e out/new/proved ] || echo "\${PWD##*/}" >> "$room/proved"
-[[ \$* != *--incremental* ]] || mkdir -p out/new/proved
+[ "$1" != doc ] || { echo "$kit/START-HERE.md"; exit; }
+echo "${PWD##*/}" >> "$room/built"
+echo half | tee out/fhpgas out/libgas_export.a > "$room/begun"
+[ ! -e slow ] || sleep 2
 [ ! -e refused ] || { cat refused; exit 1; }
-[ ! -e slow ] || { touch "$room/begun"; sleep 2; }
-while [ "\$1" != -o ]; do shift; done
-case \$2 in *.rlib) mkdir "\$2" && head -n 1 src/lib.rt > "\$2/format" ;; *) cat src/* > "\$2" ;; esac
-END
-cat > "$kit/toolchain/bin/ld.lld" << 'END'
-#!/bin/bash
-for word; do case $word in -Map=*) echo map > "${word#-Map=}" ;; esac; done
-words=$*
-while [ "$1" != -o ]; do shift; done
-echo "$words" > "$2"
-END
-cat > "$kit/bin/wasm-opt" << END
-#!/bin/bash
-[ -e "$room/lowers" ] || exit 127
-[ "\$1" != --version ] || exec cat "$room/lowers"
-while [ "\$1" != -o ]; do shift; done
-echo module > "\$2"
+printf 'crate %s: modules loaded=1 checked=1\nlogic=proved\n' "${PWD##*/}"
+printf '#!/bin/sh\necho "words $*"\ncat\nexit 3\n' > out/fhpgas && chmod +x out/fhpgas
 END
 cat > "$kit/bin/rattle-link" << 'END'
 #!/bin/bash
-while [ "$1" != -o ]; do shift; done
-printf '#!/bin/sh\necho "words $*"\ncat\nexit 3\n' > "$2" && chmod +x "$2"
+words=$*
+while [ $# != 0 ]; do [ "$1" != -o ] || echo "$words" > "$2"; shift; done
 END
-chmod +x "$kit"/{,toolchain/}bin/*
-without_stubs=$PATH
-PATH=$kit/bin:$PATH
+chmod +x "$kit/bin"/* && cp "$kit/bin/rattle-link" "$kit/toolchain/bin/ld.lld"
+with_all=$PATH
+ln -s /usr/bin/* "$kit/bin" && rm -f "$kit/bin/wasm-opt"
+PATH=$kit/bin
 cd "$top" || exit 1
 
-# proves WANTED COMMAND..: whether the command ends well and these crates are proved for it, each once
-proves() {
-    : > "$room/proved"
-    if "${@:2}" && [ "$(sort "$room/proved")" = "$(printf '%s' "$1" | tr ' ' '\n' | sort)" ]; then return; fi
-    cat "$room/proved" "$room/told"
+# builds WANTED COMMAND..: whether the command ends well and rt is called in these crates for it, in no other
+builds() {
+    : > "$room/built"
+    if "${@:2}" && [ "$(sort -u "$room/built")" = "$(printf '%s' "$1" | tr ' ' '\n')" ]; then return; fi
+    cat "$room/built" "$room/told"
     return 1
 }
 
-# shellcheck disable=SC2120 # words come through proves
+# shellcheck disable=SC2120 # words come through builds
 build() { make "$@" > "$room/told" 2>&1; }
 
 # launch: ./fhpgas passes words, input and status on
@@ -71,115 +53,100 @@ launch() {
 
 quietly() { launch && [ ! -s "$room/told" ]; }
 
-# fails: ./fhpgas ends with status 70, prints nothing, and names the log
+# fails: ./fhpgas ends with status 70, prints nothing, and says this
 fails() {
     ./fhpgas > "$room/printed" 2> "$room/told" < /dev/null
     [ $? = 70 ] && [ ! -s "$room/printed" ] && grep -q "$1" "$room/told"
 }
 
-try 'a missing program is built' proves 'low high inside fhpgas' launch
-try 'each crate is told as it is done' grep -qE '^high proved in [0-9]+ s \(2 of 4, about [0-9]+ min left\)$' "$room/told"
-for level in x86-64-v2 x86-64-v3; do try "the package has the engine for $level" grep -q $level python/fhpgas/libfhpgas-$level.so; done
+# edit FILE: a source is newer than what was built
+edit() { echo edited >> "crates/$1"; }
+
+try 'a missing program is built, and the engine' builds 'fhpgas gas_export' launch
+try 'each crate is told as it is proved' grep -qx 'fhpgas is proved' "$room/told"
+for level in v2 v3; do try "the package has the engine for $level" [ -s python/fhpgas/libfhpgas-x86-64-$level.so ]; done
 try 'the name of the library has the number of the interface' \
     grep -q "libfhpgas.so.$(sed -n 's/^#define FHPGAS_INTERFACE //p' include/fhpgas.h) " python/fhpgas/libfhpgas-x86-64-v2.so
 try 'it says what the page lacks' grep -q 'page/engine.js is left out: apt-get install binaryen' "$room/told"
 try 'and leaves it out' [ ! -e page/engine.js ]
-echo 1 > "$room/lowers"
-try 'where wasm-opt is there the module is built' proves 'inside' build
-try 'beside the page, in base64' [ "$(cat page/engine.js)" = "globalThis.FHPGAS_ENGINE = \"$(echo module | base64)\";" ]
-rm page/engine.js
-try 'and again if it is gone' proves 'inside' build
-try 'what is built is run' proves '' quietly
-touch crates/low/src/lib.rt
-try 'a source with another time alone proves nothing' proves '' quietly
-try 'and is looked at once' tools/is_built
-echo 'proved otherwise' >> crates/high/src/lib.rt
-try 'a crate is proved again where its source changed' proves 'high' launch
-sed -i 's/stated/stated otherwise/' crates/low/src/lib.rt
-try 'and those above where its statements did' proves 'low high inside fhpgas' launch
-echo 2 > "$kit/KIT-ID"
-try 'another kit proves all' proves 'low high inside fhpgas' build processors=1 costs='low:99 fhpgas:450'
-try 'and the minutes left are those of the crates left' grep -q '^high .* about 10 min left)$' "$room/told"
-rm -r crates/low/out
-try 'what rt took away is built again' proves 'low' build
-rm crates/high/out/rlib/high.rlib/format
-try 'so is what was changed since' proves 'high' build
-rm -r crates/low/out
-echo 'edited' >> crates/inside/src/lib.rt
-mkdir -p crates/low/out/rlib/low.rlib && echo stated by rt > crates/low/out/rlib/low.rlib/format
-try 'a crate is built over what rt left' proves 'inside' build AS_IS=1 inside
-rm -r crates/low/out
-build
-try 'another level needs the program alone' proves 'fhpgas' build CPU=x86-64-v0
-try 'one of a level that no machine has is built again' proves 'fhpgas' launch
-try 'a crate is built by its name' proves '' build high
-cp -r crates/fhpgas/out "$room/own"
-try 'an archive needs the program alone, for its level' proves 'fhpgas' build archive FILE="$room/packed"
-try 'it is packed' cmp "$room/packed" crates/fhpgas/out/v2/fhpgas
-try 'with its level beside it' [ "$(cat crates/fhpgas/out/v2/level)" = x86-64-v2 ]
-for file in fhpgas level sums; do try "the own $file is left as it was" cmp "$room/own/$file" "crates/fhpgas/out/$file"; done
-try 'and is run' proves '' quietly
-try 'a second archive proves nothing' proves '' build archive FILE="$room/packed"
-try 'so does a release' proves '' build release
-try 'which is of the same program' cmp out/release crates/fhpgas/out/v2/fhpgas
+try 'what is built is run' builds '' quietly
+try 'make builds nothing' builds '' build
+try 'and says so' grep -q 'Nothing to be done' "$room/told"
+cp "$kit/bin/"{rattle-link,wasm-opt}
+try 'where wasm-opt is there the module is built' builds 'gas_export' build
+try 'beside the page, in base64' [ "$(cat page/engine.js)" = "globalThis.FHPGAS_ENGINE = \"$(base64 -w 0 crates/gas_export/out/new/engine.wasm)\";" ]
+edit fhpgas/src/main.rt
+try 'a program is built again where its source changed' builds 'fhpgas' launch
+edit low/src/lib.rt
+try 'both where a source below did' builds 'fhpgas gas_export' launch
+rm crates/low/src/lib.rt
+try 'or is gone' builds 'fhpgas gas_export' launch
+edit tests/src/lib.rt && edit low/must-fail/no.edit
+try 'other files build nothing' builds '' quietly
+try 'another level needs the program alone' builds 'fhpgas' build CPU=x86-64-v0
+try 'one of a level that no machine has is built again' builds 'fhpgas' launch
+touch crates/fhpgas/out/fhpgas
+try 'so is one that rt built' builds 'fhpgas' launch
+try 'an archive needs the program alone, for its level' builds 'fhpgas' build archive FILE="$room/packed"
+try 'it is packed' grep -qx x86-64-v2 "$room/packed.level"
+try 'a release too' builds 'fhpgas' build release
+try 'and the next is for this machine again' builds 'fhpgas' launch
+try 'with its level beside it' grep -qx "$(tools/level)" crates/fhpgas/out/level
 
 { # what a real check said of a body that is wrong, before twenty lines about libraries
     echo 'note: src/rectangle.rt:29:5: it is not proved that what the function ensures holds when it returns'
     echo 'fn gas_layout::rectangle::Rectangle::fits: no proof: expected answers in ./proofs/rectangle/Rectangle/fits/Answers.antt'
     yes 'statements core: modules loaded=933 checked=0' | head -n 20
-} > crates/high/refused
-echo 'proved again' >> crates/high/src/lib.rt
+    echo 'rt: the library low did not build, so nothing above it was checked'
+} > crates/fhpgas/refused
 try 'a build that fails ends with status 70, and says what is not proved' fails 'rectangle.rt:29:5: it is not proved'
 try 'and where' fails 'Rectangle::fits: no proof'
-try 'and names its log' fails 'the whole log is crates/high/out/build.log'
-try 'and leaves no library' [ ! -e crates/high/out/rlib ]
-echo 'something else' > crates/high/refused
+try 'and in which crate, and names its log' fails 'crate low was not built; the whole log is crates/fhpgas/out/build.log'
+echo 'something else' > crates/fhpgas/refused
 try 'of a log that is not understood the end is shown' fails 'something else'
-rm crates/high/refused
-with_kit=$PATH PATH=/usr/bin:/bin
+rm crates/fhpgas/refused
+build
+edit fhpgas/src/main.rt
+mv "$kit/bin/rt" "$room/rt"
 try 'without the kit a program that is older than its sources runs' launch
 try 'with a warning' grep -q 'this program is older than its sources' "$room/told"
-mv crates/fhpgas/out/fhpgas "$room/fhpgas"
+rm crates/fhpgas/out/fhpgas
 try 'and without a program one sentence says what is missing' fails 'the command rt of the Rattle kit, which builds it, is not on the PATH'
 try 'and no more' [ "$(wc -l < "$room/told")" = 1 ]
-mv "$room/fhpgas" crates/fhpgas/out/fhpgas
-PATH=$with_kit
+mv "$room/rt" "$kit/bin/rt"
 echo "env: 'python3': No such file" > "$room/no_kit"
 try 'a kit that does not run ends with status 70 too, and what it said is shown' fails "the Rattle kit does not answer.*: env: 'python3': No such file"
 rm "$room/no_kit"
-touch crates/high/slow
-setsid make > "$room/told" 2>&1 &
-while [ ! -e "$room/begun" ]; do sleep 0.1; done
-kill -- -$!
-wait $! 2> /dev/null
-try 'one that is interrupted leaves no library' [ ! -e crates/high/out/rlib ]
-rm crates/high/slow
-build
-touch crates/fhpgas/slow
-echo 'edited' >> crates/fhpgas/src/main.rt
-rm "$room/begun"
-build &
-while [ ! -e "$room/begun" ]; do sleep 0.1; done
-echo 'edited' >> crates/low/src/lib.rt
-wait
-rm crates/fhpgas/slow
-try 'a source that is edited during a build is newer' bash -c '! tools/is_built'
-try 'and is built next' proves 'low' launch
-echo 'edited' >> crates/high/src/lib.rt
-: > "$room/proved"
-make > /dev/null & make > /dev/null
-wait
-try 'two at once prove each crate once' [ "$(paste -sd ' ' "$room/proved")" = 'high' ]
+
+# meanwhile COMMAND..: runs a build that takes a while, and this in the middle of it
+meanwhile() {
+    rm "$room/begun" && touch crates/fhpgas/slow
+    setsid make > "$room/told" 2>&1 &
+    while [ ! -s "$room/begun" ]; do sleep 0.1; done
+    "$@"
+    wait $!
+    rm crates/fhpgas/slow
+}
+interrupt() { kill -- -$!; }
+meanwhile interrupt 2> "$room/ended"
+try 'half a program of an interrupted build is built anew' builds 'fhpgas' launch
+edit fhpgas/src/main.rt
+meanwhile edit fhpgas/src/main.rt
+try 'a source that is edited during a build is newer' builds 'fhpgas' launch
+edit fhpgas/src/main.rt
+: > "$room/built"
+meanwhile make > /dev/null
+try 'of two at once one builds' [ "$(paste -sd ' ' "$room/built")" = 'fhpgas' ]
 try 'and then it is run' quietly
 
 # and the kit itself, if it is here, on a body that does not do what its contract says
-PATH=$without_stubs
+PATH=$with_all
 if has rt 'a wrong body'; then
-    mkdir -p crates/wrong/src
-    echo 'wrong:' > crates.txt
+    printf '%s\n' 'wrong:' 'fhpgas: wrong' > crates.txt
+    mkdir -p crates/wrong/src && echo 'fn main() {}' > crates/fhpgas/src/main.rt
     printf '%s\n' '#![tactic(auto)]' 'ghost use Rattle.std.specs.Prelude.{◌≡◌};' '/// Two.' 'pub fn two() -> u32' \
         '    ensures value { result ≡ 2 }' '{' '    1' '}' > crates/wrong/src/lib.rt
-    make wrong > "$room/told" 2>&1
-    try 'the kit refuses a wrong body, and the build says where' grep -qE '^note: src/lib.rt:4:1: it is not proved' "$room/told"
+    try 'the kit refuses a wrong body, and the build says where' fails '^note: src/lib.rt:4:1: it is not proved'
+    try 'and in which crate' grep -q '^crate wrong was not built' "$room/told"
 fi
 tell

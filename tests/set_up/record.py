@@ -48,7 +48,7 @@ def checksums():
 def verdicts():
     """What the builds of the engine said: for each target the axioms that it reaches, and the verdict."""
     log = (needs.ROOT / "crates/gas_export/out/build.log").read_text()
-    return re.findall(r"^(?:axioms|logic=).*", log, re.M)
+    return re.findall(r"^(?:axioms |logic=.* target=).*", log, re.M)
 
 
 def main():
