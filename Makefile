@@ -5,15 +5,13 @@
 #   make quick            runs the tests for the time between edits, which prove nothing
 #   make package          runs the tests of the package, the notebook and the page, on the program that FHPGAS names
 #   make test             sets up what is missing (SETUP=no: nothing), proves all from scratch, and runs every test
-#   make install          puts what is built into PREFIX (/usr/local): the program, and the header and the library for C
-#   make uninstall        takes it out again
+#   make install          puts what is built into PREFIX (/usr/local): the program, and the header and the library for C; make uninstall removes it
 #   make page             bundles page/src, and the kernel by plain Rust, into page/fhpgas.html, by esbuild
 #   make definitions      writes the definitions that all promises rest on to out/DEFINITIONS.md
 #   make plain            builds fhpgas and the library for C by plain Rust, without the kit and not proved, into out/plain
 #   make wheel            packs the Python package into out/, with program and engine for Linux, and without them for other systems
 #   make archive FILE=F   packs fhpgas, built for x86-64-v2, into F, a .tar.gz for machines without the kit
-#   make release          makes out/release with all that is handed out: archive, wheels, plain Rust, page, record, a lesson, and their sums
-#                         (DRAFT=yes: without record or reference too)
+#   make release          makes out/release with all that is handed out, and their sums (DRAFT=yes: without record or reference too)
 #   make clean            removes all that was built
 SHELL := /bin/bash
 .SHELLFLAGS := -euo pipefail -c
@@ -55,7 +53,8 @@ files = crates.txt $(shell find $(call below,$1) -mindepth 1 \( -name out -o -na
 # what is proved, or what is not.
 define begin
 exec {held}< crates.txt
-flock -n $$held || { echo 'waiting for another make to end'; flock $$held; ! make -sq CPU=$(CPU) $@ || exit 0; }
+flock -n $$held || { echo 'waiting for another make to end'; flock $$held; }
+! make -sq CPU=$(CPU) $@ || exit 0
 said=$$(rt doc 2>&1) || { echo "the Rattle kit does not answer, see README.md: $$said" >&2; exit 1; }
 cd crates/$1
 mkdir -p out && rm -f out/level && touch out/begun

@@ -15,6 +15,9 @@ needs_libc() {
     ldd "$folder/fhpgas" > "$room/needed" && ! grep -vE '^\s*(linux-vdso\.so\.1|(/lib64/)?ld-linux-x86-64\.so\.2|lib(c|m)\.so\.6) ' "$room/needed"
 }
 
+# lists: make prints its help, and no error
+lists() { ! make -sC "$folder" 2>&1 | grep -v '^make \|^   '; }
+
 # runs_inside: the package runs a lattice by its own engine, and makes the cells that the program makes
 runs_inside() {
     alone python3 -c 'import fhpgas
@@ -23,9 +26,6 @@ assert start.run(9) == fhpgas.run(start.scene(), 9)'
 }
 
 python=$(tests/lib/needs.py | sed -n 1p)
-# number FILES..: how many they are
-number() { echo $#; }
-
 # has_files FILES..: whether the release has these files, which are not empty
 has_files() { local file; for file; do [ -s "$room/release/$file" ] || { echo "$file is missing"; return 1; }; done; }
 
@@ -43,7 +43,7 @@ try 'the release is made' env DRAFT=yes tools/release.sh "$room/release"
 version=$(crates/fhpgas/out/fhpgas --version | cut -d ' ' -f 2)
 archive=fhpgas-$version-linux-x86-64.tar.gz
 try 'it has archive, page and lesson' has_files "$archive" fhpgas.html LESSON.md NOTICES.md LICENSE-MIT LICENSE-APACHE
-try 'it has a wheel for Linux and one for all systems' [ "$(number "$room/release"/*.whl)" = 2 ]
+try 'it has a wheel for Linux and one for all systems' [ "$(find "$room/release" -maxdepth 1 -name '*.whl' | wc -l)" = 2 ]
 try 'and their source' has_files "fhpgas-$version.tar.gz"
 try 'the sums are of all that is in it' [ "$(find "$room/release" -type f | wc -l)" = "$(($(grep -c '' "$room/release/SHA256SUMS") + 1))" ]
 try 'and are right' env -C "$room/release" sha256sum --check --quiet SHA256SUMS
@@ -60,6 +60,7 @@ try 'so it does for the scene that comes with it' prints "$room/wanted" "$folder
 try 'a scene of no text is refused' refuses
 try 'it needs the C library alone' needs_libc
 
+try 'make lists there what it can do, and no error' lists
 try 'it has the definitions' grep -q '^## .gas_geom/specs/Fhp1.antt' "$folder/docs/DEFINITIONS.md"
 try 'the links of its documents lead to what is in it' "$folder/tests/documents/links.py"
 path=${python%/*}
