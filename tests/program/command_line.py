@@ -25,24 +25,11 @@ MOST_CELLS = 400_000  # that the second reader takes
 # What `check` reads next to a scene that is refused, and the lines that refuse it.
 SYNTAX, UNKNOWN_KEY, BOTH_FORMS, MISSING, WRONG_TYPE, RANGE = (
     f"scene: {reason}"
-    for reason in (
-        "not TOML",
-        "unknown key",
-        "both forms",
-        "missing key",
-        "wrong type",
-        "out of range",
-    )
+    for reason in "not TOML|unknown key|both forms|missing key|wrong type|out of range".split("|")
 )
-STAGES, CAPACITY, GENERATIONS, THREADS = (
-    f"plan: {limit}"
-    for limit in (
-        "stages must be 1 to 64",
-        "capacity must be 1 to 1024",
-        "generations must be 0 to 1000000",
-        "threads must be 1 to the number of stages",
-    )
-)
+STAGES, CAPACITY = "plan: stages must be 1 to 64", "plan: capacity must be 1 to 1024"
+GENERATIONS = "plan: generations must be 0 to 1000000"
+THREADS = "plan: threads must be 1 to the number of stages"
 PASSES = "replay: the plan needs more than one pass"
 
 DRIFT = 'gas = "fhp1"\nchirality = "left"\ncells = ["........", "......01", "........"]\n'
@@ -53,63 +40,35 @@ STEPS = AREA + "solid = [[0, 0, 2, 1], [1, 0, 2, 2]]\n"
 WIDE = 'gas = "fhp1"\nwidth = 4096\nheight = 512\n'
 
 # What the program is refused as usage, with status 2.
-USAGE = [
-    "",
-    "run",
-    "dance --generations 1",
-    "run --generations",
-    "run --generations -1",
-    "run --generations 1 --generations 1",
-    "run --generations 1 --capacity many",
-    "run --generations 1 --threads",
-    "run --generations 1 --threads 1 --threads 2",
-    "replay --generations 1 --threads 1",
-    "check --generations 1",
-    "coarse --generations 1 --block-width 2",
-    "replay 0 1",
-    "replay --generations 18446744073709551616",
-    "replay --generations 1 0 feeder",
-    "replay --generations 1 -- -1",
-    "run extra --generations 1",
-    "run -- --generations 1",
-]
-OPTIONS = {
-    "--generations": "1",
-    "--stages": "1",
-    "--capacity": "1",
-    "--threads": "1",
-    "--block-width": "1",
-    "--block-height": "1",
-}
-NO_NUMBERS = ["", " 1", "-1", "1e3", "0x10", "1.0", "one", "99999999999999999999"]
+USAGE = (
+    "|run|dance --generations 1|run --generations|run --generations -1|"
+    "run --generations 1 --generations 1|run --generations 1 --capacity many|"
+    "run --generations 1 --threads|run --generations 1 --threads 1 --threads 2|"
+    "replay --generations 1 --threads 1|check --generations 1|"
+    "coarse --generations 1 --block-width 2|replay 0 1|replay --generations 18446744073709551616|"
+    "replay --generations 1 0 feeder|replay --generations 1 -- -1|run extra --generations 1|"
+    "run -- --generations 1"
+).split("|")
+OPTIONS = dict.fromkeys(
+    "--generations --stages --capacity --threads --block-width --block-height".split(), "1"
+)
+NO_NUMBERS = ["", *" 1|-1|1e3|0x10|1.0|one|99999999999999999999".split("|")]
+
+
+def taken_up_to(most, refusal):
+    """The limits of an option that takes 1 to a number, and reads numbers of 32 bits."""
+    refused = dict.fromkeys([0, most + 1, 2**32 - 1], refusal)
+    return refused | {1: None, most: None, 2**32: USAGE}
+
 
 # The limits of the options: None if a value is taken, a line if it is refused, and USAGE if it is not such a number.
 LIMITS = {
-    "stages": {0: STAGES, 1: None, 64: None, 65: STAGES, 2**32 - 1: STAGES, 2**32: USAGE},
-    "capacity": {
-        0: CAPACITY,
-        1: None,
-        1024: None,
-        1025: CAPACITY,
-        2**32 - 1: CAPACITY,
-        2**32: USAGE,
-    },
-    "threads": {
-        0: THREADS,
-        1: None,
-        8: None,
-        64: None,
-        65: THREADS,
-        2**32 - 1: THREADS,
-        2**32: USAGE,
-    },
-    "generations": {
-        0: None,
-        1_000_000: None,
-        1_000_001: GENERATIONS,
-        2**64 - 1: GENERATIONS,
-        2**64: USAGE,
-    },
+    "stages": taken_up_to(64, STAGES),
+    "capacity": taken_up_to(1024, CAPACITY),
+    "threads": taken_up_to(64, THREADS) | {8: None},
+    "generations": dict.fromkeys([0, 10**6])
+    | dict.fromkeys([10**6 + 1, 2**64 - 1], GENERATIONS)
+    | {2**64: USAGE},
     "block-width": {0: USAGE, 1: None, 4096: None, 4097: USAGE},
     "block-height": {0: USAGE, 1: None, 4096: None, 4097: USAGE},
 }
@@ -146,10 +105,7 @@ WORDS = [
         "",
     ),
     ("replay --generations 0 4294967296", 2, "", SOMETHING),
-    *(
-        (f"{command} --help", 0, SOMETHING, "")
-        for command in ("", "run", "check", "coarse", "replay")
-    ),
+    *((f"{command} --help", 0, SOMETHING, "") for command in " run check coarse replay".split(" ")),
     ("coars --generations 1", 2, "", re.compile(r"(?s).*'coarse'.*")),
     ("run --generation 1", 2, "", re.compile(r"(?s).*--generations.*")),
 ]
@@ -235,60 +191,28 @@ TEXTS = {
 # the keys of an area;
 AREAS = {
     None: ["solid = [[3, 0, 1, 2]]", STEPS + "rate = 1000", STEPS + "particles = [[0, 1, 63]]"],
-    RANGE: [
-        STEPS + "particles = [[1, 0, 1]]",
-        STEPS + "particles = [[0, 1, 64]]",
-        "solid = [[3, 0, 2, 1]]",
-        "solid = [[0, 1, 1, 2]]",
-        "solid = [[0, 0, 0, 1]]",
-        "solid = [[0, -1, 1, 1]]",
-        "solid = [[0, 0, 9223372036854775807, 1]]",
-        "solid = [[9223372036854775807, 0, 9223372036854775807, 1]]",
-        "particles = [[4, 0, 1]]",
-        "particles = [[-1, 0, 1]]",
-        "particles = [[0, 2, 1]]",
-        "particles = [[0, 0, -1]]",
-        "seed = -1",
-        "rate = -1",
-        "rate = 1001",
-    ],
-    WRONG_TYPE: [
-        "rate = 1.0",
-        "[[solid]]",
-        "solid = [[0, 0, 1]]",
-        "solid = [[0, 0, 1, 1, 1]]",
-        "particles = [[0, 0, 1, 1]]",
-        "particles = [[0, 0]]",
-    ],
+    RANGE: [STEPS + "particles = [[1, 0, 1]]", STEPS + "particles = [[0, 1, 64]]"]
+    + (
+        "solid = [[3, 0, 2, 1]] | solid = [[0, 1, 1, 2]] | solid = [[0, 0, 0, 1]] | "
+        "solid = [[0, -1, 1, 1]] | solid = [[0, 0, 9223372036854775807, 1]] | "
+        "solid = [[9223372036854775807, 0, 9223372036854775807, 1]] | particles = [[4, 0, 1]] | "
+        "particles = [[-1, 0, 1]] | particles = [[0, 2, 1]] | particles = [[0, 0, -1]] | seed = -1 | "
+        "rate = -1 | rate = 1001"
+    ).split(" | "),
+    WRONG_TYPE: (
+        "rate = 1.0 | [[solid]] | solid = [[0, 0, 1]] | solid = [[0, 0, 1, 1, 1]] | "
+        "particles = [[0, 0, 1, 1]] | particles = [[0, 0]]"
+    ).split(" | "),
     UNKNOWN_KEY: ["[x]"],
 }
 # what is next to a map or an area: the version decides whether there may be a generation, and an unknown version counts as 1;
 VERSIONS = {
-    None: [
-        "version = 1",
-        "version = 2",
-        "generation = 3\nversion = 2",
-        "generation = 1000000000000\nversion = 2",
-    ],
-    RANGE: [
-        "version = 0",
-        "version = 3",
-        "version = -2",
-        "generation = -1\nversion = 2",
-        "generation = 1000000000001\nversion = 2",
-    ],
-    WRONG_TYPE: [
-        'version = "1"',
-        'version = "2"',
-        "version = 2.0",
-        'generation = "1"\nversion = 2',
-    ],
-    UNKNOWN_KEY: [
-        "generation = 3",
-        "generation = 3\nversion = 1",
-        "generation = 3\nversion = 3",
-        'generation = 3\nversion = "2"',
-    ],
+    None: "version = 1|version = 2|generation = 3\nversion = 2|generation = 1000000000000\nversion = 2",
+    RANGE: "version = 0|version = 3|version = -2|generation = -1\nversion = 2|"
+    "generation = 1000000000001\nversion = 2",
+    WRONG_TYPE: 'version = "1"|version = "2"|version = 2.0|generation = "1"\nversion = 2',
+    UNKNOWN_KEY: "generation = 3|generation = 3\nversion = 1|generation = 3\nversion = 3|"
+    'generation = 3\nversion = "2"',
 }
 # the width and the height of an area, by the most that a version allows (mutated_scenes.py has the sides of maps);
 SIDES = {
@@ -298,19 +222,10 @@ SIDES = {
 MOST_SIDE = {"": 4096, "version = 1\n": 4096, "version = 2\n": 65536}
 # and the cells of a row: two characters are a cell only if both are marks of one kind, or digits of a state that the gas has.
 CELLS = {
-    None: ["hpp ##", "hpp ..", "hpp 0f", "fhp1 3f", "fhp-rest 7f"],
-    bad_cell(0, 0): [
-        "hpp #.",
-        "hpp .#",
-        "hpp 10",
-        "fhp1 40",
-        "fhp1 0A",
-        "fhp1 0g",
-        "fhp1 é",
-        "fhp-rest 80",
-    ],
-    bad_cell(0, 1): ["hpp ..#0", "hpp ##.0"],
-    row_length(0): ["fhp1 é.", "fhp1 010", "fhp1 "],
+    None: "hpp ##|hpp ..|hpp 0f|fhp1 3f|fhp-rest 7f",
+    bad_cell(0, 0): "hpp #.|hpp .#|hpp 10|fhp1 40|fhp1 0A|fhp1 0g|fhp1 é|fhp-rest 80",
+    bad_cell(0, 1): "hpp ..#0|hpp ##.0",
+    row_length(0): "fhp1 é.|fhp1 010|fhp1 ",
 }
 
 # Rectangles that overlap, and their seams at whole words of 64 columns and whole blocks of 256.
@@ -331,9 +246,10 @@ def scenes():
     for wanted, texts in AREAS.items():
         yield from ((text if text.startswith("gas") else AREA + text, wanted) for text in texts)
     for wanted, keys in VERSIONS.items():
-        yield from ((form + key, wanted) for form in (MAP, AREA) for key in keys)
+        yield from ((form + key, wanted) for form in (MAP, AREA) for key in keys.split("|"))
     for wanted, rows in CELLS.items():
-        yield from (('gas = "{}"\ncells = ["{}"]'.format(*row.split(" ")), wanted) for row in rows)
+        for row in rows.split("|"):
+            yield 'gas = "{}"\ncells = ["{}"]'.format(*row.split(" ")), wanted
     for version, most in MOST_SIDE.items():
         for wanted, sides in SIDES.items():
             yield from (
