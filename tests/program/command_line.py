@@ -86,13 +86,24 @@ WORDS = [
             "--threads=3 --stages 5 --capacity 1 --generations 1",
             "--threads 2 --generations 1",
             "--threads 2 --stages 2 --generations 1",
+            "--threads 1 --stages 2 --generations 1",
             "--threads 1 --capacity 1 --generations 1",
         )
     ),
     # threads are refused last
     ("run --generations 1 --threads 5 --stages 4", 1, "", THREADS + "\n"),
+    ("run --generations 1 --stages 3 --threads 4", 1, "", THREADS + "\n"),
     ("run --generations 1 --threads 0 --stages 65", 1, "", STAGES + "\n"),
     ("run --generations 1000001 --threads 0", 1, "", GENERATIONS + "\n"),
+    ("run --generations 0 --stages 0 --capacity 0", 1, "", STAGES + "\n"),
+    ("run --generations 0 --stages 65 --capacity 1", 1, "", STAGES + "\n"),
+    ("run --generations 1000001 --stages 1 --capacity 0", 1, "", CAPACITY + "\n"),
+    ("run --generations 0 --stages 1 --capacity 1025", 1, "", CAPACITY + "\n"),
+    ("run --generations 1000001 --stages 1 --capacity 1", 1, "", GENERATIONS + "\n"),
+    (
+        "coarse --generations 1000001 --block-width 1 --block-height 1 --threads 65",
+        *(1, "", GENERATIONS + "\n"),
+    ),
     # the scene's faults come before the plan's, and the plan's before the number of passes
     ("replay --generations 2 --stages 1", 1, "", PASSES + "\n"),
     ("replay --generations 2 --stages 1 --capacity 0", 1, "", CAPACITY + "\n"),
@@ -354,7 +365,8 @@ def many_turns():
 
 
 def on_threads(words):
-    """The words, and of a run also with its stages on one thread, on two, on three, and each on its own."""
+    """The words, and of a run also with its stages on one thread, on two, on three, and each on its own, and where no number of stages is
+    given with two stages and belts of one place."""
     yield words
     if words[0] in ("run", "coarse"):
         given = dict(zip(words[1::2], words[2::2]))
@@ -362,6 +374,32 @@ def on_threads(words):
         fewer = (threads for threads in "123" if int(threads) < int(stages))
         yield from ([*words, "--threads", threads] for threads in fewer)
         yield [*words, *([] if "--stages" in given else ["--stages", stages]), "--threads", stages]
+        if "--stages" not in given:
+            short = [*words, "--stages", "2", "--capacity", "1", "--threads"]
+            yield from ([*short, threads] for threads in "12")
+
+
+def lone_particle(size, place, words):
+    """A run that begins with a particle that moves east, and its cells."""
+    (width, height), (x, y) = size, place
+    scene = f'version = 2\ngas = "fhp1"\nchirality = "left"\nwidth = {width}\nheight = {height}\n'
+    generations = int(words[words.index("--generations") + 1])
+    rows, x_then = [".." * width] * height, (x + generations) % width
+    rows[y] = ".." * x_then + "01" + ".." * (width - 1 - x_then)
+    told = f"generation {generations} particles 1\n" + "\n".join([*rows, ""])
+    return words, f"{scene}particles = [[{x}, {y}, 1]]\n", 0, told, ""
+
+
+def lone_particles():
+    """From the last of the most columns to the first, and through lines of everyday length."""
+    for generations in "01":
+        for words in on_threads(["run", "--generations", generations]):
+            yield lone_particle((65536, 1), (65535, 0), words)
+    for plan in (
+        "4096 --stages 16 --capacity 128 --threads 2",
+        "37 --stages 16 --capacity 1 --threads 3",
+    ):
+        yield lone_particle((7, 1024), (0, 511), ["run", "--generations", *plan.split()])
 
 
 def examples():
@@ -406,7 +444,8 @@ def programs():
     """The cases of the program: words, standard input, status and what it prints."""
     yield from ((words, DRIFT, 2, "", SOMETHING) for words in usage())
     yield from ((words.split(), DRIFT, *wanted) for words, *wanted in WORDS)
-    yield ["run", "--generations", "1", "--stages", "0"], "", 1, "", MISSING + "\n"
+    for text, wanted in ("", MISSING), ("gas = ", SYNTAX):
+        yield "run --generations 1 --stages 0".split(), text, 1, "", wanted + "\n"
     for text, wanted in itertools.chain(scenes(), cut_short()):
         yield (["check"], text, 1, "", wanted + "\n") if wanted else (
             ["check"],
@@ -418,7 +457,7 @@ def programs():
     for text, line, cells in rectangles():
         yield ["check"], text, 0, line, ""
         yield ["run", "--generations", "0"], text, 0, cells, ""
-    for cases in of_limits, many_turns, examples, stored, version:
+    for cases in of_limits, many_turns, lone_particles, examples, stored, version:
         yield from cases()
 
 

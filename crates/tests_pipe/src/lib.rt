@@ -1,5 +1,5 @@
-//! Tests of belts, of the members of the line, of replays and of runs by threads on worked
-//! examples, and of how a thread waits.
+//! Tests of belts, of the members of the line and of runs by threads on worked examples, and of how a
+//! thread waits.
 #![tactic(auto)]
 
 #[cfg(test)]
@@ -12,8 +12,6 @@ mod helpers;
 mod members;
 #[cfg(test)]
 mod places;
-#[cfg(test)]
-mod replays;
 #[cfg(test)]
 mod runs;
 #[cfg(test)]

@@ -5,7 +5,7 @@ use super::runs::lattice;
 use gas_geom::fhp1::Fhp1;
 use gas_geom::size::Size;
 use gas_pipe::Turned::{Done, Idle, Put, Stray, Took};
-use gas_pipe::{Feeder, PlainBelt, Plan, PlanError, PutEnd, Turned, Worker};
+use gas_pipe::{Feeder, PlainBelt, Plan, PutEnd, Turned, Worker};
 use gas_rows::chirality::Chirality;
 use gas_rows::lattice::Lattice;
 use gas_rows::row::Row;
@@ -170,41 +170,22 @@ fn turns_of_each_line(rt: HostRuntime) -> Result<(), Fail> {
     Ok(())
 }
 
-fn is_refused(rt: &impl Abort, stages: u32, capacity: u32, generations: u64, want: PlanError) {
-    match Plan::new(stages, capacity, generations) {
-        Ok(_) => assert!(rt; false),
-        Err(error) => assert!(rt; error == want),
+// A plan is as asked for, with that number of passes.
+#[test]
+fn passes(rt: HostRuntime) -> Result<(), Fail> {
+    for (stages, capacity, generations, passes) in [
+        (64, 1024, 1_000_000, 15_625),
+        (2, 1, 5, 3),
+        (2, 1, 0, 0),
+    ] {
+        let plan = Plan::new(stages, capacity, generations)?;
+        let found = (
+            plan.stages(),
+            plan.capacity(),
+            plan.generations(),
+            plan.passes(),
+        );
+        assert!(rt; found == (stages, capacity, generations, passes));
     }
-}
-
-#[test]
-fn refused_plans(rt: HostRuntime) {
-    is_refused(&rt, 0, 0, 0, PlanError::Stages);
-    is_refused(&rt, 65, 1, 0, PlanError::Stages);
-    is_refused(&rt, 1, 0, 1_000_001, PlanError::Capacity);
-    is_refused(&rt, 1, 1025, 0, PlanError::Capacity);
-    is_refused(&rt, 1, 1, 1_000_001, PlanError::Generations);
-}
-
-// Asserts that a plan is as asked for, with that number of passes.
-fn has_passes(
-    rt: &impl Abort,
-    stages: u32,
-    capacity: u32,
-    generations: u64,
-    passes: u64,
-) -> Result<(), Fail> {
-    let plan = Plan::new(stages, capacity, generations)?;
-    assert!(rt; plan.stages() == stages);
-    assert!(rt; plan.capacity() == capacity);
-    assert!(rt; plan.generations() == generations);
-    assert!(rt; plan.passes() == passes);
     Ok(())
-}
-
-#[test]
-fn plans(rt: HostRuntime) -> Result<(), Fail> {
-    has_passes(&rt, 64, 1024, 1_000_000, 15_625)?;
-    has_passes(&rt, 2, 1, 5, 3)?;
-    has_passes(&rt, 2, 1, 0, 0)
 }

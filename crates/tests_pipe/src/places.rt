@@ -1,7 +1,6 @@
 //! The places of a belt in a running line.
 
 use super::runs::{lattice, run_from};
-use gas_geom::fhp1::Fhp1;
 use gas_geom::size::Size;
 use gas_pipe::{Gate, Plan};
 use gas_rows::chirality::Chirality;
@@ -66,10 +65,10 @@ fn all_rows_have_places<R: Abort + Threads + Wait + Sync>(
     looks: u32,
 ) -> Result<bool, Fail> {
     let size = Size::new(4, rows).ok_or("a size")?;
-    let lattice = lattice::<Fhp1>(alloc, size, &[])?;
+    let lattice = lattice(alloc, size, &[])?;
     let gate = SecondLooks::new(looks);
     let plan = Plan::new(2, capacity, 4)?;
-    let run = run_from(rt, alloc, &lattice, Chirality::Left, 0, plan, &gate)?;
+    let run = run_from(rt, alloc, &lattice, Chirality::Left, plan, &gate)?;
     assert!(rt; run.passes() == 2);
     Ok(gate.seen.load(Ordering::SeqCst) == 1)
 }

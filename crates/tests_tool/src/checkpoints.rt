@@ -2,6 +2,7 @@
 
 use super::helpers::{DRIFT, holds};
 use gas_rows::chirality::Chirality;
+use gas_rows::chirality::Chirality::{Left, Right, Seeded};
 use gas_scene::checkpoint::checkpoint;
 use gas_scene::error::SceneError;
 use gas_scene::scene::read;
@@ -14,6 +15,8 @@ const MAPS: [&str; 3] = [
     "gas = \"hpp\"\ncells = [\"##..0f\", \"0a0100\"]",
     "gas = \"fhp-rest\"\ncells = [\"##..7f\", \"4a4000\"]",
 ];
+
+const MOST_SEED: u64 = 9223372036854775807;
 
 // Writes the lattice of a scene as a scene, at a generation and with another chirality.
 fn checkpoint_text(
@@ -32,14 +35,14 @@ fn read_again(rt: HostRuntime) -> Result<(), Fail> {
     for (scene, chirality, generation, wanted) in [
         (
             fhp1,
-            Chirality::Left,
+            Left,
             1000000000000,
             "Left 1000000000000 fhp1\n##..3f\n0a10..",
         ),
-        (hpp, Chirality::Right, 10, "Right 10 hpp\n##..0f\n0a01.."),
+        (hpp, Right, 10, "Right 10 hpp\n##..0f\n0a01.."),
         (
             fhp_rest,
-            Chirality::Seeded(9223372036854775807),
+            Seeded(MOST_SEED),
             0,
             "Seeded(9223372036854775807) 0 fhp-rest\n##..7f\n4a40..",
         ),
@@ -50,22 +53,15 @@ fn read_again(rt: HostRuntime) -> Result<(), Fail> {
     Ok(())
 }
 
+// Generations and seeds that a scene may have, and a larger one of each.
 #[test]
 fn limits(rt: HostRuntime) -> Result<(), Fail> {
     for (chirality, generation, wanted) in [
-        (Chirality::Left, 1000000000000, None),
-        (Chirality::Left, 1000000000001, Some(SceneError::Range)),
-        (
-            Chirality::Right,
-            18446744073709551615,
-            Some(SceneError::Range),
-        ),
-        (Chirality::Seeded(9223372036854775807), 3, None),
-        (
-            Chirality::Seeded(9223372036854775808),
-            3,
-            Some(SceneError::Range),
-        ),
+        (Left, 1000000000000, None),
+        (Left, 1000000000001, Some(SceneError::Range)),
+        (Right, 18446744073709551615, Some(SceneError::Range)),
+        (Seeded(MOST_SEED), 3, None),
+        (Seeded(MOST_SEED + 1), 3, Some(SceneError::Range)),
     ] {
         for scene in MAPS {
             let answer = checkpoint_text(rt.alloc(), scene, chirality, generation)?;
@@ -81,13 +77,13 @@ fn layout(rt: HostRuntime) -> Result<(), Fail> {
     for (scene, chirality, wanted) in [
         (
             DRIFT,
-            Chirality::Left,
+            Left,
             "cells = [\n    \"........\",\n    \"......01\",\n    \"........\",\n]\n\
              chirality = \"left\"\ngas = \"fhp1\"\ngeneration = 10\nversion = 2\n",
         ),
         (
             "gas = \"hpp\"\ncells = [\"00##\", \"0f..\"]",
-            Chirality::Seeded(12),
+            Seeded(12),
             "cells = [\n    \"..##\",\n    \"0f..\",\n]\n\
              chirality = \"seeded\"\ngas = \"hpp\"\ngeneration = 10\nseed = 12\nversion = 2\n",
         ),
@@ -109,7 +105,7 @@ fn wide_and_high(rt: HostRuntime) -> Result<(), Fail> {
             x = width - 1,
             y = height - 1
         )?;
-        let text = checkpoint_text(alloc, scene.as_str(), Chirality::Left, 3)??;
+        let text = checkpoint_text(alloc, scene.as_str(), Left, 3)??;
         let cells = empty.repeat(alloc, 65535)?;
         let wanted = format!(in alloc; "Left 3 fhp1\n{cells}01")?;
         holds(&rt, alloc, text.as_str(), wanted.as_str())?;

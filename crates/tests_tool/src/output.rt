@@ -76,27 +76,23 @@ fn table_goes_to(rt: &impl Abort, blocks: &[Block], mut out: Narrow, text: &str)
     assert_got(rt, &out, told, text.as_bytes());
 }
 
+// The block at a place, with these numbers of fluid cells and particles and this momentum.
+fn block(place: (u32, u32), fluid: u64, particles: u64, momentum: (i64, i64)) -> Block {
+    let ((col, row), (px, py)) = (place, momentum);
+    Block {
+        col,
+        row,
+        fluid,
+        particles,
+        px,
+        py,
+    }
+}
+
 // Two blocks of two columns and two rows.
 #[test]
 fn table(rt: HostRuntime) {
-    let blocks = [
-        Block {
-            col: 0,
-            row: 0,
-            fluid: 3,
-            particles: 8,
-            px: 3,
-            py: 1,
-        },
-        Block {
-            col: 1,
-            row: 0,
-            fluid: 4,
-            particles: 0,
-            px: 0,
-            py: 0,
-        },
-    ];
+    let blocks = [block((0, 0), 3, 8, (3, 1)), block((1, 0), 4, 0, (0, 0))];
     let text = "  col   row    fluid particles         px         py
     0     0        3         8          3          1
     1     0        4         0          0          0
@@ -114,31 +110,16 @@ fn table(rt: HostRuntime) {
 // Numbers that need more places than their columns have.
 #[test]
 fn table_of_wide_numbers(rt: HostRuntime) {
+    let (most, least) = (u64::MAX, i64::MIN);
     let blocks = [
-        Block {
-            col: u32::MAX,
-            row: u32::MAX,
-            fluid: u64::MAX,
-            particles: u64::MAX,
-            px: i64::MIN,
-            py: i64::MAX,
-        },
-        Block {
-            col: 12345,
-            row: 123456,
-            fluid: 12345678,
-            particles: 123456789,
-            px: -100000000,
-            py: -1000000000,
-        },
-        Block {
-            col: 0,
-            row: 0,
-            fluid: 4294967296,
-            particles: 34359738368,
-            px: -4294967297,
-            py: 8589934592,
-        },
+        block((u32::MAX, u32::MAX), most, most, (least, i64::MAX)),
+        block(
+            (12345, 123456),
+            12345678,
+            123456789,
+            (-100000000, -1000000000),
+        ),
+        block((0, 0), 4294967296, 34359738368, (-4294967297, 8589934592)),
     ];
     let text = "  col   row    fluid particles         px         py
 4294967295 4294967295 18446744073709551615 18446744073709551615 -9223372036854775808 9223372036854775807

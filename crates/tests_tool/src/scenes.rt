@@ -1,9 +1,7 @@
 //! Texts that are scenes, and what they contain.
 
 use super::helpers::{DRIFT, holds};
-use gas_rows::key::key_words;
 use std::alloc::Global;
-use std::fmt::Write;
 use std::process::Abort;
 use std::test::Fail;
 
@@ -54,50 +52,4 @@ rate = 1000 | Seeded(0) 0 fhp1; ######3f; 3f####3f
  | Seeded(0) 0 fhp1; ######..; ..####..";
     let first = "gas = 'fhp1'; width = 4; height = 2; solid = [[0, 0, 2, 1], [1, 0, 2, 2]]; ";
     each_holds(&rt, rt.alloc(), first, overlapping)
-}
-
-// A particle in the last of the most columns.
-#[test]
-fn widest_area(rt: HostRuntime) -> Result<(), Fail> {
-    let alloc = rt.alloc();
-    let empty = "..".repeat(alloc, 65535)?;
-    let wanted = format!(in alloc; "Left 0 fhp1\n{empty}01")?;
-    holds(
-        &rt,
-        alloc,
-        "version = 2\ngas = \"fhp1\"\nchirality = \"left\"\nwidth = 65536\nheight = 1\n\
-         particles = [[65535, 0, 1]]",
-        wanted.as_str(),
-    )
-}
-
-// The state of a cell of FHP-I filled at rate 500 with seed 3, from the key stream.
-fn filled_state(place: u32) -> u32 {
-    let mut state = 0;
-    for i in 0..6u64 {
-        let mut word = [0u32];
-        key_words(3, (1 << 63) + i, u64::from(place), &mut word);
-        if word[0] % 1000 < 500 {
-            state |= 1 << i;
-        }
-    }
-    state
-}
-
-#[test]
-fn filling(rt: HostRuntime) -> Result<(), Fail> {
-    let mut wanted = String::from_str(rt.alloc(), "Seeded(3) 0 fhp1")?;
-    for place in 0..20 {
-        if place % 5 == 0 {
-            wanted.push_str("\n")?;
-        }
-        let state = filled_state(place);
-        write!(wanted, "{state:02x}")?;
-    }
-    holds(
-        &rt,
-        rt.alloc(),
-        "gas = \"fhp1\"\nseed = 3\nwidth = 5\nheight = 4\nrate = 500",
-        wanted.as_str(),
-    )
 }

@@ -3,53 +3,24 @@
 use super::helpers::request_of;
 use std::test::Fail;
 
+// The words behind the program's name, and the request.
+const REQUESTS: &str = "\
+check | Check
+run --generations 1 | Run { stages: 4, capacity: 2, generations: 1, threads: None }
+run --generations 1 --stages 0 | Run { stages: 0, capacity: 2, generations: 1, threads: None }
+run --generations 1 --threads 3 | Run { stages: 48, capacity: 128, generations: 1, threads: Some(3) }
+run --threads 8 --generations 1 --capacity 2 | Run { stages: 64, capacity: 2, generations: 1, threads: Some(8) }
+run --threads 4 --stages 16 --generations 1 | Run { stages: 16, capacity: 128, generations: 1, threads: Some(4) }
+run --threads 0 --generations 1 | Run { stages: 16, capacity: 128, generations: 1, threads: Some(0) }
+run --threads 4294967295 --generations 1 | Run { stages: 64, capacity: 128, generations: 1, threads: Some(4294967295) }
+coarse --generations 7 --block-width 4096 --block-height 1 | Coarse { stages: 4, capacity: 2, generations: 7, threads: None, block_width: 4096, block_height: 1 }
+coarse --generations 7 --block-width 2 --block-height 3 --threads 1 | Coarse { stages: 16, capacity: 128, generations: 7, threads: Some(1), block_width: 2, block_height: 3 }
+replay --generations 2 0 4294967295 --stages 3 1 | Replay { stages: 3, capacity: 2, generations: 2, turns: Turns { list: [0, 4294967295, 1] } }";
+
 #[test]
 fn requests(rt: HostRuntime) -> Result<(), Fail> {
-    for (words, wanted) in [
-        ("check", "Check"),
-        (
-            "run --generations 1",
-            "Run { stages: 4, capacity: 2, generations: 1, threads: None }",
-        ),
-        (
-            "run --generations 1 --stages 0",
-            "Run { stages: 0, capacity: 2, generations: 1, threads: None }",
-        ),
-        (
-            "run --generations 1 --threads 3",
-            "Run { stages: 48, capacity: 128, generations: 1, threads: Some(3) }",
-        ),
-        (
-            "run --threads 8 --generations 1 --capacity 2",
-            "Run { stages: 64, capacity: 2, generations: 1, threads: Some(8) }",
-        ),
-        (
-            "run --threads 4 --stages 16 --generations 1",
-            "Run { stages: 16, capacity: 128, generations: 1, threads: Some(4) }",
-        ),
-        (
-            "run --threads 0 --generations 1",
-            "Run { stages: 16, capacity: 128, generations: 1, threads: Some(0) }",
-        ),
-        (
-            "run --threads 4294967295 --generations 1",
-            "Run { stages: 64, capacity: 128, generations: 1, threads: Some(4294967295) }",
-        ),
-        (
-            "coarse --generations 7 --block-width 4096 --block-height 1",
-            "Coarse { stages: 4, capacity: 2, generations: 7, threads: None, \
-             block_width: 4096, block_height: 1 }",
-        ),
-        (
-            "coarse --generations 7 --block-width 2 --block-height 3 --threads 1",
-            "Coarse { stages: 16, capacity: 128, generations: 7, threads: Some(1), \
-             block_width: 2, block_height: 3 }",
-        ),
-        (
-            "replay --generations 2 0 4294967295 --stages 3 1",
-            "Replay { stages: 3, capacity: 2, generations: 2, turns: Turns { list: [0, 4294967295, 1] } }",
-        ),
-    ] {
+    for case in REQUESTS.lines() {
+        let (words, wanted) = case.split_once(" | ").ok_or("a case")?;
         let line = format!(in rt.alloc(); "fhpgas {words}")?;
         let request = request_of(rt.alloc(), line.as_str())?;
         let told = format!(in rt.alloc(); "{request:?}")?;
@@ -59,19 +30,10 @@ fn requests(rt: HostRuntime) -> Result<(), Fail> {
     Ok(())
 }
 
-// The exit status of the program for words that are no request.
+// Not even the program's name.
 #[test]
-fn no_requests(rt: HostRuntime) -> Result<(), Fail> {
-    for (words, status) in [
-        ("", 2),
-        ("fhpgas", 2),
-        ("fhpgas run", 2),
-        ("fhpgas run --generations 1 --threads 4294967296", 2),
-        ("fhpgas replay --generations 1 --threads 1", 2),
-        ("fhpgas --help", 0),
-    ] {
-        let request = request_of(rt.alloc(), words)?;
-        assert!(rt; request.err() == Some(status), "{words}");
-    }
+fn no_word(rt: HostRuntime) -> Result<(), Fail> {
+    let request = request_of(rt.alloc(), "")?;
+    assert!(rt; request.err() == Some(2));
     Ok(())
 }
