@@ -98,6 +98,12 @@ def free_memory():
     return int(free[1]) << 10
 
 
+def printed(words, given=b"", **how):
+    """What a program prints on standard output, which must end with 0, for an input of bytes."""
+    words = [str(word) for word in words]
+    return subprocess.run(words, input=given, capture_output=True, check=True, **how).stdout
+
+
 def compiled(source, made, *words):
     """Compiles a C source of this repository."""
     command("cc")

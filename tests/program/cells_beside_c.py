@@ -9,7 +9,6 @@ import itertools
 import os
 import pathlib
 import random
-import subprocess
 import sys
 import tempfile
 
@@ -20,29 +19,12 @@ PROGRAM = needs.built_program()
 MAPS = 20
 GASES = {"fhp1": 6, "fhp-rest": 7, "hpp": 4}  # and their directions
 CHIRALITIES = ["left", "right", "seeded"]
-SIZES = [
-    (1024, 1024),
-    (63, 700),
-    (2701, 150),
-    (64, 513),
-    (777, 1000),
-    (1, 300),
-    (5000, 90),
-    (130, 64),
-    (1000, 999),
-    (65, 2),
-    (6500, 64),
-]
-PLANS = [
-    (1, 1, 1),
-    (4, 2, 4),
-    (3, 1024, 2),
-    (64, 1, 5),
-    (16, 128, 4),
-    (2, 8, 1),
-    (7, 33, 3),
-    (33, 3, 33),
-]  # stages, places per belt, and threads
+SIZES = (
+    "1024x1024 63x700 2701x150 64x513 777x1000 1x300 5000x90 130x64 1000x999 65x2 6500x64".split()
+)
+PLANS = (
+    "1 1 1|4 2 4|3 1024 2|64 1 5|16 128 4|2 8 1|7 33 3|33 3 33"  # stages, places per belt, threads
+)
 GENERATIONS = range(150, 500)
 
 
@@ -67,22 +49,13 @@ def drawn(rng, width, height, directions):
     return ["".join(row) for row in rows]
 
 
-def printed(words, text):
-    return subprocess.run(
-        [str(word) for word in words],
-        input=text.encode(),
-        capture_output=True,
-        timeout=300,
-        check=True,
-    ).stdout
-
-
 def fault(number, room):
     """What differs on the map of that number, or None."""
     rng = random.Random(number)
     (gas, directions), chirality = list(itertools.product(GASES.items(), CHIRALITIES))[number % 9]
-    width, height = SIZES[number % len(SIZES)]
-    stages, capacity, threads = PLANS[number % len(PLANS)]
+    width, height = map(int, SIZES[number % len(SIZES)].split("x"))
+    plans = PLANS.split("|")
+    stages, capacity, threads = plans[number % len(plans)].split()
     plan = ["--stages", stages, "--capacity", capacity, "--threads", threads]
     first, seed, generations = (
         rng.choice([0, 1, 2**32 - 100, 10**12]),
@@ -91,16 +64,14 @@ def fault(number, room):
     )
     rows = drawn(rng, width, height, directions)
     keys = f'version = 2\ngas = "{gas}"\nchirality = "{chirality}"\nseed = {seed}\ngeneration = {first}\n'
-    ours = printed(
-        [PROGRAM, "run", "--generations", generations, *plan],
-        f"{keys}cells = {rows}\n",
-    )
+    scene = f"{keys}cells = {rows}\n".encode()
+    ours = needs.printed([PROGRAM, "run", "--generations", generations, *plan], scene, timeout=300)
     word = seed if chirality == "seeded" else chirality
     programs = [[room / "bytes", generations, word, gas]] + [
         [room / "bands", generations, 3, word]
     ] * (gas == "fhp1")
-    start = "\n".join([f"generation {first} particles 0", *rows, ""])
-    wrong = [words[0].name for words in programs if printed(words, start) != ours]
+    start = "\n".join([f"generation {first} particles 0", *rows, ""]).encode()
+    wrong = [it[0].name for it in programs if needs.printed(it, start, timeout=300) != ours]
     return (
         f"map {number}: {gas}, {chirality}, {width} x {height}, {generations} generations, {stages} stages, {threads} threads: {wrong}"
         if wrong
@@ -114,13 +85,8 @@ def main():
     ) as pool:
         room = pathlib.Path(folder)
         for name in "bytes", "bands":
-            needs.compiled(
-                f"tests/program/oracles/{name}.c",
-                room / name,
-                "-O3",
-                "-march=x86-64-v2",
-                "-pthread",
-            )
+            source, flags = f"tests/program/oracles/{name}.c", "-O3 -march=x86-64-v2 -pthread"
+            needs.compiled(source, room / name, *flags.split())
         faults = list(filter(None, pool.map(lambda number: fault(number, room), range(MAPS))))
     for found in faults:
         print(f"FAILED: {found}")

@@ -6,7 +6,6 @@ reached. Ends with the counts."""
 import pathlib
 import random
 import re
-import subprocess
 import sys
 import tempfile
 
@@ -34,29 +33,12 @@ def after_golly(rows, generations, room):
     (room / "before.rle").write_text(
         f"x = {width}, y = {height}, rule = HPP:T{width},{height}\n{lines}!\n"
     )
-    words = [
-        "bgolly",
-        "-a",
-        "RuleLoader",
-        "-s",
-        RULES,
-        "-q",
-        "-q",
-        "-m",
-        str(generations),
-        "-o",
-        room / "after.rle",
-        room / "before.rle",
-    ]
-    subprocess.run(
-        words, stdout=subprocess.DEVNULL, stderr=subprocess.DEVNULL, check=True, timeout=100
-    )
+    words = f"bgolly -a RuleLoader -s {RULES} -q -q -m {generations} -o".split()
+    needs.printed([*words, room / "after.rle", room / "before.rle"], timeout=100)
     found = [[0] * width for _ in range(height)]
     x = y = 0
-    text = re.sub(r"^#.*\n|^x =.*\n", "", (room / "after.rle").read_text(), flags=re.M).split("!")[
-        0
-    ]
-    for count, letter in re.findall(r"(\d*)([.A-O$])", text):
+    text = re.sub(r"^#.*\n|^x =.*\n", "", (room / "after.rle").read_text(), flags=re.M)
+    for count, letter in re.findall(r"(\d*)([.A-O$])", text.partition("!")[0]):
         times = int(count or 1)
         if letter == "$":
             x, y = 0, y + times
@@ -69,14 +51,11 @@ def after_golly(rows, generations, room):
 def after_ours(rows, generations):
     """The same rows after our generations, as Golly's states."""
     cells = ["".join(f"{state:02x}" for state in row) for row in rows]
-    printed = subprocess.run(
-        [PROGRAM, "run", "--generations", str(generations)],
-        input=f'gas = "hpp"\ncells = {cells}\n',
-        capture_output=True,
-        check=True,
-        text=True,
-    ).stdout.split("\n")[1:-1]
-    pairs = ([row[at : at + 2] for at in range(0, len(row), 2)] for row in printed)
+    words = [PROGRAM, "run", "--generations", generations]
+    printed = needs.printed(words, f'gas = "hpp"\ncells = {cells}\n'.encode()).decode()
+    pairs = (
+        [row[at : at + 2] for at in range(0, len(row), 2)] for row in printed.split("\n")[1:-1]
+    )
     return [[leaving(0 if pair == ".." else int(pair, 16)) for pair in row] for row in pairs]
 
 

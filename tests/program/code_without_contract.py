@@ -47,23 +47,11 @@ fn main(rt: HostRuntime) -> std::process::ExitCode {
 }
 """
 # What a file can name of the runtime's powers, and what it can after an import. The last three words go round names or the language.
-SEEN = {"HostRuntime", "LibcRuntime", "Print", "Eprint", "Alloc", "unsafe", "extern", "macro_rules"}
-BROUGHT = SEEN | {
-    *(
-        "Abort",
-        "Clock",
-        "CpuClock",
-        "Env",
-        "Files",
-        "Input",
-        "Log",
-        "Memory",
-        "Net",
-        "Process",
-        "Processes",
-    ),
-    *("RandomSource", "Runtime", "Stderr", "Stdin", "Stdout", "Threads", "Wait", "*"),
-}
+SEEN = set("HostRuntime LibcRuntime Print Eprint Alloc unsafe extern macro_rules".split())
+BROUGHT = SEEN | set(
+    "Abort Clock CpuClock Env Files Input Log Memory Net Process Processes RandomSource Runtime "
+    "Stderr Stdin Stdout Threads Wait *".split()
+)
 HELD = {  # all other files below the program have none of them
     "fhpgas/src/main.rt": {"HostRuntime", "Files", "Print", "Eprint"},
     "fhpgas/src/terminal.rt": {"Clock", "Eprint"},
@@ -101,12 +89,8 @@ def spelled_out(text):
         if "ghost" not in match.group().split("use")[0]:
             names |= imports(match.group(1))
     code = re.sub(uses, "", text, flags=re.M)
-    return (
-        re.sub(
-            r"(?<![\w.:])[A-Za-z_]\w*", lambda word: names.get(word.group(), word.group()), code
-        ),
-        names,
-    )
+    word = re.compile(r"(?<![\w.:])[A-Za-z_]\w*")
+    return word.sub(lambda found: names.get(found[0], found[0]), code), names
 
 
 def powers(path):

@@ -55,10 +55,8 @@ def areas(size):
     def rectangles(width, height):
         return listed(AREA + "solid = [", f"[0,0,{width},{height}],"), SHOWN % (width * height, 0)
 
-    yield "one particle, again and again", listed(AREA + "particles = [", "[0,0,1],"), SHOWN % (
-        0,
-        1,
-    )
+    again = listed(AREA + "particles = [", "[0,0,1],")
+    yield "one particle, again and again", again, SHOWN % (0, 1)
     yield "particles in a column of solid cells", listed(wall, "[0,0,1],"), RANGE
     all_over = listed(AREA + "particles = [", column, 2 * len(column))
     yield "particles all over the area", all_over, SHOWN % (0, SIDE)
@@ -134,12 +132,7 @@ def is_alike_through_longest_line():
     scene = f'version = 2\ngas = "fhp1"\nseed = 5\nwidth = {MOST_SIDE}\nheight = 64\nrate = 300\nsolid = [[65000, 10, 536, 9], [0, 12, 9, 30]]\n'
     words = [PROGRAM, "run", "--generations", "70"]
     plans = ["--stages", "64", "--capacity", "1024"], ["--stages", "1", "--capacity", "1"]
-    longest, shortest = (
-        subprocess.run(
-            [*words, *plan], input=scene.encode(), capture_output=True, check=True
-        ).stdout
-        for plan in plans
-    )
+    longest, shortest = (needs.printed([*words, *plan], scene.encode()) for plan in plans)
     return longest == shortest and longest.startswith(b"generation 70 particles ")
 
 
@@ -147,22 +140,15 @@ def answer(path):
     """What the program prints for the text in the file, the seconds that it takes and its peak memory in KiB."""
     with open(path, "rb") as text, tempfile.TemporaryFile() as said:
         started = time.monotonic()
-        child = subprocess.Popen(
-            ["sh", "-c", f'ulimit -s {STACK}; exec "$0" check', PROGRAM],
-            stdin=text,
-            stdout=said,
-            stderr=said,
-        )
+        words = ["sh", "-c", f'ulimit -s {STACK}; exec "$0" check', PROGRAM]
+        child = subprocess.Popen(words, stdin=text, stdout=said, stderr=said)
         _, status, used = os.wait4(child.pid, 0)
         seconds = time.monotonic() - started
         child.returncode = os.waitstatus_to_exitcode(status)
         said.seek(0)
         line = said.read(1000).decode(errors="replace").strip()
-    return (
-        line if child.returncode in (0, 1) else f"status {child.returncode}: {line}",
-        seconds,
-        used.ru_maxrss,
-    )
+    told = line if child.returncode in (0, 1) else f"status {child.returncode}: {line}"
+    return told, seconds, used.ru_maxrss
 
 
 def main():
@@ -177,18 +163,14 @@ def main():
                 file.write(piece if isinstance(piece, bytes) else piece.encode())
             file.flush()
             line, seconds, peak = answer(file.name)
-            print(
-                f"{name:40} {file.tell():9} {seconds:8.2f} {peak / 1000:8.0f}  {line}", flush=True
-            )
-            if line == expected:
-                passed += 1
-            else:
-                failed += 1
+            numbers = f"{file.tell():9} {seconds:8.2f} {peak / 1000:8.0f}"
+            print(f"{name:40} {numbers}  {line}", flush=True)
+            passed, failed = passed + (line == expected), failed + (line != expected)
+            if line != expected:
                 print(f"FAILED: {name}: {expected} was expected")
     if not has_memory():
-        return needs.told(
-            passed, failed, "the largest area and the longest line for want of memory"
-        )
+        left_out = "the largest area and the longest line for want of memory"
+        return needs.told(passed, failed, left_out)
     is_alike = is_alike_through_longest_line()
     if not is_alike:
         print("FAILED: the longest line prints another lattice")

@@ -4,6 +4,7 @@ same lattice, from a C program, or because a full channel stays full. What needs
 says so. Ends with the counts."""
 
 import hashlib
+import itertools
 import pathlib
 import resource
 import subprocess
@@ -56,36 +57,23 @@ def write_area(path, rows):
 def long_inputs(room):
     """Maps of 60 MB and of the most bytes print what their areas print, and a byte more is refused."""
     run = ["run", "--generations", 3, "--stages", 3, "--capacity", 16]
-    for rows, size in (60_000_000 // (2 * WIDTH), None), (
-        (LONGEST_INPUT - 100) // (2 * WIDTH + 4),
-        LONGEST_INPUT,
-    ):
+    most_rows = (LONGEST_INPUT - 100) // (2 * WIDTH + 4)
+    for rows, size in (60_000_000 // (2 * WIDTH), None), (most_rows, LONGEST_INPUT):
         write_map(room / "map", rows, size)
         write_area(room / "area", rows)
         from_map, from_area = answer(run, room / "map"), answer(run, room / "area")
         bytes_read = (room / "map").stat().st_size
-        yield f"a map of {bytes_read} bytes", from_map == from_area and from_area[
-            0
-        ] == 0 and bytes_read == (size or bytes_read)
+        is_alike = from_map == from_area and from_area[0] == 0
+        yield f"a map of {bytes_read} bytes", is_alike and bytes_read == (size or bytes_read)
     with open(room / "map", "ab") as text:
         text.write(b"\n")
-    yield "a byte more than the longest input", answer(run, room / "map") == (
-        1,
-        hashlib.sha256().hexdigest(),
-        "input: too long\n",
-    )
+    refused = 1, hashlib.sha256().hexdigest(), "input: too long\n"
+    yield "a byte more than the longest input", answer(run, room / "map") == refused
 
 
-def by_c(room, words, given=None):
+def by_c(room, words, given=b""):
     """The SHA-256 of what the C program prints."""
-    made = subprocess.run(
-        [room / "bytes", *map(str, words)],
-        input=given,
-        stdout=subprocess.PIPE,
-        stderr=subprocess.DEVNULL,
-        check=True,
-    )
-    return hashlib.sha256(made.stdout).hexdigest()
+    return hashlib.sha256(needs.printed([room / "bytes", *words], given)).hexdigest()
 
 
 def filled_area(room):
@@ -93,29 +81,18 @@ def filled_area(room):
     (room / "area").write_text(
         'version = 2\ngas = "fhp-rest"\nseed = 11\nwidth = 5011\nheight = 5003\nrate = 250\n'
     )
+    wanted = 0, by_c(room, [4, 11, "fhp-rest", 5011, 5003, 250, 11]), ""
     ours = answer(["run", "--generations", 4], room / "area")
-    yield "a filled area of 5011 x 5003", ours == (
-        0,
-        by_c(room, [4, 11, "fhp-rest", 5011, 5003, 250, 11]),
-        "",
-    )
+    yield "a filled area of 5011 x 5003", ours == wanted
 
 
 def many_blocks(room):
     """A full channel stays full, so all blocks of a cell are alike."""
     (room / "area").write_text('gas = "fhp1"\nwidth = 1453\nheight = 1447\nrate = 1000\n')
-    lines = "".join(
-        f"{column:5} {row:5} {1:8} {6:9} {0:10} {0:10}\n"
-        for row in range(1447)
-        for column in range(1453)
-    )
-    words = ["coarse", "--generations", 2, "--block-width", 1, "--block-height", 1]
-    table = subprocess.run(
-        [PROGRAM, *map(str, words)],
-        input=(room / "area").read_bytes(),
-        capture_output=True,
-        check=True,
-    ).stdout.decode()
+    places = itertools.product(range(1447), range(1453))
+    lines = "".join(f"{x:5} {y:5} {1:8} {6:9} {0:10} {0:10}\n" for y, x in places)
+    words = "coarse --generations 2 --block-width 1 --block-height 1".split()
+    table = needs.printed([PROGRAM, *words], (room / "area").read_bytes()).decode()
     yield "a table of 2,102,491 blocks", table.partition("\n")[2] == lines
 
 
@@ -125,12 +102,7 @@ def long_line(room):
         'version = 2\ngas = "fhp1"\nseed = 9\nwidth = 70\nheight = 6000\nrate = 300\n'
         "solid = [[60, 500, 10, 9], [0, 5990, 3, 10]]\n"
     )
-    start = subprocess.run(
-        [PROGRAM, "run", "--generations", "0"],
-        input=(room / "area").read_bytes(),
-        capture_output=True,
-        check=True,
-    ).stdout
+    start = needs.printed([PROGRAM, "run", "--generations", 0], (room / "area").read_bytes())
     wanted = 0, by_c(room, [150, 9, "fhp1"], start), ""
     plan = ["--stages", 64, "--capacity", 1024]
     for threads in 64, 7:

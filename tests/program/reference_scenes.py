@@ -7,7 +7,6 @@ import hashlib
 import itertools
 import pathlib
 import random
-import subprocess
 import sys
 import tempfile
 import tomllib
@@ -18,28 +17,10 @@ from cells_beside_c import CHIRALITIES, GASES
 
 FOLDER = needs.ROOT / "scenes/reference"
 RECORD = FOLDER / "SHA256"
-SIZES = [
-    (33, 20),
-    (64, 31),
-    (65, 33),
-    (127, 16),
-    (1, 5),
-    (7, 1),
-    (96, 40),
-    (63, 64),
-    (2, 9),
-    (129, 25),
-    (31, 47),
-    (100, 3),
-    (66, 30),
-    (5, 90),
-    (128, 24),
-    (191, 12),
-    (17, 17),
-    (48, 48),
-    (257, 11),
-    (3, 2),
-]
+SIZES = (
+    "33x20 64x31 65x33 127x16 1x5 7x1 96x40 63x64 2x9 129x25 31x47 100x3 66x30 5x90 128x24 191x12 "
+    "17x17 48x48 257x11 3x2"
+).split()
 FIRST = [0, 0, 1, 4_294_967_290, 999_999_000_000]  # generations of the first lattices
 
 
@@ -51,13 +32,9 @@ def drawn(rng, width, height, directions):
 
     def cell(column, row):
         state = sum((rng.random() < rate) << direction for direction in range(directions))
-        return (
-            "##"
-            if rng.random() < solid or (column in columns and row in rows)
-            else f"{state:02x}"
-            if state
-            else ".."
-        )
+        if rng.random() < solid or (column in columns and row in rows):
+            return "##"
+        return f"{state:02x}" if state else ".."
 
     return ["".join(cell(column, row) for column in range(width)) for row in range(height)]
 
@@ -68,16 +45,15 @@ def sha256_by_c(room, scene, generations):
     chirality = str(table["seed"]) if table["chirality"] == "seeded" else table["chirality"]
     start = "\n".join([f"generation {table['generation']} particles 0", *table["cells"], ""])
     words = [room / "bytes", str(generations), chirality, table["gas"]]
-    return hashlib.sha256(
-        subprocess.run(words, input=start.encode(), capture_output=True, check=True).stdout
-    ).hexdigest()
+    return hashlib.sha256(needs.printed(words, start.encode())).hexdigest()
 
 
 def make(room):
     pairs = itertools.cycle(itertools.product(GASES.items(), CHIRALITIES))
     lines = []
-    for number, ((width, height), ((gas, directions), chirality)) in enumerate(zip(SIZES, pairs)):
+    for number, (size, ((gas, directions), chirality)) in enumerate(zip(SIZES, pairs)):
         rng = random.Random(f"reference {number}")
+        width, height = map(int, size.split("x"))
         generations, rows = rng.randint(1, 1000), drawn(rng, width, height, directions)
         scene = f'version = 2\ngas = "{gas}"\nchirality = "{chirality}"\nseed = {rng.randrange(2**63)}\ngeneration = {rng.choice(FIRST)}\n'
         scene += "cells = [\n" + "".join(f'"{row}",\n' for row in rows) + "]\n"
@@ -96,16 +72,10 @@ def main():
         passed, failed = 0, 0
         for recorded, generations, name in map(str.split, RECORD.read_text().splitlines()):
             scene = (FOLDER / name).read_text()
-            ours = subprocess.run(
-                [needs.built_program(), "run", "--generations", generations],
-                input=scene.encode(),
-                capture_output=True,
-                check=True,
-            )
-            for program, found in ("fhpgas", hashlib.sha256(ours.stdout).hexdigest()), (
-                "bytes.c",
-                sha256_by_c(room, scene, generations),
-            ):
+            words = [needs.built_program(), "run", "--generations", generations]
+            ours = hashlib.sha256(needs.printed(words, scene.encode())).hexdigest()
+            by_c = sha256_by_c(room, scene, generations)
+            for program, found in ("fhpgas", ours), ("bytes.c", by_c):
                 passed, failed = passed + (found == recorded), failed + (found != recorded)
                 if found != recorded:
                     print(f"FAILED: {name}: {program} prints other cells")

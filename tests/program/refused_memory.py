@@ -9,7 +9,9 @@ again for less. Two requests of a run may therefore be refused by themselves and
 answer."""
 
 import concurrent.futures
+import itertools
 import os
+import pathlib
 import re
 import resource
 import subprocess
@@ -74,17 +76,8 @@ class Ended:
                 )
             numbers = seen.read().split()
         self.status, self.out, self.err = ran.returncode, ran.stdout, ran.stderr
-        (
-            self.seen,
-            self.refused,
-            self.started,
-            self.joined,
-            self.held,
-            self.since_start,
-            self.asked,
-            self.largest,
-            self.most_held,
-        ) = map(int, numbers or [-1] * 9)
+        names = "seen refused started joined held since_start asked largest most_held".split()
+        vars(self).update(zip(names, map(int, numbers or [-1] * 9)))
 
     def is_tidy(self):
         return self.started == self.joined and self.held == 0
@@ -108,23 +101,15 @@ def sweep(pool, library, name, words, scene, line, most_asked_again=0):
         usual.since_start == (0 if usual.started else usual.seen),
         f"{name}: {usual.since_start} requests between last start and first join",
     )
-    tries = [
-        {way: str(request)}
-        for way in ("REFUSE_AT", "REFUSE_FROM")
-        for request in range(1, usual.seen + 1)
-    ]
+    ways = itertools.product(("REFUSE_AT", "REFUSE_FROM"), range(1, usual.seen + 1))
+    tries = [{way: str(request)} for way, request in ways]
     asked_again = 0
     for refuse, ended in zip(tries, pool.map(lambda it: Ended(library, words, scene, it), tries)):
-        goes_on = (
-            ended.status == 0
-            and ended.is_tidy()
-            and ended.out == usual.out
-            and "REFUSE_AT" in refuse
-        )
+        is_usual = ended.status == 0 and ended.is_tidy() and ended.out == usual.out
+        goes_on = is_usual and "REFUSE_AT" in refuse
         asked_again += goes_on
-        count(
-            (ended.is_refused(line) or goes_on) and ended.refused > 0, f"{name} {refuse}: {ended}"
-        )
+        is_well = (ended.is_refused(line) or goes_on) and ended.refused > 0
+        count(is_well, f"{name} {refuse}: {ended}")
     count(asked_again <= most_asked_again, f"{name}: {asked_again} runs went on after a refusal")
     print(f"{name}: {usual.seen} requests, {usual.started} threads")
 
@@ -168,10 +153,8 @@ def asks_for_no_more(library, room):
     for plan in PLANS:
         gas, width, height, stages, capacity, threads = plan
         scene = f"{room}/area"
-        with open(scene, "w") as text:
-            text.write(
-                f'version = 2\ngas = "{gas}"\nwidth = {width}\nheight = {height}\nrate = 300\n'
-            )
+        area = f'version = 2\ngas = "{gas}"\nwidth = {width}\nheight = {height}\nrate = 300\n'
+        pathlib.Path(scene).write_text(area)
         words = f"run --generations {2 * stages} --stages {stages} --capacity {capacity} --threads {threads}"
         lattices, belts = stated(*plan)
         ended = Ended(library, [PROGRAM, *words.split()], scene, {})
@@ -200,29 +183,17 @@ def run_within(limit, words, text):
 def limits():
     """Runs the program on a large area in address spaces from too small to large enough."""
     text = b'gas = "fhp1"\nwidth = 4096\nheight = 4096\nparticles = [[0, 0, 1], [4095, 4095, 5]]\n'
-    words = [
-        "coarse",
-        "--generations",
-        "1",
-        "--stages",
-        "2",
-        "--block-width",
-        "4096",
-        "--block-height",
-        "4096",
-    ]
+    words = "coarse --generations 1 --stages 2 --block-width 4096 --block-height 4096".split()
     usual = run_within(resource.RLIM_INFINITY, words, text)
     count(usual.returncode == 0, "a large area without a limit")
     answered = 0
     for mebibytes in (8, 12, 16, 20, 24, 28, 32, 40, 48, 56, 64, 80, 96, 128, 192, 256):
         ended = run_within(mebibytes << 20, words, text)
         is_whole = ended.returncode == 0 and ended.stdout == usual.stdout
-        is_refused = (
-            ended.returncode == 3 and ended.stdout == b"" and ended.stderr == b"memory refused\n"
-        )
+        told = ended.returncode, ended.stdout, ended.stderr
         answered += is_whole
         count(
-            is_whole or is_refused,
+            is_whole or told == (3, b"", b"memory refused\n"),
             f"a large area in {mebibytes} MiB: status {ended.returncode}: {ended.stderr[:200]!r}",
         )
     print(f"a large area: answered in {answered} of 16 address spaces")
@@ -234,35 +205,21 @@ def main():
     ) as pool:
         library = f"{room}/refuse.so"
         needs.compiled("tests/program/refusal/refuse.c", library, "-shared", "-fPIC", "-O1", "-ldl")
-        for call in re.findall(
-            r"^(\w+) Answered$", (TOP / "crates/probes/stdout").read_text(), re.MULTILINE
-        ):
+        answered = (TOP / "crates/probes/stdout").read_text()
+        for call in re.findall(r"^(\w+) Answered$", answered, re.MULTILINE):
             sweep(pool, library, call, [PROBES, call], os.devnull, b"")
         for scene, words in REQUESTS:
             path = TOP / f"scenes/{scene}.toml"
-            sweep(
-                pool,
-                library,
-                f"{scene} {words}",
-                [PROGRAM, *words.split()],
-                path,
-                b"memory refused\n",
-                most_asked_again=2,
-            )
+            told = f"{scene} {words}", [PROGRAM, *words.split()], path, b"memory refused\n"
+            sweep(pool, library, *told, most_asked_again=2)
         drift = TOP / "scenes/drift.toml"
         words = ["run", "--stages", "2", "--generations"]
         holds_places(library, drift, 6 * 8)  # a row of four cells: a word for each direction
         asks_for_no_more(library, room)
-        as_many(
-            library,
-            "5, 50 and 5000 generations",
-            [([PROGRAM, *words, str(many)], drift) for many in (5, 50, 5000)],
-        )
-        as_many(
-            library,
-            "run_2 and run_2_long",
-            [([PROBES, call], os.devnull) for call in ("run_2", "run_2_long")],
-        )
+        runs = [([PROGRAM, *words, str(many)], drift) for many in (5, 50, 5000)]
+        as_many(library, "5, 50 and 5000 generations", runs)
+        probes = [([PROBES, call], os.devnull) for call in ("run_2", "run_2_long")]
+        as_many(library, "run_2 and run_2_long", probes)
     limits()
     print(f"{passed} passed, {failed} failed")
     return 1 if failed else 0

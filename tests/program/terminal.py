@@ -31,9 +31,8 @@ def read_to_end(terminal, told):
 def on_terminal(words):
     """The status, what came on standard output, and what the terminal showed."""
     ours, theirs = pty.openpty()
-    process = subprocess.Popen(
-        [PROGRAM, *words.split()], stdin=subprocess.PIPE, stdout=subprocess.PIPE, stderr=theirs
-    )
+    pipes = dict(stdin=subprocess.PIPE, stdout=subprocess.PIPE, stderr=theirs)
+    process = subprocess.Popen([PROGRAM, *words.split()], **pipes)
     os.close(theirs)
     told = []
     reader = threading.Thread(target=read_to_end, args=(ours, told))
@@ -66,19 +65,15 @@ def is_told(words, is_long):
 
 def awaits_scene():
     ours, theirs = pty.openpty()
-    process = subprocess.Popen(
-        [PROGRAM, "check"], stdin=theirs, stdout=subprocess.PIPE, stderr=subprocess.PIPE
-    )
+    pipes = dict(stdin=theirs, stdout=subprocess.PIPE, stderr=subprocess.PIPE)
+    process = subprocess.Popen([PROGRAM, "check"], **pipes)
     os.close(theirs)
     os.write(ours, SCENE.replace(b"rate = 300", b"rate = 0") + b"\x04")
     answer, told = process.communicate()
     os.close(ours)
     line = b"fhpgas: type a scene, and end it by Ctrl-D on a line of its own\n"
-    return (process.returncode, answer, told) == (
-        0,
-        b"gas fhp1 width 512 height 512 solid 0 particles 0\n",
-        line,
-    )
+    scene = b"gas fhp1 width 512 height 512 solid 0 particles 0\n"
+    return (process.returncode, answer, told) == (0, scene, line)
 
 
 cases = {
