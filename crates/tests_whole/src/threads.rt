@@ -64,12 +64,11 @@ fn compare<G: Gas + Send, R: Abort + Threads + Wait + Sync>(
 }
 
 // A run of a random lattice of a random generation, of up to `most_rows` rows, for a random number
-// of generations, by workers on a random number of threads.
+// of generations.
 fn compare_random<G: Gas + Send, R: Abort + Threads + Wait + Sync>(
     rt: &R,
     alloc: Global,
-    stages: u32,
-    capacity: u32,
+    (stages, threads, capacity): (u32, u32, u32),
     most_rows: u32,
     random: &mut Pcg32,
 ) -> Result<(), Fail> {
@@ -79,88 +78,60 @@ fn compare_random<G: Gas + Send, R: Abort + Threads + Wait + Sync>(
     let chirality = Chirality::Seeded(random.next_u64());
     let first = random.next_u64() % 1_000_000_000_000;
     let size = Size::new(width, height).ok_or("a size")?;
-    let threads = random.next_word() % stages.max(1) + 1;
     let plan = Plan::new(stages, capacity, generations)?.on(threads)?;
     let lattice = random_lattice::<G>(alloc, size, random)?;
     compare(rt, alloc, &lattice, chirality, first, plan)
 }
 
-// Random runs of a gas through lines of all lengths up to 8, a hundred rounds of low lattices and
-// ten of higher ones. Each comes to its end. Each gas and capacity is a test of its own, so that
-// none takes long where other programs keep the machine busy.
+// Random runs of a gas through lines of all lengths up to 8 on any number of threads: of low lattices,
+// and of a higher one. Each comes to its end.
 fn soak<G: Gas + Send, R: Abort + Threads + Wait + Sync>(
     rt: &R,
     alloc: Global,
     capacity: u32,
 ) -> Result<(), Fail> {
     let mut random = Pcg32::new(42, u64::from(capacity));
-    for round in 0..110 {
-        let most_rows = if round < 100 { 3 } else { 20 };
+    for most_rows in [3, 3, 3, 3, 20] {
         for stages in 1..=8 {
-            compare_random::<G, _>(rt, alloc, stages, capacity, most_rows, &mut random)?;
+            for threads in 1..=stages {
+                let line = (stages, threads, capacity);
+                compare_random::<G, _>(rt, alloc, line, most_rows, &mut random)?;
+            }
         }
     }
     Ok(())
 }
 
-#[test]
-fn fhp1_through_one_place(rt: HostRuntime) -> Result<(), Fail> {
-    soak::<Fhp1, _>(&rt, rt.alloc(), 1)
+// Each number of places is a test of its own, so that none takes long where other programs keep the
+// machine busy.
+fn soak_gases<R: Abort + Threads + Wait + Sync>(
+    rt: &R,
+    alloc: Global,
+    capacity: u32,
+) -> Result<(), Fail> {
+    soak::<Fhp1, _>(rt, alloc, capacity)?;
+    soak::<Hpp, _>(rt, alloc, capacity)?;
+    soak::<FhpRest, _>(rt, alloc, capacity)
 }
 
 #[test]
-fn hpp_through_one_place(rt: HostRuntime) -> Result<(), Fail> {
-    soak::<Hpp, _>(&rt, rt.alloc(), 1)
+fn through_one_place(rt: HostRuntime) -> Result<(), Fail> {
+    soak_gases(&rt, rt.alloc(), 1)
 }
 
 #[test]
-fn fhp_rest_through_one_place(rt: HostRuntime) -> Result<(), Fail> {
-    soak::<FhpRest, _>(&rt, rt.alloc(), 1)
+fn through_two_places(rt: HostRuntime) -> Result<(), Fail> {
+    soak_gases(&rt, rt.alloc(), 2)
 }
 
 #[test]
-fn fhp1_through_two_places(rt: HostRuntime) -> Result<(), Fail> {
-    soak::<Fhp1, _>(&rt, rt.alloc(), 2)
+fn through_nine_places(rt: HostRuntime) -> Result<(), Fail> {
+    soak_gases(&rt, rt.alloc(), 9)
 }
 
 #[test]
-fn hpp_through_two_places(rt: HostRuntime) -> Result<(), Fail> {
-    soak::<Hpp, _>(&rt, rt.alloc(), 2)
-}
-
-#[test]
-fn fhp_rest_through_two_places(rt: HostRuntime) -> Result<(), Fail> {
-    soak::<FhpRest, _>(&rt, rt.alloc(), 2)
-}
-
-#[test]
-fn fhp1_through_nine_places(rt: HostRuntime) -> Result<(), Fail> {
-    soak::<Fhp1, _>(&rt, rt.alloc(), 9)
-}
-
-#[test]
-fn hpp_through_nine_places(rt: HostRuntime) -> Result<(), Fail> {
-    soak::<Hpp, _>(&rt, rt.alloc(), 9)
-}
-
-#[test]
-fn fhp_rest_through_nine_places(rt: HostRuntime) -> Result<(), Fail> {
-    soak::<FhpRest, _>(&rt, rt.alloc(), 9)
-}
-
-#[test]
-fn fhp1_through_33_places(rt: HostRuntime) -> Result<(), Fail> {
-    soak::<Fhp1, _>(&rt, rt.alloc(), 33)
-}
-
-#[test]
-fn hpp_through_33_places(rt: HostRuntime) -> Result<(), Fail> {
-    soak::<Hpp, _>(&rt, rt.alloc(), 33)
-}
-
-#[test]
-fn fhp_rest_through_33_places(rt: HostRuntime) -> Result<(), Fail> {
-    soak::<FhpRest, _>(&rt, rt.alloc(), 33)
+fn through_33_places(rt: HostRuntime) -> Result<(), Fail> {
+    soak_gases(&rt, rt.alloc(), 33)
 }
 
 // Belts of one place within the threads, and belts that never hold all rows of a pass.
