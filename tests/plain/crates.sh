@@ -2,7 +2,7 @@
 # Runs the tests of the crates and of the ring by plain Rust, with all checks on: of indices, of overflow, and of what is never reached. Each
 # test that is written must pass. Ends with the counts.
 . "$(dirname "$0")/../lib/try.sh"
-tests=(tests_lattice tests_pipe tests_tool tests_whole)
+tests=(tests_{lattice,belt,scene,pipe,tool,whole})
 written=$(grep -rh '#\[test\]' "${tests[@]/#/crates/}" tests/plain/ring.rs --include='*.r[ts]' | wc -l)
 rustc --edition=2024 --test tests/plain/ring.rs -o "$room/ring" || exit 1
 "$room/ring" > "$room/log" || cat "$room/log"

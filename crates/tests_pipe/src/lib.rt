@@ -1,9 +1,7 @@
-//! Tests of belts, of the members of the line and of runs by threads on worked examples, and of how a
+//! Tests of the members of the line and of runs by threads on worked examples, and of how a
 //! thread waits.
 #![tactic(auto)]
 
-#[cfg(test)]
-mod belts;
 #[cfg(test)]
 mod carried;
 #[cfg(test)]

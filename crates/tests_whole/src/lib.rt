@@ -4,8 +4,6 @@
 #[cfg(test)]
 mod lines;
 #[cfg(test)]
-mod meeting;
-#[cfg(test)]
 mod reference;
 #[cfg(test)]
 mod resumed;

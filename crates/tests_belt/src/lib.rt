@@ -1,0 +1,5 @@
+//! Tests of belts.
+#![tactic(auto)]
+
+#[cfg(test)]
+mod belts;
