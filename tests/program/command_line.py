@@ -90,24 +90,6 @@ WORDS = [
             "--threads 1 --capacity 1 --generations 1",
         )
     ),
-    # threads are refused last
-    ("run --generations 1 --threads 5 --stages 4", 1, "", THREADS + "\n"),
-    ("run --generations 1 --stages 3 --threads 4", 1, "", THREADS + "\n"),
-    ("run --generations 1 --threads 0 --stages 65", 1, "", STAGES + "\n"),
-    ("run --generations 1000001 --threads 0", 1, "", GENERATIONS + "\n"),
-    ("run --generations 0 --stages 0 --capacity 0", 1, "", STAGES + "\n"),
-    ("run --generations 0 --stages 65 --capacity 1", 1, "", STAGES + "\n"),
-    ("run --generations 1000001 --stages 1 --capacity 0", 1, "", CAPACITY + "\n"),
-    ("run --generations 0 --stages 1 --capacity 1025", 1, "", CAPACITY + "\n"),
-    ("run --generations 1000001 --stages 1 --capacity 1", 1, "", GENERATIONS + "\n"),
-    (
-        "coarse --generations 1000001 --block-width 1 --block-height 1 --threads 65",
-        *(1, "", GENERATIONS + "\n"),
-    ),
-    # the scene's faults come before the plan's, and the plan's before the number of passes
-    ("replay --generations 2 --stages 1", 1, "", PASSES + "\n"),
-    ("replay --generations 2 --stages 1 --capacity 0", 1, "", CAPACITY + "\n"),
-    ("replay --generations 1000001", 1, "", GENERATIONS + "\n"),
     # a turn is a number of 32 bits, and a turn of a missing member changes nothing
     (
         "replay --generations 0 4294967295",
@@ -120,6 +102,18 @@ WORDS = [
     ("coars --generations 1", 2, "", re.compile(r"(?s).*'coarse'.*")),
     ("run --generation 1", 2, "", re.compile(r"(?s).*--generations.*")),
 ]
+
+# What it refuses with that scene: stages, then places, generations, passes, and last threads.
+REFUSED = {
+    STAGES: "run --generations 1 --threads 0 --stages 65|run --generations 0 --stages 65 --capacity 1|"
+    "run --generations 0 --stages 0 --capacity 0",
+    CAPACITY: "run --generations 1000001 --stages 1 --capacity 0|replay --generations 2 --stages 1 --capacity 0|"
+    "run --generations 0 --stages 1 --capacity 1025",
+    GENERATIONS: "run --generations 1000001 --threads 0|run --generations 1000001 --stages 1 --capacity 1|"
+    "coarse --generations 1000001 --block-width 1 --block-height 1 --threads 65|replay --generations 1000001",
+    PASSES: "replay --generations 2 --stages 1",
+    THREADS: "run --generations 1 --threads 5 --stages 4|run --generations 1 --stages 3 --threads 4",
+}
 
 # Lines of bash, run in a folder with the scenes `drift` and `wide`: the status and what is printed.
 FAILED = re.compile(r"write: failed after \d+ bytes\n")
@@ -170,28 +164,17 @@ TEXTS = {
     ],
     UNKNOWN_KEY: [MAP + "colour = 1", 'colour = 1\ncells = ["01"]\nwidth = 4'],
     BOTH_FORMS: ['cells = ["01"]\nwidth = 4', MAP + "width = 4"],
-    MISSING: [
-        "",
-        "[gas]\n",
-        'gas = "fhp1"',
-        'gas = "fhp1"\nchirality = "left"',
-        'gas = "fhp1"\nwidth = 4',
-        'gas = "fhp1"\nheight = 4',
-        "cells = 1",
-        'cells = ["01"]',
-    ],
-    WRONG_TYPE: [
-        MAP + "seed = true",
-        'gas = "fhp1"\ncells = ["01", 1]',
-        'gas = 1\ncells = ["01"]',
-        'gas.a = 1\ncells = ["01"]',
-        'gas = "fhp2"\ncells = [1]',
-    ],
-    RANGE: [
-        MAP + 'chirality = "both"',
-        'gas = "fhp2"\ncells = ["010"]',
-        'gas = "fhp1"\ncells = []',
-    ],
+    MISSING: (
+        '|[gas]\n|gas = "fhp1"|gas = "fhp1"\nchirality = "left"|gas = "fhp1"\nwidth = 4|'
+        'gas = "fhp1"\nheight = 4|cells = 1|cells = ["01"]'
+    ).split("|"),
+    WRONG_TYPE: (
+        MAP + 'seed = true|gas = "fhp1"\ncells = ["01", 1]|gas = 1\ncells = ["01"]|'
+        'gas.a = 1\ncells = ["01"]|gas = "fhp2"\ncells = [1]'
+    ).split("|"),
+    RANGE: (
+        MAP + 'chirality = "both"|gas = "fhp2"\ncells = ["010"]|gas = "fhp1"\ncells = []'
+    ).split("|"),
     row_length(1): ['gas = "fhp1"\ncells = ["0101", "0g"]'],
     row_length(2): ['gas = "fhp1"\ncells = ["0g01", "0101", "01"]'],
     row_length(7): ['gas = "fhp1"\ncells = [' + '"..",' * 7 + '"....",]'],
@@ -263,10 +246,8 @@ def scenes():
             yield 'gas = "{}"\ncells = ["{}"]'.format(*row.split(" ")), wanted
     for version, most in MOST_SIDE.items():
         for wanted, sides in SIDES.items():
-            yield from (
-                (f'{version}gas = "fhp1"\nwidth = {width}\nheight = {height}', wanted)
-                for width, height in sides(most)
-            )
+            for width, height in sides(most):
+                yield f'{version}gas = "fhp1"\nwidth = {width}\nheight = {height}', wanted
 
 
 def cut_short():
@@ -296,14 +277,9 @@ def usage():
         yield ["coarse", *itertools.chain(*({**OPTIONS, option: value}).items())]
     whole = ["coarse", *itertools.chain(*OPTIONS.items())]
     for option in OPTIONS:
-        others = [
-            word for name, value in OPTIONS.items() if name != option for word in (name, value)
-        ]
-        yield from (
-            [*whole, option, "1"],
-            ["coarse", *others, option],
-            ["coarse", *others, f"{option}="],
-        )
+        others = [word for pair in OPTIONS.items() if pair[0] != option for word in pair]
+        yield [*whole, option, "1"]
+        yield from (["coarse", *others, word] for word in (option, f"{option}="))
 
 
 def drifted(generation):
@@ -316,39 +292,29 @@ def drifted(generation):
 def blocks(width, height):
     """The table of DRIFT after one generation, when its particle is at (0, 1)."""
     yield "  col   row    fluid particles         px         py\n"
-    for (row, top), (column, left) in itertools.product(
-        enumerate(range(0, 3, height)), enumerate(range(0, 4, width))
-    ):
-        fluid, held = (
-            min(width, 4 - left) * min(height, 3 - top),
-            left == 0 and top <= 1 < top + height,
-        )
+    rows, columns = enumerate(range(0, 3, height)), enumerate(range(0, 4, width))
+    for (row, top), (column, left) in itertools.product(rows, columns):
+        fluid = min(width, 4 - left) * min(height, 3 - top)
+        held = left == 0 and top <= 1 < top + height
         yield f"{column:5} {row:5} {fluid:8} {held:9} {2 * held:10} {0:10}\n"
 
 
 def of_limits():
     for option, limits in LIMITS.items():
+        of_blocks = {"block-width": 2, "block-height": 2} if option.startswith("block") else {}
         for number, refusal in limits.items():
-            values = {
-                "generations": 1,
-                **({"block-width": 2, "block-height": 2} if option.startswith("block") else {}),
-                option: number,
-            }
-            words = [
-                "coarse" if len(values) > 2 else "run",
-                *(f"--{name}={value}" for name, value in values.items()),
-            ]
+            values = {"generations": 1, **of_blocks, option: number}
+            words = [f"--{name}={value}" for name, value in values.items()]
+            words = ["coarse" if of_blocks else "run", *words]
             if refusal is USAGE:
                 yield words, DRIFT, 2, "", SOMETHING
             elif refusal:
                 yield words, DRIFT, 1, "", refusal + "\n"
+            elif of_blocks:
+                table = blocks(values["block-width"], values["block-height"])
+                yield words, DRIFT, 0, "".join(table), ""
             else:
-                told = (
-                    "".join(blocks(values["block-width"], values["block-height"]))
-                    if len(values) > 2
-                    else drifted(values["generations"])
-                )
-                yield words, DRIFT, 0, told, ""
+                yield words, DRIFT, 0, drifted(values["generations"]), ""
 
 
 def many_turns():
@@ -365,8 +331,8 @@ def many_turns():
 
 
 def on_threads(words):
-    """The words, and of a run also with its stages on one thread, on two, on three, and each on its own, and where no number of stages is
-    given with two stages and belts of one place."""
+    """The words, and of a run also with its stages on one thread, on two, on three, and each on its own; if they give no stages, also with
+    two and belts of one place."""
     yield words
     if words[0] in ("run", "coarse"):
         given = dict(zip(words[1::2], words[2::2]))
@@ -395,11 +361,9 @@ def lone_particles():
     for generations in "01":
         for words in on_threads(["run", "--generations", generations]):
             yield lone_particle((65536, 1), (65535, 0), words)
-    for plan in (
-        "4096 --stages 16 --capacity 128 --threads 2",
-        "37 --stages 16 --capacity 1 --threads 3",
-    ):
-        yield lone_particle((7, 1024), (0, 511), ["run", "--generations", *plan.split()])
+    for plan in "4096 --capacity 128 --threads 2", "37 --capacity 1 --threads 3":
+        words = f"run --stages 16 --generations {plan}".split()
+        yield lone_particle((7, 1024), (0, 511), words)
 
 
 def examples():
@@ -444,16 +408,13 @@ def programs():
     """The cases of the program: words, standard input, status and what it prints."""
     yield from ((words, DRIFT, 2, "", SOMETHING) for words in usage())
     yield from ((words.split(), DRIFT, *wanted) for words, *wanted in WORDS)
+    for refusal, lines in REFUSED.items():
+        yield from ((words.split(), DRIFT, 1, "", refusal + "\n") for words in lines.split("|"))
     for text, wanted in ("", MISSING), ("gas = ", SYNTAX):
         yield "run --generations 1 --stages 0".split(), text, 1, "", wanted + "\n"
     for text, wanted in itertools.chain(scenes(), cut_short()):
-        yield (["check"], text, 1, "", wanted + "\n") if wanted else (
-            ["check"],
-            text,
-            0,
-            re.compile("gas .*\n"),
-            "",
-        )
+        told = (1, "", wanted + "\n") if wanted else (0, re.compile("gas .*\n"), "")
+        yield ["check"], text, *told
     for text, line, cells in rectangles():
         yield ["check"], text, 0, line, ""
         yield ["run", "--generations", "0"], text, 0, cells, ""
@@ -462,13 +423,8 @@ def programs():
 
 
 def answer(words, text, room):
-    ran = subprocess.run(
-        words,
-        input=text if isinstance(text, bytes) else text.encode(),
-        capture_output=True,
-        timeout=120,
-        cwd=room,
-    )
+    given = text if isinstance(text, bytes) else text.encode()
+    ran = subprocess.run(words, input=given, capture_output=True, timeout=120, cwd=room)
     return ran.returncode, ran.stdout.decode(errors="replace"), ran.stderr.decode(errors="replace")
 
 

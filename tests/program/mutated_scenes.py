@@ -67,11 +67,8 @@ def value(rng, key):
     if rng.random() < 0.05:
         return rng.choice(NUMBERS + TEXTS)
     if key in ("gas", "chirality"):
-        return (
-            rng.choice(TEXTS[:3] if key == "gas" else TEXTS[4:7])
-            if rng.random() < 0.9
-            else rng.choice(TEXTS)
-        )
+        texts = TEXTS[:3] if key == "gas" else TEXTS[4:7]
+        return rng.choice(texts if rng.random() < 0.9 else TEXTS)
     if key == "cells":
         return cells(rng)
     if key in ("solid", "particles"):
@@ -83,11 +80,10 @@ def value(rng, key):
 
 
 def scene(rng):
-    form = (
-        ["cells"]
-        if rng.random() < 0.5
-        else ["width", "height"] + [k for k in ("solid", "rate", "particles") if rng.random() < 0.6]
-    )
+    form = ["cells"]
+    if rng.random() >= 0.5:
+        more = [key for key in ("solid", "rate", "particles") if rng.random() < 0.6]
+        form = ["width", "height", *more]
     keys = ["gas"] + form + [k for k in ("version", "chirality", "seed") if rng.random() < 0.5]
     if rng.random() < (0.6 if "version" in keys else 0.05):
         keys.append("generation")
@@ -122,11 +118,8 @@ def spliced(rng, first, second):
     if rng.random() < 0.5:
         return first[: rng.randrange(len(first) + 1)] + second[rng.randrange(len(second) + 1) :]
     lines, others = first.splitlines(True), second.splitlines(True)
-    return (
-        b"".join(lines[: rng.randrange(len(lines) + 1)])
-        + b"\n"
-        + b"".join(others[rng.randrange(len(others) + 1) :])
-    )
+    head = lines[: rng.randrange(len(lines) + 1)]
+    return b"".join([*head, b"\n", *others[rng.randrange(len(others) + 1) :]])
 
 
 def fed_back(printed):
@@ -206,20 +199,11 @@ class Counts:
 # of both versions
 VERSIONS = ["", *(f"version = {value}" for value in ("1", "3", '"2"', "2.0", "[2]", "2"))]
 LETTERS = "é éé Ж ЖЖ 中 中. 中中 ０１ ٠١ 🙂 🙂🙂 e\u0301 ..é 01Ж 0\u00a0 ｆｆ \u2028\u2028".split(" ")
-FIRST = [(8192, 1), (8194, 1), (2, 4096), (2, 4097), (8191, 1), (0, 1)]
+FIRST = "8192x1 8194x1 2x4096 2x4097 8191x1 0x1"
 LIMITS = {
     "": FIRST,
     "version = 1": FIRST,
-    "version = 2": [
-        (8194, 1),
-        (2, 4097),
-        (131072, 1),
-        (131074, 1),
-        (2, 65536),
-        (2, 65537),
-        (131071, 1),
-        (0, 1),
-    ],
+    "version = 2": "8194x1 2x4097 131072x1 131074x1 2x65536 2x65537 131071x1 0x1",
 }
 
 
@@ -256,7 +240,7 @@ def maps():
         yield f'gas = "{letters}"\ncells = [".."]'.encode()
         yield f'"{letters}" = 1'.encode()
     for version, sizes in LIMITS.items():
-        for row, rows in sizes:
+        for row, rows in (map(int, size.split("x")) for size in sizes.split()):
             cells = f'"{"." * row}",' * rows
             yield f'{version}\ngas = "fhp1"\ncells = [{cells}]'.encode()
 
