@@ -36,7 +36,9 @@ fn gases_and_chiralities(rt: HostRuntime) -> Result<(), Fail> {
 'fhp-rest'; chirality = 'right'; cells = ['40'] | Right 0 fhp-rest; 40
 'fhp1'; seed = 9223372036854775807; cells = ['01'] | Seeded(9223372036854775807) 0 fhp1; 01
 'fhp1'; seed = 5; chirality = 'seeded'; cells = ['01'] | Seeded(5) 0 fhp1; 01
-'fhp1'; seed = 5; chirality = 'left'; cells = ['01'] | Left 0 fhp1; 01";
+'fhp1'; seed = 5; chirality = 'left'; cells = ['01'] | Left 0 fhp1; 01
+'fhp1'; chirality = 'left'; width = 2; height = 1; particles = [[1, 0, 1]] | Left 0 fhp1; ..01
+'fhp1'; seed = 3; width = 2; height = 1 | Seeded(3) 0 fhp1; ....";
     each_holds(&rt, rt.alloc(), "gas = ", texts)
 }
 
